@@ -1,0 +1,53 @@
+-- What follows from a request that can be settled.
+use Rattle.std.proofs.Common.{◌≡◌, true, ap, Option, Some, None, Result, Ok, IfSome}
+use Rattle.reg_core.specs.Checks.{settle_checks}
+use Rattle.reg_core.specs.Decisions.{IsDecided, IsDecidedBy, DecidesDecline, DecidesRevoke, revocation_by}
+use Rattle.reg_core.specs.declared.refusal.Refusal.{Refusal}
+use Rattle.reg_core.specs.declared.rows.Head.{Head}
+use Rattle.reg_core.specs.declared.rows.CertRow.{CertRow}
+use Rattle.reg_core.specs.declared.rows.CrlRow.{CrlRow}
+use Rattle.reg_core.specs.declared.rows.RequestRow.{RequestRow}
+use Rattle.reg_core.specs.declared.rows.RevocationRow.{RevocationRow}
+
+-- an answer made of an accepted one
+pub decided_ok : {A B : Type 0} (refusal : Option Refusal) (P : A → Type 0) (Q : B → Type 0) (x : A) (y : B) → IsDecidedBy refusal P (Ok x) → (P x → Q y) → IsDecidedBy refusal Q (Ok y)
+decided_ok (Some refused) P Q x y e f = absurd (let bad : ⊥ = cc in bad)
+decided_ok None P Q x y p f = f p
+
+-- what is made of a looked-up row is made of the same row
+pub IfSome-made : {A B : Type 0} (f : A → B) (looked_up : Option A) (x : A) → IfSome looked_up (λ known. x ≡ known) → IfSome looked_up (λ known. f x ≡ f known)
+IfSome-made f None x e = e
+IfSome-made f (Some known) x e = ap f e
+
+-- the request that can be settled
+abbrev pub Settles : Head → Option RequestRow → Option CertRow → Option RevocationRow → Result RequestRow Refusal → Type 0
+Settles head request certificate revocation result =
+    IsDecided
+    head
+    (settle_checks head.now request certificate revocation)
+    (λ row. IfSome request (λ known. row ≡ known))
+    result
+
+-- is declined with the mark
+pub settles_declined : (head : Head) (request : Option RequestRow) (certificate : Option CertRow) (revocation : Option RevocationRow) (row : RequestRow) → Settles head request certificate revocation (Ok row) → DecidesDecline head request certificate revocation (Ok (record row { declined = true }))
+settles_declined head request certificate revocation row settled =
+    decided_ok
+    _
+    (λ (answer : RequestRow). IfSome request (λ known. answer ≡ known))
+    (λ (answer : RequestRow). IfSome request (λ known. answer ≡ record known { declined = true }))
+    row
+    (record row { declined = true })
+    settled
+    (IfSome-made (λ (known : RequestRow). record known { declined = true }) request row)
+
+-- and leads to its revocation
+pub settles_revoked : (head : Head) (request : Option RequestRow) (certificate : Option CertRow) (revocation : Option RevocationRow) (latest : Option CrlRow) (row : RequestRow) → Settles head request certificate revocation (Ok row) → DecidesRevoke head request certificate revocation latest (Ok (revocation_by head row latest))
+settles_revoked head request certificate revocation latest row settled =
+    decided_ok
+    _
+    (λ (answer : RequestRow). IfSome request (λ known. answer ≡ known))
+    (λ answer. IfSome request (λ known. answer ≡ revocation_by head known latest))
+    row
+    (revocation_by head row latest)
+    settled
+    (IfSome-made (λ (known : RequestRow). revocation_by head known latest) request row)

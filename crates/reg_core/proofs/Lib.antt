@@ -1,0 +1,12 @@
+pub mod DateTexts
+pub mod Dates
+pub mod Decided
+pub mod Digits
+pub mod Integers
+pub mod Labels
+pub mod Moments
+pub mod Numbers
+pub mod Padded
+pub mod Policies
+pub mod Schedules
+pub mod Serials

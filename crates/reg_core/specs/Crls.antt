@@ -1,0 +1,94 @@
+-- What CRLs list, and what is signed in one.
+use Rattle.std.specs.Prelude.{ℕ, Bool, false, cond, not, ◌&&◌, ◌+◌, nat_le, nat_lt, List, [], ◌∷◌, map, filter, find, Option, Some, None, option_map}
+use Rattle.std.specs.List.{list_any}
+use Rattle.reg_core.specs.Issuer.{Issuer}
+use Rattle.reg_core.specs.Records.{Records, Crl, certificate_in}
+use Rattle.reg_core.specs.declared.rows.CertRow.{CertRow}
+use Rattle.reg_core.specs.declared.rows.RevocationRow.{RevocationRow}
+use Rattle.reg_core.specs.declared.rows.Entry.{Entry}
+use Rattle.reg_core.specs.declared.rows.CrlRow.{CrlRow}
+
+-- the CRL that was issued last
+abbrev pub latest : List Crl → Option Crl
+latest [] = None
+latest (crl ∷ []) = Some crl
+latest (crl ∷ next ∷ rest) = latest (next ∷ rest)
+
+-- a CRL without its bytes
+abbrev pub row_of : Crl → CrlRow
+row_of crl = record { number = crl.number; this_update = crl.this_update }
+
+-- one more than the greatest CRL number, 1 where there is no CRL
+abbrev pub number_after : Option CrlRow → ℕ
+number_after None = 1
+number_after (Some crl) = crl.number + 1
+
+-- the number of the next CRL
+abbrev pub next_number : List Crl → ℕ
+next_number crls = number_after (option_map row_of (latest crls))
+
+-- a moment is past the end of the serial number's certificate
+abbrev pub is_past_end : List CertRow → ℕ → ℕ → Bool
+is_past_end certificates serial moment = ended (certificate_in certificates serial)
+  where
+    ended : Option CertRow → Bool
+    ended (Some certificate) = nat_lt certificate.not_after moment
+    ended None = false
+
+-- a CRL that can list the revocation, and whose thisUpdate is past the certificate's end
+abbrev pub is_past_on : List CertRow → RevocationRow → Crl → Bool
+is_past_on certificates revocation crl =
+    nat_le revocation.first crl.number && is_past_end certificates revocation.serial crl.this_update
+
+-- CRL n lists the revocation: it is not before the first that can, and no CRL between is past the certificate's end
+-- (an entry stays until it appears on one regularly scheduled CRL issued beyond the validity, RFC 5280 3.3)
+abbrev pub is_on : List CertRow → List Crl → ℕ → RevocationRow → Bool
+is_on certificates crls n revocation =
+    nat_le revocation.first n
+    && not (list_any (λ crl. nat_lt crl.number n && is_past_on certificates revocation crl) crls)
+
+-- the revocations that CRL n lists
+abbrev pub content : Records → ℕ → List RevocationRow
+content records n = filter (is_on records.certificates records.crls n) records.revocations
+
+-- the number of the last CRL that lists the revocation: the first one past its certificate's end, where it has been issued
+abbrev pub last_listing : Records → RevocationRow → Option ℕ
+last_listing records revocation =
+    option_map (λ crl. crl.number) (find (is_past_on records.certificates revocation) records.crls)
+
+-- the entry of a revocation
+abbrev pub entry_of : RevocationRow → Entry
+entry_of revocation = record { serial = revocation.serial; at = revocation.at; reason = revocation.reason }
+
+-- an entry put before the first of a greater serial number
+abbrev pub insert_entry : Entry → List Entry → List Entry
+insert_entry entry [] = entry ∷ []
+insert_entry entry (next ∷ rest) =
+    cond (nat_lt entry.serial next.serial) (entry ∷ next ∷ rest) (next ∷ insert_entry entry rest)
+
+-- entries in ascending order of serial number
+abbrev pub ascending : List Entry → List Entry
+ascending [] = []
+ascending (entry ∷ rest) = insert_entry entry (ascending rest)
+
+-- the entries of CRL n, in ascending order of serial number (RFC 5280 5.1.2.6)
+abbrev pub entries : Records → ℕ → List Entry
+entries records n = ascending (map entry_of (content records n))
+
+-- what is signed in a CRL (tbsCertList, RFC 5280 5.1.2)
+pub record CertList : Type 0 where
+  pub issuer : Issuer
+  pub number : ℕ
+  pub this_update : ℕ
+  pub next_update : ℕ
+  pub entries : List Entry
+
+-- what is signed in CRL n at its thisUpdate
+abbrev pub cert_list : Records → ℕ → ℕ → CertList
+cert_list records n this_update = record {
+  issuer = records.issuer;
+  number = n;
+  this_update = this_update;
+  next_update = this_update + records.policy.crl_life;
+  entries = entries records n;
+}

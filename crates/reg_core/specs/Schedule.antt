@@ -1,0 +1,63 @@
+use Rattle.std.specs.Prelude.{◌≡◌, ℕ, ◌≤◌, ◌<◌, max, nat_le, nat_eq, Bool, ◌&&◌, List, [], ◌∷◌, length, filter}
+use Rattle.std.specs.List.{AllByRecursion}
+use Rattle.std.specs.Cmp.{IsEquivalence, IsPartialEquivalence, partial_equiv_from_equiv, and_equiv, on_equiv, nat_eq_equiv}
+use Rattle.std.specs.Cmp.Lexicographic.{pointwise, lists_equiv}
+
+-- the moments of the steps rise strictly
+abbrev pub Ascends : List (ℕ × ℕ) → Type 0
+Ascends [] = Unit {0}
+Ascends (step ∷ []) = Unit {0}
+Ascends (step ∷ next ∷ rest) = (step.0 < next.0) × Ascends (next ∷ rest)
+
+-- the first of the steps is at moment 0
+abbrev pub BeginsAtOnce : List (ℕ × ℕ) → Type 0
+BeginsAtOnce [] = Unit {0}
+BeginsAtOnce (step ∷ rest) = step.0 ≡ 0
+
+-- a step's days are 1 to 398, the longest validity that the CA/Browser Forum Baseline Requirements 6.3.2 allow
+abbrev pub HasDays : ℕ × ℕ → Type 0
+HasDays step = (1 ≤ step.1) × (step.1 ≤ 398)
+
+-- a schedule: 1 to 16 steps, each the seconds of a moment and the days of validity from it on
+pub record IsSchedule (steps : List (ℕ × ℕ)) : Type 0 where
+  pub not_empty : 1 ≤ length steps
+  pub at_most_16 : length steps ≤ 16
+  pub begins_at_once : BeginsAtOnce steps
+  pub ascending : Ascends steps
+  pub days : AllByRecursion HasDays steps
+
+-- the days of the last step, 0 where there is none
+abbrev pub days_of_last : List (ℕ × ℕ) → ℕ
+days_of_last [] = 0
+days_of_last (step ∷ []) = step.1
+days_of_last (step ∷ next ∷ rest) = days_of_last (next ∷ rest)
+
+-- the longest validity from a moment on: the days of the last step that is not after the moment
+abbrev pub longest_at : List (ℕ × ℕ) → ℕ → ℕ
+longest_at steps moment = days_of_last (filter (λ step. nat_le step.0 moment) steps)
+
+-- the greatest days of any step
+abbrev pub greatest_of : List (ℕ × ℕ) → ℕ
+greatest_of [] = 0
+greatest_of (step ∷ rest) = max step.1 (greatest_of rest)
+
+-- the same days from the beginning on
+abbrev pub one_step : ℕ → List (ℕ × ℕ)
+one_step days = (0, days) ∷ []
+
+-- two steps of the same moment and days
+abbrev pub same_step : ℕ × ℕ → ℕ × ℕ → Bool
+same_step left right = nat_eq left.0 right.0 && nat_eq left.1 right.1
+
+-- the same steps in the same order
+abbrev pub same_steps : List (ℕ × ℕ) → List (ℕ × ℕ) → Bool
+same_steps left right = pointwise same_step left right
+
+-- which is an equivalence, as `Eq` asks
+pub same_steps_equivalence : IsEquivalence same_steps
+same_steps_equivalence =
+    lists_equiv (and_equiv (on_equiv (λ (step : ℕ × ℕ). step.0) nat_eq_equiv) (on_equiv (λ (step : ℕ × ℕ). step.1) nat_eq_equiv))
+
+-- so it holds both ways round and along a chain, as `PartialEq` asks
+pub same_steps_both_ways : IsPartialEquivalence same_steps
+same_steps_both_ways = partial_equiv_from_equiv same_steps_equivalence

@@ -1,0 +1,174 @@
+-- One command: the refusal that applies first, and otherwise the reply and the records after.
+use Rattle.std.specs.Prelude.{◌≡◌, ℕ, Bool, false, cond, ◌==◌, ◌&&◌, ◌+◌, nat_le, nat_lt, List, [], ◌++◌, length, Option, Some, None, option_and_then, Result, Ok, Err}
+use Rattle.std.specs.List.{list_any}
+use Rattle.reg_core.specs.Records.{Records, subscriber_in, subscriber_named, order_in, certificate_in, certificate_of_order, request_in, revocation_in}
+use Rattle.reg_core.specs.Checks.{first_of_all, clock_checks, subscriber_checks, order_checks, register_checks, request_checks, settle_checks, crl_checks}
+use Rattle.reg_core.specs.Changes.{touched, with_subscriber, with_order, with_certificate, with_request, with_declined, with_revocation, with_crl}
+use Rattle.reg_core.specs.Crls.{CertList, cert_list, content, next_number}
+use Rattle.reg_core.specs.Due.{deadline}
+use Rattle.reg_core.specs.Grounds.{reason_of, limit_of, ground_or as ground}
+use Rattle.reg_core.specs.declared.grounds.Ground.TheVariants.{Asked}
+use Rattle.reg_core.specs.declared.rows.CertRow.{CertRow}
+use Rattle.reg_core.specs.declared.rows.RequestRow.{RequestRow}
+use Rattle.reg_core.specs.declared.rows.RevocationRow.{RevocationRow}
+use Rattle.reg_core.specs.declared.command.Command.{Command}
+use Rattle.reg_core.specs.declared.command.Command.TheVariants.{Subscriber, Order, Register, Request, Decline, Revoke, Crl as IssueCrl}
+use Rattle.reg_core.specs.declared.command.Reply.{Reply}
+use Rattle.reg_core.specs.declared.command.Reply.TheVariants.{Subscriber as SubscriberEntered, Order as OrderEntered, Registered, Same, Request as RequestEntered, Declined, Revoked, Crl as CrlIssued}
+use Rattle.reg_core.specs.declared.refusal.Refusal.{Refusal}
+use Rattle.reg_core.specs.declared.refusal.Fault.{Fault}
+use Rattle.reg_core.specs.declared.refusal.Fault.TheVariants.{Refused}
+
+-- as many rows as the policy allows
+abbrev pub is_full : {Row : Type 0} → Records → List Row → Bool
+is_full records rows = nat_le records.policy.cap (length rows)
+
+-- two certificates are equal in all four parts
+abbrev pub same_certificate : CertRow → CertRow → Bool
+same_certificate a b =
+    (a.serial == b.serial) && (a.order == b.order) && (a.not_before == b.not_before) && (a.not_after == b.not_after)
+
+-- the command registers a certificate that stands registered, equal in all four parts
+abbrev pub is_repeat : Records → Command → Bool
+is_repeat records (Register order serial not_before not_after) =
+    list_any
+    (same_certificate (record { serial = serial; order = order; not_before = not_before; not_after = not_after }))
+    records.certificates
+is_repeat records (Subscriber name) = false
+is_repeat records (Order subscriber days) = false
+is_repeat records (Request serial word) = false
+is_repeat records (Decline id) = false
+is_repeat records (Revoke id) = false
+is_repeat records IssueCrl = false
+
+-- the certificate and the revocation of the serial number that a request names
+abbrev pub certificate_of_request : Records → ℕ → Option CertRow
+certificate_of_request records id =
+    option_and_then (λ row. certificate_in records.certificates row.serial) (request_in records.requests id)
+
+abbrev pub revocation_of_request : Records → ℕ → Option RevocationRow
+revocation_of_request records id =
+    option_and_then (λ row. revocation_in records.revocations row.serial) (request_in records.requests id)
+
+-- the command's own checks, over the records that it names
+abbrev pub checks : Records → ℕ → Command → List (Option Refusal)
+checks records now (Subscriber name) =
+    subscriber_checks name (subscriber_named records.subscribers name) (is_full records records.subscribers)
+checks records now (Order subscriber days) =
+    order_checks records.policy (subscriber_in records.subscribers subscriber) days (is_full records records.orders)
+checks records now (Register order serial not_before not_after) =
+    register_checks
+    records.policy
+    now
+    (record { serial = serial; order = order; not_before = not_before; not_after = not_after })
+    (order_in records.orders order)
+    (certificate_of_order records.certificates order)
+    (certificate_in records.certificates serial)
+    (is_full records records.certificates)
+checks records now (Request serial word) =
+    request_checks
+    now
+    (certificate_in records.certificates serial)
+    word
+    (revocation_in records.revocations serial)
+    (is_full records records.requests)
+checks records now (Decline id) =
+    settle_checks now (request_in records.requests id) (certificate_of_request records id) (revocation_of_request records id)
+checks records now (Revoke id) =
+    settle_checks now (request_in records.requests id) (certificate_of_request records id) (revocation_of_request records id)
+checks records now IssueCrl = crl_checks (is_full records records.crls)
+
+-- the refusal that applies first, where one does: the clock's, then, of a command that is no repeat, its own
+abbrev pub refusal : Records → ℕ → Command → Option Refusal
+refusal records now command =
+    first_of_all
+    (clock_checks now records.last ++ cond (is_repeat records command) [] (checks records now command))
+
+-- the request that a command enters
+abbrev pub request_row : Records → ℕ → ℕ → List ℕ → RequestRow
+request_row records now serial word = record {
+  id = length records.requests + 1;
+  serial = serial;
+  ground = ground Asked word;
+  received = now;
+  declined = false;
+}
+
+-- the revocation that a request leads to
+abbrev pub revocation_row : Records → ℕ → RequestRow → RevocationRow
+revocation_row records now request = record {
+  serial = request.serial;
+  at = now;
+  reason = reason_of request.ground;
+  request = request.id;
+  first = next_number records.crls;
+}
+
+-- the moment is past the request's deadline
+abbrev pub is_late : Records → ℕ → ℕ → Bool
+is_late records now id = late (request_in records.requests id)
+  where
+    late : Option RequestRow → Bool
+    late (Some request) = nat_lt (deadline request) now
+    late None = false
+
+-- the reply of an accepted command
+abbrev pub reply : Records → ℕ → Command → Reply
+reply records now (Subscriber name) = SubscriberEntered (length records.subscribers + 1)
+reply records now (Order subscriber days) = OrderEntered (length records.orders + 1)
+reply records now (Register order serial not_before not_after) =
+    cond (is_repeat records (Register order serial not_before not_after)) Same Registered
+reply records now (Request serial word) =
+    RequestEntered (length records.requests + 1) (now + limit_of (ground Asked word))
+reply records now (Decline id) = Declined
+reply records now (Revoke id) = Revoked (is_late records now id)
+reply records now IssueCrl =
+    CrlIssued (next_number records.crls) (length (content records (next_number records.crls)))
+
+-- the records after an accepted command; the bytes are those of the CRL where it issues one
+abbrev pub changed : Records → ℕ → Command → List ℕ → Records
+changed records now (Subscriber name) bytes =
+    with_subscriber records now (record { id = length records.subscribers + 1; name = name })
+changed records now (Order subscriber days) bytes =
+    with_order records now (record { id = length records.orders + 1; subscriber = subscriber; days = days })
+changed records now (Register order serial not_before not_after) bytes =
+    cond
+    (is_repeat records (Register order serial not_before not_after))
+    (touched records now)
+    (with_certificate
+    records
+    now
+    (record { serial = serial; order = order; not_before = not_before; not_after = not_after }))
+changed records now (Request serial word) bytes = with_request records now (request_row records now serial word)
+changed records now (Decline id) bytes = with_declined records now id
+changed records now (Revoke id) bytes = revoked (request_in records.requests id)
+  where
+    revoked : Option RequestRow → Records
+    revoked (Some request) = with_revocation records now (revocation_row records now request)
+    revoked None = touched records now
+changed records now IssueCrl bytes =
+    with_crl records now (record { number = next_number records.crls; this_update = now; bytes = bytes })
+
+-- the bytes of a command that is accepted: of a CRL they are signed over what it lists; of any other there are none
+abbrev pub IsSigned : (CertList → List ℕ → Type 0) → Records → ℕ → Command → List ℕ → Type 0
+IsSigned signed records now IssueCrl bytes = signed (cert_list records (next_number records.crls) now) bytes
+IsSigned signed records now (Subscriber name) bytes = bytes ≡ []
+IsSigned signed records now (Order subscriber days) bytes = bytes ≡ []
+IsSigned signed records now (Register order serial not_before not_after) bytes = bytes ≡ []
+IsSigned signed records now (Request serial word) bytes = bytes ≡ []
+IsSigned signed records now (Decline id) bytes = bytes ≡ []
+IsSigned signed records now (Revoke id) bytes = bytes ≡ []
+
+-- a refused command leaves the records as they are; an accepted one gives its reply and changes them
+abbrev pub StepBy : (CertList → List ℕ → Type 0) → Option Refusal → Records → ℕ → Command → Result Reply Fault → Records → Type 0
+StepBy signed (Some refused) records now command outcome after = (outcome ≡ Err (Refused refused)) × (after ≡ records)
+StepBy signed None records now command outcome after =
+    (bytes : List ℕ)
+    × (outcome ≡ Ok (reply records now command))
+    × IsSigned signed records now command bytes
+    × (after ≡ changed records now command bytes)
+
+-- one command at a moment: its outcome, and the records after
+abbrev pub Step : (CertList → List ℕ → Type 0) → Records → ℕ → Command → Result Reply Fault → Records → Type 0
+Step signed records now command outcome after =
+    StepBy signed (refusal records now command) records now command outcome after

@@ -1,0 +1,127 @@
+//! Commands, queries, and what they are answered.
+
+use crate::label::Label;
+use crate::moment::Moment;
+use crate::refusal::Fault;
+use crate::serial::Serial;
+
+/// What changes the register.
+#[derive(Clone, Copy, Debug, PartialEq, Eq)]
+pub enum Command {
+    /// Enters a subscriber.
+    Subscriber {
+        name: Label,
+    },
+    /// Enters a subscriber's order of one certificate, with its longest validity in days.
+    Order {
+        subscriber: u64,
+        days: u64,
+    },
+    /// Registers the certificate that fills an order.
+    Register {
+        order: u64,
+        serial: Serial,
+        not_before: Moment,
+        not_after: Moment,
+    },
+    /// Enters a request for revocation, on a ground in words.
+    Request {
+        serial: Serial,
+        ground: Label,
+    },
+    /// Declines a request.
+    Decline {
+        request: u64,
+    },
+    /// Revokes the certificate of a request.
+    Revoke {
+        request: u64,
+    },
+    /// Issues a CRL.
+    Crl,
+}
+
+/// What asks the register and leaves it as it is.
+#[derive(Clone, Copy, Debug, PartialEq, Eq)]
+pub enum Query {
+    /// The status of a serial number.
+    Status(Serial),
+    /// How many registered certificates are good, revoked and expired.
+    Counts,
+    /// Which CRLs list a serial number.
+    Listing(Serial),
+    /// The requests whose limit has passed.
+    Overdue,
+    /// When the next CRL is due.
+    NextCrl,
+}
+
+/// The status of a serial number at a moment.
+#[derive(Clone, Copy, Debug, PartialEq, Eq)]
+pub enum Status {
+    /// No certificate has the serial number.
+    Unknown,
+    /// Registered, not revoked, and not past its end.
+    Good,
+    /// Registered, not revoked, and past its end.
+    Expired,
+    /// Revoked, for good.
+    Revoked { at: Moment, reason: u8 },
+}
+
+/// How many registered certificates have each status.
+#[derive(Clone, Copy, Debug, PartialEq, Eq)]
+pub struct Counts {
+    pub good: u64,
+    pub revoked: u64,
+    pub expired: u64,
+}
+
+/// The CRLs that list a revoked serial number.
+#[derive(Clone, Copy, Debug, PartialEq, Eq)]
+pub struct Listing {
+    /// The number of the first CRL that can list it.
+    pub first: u64,
+    /// The number of the last one, where it has been issued.
+    pub last: Option<u64>,
+}
+
+/// The requests whose limit has passed: at least one.
+#[derive(Clone, Copy, Debug, PartialEq, Eq)]
+pub struct Overdue {
+    pub count: u64,
+    /// The least id.
+    pub first: u64,
+}
+
+/// The answer of an accepted command, or of a query.
+#[derive(Clone, Copy, Debug, PartialEq, Eq)]
+pub enum Reply {
+    /// The id of the subscriber that was entered.
+    Subscriber { id: u64 },
+    /// The id of the order that was entered.
+    Order { id: u64 },
+    /// The certificate was registered.
+    Registered,
+    /// The certificate stands registered, equal in all parts.
+    Same,
+    /// The id of the request, and the moment up to which it is to be decided.
+    Request { id: u64, due: Moment },
+    /// The request was declined.
+    Declined,
+    /// The certificate was revoked, after the request's limit or within it.
+    Revoked { late: bool },
+    /// The number of the CRL that was issued, and how many entries it has.
+    Crl { number: u64, entries: u64 },
+    Status(Status),
+    Counts(Counts),
+    /// None: the serial number is not revoked.
+    Listing(Option<Listing>),
+    /// None: no request is overdue.
+    Overdue(Option<Overdue>),
+    /// None: the next CRL is due at once.
+    NextCrl(Option<Moment>),
+}
+
+/// What a command or query came to.
+pub type Outcome = Result<Reply, Fault>;

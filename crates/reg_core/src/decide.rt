@@ -1,0 +1,302 @@
+//! The pure decisions: each command over the rows that were looked up for it. The rows are handed in, since the caller
+//! looks them up by key: the subscriber, order or request that the command names, the certificate and the revocation
+//! of the serial number, the CRL issued last. A refusal is the first that applies; it comes before any change.
+
+ghost use Rattle.std.specs.Prelude.{◌≡◌, ℕ, ◌+◌, ◌<◌, ◌^◌, false, IfSome, ⊤};
+ghost use Rattle.reg_core.specs.Checks.{clock_checks, first_of_all, live_checks, settle_checks, validity_checks, when};
+ghost use Rattle.reg_core.specs.Crls.{number_after};
+ghost use Rattle.reg_core.specs.Decisions.{is_full, IsDecided, IsDecidedBy, DecidesSubscriber, DecidesOrder, DecidesRegister, DecidesRequest, DecidesDecline, DecidesRevoke, DecidesCrl};
+
+use crate::grounds::Ground;
+use crate::label::Label;
+use crate::moment::Moment;
+use crate::refusal::Refusal;
+use crate::rows::{CertRow, CrlRow, Head, OrderRow, RequestRow, RevocationRow, SubscriberRow};
+
+const SECONDS_OF_DAY: u64 = 86_400;
+
+/// The moment is below the clock's end, and not before the last accepted moment.
+///
+/// # Errors
+/// `ClockEnd` from 9999-12-22T00:00:00Z on; else `ClockBack` before the last accepted moment.
+pub fn clock(now: Moment, last: Moment) -> Result<(), Refusal>
+    ensures { IsDecidedBy (first_of_all (clock_checks now last)) (λ _. ⊤) result }
+{
+    if now >= Moment::CLOCK_END {
+        return Err(Refusal::ClockEnd);
+    }
+    if now < last {
+        return Err(Refusal::ClockBack { last });
+    }
+    Ok(())
+}
+
+/// The subscriber to enter. `by_name` is the one that has the name.
+///
+/// # Errors
+/// Those of [`clock`]; then `BadName`, `NameTaken`, `Full`.
+pub fn decide_subscriber(
+    head: &Head,
+    name: Label,
+    by_name: Option<SubscriberRow>,
+) -> Result<SubscriberRow, Refusal>
+    ensures { DecidesSubscriber head.entry.now name by_name result }
+{
+    clock(head.now, head.last)?;
+    if !name.is_name() {
+        return Err(Refusal::BadName);
+    }
+    if let Some(taken) = by_name {
+        return Err(Refusal::NameTaken { id: taken.id });
+    }
+    let id = next_id(head)?;
+    Ok(SubscriberRow { id, name })
+}
+
+/// The order to enter. `subscriber` is the one that the command names.
+///
+/// # Errors
+/// Those of [`clock`]; then `NoSubscriber`, `BadDays`, `Full`.
+pub fn decide_order(
+    head: &Head,
+    subscriber: Option<SubscriberRow>,
+    days: u64,
+) -> Result<OrderRow, Refusal>
+    ensures { DecidesOrder head.entry.now subscriber days result }
+{
+    clock(head.now, head.last)?;
+    let Some(subscriber) = subscriber else {
+        return Err(Refusal::NoSubscriber);
+    };
+    let most = head.policy.schedule().greatest();
+    if days == 0 || days > most {
+        return Err(Refusal::BadDays { most });
+    }
+    let id = next_id(head)?;
+    Ok(OrderRow {
+        id,
+        subscriber: subscriber.id,
+        days,
+    })
+}
+
+/// The certificate to register, or `None` where it stands registered, equal in all parts. `order` is the one that it is
+/// to fill, `by_order` the certificate that fills that order, `by_serial` the one that has the serial number.
+///
+/// # Errors
+/// Those of [`clock`]; then `NoOrder`, `OrderFilled`, `SerialTaken`, `BadValidity`, `TooLong`, `Ended`, `Full`.
+pub fn decide_register(
+    head: &Head,
+    wanted: CertRow,
+    order: Option<OrderRow>,
+    by_order: Option<CertRow>,
+    by_serial: Option<CertRow>,
+) -> Result<Option<CertRow>, Refusal>
+    ensures { DecidesRegister head.entry.now wanted order by_order by_serial result }
+{
+    clock(head.now, head.last)?;
+    if let Some(registered) = &by_serial {
+        if *registered == wanted {
+            return Ok(None);
+        }
+    }
+    let Some(order) = order else {
+        return Err(Refusal::NoOrder);
+    };
+    if by_order.is_some() {
+        return Err(Refusal::OrderFilled);
+    }
+    if by_serial.is_some() {
+        return Err(Refusal::SerialTaken);
+    }
+    check_validity(head, &wanted, &order)?;
+    next_id(head)?;
+    Ok(Some(wanted))
+}
+
+/// The request to enter, on a ground in words. `certificate` and `revocation` are those of the serial number.
+///
+/// # Errors
+/// Those of [`clock`]; then `UnknownSerial`, `NoHold`, `BadGround`, `RevokedBefore`, `Expired`, `Full`.
+pub fn decide_request(
+    head: &Head,
+    certificate: Option<CertRow>,
+    word: Label,
+    revocation: Option<RevocationRow>,
+) -> Result<RequestRow, Refusal>
+    ensures { DecidesRequest head.entry.now certificate word revocation result }
+{
+    clock(head.now, head.last)?;
+    let Some(certificate) = certificate else {
+        return Err(Refusal::UnknownSerial);
+    };
+    let serial = certificate.serial;
+    let named = Ground::read(word.as_bytes())?;
+    check_live(head.now, Some(certificate), revocation)?;
+    let id = next_id(head)?;
+    Ok(RequestRow {
+        id,
+        serial,
+        ground: named,
+        received: head.now,
+        declined: false,
+    })
+}
+
+/// The request, declined. `certificate` and `revocation` are those of its serial number.
+///
+/// # Errors
+/// Those of [`clock`]; then `NoRequest`, `DeclinedBefore`, `RevokedBefore`, `Expired`.
+pub fn decide_decline(
+    head: &Head,
+    request: Option<RequestRow>,
+    certificate: Option<CertRow>,
+    revocation: Option<RevocationRow>,
+) -> Result<RequestRow, Refusal>
+    ensures { DecidesDecline head.entry.now request certificate revocation result }
+{
+    let request = settle(head, request, certificate, revocation)?;
+    Ok(RequestRow {
+        id: request.id,
+        serial: request.serial,
+        ground: request.ground,
+        received: request.received,
+        declined: true,
+    })
+}
+
+/// The revocation, and whether it comes after the request's deadline. `certificate` and `revocation` are those of the
+/// request's serial number, `latest` is the CRL that was issued last.
+///
+/// # Errors
+/// Those of [`clock`]; then `NoRequest`, `DeclinedBefore`, `RevokedBefore`, `Expired`.
+pub fn decide_revoke(
+    head: &Head,
+    request: Option<RequestRow>,
+    certificate: Option<CertRow>,
+    revocation: Option<RevocationRow>,
+    latest: Option<CrlRow>,
+) -> Result<(RevocationRow, bool), Refusal>
+    requires { IfSome latest (λ crl. crl.number < 10 ^ 18) }
+    ensures { DecidesRevoke head.entry.now request certificate revocation latest result }
+{
+    let request = settle(head, request, certificate, revocation)?;
+    let late = head.now.secs() > request.received.secs() + request.ground.limit_secs();
+    let row = RevocationRow {
+        serial: request.serial,
+        at: head.now,
+        reason: request.ground.reason(),
+        request: request.id,
+        first: next_number(latest),
+    };
+    Ok((row, late))
+}
+
+/// The CRL to issue, with thisUpdate now. `latest` is the one that was issued last.
+///
+/// # Errors
+/// Those of [`clock`]; then `Full`.
+pub fn decide_crl(head: &Head, latest: Option<CrlRow>) -> Result<CrlRow, Refusal>
+    requires { IfSome latest (λ crl. crl.number < 10 ^ 18) }
+    ensures { DecidesCrl head.entry.now latest result }
+{
+    clock(head.now, head.last)?;
+    if has_no_room(head) {
+        return Err(Refusal::Full);
+    }
+    Ok(CrlRow {
+        number: next_number(latest),
+        this_update: head.now,
+    })
+}
+
+/// The next id of the table that would grow.
+fn next_id(head: &Head) -> Result<u64, Refusal>
+    ensures { IsDecidedBy (when (is_full head.entry.now) Refusal.Full) (λ id. id ≡ head.entry.now.held + 1) result }
+{
+    if has_no_room(head) {
+        return Err(Refusal::Full);
+    }
+    Ok(head.held + 1)
+}
+
+/// The table that would grow holds as many rows as the policy allows.
+fn has_no_room(head: &Head) -> bool
+    ensures full { result ≡ is_full head.entry.now }
+    ensures room { (result ≡ false) → head.entry.now.held < 1000000 }
+{
+    head.held >= head.policy.cap()
+}
+
+/// The number of the next CRL.
+fn next_number(latest: Option<CrlRow>) -> u64
+    requires { IfSome latest (λ crl. crl.number < 10 ^ 18) }
+    ensures { result ≡ number_after latest }
+{
+    match latest {
+        Some(crl) => crl.number + 1,
+        None => 1,
+    }
+}
+
+/// The validity runs forward, is no longer than ordered and allowed, and has not ended.
+fn check_validity(head: &Head, wanted: &CertRow, order: &OrderRow) -> Result<(), Refusal>
+    ensures { IsDecidedBy
+        (first_of_all (validity_checks head.entry.now.policy head.entry.now.now wanted.now (Some order.now)))
+        (λ _. ⊤)
+        result }
+{
+    if wanted.not_after < wanted.not_before {
+        return Err(Refusal::BadValidity);
+    }
+    let longest = head.policy.schedule().longest(wanted.not_before);
+    let seconds = wanted.not_after.secs() - wanted.not_before.secs() + 1;
+    if seconds > SECONDS_OF_DAY * order.days.min(longest) {
+        return Err(Refusal::TooLong);
+    }
+    if wanted.not_after < head.now {
+        return Err(Refusal::Ended);
+    }
+    Ok(())
+}
+
+/// The certificate is not revoked, and not past its end.
+fn check_live(
+    now: Moment,
+    certificate: Option<CertRow>,
+    revocation: Option<RevocationRow>,
+) -> Result<(), Refusal>
+    ensures { IsDecidedBy (first_of_all (live_checks now certificate revocation)) (λ _. ⊤) result }
+{
+    if let Some(revoked) = revocation {
+        return Err(Refusal::RevokedBefore { at: revoked.at });
+    }
+    match certificate {
+        Some(certificate) if now > certificate.not_after => Err(Refusal::Expired),
+        _ => Ok(()),
+    }
+}
+
+/// The request, where it can be settled: it is there, not declined, and its certificate is live.
+fn settle(
+    head: &Head,
+    request: Option<RequestRow>,
+    certificate: Option<CertRow>,
+    revocation: Option<RevocationRow>,
+) -> Result<RequestRow, Refusal>
+    ensures { IsDecided
+        head.entry.now
+        (settle_checks head.entry.now.now request certificate revocation)
+        (λ row. IfSome request (λ known. row ≡ known))
+        result }
+{
+    clock(head.now, head.last)?;
+    let Some(request) = request else {
+        return Err(Refusal::NoRequest);
+    };
+    if request.declined {
+        return Err(Refusal::DeclinedBefore);
+    }
+    check_live(head.now, certificate, revocation)?;
+    Ok(request)
+}

@@ -1,0 +1,164 @@
+//! Short texts of 1 to 64 bytes.
+
+ghost use Rattle.std.specs.Prelude.{◌≡◌, ◌+◌, ◌≤◌, ◌++◌, ◌↔◌, IsSome, IfSome, length, take, drop};
+ghost use Rattle.std.specs.Str.{bytes_eq};
+ghost use Rattle.std.specs.Cmp.{partial_equiv_from_equiv};
+ghost use Rattle.std.specs.Cmp.Lexicographic.{nat_list_eq_equiv};
+ghost use Rattle.reg_core.specs.Label.{IsLabel, is_name};
+
+use std::marker::Model;
+
+/// The most bytes of a label.
+const MAX_BYTES: usize = 64;
+
+/// A short text: 1 to 64 bytes of any value. Contracts see the list of its bytes.
+#[derive(Clone, Copy, Debug, Eq)]
+pub struct Label {
+    /// The text, then zeros.
+    bytes: [u8; MAX_BYTES],
+    len: usize,
+}
+
+impl Model for Label {
+    ghost use Rattle.std.specs.Prelude.{ℕ, List, ◌≡◌, ◌≤◌, ◌++◌, ◌-◌, length, take, replicate};
+
+    ghost Value = { List ℕ };
+
+    ghost view = { λ label. take label.len label.bytes };
+
+    ghost use Rattle.reg_core.specs.Label.{IsLabel};
+
+    ghost invariant = { λ label. (label.len ≤ 64) × (length label.bytes ≡ 64) × IsLabel (take label.len label.bytes)
+        × (label.bytes ≡ take label.len label.bytes ++ replicate (64 - label.len) 0) };
+
+    ghost inverse = { λ text. record { bytes = text ++ replicate (64 - length text) 0; len = length text } };
+}
+
+impl PartialEq for Label {
+    ghost eq = { bytes_eq };
+
+    ghost laws = { partial_equiv_from_equiv nat_list_eq_equiv };
+
+    fn eq(&self, other: &Label) -> bool {
+        self.as_bytes() == other.as_bytes()
+    }
+}
+
+impl Label {
+    /// The label of these bytes, or `None` where there is none of them or are more than 64.
+    pub fn of(text: &[u8]) -> Option<Label>
+        ensures some { IsSome result ↔ IsLabel text.now }
+        ensures value { IfSome result (λ label. label ≡ text.now) }
+    {
+        if text.is_empty() || text.len() > MAX_BYTES {
+            return None;
+        }
+        Some(Label::joined(text, &[]))
+    }
+
+    /// The label of two texts, one after the other, of 1 to 64 bytes in all.
+    pub fn joined(first: &[u8], second: &[u8]) -> Label
+        requires not_empty { 1 ≤ length first.now + length second.now }
+        requires at_most_64 { length first.now + length second.now ≤ 64 }
+        ensures { result ≡ first.now ++ second.now }
+    {
+        let mut bytes = [0; MAX_BYTES];
+        write_at(&mut bytes, 0, first);
+        write_at(&mut bytes, first.len(), second);
+        Label {
+            bytes,
+            len: first.len() + second.len(),
+        }
+    }
+
+    /// The bytes of the text.
+    pub fn as_bytes(&self) -> &[u8]
+        ensures bytes { result.now ≡ self.now }
+        ensures label { IsLabel result.now }
+    {
+        &self.bytes[..self.len]
+    }
+
+    /// Whether the text is a good name: each byte an ASCII letter, a digit, `.`, `-` or `_`.
+    pub fn is_name(&self) -> bool
+        ensures { result ≡ is_name self.now }
+    {
+        self.as_bytes().iter().all(|byte| byte.is_ascii_alphanumeric()
+            || matches!(*byte, b'.' | b'-' | b'_'))
+    }
+}
+
+/// Writes a text over the bytes from a place on.
+fn write_at(bytes: &mut [u8; MAX_BYTES], at: usize, text: &[u8])
+    requires { at + length text.now ≤ 64 }
+    ensures { bytes.new ≡ take at bytes.old ++ text.now ++ drop (at + length text.now) bytes.old }
+{
+    bytes[at..at + text.len()].copy_from_slice(text);
+}
+
+#[cfg(test)]
+mod tests {
+    use super::*;
+    use std::test::Fail;
+
+    #[test]
+    fn takes_1_to_64_bytes(rt: HostRuntime) -> Result<(), Fail> {
+        let bytes = [255; 65];
+        assert_eq!(rt; Label::of(&bytes[..0]), None);
+        assert_eq!(rt; Label::of(&bytes), None);
+        assert_eq!(rt;
+            Label::of(&bytes[..1]).ok_or("one byte")?.as_bytes(),
+            &bytes[..1]
+        );
+        assert_eq!(rt;
+            Label::of(&bytes[..64]).ok_or("64 bytes")?.as_bytes(),
+            &bytes[..64]
+        );
+        Ok(())
+    }
+
+    #[test]
+    fn joins_two_texts(rt: HostRuntime) -> Result<(), Fail> {
+        let line = Label::joined(b"E05 name-taken ", b"17");
+        assert_eq!(rt; line.as_bytes(), b"E05 name-taken 17".as_slice());
+        assert_eq!(rt; Label::joined(b"", b"E18").as_bytes(), b"E18".as_slice());
+        assert_eq!(rt;
+            line == Label::of(b"E05 name-taken 17").ok_or("a line")?,
+            true
+        );
+        assert_eq!(rt;
+            line == Label::of(b"E05 name-taken 18").ok_or("a line")?,
+            false
+        );
+        Ok(())
+    }
+
+    #[test]
+    fn tells_good_names(rt: HostRuntime) -> Result<(), Fail> {
+        for text in [b"azAZ".as_slice(), b"0.9", b"a_b-c", b"-"] {
+            assert_eq!(rt;
+                Label::of(text).ok_or("a label")?.is_name(),
+                true,
+                "at {text:?}"
+            );
+        }
+        for text in [
+            b"a!".as_slice(),
+            b"a b",
+            b"@",
+            b"[",
+            b"`",
+            b"{",
+            b"/",
+            b":",
+            b"caf\xC3\xA9",
+        ] {
+            assert_eq!(rt;
+                Label::of(text).ok_or("a label")?.is_name(),
+                false,
+                "at {text:?}"
+            );
+        }
+        Ok(())
+    }
+}

@@ -1,0 +1,215 @@
+//! The terms that an office keeps to.
+
+ghost use Rattle.std.specs.Prelude.{◌≡◌, ◌≤◌, ◌↔◌, IsSome, IfSome};
+ghost use Rattle.reg_core.specs.Policy.{IsPolicy};
+ghost use Rattle.reg_core.specs.Schedule.{IsSchedule, one_step};
+
+use crate::moment::Moment;
+use crate::schedule::Schedule;
+use std::marker::Model;
+
+/// Ten days less a second, below what the CA/Browser Forum Baseline Requirements 4.9.7 and 4.9.10 allow.
+const LONGEST_LIFE: u64 = 863_999;
+
+/// Eight hours, the least that the Baseline Requirements 4.9.10 allow.
+const SHORTEST_OCSP_LIFE: u64 = 28_800;
+
+/// The most rows of a table that a policy may allow.
+const LARGEST_CAP: u64 = 1_000_000;
+
+/// The terms of an office. Contracts see the record of them.
+#[derive(Clone, Copy, Debug, PartialEq, Eq)]
+pub struct Policy {
+    schedule: Schedule,
+    /// Seconds from a CRL's thisUpdate to its nextUpdate.
+    crl_life: u64,
+    /// Seconds from an OCSP answer's thisUpdate to its nextUpdate.
+    ocsp_life: u64,
+    /// The most rows of a table.
+    cap: u64,
+}
+
+impl Model for Policy {
+    ghost use Rattle.reg_core.specs.Policy.{Terms, IsPolicy};
+
+    ghost Value = { Terms };
+
+    ghost view = { λ policy. record {
+      schedule = policy.schedule;
+      crl_life = policy.crl_life;
+      ocsp_life = policy.ocsp_life;
+      cap = policy.cap;
+    } };
+
+    ghost invariant = { λ policy. IsPolicy (record {
+      schedule = policy.schedule;
+      crl_life = policy.crl_life;
+      ocsp_life = policy.ocsp_life;
+      cap = policy.cap;
+    }) };
+
+    ghost inverse = { λ terms. record {
+      schedule = terms.schedule;
+      crl_life = terms.crl_life;
+      ocsp_life = terms.ocsp_life;
+      cap = terms.cap;
+    } };
+}
+
+impl Policy {
+    /// The policy of one longest validity in days, of the lives of CRLs and OCSP answers in seconds, and of the most
+    /// rows of a table. `None` where days are not 1 to 398, `crl_life` is not 1 to 863,999, `ocsp_life` is not
+    /// 28,800 to 863,999, or `cap` is not 1 to 1,000,000.
+    pub fn new(longest_days: u64, crl_life: u64, ocsp_life: u64, cap: u64) -> Option<Policy>
+        ensures some { IsSome result ↔ IsPolicy (record {
+          schedule = one_step longest_days;
+          crl_life = crl_life;
+          ocsp_life = ocsp_life;
+          cap = cap;
+        }) }
+        ensures value { IfSome result (λ policy. policy ≡ record {
+          schedule = one_step longest_days;
+          crl_life = crl_life;
+          ocsp_life = ocsp_life;
+          cap = cap;
+        }) }
+    {
+        let start = Moment::of_secs(0)?;
+        let schedule = Schedule::new(&[(start, longest_days)])?;
+        Policy::with(schedule, crl_life, ocsp_life, cap)
+    }
+
+    /// The policy of a schedule of longest validities, with the rest as in [`Policy::new`].
+    pub fn with(schedule: Schedule, crl_life: u64, ocsp_life: u64, cap: u64) -> Option<Policy>
+        ensures some { IsSome result ↔ IsPolicy (record {
+          schedule = schedule;
+          crl_life = crl_life;
+          ocsp_life = ocsp_life;
+          cap = cap;
+        }) }
+        ensures value { IfSome result (λ policy. policy ≡ record {
+          schedule = schedule;
+          crl_life = crl_life;
+          ocsp_life = ocsp_life;
+          cap = cap;
+        }) }
+    {
+        // Only its contract matters here: these are a schedule's steps, as the policy promises.
+        let _steps = schedule.steps();
+        let in_range = (1..=LONGEST_LIFE).contains(&crl_life)
+            && (SHORTEST_OCSP_LIFE..=LONGEST_LIFE).contains(&ocsp_life)
+            && (1..=LARGEST_CAP).contains(&cap);
+        if !in_range {
+            return None;
+        }
+        Some(Policy {
+            schedule,
+            crl_life,
+            ocsp_life,
+            cap,
+        })
+    }
+
+    /// The usual policy: 398 days, eight days for CRLs, four days for OCSP answers, 1,000,000 rows a table.
+    pub fn usual() -> Policy
+        ensures { result ≡ record { schedule = one_step 398; crl_life = 691200; ocsp_life = 345600; cap = 1000000 } }
+    {
+        Policy::new(398, 691_200, 345_600, 1_000_000).unwrap()
+    }
+
+    /// The same policy with another schedule.
+    pub fn with_schedule(self, schedule: Schedule) -> Policy
+        ensures { result ≡ record self { schedule = schedule } }
+    {
+        // Only its contract matters here: these are a schedule's steps, as the policy promises.
+        let _steps = schedule.steps();
+        Policy { schedule, ..self }
+    }
+
+    /// The longest validities.
+    pub fn schedule(&self) -> Schedule
+        ensures schedule { result ≡ self.now.schedule }
+        ensures in_range { IsSchedule result }
+    {
+        self.schedule
+    }
+
+    /// The seconds from a CRL's thisUpdate to its nextUpdate.
+    pub fn crl_life(&self) -> u64
+        ensures seconds { result ≡ self.now.crl_life }
+        ensures at_least_1 { 1 ≤ result }
+        ensures below_10_days { result ≤ 863999 }
+    {
+        self.crl_life
+    }
+
+    /// The seconds from an OCSP answer's thisUpdate to its nextUpdate.
+    pub fn ocsp_life(&self) -> u64
+        ensures seconds { result ≡ self.now.ocsp_life }
+        ensures at_least_8_hours { 28800 ≤ result }
+        ensures below_10_days { result ≤ 863999 }
+    {
+        self.ocsp_life
+    }
+
+    /// The most rows of a table.
+    pub fn cap(&self) -> u64
+        ensures rows { result ≡ self.now.cap }
+        ensures at_least_1 { 1 ≤ result }
+        ensures at_most_1_000_000 { result ≤ 1000000 }
+    {
+        self.cap
+    }
+}
+
+#[cfg(test)]
+mod tests {
+    use super::*;
+    use std::test::Fail;
+
+    #[test]
+    fn takes_what_is_in_range(rt: HostRuntime) {
+        for (days, crl_life, ocsp_life, cap, taken) in [
+            (1, 1, 28_800, 1, true),
+            (398, 863_999, 863_999, 1_000_000, true),
+            (0, 1, 28_800, 1, false),
+            (399, 1, 28_800, 1, false),
+            (1, 0, 28_800, 1, false),
+            (1, 864_000, 28_800, 1, false),
+            (1, 1, 28_799, 1, false),
+            (1, 1, 864_000, 1, false),
+            (1, 1, 28_800, 0, false),
+            (1, 1, 28_800, 1_000_001, false),
+        ] {
+            let policy = Policy::new(days, crl_life, ocsp_life, cap);
+            assert_eq!(rt;
+                policy.is_some(),
+                taken,
+                "at {days} {crl_life} {ocsp_life} {cap}"
+            );
+        }
+    }
+
+    #[test]
+    fn keeps_its_terms(rt: HostRuntime) -> Result<(), Fail> {
+        let usual = Policy::usual();
+        assert_eq!(rt; usual.crl_life(), 691_200);
+        assert_eq!(rt; usual.ocsp_life(), 345_600);
+        assert_eq!(rt; usual.cap(), 1_000_000);
+        let start = Moment::of_secs(0).ok_or("no moment")?;
+        assert_eq!(rt; usual.schedule().longest(start), 398);
+        assert_eq!(rt; usual.schedule().greatest(), 398);
+        let shorter = Schedule::new(&[(start, 47)]).ok_or("refused")?;
+        let changed = usual.with_schedule(shorter);
+        assert_eq!(rt;
+            changed == Policy::new(47, 691_200, 345_600, 1_000_000).ok_or("refused")?,
+            true
+        );
+        assert_eq!(rt; changed == usual, false);
+        let with = Policy::with(shorter, 1, 28_800, 2).ok_or("refused")?;
+        assert_eq!(rt; with.schedule() == shorter, true);
+        assert_eq!(rt; with.cap(), 2);
+        assert_eq!(rt; Policy::with(shorter, 1, 28_799, 2).is_none(), true);
+        Ok(())
+    }
+}

@@ -1,0 +1,143 @@
+//! Why a command or query was not carried out.
+
+ghost use Rattle.std.specs.Prelude.{◌≡◌, ℕ, ◌+◌, ◌≤◌, ◌++◌, length};
+ghost use Rattle.reg_core.specs.Lines.{fault_line, refusal_line};
+
+use crate::label::Label;
+use crate::moment::Moment;
+use crate::number::Decimal;
+
+/// A refusal: the register stays as it is.
+#[derive(Clone, Copy, Debug, PartialEq, Eq)]
+pub enum Refusal {
+    /// E01: the moment is before the last accepted one.
+    ClockBack { last: Moment },
+    /// E02: the moment is 9999-12-22T00:00:00Z or later.
+    ClockEnd,
+    /// E03: the table that would grow holds as many rows as the policy allows.
+    Full,
+    /// E04: the name has a byte that is no letter, digit, dot, hyphen or underscore.
+    BadName,
+    /// E05: a subscriber has the name.
+    NameTaken { id: u64 },
+    /// E06: there is no such subscriber.
+    NoSubscriber,
+    /// E07: the days are 0 or more than the longest validity.
+    BadDays { most: u64 },
+    /// E08: there is no such order.
+    NoOrder,
+    /// E09: the order has its certificate.
+    OrderFilled,
+    /// E10: another certificate has the serial number.
+    SerialTaken,
+    /// E11: notAfter is before notBefore.
+    BadValidity,
+    /// E12: the validity is longer than was ordered, or than the policy allows.
+    TooLong,
+    /// E13: notAfter is before the moment of the command.
+    Ended,
+    /// E14: no certificate has the serial number.
+    UnknownSerial,
+    /// E15: a certificate is not put on hold.
+    NoHold,
+    /// E16: the word names no ground of revocation.
+    BadGround,
+    /// E17: there is no such request.
+    NoRequest,
+    /// E18: the request was declined.
+    DeclinedBefore,
+    /// E19: the serial number is revoked.
+    RevokedBefore { at: Moment },
+    /// E20: the certificate is past its end.
+    Expired,
+    /// E21: no CRL, or none with the number, was issued.
+    NoCrl,
+    /// E22: the line, row, path or body can't be read.
+    Syntax,
+}
+
+/// What a command or query comes to where it has no reply: a refusal, or a fault of memory, of the store, of the
+/// signer, of the input or of the output.
+#[derive(Clone, Copy, Debug, PartialEq, Eq)]
+pub enum Fault {
+    Refused(Refusal),
+    /// F1: memory was refused.
+    Memory,
+    /// F2: the store failed, or holds what no register writes.
+    Store,
+    /// F3: the signer failed.
+    Signer,
+    /// F4: the input failed, or is longer than allowed.
+    Read,
+    /// F5: the output failed.
+    Write,
+}
+
+/// A line of words alone.
+fn words(text: &[u8]) -> Label
+    requires not_empty { 1 ≤ length text.now }
+    requires short { length text.now ≤ 30 }
+    ensures { result ≡ text.now }
+{
+    Label::joined(text, b"")
+}
+
+/// A line of words, and of the value that they tell.
+fn words_with(text: &[u8], value: &[u8]) -> Label
+    requires not_empty { 1 ≤ length text.now }
+    requires short { length text.now ≤ 30 }
+    requires short_value { length value.now ≤ 20 }
+    ensures { result ≡ text.now ++ value.now }
+{
+    Label::joined(text, value)
+}
+
+impl Refusal {
+    /// The one line that tells it, without LF.
+    #[tactic(auto, unfolding(crate::specs::Lines::refusal_line))]
+    pub fn line(&self) -> Label
+        ensures { result ≡ refusal_line self.now }
+    {
+        match *self {
+            Refusal::ClockBack { last } => words_with(b"E01 clock-back ", &last.text()),
+            Refusal::ClockEnd => words(b"E02 clock-end"),
+            Refusal::Full => words(b"E03 full"),
+            Refusal::BadName => words(b"E04 bad-name"),
+            Refusal::NameTaken { id } => words_with(b"E05 name-taken ", Decimal::of(id).as_bytes()),
+            Refusal::NoSubscriber => words(b"E06 no-subscriber"),
+            Refusal::BadDays { most } => words_with(b"E07 bad-days ", Decimal::of(most).as_bytes()),
+            Refusal::NoOrder => words(b"E08 no-order"),
+            Refusal::OrderFilled => words(b"E09 order-filled"),
+            Refusal::SerialTaken => words(b"E10 serial-taken"),
+            Refusal::BadValidity => words(b"E11 bad-validity"),
+            Refusal::TooLong => words(b"E12 too-long"),
+            Refusal::Ended => words(b"E13 ended"),
+            Refusal::UnknownSerial => words(b"E14 unknown-serial"),
+            Refusal::NoHold => words(b"E15 no-hold"),
+            Refusal::BadGround => words(b"E16 bad-ground"),
+            Refusal::NoRequest => words(b"E17 no-request"),
+            Refusal::DeclinedBefore => words(b"E18 declined-before"),
+            Refusal::RevokedBefore { at } => words_with(b"E19 revoked-before ", &at.text()),
+            Refusal::Expired => words(b"E20 expired"),
+            Refusal::NoCrl => words(b"E21 no-crl"),
+            Refusal::Syntax => words(b"E22 syntax"),
+        }
+    }
+}
+
+impl Fault {
+    /// The one line that tells it, without LF.
+    #[tactic(auto, unfolding(crate::specs::Lines::fault_line))]
+    pub fn line(&self) -> Label
+        ensures { result ≡ fault_line self.now }
+    {
+        match *self {
+            Fault::Refused(refusal) => refusal.line(),
+            Fault::Memory => words(b"F1 memory"),
+            Fault::Store => words(b"F2 store"),
+            Fault::Signer => words(b"F3 signer"),
+            Fault::Read => words(b"F4 read"),
+            Fault::Write => words(b"F5 write"),
+        }
+    }
+}

@@ -1,0 +1,324 @@
+//! Serial numbers of certificates.
+
+ghost use Rattle.std.specs.Prelude.{◌≡◌, ◌≢◌, ℕ, ◌+◌, ◌*◌, ◌^◌, ◌<◌, ◌≤◌, ◌==◌, ◌↔◌, IsTrue, length, IfSome, IfNone, MatchOption, SomeIff};
+ghost use Rattle.std.specs.Str.Parse.{AllDigits, digits_value};
+ghost use Rattle.std.specs.Ordering.{nat_cmp, as_partial_cmp};
+ghost use Rattle.std.proofs.Common.{rules};
+ghost use Rattle.std.specs.Cmp.{partial_order_from_own_ties};
+ghost use Rattle.std.specs.Cmp.Rules.{comparing};
+ghost use Rattle.reg_core.specs.Integer.{IsInteger, IsShortest, integer, value};
+ghost use Rattle.reg_core.specs.Serial.{IsSerial, IsSerialText, serial_bytes, serial_of, serial_text};
+
+use crate::number::read_digits;
+use std::cmp::Ordering;
+use std::marker::Model;
+
+/// How many bytes a serial number is written with.
+const BYTES: usize = 20;
+
+/// How many of them the lower half takes.
+const LOW_BYTES: usize = 16;
+
+/// The most hexadecimal digits that a serial number is read from.
+const MOST_DIGITS: usize = 2 * BYTES;
+
+/// How many of them the lower half takes.
+const LOW_DIGITS: usize = 2 * LOW_BYTES;
+
+/// A certificate's serial number, from 1 to 2^159 - 1 (RFC 5280 4.1.2.2). Contracts see the number.
+#[derive(Clone, Copy, Debug)]
+pub struct Serial {
+    /// The bits above the lowest 128.
+    high: u32,
+    /// The lowest 128 bits.
+    low: u128,
+}
+
+impl Model for Serial {
+    ghost use Rattle.std.specs.Prelude.{ℕ, ◌<◌, ◌≤◌, ◌+◌, ◌*◌, ◌/◌, ◌%◌, ◌^◌};
+
+    ghost Value = { ℕ };
+
+    ghost view = { λ serial. serial.high * 2 ^ 128 + serial.low };
+
+    ghost invariant = { λ serial. (serial.high < 2 ^ 31) × (serial.low < 2 ^ 128) × (1 ≤ serial.high * 2 ^ 128 + serial.low) };
+
+    ghost inverse = { λ number. record { high = number / 2 ^ 128; low = number % 2 ^ 128 } };
+}
+
+// The comparisons are written out so that contracts compare the numbers and not the halves.
+impl PartialEq for Serial {
+    ghost eq = { ◌==◌ };
+
+    ghost laws = { Prim.search (comparing, rules) };
+
+    fn eq(&self, other: &Serial) -> bool {
+        self.high == other.high && self.low == other.low
+    }
+}
+
+impl Eq for Serial {
+    ghost laws = { Prim.search (comparing, rules) };
+}
+
+impl Ord for Serial {
+    ghost cmp = { nat_cmp };
+
+    ghost total = { Prim.search (comparing, rules) };
+
+    ghost matches_partial_cmp = { Prim.search (comparing, rules) };
+
+    ghost matches_eq = { Prim.search (comparing, rules) };
+
+    fn cmp(&self, other: &Serial) -> Ordering {
+        self.high.cmp(&other.high).then(self.low.cmp(&other.low))
+    }
+}
+
+impl PartialOrd for Serial {
+    ghost partial_cmp = { as_partial_cmp nat_cmp };
+
+    ghost laws = { partial_order_from_own_ties (Prim.search (comparing, rules)) (Prim.search (comparing, rules)) };
+
+    fn partial_cmp(&self, other: &Serial) -> Option<Ordering> {
+        Some(self.cmp(other))
+    }
+}
+
+impl Serial {
+    /// Reads 1 to 40 hexadecimal digits of either case; leading zeros are allowed. `None` for any other text, for 0,
+    /// and for a number above 2^159 - 1.
+    pub fn read(text: &[u8]) -> Option<Serial>
+        ensures read { MatchOption result ((n : ℕ) → ¬ IsSerialText text.now n) (IsSerialText text.now) }
+        ensures exact { result ≡ serial_of text.now }
+    {
+        if text.is_empty() || text.len() > MOST_DIGITS {
+            return None;
+        }
+        let (high, low) = text.split_at(text.len().saturating_sub(LOW_DIGITS));
+        Serial::of_halves(read_digits(high, 16)?, read_digits(low, 16)?)
+    }
+
+    /// Reads the contents octets of a DER INTEGER (X.690 8.3). `None` where they are none (no octet at all, or more
+    /// than the fewest), for 0 and negative numbers, and for a number above 2^159 - 1.
+    pub fn from_der(octets: &[u8]) -> Option<Serial>
+        ensures read { MatchOption result ((n : ℕ) → IsSerial n → ¬ IsInteger octets.now n) (λ n. IsSerial n × IsInteger octets.now n) }
+        ensures exact { MatchOption result ((n : ℕ) → IsSerial n → octets.now ≢ integer n) (λ n. octets.now ≡ integer n) }
+    {
+        match octets {
+            [first, ..] if *first < 128 && is_shortest(octets) => Serial::from_big_endian(octets),
+            _ => None,
+        }
+    }
+
+    /// The serial number of exactly 20 bytes, the highest first, as [`Serial::bytes20`] gives them. `None` for
+    /// another length, for 0, and for a number above 2^159 - 1.
+    pub fn from_bytes20(bytes: &[u8]) -> Option<Serial>
+        ensures { MatchOption result ((n : ℕ) → IsSerial n → bytes.now ≢ serial_bytes n) (λ n. IsSerial n × (bytes.now ≡ serial_bytes n)) }
+    {
+        if bytes.len() == BYTES {
+            Serial::from_big_endian(bytes)
+        } else {
+            None
+        }
+    }
+
+    /// The number as 20 bytes, the highest first.
+    pub fn bytes20(self) -> [u8; 20]
+        ensures bytes { result ≡ serial_bytes self }
+        ensures value { value result ≡ self }
+        ensures in_range { IsSerial self }
+    {
+        let mut bytes = [0; BYTES];
+        let (high, low) = bytes.split_at_mut(BYTES - LOW_BYTES);
+        high.copy_from_slice(&self.high.to_be_bytes());
+        low.copy_from_slice(&self.low.to_be_bytes());
+        bytes
+    }
+
+    /// The number as 40 hexadecimal digits in lower case, which [`Serial::read`] reads back.
+    pub fn text(self) -> [u8; 40]
+        ensures text { result ≡ serial_text self }
+        ensures reads_back { IsSerialText result self }
+    {
+        let mut text = [0; MOST_DIGITS];
+        // Always `Ok`: there is room for the two digits of each byte.
+        let _ = hex::encode_to_slice(self.bytes20().as_slice(), &mut text);
+        text
+    }
+
+    /// The serial number that at most 20 bytes write, the highest first. `None` for more bytes, and for a number out
+    /// of range.
+    fn from_big_endian(bytes: &[u8]) -> Option<Serial>
+        ensures { SomeIff result ((length bytes.now ≤ 20) × IsSerial (value bytes.now)) (value bytes.now) }
+    {
+        if bytes.len() > BYTES {
+            return None;
+        }
+        let (high, low) = bytes.split_at(bytes.len().saturating_sub(LOW_BYTES));
+        Serial::of_halves(big_endian(high), big_endian(low))
+    }
+
+    /// The serial number of these bits above the lowest 128 and these lowest 128. `None` for a number out of range:
+    /// 2^159 is 2^31 times 2^128.
+    fn of_halves(high: u128, low: u128) -> Option<Serial>
+        ensures { SomeIff result (IsSerial (high * 2 ^ 128 + low)) (high * 2 ^ 128 + low) }
+    {
+        if high >= 1 << 31 || (high == 0 && low == 0) {
+            return None;
+        }
+        Some(Serial {
+            high: high as u32,
+            low,
+        })
+    }
+}
+
+/// Whether the contents octets of an INTEGER are the fewest: the first nine bits are neither all zero nor all one
+/// (X.690 8.3.2).
+fn is_shortest(octets: &[u8]) -> bool
+    ensures { IsTrue result ↔ IsShortest octets.now }
+{
+    match octets {
+        [] => false,
+        [_] => true,
+        [first, second, ..] => {
+            let all_zero = *first == 0 && *second < 128;
+            let all_one = *first == 255 && *second >= 128;
+            !all_zero && !all_one
+        }
+    }
+}
+
+/// The number that at most 16 bytes write, the highest first.
+fn big_endian(bytes: &[u8]) -> u128
+    requires { length bytes.now ≤ 16 }
+    ensures { result ≡ value bytes.now }
+{
+    let mut number = 0;
+    for byte in bytes {
+        number = number * 256 + u128::from(*byte);
+    }
+    number
+}
+
+#[cfg(test)]
+mod tests {
+    use super::*;
+    use std::test::Fail;
+
+    /// 2^159 - 1: the greatest serial number.
+    static GREATEST: [u8; 20] = [
+        0x7f, 255, 255, 255, 255, 255, 255, 255, 255, 255, 255, 255, 255, 255, 255, 255, 255, 255,
+        255, 255,
+    ];
+
+    #[test]
+    fn reads_digits_of_either_case(rt: HostRuntime) -> Result<(), Fail> {
+        let texts: [(&[u8], &[u8]); 7] = [
+            (b"5", b"0000000000000000000000000000000000000005"),
+            (b"05", b"0000000000000000000000000000000000000005"),
+            (
+                b"000000000000000000000000000000000000005",
+                b"0000000000000000000000000000000000000005",
+            ),
+            (
+                b"0000000000000000000000000000000000000005",
+                b"0000000000000000000000000000000000000005",
+            ),
+            (b"aBcDeF", b"0000000000000000000000000000000000abcdef"),
+            (
+                b"123456789000000000000000000000000fedCBA",
+                b"0123456789000000000000000000000000fedcba",
+            ),
+            (
+                b"7fffffffffffffffffffffffffffffffffffffff",
+                b"7fffffffffffffffffffffffffffffffffffffff",
+            ),
+        ];
+        for (text, written) in &texts {
+            let serial = Serial::read(text).ok_or("a serial number")?;
+            assert_eq!(rt; serial.text().as_slice(), *written);
+            assert_eq!(rt; Serial::from_bytes20(&serial.bytes20()), Some(serial));
+        }
+        Ok(())
+    }
+
+    #[test]
+    fn reads_no_other_text(rt: HostRuntime) -> Result<(), Fail> {
+        let texts: [&[u8]; 10] = [
+            b"",
+            b"0",
+            b"0000000000000000000000000000000000000000",
+            b"8000000000000000000000000000000000000000",
+            b"00000000000000000000000000000000000000005",
+            b"g",
+            b" ",
+            b"5 ",
+            b"+5",
+            b"g000000000000000000000000000000000000005",
+        ];
+        for text in &texts {
+            assert_eq!(rt; Serial::read(text), None);
+        }
+        Ok(())
+    }
+
+    #[test]
+    fn reads_integers(rt: HostRuntime) -> Result<(), Fail> {
+        let integers: [(&[u8], &[u8]); 5] = [
+            (&[5], b"05"),
+            (&[0x7f], b"7f"),
+            (&[0, 0x80], b"80"),
+            (&[1, 0], b"100"),
+            (&GREATEST, b"7fffffffffffffffffffffffffffffffffffffff"),
+        ];
+        for (octets, text) in &integers {
+            let serial = Serial::from_der(octets).ok_or("an INTEGER")?;
+            assert_eq!(rt; Serial::read(text), Some(serial));
+        }
+        Ok(())
+    }
+
+    #[test]
+    fn reads_no_other_octets(rt: HostRuntime) -> Result<(), Fail> {
+        let refused: [&[u8]; 7] = [
+            &[],
+            &[0],
+            &[0x80],
+            &[0xff],
+            &[0, 5],
+            &[0xff, 0x80],
+            // 2^159, in its fewest octets.
+            &[
+                0, 0x80, 0, 0, 0, 0, 0, 0, 0, 0, 0, 0, 0, 0, 0, 0, 0, 0, 0, 0, 0,
+            ],
+        ];
+        for octets in &refused {
+            assert_eq!(rt; Serial::from_der(octets), None);
+        }
+        Ok(())
+    }
+
+    #[test]
+    fn reads_twenty_bytes(rt: HostRuntime) -> Result<(), Fail> {
+        let greatest = Serial::from_bytes20(&GREATEST).ok_or("20 bytes")?;
+        assert_eq!(rt; greatest.bytes20().as_slice(), GREATEST.as_slice());
+        let refused: [&[u8]; 4] = [&[0; 20], &[1; 19], &[1; 21], &[0x80; 20]];
+        for bytes in &refused {
+            assert_eq!(rt; Serial::from_bytes20(bytes), None);
+        }
+        Ok(())
+    }
+
+    #[test]
+    fn compares_numbers(rt: HostRuntime) -> Result<(), Fail> {
+        let low = Serial::read(b"ffffffffffffffffffffffffffffffff").ok_or("2^128 - 1")?;
+        let high = Serial::read(b"100000000000000000000000000000000").ok_or("2^128")?;
+        assert!(rt; low < high);
+        assert!(rt; low != high);
+        assert_eq!(rt; high.cmp(&low), Ordering::Greater);
+        assert_eq!(rt; low.cmp(&low), Ordering::Equal);
+        Ok(())
+    }
+}

@@ -1,0 +1,57 @@
+//! The status of a serial number, and when the next CRL is due.
+
+ghost use Rattle.std.specs.Prelude.{◌≡◌, ℕ, ◌<◌, IfSome};
+ghost use Rattle.reg_core.specs.Calendar.{clock_end};
+ghost use Rattle.reg_core.specs.Status.{status_by};
+ghost use Rattle.reg_core.specs.Due.{due_by};
+
+use crate::command::Status;
+use crate::moment::Moment;
+use crate::policy::Policy;
+use crate::rows::{CertRow, CrlRow, RevocationRow};
+
+/// A week: the longest time from one CRL to the next.
+const SECONDS_OF_WEEK: u64 = 604_800;
+/// A day: the longest time from a revocation to the first CRL that lists it.
+const SECONDS_OF_DAY: u64 = 86_400;
+
+/// The status at a moment of a serial number, given its certificate and its revocation: unknown with no certificate,
+/// revoked for good with a revocation, else expired after notAfter, else good, also before notBefore.
+pub fn status_of(
+    now: Moment,
+    certificate: Option<CertRow>,
+    revocation: Option<RevocationRow>,
+) -> Status
+    ensures { result ≡ status_by now certificate revocation }
+{
+    match (certificate, revocation) {
+        (None, _) => Status::Unknown,
+        (Some(_), Some(revoked)) => Status::Revoked {
+            at: revoked.at,
+            reason: revoked.reason,
+        },
+        (Some(certificate), None) if now > certificate.not_after => Status::Expired,
+        (Some(_), None) => Status::Good,
+    }
+}
+
+/// When the next CRL is due: a week after thisUpdate of the latest, at its nextUpdate (RFC 5280 5.1.2.5), or a day after
+/// the earliest revocation that no CRL has listed, whichever comes first. `None` where there is no CRL: at once.
+pub fn due_of(
+    policy: &Policy,
+    latest: Option<CrlRow>,
+    earliest_unlisted: Option<Moment>,
+) -> Option<Moment>
+    requires latest { IfSome latest (λ crl. crl.this_update < clock_end) }
+    requires unlisted { IfSome earliest_unlisted (λ at. at < clock_end) }
+    ensures { result ≡ due_by policy.now latest earliest_unlisted }
+{
+    let latest = latest?;
+    let regular = latest
+        .this_update
+        .plus(SECONDS_OF_WEEK.min(policy.crl_life()));
+    match earliest_unlisted {
+        Some(at) => Some(regular.min(at.plus(SECONDS_OF_DAY))),
+        None => Some(regular),
+    }
+}

@@ -1,0 +1,4 @@
+pub mod Octets
+pub mod Values
+pub mod Integers
+pub mod Names

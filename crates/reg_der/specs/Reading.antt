@@ -1,0 +1,41 @@
+-- Reading one value from the front of bytes, as a function on lists. What it means is `IsTlv`.
+use Rattle.std.specs.Prelude.{◌≡◌, ℕ, ◌-◌, ◌%◌, List, [], ◌∷◌, length, take, drop, get_or, Option, Some, None, option_and_then, nat_lt, ◌==◌, ◌||◌, if◌then◌else◌}
+use Rattle.reg_core.specs.Integer.{value}
+
+infixl 10 ◌>>=◌
+abbrev pub ◌>>=◌ : {A B : Type 0} → Option A → (A → Option B) → Option B
+option >>= next = option_and_then next option
+
+-- what a function returned, seen by view, is what reading gives
+abbrev pub Gives : {X Y : Type 0} → (X → Y) → Option X → Option Y → Type 0
+Gives view (Some x) read = read ≡ Some (view x)
+Gives view None read = read ≡ None
+
+-- the tag and the contents of a value
+pub record Parts : Type 0 where
+  pub tag : ℕ
+  pub contents : List ℕ
+
+-- a length in the long form, whose first octet announced count further ones, and what follows
+unfoldable pub long_at : ℕ → List ℕ → Option (ℕ × List ℕ)
+long_at count bytes =
+    if (count == 0 || nat_lt 4 count) || nat_lt (length bytes) count then None
+    else (if get_or bytes 0 0 == 0 || nat_lt (value (take count bytes)) 128 then None else Some (value (take count bytes), drop count bytes))
+
+-- a length, and what follows
+unfoldable pub length_at : List ℕ → Option (ℕ × List ℕ)
+length_at [] = None
+length_at (first ∷ rest) = if nat_lt first 128 then Some (first, rest) else long_at (first - 128) rest
+
+-- a length, as many bytes, and what follows
+unfoldable pub counted_at : List ℕ → Option (List ℕ × List ℕ)
+counted_at bytes = do
+  size ← length_at bytes
+  if nat_lt (length size.1) size.0 then None else Some (take size.0 size.1, drop size.0 size.1)
+
+-- a value, and what follows
+unfoldable pub value_at : List ℕ → Option (Parts × List ℕ)
+value_at [] = None
+value_at (tag ∷ rest) =
+    if tag % 32 == 31 then None
+    else (counted_at rest >>= λ counted. Some (record { tag = tag; contents = counted.0 }, counted.1))

@@ -1,0 +1,118 @@
+//! DER values taken from the front of bytes (X.690 8.1, 10.1).
+
+ghost use Rattle.std.specs.Prelude.{◌≡◌, ℕ, List, ◌+◌, ◌++◌, ◌≤◌, length, IfSome, IfNone};
+ghost use Rattle.reg_core.specs.Integer.{value};
+ghost use Rattle.reg_der.specs.Der.{IsTlv};
+ghost use Rattle.reg_der.specs.Reading.{Gives, Parts, long_at, length_at, counted_at, value_at};
+
+/// A value as it stands in the bytes that it was taken from.
+#[derive(Clone, Copy, Debug)]
+pub struct Tlv<'a> {
+    /// The tag octet.
+    pub tag: u8,
+    /// The contents octets.
+    pub contents: &'a [u8],
+    /// The whole value: tag, length and contents.
+    pub raw: &'a [u8],
+}
+
+/// The tags whose number stands in further octets have these bits set (X.690 8.1.2.4).
+const HIGH_TAG: u8 = 0x1F;
+
+/// The first octet of a length above 127 is this and the count of the octets that follow (X.690 8.1.3.5).
+const LONG_FORM: u8 = 0x80;
+
+/// The number that the digits spell, the highest first.
+fn number(digits: &[u8]) -> usize
+    requires { length digits.now ≤ 4 }
+    ensures { result ≡ value digits.now }
+{
+    let mut number = 0;
+    for digit in digits {
+        number = number * 256 + usize::from(*digit);
+    }
+    number
+}
+
+/// The length in the `count` octets at the front, which the octet before them announced, and what follows.
+#[tactic(auto, unfolding(crate::specs::Reading::long_at))]
+fn long_length(count: usize, bytes: &[u8]) -> Option<(usize, &[u8])>
+    ensures exact { Gives (λ x. (x.0, x.1.now)) result (long_at count bytes.now) }
+    ensures shorter { IfSome result (λ x. length x.1.now ≤ length bytes.now) }
+{
+    if count == 0 || count > 4 || bytes.len() < count {
+        return None;
+    }
+    let (digits, rest) = bytes.split_at(count);
+    let length = number(digits);
+    // A leading zero, or a length that one octet holds, isn't the shortest form (X.690 10.1).
+    if digits[0] == 0 || length < 128 {
+        return None;
+    }
+    Some((length, rest))
+}
+
+/// The length at the front, and what follows.
+#[tactic(auto, unfolding(crate::specs::Reading::length_at))]
+fn length(bytes: &[u8]) -> Option<(usize, &[u8])>
+    ensures exact { Gives (λ x. (x.0, x.1.now)) result (length_at bytes.now) }
+    ensures shorter { IfSome result (λ x. length x.1.now ≤ length bytes.now) }
+{
+    match bytes {
+        [] => None,
+        [first, rest @ ..] => {
+            if *first < LONG_FORM {
+                Some((usize::from(*first), rest))
+            } else {
+                long_length(usize::from(*first - LONG_FORM), rest)
+            }
+        }
+    }
+}
+
+/// The contents that the length at the front counts, and what follows.
+#[tactic(auto, unfolding(crate::specs::Reading::counted_at))]
+fn counted(bytes: &[u8]) -> Option<(&[u8], &[u8])>
+    ensures exact { Gives (λ x. (x.0.now, x.1.now)) result (counted_at bytes.now) }
+    ensures shorter { IfSome result (λ x. length x.1.now ≤ length bytes.now) }
+{
+    let (length, rest) = length(bytes)?;
+    if rest.len() < length {
+        return None;
+    }
+    Some(rest.split_at(length))
+}
+
+/// The tag and the contents of the value at the front, and what follows.
+#[tactic(auto, unfolding(crate::specs::Reading::value_at))]
+fn front(bytes: &[u8]) -> Option<(u8, &[u8], &[u8])>
+    ensures exact { Gives (λ x. (record { tag = x.0; contents = x.1.now }, x.2.now)) result (value_at bytes.now) }
+    ensures shorter { IfSome result (λ x. length x.2.now ≤ length bytes.now) }
+{
+    let (tag, after_tag) = bytes.split_first()?;
+    if *tag % 32 == HIGH_TAG {
+        return None;
+    }
+    let (contents, rest) = counted(after_tag)?;
+    Some((*tag, contents, rest))
+}
+
+/// The value at the front, and what follows.
+///
+/// A value is a tag of one octet, the length in the fewest octets, at most five, and the contents. `None` where no prefix
+/// of the bytes is a value. No two prefixes are (`laws::no_two_prefixes`).
+pub fn take(bytes: &[u8]) -> Option<(Tlv<'_>, &[u8])>
+    // What is taken is a value, the whole of it, and what follows it.
+    ensures found { IfSome result (λ x. IsTlv x.0.raw.now x.0.tag x.0.contents.now × (bytes.now ≡ x.0.raw.now ++ x.1.now)) }
+
+    // Nothing is taken only where no prefix is a value.
+    ensures none { IfNone result ((raw rest contents : List ℕ) (tag : ℕ) → IsTlv raw tag contents → bytes.now ≡ raw ++ rest → ⊥) }
+
+    // The same by the function that reads, for readers above.
+    ensures exact { Gives (λ x. (record { tag = x.0.tag; contents = x.0.contents.now }, x.1.now)) result (value_at bytes.now) }
+    ensures shorter { IfSome result (λ x. length x.0.raw.now + length x.1.now ≡ length bytes.now) }
+{
+    let (tag, contents, rest) = front(bytes)?;
+    let raw = &bytes[..bytes.len() - rest.len()];
+    Some((Tlv { tag, contents, raw }, rest))
+}

@@ -1,0 +1,17 @@
+pub mod Accepted
+pub mod Contents
+pub mod CountFacts
+pub mod Counted
+pub mod Decided
+pub mod Entries
+pub mod Imported
+pub mod Kept
+pub mod ListFacts
+pub mod Listed
+pub mod Listings
+pub mod Lists
+pub mod Outcomes
+pub mod Parted
+pub mod Runs
+pub mod Timed
+pub mod Told

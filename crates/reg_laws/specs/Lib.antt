@@ -1,0 +1,5 @@
+pub mod Examples
+pub mod Headline
+pub mod History
+pub mod Import
+pub mod Run

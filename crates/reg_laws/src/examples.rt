@@ -1,0 +1,23 @@
+//! Worked examples over the definitions, which the check computes: a wrong definition is refused here.
+
+ghost use Rattle.reg_laws.specs.Examples.{ANewRegisterIsEmpty, TheLongestValidity, ASecondRegisterIsTheSame, NotAfterIsTheLastGoodSecond, TimeMovesTheCounts, TheDeadlineIsInTime, ASecondLaterIsLate, EachCrlListsARevocation, TheLastListingIsPastTheEnd, ALateCrlListsOnce, OneRevocationOfASerialNumber, AFullTableTakesNoMore, ADeclinedRequestStaysSo, EachRefusalHasItsCase, TheClockEnds, TheScheduleGoesByNotBefore};
+
+/// Scripts of commands and queries, and what each of their lines comes to.
+pub fn worked_examples()
+    ensures a_new_register_is_empty { ANewRegisterIsEmpty }
+    ensures the_longest_validity { TheLongestValidity }
+    ensures a_second_register_is_the_same { ASecondRegisterIsTheSame }
+    ensures not_after_is_the_last_good_second { NotAfterIsTheLastGoodSecond }
+    ensures time_moves_the_counts { TimeMovesTheCounts }
+    ensures the_deadline_is_in_time { TheDeadlineIsInTime }
+    ensures a_second_later_is_late { ASecondLaterIsLate }
+    ensures each_crl_lists_a_revocation { EachCrlListsARevocation }
+    ensures the_last_listing_is_past_the_end { TheLastListingIsPastTheEnd }
+    ensures a_late_crl_lists_once { ALateCrlListsOnce }
+    ensures one_revocation_of_a_serial_number { OneRevocationOfASerialNumber }
+    ensures a_full_table_takes_no_more { AFullTableTakesNoMore }
+    ensures a_declined_request_stays_so { ADeclinedRequestStaysSo }
+    ensures each_refusal_has_its_case { EachRefusalHasItsCase }
+    ensures the_clock_ends { TheClockEnds }
+    ensures the_schedule_goes_by_not_before { TheScheduleGoesByNotBefore }
+{}

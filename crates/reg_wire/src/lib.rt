@@ -1,0 +1,11 @@
+//! Bytes over any reader and any writer: whole writes with the exact front that went out at an
+//! error, and reads into a buffer up to a mark or to its end.
+#![tactic(auto)]
+
+mod fill;
+mod put;
+#[cfg(test)]
+mod tests;
+
+pub use fill::{Reached, ReadFault, fill_to_mark, fill_whole};
+pub use put::{WriteFault, write_whole};
