@@ -1,6 +1,6 @@
 -- What CRLs list, and what is signed in one.
-use Rattle.std.specs.Prelude.{ℕ, Bool, false, cond, not, ◌&&◌, ◌+◌, nat_le, nat_lt, List, [], ◌∷◌, map, filter, find, Option, Some, None, option_map}
-use Rattle.std.specs.List.{list_any}
+use Rattle.std.specs.Prelude.{ℕ, Bool, false, cond, not, ◌&&◌, ◌+◌, ◌<◌, nat_le, nat_lt, List, [], ◌∷◌, map, filter, find, Option, Some, None, option_map}
+use Rattle.std.specs.List.{AllByRecursion, list_any}
 use Rattle.reg_core.specs.Issuer.{Issuer}
 use Rattle.reg_core.specs.Records.{Records, Crl, certificate_in}
 use Rattle.reg_core.specs.declared.rows.CertRow.{CertRow}
@@ -70,6 +70,11 @@ insert_entry entry (next ∷ rest) =
 abbrev pub ascending : List Entry → List Entry
 ascending [] = []
 ascending (entry ∷ rest) = insert_entry entry (ascending rest)
+
+-- each serial number is below all later ones
+abbrev pub EntriesAscend : List Entry → Type 0
+EntriesAscend [] = Unit {0}
+EntriesAscend (entry ∷ rest) = AllByRecursion (λ later. entry.serial < later.serial) rest × EntriesAscend rest
 
 -- the entries of CRL n, in ascending order of serial number (RFC 5280 5.1.2.6)
 abbrev pub entries : Records → ℕ → List Entry

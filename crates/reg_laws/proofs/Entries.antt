@@ -2,17 +2,12 @@
 use Rattle.std.proofs.Common.{◌≡◌, ◌≢◌, ℕ, ◌+◌, ◌<◌, Bool, true, false, cond, ◌||◌, nat_lt, List, [], ◌∷◌, length, map, refl, ap, ◌∙◌, arith}
 use Rattle.std.specs.List.{AllByRecursion, list_any}
 use Rattle.std.proofs.lemmas.Bool.Decides.{nat_tests}
-use Rattle.reg_core.specs.Crls.{is_on, content, entry_of, insert_entry, ascending, entries}
+use Rattle.reg_core.specs.Crls.{is_on, content, entry_of, insert_entry, ascending, entries, EntriesAscend}
 use Rattle.reg_core.specs.Records.{Records}
 use Rattle.reg_core.specs.Sound.{KeysDiffer, SoundRows}
 use Rattle.reg_core.specs.declared.rows.Entry.{Entry}
 use Rattle.reg_laws.proofs.Lists.{all_weaker, keys_kept}
 use Rattle.reg_laws.proofs.ListFacts.{any_map, keys_map}
-
--- each serial number is below all later ones (RFC 5280 5.1.2.6)
-abbrev pub EntriesAscend : List Entry → Type 0
-EntriesAscend [] = Unit {0}
-EntriesAscend (entry ∷ rest) = AllByRecursion (λ later. entry.serial < later.serial) rest × EntriesAscend rest
 
 -- AN INSERT IN ORDER
 

@@ -1,0 +1,2 @@
+pub mod Crl
+pub mod Signing

@@ -1,0 +1,28 @@
+-- Signers, and what it is that a CRL is signed.
+use Rattle.std.specs.Prelude.{◌≡◌, ℕ, ◌≤◌, List, [], ◌∷◌, ◌++◌, length}
+use Rattle.reg_core.specs.Crls.{CertList}
+use Rattle.reg_der.specs.Der.{IsTlv, tlv}
+use Rattle.reg_crl.specs.Crl.{tbs_of, certificate_list}
+
+-- who signs: the AlgorithmIdentifier of its signatures and its public key (RFC 5280 4.1.1.2, 4.1.2.7)
+pub record Identity : Type 0 where
+  pub algorithm : List ℕ
+  pub public_key : List ℕ
+
+-- one AlgorithmIdentifier, a SEQUENCE (RFC 5280 4.1.1.2), of at most 1,024 bytes
+pub record IsAlgorithm (algorithm : List ℕ) : Type 0 where
+  pub contents : List ℕ
+  pub sequence : IsTlv algorithm 48 contents
+  pub short : length algorithm ≤ 1024
+
+-- AlgorithmIdentifier of SHA-1, 1.3.14.3.2.26, with parameters NULL
+abbrev pub sha1_algorithm : List ℕ
+sha1_algorithm = tlv 48 (tlv 6 (43 ∷ 14 ∷ 3 ∷ 2 ∷ 26 ∷ []) ++ tlv 5 [])
+
+-- The bytes are the CRL signed: there is a signature of its TBSCertList, and the bytes are the sequence of the
+-- TBSCertList, the signer's algorithm and the BIT STRING of the signature (RFC 5280 5.1.1).
+abbrev pub signed_by : (Identity → List ℕ → List ℕ → Type 0) → Identity → CertList → List ℕ → Type 0
+signed_by signs identity crl bytes =
+    (signature : List ℕ)
+    × signs identity (tbs_of identity.algorithm crl) signature
+    × (bytes ≡ certificate_list (tbs_of identity.algorithm crl) identity.algorithm signature)

@@ -1,0 +1,261 @@
+//! The DER of CRLs (RFC 5280 5.1).
+
+ghost use Rattle.std.specs.Prelude.{◌≡◌, ◌++◌, ◌+◌, ◌*◌, ◌≤◌, ◌^◌, length, IfOk, OnOk};
+ghost use Rattle.std.specs.List.{flat_map};
+ghost use Rattle.reg_crl.specs.Crl.{extension, crl_entry_extensions, revoked_certificate, revoked_certificates, crl_extensions, authority_key_identifier, crl_number, tbs_cert_list, tbs_of, certificate_list};
+ghost use Rattle.reg_core.specs.Crls.{EntriesAscend};
+
+use reg_core::{Entry, Memory, Moment};
+use reg_der::{Issuer, put, put_bits, put_number, put_serial, put_utc_or_general};
+use std::alloc::Global;
+
+/// The tag octet of an OCTET STRING (X.690 8.7).
+const OCTET_STRING: u8 = 0x04;
+
+/// The tag octet of an OBJECT IDENTIFIER (X.690 8.19).
+const OBJECT_IDENTIFIER: u8 = 0x06;
+
+/// The tag octet of an ENUMERATED (X.690 8.4).
+const ENUMERATED: u8 = 0x0A;
+
+/// The tag octet of a SEQUENCE (X.690 8.9).
+const SEQUENCE: u8 = 0x30;
+
+/// The tag octet [0] of a keyIdentifier (RFC 5280 4.2.1.1).
+const KEY_IDENTIFIER: u8 = 0x80;
+
+/// The tag octet [0] of crlExtensions (RFC 5280 5.1).
+const CRL_EXTENSIONS: u8 = 0xA0;
+
+/// The number of version 2 (RFC 5280 5.1.2.1).
+const VERSION_2: u64 = 1;
+
+/// The reason `unspecified`, which is told by no extension (RFC 5280 5.3.1).
+const UNSPECIFIED: u8 = 0;
+
+/// 2.5.29.20, the CRL number (RFC 5280 5.2.3).
+const CRL_NUMBER: [u8; 3] = [0x55, 0x1D, 0x14];
+
+/// 2.5.29.21, the reason code (RFC 5280 5.3.1).
+const REASON_CODE: [u8; 3] = [0x55, 0x1D, 0x15];
+
+/// 2.5.29.35, the authority key identifier (RFC 5280 5.2.1).
+const AUTHORITY_KEY_IDENTIFIER: [u8; 3] = [0x55, 0x1D, 0x23];
+
+/// The TBSCertList of a CRL (RFC 5280 5.1.2), the part that is signed; at most 2^27 bytes.
+///
+/// The entries ascend strictly by serial number, and there are at most 1,000,000. The algorithm has at most 1,024 bytes.
+///
+/// # Errors
+/// `Memory` where memory could not be had.
+#[tactic(auto, unfolding(crate::specs::Crl::tbs_cert_list))]
+pub fn crl_tbs(
+    alloc: Global,
+    issuer: &Issuer,
+    algorithm: &[u8],
+    number: u64,
+    this_update: Moment,
+    next_update: Moment,
+    entries: &[Entry],
+) -> Result<Vec<u8>, Memory>
+    requires ascending { EntriesAscend entries.now }
+    requires few { length entries.now ≤ 1000000 }
+    requires algorithm { length algorithm.now ≤ 1024 }
+    ensures bytes { IfOk result (λ tbs. tbs.items ≡ tbs_cert_list issuer.now algorithm.now number this_update next_update entries.now) }
+    ensures crl { IfOk result (λ tbs. tbs.items ≡ tbs_of algorithm.now (record { issuer = issuer.now; number = number; this_update = this_update; next_update = next_update; entries = entries.now })) }
+    ensures short { IfOk result (λ tbs. length tbs.items ≤ 2 ^ 27) }
+{
+    let mut contents = Vec::new(alloc);
+    put_number(&mut contents, VERSION_2)?;
+    append(&mut contents, algorithm)?;
+    append(&mut contents, issuer.name())?;
+    put_utc_or_general(&mut contents, this_update)?;
+    put_utc_or_general(&mut contents, next_update)?;
+    put_revoked_certificates(&mut contents, alloc, entries)?;
+    put_crl_extensions(&mut contents, alloc, issuer, number)?;
+    let mut tbs = Vec::new(alloc);
+    put(&mut tbs, SEQUENCE, &contents)?;
+    Ok(tbs)
+}
+
+/// The CertificateList (RFC 5280 5.1.1) of a TBSCertList of at most 2^27 bytes, an algorithm of at most 1,024 and a
+/// signature of at most 65,536.
+///
+/// # Errors
+/// `Memory` where memory could not be had.
+#[tactic(auto, unfolding(crate::specs::Crl::certificate_list))]
+pub fn crl_whole(
+    alloc: Global,
+    tbs: &[u8],
+    algorithm: &[u8],
+    signature: &[u8],
+) -> Result<Vec<u8>, Memory>
+    requires tbs { length tbs.now ≤ 2 ^ 27 }
+    requires algorithm { length algorithm.now ≤ 1024 }
+    requires signature { length signature.now ≤ 65536 }
+    ensures bytes { IfOk result (λ whole. whole.items ≡ certificate_list tbs.now algorithm.now signature.now) }
+    ensures short { IfOk result (λ whole. length whole.items ≤ length tbs.now + length algorithm.now + length signature.now + 13) }
+{
+    let mut contents = Vec::new(alloc);
+    append(&mut contents, tbs)?;
+    append(&mut contents, algorithm)?;
+    put_bits(&mut contents, signature)?;
+    let mut whole = Vec::new(alloc);
+    put(&mut whole, SEQUENCE, &contents)?;
+    Ok(whole)
+}
+
+/// Appends the revokedCertificates, which are absent where there is no entry.
+#[tactic(auto, unfolding(crate::specs::Crl::revoked_certificates))]
+fn put_revoked_certificates(
+    out: &mut Vec<u8>,
+    alloc: Global,
+    entries: &[Entry],
+) -> Result<(), Memory>
+    requires { length entries.now ≤ 1000000 }
+    ensures ok { OnOk result (out.new.items ≡ out.old.items ++ revoked_certificates entries.now) }
+    ensures longer { OnOk result (length out.new.items ≤ length out.old.items + 59 * length entries.now + 6) }
+{
+    if entries.is_empty() {
+        return Ok(());
+    }
+    let contents = revoked(alloc, entries)?;
+    put(out, SEQUENCE, &contents)
+}
+
+/// The entries, one after the other.
+fn revoked(alloc: Global, entries: &[Entry]) -> Result<Vec<u8>, Memory>
+    ensures bytes { IfOk result (λ bytes. bytes.items ≡ flat_map revoked_certificate entries.now) }
+    ensures short { IfOk result (λ bytes. length bytes.items ≤ 59 * length entries.now) }
+{
+    let mut out = Vec::new(alloc);
+    // One buffer serves all entries.
+    let mut buffer = Vec::new(alloc);
+    for entry in entries {
+        put_revoked_certificate(&mut out, &mut buffer, *entry)?;
+    }
+    Ok(out)
+}
+
+/// Appends one entry. Its contents are made in the buffer, whatever that held.
+#[tactic(auto, unfolding(crate::specs::Crl::revoked_certificate))]
+fn put_revoked_certificate(
+    out: &mut Vec<u8>,
+    buffer: &mut Vec<u8>,
+    entry: Entry,
+) -> Result<(), Memory>
+    ensures ok { OnOk result (out.new.items ≡ out.old.items ++ revoked_certificate entry) }
+    ensures longer { OnOk result (length out.new.items ≤ length out.old.items + 59) }
+{
+    buffer.clear();
+    put_serial(buffer, entry.serial)?;
+    put_utc_or_general(buffer, entry.at)?;
+    put_crl_entry_extensions(buffer, entry.reason)?;
+    put(out, SEQUENCE, buffer)
+}
+
+/// Appends the crlEntryExtensions, which are absent where the reason is unspecified.
+#[tactic(auto, unfolding(crate::specs::Crl::crl_entry_extensions, crate::specs::Crl::reason_code, crate::specs::Crl::extension, reg_der::specs::Der::tlv, reg_der::specs::Der::length_octets))]
+fn put_crl_entry_extensions(out: &mut Vec<u8>, reason: u8) -> Result<(), Memory>
+    ensures ok { OnOk result (out.new.items ≡ out.old.items ++ crl_entry_extensions reason) }
+    ensures longer { OnOk result (length out.new.items ≤ length out.old.items + 14) }
+{
+    if reason == UNSPECIFIED {
+        return Ok(());
+    }
+    let [id1, id2, id3] = REASON_CODE;
+    // Extensions { Extension { extnID, extnValue { reasonCode } } }, all of known lengths.
+    let extensions = [
+        SEQUENCE,
+        12,
+        SEQUENCE,
+        10,
+        OBJECT_IDENTIFIER,
+        3,
+        id1,
+        id2,
+        id3,
+        OCTET_STRING,
+        3,
+        ENUMERATED,
+        1,
+        reason,
+    ];
+    append(out, &extensions)
+}
+
+/// Appends the crlExtensions: the authority key identifier and the CRL number.
+#[tactic(auto, unfolding(crate::specs::Crl::crl_extensions))]
+fn put_crl_extensions(
+    out: &mut Vec<u8>,
+    alloc: Global,
+    issuer: &Issuer,
+    number: u64,
+) -> Result<(), Memory>
+    ensures ok { OnOk result (out.new.items ≡ out.old.items ++ crl_extensions issuer.now number) }
+    ensures longer { OnOk result (length out.new.items ≤ length out.old.items + 200) }
+{
+    let mut extensions = Vec::new(alloc);
+    put_authority_key_identifier(&mut extensions, alloc, issuer)?;
+    put_crl_number(&mut extensions, alloc, number)?;
+    let mut sequence = Vec::new(alloc);
+    put(&mut sequence, SEQUENCE, &extensions)?;
+    put(out, CRL_EXTENSIONS, &sequence)
+}
+
+/// Appends the authority key identifier extension.
+#[tactic(auto, unfolding(crate::specs::Crl::authority_key_identifier))]
+fn put_authority_key_identifier(
+    out: &mut Vec<u8>,
+    alloc: Global,
+    issuer: &Issuer,
+) -> Result<(), Memory>
+    ensures ok { OnOk result (out.new.items ≡ out.old.items ++ authority_key_identifier issuer.now) }
+    ensures longer { OnOk result (length out.new.items ≤ length out.old.items + 60) }
+{
+    let mut key_identifier = Vec::new(alloc);
+    put(&mut key_identifier, KEY_IDENTIFIER, &issuer.key_sha1())?;
+    let mut value = Vec::new(alloc);
+    put(&mut value, SEQUENCE, &key_identifier)?;
+    put_extension(out, alloc, AUTHORITY_KEY_IDENTIFIER, &value)
+}
+
+/// Appends the CRL number extension.
+#[tactic(auto, unfolding(crate::specs::Crl::crl_number))]
+fn put_crl_number(out: &mut Vec<u8>, alloc: Global, number: u64) -> Result<(), Memory>
+    ensures ok { OnOk result (out.new.items ≡ out.old.items ++ crl_number number) }
+    ensures longer { OnOk result (length out.new.items ≤ length out.old.items + 40) }
+{
+    let mut value = Vec::new(alloc);
+    put_number(&mut value, number)?;
+    put_extension(out, alloc, CRL_NUMBER, &value)
+}
+
+/// Appends an extension that is not critical.
+#[tactic(auto, unfolding(crate::specs::Crl::extension))]
+fn put_extension(
+    out: &mut Vec<u8>,
+    alloc: Global,
+    identifier: [u8; 3],
+    value: &[u8],
+) -> Result<(), Memory>
+    requires { length value.now ≤ 1000 }
+    ensures ok { OnOk result (out.new.items ≡ out.old.items ++ extension identifier value.now) }
+    ensures longer { OnOk result (length out.new.items ≤ length out.old.items + length value.now + 21) }
+{
+    let mut contents = Vec::new(alloc);
+    put(&mut contents, OBJECT_IDENTIFIER, &identifier)?;
+    put(&mut contents, OCTET_STRING, value)?;
+    put(out, SEQUENCE, &contents)
+}
+
+/// Appends bytes as they are.
+fn append(out: &mut Vec<u8>, bytes: &[u8]) -> Result<(), Memory>
+    ensures ok { OnOk result (out.new.items ≡ out.old.items ++ bytes.now) }
+    ensures longer { OnOk result (length out.new.items ≡ length out.old.items + length bytes.now) }
+{
+    out.extend_from_slice(bytes).map_err(|_| Memory)
+}
+
+#[cfg(test)]
+mod tests;

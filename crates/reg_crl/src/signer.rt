@@ -1,0 +1,74 @@
+//! Who signs.
+
+ghost use Rattle.std.specs.Prelude.{◌≡◌, ◌<◌, ◌≤◌, length, IfOk, IsErrOf, OnOk};
+ghost use Rattle.reg_crl.specs.declared.signer.SignFault.TheVariants.{Memory};
+
+use reg_core::SignsCrls;
+use std::alloc::{AllocError, Global};
+
+/// Why nothing was signed.
+#[derive(Clone, Copy, Debug, PartialEq, Eq)]
+pub enum SignFault {
+    /// What signs failed, and the signer counted the failure.
+    Device,
+    /// Memory could not be had.
+    Memory,
+}
+
+impl From<AllocError> for SignFault {
+    ghost from_gives = { λ _ fault. fault ≡ Memory };
+
+    fn from(_error: AllocError) -> SignFault {
+        SignFault::Memory
+    }
+}
+
+/// One who signs under one algorithm and one key, for good.
+pub trait Signer {
+    ghost use Rattle.std.specs.Prelude.{ℕ, List};
+    ghost use Rattle.reg_crl.specs.Signing.{Identity, IsAlgorithm};
+
+    // Under whose algorithm and key it signs: no call changes it.
+    ghost identity: { Self → Identity };
+
+    // Under this identity the message has this signature.
+    ghost signs: { Identity → List ℕ → List ℕ → Type 0 };
+
+    // How many failures it has counted.
+    ghost failure_count: { Self → ℕ };
+
+    /// The AlgorithmIdentifier of the signatures (RFC 5280 4.1.1.2): one value of tag 30h, at most 1,024 bytes.
+    fn algorithm(&self) -> &[u8]
+        ensures value { result.now ≡ (identity self.now).algorithm }
+        ensures within { IsAlgorithm result.now };
+
+    /// A signature of the message, of at most 65,536 bytes.
+    ///
+    /// # Errors
+    /// `Device` where what signs failed: the count of failures rises, so at `u64::MAX` this no longer comes. `Memory`
+    /// where memory could not be had.
+    fn sign(&mut self, alloc: Global, message: &[u8]) -> Result<Vec<u8>, SignFault>
+        ensures signed { IfOk result (λ signature. signs (identity self.old) message.now signature.items) }
+        ensures short { IfOk result (λ signature. length signature.items ≤ 65536) }
+        ensures device { IsErrOf result SignFault.Device → failure_count self.old < failure_count self.new }
+        ensures exhausted { failure_count self.old ≡ u64.MAX → ¬ (IsErrOf result SignFault.Device) }
+        ensures memory { IsErrOf result SignFault.Memory → failure_count self.new ≡ failure_count self.old }
+        ensures ok { OnOk result (failure_count self.new ≡ failure_count self.old) }
+        ensures same_identity { identity self.new ≡ identity self.old };
+
+    /// How many failures of what signs the signer has counted.
+    fn failures(&self) -> u64
+        ensures { result ≡ failure_count self.now };
+}
+
+/// A signer as the laws of the register see it: for them it relates what is signed in a CRL to the CRL's DER.
+#[derive(Drop)]
+pub struct CrlSigner<S> {
+    pub signer: S,
+}
+
+impl<S: Signer> SignsCrls for CrlSigner<S> {
+    ghost use Rattle.reg_crl.specs.Signing.{signed_by};
+
+    ghost signed = { λ it. signed_by S.signs (S.identity it.signer) };
+}

@@ -1,0 +1,9 @@
+pub mod Sizes
+pub mod PartLaws
+pub mod ItemLaws
+pub mod ExtensionLaws
+pub mod TargetLaws
+pub mod RequestLaws
+pub mod Loops
+pub mod MatchLaws
+pub mod Answering

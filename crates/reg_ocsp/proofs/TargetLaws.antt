@@ -1,0 +1,251 @@
+-- CertIDs and single requests: what is read is spelled so, and what is spelled so is read.
+use Rattle.std.proofs.Common.{◌≡◌, ℕ, ◌%◌, ◌<◌, ◌≤◌, true, false, not, ◌&&◌, ◌||◌, cond, eqb, ltb, leb, List, [], ◌∷◌, ◌++◌, length, Option, Some, None, refl, sym, ap, subst, ◌∙◌, arith}
+use Rattle.std.specs.Prelude.{IfSome}
+use Rattle.std.proofs.lemmas.Bool.{eqb-true, eqb-false, ne_eqb, not-false}
+use Rattle.std.proofs.lemmas.Bool.Decides.{nat_tests}
+use Rattle.std.proofs.lemmas.List.{append-nil, nil_from_length, length-append}
+use Rattle.reg_core.specs.Integer.{IsBytes, IsShortest}
+use Rattle.reg_der.specs.Der.{tlv}
+use Rattle.reg_der.specs.Reading.{◌>>=◌, Parts, value_at}
+use Rattle.reg_der.proofs.Values.{bind_then, some_is, kept, Takes, value_takes, value_again, length-tlv_at_least}
+use Rattle.reg_ocsp.specs.Request.{Target, IsTarget, Single, IsSingle, Id, id_of, asked_by, parameters, algorithm, cert_id, single, optional, extensions}
+use Rattle.reg_ocsp.specs.Reading.{expect_at, whole_at, last_at, read_all, algorithm_at, is_shortest, target_at, single_at, written_nonce}
+use Rattle.reg_ocsp.proofs.PartLaws.{chosen, expect_takes, expect_again, whole_takes, whole_again, last_takes, last_again, IsSmall}
+use Rattle.reg_ocsp.proofs.ItemLaws.{Reads, TakesItem}
+use Rattle.reg_ocsp.proofs.ExtensionLaws.{or_false, contents_of, extensions_are, written_nonce_takes, written_nonce_again}
+
+-- ---- parameters
+
+record TakesParameters (bytes : List ℕ) : Type 0 where
+  tree : Option Parts
+  low_tag : IfSome tree (λ any. any.tag % 32 < 31)
+  spelled : bytes ≡ parameters tree
+
+parameters_from : (bytes : List ℕ) (read : Option (Parts × List ℕ)) → IsBytes bytes → value_at bytes ≡ read → read_all bytes read ≡ true → TakesParameters bytes
+parameters_from bytes None each e all =
+    let nothing : bytes ≡ [] = nil_from_length bytes (eqb-true (length bytes) 0 all) in
+    record { tree = None; low_tag = tt; spelled = nothing }
+parameters_from bytes (Some x) each e all =
+    let t = value_takes bytes x each e in
+    let nothing : x.1 ≡ [] = nil_from_length x.1 (eqb-true (length x.1) 0 all) in
+    let text = tlv x.0.tag x.0.contents in
+    record { tree = Some x.0; low_tag = t.fits.low_tag; spelled = t.taken.parts ∙ ap (λ (r : List ℕ). text ++ r) nothing ∙ append-nil text }
+
+parameters_again : (any : Option Parts) → IfSome any (λ x. x.tag % 32 < 31) → length (parameters any) ≤ 65536 → read_all (parameters any) (value_at (parameters any)) ≡ true
+unfolding value_at
+parameters_again None low small = refl
+parameters_again (Some x) low small = any_again x low small
+  where
+    any_again : (x : Parts) → x.tag % 32 < 31 → length (tlv x.tag x.contents) ≤ 65536 → read_all (tlv x.tag x.contents) (value_at (tlv x.tag x.contents)) ≡ true
+    any_again x low small =
+        let again : value_at (tlv x.tag x.contents) ≡ Some (x, []) = ap value_at (sym (append-nil (tlv x.tag x.contents))) ∙ value_again x.tag x.contents [] low (omega (arith, length-tlv_at_least x.tag x.contents)) in
+        rw again refl
+
+-- ---- the algorithm
+
+record TakesAlgorithm (bytes raw rest : List ℕ) : Type 0 where
+  identifier : List ℕ
+  any : Option Parts
+  identified : 1 ≤ length identifier
+  low_tag : IfSome any (λ x. x.tag % 32 < 31)
+  taken : Takes bytes (algorithm identifier any) rest
+  same : raw ≡ algorithm identifier any
+
+abbrev after_algorithm : List ℕ × List ℕ → List ℕ × List ℕ → Option (List ℕ × List ℕ)
+after_algorithm outer identifier =
+    cond (eqb (length identifier.0) 0 || not (read_all identifier.1 (value_at identifier.1))) None (Some (tlv 0x30 outer.0, outer.1))
+
+abbrev after_sequence : List ℕ × List ℕ → Option (List ℕ × List ℕ)
+after_sequence outer = expect_at 0x06 outer.0 >>= after_algorithm outer
+
+algorithm_takes : (bytes : List ℕ) (x : List ℕ × List ℕ) → IsBytes bytes → algorithm_at bytes ≡ Some x → TakesAlgorithm bytes x.0 x.1
+unfolding algorithm_at
+algorithm_takes bytes x each e =
+    bind_then (expect_at 0x30 bytes) after_sequence x e (λ outer read_outer e1.
+    bind_then (expect_at 0x06 outer.0) (after_algorithm outer) x e1 (λ identifier read_identifier e2.
+    let g = kept (eqb (length identifier.0) 0 || not (read_all identifier.1 (value_at identifier.1))) (Some (tlv 0x30 outer.0, outer.1)) x e2 in
+    let tests = or_false (eqb (length identifier.0) 0) (not (read_all identifier.1 (value_at identifier.1))) g.0 in
+    let ne = eqb-false (length identifier.0) 0 tests.0 in
+    let t0 = expect_takes 0x30 bytes outer each read_outer in
+    let t1 = expect_takes 0x06 outer.0 identifier t0.inner read_identifier in
+    let p = parameters_from identifier.1 (value_at identifier.1) t1.taken.each refl (not-false (read_all identifier.1 (value_at identifier.1)) tests.1) in
+    let inner : outer.0 ≡ tlv 0x06 identifier.0 ++ parameters p.tree = t1.taken.parts ∙ ap (λ (r : List ℕ). tlv 0x06 identifier.0 ++ r) p.spelled in
+    subst (λ (y : List ℕ × List ℕ). TakesAlgorithm bytes y.0 y.1) (some_is (tlv 0x30 outer.0, outer.1) x g.1)
+    (record {
+      identifier = identifier.0;
+      any = p.tree;
+      identified = omega (arith, ne);
+      low_tag = p.low_tag;
+      taken = subst (λ (c : List ℕ). Takes bytes (tlv 0x30 c) outer.1) inner t0.taken;
+      same = ap (tlv 0x30) inner;
+    })))
+
+algorithm_again : (identifier : List ℕ) (any : Option Parts) (rest : List ℕ) → 1 ≤ length identifier → IfSome any (λ x. x.tag % 32 < 31) → length (algorithm identifier any) ≤ 65536
+    → algorithm_at (algorithm identifier any ++ rest) ≡ Some (algorithm identifier any, rest)
+unfolding algorithm_at
+algorithm_again identifier any rest some low small =
+    let contents = tlv 0x06 identifier ++ parameters any in
+    let len = length-append (tlv 0x06 identifier) (parameters any) in
+    let l0 : length contents ≤ 65536 = omega (arith, length-tlv_at_least 0x30 contents) in
+    let l1 : length identifier ≤ 65536 = omega (arith, length-tlv_at_least 0x06 identifier) in
+    let e0 = expect_again 0x30 contents rest (omega arith) l0 in
+    let e1 = expect_again 0x06 identifier (parameters any) (omega arith) l1 in
+    let e2 : eqb (length identifier) 0 ≡ false = ne_eqb (length identifier) 0 (λ same. absurd (omega arith)) in
+    let e3 = parameters_again any low (omega arith) in
+    rw (e0, e1, e2, e3) refl
+
+-- ---- the serial number
+
+shortest_from_tests : (first second : ℕ) → (not (eqb first 0 && ltb second 128) && not (eqb first 255 && leb 128 second)) ≡ true → (first ≡ 0 → 128 ≤ second) × (first ≡ 255 → second < 128)
+shortest_from_tests first second e = grind (arith, nat_tests)
+
+shortest_from : (octets : List ℕ) → is_shortest octets ≡ true → IsShortest octets
+shortest_from [] e = absurd cc
+shortest_from (first ∷ []) e = tt
+shortest_from (first ∷ second ∷ rest) e = shortest_from_tests first second e
+
+shortest_to_tests : (first second : ℕ) → (first ≡ 0 → 128 ≤ second) → (first ≡ 255 → second < 128) → (not (eqb first 0 && ltb second 128) && not (eqb first 255 && leb 128 second)) ≡ true
+shortest_to_tests first second zeros ones = grind (arith, nat_tests)
+
+shortest_passes : (octets : List ℕ) → IsShortest octets → is_shortest octets ≡ true
+shortest_passes [] is = absurd is
+shortest_passes (first ∷ []) is = refl
+shortest_passes (first ∷ second ∷ rest) is = shortest_to_tests first second is.0 is.1
+
+-- ---- the CertID
+
+abbrev after_serial : List ℕ × List ℕ → List ℕ → List ℕ → List ℕ → List ℕ → Option (Id × List ℕ)
+after_serial outer algorithm name key serial =
+    cond (is_shortest serial) (Some (record { raw = tlv 0x30 outer.0; algorithm = algorithm; name_hash = name; key_hash = key; serial = serial }, outer.1)) None
+
+abbrev after_key : List ℕ × List ℕ → List ℕ → List ℕ → List ℕ × List ℕ → Option (Id × List ℕ)
+after_key outer algorithm name key = whole_at 0x02 key.1 >>= after_serial outer algorithm name key.0
+
+abbrev after_name : List ℕ × List ℕ → List ℕ → List ℕ × List ℕ → Option (Id × List ℕ)
+after_name outer algorithm name = expect_at 0x04 name.1 >>= after_key outer algorithm name.0
+
+abbrev after_hash : List ℕ × List ℕ → List ℕ × List ℕ → Option (Id × List ℕ)
+after_hash outer algorithm = expect_at 0x04 algorithm.1 >>= after_name outer algorithm.0
+
+abbrev after_outer : List ℕ × List ℕ → Option (Id × List ℕ)
+after_outer outer = algorithm_at outer.0 >>= after_hash outer
+
+abbrev the_id : Id → Id
+the_id id = id
+
+same_id : (raw raw2 algorithm algorithm2 name key serial : List ℕ) → raw ≡ raw2 → algorithm ≡ algorithm2
+    → the_id (record { raw = raw; algorithm = algorithm; name_hash = name; key_hash = key; serial = serial }) ≡ record { raw = raw2; algorithm = algorithm2; name_hash = name; key_hash = key; serial = serial }
+same_id raw raw2 algorithm algorithm2 name key serial e f = cc
+
+target_takes : (bytes : List ℕ) (x : Id × List ℕ) → IsBytes bytes → target_at bytes ≡ Some x → TakesItem cert_id id_of IsTarget bytes x.0 x.1
+unfolding target_at
+target_takes bytes x each e =
+    bind_then (expect_at 0x30 bytes) after_outer x e (λ outer read_outer e1.
+    bind_then (algorithm_at outer.0) (after_hash outer) x e1 (λ hash read_hash e2.
+    bind_then (expect_at 0x04 hash.1) (after_name outer hash.0) x e2 (λ name read_name e3.
+    bind_then (expect_at 0x04 name.1) (after_key outer hash.0 name.0) x e3 (λ key read_key e4.
+    bind_then (whole_at 0x02 key.1) (after_serial outer hash.0 name.0 key.0) x e4 (λ serial read_serial e5.
+    let made : Id = record { raw = tlv 0x30 outer.0; algorithm = hash.0; name_hash = name.0; key_hash = key.0; serial = serial } in
+    let g = chosen (is_shortest serial) (Some (made, outer.1)) x e5 in
+    let t0 = expect_takes 0x30 bytes outer each read_outer in
+    let t1 = algorithm_takes outer.0 hash t0.inner read_hash in
+    let t2 = expect_takes 0x04 hash.1 name t1.taken.each read_name in
+    let t3 = expect_takes 0x04 name.1 key t2.taken.each read_key in
+    let t4 = whole_takes 0x02 key.1 serial t3.taken.each read_serial in
+    let tree : Target = record { identifier = t1.identifier; parameters = t1.any; name_hash = name.0; key_hash = key.0; serial = serial } in
+    let front = algorithm t1.identifier t1.any in
+    let inner : outer.0 ≡ front ++ (tlv 0x04 name.0 ++ (tlv 0x04 key.0 ++ tlv 0x02 serial)) =
+    t1.taken.parts ∙ ap (λ (r : List ℕ). front ++ r) (t2.taken.parts ∙ ap (λ (r : List ℕ). tlv 0x04 name.0 ++ r) (t3.taken.parts ∙ ap (λ (r : List ℕ). tlv 0x04 key.0 ++ r) t4.spelled)) in
+    subst (λ (y : Id × List ℕ). TakesItem cert_id id_of IsTarget bytes y.0 y.1) (some_is (made, outer.1) x g.1)
+    (record {
+      tree = tree;
+      fits = record { identified = t1.identified; low_tag = t1.low_tag; shortest = shortest_from serial g.0 };
+      taken = subst (λ (c : List ℕ). Takes bytes (tlv 0x30 c) outer.1) inner t0.taken;
+      same = same_id (tlv 0x30 outer.0) (cert_id tree) hash.0 front name.0 key.0 serial (ap (tlv 0x30) inner) t1.same;
+    }))))))
+
+target_again : (t : Target) (rest : List ℕ) → IsTarget t → length (cert_id t) ≤ 65536 → target_at (cert_id t ++ rest) ≡ Some (id_of t, rest)
+unfolding target_at
+target_again t rest fits small =
+    let front = algorithm t.identifier t.parameters in
+    let last = tlv 0x02 t.serial in
+    let after_name = tlv 0x04 t.key_hash ++ last in
+    let after_front = tlv 0x04 t.name_hash ++ after_name in
+    let contents = front ++ after_front in
+    let l0 : length contents ≤ 65536 = omega (arith, length-tlv_at_least 0x30 contents) in
+    let len0 = length-append front after_front in
+    let len1 = length-append (tlv 0x04 t.name_hash) after_name in
+    let len2 = length-append (tlv 0x04 t.key_hash) last in
+    let l1 : length front ≤ 65536 = omega arith in
+    let l2 : length t.name_hash ≤ 65536 = omega (arith, length-tlv_at_least 0x04 t.name_hash) in
+    let l3 : length t.key_hash ≤ 65536 = omega (arith, length-tlv_at_least 0x04 t.key_hash) in
+    let l4 : length t.serial ≤ 65536 = omega (arith, length-tlv_at_least 0x02 t.serial) in
+    let e0 = expect_again 0x30 contents rest (omega arith) l0 in
+    let e1 = algorithm_again t.identifier t.parameters after_front fits.identified fits.low_tag l1 in
+    let e2 = expect_again 0x04 t.name_hash after_name (omega arith) l2 in
+    let e3 = expect_again 0x04 t.key_hash last (omega arith) l3 in
+    let e4 = whole_again 0x02 t.serial (omega arith) l4 in
+    rw (e0, e1, e2, e3, e4, shortest_passes t.serial fits.shortest) refl
+
+-- ---- one request
+
+abbrev after_nonce : List ℕ → Id → Option (List ℕ) → Option (Id × List ℕ)
+after_nonce rest id ignored = Some (id, rest)
+
+abbrev after_written : List ℕ → Id → Option (List ℕ) → Option (Id × List ℕ)
+after_written rest id written = written_nonce written >>= after_nonce rest id
+
+abbrev after_target : List ℕ → Id × List ℕ → Option (Id × List ℕ)
+after_target rest target = last_at 0xA0 target.1 >>= after_written rest target.0
+
+abbrev after_single : List ℕ × List ℕ → Option (Id × List ℕ)
+after_single outer = target_at outer.0 >>= after_target outer.1
+
+pub single_takes : (bytes : List ℕ) (x : Id × List ℕ) → IsBytes bytes → single_at bytes ≡ Some x → TakesItem single asked_by IsSingle bytes x.0 x.1
+unfolding single_at
+single_takes bytes x each e =
+    bind_then (expect_at 0x30 bytes) after_single x e (λ outer read_outer e1.
+    bind_then (target_at outer.0) (after_target outer.1) x e1 (λ target read_target e2.
+    bind_then (last_at 0xA0 target.1) (after_written outer.1 target.0) x e2 (λ written read_written e3.
+    bind_then (written_nonce written) (after_nonce outer.1 target.0) x e3 (λ nonce read_nonce e4.
+    let t0 = expect_takes 0x30 bytes outer each read_outer in
+    let t1 = target_takes outer.0 target t0.inner read_target in
+    let t2 = last_takes 0xA0 target.1 written t1.taken.each read_written in
+    let t3 = written_nonce_takes 0xA0 written nonce t2.inner read_nonce in
+    let inner : outer.0 ≡ cert_id t1.tree ++ extensions 0xA0 t3.tree = t1.taken.parts ∙ ap (λ (r : List ℕ). cert_id t1.tree ++ r) (t2.spelled ∙ t3.spelled) in
+    subst (λ (y : Id × List ℕ). TakesItem single asked_by IsSingle bytes y.0 y.1) (some_is (target.0, outer.1) x e4)
+    (record {
+      tree = record { target = t1.tree; extensions = t3.tree };
+      fits = record { target = t1.fits; extensions = t3.fits };
+      taken = subst (λ (c : List ℕ). Takes bytes (tlv 0x30 c) outer.1) inner t0.taken;
+      same = t1.same;
+    })))))
+
+-- what is written of extensions is few where they are
+pub contents_small : (tag : ℕ) (written : Option (List ℕ)) → length (optional tag written) ≤ 65536 → IsSmall written
+contents_small tag None small = tt
+contents_small tag (Some contents) small = omega (arith, length-tlv_at_least tag contents)
+
+single_again : (s : Single) (rest : List ℕ) → IsSingle s → length (single s) ≤ 65536 → single_at (single s ++ rest) ≡ Some (asked_by s, rest)
+unfolding single_at
+single_again s rest fits small =
+    let front = cert_id s.target in
+    let written = contents_of s.extensions in
+    let last = extensions 0xA0 s.extensions in
+    let contents = front ++ last in
+    let len = length-append front last in
+    let l0 : length contents ≤ 65536 = omega (arith, length-tlv_at_least 0x30 contents) in
+    let is : last ≡ optional 0xA0 written = extensions_are 0xA0 s.extensions in
+    let l1 : length (optional 0xA0 written) ≤ 65536 = let same = ap length is in omega arith in
+    let e0 = expect_again 0x30 contents rest (omega arith) l0 in
+    let e1 = target_again s.target last fits.target (omega arith) in
+    let e2 : last_at 0xA0 last ≡ Some written = rw is (last_again 0xA0 written (omega arith) (contents_small 0xA0 written l1)) in
+    let e3 = written_nonce_again 0xA0 s.extensions fits.extensions (omega arith) in
+    rw (e0, e1, e2, e3) refl
+
+pub single_reads : Reads single_at single asked_by IsSingle
+single_reads = record {
+  takes = single_takes;
+  again = single_again;
+  some = λ s. omega (arith, length-tlv_at_least 0x30 (cert_id s.target ++ extensions 0xA0 s.extensions));
+}

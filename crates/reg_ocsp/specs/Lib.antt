@@ -1,0 +1,5 @@
+pub mod Request
+pub mod Reading
+pub mod Response
+pub mod Matching
+pub mod Views

@@ -1,0 +1,194 @@
+-- OCSP requests (RFC 6960 4.1.1): a tree of what stands in one, how a tree is spelled, and what it asks.
+-- Where the standard's producers differ, the tree has the choice: a version 0 that is written, a `critical` FALSE that is written.
+use Rattle.std.specs.Prelude.{◌≡◌, ℕ, ◌%◌, ◌<◌, ◌≤◌, Bool, true, false, ◌&&◌, nat_le, if◌then◌else◌, List, [], ◌∷◌, ◌++◌, length, map, Option, Some, None, IfSome, sum_by}
+use Rattle.std.specs.List.{flat_map, AllByRecursion}
+use Rattle.std.specs.Str.{bytes_eq}
+use Rattle.reg_core.specs.Integer.{IsBytes, IsShortest}
+use Rattle.reg_der.specs.Der.{tlv}
+use Rattle.reg_der.specs.Reading.{Parts}
+
+-- ---- the trees
+
+-- an Extension: its identifier, `critical` where it is written, and the contents of its value (RFC 5280 4.1)
+pub record Extension : Type 0 where
+  pub identifier : List ℕ
+  pub critical : Option Bool
+  pub value : List ℕ
+
+-- a CertID: the hash algorithm's identifier and parameters, which are any one value or none, then the issuer's name hash,
+-- its key hash and the octets of the serial number
+pub record Target : Type 0 where
+  pub identifier : List ℕ
+  pub parameters : Option Parts
+  pub name_hash : List ℕ
+  pub key_hash : List ℕ
+  pub serial : List ℕ
+
+-- a Request: the certificate that it asks for, and singleRequestExtensions where they are written
+pub record Single : Type 0 where
+  pub target : Target
+  pub extensions : Option (List Extension)
+
+-- an OCSPRequest: whether version 0 is written; the contents of requestorName and of optionalSignature, which aren't looked
+-- at, where they are written; the requests; requestExtensions where they are written
+pub record Form : Type 0 where
+  pub version : Bool
+  pub requestor : Option (List ℕ)
+  pub singles : List Single
+  pub extensions : Option (List Extension)
+  pub signature : Option (List ℕ)
+
+-- ---- how a tree is spelled
+
+-- a part that may be left out
+abbrev pub optional : ℕ → Option (List ℕ) → List ℕ
+optional tag None = []
+optional tag (Some contents) = tlv tag contents
+
+-- the contents of a BOOLEAN (X.690 8.2.2, 11.1)
+abbrev pub boolean : Bool → List ℕ
+boolean true = 0xFF ∷ []
+boolean false = 0x00 ∷ []
+
+-- `critical BOOLEAN DEFAULT FALSE`
+abbrev pub critical : Option Bool → List ℕ
+critical None = []
+critical (Some flag) = tlv 0x01 (boolean flag)
+
+-- Extension ::= SEQUENCE { extnID OBJECT IDENTIFIER, critical BOOLEAN DEFAULT FALSE, extnValue OCTET STRING }
+abbrev pub extension : Extension → List ℕ
+extension e = tlv 0x30 (tlv 0x06 e.identifier ++ (critical e.critical ++ tlv 0x04 e.value))
+
+-- Extensions ::= SEQUENCE OF Extension, under an explicit tag, and left out where there is none to write
+abbrev pub extensions : ℕ → Option (List Extension) → List ℕ
+extensions tag None = []
+extensions tag (Some es) = tlv tag (tlv 0x30 (flat_map extension es))
+
+abbrev pub parameters : Option Parts → List ℕ
+parameters None = []
+parameters (Some any) = tlv any.tag any.contents
+
+-- AlgorithmIdentifier ::= SEQUENCE { algorithm OBJECT IDENTIFIER, parameters ANY OPTIONAL } (RFC 5280 4.1.1.2)
+abbrev pub algorithm : List ℕ → Option Parts → List ℕ
+algorithm identifier any = tlv 0x30 (tlv 0x06 identifier ++ parameters any)
+
+-- CertID ::= SEQUENCE { hashAlgorithm, issuerNameHash OCTET STRING, issuerKeyHash OCTET STRING, serialNumber INTEGER }
+abbrev pub cert_id : Target → List ℕ
+cert_id t = tlv 0x30 (algorithm t.identifier t.parameters ++ (tlv 0x04 t.name_hash ++ (tlv 0x04 t.key_hash ++ tlv 0x02 t.serial)))
+
+-- Request ::= SEQUENCE { reqCert CertID, singleRequestExtensions [0] EXPLICIT Extensions OPTIONAL }
+abbrev pub single : Single → List ℕ
+single s = tlv 0x30 (cert_id s.target ++ extensions 0xA0 s.extensions)
+
+-- `version [0] EXPLICIT Version DEFAULT v1`, where v1 is the INTEGER 0
+abbrev pub version : Bool → List ℕ
+version true = tlv 0xA0 (tlv 0x02 (0 ∷ []))
+version false = []
+
+-- TBSRequest ::= SEQUENCE { version, requestorName [1] EXPLICIT GeneralName OPTIONAL, requestList SEQUENCE OF Request,
+-- requestExtensions [2] EXPLICIT Extensions OPTIONAL }
+abbrev pub to_be_signed : Form → List ℕ
+to_be_signed f = tlv 0x30 (version f.version ++ (optional 0xA1 f.requestor ++ (tlv 0x30 (flat_map single f.singles) ++ extensions 0xA2 f.extensions)))
+
+-- OCSPRequest ::= SEQUENCE { tbsRequest, optionalSignature [0] EXPLICIT Signature OPTIONAL }
+abbrev pub spelling : Form → List ℕ
+spelling f = tlv 0x30 (to_be_signed f ++ optional 0xA0 f.signature)
+
+-- ---- what is allowed
+
+-- id-pkix-ocsp-nonce, 1.3.6.1.5.5.7.48.1.2 (RFC 6960 4.4.1)
+abbrev pub nonce_identifier : List ℕ
+nonce_identifier = 0x2B ∷ 0x06 ∷ 0x01 ∷ 0x05 ∷ 0x05 ∷ 0x07 ∷ 0x30 ∷ 0x01 ∷ 0x02 ∷ []
+
+-- an identifier has octets, and an extension that is critical is one that is known: the nonce (RFC 5280 4.2)
+pub record IsExtension (e : Extension) : Type 0 where
+  pub identified : 1 ≤ length e.identifier
+  pub known : e.critical ≡ Some true → e.identifier ≡ nonce_identifier
+
+-- an identifier has octets, parameters have a tag of one octet, and a serial number is an INTEGER in the fewest octets
+-- (X.690 8.1.2.4, 8.3.2, 8.19.2)
+pub record IsTarget (t : Target) : Type 0 where
+  pub identified : 1 ≤ length t.identifier
+  pub low_tag : IfSome t.parameters (λ any. any.tag % 32 < 31)
+  pub shortest : IsShortest t.serial
+
+abbrev pub AreExtensions : Option (List Extension) → Type 0
+AreExtensions written = IfSome written (AllByRecursion IsExtension)
+
+pub record IsSingle (s : Single) : Type 0 where
+  pub target : IsTarget s.target
+  pub extensions : AreExtensions s.extensions
+
+-- one request at least
+pub record IsForm (f : Form) : Type 0 where
+  pub some : 1 ≤ length f.singles
+  pub each : AllByRecursion IsSingle f.singles
+  pub extensions : AreExtensions f.extensions
+
+-- ---- what it asks
+
+-- a CertID as it stands in a request: its whole value, the whole value of its algorithm, and the contents of the rest
+pub record Id : Type 0 where
+  pub raw : List ℕ
+  pub algorithm : List ℕ
+  pub name_hash : List ℕ
+  pub key_hash : List ℕ
+  pub serial : List ℕ
+
+abbrev pub id_of : Target → Id
+id_of t = record { raw = cert_id t; algorithm = algorithm t.identifier t.parameters; name_hash = t.name_hash; key_hash = t.key_hash; serial = t.serial }
+
+abbrev pub asked_by : Single → Id
+asked_by s = id_of s.target
+
+-- the value of the first extension with the nonce's identifier
+abbrev pub first_nonce : List Extension → Option (List ℕ)
+first_nonce [] = None
+first_nonce (e ∷ es) = if bytes_eq e.identifier nonce_identifier then Some e.value else first_nonce es
+
+-- a nonce of 1 to 131 bytes is repeated in the answer, any other is left out
+abbrev pub repeated : Option (List ℕ) → Option (List ℕ)
+repeated None = None
+repeated (Some nonce) = if nat_le 1 (length nonce) && nat_le (length nonce) 131 then Some nonce else None
+
+-- what the answer repeats of requestExtensions
+abbrev pub nonce_of : Option (List Extension) → Option (List ℕ)
+nonce_of None = None
+nonce_of (Some es) = repeated (first_nonce es)
+
+-- ---- the relation
+
+-- the bytes spell this tree, which asks for these CertIDs and for this nonce
+pub record IsRequestOf (bytes : List ℕ) (ids : List Id) (nonce : Option (List ℕ)) (f : Form) : Type 0 where
+  pub allowed : IsForm f
+  pub spelled : bytes ≡ spelling f
+  pub asks : ids ≡ map asked_by f.singles
+  pub repeats : nonce ≡ nonce_of f.extensions
+
+-- the bytes, 65,536 at most, are an OCSP request for these CertIDs and with this nonce
+pub record IsRequest (bytes : List ℕ) (ids : List Id) (nonce : Option (List ℕ)) : Type 0 where
+  pub each : IsBytes bytes
+  pub short : length bytes ≤ 65536
+  pub form : Form
+  pub built : IsRequestOf bytes ids nonce form
+
+-- no bytes have two readings
+abbrev pub OneReading : Type 0
+OneReading = (bytes : List ℕ) (ids_a ids_b : List Id) (nonce_a nonce_b : Option (List ℕ)) → IsRequest bytes ids_a nonce_a → IsRequest bytes ids_b nonce_b → (ids_a ≡ ids_b) × (nonce_a ≡ nonce_b)
+
+-- ---- sizes
+
+abbrev pub raw_length : Id → ℕ
+raw_length id = length id.raw
+
+-- a nonce that is repeated
+pub record IsNonce (value : List ℕ) : Type 0 where
+  pub some : 1 ≤ length value
+  pub short : length value ≤ 131
+
+-- one CertID at least, and few and short enough to be answered in one response
+pub record CanBeAnswered (ids : List Id) (nonce : Option (List ℕ)) : Type 0 where
+  pub some : 1 ≤ length ids
+  pub few : length ids ≤ 65536
+  pub short : sum_by raw_length ids ≤ 65536
+  pub repeated_nonce : IfSome nonce IsNonce

@@ -1,0 +1,78 @@
+-- OCSP responses (RFC 6960 4.2.1) as functions of their parts.
+use Rattle.std.specs.Prelude.{ℕ, ◌==◌, if◌then◌else◌, List, [], ◌∷◌, ◌++◌, Option, Some, None}
+use Rattle.std.specs.List.{flat_map}
+use Rattle.sha1.specs.Sha1.{sha1}
+use Rattle.reg_core.specs.declared.command.Status.{Status}
+use Rattle.reg_core.specs.declared.command.Status.TheVariants.{Unknown, Good, Expired, Revoked}
+use Rattle.reg_der.specs.Der.{tlv}
+use Rattle.reg_der.specs.Values.{bits_value, general_value}
+use Rattle.reg_ocsp.specs.Request.{nonce_identifier}
+use Rattle.reg_ocsp.specs.declared.response.RefusalStatus.{RefusalStatus}
+use Rattle.reg_ocsp.specs.declared.response.RefusalStatus.TheVariants.{Malformed, Internal, TryLater}
+
+-- the ENUMERATED of one octet (X.690 8.4)
+abbrev pub enumerated : ℕ → List ℕ
+enumerated number = tlv 0x0A (number ∷ [])
+
+-- `revocationReason [0] EXPLICIT CRLReason OPTIONAL`: unspecified, 0, is left out (RFC 5280 5.3.1)
+abbrev pub reason_part : ℕ → List ℕ
+reason_part reason = if reason == 0 then [] else tlv 0xA0 (enumerated reason)
+
+-- CertStatus ::= CHOICE { good [0] NULL, revoked [1] RevokedInfo, unknown [2] NULL }, all IMPLICIT. A certificate past its
+-- end that is not revoked is good.
+abbrev pub cert_status : Status → List ℕ
+cert_status Good = tlv 0x80 []
+cert_status Expired = tlv 0x80 []
+cert_status Unknown = tlv 0x82 []
+cert_status (Revoked at reason) = tlv 0xA1 (general_value at ++ reason_part reason)
+
+-- a CertID's whole value, and what it is answered
+pub record Answer : Type 0 where
+  pub raw : List ℕ
+  pub status : Status
+
+-- SingleResponse ::= SEQUENCE { certID, certStatus, thisUpdate GeneralizedTime, nextUpdate [0] EXPLICIT GeneralizedTime }
+unfoldable pub single_response : ℕ → ℕ → Answer → List ℕ
+single_response now next answer =
+    tlv 0x30 (answer.raw ++ cert_status answer.status ++ general_value now ++ tlv 0xA0 (general_value next))
+
+-- ResponderID ::= CHOICE { byKey [2] EXPLICIT KeyHash }: the SHA-1 of the responder's key
+abbrev pub responder : List ℕ → List ℕ
+responder key = tlv 0xA2 (tlv 0x04 (sha1 key))
+
+-- `responseExtensions [1] EXPLICIT Extensions OPTIONAL`: the nonce alone, where one is repeated (RFC 6960 4.4.1)
+abbrev pub nonce_part : Option (List ℕ) → List ℕ
+nonce_part None = []
+nonce_part (Some nonce) = tlv 0xA1 (tlv 0x30 (tlv 0x30 (tlv 0x06 nonce_identifier ++ tlv 0x04 nonce)))
+
+-- ResponseData ::= SEQUENCE { responderID, producedAt GeneralizedTime, responses SEQUENCE OF SingleResponse,
+-- responseExtensions }, by the issuer's key; each answer holds from now to next
+unfoldable pub response_data : List ℕ → ℕ → ℕ → List Answer → Option (List ℕ) → List ℕ
+response_data key now next answers nonce =
+    tlv 0x30 (responder key ++ general_value now ++ tlv 0x30 (flat_map (single_response now next) answers) ++ nonce_part nonce)
+
+-- BasicOCSPResponse ::= SEQUENCE { tbsResponseData, signatureAlgorithm, signature BIT STRING }
+unfoldable pub basic_response : List ℕ → List ℕ → List ℕ → List ℕ
+basic_response signed algorithm signature = tlv 0x30 (signed ++ algorithm ++ bits_value signature)
+
+-- id-pkix-ocsp-basic, 1.3.6.1.5.5.7.48.1.1
+abbrev pub basic_identifier : List ℕ
+basic_identifier = 0x2B ∷ 0x06 ∷ 0x01 ∷ 0x05 ∷ 0x05 ∷ 0x07 ∷ 0x30 ∷ 0x01 ∷ 0x01 ∷ []
+
+-- ResponseBytes ::= SEQUENCE { responseType OBJECT IDENTIFIER, response OCTET STRING }
+abbrev pub response_bytes : List ℕ → List ℕ
+response_bytes response = tlv 0x30 (tlv 0x06 basic_identifier ++ tlv 0x04 response)
+
+-- OCSPResponse ::= SEQUENCE { responseStatus ENUMERATED, responseBytes [0] EXPLICIT ResponseBytes OPTIONAL }, successful(0)
+unfoldable pub ocsp_response : List ℕ → List ℕ → List ℕ → List ℕ
+ocsp_response signed algorithm signature = tlv 0x30 (enumerated 0 ++ tlv 0xA0 (response_bytes (basic_response signed algorithm signature)))
+
+-- malformedRequest(1), internalError(2), tryLater(3)
+abbrev pub refusal_code : RefusalStatus → ℕ
+refusal_code Malformed = 1
+refusal_code Internal = 2
+refusal_code TryLater = 3
+
+-- an OCSPResponse without responseBytes
+abbrev pub refusal_response : RefusalStatus → List ℕ
+refusal_response status = tlv 0x30 (enumerated (refusal_code status))

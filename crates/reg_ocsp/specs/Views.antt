@@ -1,0 +1,37 @@
+-- What contracts see of the values that a request is read into.
+use Rattle.std.specs.Prelude.{◌≡◌, ℕ, List, length, map, Option, Some, None, Result, Ok, Err}
+use Rattle.reg_ocsp.specs.declared.fault.AskFault.{AskFault}
+use Rattle.reg_ocsp.specs.declared.fault.AskFault.TheVariants.{Malformed, Memory}
+use Rattle.reg_ocsp.specs.declared.asked.CertId.{CertId}
+use Rattle.reg_ocsp.specs.declared.extensions.Extension as code
+use Rattle.reg_core.specs.declared.command.Status.{Status}
+use Rattle.reg_ocsp.specs.Request.{Id, Extension}
+use Rattle.reg_ocsp.specs.Response.{Answer}
+
+-- the slices of a CertID, by their bytes
+abbrev pub id_seen : CertId → Id
+id_seen id = record { raw = id.raw.now; algorithm = id.algorithm.now; name_hash = id.name_hash.now; key_hash = id.key_hash.now; serial = id.serial.now }
+
+abbrev pub ids_seen : List CertId → List Id
+ids_seen ids = map id_seen ids
+
+-- what a function returned, seen by view, is what reading gives, unless memory was wanting
+abbrev pub GivesUnlessMemory : {X Y : Type 0} → (X → Y) → Result X AskFault → Option Y → Type 0
+GivesUnlessMemory view (Ok x) read = read ≡ Some (view x)
+GivesUnlessMemory view (Err Malformed) read = read ≡ None
+GivesUnlessMemory view (Err Memory) read = Unit {0}
+
+-- an extension, its slices by their bytes
+abbrev pub extension_seen : code.Extension → Extension
+extension_seen e = record { identifier = e.identifier.now; critical = e.critical; value = e.value.now }
+
+-- a CertID with what it is answered: its whole value by its bytes
+abbrev pub answer_seen : CertId × Status → Answer
+answer_seen answer = record { raw = answer.0.raw.now; status = answer.1 }
+
+abbrev pub answers_seen : List (CertId × Status) → List Answer
+answers_seen answers = map answer_seen answers
+
+-- the length of the whole value of its CertID
+abbrev pub answered_length : CertId × Status → ℕ
+answered_length answer = length answer.0.raw.now

@@ -1,0 +1,98 @@
+//! Extensions of a request (RFC 5280 4.1, RFC 6960 4.4.1).
+
+ghost use Rattle.std.specs.Prelude.{◌≡◌, ◌<◌, length, IfSome, option_copied};
+ghost use Rattle.reg_der.specs.Reading.{Gives};
+ghost use Rattle.reg_ocsp.specs.Reading.{critical_at, extension_at, flag_of, nonce_at, written_flag};
+ghost use Rattle.reg_ocsp.specs.Reading as spec;
+ghost use Rattle.reg_ocsp.specs.Views.{extension_seen};
+
+use crate::tags::{BOOLEAN, OBJECT_IDENTIFIER, OCTET_STRING, SEQUENCE};
+use crate::values::{expect, optional, whole};
+
+/// id-pkix-ocsp-nonce, 1.3.6.1.5.5.7.48.1.2 (RFC 6960 4.4.1).
+pub(crate) const NONCE: [u8; 9] = [0x2B, 0x06, 0x01, 0x05, 0x05, 0x07, 0x30, 0x01, 0x02];
+
+/// An Extension that is known or need not be.
+#[derive(Clone, Copy)]
+pub(crate) struct Extension<'a> {
+    identifier: &'a [u8],
+    /// `critical`, where it is written.
+    critical: Option<bool>,
+    /// The contents of the OCTET STRING.
+    value: &'a [u8],
+}
+
+/// The value of the first nonce of Extensions, where they are written; all of them are read.
+pub(crate) fn written_nonce(extensions: Option<&[u8]>) -> Option<Option<&[u8]>>
+    ensures { Gives (λ x. option_copied x) result (spec.written_nonce (option_copied extensions.entry)) }
+{
+    match extensions {
+        None => Some(None),
+        Some(contents) => first_nonce(contents),
+    }
+}
+
+/// The value of the first nonce of Extensions that all the bytes are.
+#[tactic(auto, unfolding(crate::specs::Reading::nonce_at))]
+fn first_nonce(bytes: &[u8]) -> Option<Option<&[u8]>>
+    ensures { Gives (λ x. option_copied x) result (nonce_at bytes.now) }
+{
+    let mut rest = whole(SEQUENCE, bytes)?;
+    let mut nonce = None;
+    while !rest.is_empty() {
+        let (extension, after) = next_extension(rest)?;
+        if nonce.is_none() && extension.identifier == NONCE.as_slice() {
+            nonce = Some(extension.value);
+        }
+        rest = after;
+    }
+    Some(nonce)
+}
+
+/// The Extension at the front, and what follows.
+#[tactic(auto, unfolding(crate::specs::Reading::extension_at))]
+fn next_extension(bytes: &[u8]) -> Option<(Extension<'_>, &[u8])>
+    ensures exact { Gives (λ x. (extension_seen x.0, x.1.now)) result (extension_at bytes.now) }
+    ensures shorter { IfSome result (λ x. length x.1.now < length bytes.now) }
+{
+    let (outer, rest) = expect(SEQUENCE, bytes)?;
+    let (identifier, after_identifier) = expect(OBJECT_IDENTIFIER, outer.contents)?;
+    let (critical, after_critical) = critical(after_identifier)?;
+    let value = whole(OCTET_STRING, after_critical)?;
+    let identifier = identifier.contents;
+    // What is critical has to be known (RFC 5280 4.2).
+    if identifier.is_empty() || (critical.unwrap_or(false) && identifier != NONCE.as_slice()) {
+        return None;
+    }
+    Some((
+        Extension {
+            identifier,
+            critical,
+            value,
+        },
+        rest,
+    ))
+}
+
+/// `critical`, where it is written, and what follows.
+#[tactic(auto, unfolding(crate::specs::Reading::critical_at))]
+fn critical(bytes: &[u8]) -> Option<(Option<bool>, &[u8])>
+    ensures { Gives (λ x. (x.0, x.1.now)) result (critical_at bytes.now) }
+{
+    let (written, rest) = optional(BOOLEAN, bytes)?;
+    match written {
+        None => Some((None, rest)),
+        Some(contents) => Some((Some(flag(contents)?), rest)),
+    }
+}
+
+/// The value of a BOOLEAN (X.690 8.2.2, 11.1).
+fn flag(contents: &[u8]) -> Option<bool>
+    ensures { result ≡ flag_of contents.now }
+{
+    match contents {
+        [0xFF] => Some(true),
+        [0x00] => Some(false),
+        _ => None,
+    }
+}

@@ -1,0 +1,79 @@
+//! Which certificate of an issuer a CertID names (RFC 6960 4.1.1).
+
+ghost use Rattle.std.specs.Prelude.{◌≡◌, ℕ, ◌↔◌, IsTrue, IfSome, IfNone};
+ghost use Rattle.sha1.specs.Sha1.{sha1};
+ghost use Rattle.sha2.specs.Sha256.{sha256};
+ghost use Rattle.reg_ocsp.specs.Matching.{IsAlgorithm, IsHashedBy, IsMatch, NamesIssuer, sha1_identifier, sha256_identifier};
+ghost use Rattle.reg_ocsp.specs.Views.{id_seen};
+
+use crate::asked::CertId;
+use reg_core::Serial;
+use reg_der::Issuer;
+use sha2::{Digest, Sha256};
+
+/// The AlgorithmIdentifier of SHA-1 without parameters (RFC 3370 2.1).
+const SHA1: [u8; 9] = [0x30, 0x07, 0x06, 0x05, 0x2B, 0x0E, 0x03, 0x02, 0x1A];
+
+/// The same with NULL for them.
+const SHA1_NULL: [u8; 11] = [
+    0x30, 0x09, 0x06, 0x05, 0x2B, 0x0E, 0x03, 0x02, 0x1A, 0x05, 0x00,
+];
+
+/// The AlgorithmIdentifier of SHA-256 without parameters (RFC 5754 2.2).
+const SHA256: [u8; 13] = [
+    0x30, 0x0B, 0x06, 0x09, 0x60, 0x86, 0x48, 0x01, 0x65, 0x03, 0x04, 0x02, 0x01,
+];
+
+/// The same with NULL for them.
+const SHA256_NULL: [u8; 15] = [
+    0x30, 0x0D, 0x06, 0x09, 0x60, 0x86, 0x48, 0x01, 0x65, 0x03, 0x04, 0x02, 0x01, 0x05, 0x00,
+];
+
+/// The serial number of the issuer's certificate that the CertID names.
+///
+/// The CertID has the SHA-1 or the SHA-256 of the DER value of the issuer's Name and of its key, by an algorithm whose
+/// parameters are NULL or left out, and a serial number from 1 to 2^159 - 1. `None` for every other CertID.
+pub fn matches(issuer: &Issuer, id: &CertId<'_>) -> Option<Serial>
+    ensures found { IfSome result (λ serial. IsMatch issuer.now (id_seen id.now) serial) }
+    ensures none { IfNone result ((serial : ℕ) → ¬ (IsMatch issuer.now (id_seen id.now) serial)) }
+    ensures only { (serial : ℕ) → IsMatch issuer.now (id_seen id.now) serial → result ≡ Some serial }
+{
+    if !names_by_sha1(issuer, id) && !names_by_sha256(issuer, id) {
+        return None;
+    }
+    Serial::from_der(id.serial)
+}
+
+/// Whether the CertID has the SHA-1 of the issuer's name and key.
+fn names_by_sha1(issuer: &Issuer, id: &CertId<'_>) -> bool
+    ensures { IsTrue result ↔ IsHashedBy sha1_identifier sha1 issuer.now (id_seen id.now) }
+{
+    is_sha1(id.algorithm)
+        && id.name_hash == issuer.name_sha1().as_slice()
+        && id.key_hash == issuer.key_sha1().as_slice()
+}
+
+/// Whether the CertID has the SHA-256 of the issuer's name and key.
+fn names_by_sha256(issuer: &Issuer, id: &CertId<'_>) -> bool
+    ensures { IsTrue result ↔ IsHashedBy sha256_identifier sha256 issuer.now (id_seen id.now) }
+{
+    is_sha256(id.algorithm)
+        && id.name_hash == Sha256::digest(issuer.name()).as_slice()
+        && id.key_hash == Sha256::digest(issuer.key()).as_slice()
+}
+
+/// Whether the AlgorithmIdentifier is that of SHA-1.
+#[tactic(auto, unfolding(reg_der::specs::Der::tlv, reg_der::specs::Der::length_octets))]
+fn is_sha1(algorithm: &[u8]) -> bool
+    ensures { IsTrue result ↔ IsAlgorithm sha1_identifier algorithm.now }
+{
+    algorithm == SHA1_NULL.as_slice() || algorithm == SHA1.as_slice()
+}
+
+/// Whether the AlgorithmIdentifier is that of SHA-256.
+#[tactic(auto, unfolding(reg_der::specs::Der::tlv, reg_der::specs::Der::length_octets))]
+fn is_sha256(algorithm: &[u8]) -> bool
+    ensures { IsTrue result ↔ IsAlgorithm sha256_identifier algorithm.now }
+{
+    algorithm == SHA256_NULL.as_slice() || algorithm == SHA256.as_slice()
+}

@@ -1,0 +1,247 @@
+//! OCSP responses written exactly (RFC 6960 4.2.1).
+
+ghost use Rattle.std.specs.Prelude.{◌≡◌, ◌+◌, ◌*◌, ◌^◌, ◌++◌, ◌<◌, ◌≤◌, ◌%◌, length, IfOk, OnOk, IfSome, option_copied, sum_by};
+ghost use Rattle.std.specs.List.{flat_map};
+ghost use Rattle.reg_der.specs.Der.{tlv};
+ghost use Rattle.reg_ocsp.specs.Response.{basic_response, cert_status, ocsp_response, reason_part, refusal_response, single_response};
+ghost use Rattle.reg_ocsp.specs.Response as spec;
+ghost use Rattle.reg_ocsp.specs.Views.{answer_seen, answers_seen, answered_length};
+
+use crate::asked::CertId;
+use crate::extensions::NONCE;
+use crate::tags::{
+    ENUMERATED, OBJECT_IDENTIFIER, OCTET_STRING, PRIMITIVE_0, PRIMITIVE_2, SEQUENCE, TAGGED_0,
+    TAGGED_1, TAGGED_2,
+};
+use reg_core::{Memory, Moment, Status};
+use reg_der::{Issuer, put, put_bits, put_general};
+use std::alloc::Global;
+
+/// id-pkix-ocsp-basic, 1.3.6.1.5.5.7.48.1.1 (RFC 6960 4.2.1).
+const BASIC: [u8; 9] = [0x2B, 0x06, 0x01, 0x05, 0x05, 0x07, 0x30, 0x01, 0x01];
+
+/// Why a request gets no answer (OCSPResponseStatus, RFC 6960 4.2.1).
+#[derive(Clone, Copy, Debug, PartialEq, Eq)]
+pub enum RefusalStatus {
+    /// malformedRequest (1): the request is none.
+    Malformed,
+    /// internalError (2): the responder failed.
+    Internal,
+    /// tryLater (3): the responder can't answer now.
+    TryLater,
+}
+
+/// The whole OCSPResponse that refuses an answer.
+#[tactic(auto, unfolding(reg_der::specs::Der::tlv, reg_der::specs::Der::length_octets))]
+pub fn refusal(status: RefusalStatus) -> [u8; 5]
+    ensures { result ≡ refusal_response status }
+{
+    let code = match status {
+        RefusalStatus::Malformed => 1,
+        RefusalStatus::Internal => 2,
+        RefusalStatus::TryLater => 3,
+    };
+    [SEQUENCE, 3, ENUMERATED, 1, code]
+}
+
+/// The ResponseData (RFC 6960 4.2.1) of an issuer that answers for itself: what is to be signed.
+///
+/// The responder is named by the SHA-1 of the issuer's key. producedAt and each thisUpdate are `now`, and each
+/// nextUpdate is `next`. Each CertID is repeated byte for byte, in the order of `answers`: one asked twice is answered
+/// twice. A certificate past its end that isn't revoked is answered `good`, and the reason 0 is left out. The nonce is
+/// repeated where there is one.
+///
+/// There are at most 65,536 CertIDs with 65,536 bytes in all, and the nonce has at most 131, as `read_request` gives
+/// them. `Memory` is the only error.
+#[tactic(auto, unfolding(crate::specs::Response::response_data))]
+pub fn response_data(
+    alloc: Global,
+    issuer: &Issuer,
+    now: Moment,
+    next: Moment,
+    answers: &[(CertId<'_>, Status)],
+    nonce: Option<&[u8]>,
+) -> Result<Vec<u8>, Memory>
+    requires few { length answers.now ≤ 65536 }
+    requires short { sum_by answered_length answers.now ≤ 65536 }
+    requires short_nonce { IfSome nonce (λ v. length v.now ≤ 131) }
+    ensures data { IfOk result (λ v. v.items ≡ spec.response_data issuer.now.key now next (answers_seen answers.now) (option_copied nonce.entry)) }
+    ensures bounded { IfOk result (λ v. length v.items ≤ 2 ^ 27) }
+{
+    let mut parts = Vec::new(alloc);
+    put_responder(alloc, &mut parts, issuer)?;
+    put_general(&mut parts, now)?;
+    put_answers(alloc, &mut parts, now, next, answers)?;
+    put_nonce(alloc, &mut parts, nonce)?;
+    enclosed(alloc, SEQUENCE, &parts)
+}
+
+/// The whole OCSPResponse with a BasicOCSPResponse (RFC 6960 4.2.1) of the three parts: what was signed, the value of
+/// the signature's AlgorithmIdentifier, and the bytes of the signature.
+///
+/// `signed` has at most 2^27 bytes, as `response_data` gives it, `algorithm` 1,024 and `signature` 65,536. `Memory` is
+/// the only error.
+#[tactic(auto, unfolding(crate::specs::Response::ocsp_response))]
+pub fn basic(
+    alloc: Global,
+    signed: &[u8],
+    algorithm: &[u8],
+    signature: &[u8],
+) -> Result<Vec<u8>, Memory>
+    requires short_signed { length signed.now ≤ 2 ^ 27 }
+    requires short_algorithm { length algorithm.now ≤ 1024 }
+    requires short_signature { length signature.now ≤ 65536 }
+    ensures response { IfOk result (λ v. v.items ≡ ocsp_response signed.now algorithm.now signature.now) }
+    ensures longer { IfOk result (λ v. length v.items ≤ length signed.now + length algorithm.now + length signature.now + 64) }
+{
+    let basic = basic_value(alloc, signed, algorithm, signature)?;
+    let mut bytes = Vec::new(alloc);
+    put(&mut bytes, OBJECT_IDENTIFIER, &BASIC)?;
+    put(&mut bytes, OCTET_STRING, &basic)?;
+    let bytes = enclosed(alloc, SEQUENCE, &bytes)?;
+    let mut parts = Vec::new(alloc);
+    // successful(0)
+    put(&mut parts, ENUMERATED, &[0])?;
+    put(&mut parts, TAGGED_0, &bytes)?;
+    enclosed(alloc, SEQUENCE, &parts)
+}
+
+/// The BasicOCSPResponse of the three parts.
+#[tactic(auto, unfolding(crate::specs::Response::basic_response))]
+fn basic_value(
+    alloc: Global,
+    signed: &[u8],
+    algorithm: &[u8],
+    signature: &[u8],
+) -> Result<Vec<u8>, Memory>
+    requires short_signed { length signed.now ≤ 2 ^ 27 }
+    requires short_algorithm { length algorithm.now ≤ 1024 }
+    requires short_signature { length signature.now ≤ 65536 }
+    ensures value { IfOk result (λ v. v.items ≡ basic_response signed.now algorithm.now signature.now) }
+    ensures longer { IfOk result (λ v. length v.items ≤ length signed.now + length algorithm.now + length signature.now + 13) }
+{
+    let mut parts = Vec::new(alloc);
+    append(&mut parts, signed)?;
+    append(&mut parts, algorithm)?;
+    put_bits(&mut parts, signature)?;
+    enclosed(alloc, SEQUENCE, &parts)
+}
+
+/// Appends the ResponderID by the issuer's key.
+fn put_responder(alloc: Global, out: &mut Vec<u8>, issuer: &Issuer) -> Result<(), Memory>
+    ensures ok { OnOk result (out.new.items ≡ out.old.items ++ spec.responder issuer.now.key) }
+    ensures longer { OnOk result (length out.new.items ≤ length out.old.items + 32) }
+{
+    let hash = enclosed(alloc, OCTET_STRING, &issuer.key_sha1())?;
+    put(out, TAGGED_2, &hash)
+}
+
+/// Appends the list of SingleResponses.
+fn put_answers(
+    alloc: Global,
+    out: &mut Vec<u8>,
+    now: Moment,
+    next: Moment,
+    answers: &[(CertId<'_>, Status)],
+) -> Result<(), Memory>
+    requires few { length answers.now ≤ 65536 }
+    requires short { sum_by answered_length answers.now ≤ 65536 }
+    ensures ok { OnOk result (out.new.items ≡ out.old.items ++ tlv 0x30 (flat_map (single_response now next) (answers_seen answers.now))) }
+    ensures longer { OnOk result (length out.new.items ≤ length out.old.items + 100 * length answers.now + sum_by answered_length answers.now + 6) }
+{
+    let mut list = Vec::new(alloc);
+    for answer in answers {
+        put_single(alloc, &mut list, now, next, answer)?;
+    }
+    put(out, SEQUENCE, &list)
+}
+
+/// Appends a SingleResponse.
+#[tactic(auto, unfolding(crate::specs::Response::single_response))]
+fn put_single(
+    alloc: Global,
+    out: &mut Vec<u8>,
+    now: Moment,
+    next: Moment,
+    answer: &(CertId<'_>, Status),
+) -> Result<(), Memory>
+    requires { answered_length answer.now ≤ 65536 }
+    ensures ok { OnOk result (out.new.items ≡ out.old.items ++ single_response now next (answer_seen answer.now)) }
+    ensures longer { OnOk result (length out.new.items ≤ length out.old.items + answered_length answer.now + 100) }
+{
+    let (id, status) = answer;
+    let mut parts = Vec::new(alloc);
+    append(&mut parts, id.raw)?;
+    put_status(alloc, &mut parts, *status)?;
+    put_general(&mut parts, now)?;
+    let mut update = Vec::new(alloc);
+    put_general(&mut update, next)?;
+    put(&mut parts, TAGGED_0, &update)?;
+    put(out, SEQUENCE, &parts)
+}
+
+/// Appends a CertStatus.
+fn put_status(alloc: Global, out: &mut Vec<u8>, status: Status) -> Result<(), Memory>
+    ensures ok { OnOk result (out.new.items ≡ out.old.items ++ cert_status status) }
+    ensures longer { OnOk result (length out.new.items ≤ length out.old.items + 36) }
+{
+    match status {
+        Status::Good | Status::Expired => put(out, PRIMITIVE_0, &[]),
+        Status::Unknown => put(out, PRIMITIVE_2, &[]),
+        Status::Revoked { at, reason } => {
+            let mut revoked = Vec::new(alloc);
+            put_general(&mut revoked, at)?;
+            put_reason(alloc, &mut revoked, reason)?;
+            put(out, TAGGED_1, &revoked)
+        }
+    }
+}
+
+/// Appends the reason of a revocation, unless it is unspecified (RFC 5280 5.3.1).
+fn put_reason(alloc: Global, out: &mut Vec<u8>, reason: u8) -> Result<(), Memory>
+    ensures ok { OnOk result (out.new.items ≡ out.old.items ++ reason_part reason) }
+    ensures longer { OnOk result (length out.new.items ≤ length out.old.items + 13) }
+{
+    if reason == 0 {
+        return Ok(());
+    }
+    let code = enclosed(alloc, ENUMERATED, &[reason])?;
+    put(out, TAGGED_0, &code)
+}
+
+/// Appends responseExtensions with the nonce, if there is one.
+fn put_nonce(alloc: Global, out: &mut Vec<u8>, nonce: Option<&[u8]>) -> Result<(), Memory>
+    requires { IfSome nonce (λ v. length v.now ≤ 131) }
+    ensures ok { OnOk result (out.new.items ≡ out.old.items ++ spec.nonce_part (option_copied nonce.entry)) }
+    ensures longer { OnOk result (length out.new.items ≤ length out.old.items + 200) }
+{
+    let Some(value) = nonce else {
+        return Ok(());
+    };
+    let mut parts = Vec::new(alloc);
+    put(&mut parts, OBJECT_IDENTIFIER, &NONCE)?;
+    put(&mut parts, OCTET_STRING, value)?;
+    let extension = enclosed(alloc, SEQUENCE, &parts)?;
+    let extensions = enclosed(alloc, SEQUENCE, &extension)?;
+    put(out, TAGGED_1, &extensions)
+}
+
+/// The value of the tag with the contents.
+fn enclosed(alloc: Global, tag: u8, contents: &[u8]) -> Result<Vec<u8>, Memory>
+    requires low_tag { tag % 32 < 31 }
+    requires short { length contents.now < 2 ^ 32 }
+    ensures value { IfOk result (λ v. v.items ≡ tlv tag contents.now) }
+    ensures longer { IfOk result (λ v. length v.items ≤ length contents.now + 6) }
+{
+    let mut out = Vec::new(alloc);
+    put(&mut out, tag, contents)?;
+    Ok(out)
+}
+
+/// Appends the bytes as they are.
+fn append(out: &mut Vec<u8>, bytes: &[u8]) -> Result<(), Memory>
+    ensures ok { OnOk result (out.new.items ≡ out.old.items ++ bytes.now) }
+    ensures longer { OnOk result (length out.new.items ≡ length out.old.items + length bytes.now) }
+{
+    out.extend_from_slice(bytes).map_err(|_| Memory)
+}
