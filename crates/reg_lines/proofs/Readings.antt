@@ -1,0 +1,197 @@
+-- Lemmas on what is read from one field.
+use Rattle.std.proofs.Common.{◌≡◌, ◌↔◌, ℕ, zero, suc, ◌%◌, ◌<◌, Bool, true, false, ◌&&◌, cond, nat_le, nat_lt, List, length, Option, Some, None, Ok, Err, IsSome, IfSome, IsTrue, refl, sym, ap, ◌∙◌, subst, arith, inl, inr}
+use Rattle.std.specs.Prelude.{bytes_eq, Result}
+use Rattle.std.specs.Option.{option_or}
+use Rattle.std.specs.Result.{result_ok}
+use Rattle.std.specs.List.{AllPass, list_all}
+use Rattle.std.proofs.lemmas.Bool.{and_parts, cases_order, false≢true, le-leb, leb-true, lt-ltb, ltb-true}
+use Rattle.std.proofs.lemmas.List.Sums.{AllPass-from_list_all, list_all-from_AllPass}
+use Rattle.std.proofs.lemmas.Slice.Eq.{bytes_eq-Decides}
+use Rattle.hex.specs.Hex.{decode_of, is_hex_digit}
+use Rattle.hex.specs.declared.error.FromHexError.{FromHexError}
+use Rattle.hex.proofs.HexLemmas.{decode_of-digits, decode_of-odd, decode_of-ok}
+use Rattle.reg_core.specs.Calendar.{IsMoment, moment_text}
+use Rattle.reg_core.specs.Label.{IsLabel}
+use Rattle.reg_core.proofs.Moments.{moment_text_injective}
+use Rattle.reg_lines.specs.Meaning.{bytes_of, IsHexOf}
+use Rattle.reg_lines.specs.Reading.{first_below, hex_of, label_of, moment_of}
+
+-- ---- the first number below a bound that passes a test
+
+below_some : (test : ℕ → Bool) (n m : ℕ) → first_below test n ≡ Some m → (m < n) × (test m ≡ true)
+unfolding first_below
+below_some test zero m e = cc e
+below_some test (suc n) m e = by (first_below test n) (test n) refl refl e (below_some test n m)
+  where
+    by : (o : Option ℕ) (b : Bool) → first_below test n ≡ o → test n ≡ b → option_or o (cond b (Some n) None) ≡ Some m
+        → (first_below test n ≡ Some m → (m < n) × (test m ≡ true)) → (m < suc n) × (test m ≡ true)
+    by (Some k) b is tested e more =
+        let r = more (is ∙ e) in
+        let below : m < n = r.0 in
+        (omega arith, r.1)
+    by None true is tested e more =
+        let same : n ≡ m = cc in
+        (omega arith, subst (λ k. test k ≡ true) same tested)
+    by None false is tested e more = cc e
+
+below_none : (test : ℕ → Bool) (n : ℕ) → first_below test n ≡ None → (m : ℕ) → m < n → test m ≡ false
+unfolding first_below
+below_none test zero e m below = absurd (omega arith)
+below_none test (suc n) e m below = by (first_below test n) (test n) refl refl e (below_none test n)
+  where
+    by : (o : Option ℕ) (b : Bool) → first_below test n ≡ o → test n ≡ b → option_or o (cond b (Some n) None) ≡ None
+        → (first_below test n ≡ None → (k : ℕ) → k < n → test k ≡ false) → test m ≡ false
+    by (Some k) b is tested e more = cc e
+    by None true is tested e more = cc e
+    by None false is tested e more =
+        elim (cases_order m n) [
+          | inl same ↦ subst (λ k. test k ≡ false) (sym same) tested
+          | inr (inl less) ↦ more is m less
+          | inr (inr above) ↦ absurd (omega arith)
+        ]
+
+-- ---- moments
+
+abbrev is_text_of : List ℕ → ℕ → Bool
+is_text_of text m = bytes_eq text (moment_text m)
+
+reads_below : (n : ℕ) (r : Option ℕ) (text : List ℕ) → IfSome r (λ m. (m < n) × (text ≡ moment_text m))
+    → ((m : ℕ) → m < n → text ≡ moment_text m → r ≡ Some m) → r ≡ first_below (is_text_of text) n
+reads_below n r text found only = by (first_below (is_text_of text) n) refl r found only
+  where
+    by : (o : Option ℕ) → first_below (is_text_of text) n ≡ o → (r : Option ℕ) → IfSome r (λ m. (m < n) × (text ≡ moment_text m))
+        → ((m : ℕ) → m < n → text ≡ moment_text m → r ≡ Some m) → r ≡ o
+    by (Some m) is r found only =
+        let at = below_some (is_text_of text) n m is in
+        only m at.0 ((bytes_eq-Decides text (moment_text m)).0 at.1)
+    by None is None found only = refl
+    by None is (Some m) found only =
+        let never = below_none (is_text_of text) n is m found.0 in
+        let always = (bytes_eq-Decides text (moment_text m)).1 found.1 in
+        absurd (false≢true (sym never ∙ always))
+
+-- what `Moment::read` answers is the moment whose text it is
+pub reads_moment : (r : Option ℕ) (text : List ℕ) → IfSome r (λ m. IsMoment m × (text ≡ moment_text m))
+    → ((m : ℕ) → IsMoment m → text ≡ moment_text m → r ≡ Some m) → r ≡ moment_of text
+unfolding moment_of
+reads_moment r text found only = reads_below 253402300800 r text found only
+
+pub moment_of-some : (text : List ℕ) (m : ℕ) → moment_of text ≡ Some m → IsMoment m × (text ≡ moment_text m)
+unfolding moment_of
+moment_of-some text m e =
+    let at = below_some (is_text_of text) 253402300800 m e in
+    (at.0, (bytes_eq-Decides text (moment_text m)).0 at.1)
+
+text_below : (n m : ℕ) → ((k : ℕ) → k < n → moment_text m ≡ moment_text k → k ≡ m) → m < n → first_below (is_text_of (moment_text m)) n ≡ Some m
+text_below n m one below = by (first_below (is_text_of (moment_text m)) n) refl
+  where
+    by : (o : Option ℕ) → first_below (is_text_of (moment_text m)) n ≡ o → o ≡ Some m
+    by (Some k) is =
+        let at = below_some (is_text_of (moment_text m)) n k is in
+        ap (λ j. Some j) (one k at.0 ((bytes_eq-Decides (moment_text m) (moment_text k)).0 at.1))
+    by None is =
+        let never = below_none (is_text_of (moment_text m)) n is m below in
+        let always = (bytes_eq-Decides (moment_text m) (moment_text m)).1 refl in
+        absurd (false≢true (sym never ∙ always))
+
+pub moment_of-text : (m : ℕ) → IsMoment m → moment_of (moment_text m) ≡ Some m
+unfolding moment_of
+moment_of-text m is = text_below 253402300800 m (λ k below same. sym (moment_text_injective m k is below same)) is
+
+-- ---- labels
+
+abbrev is_label : List ℕ → Bool
+is_label text = nat_le 1 (length text) && nat_le (length text) 64 && list_all (λ b. nat_lt b 256) text
+
+label_tested : (text : List ℕ) → IsLabel text → is_label text ≡ true
+label_tested text is =
+    rw (
+      le-leb 1 (length text) is.not_empty,
+      le-leb (length text) 64 is.at_most_64,
+      list_all-from_AllPass (λ b. nat_lt b 256) text (λ k d below. lt-ltb _ 256 (is.bytes k d below)),
+    ) refl
+
+tested_label : (text : List ℕ) → is_label text ≡ true → IsLabel text
+tested_label text e =
+    let parts = and_parts (nat_le 1 (length text) && nat_le (length text) 64) (list_all (λ b. nat_lt b 256) text) e in
+    let lengths = and_parts (nat_le 1 (length text)) (nat_le (length text) 64) parts.0 in
+    record {
+      not_empty = leb-true 1 (length text) lengths.0;
+      at_most_64 = leb-true (length text) 64 lengths.1;
+      bytes = λ k d below. ltb-true _ 256 (AllPass-from_list_all (λ b. nat_lt b 256) text parts.1 k d below);
+    }
+
+pub label_of-is : (text : List ℕ) → IsLabel text → label_of text ≡ Some text
+unfolding label_of
+label_of-is text is = rw (label_tested text is) refl
+
+pub label_of-some : (text name : List ℕ) → label_of text ≡ Some name → (text ≡ name) × IsLabel name
+unfolding label_of
+label_of-some text name e = by (is_label text) refl e
+  where
+    by : (b : Bool) → is_label text ≡ b → cond b (Some text) None ≡ Some name → (text ≡ name) × IsLabel name
+    by true is e =
+        let same : text ≡ name = cc in
+        (same, subst IsLabel same (tested_label text is))
+    by false is e = cc e
+
+-- what `Label::of` answers is the label that it is
+pub reads_label : (r : Option (List ℕ)) (text : List ℕ) → IsSome r ↔ IsLabel text → IfSome r (λ name. name ≡ text) → r ≡ label_of text
+reads_label (Some name) text some is = ap (λ l. Some l) is ∙ sym (label_of-is text (some.0 refl))
+reads_label None text some is = sym (by (label_of text) refl)
+  where
+    by : (o : Option (List ℕ)) → label_of text ≡ o → o ≡ None
+    by None e = refl
+    by (Some name) e =
+        let found = label_of-some text name e in
+        cc (some.1 (subst IsLabel (sym found.0) found.1))
+
+-- ---- hexadecimal digits
+
+pub hex_of-is : (digits bytes : List ℕ) → IsHexOf digits bytes → hex_of digits ≡ Some bytes
+unfolding hex_of
+hex_of-is digits bytes is = rw (lt-ltb 0 (length digits) is.0, is.1) refl
+
+ok_some : (r : Result (List ℕ) FromHexError) (bytes : List ℕ) → result_ok r ≡ Some bytes → r ≡ Ok bytes
+ok_some (Ok other) bytes e = let same : other ≡ bytes = cc in ap (λ l. Ok l) same
+ok_some (Err why) bytes e = cc e
+
+pub hex_of-some : (digits bytes : List ℕ) → hex_of digits ≡ Some bytes → IsHexOf digits bytes
+unfolding hex_of
+hex_of-some digits bytes e = by (nat_lt 0 (length digits)) refl e
+  where
+    by : (b : Bool) → nat_lt 0 (length digits) ≡ b → cond b (result_ok (decode_of digits)) None ≡ Some bytes → IsHexOf digits bytes
+    by true is e = (ltb-true 0 (length digits) is, ok_some (decode_of digits) bytes e)
+    by false is e = cc e
+
+-- the bytes of digits that are all right
+pub hex_of-digits : (digits : List ℕ) → 0 < length digits → length digits % 2 ≡ 0 → AllPass is_hex_digit digits → hex_of digits ≡ Some (bytes_of digits)
+hex_of-digits digits some even all =
+    let found = decode_of-digits digits even all in
+    hex_of-is digits (bytes_of digits) (some, rw found.1 refl)
+
+no_hex : (digits : List ℕ) → ((bytes : List ℕ) → ¬ IsHexOf digits bytes) → hex_of digits ≡ None
+no_hex digits never = by (hex_of digits) refl
+  where
+    by : (o : Option (List ℕ)) → hex_of digits ≡ o → o ≡ None
+    by None e = refl
+    by (Some bytes) e = absurd (never bytes (hex_of-some digits bytes e))
+
+pub hex_of-empty : (digits : List ℕ) → length digits ≡ 0 → hex_of digits ≡ None
+hex_of-empty digits none = no_hex digits (λ bytes is. let some : 0 < length digits = is.0 in omega arith)
+
+pub hex_of-odd : (digits : List ℕ) → length digits % 2 ≡ 1 → hex_of digits ≡ None
+hex_of-odd digits odd = no_hex digits (λ bytes is. cc (sym (decode_of-odd digits odd) ∙ is.1))
+
+pub hex_of-other : (digits : List ℕ) → ¬ AllPass is_hex_digit digits → hex_of digits ≡ None
+hex_of-other digits other = no_hex digits (λ bytes is. other (decode_of-ok digits bytes is.1).1)
+
+-- the bytes by what a test of the digits says
+pub hex_of-tested : (digits : List ℕ) (r : Bool) → 0 < length digits → length digits % 2 ≡ 0 → IsTrue r ↔ AllPass is_hex_digit digits
+    → hex_of digits ≡ cond r (Some (bytes_of digits)) None
+hex_of-tested digits true some even tested = hex_of-digits digits some even (tested.0 refl)
+hex_of-tested digits false some even tested = hex_of-other digits (λ all. false≢true (tested.1 all))
+
+-- the bytes that digits were decoded to
+pub bytes_of-decoded : (digits bytes : List ℕ) → decode_of digits ≡ Ok bytes → bytes_of digits ≡ bytes
+bytes_of-decoded digits bytes e = rw e refl

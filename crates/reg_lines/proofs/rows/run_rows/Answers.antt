@@ -1,0 +1,42 @@
+use Rattle.std.proofs.Common.{Bor, List, ℕ, Some, inl, inr, ◌∙◌}
+use Rattle.reg_lines.proofs.RowLemmas.{going_start, going_more, one_cut, all_ran}
+use Rattle.reg_lines.proofs.rows.run_rows.Goals as goal
+
+pub loop-index-init : goal.loop-index-init
+loop-index-init g c =
+    let made = c.from_reader-rows.ensures in
+    let config = rw (c.flexible.ensures, c.has_headers.ensures) at made.config in
+    let trim = rw (c.flexible.ensures, c.has_headers.ensures) at made.trim in
+    let headers = rw (c.flexible.ensures, c.has_headers.ensures) at made.has_headers in
+    record {
+      untrimmed = trim ∙ c.new.ensures.trim;
+      ready = inr (inr (headers, made.headers));
+      config = config ∙ c.new.ensures.config;
+      going = going_start g.O.Answers.answers c.args.now _ _ _ _ _ made.source made.state;
+    }
+
+pub returns-in-Err-take_row : goal.returns-in-Err-take_row
+returns-in-Err-take_row g c =
+    let so_far = c.loop-index.invariant in
+    let read = rw c.in-Ok-true.field-0-test at (c.in-Ok-true.ensures.reads so_far.untrimmed so_far.ready) in
+    one_cut g.O.Answers.answers c.args.now _ _ _ _ _ _ _ (λ (s : Bor (List ℕ)). Some s.now) c.loop-index.rows c.read_byte_record.new.self _ c.loop-index.index
+    c.in-Err-take_row.field-0 so_far.going so_far.config read c.in-Err-take_row.ensures
+
+pub returns-in-Ok-false : goal.returns-in-Ok-false
+returns-in-Ok-false g c =
+    let so_far = c.loop-index.invariant in
+    let read = rw c.in-Ok-false.field-0-test at (c.in-Ok-false.ensures.reads so_far.untrimmed so_far.ready) in
+    all_ran g.O.Answers.answers c.args.now _ _ c.loop-index.office _ _ (g.W.Write.contents c.loop-index.writer) _ (λ (s : Bor (List ℕ)). Some s.now) c.loop-index.rows c.read_byte_record.new.self _ c.loop-index.index
+    so_far.going so_far.config read
+
+pub loop-index-preserved : goal.loop-index-preserved
+loop-index-preserved g c =
+    let so_far = c.loop-index.invariant in
+    let read = rw c.in-Ok-true.field-0-test at (c.in-Ok-true.ensures.reads so_far.untrimmed so_far.ready) in
+    record {
+      untrimmed = read.3 ∙ so_far.untrimmed;
+      ready = inl (c.in-Ok-true.ensures.ready so_far.untrimmed);
+      config = read.2 ∙ so_far.config;
+      going = going_more g.O.Answers.answers c.args.now _ _ _ _ _ _ _ (λ (s : Bor (List ℕ)). Some s.now) c.loop-index.rows c.read_byte_record.new.self _ c.loop-index.index
+          so_far.going so_far.config read c.in-Ok.ensures;
+    }

@@ -1,0 +1,152 @@
+-- An import: the rows of a text, and how a run of it ends.
+use Rattle.std.specs.Prelude.{◌≡◌, ◌⊎◌, ℕ, ◌+◌, ◌<◌, ◌≤◌, Bool, true, false, ◌&&◌, List, [], ◌∷◌, ◌++◌, length, take, codes, bytes_eq, if◌then◌else◌, None, Some, Result, Ok, Err}
+use Rattle.std.specs.declared.option.Option.{Option}
+use Rattle.std.specs.Io.KnownBytes.{Appends, Consumes, IsAtEnd}
+use Rattle.std.specs.List.{concat}
+use Rattle.csv.specs.Reading.{AreRecords, Reached, default_config, strip_bom}
+use Rattle.csv.specs.declared.parser.State.{State}
+use Rattle.csv.specs.declared.parser.State.TheVariants as st
+use Rattle.reg_core.specs.declared.command.Command.{Command}
+use Rattle.reg_core.specs.declared.command.Reply.{Reply}
+use Rattle.reg_core.specs.declared.refusal.Fault.{Fault}
+use Rattle.reg_core.specs.declared.refusal.Fault.TheVariants.{Refused, Memory, Store, Signer, Read, Write}
+use Rattle.reg_core.specs.declared.refusal.Refusal.TheVariants.{Syntax}
+use Rattle.reg_wire.specs.Run.{Answered}
+use Rattle.reg_wire.specs.declared.put.WriteFault.{WriteFault}
+use Rattle.reg_lines.specs.Answer.{Answer, came_to}
+use Rattle.reg_lines.specs.Meaning.{Meaning, tells, SpellsCommand}
+use Rattle.reg_lines.specs.Reading.{four}
+use Rattle.reg_lines.specs.Replies.{outcome_line, with_lf}
+use Rattle.reg_lines.specs.Steps.{Wrote}
+
+-- the most bytes of an import
+abbrev pub most_bytes : ℕ
+most_bytes = 16777216
+
+-- a row, as csv gives it: the bytes of each field
+abbrev pub Row : Type 0
+Row = List (List ℕ)
+
+-- these are all the rows of a text (RFC 4180), as csv reads them: a byte order mark in front is passed over, a line with nothing in it is no row
+abbrev pub AreRows : List ℕ → List Row → Type 0
+AreRows text rows = AreRecords default_config st.StartRecord (strip_bom text) rows
+
+-- these are its first rows
+abbrev pub AreFirstRows : List ℕ → List Row → Type 0
+AreFirstRows text rows = (s : State) × (left : List ℕ) × Reached default_config st.StartRecord (strip_bom text) rows s left
+
+-- the four names of the header
+abbrev pub are_names : Option (List ℕ × List ℕ × List ℕ × List ℕ) → Bool
+are_names None = false
+are_names (Some names) =
+    bytes_eq names.0 (codes "order") && bytes_eq names.1 (codes "serial") && bytes_eq names.2 (codes "notBefore") && bytes_eq names.3 (codes "notAfter")
+
+-- the row is `order,serial,notBefore,notAfter`
+abbrev pub is_header : Row → Bool
+is_header row = are_names (four row)
+
+-- the rows but for a header, which only the first one can be
+abbrev pub data_rows : List Row → List Row
+data_rows [] = []
+data_rows (row ∷ rows) = if is_header row then rows else row ∷ rows
+
+-- a row's fields, behind the word `register`, spell the command
+abbrev pub RowMeans : Row → Command → Type 0
+RowMeans row command = SpellsCommand command (codes "register" ∷ row)
+
+-- One row and its reply at a moment: the office `s` becomes `t`. A row that spells no command is unreadable, and the office is not asked.
+abbrev pub RowReplies : {S : Type 0} → (S → Meaning → Answer → S → Type 0) → ℕ → S → Row → List ℕ → S → Type 0
+RowReplies answers now s row reply t =
+    ((command : Command) × (outcome : Result Reply Fault) × RowMeans row command × answers s (tells now command) (came_to outcome) t × (reply ≡ with_lf (outcome_line outcome)))
+    ⊎ (((command : Command) → ¬ RowMeans row command) × (reply ≡ with_lf (outcome_line (Err (Refused Syntax)))) × (t ≡ s))
+
+-- each row of the text ran, in turn, and the replies were written and nothing else
+pub record AllRan {S : Type 0} (answers : S → Meaning → Answer → S → Type 0) (now : ℕ) (s t : S) (out out' : Option (List ℕ)) (text : List ℕ) : Type 0 where
+  pub rows : List Row
+  pub replies : List (List ℕ)
+  pub all : AreRows text rows
+  pub answered : Answered (RowReplies answers now) s (data_rows rows) replies t
+  pub wrote : Appends out out' (concat replies)
+
+-- the first rows of the text ran, and their replies were written
+pub record FirstRan {S : Type 0} (answers : S → Meaning → Answer → S → Type 0) (now : ℕ) (s t : S) (out out' : Option (List ℕ)) (text : List ℕ) : Type 0 where
+  pub rows : List Row
+  pub replies : List (List ℕ)
+  pub first : AreFirstRows text rows
+  pub answered : Answered (RowReplies answers now) s (data_rows rows) replies t
+  pub wrote : Appends out out' (concat replies)
+
+-- the first rows ran, their replies were written, and the row after them ran, which is no header; of its reply a front was written
+pub record OneCut {S : Type 0} (answers : S → Meaning → Answer → S → Type 0) (now : ℕ) (s t : S) (out out' : Option (List ℕ)) (text : List ℕ) : Type 0 where
+  pub rows : List Row
+  pub replies : List (List ℕ)
+  pub middle : S
+  pub row : Row
+  pub reply : List ℕ
+  pub part : ℕ
+  pub first : AreFirstRows text (rows ++ row ∷ [])
+  pub no_header : data_rows (rows ++ row ∷ []) ≡ data_rows rows ++ row ∷ []
+  pub answered : Answered (RowReplies answers now) s (data_rows rows) replies middle
+  pub replied : RowReplies answers now middle row reply t
+  pub partly : part < length reply
+  pub wrote : Appends out out' (concat replies ++ take part reply)
+
+-- the text was taken whole
+pub record TookAll (input input' : Option (List ℕ)) (text : List ℕ) : Type 0 where
+  pub consumed : Consumes input input' text
+  pub at_end : IsAtEnd input'
+  pub fits : length text ≤ most_bytes
+
+-- bytes were taken, one more than the most of an import at most, and then a read failed or there was one byte too many
+abbrev pub TookSome : Option (List ℕ) → Option (List ℕ) → Type 0
+TookSome input input' = (took : List ℕ) × Consumes input input' took × (length took ≤ most_bytes + 1)
+
+-- How an import ends. At a fault of the input nothing ran. At want of memory nothing ran, or, with the whole text taken, its first rows.
+abbrev pub ImportEnds : {S R W : Type 0} → (S → Meaning → Answer → S → Type 0) → (R → Option (List ℕ)) → (W → Option (List ℕ))
+    → ℕ → S → S → R → R → W → W → Result (Unit {0}) Fault → Type 0
+ImportEnds answers remaining contents now s t reader reader' writer writer' (Ok done) =
+    (text : List ℕ) × TookAll (remaining reader) (remaining reader') text × AllRan answers now s t (contents writer) (contents writer') text
+ImportEnds answers remaining contents now s t reader reader' writer writer' (Err Read) =
+    TookSome (remaining reader) (remaining reader') × (t ≡ s) × (writer' ≡ writer)
+ImportEnds answers remaining contents now s t reader reader' writer writer' (Err Write) =
+    (text : List ℕ) × TookAll (remaining reader) (remaining reader') text × OneCut answers now s t (contents writer) (contents writer') text
+ImportEnds answers remaining contents now s t reader reader' writer writer' (Err Memory) =
+    (TookSome (remaining reader) (remaining reader') × (t ≡ s) × (writer' ≡ writer))
+    ⊎ ((text : List ℕ) × TookAll (remaining reader) (remaining reader') text × FirstRan answers now s t (contents writer) (contents writer') text)
+ImportEnds answers remaining contents now s t reader reader' writer writer' (Err (Refused refusal)) = ⊥
+ImportEnds answers remaining contents now s t reader reader' writer writer' (Err Store) = ⊥
+ImportEnds answers remaining contents now s t reader reader' writer writer' (Err Signer) = ⊥
+
+-- ---- the steps of an import
+
+-- how the reading of the text ends
+abbrev pub TextRead : Option (List ℕ) → Option (List ℕ) → Result (List ℕ) Fault → Type 0
+TextRead input input' (Ok text) = TookAll input input' text
+TextRead input input' (Err Read) = TookSome input input'
+TextRead input input' (Err Memory) = TookSome input input'
+TextRead input input' (Err (Refused refusal)) = ⊥
+TextRead input input' (Err Store) = ⊥
+TextRead input input' (Err Signer) = ⊥
+TextRead input input' (Err Write) = ⊥
+
+-- how the run of its rows ends
+abbrev pub RowsEnd : {S : Type 0} → (S → Meaning → Answer → S → Type 0) → ℕ → S → S → Option (List ℕ) → Option (List ℕ) → List ℕ → Result (Unit {0}) Fault → Type 0
+RowsEnd answers now s t out out' text (Ok done) = AllRan answers now s t out out' text
+RowsEnd answers now s t out out' text (Err Write) = OneCut answers now s t out out' text
+RowsEnd answers now s t out out' text (Err Memory) = FirstRan answers now s t out out' text
+RowsEnd answers now s t out out' text (Err Read) = ⊥
+RowsEnd answers now s t out out' text (Err (Refused refusal)) = ⊥
+RowsEnd answers now s t out out' text (Err Store) = ⊥
+RowsEnd answers now s t out out' text (Err Signer) = ⊥
+
+-- a row ran, and its reply was written, or a front of it
+pub record RanRow {S : Type 0} (answers : S → Meaning → Answer → S → Type 0) (now : ℕ) (s t : S) (row : Row) (out out' : Option (List ℕ)) (result : Result (Unit {0}) WriteFault) : Type 0 where
+  pub reply : List ℕ
+  pub replied : RowReplies answers now s row reply t
+  pub wrote : Wrote out out' reply result
+
+-- a row ran, or was passed over as the header, if it is the first one
+abbrev pub TookRow : {S : Type 0} → (S → Meaning → Answer → S → Type 0) → ℕ → S → S → Bool → Row → Option (List ℕ) → Option (List ℕ) → Result (Unit {0}) WriteFault → Type 0
+TookRow answers now s t first row out out' result =
+    (((first && is_header row) ≡ true) × (t ≡ s) × (result ≡ Ok tt) × Appends out out' [])
+    ⊎ (((first && is_header row) ≡ false) × RanRow answers now s t row out out' result)

@@ -1,0 +1,91 @@
+//! The fields of a line, one after the other.
+
+ghost use Rattle.std.specs.Prelude.{◌≡◌, ◌+◌, ◌<◌, ◌≤◌, [], ◌∷◌, IsTrue, ◌↔◌, MatchOption, option_map, position, ◌==◌};
+ghost use Rattle.reg_lines.specs.Fields.{fields_of};
+ghost use Rattle.reg_lines.specs.Reading.{one, two, four};
+
+use std::marker::Model;
+
+/// The fields of a line that were not yet taken. Contracts see the list of them.
+#[derive(Drop)]
+pub(crate) struct Fields<'a> {
+    /// What is left of the line, where a field is left.
+    rest: Option<&'a [u8]>,
+}
+
+impl<'a> Model for Fields<'a> {
+    ghost use Rattle.std.specs.Prelude.{ℕ, List, option_map};
+    ghost use Rattle.reg_lines.specs.Fields.{fields_left};
+
+    ghost Value = { List (List ℕ) };
+
+    ghost view = { λ fields. fields_left (option_map (λ r. r.now) fields.rest) };
+}
+
+impl<'a> Fields<'a> {
+    /// The fields of a line.
+    pub(crate) fn of(line: &'a [u8]) -> Fields<'a>
+        ensures { result ≡ fields_of line.now }
+    {
+        Fields { rest: Some(line) }
+    }
+
+    /// Whether no field is left.
+    pub(crate) fn is_empty(&self) -> bool
+        ensures { IsTrue result ↔ (self.now ≡ []) }
+    {
+        self.rest.is_none()
+    }
+
+    /// Takes the next field, if there is one.
+    pub(crate) fn next(&mut self) -> Option<&'a [u8]>
+        ensures { MatchOption result ((self.old ≡ []) × (self.new ≡ []))
+            (λ field. self.old ≡ field.now ∷ self.new) }
+    {
+        let text = self.rest?;
+        match first_space(text) {
+            Some(space) => {
+                self.rest = Some(&text[space + 1..]);
+                Some(&text[..space])
+            }
+            None => {
+                self.rest = None;
+                Some(text)
+            }
+        }
+    }
+}
+
+/// Where the first space of a text is.
+fn first_space(text: &[u8]) -> Option<usize>
+    ensures { result ≡ position (λ byte. byte == 32) text.now }
+{
+    text.iter().position(|byte| *byte == b' ')
+}
+
+/// The one field that is left, if exactly one is.
+pub(crate) fn one(mut fields: Fields<'_>) -> Option<&[u8]>
+    ensures { option_map (λ a. a.now) result ≡ one fields.entry }
+{
+    let first = fields.next()?;
+    if fields.is_empty() { Some(first) } else { None }
+}
+
+/// The two fields that are left, if exactly two are.
+pub(crate) fn two(mut fields: Fields<'_>) -> Option<(&[u8], &[u8])>
+    ensures { option_map (λ p. (p.0.now, p.1.now)) result ≡ two fields.entry }
+{
+    let first = fields.next()?;
+    let second = one(fields)?;
+    Some((first, second))
+}
+
+/// The four fields that are left, if exactly four are.
+pub(crate) fn four(mut fields: Fields<'_>) -> Option<(&[u8], &[u8], &[u8], &[u8])>
+    ensures { option_map (λ p. (p.0.now, p.1.now, p.2.now, p.3.now)) result ≡ four fields.entry }
+{
+    let first = fields.next()?;
+    let second = fields.next()?;
+    let (third, fourth) = two(fields)?;
+    Some((first, second, third, fourth))
+}

@@ -1,0 +1,19 @@
+//! Script lines and imported rows, from bytes in to reply lines out, over any reader and writer.
+#![tactic(auto)]
+
+mod fields;
+mod line;
+mod office;
+mod reply;
+mod rows;
+mod run;
+mod script;
+
+pub use line::{Line, read_line};
+pub use office::Answers;
+pub use reply::ReplyText;
+pub use rows::{MOST_BYTES, import};
+pub use script::{LONGEST_LINE, MOST_LINES, run_script};
+
+#[cfg(test)]
+mod tests;

@@ -1,0 +1,245 @@
+//! One line of a script: what it says.
+
+ghost use Rattle.std.specs.Prelude.{◌≡◌, ◌<◌, IfNone, IfSome, IsTrue, ◌↔◌, Some, None, option_map, length, cond};
+ghost use Rattle.std.specs.List.{AllPass};
+ghost use Rattle.hex.specs.Hex.{is_hex_digit};
+ghost use Rattle.reg_lines.specs.Fields.{fields_of};
+ghost use Rattle.reg_lines.specs.Meaning.{Meaning, IsUnreadable, LineMeans, OneMeaning, meaning_of, bytes_of, tells, asks, asks_ocsp};
+ghost use Rattle.reg_lines.specs.Reading.{moment_of, label_of, subscriber_of, order_of, register_by, register_of, request_of, decline_of, revoke_of, status_of, listing_of, hex_of, ocsp_of, alone, said_by, said_of};
+
+use crate::fields::{Fields, four, one, two};
+use reg_core::{Command, Label, Moment, Query, Serial, read_number};
+
+/// What a line says.
+#[derive(Clone, Copy)]
+pub enum Line<'a> {
+    /// A command at its moment.
+    Tell(Moment, Command),
+    /// A query at its moment.
+    Ask(Moment, Query),
+    /// An OCSP request at its moment: its hexadecimal digits, an even number of them, at least two.
+    Ocsp(Moment, &'a [u8]),
+}
+
+/// Reads a line without its end: `None` where it is unreadable. No line has two meanings.
+pub fn read_line(line: &[u8]) -> Option<Line<'_>>
+    ensures found { IfSome result (λ read. LineMeans line.now (meaning_of read)) }
+    ensures only { (meaning : Meaning) → LineMeans line.now meaning
+        → option_map meaning_of result ≡ Some meaning }
+    ensures none { IfNone result (IsUnreadable line.now) }
+    ensures one { OneMeaning }
+{
+    read_fields(Fields::of(line))
+}
+
+/// Reads the fields of a line.
+#[tactic(auto, unfolding(crate::specs::Reading::said_of))]
+fn read_fields(mut fields: Fields<'_>) -> Option<Line<'_>>
+    ensures { option_map meaning_of result ≡ said_of fields.entry }
+{
+    let first = fields.next()?;
+    let word = fields.next()?;
+    let now = read_moment(first)?;
+    read_said(now, word, fields)
+}
+
+/// Reads what is said at a moment, by a word and the fields after it.
+#[tactic(auto, unfolding(crate::specs::Reading::said_by))]
+fn read_said<'a>(now: Moment, word: &[u8], fields: Fields<'a>) -> Option<Line<'a>>
+    ensures { option_map meaning_of result ≡ said_by now word.now fields.entry }
+{
+    if word == b"subscriber".as_slice() {
+        tell(now, read_subscriber(fields))
+    } else if word == b"order".as_slice() {
+        tell(now, read_order(fields))
+    } else if word == b"register".as_slice() {
+        tell(now, read_register(fields))
+    } else if word == b"request".as_slice() {
+        tell(now, read_request(fields))
+    } else if word == b"decline".as_slice() {
+        tell(now, read_decline(fields))
+    } else if word == b"revoke".as_slice() {
+        tell(now, read_revoke(fields))
+    } else if word == b"crl".as_slice() {
+        tell(now, alone(Command::Crl, fields))
+    } else if word == b"status".as_slice() {
+        ask(now, read_status(fields))
+    } else if word == b"counts".as_slice() {
+        ask(now, alone(Query::Counts, fields))
+    } else if word == b"listing".as_slice() {
+        ask(now, read_listing(fields))
+    } else if word == b"overdue".as_slice() {
+        ask(now, alone(Query::Overdue, fields))
+    } else if word == b"next-crl".as_slice() {
+        ask(now, alone(Query::NextCrl, fields))
+    } else if word == b"ocsp".as_slice() {
+        ask_ocsp(now, read_hex(fields))
+    } else {
+        None
+    }
+}
+
+/// A command at its moment.
+fn tell<'a>(now: Moment, command: Option<Command>) -> Option<Line<'a>>
+    ensures { option_map meaning_of result ≡ option_map (tells now) command }
+{
+    Some(Line::Tell(now, command?))
+}
+
+/// A query at its moment.
+fn ask<'a>(now: Moment, query: Option<Query>) -> Option<Line<'a>>
+    ensures { option_map meaning_of result ≡ option_map (asks now) query }
+{
+    Some(Line::Ask(now, query?))
+}
+
+/// An OCSP request at its moment.
+fn ask_ocsp(now: Moment, digits: Option<&[u8]>) -> Option<Line<'_>>
+    ensures { option_map meaning_of result
+        ≡ option_map (λ d. asks_ocsp now (bytes_of d.now)) digits.entry }
+{
+    Some(Line::Ocsp(now, digits?))
+}
+
+/// What is said by a word alone: the value, if no field is left.
+fn alone<T: Copy>(value: T, fields: Fields<'_>) -> Option<T>
+    ensures { result ≡ alone value fields.entry }
+{
+    if fields.is_empty() { Some(value) } else { None }
+}
+
+/// Reads the text of a moment.
+fn read_moment(text: &[u8]) -> Option<Moment>
+    ensures { result ≡ moment_of text.now }
+{
+    Moment::read(text)
+}
+
+/// Reads a label.
+fn read_label(text: &[u8]) -> Option<Label>
+    ensures { result ≡ label_of text.now }
+{
+    Label::of(text)
+}
+
+/// The field of `subscriber`.
+#[tactic(auto, unfolding(crate::specs::Reading::subscriber_of))]
+fn read_subscriber(fields: Fields<'_>) -> Option<Command>
+    ensures { result ≡ subscriber_of fields.entry }
+{
+    let name = read_label(one(fields)?)?;
+    Some(Command::Subscriber { name })
+}
+
+/// The fields of `order`.
+#[tactic(auto, unfolding(crate::specs::Reading::order_of))]
+fn read_order(fields: Fields<'_>) -> Option<Command>
+    ensures { result ≡ order_of fields.entry }
+{
+    let (subscriber, days) = two(fields)?;
+    let subscriber = read_number(subscriber)?;
+    let days = read_number(days)?;
+    Some(Command::Order { subscriber, days })
+}
+
+/// The fields of `register`.
+#[tactic(auto, unfolding(crate::specs::Reading::register_of))]
+fn read_register(fields: Fields<'_>) -> Option<Command>
+    ensures { result ≡ register_of fields.entry }
+{
+    let (order, serial, not_before, not_after) = four(fields)?;
+    read_registration(order, serial, not_before, not_after)
+}
+
+/// A registration by its four fields: those of a line, or of an imported row.
+#[tactic(auto, unfolding(crate::specs::Reading::register_by))]
+pub(crate) fn read_registration(
+    order: &[u8],
+    serial: &[u8],
+    not_before: &[u8],
+    not_after: &[u8],
+) -> Option<Command>
+    ensures { result ≡ register_by (order.now, serial.now, not_before.now, not_after.now) }
+{
+    let order = read_number(order)?;
+    let serial = Serial::read(serial)?;
+    let not_before = read_moment(not_before)?;
+    let not_after = read_moment(not_after)?;
+    Some(Command::Register {
+        order,
+        serial,
+        not_before,
+        not_after,
+    })
+}
+
+/// The fields of `request`.
+#[tactic(auto, unfolding(crate::specs::Reading::request_of))]
+fn read_request(fields: Fields<'_>) -> Option<Command>
+    ensures { result ≡ request_of fields.entry }
+{
+    let (serial, named) = two(fields)?;
+    let serial = Serial::read(serial)?;
+    let ground = read_label(named)?;
+    Some(Command::Request { serial, ground })
+}
+
+/// The field of `decline`.
+#[tactic(auto, unfolding(crate::specs::Reading::decline_of))]
+fn read_decline(fields: Fields<'_>) -> Option<Command>
+    ensures { result ≡ decline_of fields.entry }
+{
+    let request = read_number(one(fields)?)?;
+    Some(Command::Decline { request })
+}
+
+/// The field of `revoke`.
+#[tactic(auto, unfolding(crate::specs::Reading::revoke_of))]
+fn read_revoke(fields: Fields<'_>) -> Option<Command>
+    ensures { result ≡ revoke_of fields.entry }
+{
+    let request = read_number(one(fields)?)?;
+    Some(Command::Revoke { request })
+}
+
+/// The field of `status`.
+#[tactic(auto, unfolding(crate::specs::Reading::status_of))]
+fn read_status(fields: Fields<'_>) -> Option<Query>
+    ensures { result ≡ status_of fields.entry }
+{
+    Some(Query::Status(Serial::read(one(fields)?)?))
+}
+
+/// The field of `listing`.
+#[tactic(auto, unfolding(crate::specs::Reading::listing_of))]
+fn read_listing(fields: Fields<'_>) -> Option<Query>
+    ensures { result ≡ listing_of fields.entry }
+{
+    Some(Query::Listing(Serial::read(one(fields)?)?))
+}
+
+/// The field of `ocsp`.
+#[tactic(auto, unfolding(crate::specs::Reading::ocsp_of))]
+fn read_hex(fields: Fields<'_>) -> Option<&[u8]>
+    ensures { option_map (λ d. bytes_of d.now) result ≡ ocsp_of fields.entry }
+{
+    let digits = one(fields)?;
+    if is_hex(digits) { Some(digits) } else { None }
+}
+
+/// Whether a text is of hexadecimal digits, an even number of them and at least two.
+fn is_hex(digits: &[u8]) -> bool
+    ensures { hex_of digits.now ≡ cond result (Some (bytes_of digits.now)) None }
+{
+    if digits.is_empty() || digits.len() % 2 == 1 {
+        return false;
+    }
+    all_hex(digits)
+}
+
+/// Whether each byte is a hexadecimal digit, in either case.
+fn all_hex(digits: &[u8]) -> bool
+    ensures { IsTrue result ↔ AllPass is_hex_digit digits.now }
+{
+    digits.iter().all(|digit| digit.is_ascii_hexdigit())
+}

@@ -1,0 +1,181 @@
+//! An import: rows in, reply lines out.
+
+ghost use Rattle.std.specs.Prelude.{◌≡◌, ◌==◌, ◌&&◌, ℕ, option_map, is_some};
+ghost use Rattle.std.specs.Result.{result_map_both};
+ghost use Rattle.csv.specs.Records.{fields_of};
+ghost use Rattle.reg_lines.specs.Import.{ImportEnds, RanRow, RowsEnd, TextRead, TookRow, is_header};
+ghost use Rattle.reg_lines.specs.Reading.{four, four_at, register_of};
+
+use crate::line::read_registration;
+use crate::office::Answers;
+use crate::run::write_outcome;
+use csv::{ByteRecord, ReaderBuilder};
+use reg_core::{Command, Fault, Moment, Refusal};
+use reg_wire::WriteFault;
+use std::alloc::Global;
+use std::io::{Read, Write};
+
+/// The most bytes of an import.
+pub const MOST_BYTES: usize = 16_777_216;
+
+/// The bytes that one read asks for.
+const PIECE: usize = 4096;
+
+/// Registers each row of a text of comma-separated fields (RFC 4180) at one moment, in turn, and writes each reply before
+/// it runs the next row. The text is read whole first. A first row `order,serial,notBefore,notAfter` is passed over.
+///
+/// # Errors
+///
+/// [`Fault::Read`] at a read that fails and at more than 16,777,216 bytes: nothing ran. [`Fault::Write`] where the output
+/// fails in a reply, whose row ran. [`Fault::Memory`] where memory was refused for the text or for a row: the rows before
+/// it ran, and their replies were written.
+pub fn import<R: Read, W: Write, O: Answers>(
+    alloc: Global,
+    reader: &mut R,
+    writer: &mut W,
+    now: Moment,
+    office: &mut O,
+) -> Result<(), Fault>
+    ensures { ImportEnds O.answers R.remaining W.contents now
+        office.old office.new reader.old reader.new writer.old writer.new result }
+{
+    match read_text(alloc, reader) {
+        Ok(text) => run_rows(alloc, writer, now, office, &text),
+        Err(fault) => Err(fault),
+    }
+}
+
+/// Reads a text to its end.
+fn read_text<R: Read>(alloc: Global, reader: &mut R) -> Result<Vec<u8>, Fault>
+    ensures { TextRead (R.remaining reader.old) (R.remaining reader.new) (result_map_both (λ text. text.items) (λ fault. fault) result) }
+{
+    let mut text = Vec::new(alloc);
+    let mut piece = [0; PIECE];
+    while text.len() <= MOST_BYTES {
+        let room = (MOST_BYTES + 1 - text.len()).min(PIECE);
+        match reader.read(&mut piece[..room]) {
+            Ok(0) => return Ok(text),
+            Ok(count) => match text.extend_from_slice(&piece[..count]) {
+                Ok(()) => {}
+                Err(_) => return Err(Fault::Memory),
+            },
+            Err(_) => return Err(Fault::Read),
+        }
+    }
+    Err(Fault::Read)
+}
+
+/// Runs each row of a text.
+fn run_rows<W: Write, O: Answers>(
+    alloc: Global,
+    writer: &mut W,
+    now: Moment,
+    office: &mut O,
+    text: &[u8],
+) -> Result<(), Fault>
+    ensures { RowsEnd O.answers now office.old office.new (W.contents writer.old) (W.contents writer.new) text.now result }
+{
+    let mut rows = ReaderBuilder::new()
+        .has_headers(false)
+        .flexible(true)
+        .from_reader(alloc, text);
+    let mut row = ByteRecord::new(alloc);
+    for index in 0..u64::MAX {
+        match rows.read_byte_record(&mut row) {
+            Ok(true) => match take_row(writer, now, office, &row, index == 0) {
+                Ok(()) => {}
+                Err(_) => return Err(Fault::Write),
+            },
+            Ok(false) => return Ok(()),
+            // Over bytes in memory, with rows of any length, a read can want nothing but memory.
+            Err(_) => return Err(Fault::Memory),
+        }
+    }
+    // No text has so many rows.
+    Err(Fault::Memory)
+}
+
+/// Runs a row, if it is not the header, which only the first row can be.
+fn take_row<W: Write, O: Answers>(
+    writer: &mut W,
+    now: Moment,
+    office: &mut O,
+    row: &ByteRecord,
+    first: bool,
+) -> Result<(), WriteFault>
+    ensures { TookRow O.answers now office.old office.new first (fields_of row.now)
+        (W.contents writer.old) (W.contents writer.new) result }
+{
+    if first && is_header(row) {
+        return Ok(());
+    }
+    run_row(writer, now, office, row)
+}
+
+/// Runs a row and writes its reply.
+fn run_row<W: Write, O: Answers>(
+    writer: &mut W,
+    now: Moment,
+    office: &mut O,
+    row: &ByteRecord,
+) -> Result<(), WriteFault>
+    ensures { RanRow O.answers now office.old office.new (fields_of row.now)
+        (W.contents writer.old) (W.contents writer.new) result }
+{
+    match read_row(row) {
+        Some(command) => {
+            let outcome = office.run_one(now, &command);
+            write_outcome(writer, &outcome)
+        }
+        None => write_outcome(writer, &Err(Fault::Refused(Refusal::Syntax))),
+    }
+}
+
+/// Whether a row is the header.
+fn is_header(row: &ByteRecord) -> bool
+    ensures { result ≡ is_header (fields_of row.now) }
+{
+    match four_fields(row) {
+        Some((order, serial, not_before, not_after)) => {
+            order == b"order".as_slice()
+                && serial == b"serial".as_slice()
+                && not_before == b"notBefore".as_slice()
+                && not_after == b"notAfter".as_slice()
+        }
+        None => false,
+    }
+}
+
+/// The registration that a row spells.
+#[tactic(auto, unfolding(crate::specs::Reading::register_of))]
+fn read_row(row: &ByteRecord) -> Option<Command>
+    ensures { result ≡ register_of (fields_of row.now) }
+{
+    let (order, serial, not_before, not_after) = four_fields(row)?;
+    read_registration(order, serial, not_before, not_after)
+}
+
+/// The four fields of a row that has exactly four.
+fn four_fields(row: &ByteRecord) -> Option<(&[u8], &[u8], &[u8], &[u8])>
+    ensures { option_map (λ p. (p.0.now, p.1.now, p.2.now, p.3.now)) result ≡ four (fields_of row.now) }
+{
+    four_of(row.get(0), row.get(1), row.get(2), row.get(3), row.get(4))
+}
+
+/// The first four fields, where they are there and a fifth is not.
+fn four_of<'a>(
+    first: Option<&'a [u8]>,
+    second: Option<&'a [u8]>,
+    third: Option<&'a [u8]>,
+    fourth: Option<&'a [u8]>,
+    fifth: Option<&'a [u8]>,
+) -> Option<(&'a [u8], &'a [u8], &'a [u8], &'a [u8])>
+    ensures { option_map (λ p. (p.0.now, p.1.now, p.2.now, p.3.now)) result
+        ≡ four_at (option_map (λ a. a.now) first.entry) (option_map (λ a. a.now) second.entry)
+        (option_map (λ a. a.now) third.entry) (option_map (λ a. a.now) fourth.entry) (is_some fifth.entry) }
+{
+    if fifth.is_some() {
+        return None;
+    }
+    Some((first?, second?, third?, fourth?))
+}

@@ -1,0 +1,108 @@
+//! One line, run by an office, with its reply written.
+
+ghost use Rattle.std.specs.Prelude.{◌≡◌, ℕ, List, ◌++◌, codes, IfOk};
+ghost use Rattle.hex.specs.Hex.{encode_lower};
+ghost use Rattle.reg_lines.specs.Answer.{Tells, responded};
+ghost use Rattle.reg_lines.specs.Replies.{with_lf, outcome_line};
+ghost use Rattle.reg_lines.specs.Steps.{RanLine, RanOcsp, RanSaid, Wrote};
+
+use crate::line::{Line, read_line};
+use crate::office::Answers;
+use crate::reply::ReplyText;
+use reg_core::{Fault, Moment, Outcome, Refusal};
+use reg_wire::{WriteFault, write_whole};
+use std::alloc::{AllocError, Global};
+use std::io::Write;
+
+/// Runs one line and writes its reply.
+///
+/// # Errors
+///
+/// [`WriteFault`] where the output failed: a front of the reply went out.
+pub(crate) fn run_line<W: Write, O: Answers>(
+    alloc: Global,
+    writer: &mut W,
+    office: &mut O,
+    line: &[u8],
+) -> Result<(), WriteFault>
+    ensures { RanLine O.answers office.old office.new line.now (W.contents writer.old) (W.contents writer.new) result }
+{
+    match read_line(line) {
+        Some(said) => run_said(alloc, writer, office, &said),
+        None => write_outcome(writer, &Err(Fault::Refused(Refusal::Syntax))),
+    }
+}
+
+/// Runs what a line says and writes the reply.
+fn run_said<W: Write, O: Answers>(
+    alloc: Global,
+    writer: &mut W,
+    office: &mut O,
+    said: &Line<'_>,
+) -> Result<(), WriteFault>
+    ensures { RanSaid O.answers office.old office.new said.now (W.contents writer.old) (W.contents writer.new) result }
+{
+    match *said {
+        Line::Tell(now, command) => {
+            let outcome = office.run_one(now, &command);
+            write_outcome(writer, &outcome)
+        }
+        Line::Ask(now, query) => {
+            let outcome = office.ask(now, &query);
+            write_outcome(writer, &outcome)
+        }
+        Line::Ocsp(now, digits) => run_ocsp(alloc, writer, office, now, digits),
+    }
+}
+
+/// Writes the line of what a command or query came to.
+pub(crate) fn write_outcome<W: Write>(writer: &mut W, outcome: &Outcome) -> Result<(), WriteFault>
+    ensures { Wrote (W.contents writer.old) (W.contents writer.new) (with_lf (outcome_line outcome.now)) result }
+{
+    let text = ReplyText::of(outcome);
+    write_whole(writer, text.as_bytes())
+}
+
+/// Answers an OCSP request, by its digits, and writes the reply.
+fn run_ocsp<W: Write, O: Answers>(
+    alloc: Global,
+    writer: &mut W,
+    office: &mut O,
+    now: Moment,
+    digits: &[u8],
+) -> Result<(), WriteFault>
+    ensures { RanOcsp O.answers office.old office.new now digits.now (W.contents writer.old) (W.contents writer.new) result }
+{
+    let Ok(request) = hex::decode(alloc, digits) else {
+        return write_outcome(writer, &Err(Fault::Memory));
+    };
+    match office.ocsp(alloc, now, &request) {
+        Ok(response) => write_response(alloc, writer, &response),
+        Err(_) => write_outcome(writer, &Err(Fault::Memory)),
+    }
+}
+
+/// Writes the line of an OCSP response, or of want of memory for it.
+fn write_response<W: Write>(
+    alloc: Global,
+    writer: &mut W,
+    response: &[u8],
+) -> Result<(), WriteFault>
+    ensures { (reply : List ℕ) × Wrote (W.contents writer.old) (W.contents writer.new) reply result × Tells (responded response.now) reply }
+{
+    match response_text(alloc, response) {
+        Ok(text) => write_whole(writer, &text),
+        Err(_) => write_outcome(writer, &Err(Fault::Memory)),
+    }
+}
+
+/// The line of an OCSP response, with LF.
+fn response_text(alloc: Global, response: &[u8]) -> Result<Vec<u8>, AllocError>
+    ensures { IfOk result (λ text. text.items ≡ with_lf (codes "ocsp " ++ encode_lower response.now)) }
+{
+    let digits = hex::encode(alloc, response)?;
+    let mut text = Vec::from_slice(alloc, b"ocsp ")?;
+    text.extend_from_slice(digits.as_bytes())?;
+    text.push(b'\n')?;
+    Ok(text)
+}
