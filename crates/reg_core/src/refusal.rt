@@ -4,6 +4,7 @@ ghost use Rattle.std.specs.Prelude.{◌≡◌, ℕ, ◌+◌, ◌≤◌, ◌++◌
 ghost use Rattle.reg_core.specs.Lines.{fault_line, refusal_line};
 
 use crate::label::Label;
+use crate::memory::Memory;
 use crate::moment::Moment;
 use crate::number::Decimal;
 
@@ -71,6 +72,28 @@ pub enum Fault {
     Read,
     /// F5: the output failed.
     Write,
+}
+
+impl From<Refusal> for Fault {
+    ghost use Rattle.std.specs.Prelude.{◌≡◌};
+    ghost use Rattle.reg_core.specs.declared.refusal.Fault.TheVariants.{Refused};
+
+    ghost from_gives = { λ refusal fault. fault ≡ Refused refusal };
+
+    fn from(refusal: Refusal) -> Fault {
+        Fault::Refused(refusal)
+    }
+}
+
+impl From<Memory> for Fault {
+    ghost use Rattle.std.specs.Prelude.{◌≡◌};
+    ghost use Rattle.reg_core.specs.declared.refusal.Fault.TheVariants.{Memory as LackedMemory};
+
+    ghost from_gives = { λ _ fault. fault ≡ LackedMemory };
+
+    fn from(_memory: Memory) -> Fault {
+        Fault::Memory
+    }
 }
 
 /// A line of words alone.

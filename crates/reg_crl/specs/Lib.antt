@@ -1,2 +1,3 @@
 pub mod Crl
+pub mod Faults
 pub mod Signing

@@ -3,7 +3,7 @@
 ghost use Rattle.std.specs.Prelude.{◌≡◌, ◌<◌, ◌≤◌, length, IfOk, IsErrOf, OnOk};
 ghost use Rattle.reg_crl.specs.declared.signer.SignFault.TheVariants.{Memory};
 
-use reg_core::SignsCrls;
+use reg_core::{Fault, SignsCrls};
 use std::alloc::{AllocError, Global};
 
 /// Why nothing was signed.
@@ -20,6 +20,20 @@ impl From<AllocError> for SignFault {
 
     fn from(_error: AllocError) -> SignFault {
         SignFault::Memory
+    }
+}
+
+impl From<SignFault> for Fault {
+    ghost use Rattle.std.specs.Prelude.{◌≡◌};
+    ghost use Rattle.reg_crl.specs.Faults.{fault_of};
+
+    ghost from_gives = { λ signing fault. fault ≡ fault_of signing };
+
+    fn from(signing: SignFault) -> Fault {
+        match signing {
+            SignFault::Device => Fault::Signer,
+            SignFault::Memory => Fault::Memory,
+        }
     }
 }
 

@@ -1,0 +1,13 @@
+pub mod Edits
+pub mod Law
+pub mod Letters
+pub mod Meaning
+pub mod Moving
+pub mod Params
+pub mod Placing
+pub mod Putting
+pub mod Registers
+pub mod Spared
+pub mod Stages
+pub mod Sweeping
+pub mod Turning

@@ -1,0 +1,45 @@
+use Rattle.std.proofs.Common.{◌≡◌, rules, subst}
+use Rattle.sqlite.specs.Effect.{Database}
+use Rattle.sqlite.specs.Held.{state}
+use Rattle.reg_core.specs.Changes.{with_schedule}
+use Rattle.reg_tables.specs.Shows.{Shows, ShowsBoth, IsShownBy, AreBoth}
+use Rattle.reg_changes.proofs.Moving.{commits_by}
+use Rattle.reg_changes.proofs.Stages.{staged_first, staged_shows, staged_both, kept_schedule}
+use Rattle.reg_changes.proofs.scheduling.set_schedule.Goals as goal
+
+pub returns-clause-shown : goal.returns-clause-shown
+returns-clause-shown g c records shows =
+    let s = g.S.Store in
+    let begun = c.transaction-tx.result.conn.now in
+    let entered = c.write_schedule.new.tx.conn.now in
+    let ended = c.commit.new.self.0 in
+    let steps = c.args.schedule.now in
+    let done : Shows s ended (with_schedule records steps) =
+    commits_by s c.args.conn.now begun entered ended c.transaction-tx.ensures.begun c.write_schedule.ensures.clean c.commit.ensures.survives.clean
+    (λ (db : Database). IsShownBy db records) (λ (db : Database). IsShownBy db (with_schedule records steps)) shows
+    (λ clean before up.
+    let first = before ((c.write_schedule.ensures.kept clean).was_open up) in
+    staged_shows (state s begun).now (state s entered).now records steps c.in_ok-write_schedule.ensures.sound first
+    (c.in_ok-write_schedule.ensures.ok clean (state s begun).now.trees records.policy.schedule (λ open_begun. staged_first (state s begun).now records (before open_begun)) up))
+    (λ clean. (c.in_ok-commit.ensures.ok clean).1) in
+    let same : ended ≡ c.conn-2-1.given.0 = search rules in
+    subst (λ h. Shows s h (with_schedule records steps)) same done
+
+pub returns-clause-ok : goal.returns-clause-ok
+returns-clause-ok g c records kept =
+    let s = g.S.Store in
+    let begun = c.transaction-tx.result.conn.now in
+    let entered = c.write_schedule.new.tx.conn.now in
+    let ended = c.commit.new.self.0 in
+    let steps = c.args.schedule.now in
+    let columns = kept.0 in
+    let done : ShowsBoth s ended (with_schedule records steps) columns =
+    commits_by s c.args.conn.now begun entered ended c.transaction-tx.ensures.begun c.write_schedule.ensures.clean c.commit.ensures.survives.clean
+    (λ (db : Database). AreBoth db records columns) (λ (db : Database). AreBoth db (with_schedule records steps) columns) kept.1
+    (λ clean before up.
+    let first = before ((c.write_schedule.ensures.kept clean).was_open up) in
+    staged_both (state s begun).now (state s entered).now records columns steps c.in_ok-write_schedule.ensures.sound first
+    (c.in_ok-write_schedule.ensures.ok clean (state s begun).now.trees records.policy.schedule (λ open_begun. staged_first (state s begun).now records (before open_begun).shown) up))
+    (λ clean. (c.in_ok-commit.ensures.ok clean).1) in
+    let same : ended ≡ c.conn-2-1.given.0 = search rules in
+    (columns, subst (λ h. ShowsBoth s h (with_schedule records steps) columns) same done, kept_schedule columns records steps kept.2)

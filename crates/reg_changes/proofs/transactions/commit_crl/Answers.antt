@@ -1,0 +1,29 @@
+use Rattle.std.proofs.Common.{◌≡◌, rules, subst}
+use Rattle.sqlite.specs.Held.{state}
+use Rattle.sqlite.specs.State.{HasCleanDisk}
+use Rattle.reg_core.specs.Changes.{with_crl}
+use Rattle.reg_tables.specs.Shows.{ShowsBoth}
+use Rattle.reg_tables.proofs.Staying.{stays_both, shows_register, both_shows}
+use Rattle.reg_changes.specs.Steps.{after_crl}
+use Rattle.reg_changes.proofs.Moving.{commits, was_clean}
+use Rattle.reg_changes.proofs.transactions.commit_crl.Goals as goal
+
+pub returns-clause-ok : goal.returns-clause-ok
+returns-clause-ok g c records columns both next =
+    let s = g.S.Store in
+    let was = c.kept_counts.new.conn in
+    let begun = c.transaction-tx.result.conn.now in
+    let entered = c.enter_crl.new.tx.conn.now in
+    let ended = c.commit.new.self.0 in
+    let later = with_crl records c.args.now (record { number = c.args.row.number; this_update = c.args.row.this_update; bytes = c.args.der.now }) in
+    let beside = after_crl c.args.now c.args.row columns in
+    let register = shows_register s c.args.conn.now records (both_shows s c.args.conn.now records columns both) in
+    let still = stays_both s c.args.conn.now was records columns c.kept_counts.ensures.clean (c.kept_counts.ensures.same register) both in
+    let done : ShowsBoth s ended later beside =
+    commits s was begun entered ended c.transaction-tx.ensures.begun c.enter_crl.ensures.clean c.commit.ensures.survives.clean records columns later beside still
+    (λ clean before. c.in_ok-enter_crl.ensures.ok clean records columns
+    (c.in_ok-counts.ensures.found records columns both (subst (λ h. HasCleanDisk (state s h)) c.transaction-tx.ensures.begun (was_clean (state s begun) (state s entered) c.enter_crl.ensures.clean clean)))
+    next before)
+    (λ clean. (c.in_ok-commit.ensures.ok clean).1) in
+    let same : ended ≡ c.conn-2-1.given.0 = search rules in
+    subst (λ h. ShowsBoth s h later beside) same done

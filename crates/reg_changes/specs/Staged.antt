@@ -1,0 +1,21 @@
+-- Tables in which the schedule is being written anew.
+use Rattle.std.specs.Prelude.{◌≡◌, ◌<◌, ◌==◌, ℕ, true, false, List, [], ◌∷◌, map}
+use Rattle.std.specs.List.{AllByRecursion, list_any}
+use Rattle.sqlite_trees.specs.Tree.{Trees}
+use Rattle.sqlite.specs.Effect.{Database}
+use Rattle.reg_tables.specs.Schema.{register_schema}
+use Rattle.reg_tables.specs.Rows.{stored_step}
+
+-- the trees of the tables
+abbrev pub table_trees : List ℕ
+table_trees = 0 ∷ 1 ∷ 3 ∷ 4 ∷ 7 ∷ 8 ∷ 11 ∷ 12 ∷ 14 ∷ 15 ∷ 17 ∷ []
+
+-- the table of the schedule has these steps, and each other table has the rows that it had
+pub record IsStaged (base : Trees) (steps : List (ℕ × ℕ)) (db : Database) : Type 0 where
+  pub schema : db.schema ≡ register_schema
+  pub others : (n : ℕ) → list_any (λ t. t == n) table_trees ≡ true → (n == 17) ≡ false → db.trees n ≡ base n
+  pub rows : db.trees 17 ≡ map stored_step steps
+
+-- the steps are before a moment
+abbrev pub AreBefore : ℕ → List (ℕ × ℕ) → Type 0
+AreBefore moment steps = AllByRecursion (λ step. step.0 < moment) steps

@@ -1,0 +1,90 @@
+-- What the steps of a change make of what is kept beside the records.
+use Rattle.std.specs.Prelude.{ℕ, ◌+◌, ◌-◌, Bool, cond, ◌&&◌, ◌==◌, nat_lt, [], ◌∷◌, ◌++◌, map, filter, length, is_none, Some, None}
+use Rattle.reg_core.specs.declared.command.Counts.{Counts}
+use Rattle.reg_core.specs.declared.rows.CertRow.{CertRow}
+use Rattle.reg_core.specs.declared.rows.CrlRow.{CrlRow}
+use Rattle.reg_core.specs.declared.rows.RevocationRow.{RevocationRow}
+use Rattle.reg_tables.specs.Columns.{Letter, good, revoked, expired, is_good_letter, ends_before, Standing, Listed, Columns}
+
+-- what passes the test is turned, and all else stays
+abbrev pub turned : {A : Type 0} → (A → Bool) → (A → A) → A → A
+turned test turn x = cond (test x) (turn x) x
+
+-- the row with another letter
+abbrev pub lettered : Letter → Standing → Standing
+lettered letter row = record row { letter = letter }
+
+-- the good certificates that ended before a moment have ended
+abbrev pub swept : ℕ → Columns → Columns
+swept now columns = record columns { letters = map (turned (ends_before now) (lettered expired)) columns.letters }
+
+-- how many they are
+abbrev pub ended_by : ℕ → Columns → ℕ
+ended_by now columns = length (filter (ends_before now) columns.letters)
+
+-- the good certificate with a serial number
+abbrev pub is_good_at : ℕ → Standing → Bool
+is_good_at serial row = (row.serial == serial) && is_good_letter row.letter
+
+-- the good certificate with a serial number is revoked
+abbrev pub revoked_at : ℕ → Columns → Columns
+revoked_at serial columns = record columns { letters = map (turned (is_good_at serial) (lettered revoked)) columns.letters }
+
+-- how many they are
+abbrev pub good_at : ℕ → Columns → ℕ
+good_at serial columns = length (filter (is_good_at serial) columns.letters)
+
+-- the letter of one certificate more, which is good
+abbrev pub with_good : ℕ → ℕ → Columns → Columns
+with_good serial not_after columns =
+    record columns { letters = columns.letters ++ (record { serial = serial; not_after = not_after; letter = good }) ∷ [] }
+
+-- what CRLs list of one revocation more: none has been the last
+abbrev pub with_unlisted : RevocationRow → ℕ → Columns → Columns
+with_unlisted row not_after columns =
+    record columns {
+      listed = columns.listed ++ (record { serial = row.serial; at = row.at; reason = row.reason; first = row.first; not_after = not_after; last = None }) ∷ [];
+    }
+
+-- no CRL has been the last that lists it, and its certificate ended before a moment
+abbrev pub has_passed : ℕ → Listed → Bool
+has_passed now row = is_none row.last && nat_lt row.not_after now
+
+-- the last CRL that lists it is this one
+abbrev pub last_at : ℕ → Listed → Listed
+last_at number row = record row { last = Some number }
+
+-- a CRL is the last that lists what ended before it
+abbrev pub marked : ℕ → ℕ → Columns → Columns
+marked number now columns = record columns { listed = map (turned (has_passed now) (last_at number)) columns.listed }
+
+-- other counts
+abbrev pub with_counts : Counts → Columns → Columns
+with_counts counts columns = record columns { counts = counts }
+
+-- the counts once some good ones have ended, some are revoked, and some are new
+abbrev pub shifted : Counts → ℕ → ℕ → ℕ → Counts
+shifted counts ended lost added = record {
+  good = counts.good + added - (ended + lost);
+  revoked = counts.revoked + lost;
+  expired = counts.expired + ended;
+}
+
+-- what is kept once time has passed
+abbrev pub after_time : ℕ → Columns → Columns
+after_time now columns = with_counts (shifted columns.counts (ended_by now columns) 0 0) (swept now columns)
+
+-- and one certificate is new
+abbrev pub after_certificate : ℕ → CertRow → Columns → Columns
+after_certificate now row columns =
+    with_counts (shifted columns.counts (ended_by now columns) 0 1) (with_good row.serial row.not_after (swept now columns))
+
+-- and one is revoked
+abbrev pub after_revocation : ℕ → RevocationRow → ℕ → Columns → Columns
+after_revocation now row not_after columns =
+    with_counts (shifted columns.counts (ended_by now columns) 1 0) (with_unlisted row not_after (revoked_at row.serial (swept now columns)))
+
+-- and one CRL is issued
+abbrev pub after_crl : ℕ → CrlRow → Columns → Columns
+after_crl now row columns =
+    with_counts (shifted columns.counts (ended_by now columns) 0 0) (swept now (marked row.number row.this_update columns))

@@ -1,0 +1,121 @@
+//! The schedule of longest validities, written anew.
+
+ghost use Rattle.std.specs.Prelude.{◌≡◌, ◌≤◌, ◌++◌, ◌∷◌, ℕ, List, [], true, false, IsTrue, OnOk, OnErr, IfErr};
+ghost use Rattle.sqlite.specs.Held.{state};
+ghost use Rattle.sqlite.specs.State.{HasCleanDisk, KeepsCommit};
+ghost use Rattle.sqlite_trees.specs.Tree.{Trees};
+ghost use Rattle.sqlite_trees.specs.View.{doubt};
+ghost use Rattle.reg_core.specs.Records.{Records};
+ghost use Rattle.reg_core.specs.Changes.{with_schedule};
+ghost use Rattle.reg_core.specs.Schedule.{Ascends, IsSchedule};
+ghost use Rattle.reg_tables.specs.Kept.{ShowsKept};
+ghost use Rattle.reg_tables.specs.Shows.{Shows};
+ghost use Rattle.reg_tables.specs.Stays.{IsCallFault, Stays};
+ghost use Rattle.reg_changes.specs.Staged.{IsStaged, AreBefore};
+
+use crate::texts;
+use crate::writing::{sql_moment, sql_number, write};
+use reg_core::{Moment, Schedule};
+use reg_tables::StoreFault;
+use sqlite::{Alter, Connection, Transaction};
+
+/// Takes all steps of the schedule out.
+fn clear_steps<S: Alter>(tx: &mut Transaction<'_, S>) -> Result<(), StoreFault>
+    ensures same_reference { tx.new.conn.ghost_name ≡ tx.old.conn.ghost_name }
+    ensures ok { HasCleanDisk (state S.Store tx.new.conn.now) → (base : Trees) → (steps : List (ℕ × ℕ))
+        → (IsTrue (state S.Store tx.old.conn.now).is_open → IsStaged base steps (state S.Store tx.old.conn.now).now)
+        → OnOk result (IsStaged base [] (state S.Store tx.new.conn.now).now) }
+    ensures kept { HasCleanDisk (state S.Store tx.new.conn.now) → KeepsCommit (state S.Store tx.old.conn.now) (state S.Store tx.new.conn.now) }
+    ensures inside { HasCleanDisk (state S.Store tx.new.conn.now) → OnOk result (tx.new.conn.now.in_transaction ≡ true) }
+    ensures clean { doubt (state S.Store tx.old.conn.now).is_clean ≤ doubt (state S.Store tx.new.conn.now).is_clean }
+    ensures faults { IfErr result IsCallFault }
+{
+    write(tx, texts::CLEAR_STEPS, &[])?;
+    Ok(())
+}
+
+/// Puts a step in, behind those that are before it.
+fn put_step<S: Alter>(
+    tx: &mut Transaction<'_, S>,
+    from: Moment,
+    days: u64,
+) -> Result<(), StoreFault>
+    ensures same_reference { tx.new.conn.ghost_name ≡ tx.old.conn.ghost_name }
+    ensures ok { HasCleanDisk (state S.Store tx.new.conn.now) → (base : Trees) → (steps : List (ℕ × ℕ)) → AreBefore from steps
+        → (IsTrue (state S.Store tx.old.conn.now).is_open → IsStaged base steps (state S.Store tx.old.conn.now).now)
+        → OnOk result (IsStaged base (steps ++ (from, days) ∷ []) (state S.Store tx.new.conn.now).now) }
+    ensures kept { HasCleanDisk (state S.Store tx.new.conn.now) → KeepsCommit (state S.Store tx.old.conn.now) (state S.Store tx.new.conn.now) }
+    ensures inside { HasCleanDisk (state S.Store tx.new.conn.now) → OnOk result (tx.new.conn.now.in_transaction ≡ true) }
+    ensures clean { doubt (state S.Store tx.old.conn.now).is_clean ≤ doubt (state S.Store tx.new.conn.now).is_clean }
+    ensures faults { IfErr result IsCallFault }
+{
+    let from = sql_moment(from);
+    let days = sql_number(days)?;
+    write(tx, texts::PUT_STEP, &[from, days])?;
+    Ok(())
+}
+
+/// Puts the steps in, into a table that has none.
+///
+/// # Errors
+/// `Memory`; `Store` where the database fails.
+pub fn put_steps<S: Alter>(
+    tx: &mut Transaction<'_, S>,
+    steps: &[(Moment, u64)],
+) -> Result<(), StoreFault>
+    ensures same_reference { tx.new.conn.ghost_name ≡ tx.old.conn.ghost_name }
+    ensures ok { HasCleanDisk (state S.Store tx.new.conn.now) → (base : Trees) → Ascends steps.now
+        → (IsTrue (state S.Store tx.old.conn.now).is_open → IsStaged base [] (state S.Store tx.old.conn.now).now)
+        → OnOk result (IsTrue (state S.Store tx.new.conn.now).is_open → IsStaged base steps.now (state S.Store tx.new.conn.now).now) }
+    ensures kept { HasCleanDisk (state S.Store tx.new.conn.now) → KeepsCommit (state S.Store tx.old.conn.now) (state S.Store tx.new.conn.now) }
+    ensures inside { HasCleanDisk (state S.Store tx.new.conn.now) → tx.old.conn.now.in_transaction ≡ true → OnOk result (tx.new.conn.now.in_transaction ≡ true) }
+    ensures clean { doubt (state S.Store tx.old.conn.now).is_clean ≤ doubt (state S.Store tx.new.conn.now).is_clean }
+    ensures faults { IfErr result IsCallFault }
+{
+    for step in steps {
+        put_step(tx, step.0, step.1)?;
+    }
+    Ok(())
+}
+
+/// Writes the schedule anew.
+fn write_schedule<S: Alter>(
+    tx: &mut Transaction<'_, S>,
+    schedule: &Schedule,
+) -> Result<(), StoreFault>
+    ensures same_reference { tx.new.conn.ghost_name ≡ tx.old.conn.ghost_name }
+    ensures ok { HasCleanDisk (state S.Store tx.new.conn.now) → (base : Trees) → (steps : List (ℕ × ℕ))
+        → (IsTrue (state S.Store tx.old.conn.now).is_open → IsStaged base steps (state S.Store tx.old.conn.now).now)
+        → OnOk result (IsTrue (state S.Store tx.new.conn.now).is_open → IsStaged base schedule.now (state S.Store tx.new.conn.now).now) }
+    ensures sound { OnOk result (IsSchedule schedule.now) }
+    ensures kept { HasCleanDisk (state S.Store tx.new.conn.now) → KeepsCommit (state S.Store tx.old.conn.now) (state S.Store tx.new.conn.now) }
+    ensures inside { HasCleanDisk (state S.Store tx.new.conn.now) → OnOk result (tx.new.conn.now.in_transaction ≡ true) }
+    ensures clean { doubt (state S.Store tx.old.conn.now).is_clean ≤ doubt (state S.Store tx.new.conn.now).is_clean }
+    ensures faults { IfErr result IsCallFault }
+{
+    clear_steps(tx)?;
+    put_steps(tx, schedule.steps())
+}
+
+/// Sets the schedule of longest validities. It is no command: no record, nothing that is kept beside them and not the
+/// last accepted moment changes.
+///
+/// # Errors
+/// `Memory`; `Store` where the database fails. Nothing has changed then.
+pub fn set_schedule<S: Alter>(
+    conn: &mut Connection<S>,
+    schedule: &Schedule,
+) -> Result<(), StoreFault>
+    requires { conn.old.in_transaction ≡ false }
+    ensures ok { (records : Records) → ShowsKept S.Store conn.old records → OnOk result (ShowsKept S.Store conn.new (with_schedule records schedule.now)) }
+    ensures shown { (records : Records) → Shows S.Store conn.old records → OnOk result (Shows S.Store conn.new (with_schedule records schedule.now)) }
+    ensures err { OnErr result (Stays (state S.Store conn.old) (state S.Store conn.new)) }
+    ensures clean { doubt (state S.Store conn.old).is_clean ≤ doubt (state S.Store conn.new).is_clean }
+    ensures idle { conn.new.in_transaction ≡ false }
+    ensures faults { IfErr result IsCallFault }
+{
+    let mut tx = conn.transaction();
+    write_schedule(&mut tx, schedule)?;
+    tx.commit()?;
+    Ok(())
+}

@@ -1,0 +1,10 @@
+-- What a fault of the signer is to a command.
+use Rattle.reg_core.specs.declared.refusal.Fault.{Fault}
+use Rattle.reg_core.specs.declared.refusal.Fault.TheVariants.{Memory as LackedMemory, Signer as SignerFailed}
+use Rattle.reg_crl.specs.declared.signer.SignFault.{SignFault}
+use Rattle.reg_crl.specs.declared.signer.SignFault.TheVariants.{Device, Memory}
+
+-- want of memory stays so; else the signer failed
+abbrev pub fault_of : SignFault → Fault
+fault_of Device = SignerFailed
+fault_of Memory = LackedMemory

@@ -1,0 +1,157 @@
+-- What the first rows make of a register's tables.
+use Rattle.std.proofs.Common.{◌≡◌, ◌==◌, ℕ, pos, true, false, List, [], ◌∷◌, IsTrue, refl, ap, subst, ◌∙◌, inl, inr, arith}
+use Rattle.std.specs.List.{AllByRecursion, list_any}
+use Rattle.std.proofs.lemmas.Bool.{cases_Bool}
+use Rattle.std.proofs.lemmas.Bool.Decides.{nat_tests}
+use Rattle.std.proofs.lemmas.List.Sorted.{IsPermutation-refl}
+use Rattle.sqlite_value.specs.declared.value.Value.TheVariants.{Null, Int, Blob}
+use Rattle.sqlite_value.specs.Order.{Row}
+use Rattle.sqlite_trees.specs.Tree.{put_row}
+use Rattle.sqlite_sql.specs.Term.{Term, lit, col, eval_all}
+use Rattle.sqlite_rules.specs.declared.error.Rowids.TheVariants.{Chosen}
+use Rattle.sqlite_rules.specs.Edit.{with_rowid}
+use Rattle.sqlite_rules.specs.Cast.{cast_row}
+use Rattle.sqlite_tied.specs.Compute.{everything}
+use Rattle.sqlite.specs.Effect.{Database}
+use Rattle.sqlite.specs.Listing.{understood}
+use Rattle.sqlite.specs.State.{State}
+use Rattle.reg_core.specs.Issuer.{Issuer}
+use Rattle.reg_core.specs.Policy.{Terms, IsPolicy}
+use Rattle.reg_core.specs.Records.{no_records}
+use Rattle.reg_tables.specs.Schema.{register_schema, office, kept}
+use Rattle.reg_tables.specs.Rows.{number, stored_office}
+use Rattle.reg_tables.specs.Columns.{stored_counts}
+use Rattle.reg_tables.specs.Kept.{Kept}
+use Rattle.reg_tables.specs.Shows.{AreRows, AreColumns, AreBoth}
+use Rattle.reg_tables.specs.Stays.{Moves}
+use Rattle.reg_changes.specs.Ran.{Ran}
+use Rattle.reg_changes.specs.Staged.{IsStaged, table_trees}
+use Rattle.reg_changes.proofs.Edits.{cast_int, cast_null}
+use Rattle.reg_changes.proofs.Meaning.{inserts, IsWriting}
+use Rattle.reg_changes.proofs.Registers.{puts_row, puts_spares}
+use Rattle.reg_opening.specs.Blank.{IsBlank, BlankBefore}
+use Rattle.reg_opening.specs.Filled.{HasOffice, HasCounts, no_columns}
+use Rattle.reg_opening.specs.declared.texts.TheConstants.{PUT_OFFICE, PUT_COUNTS}
+
+abbrev office_terms : List Term
+office_terms = lit (Int (pos 1)) ∷ lit Null ∷ lit (Int (pos 3)) ∷ col 0 0 ∷ col 0 1 ∷ col 0 2 ∷ col 0 3 ∷ col 0 4 ∷ col 0 5 ∷ lit (Int (pos 0)) ∷ []
+
+abbrev counts_terms : List Term
+counts_terms = lit (Int (pos 1)) ∷ lit Null ∷ lit (Int (pos 0)) ∷ lit (Int (pos 0)) ∷ lit (Int (pos 0)) ∷ []
+
+put_office_means : IsWriting PUT_OFFICE.now (inserts 0 office_terms 10)
+unfolding understood everything register_schema
+put_office_means = record { plain = (refl, refl); is = refl }
+
+put_counts_means : IsWriting PUT_COUNTS.now (inserts 8 counts_terms 5)
+unfolding understood everything register_schema
+put_counts_means = record { plain = (refl, refl); is = refl }
+
+same_tree : (m n : ℕ) → (m == n) ≡ true → m ≡ n
+same_tree m n e = grind (arith, nat_tests)
+
+at_any : (P : ℕ → Type 0) (xs : List ℕ) (n : ℕ) → AllByRecursion P xs → list_any (λ t. t == n) xs ≡ true → P n
+at_any P [] n all known = absurd (cc)
+at_any P (x ∷ xs) n all known = elim (cases_Bool (x == n)) [
+  | inl here ↦ subst P (same_tree x n here) all.0
+  | inr apart ↦ at_any P xs n all.1 (rw apart at known)
+]
+
+-- each table has no row
+blank_at : (db : Database) → IsBlank register_schema db → (n : ℕ) → list_any (λ t. t == n) table_trees ≡ true → db.trees n ≡ []
+unfolding register_schema
+blank_at db blank n known = at_any (λ t. db.trees t ≡ []) table_trees n blank.rows known
+
+pub puts_office : (issuer : Issuer) (policy : Terms) (days : ℕ) (old new : State) (count : ℕ) → IsPolicy policy
+    → Ran PUT_OFFICE.now (Blob issuer.name ∷ Blob issuer.key ∷ number days ∷ number policy.crl_life ∷ number policy.ocsp_life ∷ number policy.cap ∷ []) old new count
+    → BlankBefore old register_schema → Moves old new (HasOffice issuer policy)
+unfolding register_schema
+puts_office issuer policy days old new count is ran before =
+    let params = Blob issuer.name ∷ Blob issuer.key ∷ number days ∷ number policy.crl_life ∷ number policy.ocsp_life ∷ number policy.cap ∷ [] in
+    let was = before ran.was_open in
+    let none : old.now.trees 0 ≡ [] = blank_at old.now was 0 refl in
+    let puts = puts_row PUT_OFFICE.now params old new count ran was.schema 0 office refl office_terms 10 put_office_means refl refl refl in
+    let row : Row = stored_office (pos days) issuer policy 0 in
+    let rows : new.now.trees 0 ≡ row ∷ [] =
+    puts.rows ∙ ap (λ r. put_row (with_rowid Chosen (old.now.trees 0) r) (old.now.trees 0)) (let made : cast_row office (eval_all office_terms (params ∷ [])) ≡ row = simp (cast_int, cast_null) in made)
+    ∙ ap (λ t. put_row (with_rowid Chosen t row) t) none in
+    let spares = puts_spares office _ old.now.trees new.now puts in
+    record {
+      was_open = ran.was_open;
+      is_open = ran.is_open;
+      committed = ran.committed;
+      under_way = ran.under_way;
+      tables = record {
+        schema = puts.keeps_schema;
+        within = is;
+        days = pos days;
+        office = rows;
+        others = λ n known apart. spares.same n known apart ∙ blank_at old.now was n known;
+      };
+    }
+
+pub puts_counts : (issuer : Issuer) (policy : Terms) (old new : State) (count : ℕ) → Ran PUT_COUNTS.now [] old new count → (IsTrue old.is_open → HasOffice issuer policy old.now) → Moves old new (HasCounts issuer policy)
+unfolding register_schema
+puts_counts issuer policy old new count ran before =
+    let was = before ran.was_open in
+    let none : old.now.trees 14 ≡ [] = was.others 14 refl refl in
+    let puts = puts_row PUT_COUNTS.now [] old new count ran was.schema 8 kept refl counts_terms 5 put_counts_means refl refl refl in
+    let row : Row = stored_counts no_columns.counts in
+    let rows : new.now.trees 14 ≡ row ∷ [] =
+    puts.rows ∙ ap (λ r. put_row (with_rowid Chosen (old.now.trees 14) r) (old.now.trees 14)) (let made : cast_row kept (eval_all counts_terms ([] ∷ [])) ≡ row = simp (cast_int, cast_null) in made)
+    ∙ ap (λ t. put_row (with_rowid Chosen t row) t) none in
+    let spares = puts_spares kept _ old.now.trees new.now puts in
+    record {
+      was_open = ran.was_open;
+      is_open = ran.is_open;
+      committed = ran.committed;
+      under_way = ran.under_way;
+      tables = record {
+        schema = puts.keeps_schema;
+        within = was.within;
+        days = was.days;
+        office = spares.same 0 refl refl ∙ was.office;
+        counts = rows;
+        others = λ n known apart beside. spares.same n known beside ∙ was.others n known apart;
+      };
+    }
+
+-- the schedule is to be written
+pub staged_first : (issuer : Issuer) (policy : Terms) (db : Database) → HasCounts issuer policy db → IsStaged db.trees [] db
+staged_first issuer policy db was = record { schema = was.schema; others = λ n known apart. refl; rows = was.others 17 refl refl refl }
+
+-- and once it is, no record is shown
+pub filled : (issuer : Issuer) (policy : Terms) (db after : Database) → HasCounts issuer policy db → IsStaged db.trees policy.schedule after → AreBoth after (no_records issuer policy) no_columns
+filled issuer policy db after was staged =
+    let none : (n : ℕ) → list_any (λ t. t == n) table_trees ≡ true → (n == 17) ≡ false → (n == 0) ≡ false → (n == 14) ≡ false → after.trees n ≡ [] = λ n known unstaged apart beside. staged.others n known unstaged ∙ was.others n known apart beside in
+    let rows : AreRows after.trees (no_records issuer policy) = record {
+      days = was.days;
+      office = staged.others 0 refl refl ∙ was.office;
+      subscribers = none 1 refl refl refl refl;
+      orders = none 3 refl refl refl refl;
+      certificates = none 4 refl refl refl refl;
+      requests = none 7 refl refl refl refl;
+      revocations = none 8 refl refl refl refl;
+      crls = none 11 refl refl refl refl;
+      schedule = staged.rows;
+      policy = was.within;
+      subscribers_numbered = tt;
+      orders_numbered = tt;
+      requests_numbered = tt;
+      crls_numbered = tt;
+      certificate_serials = tt;
+      request_serials = tt;
+      revocation_serials = tt;
+    } in
+    let kept : AreColumns after.trees no_columns = record {
+      letters = none 12 refl refl refl refl;
+      counts = staged.others 14 refl refl ∙ was.counts;
+      listed = none 15 refl refl refl refl;
+      letter_serials = tt;
+      listed_serials = tt;
+    } in
+    record { shown = record { schema = staged.schema; rows = rows }; kept = kept }
+
+-- what is kept beside no records stands for them
+pub none_kept : (issuer : Issuer) (policy : Terms) → Kept no_columns (no_records issuer policy)
+none_kept issuer policy = record { letters = IsPermutation-refl []; counts = refl; listed = IsPermutation-refl [] }

@@ -1,0 +1,40 @@
+-- A register that is created shows no records.
+use Rattle.std.proofs.Common.{◌≡◌, ◌≤◌, true, false, Result, Ok, Err, OnOk, IsTrue, sym, subst, ◌∙◌, arith}
+use Rattle.sqlite_trees.specs.View.{doubt}
+use Rattle.sqlite_trees.specs.declared.store.Store.{Ghosts}
+use Rattle.sqlite.specs.Held.{Held, state}
+use Rattle.sqlite.specs.State.{HasCleanDisk, Shows as IsSeen}
+use Rattle.reg_core.specs.Issuer.{Issuer}
+use Rattle.reg_core.specs.Policy.{Terms}
+use Rattle.reg_core.specs.Records.{no_records}
+use Rattle.reg_tables.specs.Schema.{no_schema}
+use Rattle.reg_tables.specs.Kept.{ShowsKept}
+use Rattle.reg_tables.specs.Shows.{AreBoth}
+use Rattle.reg_opening.specs.Blank.{BlankBefore}
+use Rattle.reg_opening.specs.Filled.{no_columns}
+use Rattle.reg_opening.proofs.FirstRows.{none_kept}
+
+-- what a transaction begins with, where there is no table
+pub begun_blank : {S : Type 0} (g : Ghosts S) (was begun : Held S) → begun ≡ record was { in_transaction = true } → was.schema ≡ no_schema → BlankBefore (state g begun) no_schema
+begun_blank g was begun begins none = subst (λ h. BlankBefore (state g h) no_schema) (sym begins) (λ up. record { schema = none; rows = tt })
+
+-- a step after steps, of which each may fail
+pub ok_on : {A E : Type 0} (P Q : Type 0) (r : Result A E) → (P → Q) → OnOk r P → OnOk r Q
+ok_on P Q (Ok x) leads holds = leads holds
+ok_on P Q (Err e) leads holds = tt
+
+-- the transaction that makes the tables is committed
+pub created_shows : {S : Type 0} (g : Ghosts S) (issuer : Issuer) (policy : Terms) (entered ended : Held S) → doubt (state g entered).is_clean ≤ doubt (state g ended).is_clean
+    → (HasCleanDisk (state g entered) → IsTrue (state g entered).is_open → AreBoth (state g entered).now (no_records issuer policy) no_columns)
+    → (HasCleanDisk (state g ended) → IsSeen (state g entered) (state g ended) (state g entered).now (state g entered).now false)
+    → ShowsKept g ended (no_records issuer policy)
+created_shows g issuer policy entered ended forgets enters commit = (
+  no_columns,
+  record {
+    saved = λ clean up. (commit clean).now_is ∙ sym (commit clean).committed_is;
+    tables = λ clean up.
+        let was : HasCleanDisk (state g entered) = omega (arith, clean) in
+        subst (λ db. AreBoth db (no_records issuer policy) no_columns) (sym (commit clean).now_is) (enters was (commit clean).was_open);
+  },
+  none_kept issuer policy,
+)

@@ -1,0 +1,134 @@
+-- What a query answers, and why it fails.
+use Rattle.std.proofs.Common.{◌≡◌, ◌≤◌, ◌⊎◌, inl, inr, ℕ, List, [], length, None, Result, Ok, Err, IsTrue, refl, sym, ap, subst, ◌∙◌}
+use Rattle.std.proofs.lemmas.Bool.{cases_Bool}
+use Rattle.sqlite_value.specs.Order.{Row}
+use Rattle.sqlite_ast.specs.declared.Select as written_select
+use Rattle.sqlite_ast.specs.declared.Statement.TheVariants as written
+use Rattle.sqlite_syntax.specs.declared.statement.Parsed.{Parsed}
+use Rattle.sqlite_trees.specs.declared.error.StoreError.{StoreError}
+use Rattle.sqlite_trees.specs.declared.error.StoreError.TheVariants.{OutOfMemory, Io, Corrupt, Full, Broken, Unstorable}
+use Rattle.sqlite_schema.specs.declared.command.Command.{Command}
+use Rattle.sqlite_schema.specs.declared.schema.Schema.{Schema}
+use Rattle.sqlite_resolve.specs.declared.compiled.Compiled.{Compiled}
+use Rattle.sqlite_resolve.specs.declared.error.CompileError.{CompileError}
+use Rattle.sqlite_resolve.specs.Lowering.{Checked, and_then}
+use Rattle.sqlite_resolve.specs.Compile as compile
+use Rattle.sqlite.specs.Clock.{timed}
+use Rattle.sqlite.specs.declared.error.Error.{Error}
+use Rattle.sqlite.specs.Effect.{Database, Reads, RefusesToRead}
+use Rattle.sqlite.specs.Given.{IsPlain}
+use Rattle.sqlite.specs.Listing.{understood, reads_listing, listing_schema, if_select, is_select, IsSourceOf}
+use Rattle.sqlite.specs.State.{State, HasCause, store_error, Fails, IsUnchanged, IsRolledBack, KeepsCommit, IsStatement, IsNoStatement, IsNotRun, FailsToQuery, FailsToShow, ShowsRows, Shown, IsTooLate}
+use Rattle.reg_tables.specs.Reading.{command_of}
+use Rattle.reg_tables.specs.Schema.{register_schema}
+use Rattle.reg_tables.proofs.Staying.{fails_remains}
+use Rattle.reg_opening.specs.Said.{is_call_error, NeverWrites, IsQuery, IsNeverRefused, IsRead}
+
+-- ---- a text that is a SELECT, whatever the tables are
+
+planned_by : (p : Parsed) (k : Checked Command) (c : Compiled) → and_then (and_then (and_then k (λ c. Ok (c, None))) (λ found. Ok ([], found))) (λ plan. Ok (compile.with_command p plan)) ≡ Ok c
+    → (c.returning ≡ None) × (c.formats ≡ []) × (c.names ≡ p.names) × (c.tail ≡ p.tail)
+planned_by p (Ok k) c made = let same : compile.with_command p ([], (k, None)) ≡ c = cc in (
+  ap (λ (x : Compiled). x.returning) (sym same),
+  ap (λ (x : Compiled). x.formats) (sym same),
+  ap (λ (x : Compiled). x.names) (sym same),
+  ap (λ (x : Compiled). x.tail) (sym same),
+)
+planned_by p (Err e) c made = absurd (cc)
+
+select_planned : (schema : Schema) (p : Parsed) (s : written_select.Select) (c : Compiled) → p.statement ≡ written.Select s → p.formats ≡ [] → and_then (compile.planned schema p) (λ plan. Ok (compile.with_command p plan)) ≡ Ok c
+    → (c.returning ≡ None) × (c.formats ≡ []) × (c.names ≡ p.names) × (c.tail ≡ p.tail)
+unfolding compile.planned compile.meaning compile.returning compile.timed
+select_planned schema p s c is none made = planned_by p _ c (rw (is, none) at made)
+
+selected : (r : Result Compiled CompileError) (c : Compiled) → if_select r ≡ Ok c → r ≡ Ok c
+selected (Ok k) c is = elim (cases_Bool (is_select k.command)) [
+  | inl selects ↦ rw selects at is
+  | inr no_select ↦ absurd (let e = rw no_select at is in cc)
+]
+selected (Err e) c is = absurd (cc)
+
+pub query_text : (text : List ℕ) (p : Parsed) (s : written_select.Select) → compile.first text ≡ Ok p → p.statement ≡ written.Select s → p.formats ≡ [] → length p.names ≡ 0 → length text ≤ p.tail → IsQuery text
+unfolding understood compile.compiled
+query_text text p s first is none unnamed whole schema c known =
+    let by : (sch : Schema) → compile.compiled sch text ≡ Ok c → NeverWrites text c = λ sch made.
+    let it = select_planned sch p s c is none (rw first at made) in
+    record { returning = it.0; formats = it.1; names = ap (λ l. length l) it.2 ∙ unnamed; whole = subst (λ n. length text ≤ n) (sym it.3) whole } in
+    elim (cases_Bool (reads_listing schema text)) [
+      | inl listing ↦ by listing_schema (selected (compile.compiled listing_schema text) c (rw listing at known))
+      | inr direct ↦ by schema (rw direct at known)
+    ]
+
+-- ---- its answer
+
+module _ (text : List ℕ) (query : IsQuery text) (old new : State) where
+  pub shown_reads : (rows : List Row) → Shown text [] old new rows → IsRead old.now text rows × IsUnchanged old new
+  unfolding Shown
+  shown_reads rows h =
+      let never = query old.now.schema h.0 h.1.is in
+      let it = subst (ShowsRows old new text h.0 (timed [] h.0.formats h.1.now) rows) never.returning h.2 in
+      let reads : Reads h.0.command it.0 (timed [] [] h.1.now) rows = subst (λ f. Reads h.0.command it.0 (timed [] f h.1.now) rows) never.formats it.2 in
+      (record { compiled = h.0; is = h.1.is; source = it.0; from = it.1; reads = reads }, it.3)
+
+  never_late : (e : Error) → IsTooLate text [] old new e → ⊥
+  never_late e h = let none = (query old.now.schema h.0 h.1.is).returning in let some = rw none at h.2 in absurd (cc)
+
+  pub fails_keeps : (e : Error) → FailsToQuery text [] old new e ⊎ IsTooLate text [] old new e → KeepsCommit old new
+  fails_keeps e (inl h) = keeps (fails_remains old new text [] e h)
+    where
+      keeps : IsUnchanged old new ⊎ IsRolledBack old new → KeepsCommit old new
+      keeps (inl same) = record { was_open = λ up. same.0.was_open; committed = λ up. same.0.committed_is }
+      keeps (inr back) = record { was_open = back.was_open; committed = λ up. (back.undone up).1 }
+  fails_keeps e (inr h) = absurd (never_late e h)
+
+-- ---- why it fails over the tables of a register
+
+cause_is_call : (old new : State) (cause : StoreError) → HasCause old new ⊥ cause → IsTrue (is_call_error (store_error cause))
+cause_is_call old new OutOfMemory why = refl
+cause_is_call old new Io why = refl
+cause_is_call old new Corrupt why = refl
+cause_is_call old new Full why = refl
+cause_is_call old new Broken why = refl
+cause_is_call old new Unstorable why = absurd why
+
+failed_is_call : (old new : State) (e : Error) → Fails old new ⊥ e → IsTrue (is_call_error e)
+failed_is_call old new e h = subst (λ x. IsTrue (is_call_error x)) (sym h.1) (cause_is_call old new h.0 h.2)
+
+module _ (text : List ℕ) (query : IsQuery text) (never : IsNeverRefused text) (old new : State) (e : Error) (register : IsTrue old.is_open → old.now.schema ≡ register_schema) where
+  understood_is : IsTrue old.is_open → IsPlain (understood old.now.schema text)
+  understood_is up = subst (λ s. IsPlain (understood s text)) (sym (register up)) never.0.plain
+
+  no_statement : IsTrue old.is_open → IsNoStatement old text [] e → ⊥
+  no_statement up (inl h) = absurd (subst IsPlain h.1 (understood_is up))
+  no_statement up (inr h) =
+      let is = query old.now.schema h.0 h.1 in
+      elim h.2 [
+        | inl longer ↦ absurd (longer.0 is.whole)
+        | inr others ↦ elim others [
+          | inl given ↦ absurd (given.0 (sym is.names))
+          | inr formats ↦ absurd (formats.0 is.formats)
+        ]
+      ]
+
+  not_run_is_call : IsNotRun old new text [] e → IsTrue (is_call_error e)
+  unfolding IsNotRun
+  not_run_is_call (inl h) = absurd (no_statement h.1.0.was_open h.0)
+  not_run_is_call (inr h) = failed_is_call old new e h
+
+  show_is_call : (c : Compiled) (it : IsStatement old text [] c) → FailsToShow old new text c (timed [] c.formats it.now) e c.returning → IsTrue (is_call_error e)
+  show_is_call c it h =
+      let is = query old.now.schema c it.is in
+      let fails = subst (FailsToShow old new text c (timed [] c.formats it.now) e) is.returning h in
+      let up = fails.3.0.was_open in
+      let schema = register up in
+      let refuses : RefusesToRead old.step_limit c.command fails.0 [] e = subst (λ f. RefusesToRead old.step_limit c.command fails.0 (timed [] f it.now) e) is.formats fails.2 in
+      let known : understood register_schema text ≡ Ok c = subst (λ s. understood s text ≡ Ok c) schema it.is in
+      let command : c.command ≡ command_of (understood register_schema text) = sym (ap command_of known) in
+      let source : fails.0 ≡ old.now = subst (λ b. IsSourceOf b old.now fails.0) (ap (λ s. reads_listing s text) schema ∙ never.0.unlisted) fails.1 in
+      never.1 old.step_limit fails.0 e (ap (λ (d : Database). d.schema) source ∙ schema) (subst (λ k. RefusesToRead old.step_limit k fails.0 [] e) command refuses)
+
+  pub fails_is_call : FailsToQuery text [] old new e ⊎ IsTooLate text [] old new e → IsTrue (is_call_error e)
+  unfolding FailsToQuery
+  fails_is_call (inl (inl h)) = not_run_is_call h
+  fails_is_call (inl (inr h)) = show_is_call h.0 h.1 h.2
+  fails_is_call (inr h) = let none = (query old.now.schema h.0 h.1.is).returning in let some = rw none at h.2 in absurd (cc)

@@ -1,0 +1,56 @@
+-- Rows that are the steps of a schedule.
+use Rattle.std.proofs.Common.{◌≡◌, ◌<◌, ◌≤◌, ◌+◌, ℕ, zero, suc, List, [], ◌∷◌, ◌++◌, take, get_or, length, refl, sym, ap, subst, ◌∙◌, arith, add-one}
+use Rattle.sqlite_value.specs.Order.{Row, column}
+use Rattle.reg_core.specs.Calendar.{IsMoment}
+use Rattle.reg_tables.specs.Rows.{number}
+use Rattle.reg_opening.specs.Said.{AreSteps, HaveMoments}
+
+abbrev IsStep : Row → ℕ × ℕ → Type 0
+IsStep row step = (column row 0 ≡ number step.0) × (column row 1 ≡ number step.1)
+
+-- one row more is one step more
+steps_on : (rows : List Row) (k : ℕ) (d : Row) (steps : List (ℕ × ℕ)) (step : ℕ × ℕ) → k < length rows → AreSteps (take k rows) steps → IsStep (get_or rows k d) step → AreSteps (take (suc k) rows) (steps ++ step ∷ [])
+steps_on [] k d steps step within are is = absurd (omega arith)
+steps_on (row ∷ rows) zero d [] step within are is = (is.0, is.1, tt)
+steps_on (row ∷ rows) zero d (x ∷ steps) step within are is = absurd are
+steps_on (row ∷ rows) (suc k) d [] step within are is = absurd are
+steps_on (row ∷ rows) (suc k) d (x ∷ steps) step within are is = (are.0, are.1, steps_on rows k d steps step (omega arith) are.2 is)
+
+pub steps_pushed : (rows : List Row) (k : ℕ) (d : Row) (steps : List (ℕ × ℕ)) (step : ℕ × ℕ) → k < length rows → AreSteps (take k rows) steps → IsStep (get_or rows k d) step → AreSteps (take (k + 1) rows) (steps ++ step ∷ [])
+steps_pushed rows k d steps step within are is = rw add-one (steps_on rows k d steps step within are is)
+
+-- each row is a step
+pub steps_at : (rows : List Row) (k : ℕ) (d : Row) (steps : List (ℕ × ℕ)) → k < length rows → HaveMoments steps → AreSteps rows steps → (step : ℕ × ℕ) × IsMoment step.0 × IsStep (get_or rows k d) step
+steps_at [] k d steps within moments are = absurd (omega arith)
+steps_at (row ∷ rows) k d [] within moments are = absurd are
+steps_at (row ∷ rows) zero d (x ∷ steps) within moments are = (x, moments.0, (are.0, are.1))
+steps_at (row ∷ rows) (suc k) d (x ∷ steps) within moments are = steps_at rows k d steps (omega arith) moments.1 are.2
+
+pub take_rows : (n : ℕ) (rows : List Row) → length rows ≤ n → take n rows ≡ rows
+take_rows zero [] h = refl
+take_rows (suc n) [] h = refl
+take_rows zero (x ∷ rows) h = absurd (omega arith)
+take_rows (suc n) (x ∷ rows) h = ap (λ l. x ∷ l) (take_rows n rows (omega arith))
+
+number_one : (a b : ℕ) → number a ≡ number b → a ≡ b
+number_one a b e = cc
+
+-- rows are the steps of one schedule alone
+pub steps_same : (rows : List Row) (a b : List (ℕ × ℕ)) → AreSteps rows a → AreSteps rows b → a ≡ b
+steps_same [] [] [] one two = refl
+steps_same [] [] (y ∷ b) one two = absurd two
+steps_same [] (x ∷ a) b one two = absurd one
+steps_same (row ∷ rows) [] b one two = absurd one
+steps_same (row ∷ rows) (x ∷ a) [] one two = absurd two
+steps_same (row ∷ rows) (x ∷ a) (y ∷ b) one two =
+    let from : x.0 ≡ y.0 = number_one x.0 y.0 (sym one.0 ∙ two.0) in
+    let days : x.1 ≡ y.1 = number_one x.1 y.1 (sym one.1 ∙ two.1) in
+    let rest : a ≡ b = steps_same rows a b one.2 two.2 in
+    λ i. (from i, days i) ∷ rest i
+
+pub is_step : (other row : Row) (step : ℕ × ℕ) → row ≡ other → IsStep row step → IsStep other step
+is_step other row step same is = subst (λ r. IsStep r step) same is
+
+-- the one row
+pub only_row : (rows : List Row) (a b : Row) → rows ≡ a ∷ [] → rows ≡ b ∷ [] → a ≡ b
+only_row rows a b one two = cc

@@ -1,0 +1,48 @@
+use Rattle.std.proofs.Common.{◌≡◌, rules, sym, subst}
+use Rattle.sqlite_value.specs.Order.{column}
+use Rattle.sqlite.specs.Held.{state}
+use Rattle.reg_tables.specs.Rows.{number}
+use Rattle.reg_changes.proofs.Moving.{ok_if}
+use Rattle.reg_opening.specs.Said.{HasVersion, IsOne}
+use Rattle.reg_opening.proofs.FirstShown.{ok_on}
+use Rattle.reg_opening.proofs.QueryTexts.{version_query}
+use Rattle.reg_opening.proofs.Registered.{version_never, version_read, judged_shown}
+use Rattle.reg_opening.proofs.opening.test_version.Goals as goal
+
+pub returns-in_err-rows-clause-shown : goal.returns-in_err-rows-clause-shown
+returns-in_err-rows-clause-shown g c clean records before =
+    let refused = c.in_err-rows.ensures.refused clean version_query version_never (λ up. (before up).schema) in
+    search (rules, refused)
+
+pub returns-in_err-rows-clause-kept : goal.returns-in_err-rows-clause-kept
+returns-in_err-rows-clause-kept g c clean = c.peek.ensures.kept clean version_query
+
+pub returns-clause-kept : goal.returns-clause-kept
+returns-clause-kept g c clean = c.peek.ensures.kept clean version_query
+
+pub returns-clause-same : goal.returns-clause-same
+returns-clause-same g c clean = ok_if _ c.judge_version.result (c.in_ok-rows.ensures.same clean version_query)
+
+pub returns-clause-ok : goal.returns-clause-ok
+returns-clause-ok g c clean =
+    ok_on _ (HasVersion (state g.S.Store c.args.tx.now.conn.now).now 3) c.judge_version.result
+    (λ one. (c.in_ok-rows.rows.items, c.in_ok-rows.ensures.rows clean version_query, subst (IsOne (λ row. column row 0 ≡ number 3)) c.deref.ensures.value one)) c.judge_version.ensures.ok
+
+pub returns-clause-old : goal.returns-clause-old
+returns-clause-old g c clean is =
+    let found = c.judge_version.ensures.old is in
+    let one = subst (IsOne (λ row. column row 0 ≡ number found.0)) c.deref.ensures.value found.3 in
+    (found.0, found.1, found.2, (c.in_ok-rows.rows.items, c.in_ok-rows.ensures.rows clean version_query, one))
+
+pub returns-clause-newer : goal.returns-clause-newer
+returns-clause-newer g c clean is =
+    let found = c.judge_version.ensures.newer is in
+    let one = subst (IsOne (λ row. column row 0 ≡ number found.0)) c.deref.ensures.value found.2 in
+    (found.0, found.1, (c.in_ok-rows.rows.items, c.in_ok-rows.ensures.rows clean version_query, one))
+
+pub returns-clause-shown : goal.returns-clause-shown
+returns-clause-shown g c clean records before =
+    let db = (state g.S.Store c.args.tx.now.conn.now).now in
+    let shown = before (c.in_ok-rows.ensures.same clean version_query).0.was_open in
+    let one = subst (IsOne (λ row. column row 0 ≡ number 3)) (sym c.deref.ensures.value) (version_read db records shown c.in_ok-rows.rows.items (c.in_ok-rows.ensures.rows clean version_query)) in
+    judged_shown c.deref.result.now c.judge_version.result one c.judge_version.ensures.old c.judge_version.ensures.newer c.judge_version.ensures.none c.judge_version.ensures.faults

@@ -1,0 +1,3 @@
+pub mod Blank
+pub mod Filled
+pub mod Said

@@ -1,0 +1,104 @@
+-- What the tables of an opened database say.
+use Rattle.std.specs.Prelude.{◌≡◌, ◌<◌, ◌≤◌, ℕ, Bool, true, false, List, [], ◌∷◌, length, Option, None, Ok, IsTrue}
+use Rattle.std.specs.List.{AllByRecursion}
+use Rattle.sqlite_value.specs.declared.value.Value.TheVariants.{Blob}
+use Rattle.sqlite_value.specs.Order.{Row, column}
+use Rattle.sqlite_schema.specs.declared.schema.Schema.{Schema}
+use Rattle.sqlite_resolve.specs.declared.compiled.Compiled.{Compiled}
+use Rattle.sqlite.specs.Effect.{Database, Reads, RefusesToRead}
+use Rattle.sqlite.specs.Listing.{understood, reads_listing, IsSourceOf}
+use Rattle.sqlite.specs.declared.error.Error.{Error}
+use Rattle.sqlite.specs.declared.error.Error.TheVariants.{SqliteFailure}
+use Rattle.sqlite.specs.declared.error.ErrorCode.TheVariants as code
+use Rattle.reg_core.specs.Calendar.{IsMoment, clock_end}
+use Rattle.reg_core.specs.Issuer.{Issuer}
+use Rattle.reg_core.specs.Policy.{Terms, IsPolicy}
+use Rattle.reg_core.specs.Records.{Records}
+use Rattle.reg_der.specs.Authority.{IsIssuer}
+use Rattle.reg_tables.specs.Reading.{IsReading, command_of}
+use Rattle.reg_tables.specs.Rows.{number}
+use Rattle.reg_tables.specs.Schema.{register_schema}
+use Rattle.reg_tables.specs.declared.statements.TheConstants.{STEPS}
+use Rattle.reg_opening.specs.declared.texts.TheConstants.{VERSION, OFFICE}
+
+-- a failure of memory, of the disk, or of the limit on steps that the caller has set
+abbrev pub is_call_error : Error → Bool
+is_call_error (SqliteFailure code.OutOfMemory) = true
+is_call_error (SqliteFailure code.SystemIoFailure) = true
+is_call_error (SqliteFailure code.DatabaseCorrupt) = true
+is_call_error (SqliteFailure code.DiskFull) = true
+is_call_error (SqliteFailure code.Closed) = true
+is_call_error (SqliteFailure code.OperationInterrupted) = true
+is_call_error _ = false
+
+-- whatever the tables are, the text is one statement that only reads, without parameters or the time
+pub record NeverWrites (text : List ℕ) (compiled : Compiled) : Type 0 where
+  pub returning : compiled.returning ≡ None
+  pub formats : compiled.formats ≡ []
+  pub names : length compiled.names ≡ 0
+  pub whole : length text ≤ compiled.tail
+
+abbrev pub IsQuery : List ℕ → Type 0
+IsQuery text = (schema : Schema) (compiled : Compiled) → understood schema text ≡ Ok compiled → NeverWrites text compiled
+
+-- over the tables of a register, only memory, the disk or the limit on steps refuses it
+abbrev pub IsNeverRefused : List ℕ → Type 0
+IsNeverRefused text =
+    IsReading text × ((limit : Option ℕ) (db : Database) (e : Error) → db.schema ≡ register_schema → RefusesToRead limit (command_of (understood register_schema text)) db [] e → IsTrue (is_call_error e))
+
+-- the rows are what a text reads of a database
+pub record IsRead (db : Database) (text : List ℕ) (rows : List Row) : Type 0 where
+  pub compiled : Compiled
+  pub is : understood db.schema text ≡ Ok compiled
+  pub source : Database
+  pub from : IsSourceOf (reads_listing db.schema text) db source
+  pub reads : Reads compiled.command source [] rows
+
+-- there is one row, and it has a property
+abbrev pub IsOne : (Row → Type 0) → List Row → Type 0
+IsOne P rows = (row : Row) × (rows ≡ row ∷ []) × P row
+
+-- the one row of the office has this version
+abbrev pub HasVersion : Database → ℕ → Type 0
+HasVersion db version = (rows : List Row) × IsRead db VERSION.now rows × IsOne (λ row. column row 0 ≡ number version) rows
+
+-- the rows are these steps of a schedule
+abbrev pub AreSteps : List Row → List (ℕ × ℕ) → Type 0
+AreSteps [] [] = Unit {0}
+AreSteps [] (step ∷ steps) = ⊥
+AreSteps (row ∷ rows) [] = ⊥
+AreSteps (row ∷ rows) (step ∷ steps) = (column row 0 ≡ number step.0) × (column row 1 ≡ number step.1) × AreSteps rows steps
+
+-- each step begins at a moment
+abbrev pub HaveMoments : List (ℕ × ℕ) → Type 0
+HaveMoments steps = AllByRecursion (λ step. IsMoment step.0) steps
+
+-- the row of the office: an issuer within its limits, a policy, and a last accepted moment that the clock lets pass
+pub record IsOfficeRow (issuer : Issuer) (policy : Terms) (last : ℕ) (row : Row) : Type 0 where
+  pub of_issuer : IsIssuer issuer
+  pub of_policy : IsPolicy policy
+  pub of_last : last < clock_end
+  pub name : column row 0 ≡ Blob issuer.name
+  pub key : column row 1 ≡ Blob issuer.key
+  pub crl_life : column row 2 ≡ number policy.crl_life
+  pub ocsp_life : column row 3 ≡ number policy.ocsp_life
+  pub cap : column row 4 ≡ number policy.cap
+  pub at : column row 5 ≡ number last
+
+-- the row of an office that keeps to a schedule
+abbrev pub KeepsTo : List (ℕ × ℕ) → Row → Type 0
+KeepsTo schedule row = (issuer : Issuer) × (policy : Terms) × (last : ℕ) × (policy.schedule ≡ schedule) × IsOfficeRow issuer policy last row
+
+-- the one row of the office and the steps of its schedule, each value within its range
+abbrev pub AreOffice : List Row → List Row → Type 0
+AreOffice rows steps = (schedule : List (ℕ × ℕ)) × HaveMoments schedule × AreSteps steps schedule × IsOne (KeepsTo schedule) rows
+
+-- the tables say an office, each value within its range
+abbrev pub SaysOffice : Database → Type 0
+SaysOffice db = (rows : List Row) × (steps : List Row) × IsRead db OFFICE.now rows × IsRead db STEPS.now steps × AreOffice rows steps
+
+-- what a register's issuer, moments and last accepted moment always are
+pub record InRange (records : Records) : Type 0 where
+  pub issuer : IsIssuer records.issuer
+  pub moments : HaveMoments records.policy.schedule
+  pub last : records.last < clock_end

@@ -1,0 +1,163 @@
+//! Changes.
+
+ghost use Rattle.std.specs.Prelude.{◌≡◌, ◌+◌, ◌≤◌, length, None, IsSomeAnd, OnOk, OnErr, IfErr};
+ghost use Rattle.sqlite.specs.Held.{state};
+ghost use Rattle.sqlite.specs.State.{HasCleanDisk};
+ghost use Rattle.sqlite_trees.specs.View.{doubt};
+ghost use Rattle.reg_core.specs.Records.{Records, certificate_in, revocation_in};
+ghost use Rattle.reg_core.specs.Crls.{next_number};
+ghost use Rattle.reg_core.specs.Sound.{SoundRows};
+ghost use Rattle.reg_core.specs.Changes.{touched, with_subscriber, with_order, with_certificate, with_request, with_declined, with_revocation, with_crl, with_schedule};
+ghost use Rattle.reg_tables.specs.Columns.{Columns};
+ghost use Rattle.reg_tables.specs.Kept.{ShowsKept};
+ghost use Rattle.reg_tables.specs.Shows.{Shows, ShowsBoth};
+ghost use Rattle.reg_tables.specs.Stays.{IsCallFault, IsRegister, Stays};
+ghost use Rattle.reg_changes.specs.Steps.{swept, good_at};
+
+use crate::store::Store;
+use reg_core::{
+    CertRow, CrlRow, Moment, OrderRow, RequestRow, RevocationRow, Schedule, SubscriberRow,
+};
+use reg_tables::StoreFault;
+use sqlite::Alter;
+
+impl<S: Alter> Store<S> {
+    /// Sets the last accepted moment.
+    ///
+    /// # Errors
+    /// `Memory`; `Store` where the database fails, or a count is missing or less than what is taken from it. Nothing has
+    /// changed then.
+    pub fn touch(&mut self, now: Moment) -> Result<(), StoreFault>
+        ensures ok { (records : Records) → ShowsKept S.Store self.old records → SoundRows records → records.last ≤ now
+            → OnOk result (ShowsKept S.Store self.new (touched records now)) }
+        ensures err { IsRegister (state S.Store self.old) → OnErr result (Stays (state S.Store self.old) (state S.Store self.new)) }
+        ensures clean { doubt (state S.Store self.old).is_clean ≤ doubt (state S.Store self.new).is_clean }
+        ensures faults { IfErr result IsCallFault }
+    {
+        reg_changes::touch(&mut self.connection, now)
+    }
+
+    /// Adds a subscriber.
+    ///
+    /// # Errors
+    /// `Memory`; `Store` where the database fails, or a count is missing or less than what is taken from it. Nothing has
+    /// changed then.
+    pub fn add_subscriber(&mut self, now: Moment, row: SubscriberRow) -> Result<(), StoreFault>
+        ensures ok { (records : Records) → ShowsKept S.Store self.old records → SoundRows records → records.last ≤ now → row.id ≡ length records.subscribers + 1
+            → OnOk result (ShowsKept S.Store self.new (with_subscriber records now row)) }
+        ensures err { IsRegister (state S.Store self.old) → OnErr result (Stays (state S.Store self.old) (state S.Store self.new)) }
+        ensures clean { doubt (state S.Store self.old).is_clean ≤ doubt (state S.Store self.new).is_clean }
+        ensures faults { IfErr result IsCallFault }
+    {
+        reg_changes::add_subscriber(&mut self.connection, now, row)
+    }
+
+    /// Adds an order.
+    ///
+    /// # Errors
+    /// `Memory`; `Store` where the database fails, or a count is missing or less than what is taken from it. Nothing has
+    /// changed then.
+    pub fn add_order(&mut self, now: Moment, row: OrderRow) -> Result<(), StoreFault>
+        ensures ok { (records : Records) → ShowsKept S.Store self.old records → SoundRows records → records.last ≤ now → row.id ≡ length records.orders + 1
+            → OnOk result (ShowsKept S.Store self.new (with_order records now row)) }
+        ensures err { IsRegister (state S.Store self.old) → OnErr result (Stays (state S.Store self.old) (state S.Store self.new)) }
+        ensures clean { doubt (state S.Store self.old).is_clean ≤ doubt (state S.Store self.new).is_clean }
+        ensures faults { IfErr result IsCallFault }
+    {
+        reg_changes::add_order(&mut self.connection, now, row)
+    }
+
+    /// Adds a certificate, one that is good.
+    ///
+    /// # Errors
+    /// `Memory`; `Store` where the database fails, or a count is missing or less than what is taken from it. Nothing has
+    /// changed then.
+    pub fn add_cert(&mut self, now: Moment, row: CertRow) -> Result<(), StoreFault>
+        ensures ok { (records : Records) → ShowsKept S.Store self.old records → SoundRows records → records.last ≤ now → certificate_in records.certificates row.serial ≡ None → now ≤ row.not_after
+            → OnOk result (ShowsKept S.Store self.new (with_certificate records now row)) }
+        ensures err { IsRegister (state S.Store self.old) → OnErr result (Stays (state S.Store self.old) (state S.Store self.new)) }
+        ensures clean { doubt (state S.Store self.old).is_clean ≤ doubt (state S.Store self.new).is_clean }
+        ensures faults { IfErr result IsCallFault }
+    {
+        reg_changes::add_cert(&mut self.connection, now, row)
+    }
+
+    /// Adds a request for revocation.
+    ///
+    /// # Errors
+    /// `Memory`; `Store` where the database fails, or a count is missing or less than what is taken from it. Nothing has
+    /// changed then.
+    pub fn add_request(&mut self, now: Moment, row: RequestRow) -> Result<(), StoreFault>
+        ensures ok { (records : Records) → ShowsKept S.Store self.old records → SoundRows records → records.last ≤ now → row.id ≡ length records.requests + 1
+            → OnOk result (ShowsKept S.Store self.new (with_request records now row)) }
+        ensures err { IsRegister (state S.Store self.old) → OnErr result (Stays (state S.Store self.old) (state S.Store self.new)) }
+        ensures clean { doubt (state S.Store self.old).is_clean ≤ doubt (state S.Store self.new).is_clean }
+        ensures faults { IfErr result IsCallFault }
+    {
+        reg_changes::add_request(&mut self.connection, now, row)
+    }
+
+    /// Declines the request with an id.
+    ///
+    /// # Errors
+    /// `Memory`; `Store` where the database fails, or a count is missing or less than what is taken from it. Nothing has
+    /// changed then.
+    pub fn decline(&mut self, now: Moment, id: u64) -> Result<(), StoreFault>
+        ensures ok { (records : Records) → ShowsKept S.Store self.old records → SoundRows records → records.last ≤ now
+            → OnOk result (ShowsKept S.Store self.new (with_declined records now id)) }
+        ensures err { IsRegister (state S.Store self.old) → OnErr result (Stays (state S.Store self.old) (state S.Store self.new)) }
+        ensures clean { doubt (state S.Store self.old).is_clean ≤ doubt (state S.Store self.new).is_clean }
+        ensures faults { IfErr result IsCallFault }
+    {
+        reg_changes::decline(&mut self.connection, now, id)
+    }
+
+    /// Adds a CRL, with its bytes: it is the last that lists the certificates that ended before it.
+    ///
+    /// # Errors
+    /// `Memory`; `Store` where the database fails, or a count is missing or less than what is taken from it. Nothing has
+    /// changed then.
+    pub fn add_crl(&mut self, now: Moment, row: CrlRow, der: &[u8]) -> Result<(), StoreFault>
+        ensures ok { (records : Records) → ShowsKept S.Store self.old records → SoundRows records → records.last ≤ now → row.number ≡ next_number records.crls
+            → OnOk result (ShowsKept S.Store self.new (with_crl records now (record { number = row.number; this_update = row.this_update; bytes = der.now }))) }
+        ensures err { IsRegister (state S.Store self.old) → OnErr result (Stays (state S.Store self.old) (state S.Store self.new)) }
+        ensures clean { doubt (state S.Store self.old).is_clean ≤ doubt (state S.Store self.new).is_clean }
+        ensures faults { IfErr result IsCallFault }
+    {
+        reg_changes::add_crl(&mut self.connection, now, row, der)
+    }
+
+    /// Adds a revocation, of a certificate that is registered and good, which turns its letter.
+    ///
+    /// # Errors
+    /// `Memory`; `Store` where the database fails, where a count is missing or less than what is taken from it, and where
+    /// not exactly one letter turns from good to revoked. Nothing has changed then.
+    pub fn add_revocation(&mut self, now: Moment, row: RevocationRow) -> Result<(), StoreFault>
+        ensures ok { (records : Records) → ShowsKept S.Store self.old records → SoundRows records → records.last ≤ now
+            → revocation_in records.revocations row.serial ≡ None → IsSomeAnd (certificate_in records.certificates row.serial) (λ certificate. now ≤ certificate.not_after)
+            → row.first ≡ next_number records.crls
+            → OnOk result (ShowsKept S.Store self.new (with_revocation records now row)) }
+        ensures one { HasCleanDisk (state S.Store self.new) → (records : Records) → (columns : Columns) → ShowsBoth S.Store self.old records columns
+            → OnOk result (good_at row.serial (swept now columns) ≡ 1) }
+        ensures err { IsRegister (state S.Store self.old) → OnErr result (Stays (state S.Store self.old) (state S.Store self.new)) }
+        ensures clean { doubt (state S.Store self.old).is_clean ≤ doubt (state S.Store self.new).is_clean }
+        ensures faults { IfErr result IsCallFault }
+    {
+        reg_changes::add_revocation(&mut self.connection, now, row)
+    }
+
+    /// Sets the schedule of longest validities. It is no command: no record, nothing that is kept beside them and not the
+    /// last accepted moment changes.
+    ///
+    /// # Errors
+    /// `Memory`; `Store` where the database fails. Nothing has changed then.
+    pub fn set_schedule(&mut self, schedule: Schedule) -> Result<(), StoreFault>
+        ensures ok { (records : Records) → ShowsKept S.Store self.old records → OnOk result (ShowsKept S.Store self.new (with_schedule records schedule)) }
+        ensures shown { (records : Records) → Shows S.Store self.old records → OnOk result (Shows S.Store self.new (with_schedule records schedule)) }
+        ensures err { OnErr result (Stays (state S.Store self.old) (state S.Store self.new)) }
+        ensures clean { doubt (state S.Store self.old).is_clean ≤ doubt (state S.Store self.new).is_clean }
+        ensures faults { IfErr result IsCallFault }
+    {
+        reg_changes::set_schedule(&mut self.connection, &schedule)
+    }
+}

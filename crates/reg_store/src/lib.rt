@@ -1,0 +1,11 @@
+//! The register in an SQL database: the store that the layers above use.
+#![tactic(auto)]
+
+mod changes;
+mod lookups;
+mod opening;
+mod store;
+
+pub use opening::Unopened;
+pub use reg_tables::{StoreFault, Table};
+pub use store::Store;

@@ -1,0 +1,268 @@
+//! Look-ups.
+
+ghost use Rattle.std.specs.Prelude.{◌≡◌, ◌≤◌, option_map, length, IfOk, IfErr};
+ghost use Rattle.sqlite.specs.Held.{state};
+ghost use Rattle.sqlite.specs.State.{HasCleanDisk};
+ghost use Rattle.sqlite_trees.specs.View.{doubt};
+ghost use Rattle.reg_core.specs.Crls.{EntriesAscend, entries, latest, row_of};
+ghost use Rattle.reg_core.specs.Due.{overdue, overdue_report, earliest, unlisted};
+ghost use Rattle.reg_core.specs.Queries.{listing};
+ghost use Rattle.reg_core.specs.Records.{Records, certificate_in, certificate_of_order, order_in, request_in, revocation_in, subscriber_in, subscriber_named};
+ghost use Rattle.reg_core.specs.Sound.{SoundRows};
+ghost use Rattle.reg_core.specs.Status as status;
+ghost use Rattle.reg_tables.specs.Kept.{ShowsKept};
+ghost use Rattle.reg_tables.specs.Shows.{Shows};
+ghost use Rattle.reg_tables.specs.Stays.{IsCallFault, IsRegister, Stays};
+ghost use Rattle.reg_tables.specs.Tables.{crl_in, rows_of};
+
+use crate::store::Store;
+use reg_core::{
+    CertRow, Counts, CrlRow, Entry, Label, Listing, Moment, OrderRow, Overdue, Policy, RequestRow,
+    RevocationRow, Serial, SubscriberRow,
+};
+use reg_der::Issuer;
+use reg_tables::{StoreFault, Table};
+use sqlite::Alter;
+
+impl<S: Alter> Store<S> {
+    /// The last accepted moment.
+    ///
+    /// # Errors
+    /// `Memory`; `Store` where the database fails, or where its row is one that no register writes.
+    pub fn last(&mut self) -> Result<Moment, StoreFault>
+        ensures found { (records : Records) → Shows S.Store self.old records → HasCleanDisk (state S.Store self.new) → IfOk result (λ last. last ≡ records.last) }
+        ensures same { IsRegister (state S.Store self.old) → Stays (state S.Store self.old) (state S.Store self.new) }
+        ensures clean { doubt (state S.Store self.old).is_clean ≤ doubt (state S.Store self.new).is_clean }
+        ensures faults { IfErr result IsCallFault }
+    {
+        reg_tables::last(&mut self.connection)
+    }
+
+    /// The issuer.
+    ///
+    /// # Errors
+    /// `Memory`; `Store` where the database fails, or where its row is one that no register writes.
+    pub fn issuer(&mut self) -> Result<Issuer, StoreFault>
+        ensures found { (records : Records) → Shows S.Store self.old records → HasCleanDisk (state S.Store self.new) → IfOk result (λ issuer. issuer ≡ records.issuer) }
+        ensures same { IsRegister (state S.Store self.old) → Stays (state S.Store self.old) (state S.Store self.new) }
+        ensures clean { doubt (state S.Store self.old).is_clean ≤ doubt (state S.Store self.new).is_clean }
+        ensures faults { IfErr result IsCallFault }
+    {
+        reg_tables::issuer(&mut self.connection)
+    }
+
+    /// The policy.
+    ///
+    /// # Errors
+    /// `Memory`; `Store` where the database fails, or where its rows are ones that no register writes.
+    pub fn policy(&mut self) -> Result<Policy, StoreFault>
+        ensures found { (records : Records) → Shows S.Store self.old records → HasCleanDisk (state S.Store self.new) → IfOk result (λ policy. policy ≡ records.policy) }
+        ensures same { IsRegister (state S.Store self.old) → Stays (state S.Store self.old) (state S.Store self.new) }
+        ensures clean { doubt (state S.Store self.old).is_clean ≤ doubt (state S.Store self.new).is_clean }
+        ensures faults { IfErr result IsCallFault }
+    {
+        reg_tables::policy(&mut self.connection)
+    }
+
+    /// How many rows a table has, which is the last id, or for CRLs the latest number. It finds the last row alone.
+    ///
+    /// # Errors
+    /// `Memory`; `Store` where the database fails, or where its row is one that no register writes.
+    pub fn held(&mut self, table: Table) -> Result<u64, StoreFault>
+        ensures found { (records : Records) → Shows S.Store self.old records → HasCleanDisk (state S.Store self.new) → IfOk result (λ rows. rows ≡ rows_of records table) }
+        ensures same { IsRegister (state S.Store self.old) → Stays (state S.Store self.old) (state S.Store self.new) }
+        ensures clean { doubt (state S.Store self.old).is_clean ≤ doubt (state S.Store self.new).is_clean }
+        ensures faults { IfErr result IsCallFault }
+    {
+        reg_tables::held(&mut self.connection, table)
+    }
+
+    /// The subscriber with an id.
+    ///
+    /// # Errors
+    /// `Memory`; `Store` where the database fails, where its row is one that no register writes, or for a number above 2^63 - 1.
+    pub fn subscriber(&mut self, id: u64) -> Result<Option<SubscriberRow>, StoreFault>
+        ensures found { (records : Records) → Shows S.Store self.old records → HasCleanDisk (state S.Store self.new) → IfOk result (λ row. row ≡ subscriber_in records.subscribers id) }
+        ensures same { IsRegister (state S.Store self.old) → Stays (state S.Store self.old) (state S.Store self.new) }
+        ensures clean { doubt (state S.Store self.old).is_clean ≤ doubt (state S.Store self.new).is_clean }
+        ensures faults { IfErr result IsCallFault }
+    {
+        reg_tables::subscriber(&mut self.connection, id)
+    }
+
+    /// The subscriber with a name.
+    ///
+    /// # Errors
+    /// `Memory`; `Store` where the database fails, or where its row is one that no register writes.
+    pub fn subscriber_by_name(&mut self, name: &Label) -> Result<Option<SubscriberRow>, StoreFault>
+        ensures found { (records : Records) → Shows S.Store self.old records → HasCleanDisk (state S.Store self.new) → IfOk result (λ row. row ≡ subscriber_named records.subscribers name.now) }
+        ensures same { IsRegister (state S.Store self.old) → Stays (state S.Store self.old) (state S.Store self.new) }
+        ensures clean { doubt (state S.Store self.old).is_clean ≤ doubt (state S.Store self.new).is_clean }
+        ensures faults { IfErr result IsCallFault }
+    {
+        reg_tables::subscriber_by_name(&mut self.connection, name)
+    }
+
+    /// The order with an id.
+    ///
+    /// # Errors
+    /// `Memory`; `Store` where the database fails, where its row is one that no register writes, or for a number above 2^63 - 1.
+    pub fn order(&mut self, id: u64) -> Result<Option<OrderRow>, StoreFault>
+        ensures found { (records : Records) → Shows S.Store self.old records → HasCleanDisk (state S.Store self.new) → IfOk result (λ row. row ≡ order_in records.orders id) }
+        ensures same { IsRegister (state S.Store self.old) → Stays (state S.Store self.old) (state S.Store self.new) }
+        ensures clean { doubt (state S.Store self.old).is_clean ≤ doubt (state S.Store self.new).is_clean }
+        ensures faults { IfErr result IsCallFault }
+    {
+        reg_tables::order(&mut self.connection, id)
+    }
+
+    /// The certificate with a serial number.
+    ///
+    /// # Errors
+    /// `Memory`; `Store` where the database fails, or where its row is one that no register writes.
+    pub fn cert(&mut self, serial: Serial) -> Result<Option<CertRow>, StoreFault>
+        ensures found { (records : Records) → Shows S.Store self.old records → HasCleanDisk (state S.Store self.new) → IfOk result (λ row. row ≡ certificate_in records.certificates serial) }
+        ensures same { IsRegister (state S.Store self.old) → Stays (state S.Store self.old) (state S.Store self.new) }
+        ensures clean { doubt (state S.Store self.old).is_clean ≤ doubt (state S.Store self.new).is_clean }
+        ensures faults { IfErr result IsCallFault }
+    {
+        reg_tables::cert(&mut self.connection, serial)
+    }
+
+    /// The certificate that fills an order.
+    ///
+    /// # Errors
+    /// `Memory`; `Store` where the database fails, where its row is one that no register writes, or for a number above 2^63 - 1.
+    pub fn cert_of_order(&mut self, order: u64) -> Result<Option<CertRow>, StoreFault>
+        ensures found { (records : Records) → Shows S.Store self.old records → HasCleanDisk (state S.Store self.new) → IfOk result (λ row. row ≡ certificate_of_order records.certificates order) }
+        ensures same { IsRegister (state S.Store self.old) → Stays (state S.Store self.old) (state S.Store self.new) }
+        ensures clean { doubt (state S.Store self.old).is_clean ≤ doubt (state S.Store self.new).is_clean }
+        ensures faults { IfErr result IsCallFault }
+    {
+        reg_tables::cert_of_order(&mut self.connection, order)
+    }
+
+    /// The request with an id.
+    ///
+    /// # Errors
+    /// `Memory`; `Store` where the database fails, where its row is one that no register writes, or for a number above 2^63 - 1.
+    pub fn request(&mut self, id: u64) -> Result<Option<RequestRow>, StoreFault>
+        ensures found { (records : Records) → Shows S.Store self.old records → HasCleanDisk (state S.Store self.new) → IfOk result (λ row. row ≡ request_in records.requests id) }
+        ensures same { IsRegister (state S.Store self.old) → Stays (state S.Store self.old) (state S.Store self.new) }
+        ensures clean { doubt (state S.Store self.old).is_clean ≤ doubt (state S.Store self.new).is_clean }
+        ensures faults { IfErr result IsCallFault }
+    {
+        reg_tables::request(&mut self.connection, id)
+    }
+
+    /// The revocation of a serial number.
+    ///
+    /// # Errors
+    /// `Memory`; `Store` where the database fails, or where its row is one that no register writes.
+    pub fn revocation(&mut self, serial: Serial) -> Result<Option<RevocationRow>, StoreFault>
+        ensures found { (records : Records) → Shows S.Store self.old records → HasCleanDisk (state S.Store self.new) → IfOk result (λ row. row ≡ revocation_in records.revocations serial) }
+        ensures same { IsRegister (state S.Store self.old) → Stays (state S.Store self.old) (state S.Store self.new) }
+        ensures clean { doubt (state S.Store self.old).is_clean ≤ doubt (state S.Store self.new).is_clean }
+        ensures faults { IfErr result IsCallFault }
+    {
+        reg_tables::revocation(&mut self.connection, serial)
+    }
+
+    /// The moment of the earliest revocation that no CRL can have listed yet. It walks the revocations.
+    ///
+    /// # Errors
+    /// `Memory`; `Store` where the database fails, or where its row is one that no register writes.
+    pub fn earliest_unlisted(&mut self) -> Result<Option<Moment>, StoreFault>
+        ensures found { (records : Records) → Shows S.Store self.old records → HasCleanDisk (state S.Store self.new) → IfOk result (λ at. at ≡ earliest (unlisted records)) }
+        ensures same { IsRegister (state S.Store self.old) → Stays (state S.Store self.old) (state S.Store self.new) }
+        ensures clean { doubt (state S.Store self.old).is_clean ≤ doubt (state S.Store self.new).is_clean }
+        ensures faults { IfErr result IsCallFault }
+    {
+        reg_tables::earliest_unlisted(&mut self.connection)
+    }
+
+    /// The latest CRL, without its bytes, which are not read.
+    ///
+    /// # Errors
+    /// `Memory`; `Store` where the database fails, or where its row is one that no register writes.
+    pub fn latest_crl(&mut self) -> Result<Option<CrlRow>, StoreFault>
+        ensures found { (records : Records) → Shows S.Store self.old records → HasCleanDisk (state S.Store self.new) → IfOk result (λ row. row ≡ option_map row_of (latest records.crls)) }
+        ensures same { IsRegister (state S.Store self.old) → Stays (state S.Store self.old) (state S.Store self.new) }
+        ensures clean { doubt (state S.Store self.old).is_clean ≤ doubt (state S.Store self.new).is_clean }
+        ensures faults { IfErr result IsCallFault }
+    {
+        reg_tables::latest_crl(&mut self.connection)
+    }
+
+    /// The DER of a CRL, by its number.
+    ///
+    /// # Errors
+    /// `Memory`; `Store` where the database fails, where its row is one that no register writes, or for a number above 2^63 - 1.
+    pub fn crl(&mut self, number: u64) -> Result<Option<Vec<u8>>, StoreFault>
+        ensures found { (records : Records) → Shows S.Store self.old records → HasCleanDisk (state S.Store self.new)
+            → IfOk result (λ der. option_map (λ bytes. bytes.items) der ≡ option_map (λ crl. crl.bytes) (crl_in records.crls number)) }
+        ensures same { IsRegister (state S.Store self.old) → Stays (state S.Store self.old) (state S.Store self.new) }
+        ensures clean { doubt (state S.Store self.old).is_clean ≤ doubt (state S.Store self.new).is_clean }
+        ensures faults { IfErr result IsCallFault }
+    {
+        reg_tables::crl(&mut self.connection, number)
+    }
+
+    /// How many requests are overdue at a moment, and the least id of them. It walks the requests that are not declined.
+    ///
+    /// # Errors
+    /// `Memory`; `Store` where the database fails, or where its rows are ones that no register writes, such as a request
+    /// without its certificate.
+    pub fn open_past_due(&mut self, now: Moment) -> Result<Option<Overdue>, StoreFault>
+        ensures found { (records : Records) → Shows S.Store self.old records → HasCleanDisk (state S.Store self.new) → IfOk result (λ report. report ≡ overdue_report (overdue records now)) }
+        ensures same { IsRegister (state S.Store self.old) → Stays (state S.Store self.old) (state S.Store self.new) }
+        ensures clean { doubt (state S.Store self.old).is_clean ≤ doubt (state S.Store self.new).is_clean }
+        ensures faults { IfErr result IsCallFault }
+    {
+        reg_tables::open_past_due(&mut self.connection, now)
+    }
+
+    /// The entries of the CRL with a number, issued or the next, in ascending order of serial number: at most 1,000,000.
+    /// It walks what is listed.
+    ///
+    /// # Errors
+    /// `Memory`; `Store` where the database fails, where its rows are ones that no register writes or more than 1,000,000,
+    /// or for a number above 2^63 - 1.
+    pub fn entries(&mut self, number: u64) -> Result<Vec<Entry>, StoreFault>
+        ensures found { (records : Records) → ShowsKept S.Store self.old records → HasCleanDisk (state S.Store self.new) → IfOk result (λ found. found.items ≡ entries records number) }
+        ensures ascending { IfOk result (λ found. EntriesAscend found.items) }
+        ensures at_most { IfOk result (λ found. length found.items ≤ 1000000) }
+        ensures same { IsRegister (state S.Store self.old) → Stays (state S.Store self.old) (state S.Store self.new) }
+        ensures clean { doubt (state S.Store self.old).is_clean ≤ doubt (state S.Store self.new).is_clean }
+        ensures faults { IfErr result IsCallFault }
+    {
+        reg_tables::entries(&mut self.connection, number)
+    }
+
+    /// The numbers of the first CRL that can list a revoked serial number and, where it has been issued, of the last that
+    /// does. `None` for a serial number that is not revoked, registered or not.
+    ///
+    /// # Errors
+    /// `Memory`; `Store` where the database fails, or where its row is one that no register writes.
+    pub fn listing(&mut self, serial: Serial) -> Result<Option<Listing>, StoreFault>
+        ensures found { (records : Records) → ShowsKept S.Store self.old records → HasCleanDisk (state S.Store self.new) → IfOk result (λ found. found ≡ listing records serial) }
+        ensures same { IsRegister (state S.Store self.old) → Stays (state S.Store self.old) (state S.Store self.new) }
+        ensures clean { doubt (state S.Store self.old).is_clean ≤ doubt (state S.Store self.new).is_clean }
+        ensures faults { IfErr result IsCallFault }
+    {
+        reg_tables::listing(&mut self.connection, serial)
+    }
+
+    /// How many registered certificates are good, revoked and expired at a moment, from the last accepted one on.
+    ///
+    /// # Errors
+    /// `Memory`; `Store` where the database fails, or where its rows are ones that no register writes.
+    pub fn counts(&mut self, now: Moment) -> Result<Counts, StoreFault>
+        ensures found { (records : Records) → ShowsKept S.Store self.old records → SoundRows records → records.last ≤ now → HasCleanDisk (state S.Store self.new) → IfOk result (λ found. found ≡ status.counts records now) }
+        ensures same { IsRegister (state S.Store self.old) → Stays (state S.Store self.old) (state S.Store self.new) }
+        ensures clean { doubt (state S.Store self.old).is_clean ≤ doubt (state S.Store self.new).is_clean }
+        ensures faults { IfErr result IsCallFault }
+    {
+        reg_tables::counts(&mut self.connection, now)
+    }
+}

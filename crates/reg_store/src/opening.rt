@@ -1,0 +1,85 @@
+//! A register made in an empty database, and one that is there.
+
+ghost use Rattle.std.specs.Prelude.{◌≡◌, ◌≢◌, ◌≤◌, ◌<◌, ◌⊎◌, ◌↔◌, ℕ, false, OnOk, IfOk, IfErr};
+ghost use Rattle.sqlite.specs.Held.{state};
+ghost use Rattle.sqlite.specs.State.{HasCleanDisk};
+ghost use Rattle.sqlite_trees.specs.View.{doubt};
+ghost use Rattle.reg_core.specs.Records.{Records, no_records};
+ghost use Rattle.reg_tables.specs.Kept.{ShowsKept};
+ghost use Rattle.reg_tables.specs.Schema.{no_schema};
+ghost use Rattle.reg_tables.specs.Shows.{Shows};
+ghost use Rattle.reg_tables.specs.Stays.{IsCallFault, Stays};
+ghost use Rattle.reg_opening.specs.Said.{HasVersion, SaysOffice, InRange};
+
+use crate::store::Store;
+use reg_core::Policy;
+use reg_der::Issuer;
+use reg_tables::StoreFault;
+use sqlite::{Alter, Connection};
+
+/// A connection over which no store was had: why, and the connection, in no transaction and with its tables as they
+/// were.
+#[derive(Drop)]
+pub struct Unopened<S: Alter> {
+    pub fault: StoreFault,
+    pub connection: Connection<S>,
+}
+
+impl<S: Alter> Store<S> {
+    /// Makes a register with no records in an empty database, of this issuer and under this policy, with moment 0 as the
+    /// last accepted one. The connection is in no transaction, as one that was just opened or handed back by a store.
+    ///
+    /// # Errors
+    /// `NotEmpty` where the database has a table, an index or a view; `Memory`; `Store` where the database fails. The
+    /// connection comes back with its tables as they were.
+    pub fn create(
+        connection: Connection<S>,
+        issuer: Issuer,
+        policy: Policy,
+    ) -> Result<Store<S>, Unopened<S>>
+        requires { connection.in_transaction ≡ false }
+        ensures ok { IfOk result (λ store. ShowsKept S.Store store (no_records issuer policy)) }
+        ensures empty { OnOk result (connection.schema ≡ no_schema) }
+        ensures not_empty { IfErr result (λ unopened. unopened.fault ≡ StoreFault.NotEmpty ↔ connection.schema ≢ no_schema) }
+        ensures same { IfErr result (λ unopened. Stays (state S.Store connection) (state S.Store unopened.connection)) }
+        ensures clean { IfOk result (λ store. doubt (state S.Store connection).is_clean ≤ doubt (state S.Store store).is_clean) }
+        ensures clean_after { IfErr result (λ unopened. doubt (state S.Store connection).is_clean ≤ doubt (state S.Store unopened.connection).is_clean) }
+        ensures idle { IfErr result (λ unopened. unopened.connection.in_transaction ≡ false) }
+        ensures faults { IfErr result (λ unopened. (unopened.fault ≡ StoreFault.NotEmpty) ⊎ IsCallFault unopened.fault) }
+    {
+        let mut connection = connection;
+        match reg_opening::create(&mut connection, &issuer, &policy) {
+            Ok(()) => Ok(Store { connection }),
+            Err(fault) => Err(Unopened { fault, connection }),
+        }
+    }
+
+    /// Opens the register that a database holds: what its tables showed, they show. The connection is in no transaction,
+    /// as one that was just opened or handed back by a store.
+    ///
+    /// # Errors
+    /// `NotARegister` where the version, the issuer, the policy or the last accepted moment can't be read, are not in one
+    /// row or out of range; `OldVersion` and `NewVersion` for tables of another version; `Memory`; `Store` where the
+    /// database fails. The connection comes back with its tables as they were.
+    pub fn open(connection: Connection<S>) -> Result<Store<S>, Unopened<S>>
+        requires { connection.in_transaction ≡ false }
+        ensures ok { (records : Records) → Shows S.Store connection records → IfOk result (λ store. Shows S.Store store records) }
+        ensures kept { (records : Records) → ShowsKept S.Store connection records → IfOk result (λ store. ShowsKept S.Store store records) }
+        ensures stays { IfOk result (λ store. Stays (state S.Store connection) (state S.Store store)) }
+        ensures same { IfErr result (λ unopened. Stays (state S.Store connection) (state S.Store unopened.connection)) }
+        ensures shown { (records : Records) → InRange records → Shows S.Store connection records → IfErr result (λ unopened. HasCleanDisk (state S.Store unopened.connection) → IsCallFault unopened.fault) }
+        ensures said { IfOk result (λ store. HasCleanDisk (state S.Store store) → HasVersion (state S.Store connection).now 3 × SaysOffice (state S.Store connection).now) }
+        ensures old { IfErr result (λ unopened. HasCleanDisk (state S.Store unopened.connection) → unopened.fault ≡ StoreFault.OldVersion → (n : ℕ) × (1 ≤ n) × (n < 3) × HasVersion (state S.Store connection).now n) }
+        ensures newer { IfErr result (λ unopened. HasCleanDisk (state S.Store unopened.connection) → unopened.fault ≡ StoreFault.NewVersion → (n : ℕ) × (3 < n) × HasVersion (state S.Store connection).now n) }
+        ensures clean { IfOk result (λ store. doubt (state S.Store connection).is_clean ≤ doubt (state S.Store store).is_clean) }
+        ensures clean_after { IfErr result (λ unopened. doubt (state S.Store connection).is_clean ≤ doubt (state S.Store unopened.connection).is_clean) }
+        ensures idle { IfErr result (λ unopened. unopened.connection.in_transaction ≡ false) }
+        ensures faults { IfErr result (λ unopened. unopened.fault ≢ StoreFault.NotEmpty) }
+    {
+        let mut connection = connection;
+        match reg_opening::open(&mut connection) {
+            Ok(()) => Ok(Store { connection }),
+            Err(fault) => Err(Unopened { fault, connection }),
+        }
+    }
+}

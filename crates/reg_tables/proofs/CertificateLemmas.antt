@@ -1,0 +1,68 @@
+-- What the look-ups of certificates show.
+use Rattle.std.proofs.Common.{◌≡◌, ℕ, None, List, [], ◌∷◌, codes, refl, ◌∙◌}
+use Rattle.std.specs.Prelude.{◌==◌}
+use Rattle.sqlite_value.specs.Order.{Row}
+use Rattle.sqlite_sql.specs.Term.{Term, col}
+use Rattle.sqlite_sql.specs.Query.{Output}
+use Rattle.sqlite.specs.Effect.{Database, Reads}
+use Rattle.sqlite.specs.Listing.{understood}
+use Rattle.sqlite_tied.specs.Compute.{everything}
+use Rattle.reg_core.specs.Records.{Records, certificate_in, certificate_of_order}
+use Rattle.reg_core.specs.Serial.{IsSerial}
+use Rattle.reg_core.specs.declared.rows.CertRow.{CertRow}
+use Rattle.reg_tables.specs.Schema.{register_schema}
+use Rattle.reg_tables.specs.Rows.{number, serial_value, stored_certificate}
+use Rattle.reg_tables.specs.Shows.{IsShownBy}
+use Rattle.reg_tables.specs.Reading.{IsReading, command_of, shown_certificate}
+use Rattle.reg_tables.specs.declared.statements.TheConstants.{CERT_BY_SERIAL, CERT_BY_ORDER}
+use Rattle.reg_tables.proofs.Compares.{and_true, eq_number, eq_serial}
+use Rattle.reg_tables.proofs.Queries.{column_is, selects, as_command, no_limit, Given, counted_given, find_none, find_one, Found}
+
+abbrev columns : List Term
+columns = col 1 1 ∷ col 1 2 ∷ col 1 3 ∷ col 1 4 ∷ []
+
+abbrev names : List (List ℕ)
+names = codes "serial" ∷ codes "order_id" ∷ codes "not_before" ∷ codes "not_after" ∷ []
+
+abbrev out : CertRow → Output
+out row = ([], shown_certificate row)
+
+by_serial_means : command_of (understood register_schema CERT_BY_SERIAL.now) ≡ as_command (selects 4 (column_is 1) columns [] no_limit) names
+unfolding understood everything register_schema
+by_serial_means = refl
+
+pub reading_by_serial : IsReading CERT_BY_SERIAL.now
+unfolding understood everything register_schema
+reading_by_serial = record { plain = (refl, refl); unlisted = refl }
+
+module _ (db : Database) (records : Records) (shown : IsShownBy db records) (serial : ℕ) (is_serial : IsSerial serial) (rows : List Row) (reads : Reads (command_of (understood register_schema CERT_BY_SERIAL.now)) db (serial_value serial ∷ []) rows) where
+  by_serial_given : Given (λ row. row.serial == serial) out records.certificates (selects 4 (column_is 1) columns [] no_limit) (serial_value serial ∷ []) rows
+  by_serial_given =
+      counted_given (λ row. IsSerial row.serial) stored_certificate (λ row. row.serial == serial) out records.certificates shown.rows.certificate_serials 4 (column_is 1) columns [] no_limit (serial_value serial ∷ []) CERT_BY_SERIAL.now names by_serial_means db refl rows reads
+      shown.rows.certificates (λ id row in_row. and_true _ ∙ eq_serial row.serial serial in_row is_serial) (λ id row. refl)
+
+  pub by_serial_none : rows ≡ [] → None ≡ certificate_in records.certificates serial
+  by_serial_none = find_none (λ row. row.serial == serial) out records.certificates 4 (column_is 1) columns [] (serial_value serial ∷ []) rows by_serial_given
+
+  pub by_serial_one : (row : Row) → rows ≡ row ∷ [] → Found (λ row. IsSerial row.serial) shown_certificate (certificate_in records.certificates serial) row
+  by_serial_one = find_one (λ row. row.serial == serial) out records.certificates 4 (column_is 1) columns [] (serial_value serial ∷ []) rows by_serial_given (λ row. IsSerial row.serial) shown.rows.certificate_serials
+
+by_order_means : command_of (understood register_schema CERT_BY_ORDER.now) ≡ as_command (selects 4 (column_is 2) columns [] no_limit) names
+unfolding understood everything register_schema
+by_order_means = refl
+
+pub reading_by_order : IsReading CERT_BY_ORDER.now
+unfolding understood everything register_schema
+reading_by_order = record { plain = (refl, refl); unlisted = refl }
+
+module _ (db : Database) (records : Records) (shown : IsShownBy db records) (order : ℕ) (rows : List Row) (reads : Reads (command_of (understood register_schema CERT_BY_ORDER.now)) db (number order ∷ []) rows) where
+  by_order_given : Given (λ row. row.order == order) out records.certificates (selects 4 (column_is 2) columns [] no_limit) (number order ∷ []) rows
+  by_order_given =
+      counted_given (λ row. IsSerial row.serial) stored_certificate (λ row. row.order == order) out records.certificates shown.rows.certificate_serials 4 (column_is 2) columns [] no_limit (number order ∷ []) CERT_BY_ORDER.now names by_order_means db refl rows reads
+      shown.rows.certificates (λ id row in_row. and_true _ ∙ eq_number row.order order) (λ id row. refl)
+
+  pub by_order_none : rows ≡ [] → None ≡ certificate_of_order records.certificates order
+  by_order_none = find_none (λ row. row.order == order) out records.certificates 4 (column_is 2) columns [] (number order ∷ []) rows by_order_given
+
+  pub by_order_one : (row : Row) → rows ≡ row ∷ [] → Found (λ row. IsSerial row.serial) shown_certificate (certificate_of_order records.certificates order) row
+  by_order_one = find_one (λ row. row.order == order) out records.certificates 4 (column_is 2) columns [] (number order ∷ []) rows by_order_given (λ row. IsSerial row.serial) shown.rows.certificate_serials

@@ -1,0 +1,198 @@
+-- What the statement on the entries of a CRL shows.
+use Rattle.std.proofs.Common.{◌≡◌, ◌≤◌, ◌<◌, ◌+◌, ◌||◌, ◌&&◌, ℕ, true, false, Bool, not, Option, None, Some, List, [], ◌∷◌, map, codes, refl, sym, ap, subst, ◌∙◌, arith, inl, inr}
+use Rattle.std.specs.Prelude.{nat_lt, nat_le, option_map}
+use Rattle.std.specs.List.{filter, find, list_any, AllByRecursion}
+use Rattle.std.specs.List.Sorted.{IsPermutation}
+use Rattle.std.specs.Ordering.{is_eq, is_ge}
+use Rattle.std.proofs.lemmas.Bool.{cases_Bool, le-ltb, ltb-true, ltb-false}
+use Rattle.std.proofs.lemmas.Bool.Decides.{nat_tests}
+use Rattle.std.proofs.lemmas.Cmp.{tied_itself}
+use Rattle.std.proofs.lemmas.List.Elements.{All-from_recursion, recursion_from_All}
+use Rattle.std.proofs.lemmas.List.Sorted.{All-permutation, IsPermutation-map, IsPermutation-trans, IsPermutation-sym}
+use Rattle.sqlite_value.specs.Order.{Row, value_cmp}
+use Rattle.sqlite_value.specs.declared.keys.Key.{Key}
+use Rattle.sqlite_value.specs.declared.keys.Collation.TheVariants.{Binary}
+use Rattle.sqlite_value.specs.declared.value.Value.TheVariants.{Null}
+use Rattle.sqlite_value.proofs.OrderLemmas.{value_cmp-apart, value_cmp_total}
+use Rattle.sqlite_trees.proofs.ListLemmas.{map-map, filter-map, IsPermutation-filter}
+use Rattle.sqlite_sql.specs.Ops.{binary, is_true, from_truth, truth, or3}
+use Rattle.sqlite_sql.specs.Term.{Term, col, lit, op2}
+use Rattle.sqlite_sql.specs.Query.{Output}
+use Rattle.sqlite_sql.specs.declared.ops.BinaryOp.TheVariants.{Compare, Is, Or}
+use Rattle.sqlite_sql.specs.declared.ops.CompareOp.TheVariants.{Le, Ge}
+use Rattle.sqlite.specs.Effect.{Database, Reads}
+use Rattle.sqlite.specs.Listing.{understood}
+use Rattle.sqlite_tied.specs.Compute.{everything}
+use Rattle.reg_core.specs.Crls.{EntriesAscend, is_on, is_past_on, content, entry_of, entries}
+use Rattle.reg_core.specs.Records.{Records, Crl}
+use Rattle.reg_core.specs.Serial.{IsSerial}
+use Rattle.reg_core.specs.Sound.{NumberedFrom}
+use Rattle.reg_core.specs.declared.rows.Entry.{Entry}
+use Rattle.reg_core.specs.declared.rows.RevocationRow.{RevocationRow}
+use Rattle.reg_tables.specs.Schema.{register_schema}
+use Rattle.reg_tables.specs.Rows.{number, serial_value}
+use Rattle.reg_tables.specs.Columns.{Listed, Columns, stored_listed, number_or_null}
+use Rattle.reg_tables.specs.Shows.{AreBoth}
+use Rattle.reg_tables.specs.Kept.{Kept, listed_of}
+use Rattle.reg_tables.specs.Reading.{IsReading, command_of, shown_entry}
+use Rattle.reg_tables.specs.declared.statements.TheConstants.{ENTRIES}
+use Rattle.reg_tables.proofs.AscendLemmas.{serial_of, ascending_same, ascending_sorted}
+use Rattle.reg_tables.proofs.Compares.{and_true, compares, le_number, number_order, is_ge-nat_cmp}
+use Rattle.reg_tables.proofs.Queries.{selects, as_command, no_limit, Given, counted_given, kept_have}
+use Rattle.reg_tables.proofs.Sorting.{ascending_key, sorted_same}
+
+-- ---- what the statement tests
+
+-- not yet past the last number
+abbrev still_on : ℕ → Option ℕ → Bool
+still_on n None = true
+still_on n (Some last) = nat_le n last
+
+abbrev lists : ℕ → Listed → Bool
+lists n row = nat_le row.first n && still_on n row.last
+
+abbrev entry_in : Listed → Entry
+entry_in row = record { serial = row.serial; at = row.at; reason = row.reason }
+
+abbrev is_null_or_after : Term
+is_null_or_after = op2 Or (op2 (Is Binary) (col 1 6) (lit Null)) (op2 (Compare Ge Binary) (col 1 6) (col 0 0))
+
+abbrev listing_terms : List Term
+listing_terms = op2 (Compare Le Binary) (col 1 4) (col 0 0) ∷ is_null_or_after ∷ []
+
+abbrev columns : List Term
+columns = col 1 1 ∷ col 1 2 ∷ col 1 3 ∷ []
+
+abbrev by_serial : List (Term × Key)
+by_serial = (col 1 1, ascending_key) ∷ []
+
+abbrev names : List (List ℕ)
+names = codes "serial" ∷ codes "at" ∷ codes "reason" ∷ []
+
+entries_mean : command_of (understood register_schema ENTRIES.now) ≡ as_command (selects 15 listing_terms columns by_serial no_limit) names
+unfolding understood everything register_schema
+entries_mean = refl
+
+pub reading_entries : IsReading ENTRIES.now
+unfolding understood everything register_schema
+reading_entries = record { plain = (refl, refl); unlisted = refl }
+
+or_truth : (a b : Bool) → is_true (from_truth (or3 (truth (from_truth (Some a))) (truth (from_truth (Some b))))) ≡ (a || b)
+or_truth true true = refl
+or_truth true false = refl
+or_truth false true = refl
+or_truth false false = refl
+
+or_null_truth : is_true (from_truth (or3 (truth (from_truth (Some true))) (truth Null))) ≡ true
+or_null_truth = refl
+
+-- NULL, or a number that is not below
+still_test : (last : Option ℕ) (n : ℕ) → is_true (binary Or (binary (Is Binary) (number_or_null last) Null) (binary (Compare Ge Binary) (number_or_null last) (number n))) ≡ still_on n last
+unfolding binary
+still_test None n = rw (tied_itself value_cmp_total Null) refl
+still_test (Some last) n =
+    let apart : is_eq (value_cmp (number last) Null) ≡ false = ap is_eq (value_cmp-apart (number last) Null (λ e. absurd (omega arith))) in
+    or_truth (is_eq (value_cmp (number last) Null)) (is_ge (value_cmp (number last) (number n))) ∙ ap (λ b. b || is_ge (value_cmp (number last) (number n))) apart
+    ∙ ap is_ge (number_order last n) ∙ is_ge-nat_cmp last n
+
+-- ---- what the rows stand for
+
+none_below : (p : Crl → Bool) (n from : ℕ) (crls : List Crl) → NumberedFrom (λ crl. crl.number) from crls → n ≤ from → list_any (λ crl. nat_lt crl.number n && p crl) crls ≡ false
+none_below p n from [] numbered low = refl
+none_below p n from (crl ∷ rest) numbered low =
+    let above : n ≤ crl.number = let is = numbered.0 in omega arith in
+    rw (le-ltb crl.number n above) (none_below p n (from + 1) rest numbered.1 (omega arith))
+
+and_false : (b : Bool) → (b && false) ≡ false
+and_false true = refl
+and_false false = refl
+
+not_le : (n m : ℕ) → m < n → nat_le n m ≡ false
+not_le n m less = grind (arith, nat_tests)
+
+is_le : (n m : ℕ) → n ≤ m → nat_le n m ≡ true
+is_le n m le = grind (arith, nat_tests)
+
+-- the first that passes is the one of the least number
+first_any : (p : Crl → Bool) (n from : ℕ) (crls : List Crl) → NumberedFrom (λ crl. crl.number) from crls
+    → not (list_any (λ crl. nat_lt crl.number n && p crl) crls) ≡ still_on n (option_map (λ (crl : Crl). crl.number) (find p crls))
+first_any p n from [] numbered = refl
+first_any p n from (crl ∷ rest) numbered = elim (cases_Bool (p crl)) [
+  | inl passes ↦ rw (passes, and_true (nat_lt crl.number n)) (elim (cases_Bool (nat_lt crl.number n)) [
+    | inl before ↦ let below : crl.number < n = ltb-true crl.number n before in rw before (sym (not_le n crl.number below))
+    | inr after ↦
+        let above : n ≤ crl.number = ltb-false crl.number n after in
+        let later : n ≤ from + 1 = let is = numbered.0 in omega arith in
+        rw (after, none_below p n (from + 1) rest numbered.1 later) (sym (is_le n crl.number above))
+  ])
+  | inr fails ↦ rw (fails, and_false (nat_lt crl.number n)) (first_any p n (from + 1) rest numbered.1)
+]
+
+-- a row is listed where its revocation is
+listed_on : (records : Records) (n : ℕ) (row : RevocationRow) → NumberedFrom (λ crl. crl.number) 1 records.crls → lists n (listed_of records row) ≡ is_on records.certificates records.crls n row
+listed_on records n row numbered = ap (λ b. nat_le row.first n && b) (sym (first_any (is_past_on records.certificates row) n 1 records.crls numbered))
+
+same_filter : {A : Type 0} (p q : A → Bool) → ((x : A) → p x ≡ q x) → (xs : List A) → filter p xs ≡ filter q xs
+same_filter p q same [] = refl
+same_filter p q same (x ∷ xs) = rw (same x, same_filter p q same xs) refl
+
+-- the entries of what is listed are those of the revocations that the CRL lists
+entries_listed : (records : Records) (n : ℕ) → NumberedFrom (λ crl. crl.number) 1 records.crls → map entry_in (filter (lists n) (map (listed_of records) records.revocations)) ≡ map entry_of (content records n)
+entries_listed records n numbered =
+    ap (map entry_in) (filter-map (lists n) (listed_of records) records.revocations)
+    ∙ map-map entry_in (listed_of records) (filter (λ row. lists n (listed_of records row)) records.revocations)
+    ∙ ap (map entry_of) (same_filter (λ row. lists n (listed_of records row)) (is_on records.certificates records.crls n) (λ row. listed_on records n row numbered) records.revocations)
+
+-- ---- the statement
+
+abbrev in_range : Listed → Type 0
+in_range row = IsSerial row.serial
+
+abbrev out : Listed → Output
+out row = (serial_value row.serial ∷ [], shown_entry (entry_in row))
+
+tests_are : (row : Listed) (n : ℕ) → (compares Le (number row.first) (number n) && (is_true (binary Or (binary (Is Binary) (number_or_null row.last) Null) (binary (Compare Ge Binary) (number_or_null row.last) (number n))) && true)) ≡ lists n row
+tests_are row n =
+    let first = le_number row.first n in
+    let second = and_true (is_true (binary Or (binary (Is Binary) (number_or_null row.last) Null) (binary (Compare Ge Binary) (number_or_null row.last) (number n)))) ∙ still_test row.last n in
+    λ i. first i && second i
+
+-- what the rows show
+pub record Lists (records : Records) (n : ℕ) (rows : List Row) (found : List Entry) : Type 0 where
+  pub shown : rows ≡ map shown_entry found
+  pub serials : AllByRecursion (λ (entry : Entry). IsSerial entry.serial) found
+  pub same : IsPermutation (map entry_of (content records n)) found
+
+all_mapped : {A B : Type 0} (P : B → Type 0) (f : A → B) (xs : List A) → AllByRecursion (λ x. P (f x)) xs → AllByRecursion P (map f xs)
+all_mapped P f [] all = tt
+all_mapped P f (x ∷ xs) all = (all.0, all_mapped P f xs all.1)
+
+module _ (db : Database) (records : Records) (kept : Columns) (both : AreBoth db records kept) (law : Kept kept records) (n : ℕ) (rows : List Row)
+    (reads : Reads (command_of (understood register_schema ENTRIES.now)) db (number n ∷ []) rows) where
+  pub entries_given : Given (lists n) out kept.listed (selects 15 listing_terms columns by_serial no_limit) (number n ∷ []) rows
+  entries_given =
+      counted_given in_range stored_listed (lists n) out kept.listed both.kept.listed_serials 15 listing_terms columns by_serial no_limit (number n ∷ []) ENTRIES.now names entries_mean db refl rows reads
+      both.kept.listed (λ id row any. tests_are row n) (λ id row. refl)
+
+  abbrev pub found_entries : List Entry
+  found_entries = map entry_in entries_given.to
+
+  pub entries_lists : Lists records n rows found_entries
+  entries_lists =
+      let kept_all = kept_have in_range (lists n) kept.listed both.kept.listed_serials in
+      let all = recursion_from_All in_range entries_given.to (All-permutation in_range (filter (lists n) kept.listed) entries_given.to entries_given.same (All-from_recursion in_range (filter (lists n) kept.listed) kept_all)) in
+      let listed = IsPermutation-filter (lists n) (map (listed_of records) records.revocations) kept.listed law.listed in
+      let same = IsPermutation-map entry_in (filter (lists n) (map (listed_of records) records.revocations)) entries_given.to
+      (IsPermutation-trans (filter (lists n) (map (listed_of records) records.revocations)) (filter (lists n) kept.listed) entries_given.to listed entries_given.same) in
+      record {
+        shown = entries_given.shown ∙ sym (map-map shown_entry entry_in entries_given.to);
+        serials = all_mapped (λ (entry : Entry). IsSerial entry.serial) entry_in entries_given.to all;
+        same = subst (λ l. IsPermutation l found_entries) (entries_listed records n both.shown.rows.crls_numbered) same;
+      }
+
+-- in ascending order they are the entries of the CRL
+pub entries_are : (records : Records) (n : ℕ) (rows : List Row) (found : List Entry) → Lists records n rows found → EntriesAscend found → found ≡ entries records n
+entries_are records n rows found lists up =
+    sym (sorted_same serial_of found (entries records n) up
+    (IsPermutation-trans found (map entry_of (content records n)) (entries records n) (IsPermutation-sym (map entry_of (content records n)) found lists.same) (ascending_same (map entry_of (content records n))))
+    (ascending_sorted (map entry_of (content records n))))

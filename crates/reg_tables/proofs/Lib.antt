@@ -1,0 +1,23 @@
+mod Making
+pub mod Compares
+pub mod Queries
+pub mod Sorting
+pub mod Greatest
+pub mod UnlistedLemmas
+pub mod ScheduleLemmas
+pub mod Taking
+pub mod AscendLemmas
+pub mod EntryLemmas
+pub mod CountLemmas
+pub mod CountLaws
+pub mod ListingLemmas
+pub mod OverdueLemmas
+pub mod Staying
+pub mod SubscriberLemmas
+pub mod CrlLemmas
+pub mod HeldLemmas
+pub mod OfficeLemmas
+pub mod OrderLemmas
+pub mod CertificateLemmas
+pub mod RequestLemmas
+pub mod RevocationLemmas

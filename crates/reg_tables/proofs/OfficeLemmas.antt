@@ -1,0 +1,69 @@
+-- What the statements on the office show.
+use Rattle.std.proofs.Common.{◌≡◌, ℕ, true, Some, List, [], ◌∷◌, codes, refl, ap, ◌∙◌}
+use Rattle.sqlite_value.specs.Order.{Row}
+use Rattle.sqlite_value.specs.declared.value.Value.TheVariants.{Blob}
+use Rattle.sqlite_sql.specs.Term.{Term, col, eval_all}
+use Rattle.sqlite_sql.specs.Query.{Output}
+use Rattle.sqlite.specs.Effect.{Database, Reads}
+use Rattle.sqlite.specs.Listing.{understood}
+use Rattle.sqlite_tied.specs.Compute.{everything}
+use Rattle.reg_core.specs.Records.{Records}
+use Rattle.reg_tables.specs.Schema.{register_schema}
+use Rattle.reg_tables.specs.Rows.{number, stored_office}
+use Rattle.reg_tables.specs.Shows.{IsShownBy}
+use Rattle.reg_tables.specs.Reading.{IsReading, command_of}
+use Rattle.reg_tables.specs.declared.statements.TheConstants.{LAST, ISSUER, TERMS}
+use Rattle.reg_tables.proofs.Queries.{selects, as_command, no_limit, Given, keyed_given, find_one}
+
+same_some : {A : Type 0} (x y : A) → Some x ≡ Some y → x ≡ y
+same_some x y e = cc
+
+module _ (project : List Term) (text : List ℕ) (names : List (List ℕ)) (means : command_of (understood register_schema text) ≡ as_command (selects 0 [] project [] no_limit) names)
+    (db : Database) (records : Records) (shown : IsShownBy db records) (rows : List Row) (reads : Reads (command_of (understood register_schema text)) db [] rows) where
+  abbrev stored : Records → Row
+  stored r = stored_office shown.rows.days r.issuer r.policy r.last
+
+  abbrev out : Records → Output
+  out r = ([], eval_all project ([] ∷ stored r ∷ []))
+
+  office_given : Given (λ _. true) out (records ∷ []) (selects 0 [] project [] no_limit) [] rows
+  office_given = keyed_given (λ _. Unit {0}) stored (λ _. true) out (records ∷ []) (tt, tt) 0 [] project [] no_limit [] text names means db refl rows reads shown.rows.office (λ r any. refl) (λ r. refl)
+
+  office_one : (row : Row) → rows ≡ row ∷ [] → row ≡ eval_all project ([] ∷ stored records ∷ [])
+  office_one row one =
+      let found = find_one (λ _. true) out (records ∷ []) 0 [] project [] [] rows office_given (λ _. Unit {0}) (tt, tt) row one in
+      found.shown ∙ ap (λ (r : Records). eval_all project ([] ∷ stored r ∷ [])) (same_some found.it records found.first)
+
+last_means : command_of (understood register_schema LAST.now) ≡ as_command (selects 0 [] (col 1 9 ∷ []) [] no_limit) (codes "last_at" ∷ [])
+unfolding understood everything register_schema
+last_means = refl
+
+pub reading_last : IsReading LAST.now
+unfolding understood everything register_schema
+reading_last = record { plain = (refl, refl); unlisted = refl }
+
+issuer_means : command_of (understood register_schema ISSUER.now) ≡ as_command (selects 0 [] (col 1 3 ∷ col 1 4 ∷ []) [] no_limit) (codes "name" ∷ codes "pubkey" ∷ [])
+unfolding understood everything register_schema
+issuer_means = refl
+
+pub reading_issuer : IsReading ISSUER.now
+unfolding understood everything register_schema
+reading_issuer = record { plain = (refl, refl); unlisted = refl }
+
+terms_means : command_of (understood register_schema TERMS.now) ≡ as_command (selects 0 [] (col 1 6 ∷ col 1 7 ∷ col 1 8 ∷ []) [] no_limit) (codes "crl_life" ∷ codes "ocsp_life" ∷ codes "cap" ∷ [])
+unfolding understood everything register_schema
+terms_means = refl
+
+pub reading_terms : IsReading TERMS.now
+unfolding understood everything register_schema
+reading_terms = record { plain = (refl, refl); unlisted = refl }
+
+module _ (db : Database) (records : Records) (shown : IsShownBy db records) (rows : List Row) (row : Row) (one : rows ≡ row ∷ []) where
+  pub last_one : Reads (command_of (understood register_schema LAST.now)) db [] rows → row ≡ number records.last ∷ []
+  last_one reads = office_one (col 1 9 ∷ []) LAST.now (codes "last_at" ∷ []) last_means db records shown rows reads row one
+
+  pub issuer_one : Reads (command_of (understood register_schema ISSUER.now)) db [] rows → row ≡ Blob records.issuer.name ∷ Blob records.issuer.key ∷ []
+  issuer_one reads = office_one (col 1 3 ∷ col 1 4 ∷ []) ISSUER.now (codes "name" ∷ codes "pubkey" ∷ []) issuer_means db records shown rows reads row one
+
+  pub terms_one : Reads (command_of (understood register_schema TERMS.now)) db [] rows → row ≡ number records.policy.crl_life ∷ number records.policy.ocsp_life ∷ number records.policy.cap ∷ []
+  terms_one reads = office_one (col 1 6 ∷ col 1 7 ∷ col 1 8 ∷ []) TERMS.now (codes "crl_life" ∷ codes "ocsp_life" ∷ codes "cap" ∷ []) terms_means db records shown rows reads row one

@@ -1,0 +1,47 @@
+-- What the look-ups of orders show.
+use Rattle.std.proofs.Common.{◌≡◌, ℕ, None, List, [], ◌∷◌, codes, refl, ◌∙◌}
+use Rattle.std.specs.Prelude.{◌==◌}
+use Rattle.sqlite_value.specs.Order.{Row}
+use Rattle.sqlite_sql.specs.Term.{Term, col}
+use Rattle.sqlite_sql.specs.Query.{Output}
+use Rattle.sqlite.specs.Effect.{Database, Reads}
+use Rattle.sqlite.specs.Listing.{understood}
+use Rattle.sqlite_tied.specs.Compute.{everything}
+use Rattle.reg_core.specs.Records.{Records, order_in}
+use Rattle.reg_core.specs.declared.rows.OrderRow.{OrderRow}
+use Rattle.reg_tables.specs.Schema.{register_schema}
+use Rattle.reg_tables.specs.Rows.{number, stored_order}
+use Rattle.reg_tables.specs.Shows.{IsShownBy}
+use Rattle.reg_tables.specs.Reading.{IsReading, command_of, shown_order}
+use Rattle.reg_tables.specs.declared.statements.TheConstants.{ORDER_BY_ID}
+use Rattle.reg_tables.proofs.Compares.{and_true, eq_number}
+use Rattle.reg_tables.proofs.Queries.{column_is, selects, as_command, no_limit, Given, keyed_given, all_of, find_none, find_one, Found}
+
+abbrev columns : List Term
+columns = col 1 0 ∷ col 1 2 ∷ col 1 3 ∷ []
+
+abbrev names : List (List ℕ)
+names = codes "id" ∷ codes "subscriber" ∷ codes "days" ∷ []
+
+abbrev out : OrderRow → Output
+out row = ([], shown_order row)
+
+by_id_means : command_of (understood register_schema ORDER_BY_ID.now) ≡ as_command (selects 3 (column_is 0) columns [] no_limit) names
+unfolding understood everything register_schema
+by_id_means = refl
+
+pub reading_by_id : IsReading ORDER_BY_ID.now
+unfolding understood everything register_schema
+reading_by_id = record { plain = (refl, refl); unlisted = refl }
+
+module _ (db : Database) (records : Records) (shown : IsShownBy db records) (id : ℕ) (rows : List Row) (reads : Reads (command_of (understood register_schema ORDER_BY_ID.now)) db (number id ∷ []) rows) where
+  by_id_given : Given (λ row. row.id == id) out records.orders (selects 3 (column_is 0) columns [] no_limit) (number id ∷ []) rows
+  by_id_given =
+      keyed_given (λ _. Unit {0}) stored_order (λ row. row.id == id) out records.orders (all_of (λ _. Unit {0}) (λ _. tt) records.orders) 3 (column_is 0) columns [] no_limit (number id ∷ []) ORDER_BY_ID.now names by_id_means db refl rows reads
+      shown.rows.orders (λ row in_row. and_true _ ∙ eq_number row.id id) (λ row. refl)
+
+  pub by_id_none : rows ≡ [] → None ≡ order_in records.orders id
+  by_id_none = find_none (λ row. row.id == id) out records.orders 3 (column_is 0) columns [] (number id ∷ []) rows by_id_given
+
+  pub by_id_one : (row : Row) → rows ≡ row ∷ [] → Found (λ _. Unit {0}) shown_order (order_in records.orders id) row
+  by_id_one = find_one (λ row. row.id == id) out records.orders 3 (column_is 0) columns [] (number id ∷ []) rows by_id_given (λ _. Unit {0}) (all_of (λ _. Unit {0}) (λ _. tt) records.orders)

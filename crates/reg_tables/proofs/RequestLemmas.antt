@@ -1,0 +1,48 @@
+-- What the look-ups of requests show.
+use Rattle.std.proofs.Common.{◌≡◌, ℕ, None, List, [], ◌∷◌, codes, refl, ◌∙◌}
+use Rattle.std.specs.Prelude.{◌==◌}
+use Rattle.sqlite_value.specs.Order.{Row}
+use Rattle.sqlite_sql.specs.Term.{Term, col}
+use Rattle.sqlite_sql.specs.Query.{Output}
+use Rattle.sqlite.specs.Effect.{Database, Reads}
+use Rattle.sqlite.specs.Listing.{understood}
+use Rattle.sqlite_tied.specs.Compute.{everything}
+use Rattle.reg_core.specs.Records.{Records, request_in}
+use Rattle.reg_core.specs.Serial.{IsSerial}
+use Rattle.reg_core.specs.declared.rows.RequestRow.{RequestRow}
+use Rattle.reg_tables.specs.Schema.{register_schema}
+use Rattle.reg_tables.specs.Rows.{number, stored_request}
+use Rattle.reg_tables.specs.Shows.{IsShownBy}
+use Rattle.reg_tables.specs.Reading.{IsReading, command_of, shown_request}
+use Rattle.reg_tables.specs.declared.statements.TheConstants.{REQUEST_BY_ID}
+use Rattle.reg_tables.proofs.Compares.{and_true, eq_number}
+use Rattle.reg_tables.proofs.Queries.{column_is, selects, as_command, no_limit, Given, keyed_given, find_none, find_one, Found}
+
+abbrev columns : List Term
+columns = col 1 0 ∷ col 1 2 ∷ col 1 3 ∷ col 1 4 ∷ col 1 5 ∷ []
+
+abbrev names : List (List ℕ)
+names = codes "id" ∷ codes "serial" ∷ codes "ground" ∷ codes "received" ∷ codes "declined" ∷ []
+
+abbrev out : RequestRow → Output
+out row = ([], shown_request row)
+
+by_id_means : command_of (understood register_schema REQUEST_BY_ID.now) ≡ as_command (selects 7 (column_is 0) columns [] no_limit) names
+unfolding understood everything register_schema
+by_id_means = refl
+
+pub reading_by_id : IsReading REQUEST_BY_ID.now
+unfolding understood everything register_schema
+reading_by_id = record { plain = (refl, refl); unlisted = refl }
+
+module _ (db : Database) (records : Records) (shown : IsShownBy db records) (id : ℕ) (rows : List Row) (reads : Reads (command_of (understood register_schema REQUEST_BY_ID.now)) db (number id ∷ []) rows) where
+  by_id_given : Given (λ row. row.id == id) out records.requests (selects 7 (column_is 0) columns [] no_limit) (number id ∷ []) rows
+  by_id_given =
+      keyed_given (λ row. IsSerial row.serial) stored_request (λ row. row.id == id) out records.requests shown.rows.request_serials 7 (column_is 0) columns [] no_limit (number id ∷ []) REQUEST_BY_ID.now names by_id_means db refl rows reads
+      shown.rows.requests (λ row in_row. and_true _ ∙ eq_number row.id id) (λ row. refl)
+
+  pub by_id_none : rows ≡ [] → None ≡ request_in records.requests id
+  by_id_none = find_none (λ row. row.id == id) out records.requests 7 (column_is 0) columns [] (number id ∷ []) rows by_id_given
+
+  pub by_id_one : (row : Row) → rows ≡ row ∷ [] → Found (λ row. IsSerial row.serial) shown_request (request_in records.requests id) row
+  by_id_one = find_one (λ row. row.id == id) out records.requests 7 (column_is 0) columns [] (number id ∷ []) rows by_id_given (λ row. IsSerial row.serial) shown.rows.request_serials

@@ -1,0 +1,48 @@
+-- What the look-ups of revocations show.
+use Rattle.std.proofs.Common.{◌≡◌, ℕ, None, List, [], ◌∷◌, codes, refl, ◌∙◌}
+use Rattle.std.specs.Prelude.{◌==◌}
+use Rattle.sqlite_value.specs.Order.{Row}
+use Rattle.sqlite_sql.specs.Term.{Term, col}
+use Rattle.sqlite_sql.specs.Query.{Output}
+use Rattle.sqlite.specs.Effect.{Database, Reads}
+use Rattle.sqlite.specs.Listing.{understood}
+use Rattle.sqlite_tied.specs.Compute.{everything}
+use Rattle.reg_core.specs.Records.{Records, revocation_in}
+use Rattle.reg_core.specs.Serial.{IsSerial}
+use Rattle.reg_core.specs.declared.rows.RevocationRow.{RevocationRow}
+use Rattle.reg_tables.specs.Schema.{register_schema}
+use Rattle.reg_tables.specs.Rows.{serial_value, stored_revocation}
+use Rattle.reg_tables.specs.Shows.{IsShownBy}
+use Rattle.reg_tables.specs.Reading.{IsReading, command_of, shown_revocation}
+use Rattle.reg_tables.specs.declared.statements.TheConstants.{REVOCATION_BY_SERIAL}
+use Rattle.reg_tables.proofs.Compares.{and_true, eq_serial}
+use Rattle.reg_tables.proofs.Queries.{column_is, selects, as_command, no_limit, Given, counted_given, find_none, find_one, Found}
+
+abbrev columns : List Term
+columns = col 1 1 ∷ col 1 2 ∷ col 1 3 ∷ col 1 4 ∷ col 1 5 ∷ []
+
+abbrev names : List (List ℕ)
+names = codes "serial" ∷ codes "at" ∷ codes "reason" ∷ codes "request" ∷ codes "first_crl" ∷ []
+
+abbrev out : RevocationRow → Output
+out row = ([], shown_revocation row)
+
+by_serial_means : command_of (understood register_schema REVOCATION_BY_SERIAL.now) ≡ as_command (selects 8 (column_is 1) columns [] no_limit) names
+unfolding understood everything register_schema
+by_serial_means = refl
+
+pub reading_by_serial : IsReading REVOCATION_BY_SERIAL.now
+unfolding understood everything register_schema
+reading_by_serial = record { plain = (refl, refl); unlisted = refl }
+
+module _ (db : Database) (records : Records) (shown : IsShownBy db records) (serial : ℕ) (is_serial : IsSerial serial) (rows : List Row) (reads : Reads (command_of (understood register_schema REVOCATION_BY_SERIAL.now)) db (serial_value serial ∷ []) rows) where
+  by_serial_given : Given (λ row. row.serial == serial) out records.revocations (selects 8 (column_is 1) columns [] no_limit) (serial_value serial ∷ []) rows
+  by_serial_given =
+      counted_given (λ row. IsSerial row.serial) stored_revocation (λ row. row.serial == serial) out records.revocations shown.rows.revocation_serials 8 (column_is 1) columns [] no_limit (serial_value serial ∷ []) REVOCATION_BY_SERIAL.now names by_serial_means db refl rows reads
+      shown.rows.revocations (λ id row in_row. and_true _ ∙ eq_serial row.serial serial in_row is_serial) (λ id row. refl)
+
+  pub by_serial_none : rows ≡ [] → None ≡ revocation_in records.revocations serial
+  by_serial_none = find_none (λ row. row.serial == serial) out records.revocations 8 (column_is 1) columns [] (serial_value serial ∷ []) rows by_serial_given
+
+  pub by_serial_one : (row : Row) → rows ≡ row ∷ [] → Found (λ row. IsSerial row.serial) shown_revocation (revocation_in records.revocations serial) row
+  by_serial_one = find_one (λ row. row.serial == serial) out records.revocations 8 (column_is 1) columns [] (serial_value serial ∷ []) rows by_serial_given (λ row. IsSerial row.serial) shown.rows.revocation_serials

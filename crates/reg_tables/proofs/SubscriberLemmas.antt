@@ -1,0 +1,68 @@
+-- What the look-ups of subscribers show.
+use Rattle.std.proofs.Common.{◌≡◌, ℕ, None, List, [], ◌∷◌, codes, refl, ◌∙◌}
+use Rattle.std.specs.Prelude.{◌==◌, bytes_eq}
+use Rattle.sqlite_value.specs.Order.{Row}
+use Rattle.sqlite_value.specs.declared.value.Value.TheVariants.{Text}
+use Rattle.sqlite_sql.specs.Term.{Term, col}
+use Rattle.sqlite_sql.specs.Query.{Output}
+use Rattle.sqlite.specs.Effect.{Database, Reads}
+use Rattle.sqlite.specs.Listing.{understood}
+use Rattle.sqlite_tied.specs.Compute.{everything}
+use Rattle.reg_core.specs.Records.{Records, subscriber_in, subscriber_named}
+use Rattle.reg_core.specs.declared.rows.SubscriberRow.{SubscriberRow}
+use Rattle.reg_tables.specs.Schema.{register_schema}
+use Rattle.reg_tables.specs.Rows.{number, stored_subscriber}
+use Rattle.reg_tables.specs.Shows.{IsShownBy}
+use Rattle.reg_tables.specs.Reading.{IsReading, command_of, shown_subscriber}
+use Rattle.reg_tables.specs.declared.statements.TheConstants.{SUBSCRIBER_BY_ID, SUBSCRIBER_BY_NAME}
+use Rattle.reg_tables.proofs.Compares.{and_true, eq_number, eq_text}
+use Rattle.reg_tables.proofs.Queries.{column_is, selects, as_command, no_limit, Given, keyed_given, all_of, find_none, find_one, Found}
+
+abbrev columns : List Term
+columns = col 1 0 ∷ col 1 2 ∷ []
+
+abbrev names : List (List ℕ)
+names = codes "id" ∷ codes "name" ∷ []
+
+abbrev out : SubscriberRow → Output
+out row = ([], shown_subscriber row)
+
+by_id_means : command_of (understood register_schema SUBSCRIBER_BY_ID.now) ≡ as_command (selects 1 (column_is 0) columns [] no_limit) names
+unfolding understood everything register_schema
+by_id_means = refl
+
+pub reading_by_id : IsReading SUBSCRIBER_BY_ID.now
+unfolding understood everything register_schema
+reading_by_id = record { plain = (refl, refl); unlisted = refl }
+
+module _ (db : Database) (records : Records) (shown : IsShownBy db records) (id : ℕ) (rows : List Row) (reads : Reads (command_of (understood register_schema SUBSCRIBER_BY_ID.now)) db (number id ∷ []) rows) where
+  by_id_given : Given (λ row. row.id == id) out records.subscribers (selects 1 (column_is 0) columns [] no_limit) (number id ∷ []) rows
+  by_id_given =
+      keyed_given (λ _. Unit {0}) stored_subscriber (λ row. row.id == id) out records.subscribers (all_of (λ _. Unit {0}) (λ _. tt) records.subscribers) 1 (column_is 0) columns [] no_limit (number id ∷ []) SUBSCRIBER_BY_ID.now names by_id_means db refl rows reads
+      shown.rows.subscribers (λ row in_row. and_true _ ∙ eq_number row.id id) (λ row. refl)
+
+  pub by_id_none : rows ≡ [] → None ≡ subscriber_in records.subscribers id
+  by_id_none = find_none (λ row. row.id == id) out records.subscribers 1 (column_is 0) columns [] (number id ∷ []) rows by_id_given
+
+  pub by_id_one : (row : Row) → rows ≡ row ∷ [] → Found (λ _. Unit {0}) shown_subscriber (subscriber_in records.subscribers id) row
+  by_id_one = find_one (λ row. row.id == id) out records.subscribers 1 (column_is 0) columns [] (number id ∷ []) rows by_id_given (λ _. Unit {0}) (all_of (λ _. Unit {0}) (λ _. tt) records.subscribers)
+
+by_name_means : command_of (understood register_schema SUBSCRIBER_BY_NAME.now) ≡ as_command (selects 1 (column_is 2) columns [] no_limit) names
+unfolding understood everything register_schema
+by_name_means = refl
+
+pub reading_by_name : IsReading SUBSCRIBER_BY_NAME.now
+unfolding understood everything register_schema
+reading_by_name = record { plain = (refl, refl); unlisted = refl }
+
+module _ (db : Database) (records : Records) (shown : IsShownBy db records) (name : List ℕ) (rows : List Row) (reads : Reads (command_of (understood register_schema SUBSCRIBER_BY_NAME.now)) db (Text name ∷ []) rows) where
+  by_name_given : Given (λ row. bytes_eq row.name name) out records.subscribers (selects 1 (column_is 2) columns [] no_limit) (Text name ∷ []) rows
+  by_name_given =
+      keyed_given (λ _. Unit {0}) stored_subscriber (λ row. bytes_eq row.name name) out records.subscribers (all_of (λ _. Unit {0}) (λ _. tt) records.subscribers) 1 (column_is 2) columns [] no_limit (Text name ∷ []) SUBSCRIBER_BY_NAME.now names by_name_means db refl rows reads
+      shown.rows.subscribers (λ row in_row. and_true _ ∙ eq_text row.name name) (λ row. refl)
+
+  pub by_name_none : rows ≡ [] → None ≡ subscriber_named records.subscribers name
+  by_name_none = find_none (λ row. bytes_eq row.name name) out records.subscribers 1 (column_is 2) columns [] (Text name ∷ []) rows by_name_given
+
+  pub by_name_one : (row : Row) → rows ≡ row ∷ [] → Found (λ _. Unit {0}) shown_subscriber (subscriber_named records.subscribers name) row
+  by_name_one = find_one (λ row. bytes_eq row.name name) out records.subscribers 1 (column_is 2) columns [] (Text name ∷ []) rows by_name_given (λ _. Unit {0}) (all_of (λ _. Unit {0}) (λ _. tt) records.subscribers)

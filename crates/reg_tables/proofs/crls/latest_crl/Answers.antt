@@ -1,0 +1,21 @@
+use Rattle.std.proofs.Common.{Some, sym, ap, ◌∙◌}
+use Rattle.sqlite.specs.Held.{state}
+use Rattle.reg_core.specs.declared.rows.CrlRow.{CrlRow}
+use Rattle.reg_tables.proofs.Staying.{shows_register, shown_then}
+use Rattle.reg_tables.proofs.HeldLemmas.{reading_crl}
+use Rattle.reg_tables.proofs.CrlLemmas.{latest_none, latest_one}
+use Rattle.reg_tables.proofs.crls.latest_crl.Goals as goal
+
+pub returns-in-None-clause-found : goal.returns-in-None-clause-found
+returns-in-None-clause-found g c records shows clean =
+    let answer = c.in_ok-found.ensures.rows reading_crl (shows_register g.S.Store c.args.conn.now records shows) clean in
+    let shown = shown_then g.S.Store c.args.conn.now c.read.new.conn records c.read.ensures.clean clean answer.is_open shows in
+    latest_none (state g.S.Store c.args.conn.now).now records shown c.in_ok-found.found.items answer.reads (sym c.deref.ensures.value ∙ (rw c.in-None.is at c.in_ok-at_most_one.ensures.found))
+
+pub returns-clause-found : goal.returns-clause-found
+returns-clause-found g c records shows clean =
+    let answer = c.in_ok-found.ensures.rows reading_crl (shows_register g.S.Store c.args.conn.now records shows) clean in
+    let shown = shown_then g.S.Store c.args.conn.now c.read.new.conn records c.read.ensures.clean clean answer.is_open shows in
+    let one = latest_one (state g.S.Store c.args.conn.now).now records shown c.in_ok-found.found.items answer.reads
+    c.in-Some.row.now (sym c.deref.ensures.value ∙ (rw c.in-Some.is at c.in_ok-at_most_one.ensures.found)) in
+    ap (λ (row : CrlRow). Some row) (c.in_ok-crl_in-in-Some.ensures.read one.it one.shown) ∙ one.first

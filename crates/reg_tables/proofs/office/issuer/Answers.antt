@@ -1,0 +1,16 @@
+use Rattle.std.proofs.Common.{sym, ap, ◌∙◌}
+use Rattle.sqlite.specs.Held.{state}
+use Rattle.sqlite_value.specs.Order.{Row, column}
+use Rattle.reg_tables.proofs.Staying.{shows_register, shown_then}
+use Rattle.reg_tables.proofs.OfficeLemmas.{reading_issuer, issuer_one}
+use Rattle.reg_tables.proofs.office.issuer.Goals as goal
+
+pub returns-clause-found : goal.returns-clause-found
+returns-clause-found g c records shows clean =
+    let answer = c.in_ok-found.ensures.rows reading_issuer (shows_register g.S.Store c.args.conn.now records shows) clean in
+    let shown = shown_then g.S.Store c.args.conn.now c.read.new.conn records c.read.ensures.clean clean answer.is_open shows in
+    let row = issuer_one (state g.S.Store c.args.conn.now).now records shown c.in_ok-found.found.items c.in_ok-row.row.now (sym c.deref.ensures.value ∙ c.in_ok-row.ensures.found) answer.reads in
+    let name = c.in_ok-bytes_at.ensures.read records.issuer.name (ap (λ (r : Row). column r 0) row) in
+    let key = c.in_ok-bytes_at-2.ensures.read records.issuer.key (ap (λ (r : Row). column r 1) row) in
+    let made = c.in_ok-new.ensures.ok in
+    λ i. record { name = (made.0 ∙ name) i; key = (made.1 ∙ key) i }

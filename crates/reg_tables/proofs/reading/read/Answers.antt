@@ -1,0 +1,18 @@
+use Rattle.sqlite.specs.Held.{state}
+use Rattle.sqlite.specs.Values.{bound}
+use Rattle.reg_tables.proofs.Staying.{fails_stays, shown_stays, shown_answers}
+use Rattle.reg_tables.proofs.reading.read.Goals as goal
+
+pub returns-in_err-query_all-clause-same : goal.returns-in_err-query_all-clause-same
+returns-in_err-query_all-clause-same g c reading register =
+    fails_stays (state g.S.Store c.args.conn.now) (state g.S.Store c.query_all.new.self) c.args.sql.now (bound c.args.params.now) _ c.in_err-query_all.ensures.err
+
+pub returns-clause-rows : goal.returns-clause-rows
+returns-clause-rows g c reading register clean =
+    shown_answers (state g.S.Store c.args.conn.now) (state g.S.Store c.query_all.new.self) c.query_all.ensures.survives.clean register c.args.sql.now (bound c.args.params.now) _ reading clean
+    (c.in_ok-query_all.ensures.ok clean)
+
+pub returns-clause-same : goal.returns-clause-same
+returns-clause-same g c reading register =
+    shown_stays (state g.S.Store c.args.conn.now) (state g.S.Store c.query_all.new.self) c.query_all.ensures.survives.clean register c.args.sql.now (bound c.args.params.now) _ reading
+    c.in_ok-query_all.ensures.ok

@@ -1,0 +1,11 @@
+use Rattle.reg_core.specs.Serial.{IsSerial}
+use Rattle.reg_core.specs.declared.rows.Entry.{Entry}
+use Rattle.reg_tables.specs.Reading.{shown_entry}
+use Rattle.reg_tables.proofs.Taking.{more_read}
+use Rattle.reg_tables.proofs.rows.entries_in.Goals as goal
+
+pub loop-row-preserved : goal.loop-row-preserved
+loop-row-preserved c entries all are =
+    more_read (λ (entry : Entry). IsSerial entry.serial) shown_entry entries all c.args.rows.now.items c.deref-row-items.result.now c.loop-row.entries.items c.push.new.self.items c.loop-row.row-index c.row-item.result
+    c.in_ok-entry_in.field-0 are c.deref-row-items.ensures.value c.loop-row-test.true c.row-item.is (c.loop-row.invariant entries all are) c.in_ok-push.ensures.items
+    (λ entry in_range shown. c.in_ok-entry_in.ensures.read entry in_range shown)

@@ -1,0 +1,11 @@
+use Rattle.reg_core.specs.Serial.{IsSerial}
+use Rattle.reg_core.specs.declared.rows.RequestRow.{RequestRow}
+use Rattle.reg_tables.specs.Reading.{shown_request}
+use Rattle.reg_tables.proofs.Taking.{more_read}
+use Rattle.reg_tables.proofs.rows.requests_in.Goals as goal
+
+pub loop-row-preserved : goal.loop-row-preserved
+loop-row-preserved c requests all are =
+    more_read (λ (request : RequestRow). IsSerial request.serial) shown_request requests all c.args.rows.now.items c.deref-row-items.result.now c.loop-row.requests.items c.push.new.self.items c.loop-row.row-index c.row-item.result
+    c.in_ok-request_in.field-0 are c.deref-row-items.ensures.value c.loop-row-test.true c.row-item.is (c.loop-row.invariant requests all are) c.in_ok-push.ensures.items
+    (λ request in_range shown. c.in_ok-request_in.ensures.read request in_range shown)

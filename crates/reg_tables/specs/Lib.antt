@@ -1,0 +1,9 @@
+pub mod Schema
+pub mod Rows
+pub mod Columns
+pub mod Shows
+pub mod Faults
+pub mod Kept
+pub mod Stays
+pub mod Reading
+pub mod Tables

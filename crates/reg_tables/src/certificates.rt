@@ -1,0 +1,62 @@
+//! Look-ups of certificates.
+
+ghost use Rattle.std.specs.Prelude.{◌≡◌, ◌≤◌, false, IfOk, IfErr};
+ghost use Rattle.sqlite.specs.Held.{state};
+ghost use Rattle.sqlite.specs.State.{HasCleanDisk};
+ghost use Rattle.sqlite_trees.specs.View.{doubt};
+ghost use Rattle.reg_core.specs.Records.{Records, certificate_in, certificate_of_order};
+ghost use Rattle.reg_tables.specs.Shows.{Shows};
+ghost use Rattle.reg_tables.specs.Stays.{IsCallFault, IsRegister, Stays};
+
+use crate::fault::StoreFault;
+use crate::reading::{at_most_one, read};
+use crate::rows;
+use crate::statements::{CERT_BY_ORDER, CERT_BY_SERIAL};
+use crate::values::sql_number;
+use reg_core::{CertRow, Serial};
+use sqlite::{Alter, Connection, params};
+
+/// The certificate with a serial number.
+///
+/// # Errors
+/// `Memory`; `Store` where the database fails, or where its row is one that no register writes.
+#[tactic(auto, using(crate::proofs::CertificateLemmas::reading_by_serial))]
+pub fn cert<S: Alter>(
+    conn: &mut Connection<S>,
+    serial: Serial,
+) -> Result<Option<CertRow>, StoreFault>
+    ensures found { (records : Records) → Shows S.Store conn.old records → HasCleanDisk (state S.Store conn.new) → IfOk result (λ row. row ≡ certificate_in records.certificates serial) }
+    ensures same { IsRegister (state S.Store conn.old) → Stays (state S.Store conn.old) (state S.Store conn.new) }
+    ensures clean { doubt (state S.Store conn.old).is_clean ≤ doubt (state S.Store conn.new).is_clean }
+    ensures idle { conn.old.in_transaction ≡ false → conn.new.in_transaction ≡ false }
+    ensures faults { IfErr result IsCallFault }
+{
+    let found = read(conn, CERT_BY_SERIAL, params![serial.bytes20().as_slice()])?;
+    match at_most_one(&found)? {
+        None => Ok(None),
+        Some(row) => Ok(Some(rows::certificate_in(row)?)),
+    }
+}
+
+/// The certificate that fills an order.
+///
+/// # Errors
+/// `Memory`; `Store` where the database fails, where its row is one that no register writes, or for a number above 2^63 - 1.
+#[tactic(auto, using(crate::proofs::CertificateLemmas::reading_by_order))]
+pub fn cert_of_order<S: Alter>(
+    conn: &mut Connection<S>,
+    order: u64,
+) -> Result<Option<CertRow>, StoreFault>
+    ensures found { (records : Records) → Shows S.Store conn.old records → HasCleanDisk (state S.Store conn.new) → IfOk result (λ row. row ≡ certificate_of_order records.certificates order) }
+    ensures same { IsRegister (state S.Store conn.old) → Stays (state S.Store conn.old) (state S.Store conn.new) }
+    ensures clean { doubt (state S.Store conn.old).is_clean ≤ doubt (state S.Store conn.new).is_clean }
+    ensures idle { conn.old.in_transaction ≡ false → conn.new.in_transaction ≡ false }
+    ensures faults { IfErr result IsCallFault }
+{
+    let value = sql_number(order)?;
+    let found = read(conn, CERT_BY_ORDER, params![&value])?;
+    match at_most_one(&found)? {
+        None => Ok(None),
+        Some(row) => Ok(Some(rows::certificate_in(row)?)),
+    }
+}

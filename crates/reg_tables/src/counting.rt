@@ -1,0 +1,78 @@
+//! The counts of certificates by their status, from the kept counts.
+
+ghost use Rattle.std.specs.Prelude.{◌≡◌, ◌≤◌, false, length, filter, IsTrue, IfOk, IfErr};
+ghost use Rattle.sqlite.specs.Held.{state};
+ghost use Rattle.sqlite.specs.State.{HasCleanDisk};
+ghost use Rattle.sqlite_trees.specs.View.{doubt};
+ghost use Rattle.reg_core.specs.Records.{Records};
+ghost use Rattle.reg_core.specs.Sound.{SoundRows};
+ghost use Rattle.reg_core.specs.Status as status;
+ghost use Rattle.reg_tables.specs.Columns.{Columns, ends_before};
+ghost use Rattle.reg_tables.specs.Kept.{ShowsKept};
+ghost use Rattle.reg_tables.specs.Shows.{ShowsBoth};
+ghost use Rattle.reg_tables.specs.Stays.{IsCallFault, IsRegister, Stays};
+
+use crate::fault::StoreFault;
+use crate::reading::{only, read};
+use crate::statements::{COUNTS, ENDED_BEFORE};
+use crate::values::{number_at, sql_number};
+use reg_core::{Counts, Moment};
+use sqlite::{Alter, Connection, params};
+
+/// The counts as they are kept, of the last accepted moment: one row is read.
+///
+/// # Errors
+/// `Memory`; `Store` where the database fails, or where there is not one row of three numbers.
+#[tactic(auto, using(crate::proofs::CountLemmas::reading_counts))]
+pub fn kept_counts<S: Alter>(conn: &mut Connection<S>) -> Result<Counts, StoreFault>
+    ensures found { (records : Records) → (kept : Columns) → ShowsBoth S.Store conn.old records kept → HasCleanDisk (state S.Store conn.new) → IfOk result (λ counts. counts ≡ kept.counts) }
+    ensures same { IsRegister (state S.Store conn.old) → Stays (state S.Store conn.old) (state S.Store conn.new) }
+    ensures clean { doubt (state S.Store conn.old).is_clean ≤ doubt (state S.Store conn.new).is_clean }
+    ensures idle { conn.old.in_transaction ≡ false → conn.new.in_transaction ≡ false }
+    ensures faults { IfErr result IsCallFault }
+{
+    let found = read(conn, COUNTS, &[])?;
+    let row = only(&found)?;
+    Ok(Counts {
+        good: number_at(row, 0)?,
+        revoked: number_at(row, 1)?,
+        expired: number_at(row, 2)?,
+    })
+}
+
+/// How many certificates are kept as good and end before a moment.
+#[tactic(auto, using(crate::proofs::CountLemmas::reading_ended))]
+fn ended_before<S: Alter>(conn: &mut Connection<S>, now: Moment) -> Result<u64, StoreFault>
+    ensures found { (records : Records) → (kept : Columns) → ShowsBoth S.Store conn.old records kept → HasCleanDisk (state S.Store conn.new)
+        → IfOk result (λ ended. IsTrue (state S.Store conn.old).is_open × (length kept.letters ≤ 1000000 → ended ≡ length (filter (ends_before now) kept.letters))) }
+    ensures same { IsRegister (state S.Store conn.old) → Stays (state S.Store conn.old) (state S.Store conn.new) }
+    ensures clean { doubt (state S.Store conn.old).is_clean ≤ doubt (state S.Store conn.new).is_clean }
+    ensures idle { conn.old.in_transaction ≡ false → conn.new.in_transaction ≡ false }
+    ensures faults { IfErr result IsCallFault }
+{
+    let value = sql_number(now.secs())?;
+    let found = read(conn, ENDED_BEFORE, params![&value])?;
+    let ended = number_at(only(&found)?, 0)?;
+    Ok(ended)
+}
+
+/// How many registered certificates are good, revoked and expired at a moment, from the last accepted one on.
+///
+/// # Errors
+/// `Memory`; `Store` where the database fails, or where its rows are ones that no register writes.
+#[tactic(auto, using(crate::proofs::Staying::stays_register, crate::proofs::Staying::stays_then))]
+pub fn counts<S: Alter>(conn: &mut Connection<S>, now: Moment) -> Result<Counts, StoreFault>
+    ensures found { (records : Records) → ShowsKept S.Store conn.old records → SoundRows records → records.last ≤ now → HasCleanDisk (state S.Store conn.new) → IfOk result (λ found. found ≡ status.counts records now) }
+    ensures same { IsRegister (state S.Store conn.old) → Stays (state S.Store conn.old) (state S.Store conn.new) }
+    ensures clean { doubt (state S.Store conn.old).is_clean ≤ doubt (state S.Store conn.new).is_clean }
+    ensures idle { conn.old.in_transaction ≡ false → conn.new.in_transaction ≡ false }
+    ensures faults { IfErr result IsCallFault }
+{
+    let kept = kept_counts(conn)?;
+    let ended = ended_before(conn, now)?;
+    Ok(Counts {
+        good: kept.good.checked_sub(ended).ok_or(StoreFault::Store)?,
+        revoked: kept.revoked,
+        expired: kept.expired.checked_add(ended).ok_or(StoreFault::Store)?,
+    })
+}

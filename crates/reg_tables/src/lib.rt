@@ -1,0 +1,33 @@
+//! The register in SQL tables: what they show, and the look-ups.
+#![tactic(auto)]
+
+mod certificates;
+mod counting;
+mod crls;
+mod fault;
+mod listed;
+mod office;
+mod orders;
+mod overdue;
+mod reading;
+mod requests;
+mod revocations;
+mod rows;
+pub mod schema;
+mod sizes;
+pub mod statements;
+mod subscribers;
+mod values;
+
+pub use certificates::{cert, cert_of_order};
+pub use counting::{counts, kept_counts};
+pub use crls::{crl, latest_crl};
+pub use fault::StoreFault;
+pub use listed::{entries, listing};
+pub use office::{issuer, last, policy};
+pub use orders::order;
+pub use overdue::open_past_due;
+pub use requests::request;
+pub use revocations::{earliest_unlisted, revocation};
+pub use sizes::{Table, held};
+pub use subscribers::{subscriber, subscriber_by_name};

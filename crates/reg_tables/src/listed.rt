@@ -1,0 +1,80 @@
+//! Look-ups of what CRLs list, from the rows that are kept for it alone.
+
+ghost use Rattle.std.specs.Prelude.{◌≡◌, ◌≤◌, ◌↔◌, false, length, IsTrue, IfOk, IfErr};
+ghost use Rattle.sqlite.specs.Held.{state};
+ghost use Rattle.sqlite.specs.State.{HasCleanDisk};
+ghost use Rattle.sqlite_trees.specs.View.{doubt};
+ghost use Rattle.reg_core.specs.Crls.{EntriesAscend, entries};
+ghost use Rattle.reg_core.specs.Queries.{listing};
+ghost use Rattle.reg_core.specs.Records.{Records};
+ghost use Rattle.reg_tables.specs.Kept.{ShowsKept};
+ghost use Rattle.reg_tables.specs.Stays.{IsCallFault, IsRegister, Stays};
+
+use crate::fault::StoreFault;
+use crate::reading::{at_most_one, read};
+use crate::rows::entries_in;
+use crate::statements::{ENTRIES, LISTED_BY_SERIAL};
+use crate::values::{number_at, number_or_null_at, sql_number};
+use reg_core::{Entry, Listing, Serial};
+use sqlite::{Alter, Connection, params};
+
+/// The most entries of a CRL.
+const MOST_ENTRIES: usize = 1_000_000;
+
+/// Whether the serial numbers rise strictly.
+fn ascends(entries: &[Entry]) -> bool
+    ensures { IsTrue result ↔ EntriesAscend entries.now }
+{
+    entries.is_sorted_by(|earlier, later| earlier.serial < later.serial)
+}
+
+/// The entries of the CRL with a number, issued or the next, in ascending order of serial number: at most 1,000,000.
+/// It walks what is listed.
+///
+/// # Errors
+/// `Memory`; `Store` where the database fails, where its rows are ones that no register writes or more than 1,000,000,
+/// or for a number above 2^63 - 1.
+#[tactic(auto, using(crate::proofs::EntryLemmas::reading_entries))]
+pub fn entries<S: Alter>(conn: &mut Connection<S>, number: u64) -> Result<Vec<Entry>, StoreFault>
+    ensures found { (records : Records) → ShowsKept S.Store conn.old records → HasCleanDisk (state S.Store conn.new) → IfOk result (λ found. found.items ≡ entries records number) }
+    ensures ascending { IfOk result (λ found. EntriesAscend found.items) }
+    ensures at_most { IfOk result (λ found. length found.items ≤ 1000000) }
+    ensures same { IsRegister (state S.Store conn.old) → Stays (state S.Store conn.old) (state S.Store conn.new) }
+    ensures clean { doubt (state S.Store conn.old).is_clean ≤ doubt (state S.Store conn.new).is_clean }
+    ensures idle { conn.old.in_transaction ≡ false → conn.new.in_transaction ≡ false }
+    ensures faults { IfErr result IsCallFault }
+{
+    let value = sql_number(number)?;
+    let found = read(conn, ENTRIES, params![&value])?;
+    let entries = entries_in(&found)?;
+    if entries.len() > MOST_ENTRIES || !ascends(&entries) {
+        return Err(StoreFault::Store);
+    }
+    Ok(entries)
+}
+
+/// The numbers of the first CRL that can list a revoked serial number and, where it has been issued, of the last that
+/// does. `None` for a serial number that is not revoked, registered or not.
+///
+/// # Errors
+/// `Memory`; `Store` where the database fails, or where its row is one that no register writes.
+#[tactic(auto, using(crate::proofs::ListingLemmas::reading_listed))]
+pub fn listing<S: Alter>(
+    conn: &mut Connection<S>,
+    serial: Serial,
+) -> Result<Option<Listing>, StoreFault>
+    ensures found { (records : Records) → ShowsKept S.Store conn.old records → HasCleanDisk (state S.Store conn.new) → IfOk result (λ found. found ≡ listing records serial) }
+    ensures same { IsRegister (state S.Store conn.old) → Stays (state S.Store conn.old) (state S.Store conn.new) }
+    ensures clean { doubt (state S.Store conn.old).is_clean ≤ doubt (state S.Store conn.new).is_clean }
+    ensures idle { conn.old.in_transaction ≡ false → conn.new.in_transaction ≡ false }
+    ensures faults { IfErr result IsCallFault }
+{
+    let found = read(conn, LISTED_BY_SERIAL, params![serial.bytes20().as_slice()])?;
+    match at_most_one(&found)? {
+        None => Ok(None),
+        Some(row) => Ok(Some(Listing {
+            first: number_at(row, 0)?,
+            last: number_or_null_at(row, 1)?,
+        })),
+    }
+}

@@ -1,0 +1,111 @@
+//! Look-ups of the office: its issuer, its policy and the last accepted moment.
+
+ghost use Rattle.std.specs.Prelude.{◌≡◌, ◌≤◌, false, IfOk, IfErr};
+ghost use Rattle.sqlite.specs.Held.{state};
+ghost use Rattle.sqlite.specs.State.{HasCleanDisk};
+ghost use Rattle.sqlite_trees.specs.View.{doubt};
+ghost use Rattle.reg_core.specs.Records.{Records};
+ghost use Rattle.reg_tables.specs.Shows.{Shows};
+ghost use Rattle.reg_tables.specs.Stays.{IsCallFault, IsRegister, Stays};
+
+use crate::fault::StoreFault;
+use crate::reading::{only, read};
+use crate::rows::steps_in;
+use crate::statements::{ISSUER, LAST, STEPS, TERMS};
+use crate::values::{bytes_at, clock_moment_at, number_at};
+use reg_core::{Moment, Policy, Schedule};
+use reg_der::{Issuer, IssuerFault};
+use sqlite::{Alter, Connection};
+
+impl From<IssuerFault> for StoreFault {
+    ghost use Rattle.std.specs.Prelude.{◌≡◌, ◌⊎◌};
+    ghost use Rattle.reg_tables.specs.declared.fault.StoreFault.TheVariants.{Memory, Store};
+
+    ghost from_gives = { λ _ fault. (fault ≡ Memory) ⊎ (fault ≡ Store) };
+
+    fn from(fault: IssuerFault) -> StoreFault {
+        match fault {
+            IssuerFault::Memory => StoreFault::Memory,
+            IssuerFault::BadName | IssuerFault::BadKey => StoreFault::Store,
+        }
+    }
+}
+
+/// The last accepted moment.
+///
+/// # Errors
+/// `Memory`; `Store` where the database fails, or where its row is one that no register writes.
+#[tactic(auto, using(crate::proofs::OfficeLemmas::reading_last))]
+pub fn last<S: Alter>(conn: &mut Connection<S>) -> Result<Moment, StoreFault>
+    ensures found { (records : Records) → Shows S.Store conn.old records → HasCleanDisk (state S.Store conn.new) → IfOk result (λ last. last ≡ records.last) }
+    ensures same { IsRegister (state S.Store conn.old) → Stays (state S.Store conn.old) (state S.Store conn.new) }
+    ensures clean { doubt (state S.Store conn.old).is_clean ≤ doubt (state S.Store conn.new).is_clean }
+    ensures idle { conn.old.in_transaction ≡ false → conn.new.in_transaction ≡ false }
+    ensures faults { IfErr result IsCallFault }
+{
+    let found = read(conn, LAST, &[])?;
+    clock_moment_at(only(&found)?, 0)
+}
+
+/// The issuer.
+///
+/// # Errors
+/// `Memory`; `Store` where the database fails, or where its row is one that no register writes.
+#[tactic(auto, using(crate::proofs::OfficeLemmas::reading_issuer))]
+pub fn issuer<S: Alter>(conn: &mut Connection<S>) -> Result<Issuer, StoreFault>
+    ensures found { (records : Records) → Shows S.Store conn.old records → HasCleanDisk (state S.Store conn.new) → IfOk result (λ issuer. issuer ≡ records.issuer) }
+    ensures same { IsRegister (state S.Store conn.old) → Stays (state S.Store conn.old) (state S.Store conn.new) }
+    ensures clean { doubt (state S.Store conn.old).is_clean ≤ doubt (state S.Store conn.new).is_clean }
+    ensures idle { conn.old.in_transaction ≡ false → conn.new.in_transaction ≡ false }
+    ensures faults { IfErr result IsCallFault }
+{
+    let found = read(conn, ISSUER, &[])?;
+    let row = only(&found)?;
+    Ok(Issuer::new(*found.allocator(), bytes_at(row, 0)?, bytes_at(row, 1)?)?)
+}
+
+/// The lives of CRLs and of OCSP answers, and the cap.
+#[tactic(auto, using(crate::proofs::OfficeLemmas::reading_terms))]
+fn terms<S: Alter>(conn: &mut Connection<S>) -> Result<(u64, u64, u64), StoreFault>
+    ensures found { (records : Records) → Shows S.Store conn.old records → HasCleanDisk (state S.Store conn.new)
+        → IfOk result (λ terms. (terms.0 ≡ records.policy.crl_life) × (terms.1 ≡ records.policy.ocsp_life) × (terms.2 ≡ records.policy.cap)) }
+    ensures same { IsRegister (state S.Store conn.old) → Stays (state S.Store conn.old) (state S.Store conn.new) }
+    ensures clean { doubt (state S.Store conn.old).is_clean ≤ doubt (state S.Store conn.new).is_clean }
+    ensures idle { conn.old.in_transaction ≡ false → conn.new.in_transaction ≡ false }
+    ensures faults { IfErr result IsCallFault }
+{
+    let found = read(conn, TERMS, &[])?;
+    let row = only(&found)?;
+    Ok((number_at(row, 0)?, number_at(row, 1)?, number_at(row, 2)?))
+}
+
+/// The schedule of longest validities.
+#[tactic(auto, using(crate::proofs::ScheduleLemmas::reading_steps))]
+fn schedule<S: Alter>(conn: &mut Connection<S>) -> Result<Schedule, StoreFault>
+    ensures found { (records : Records) → Shows S.Store conn.old records → HasCleanDisk (state S.Store conn.new) → IfOk result (λ schedule. schedule ≡ records.policy.schedule) }
+    ensures same { IsRegister (state S.Store conn.old) → Stays (state S.Store conn.old) (state S.Store conn.new) }
+    ensures clean { doubt (state S.Store conn.old).is_clean ≤ doubt (state S.Store conn.new).is_clean }
+    ensures idle { conn.old.in_transaction ≡ false → conn.new.in_transaction ≡ false }
+    ensures faults { IfErr result IsCallFault }
+{
+    let found = read(conn, STEPS, &[])?;
+    let steps = steps_in(&found)?;
+    Schedule::new(&steps).ok_or(StoreFault::Store)
+}
+
+/// The policy.
+///
+/// # Errors
+/// `Memory`; `Store` where the database fails, or where its rows are ones that no register writes.
+#[tactic(auto, using(crate::proofs::Staying::stays_register, crate::proofs::Staying::stays_then))]
+pub fn policy<S: Alter>(conn: &mut Connection<S>) -> Result<Policy, StoreFault>
+    ensures found { (records : Records) → Shows S.Store conn.old records → HasCleanDisk (state S.Store conn.new) → IfOk result (λ policy. policy ≡ records.policy) }
+    ensures same { IsRegister (state S.Store conn.old) → Stays (state S.Store conn.old) (state S.Store conn.new) }
+    ensures clean { doubt (state S.Store conn.old).is_clean ≤ doubt (state S.Store conn.new).is_clean }
+    ensures idle { conn.old.in_transaction ≡ false → conn.new.in_transaction ≡ false }
+    ensures faults { IfErr result IsCallFault }
+{
+    let (crl_life, ocsp_life, cap) = terms(conn)?;
+    let schedule = schedule(conn)?;
+    Policy::with(schedule, crl_life, ocsp_life, cap).ok_or(StoreFault::Store)
+}

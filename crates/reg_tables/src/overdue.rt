@@ -1,0 +1,116 @@
+//! The look-up of the requests whose limit has passed.
+
+ghost use Rattle.std.specs.Prelude.{◌≡◌, ◌≤◌, ◌&&◌, ◌++◌, List, [], ◌∷◌, false, not, filter, nat_lt, IfOk, IfErr};
+ghost use Rattle.sqlite.specs.Held.{state};
+ghost use Rattle.sqlite.specs.State.{HasCleanDisk};
+ghost use Rattle.sqlite_trees.specs.View.{doubt};
+ghost use Rattle.reg_core.specs.Due.{deadline, overdue, overdue_report};
+ghost use Rattle.reg_core.specs.Records.{Records};
+ghost use Rattle.reg_core.specs.Status.{status, is_good};
+ghost use Rattle.reg_tables.specs.Shows.{Shows};
+ghost use Rattle.reg_tables.specs.Stays.{IsCallFault, IsRegister, Stays};
+
+use crate::certificates::cert;
+use crate::fault::StoreFault;
+use crate::reading::read;
+use crate::revocations::revocation;
+use crate::rows::requests_in;
+use crate::statements::UNDECLINED;
+use reg_core::{Moment, Overdue, RequestRow, Serial, Status, status_of};
+use sqlite::{Alter, Connection};
+
+/// The requests that are not declined, in the order of entry.
+#[tactic(auto, using(crate::proofs::OverdueLemmas::reading_undeclined))]
+fn undeclined<S: Alter>(conn: &mut Connection<S>) -> Result<Vec<RequestRow>, StoreFault>
+    ensures found { (records : Records) → Shows S.Store conn.old records → HasCleanDisk (state S.Store conn.new) → IfOk result (λ found. found.items ≡ filter (λ row. not row.declined) records.requests) }
+    ensures same { IsRegister (state S.Store conn.old) → Stays (state S.Store conn.old) (state S.Store conn.new) }
+    ensures clean { doubt (state S.Store conn.old).is_clean ≤ doubt (state S.Store conn.new).is_clean }
+    ensures idle { conn.old.in_transaction ≡ false → conn.new.in_transaction ≡ false }
+    ensures faults { IfErr result IsCallFault }
+{
+    let found = read(conn, UNDECLINED, &[])?;
+    requests_in(&found)
+}
+
+/// Whether a registered certificate is good at a moment. `Store` where it is not registered.
+#[tactic(auto, using(crate::proofs::Staying::stays_register, crate::proofs::Staying::stays_then))]
+fn is_good_at<S: Alter>(
+    conn: &mut Connection<S>,
+    serial: Serial,
+    now: Moment,
+) -> Result<bool, StoreFault>
+    ensures found { (records : Records) → Shows S.Store conn.old records → HasCleanDisk (state S.Store conn.new) → IfOk result (λ good. good ≡ is_good (status records serial now)) }
+    ensures same { IsRegister (state S.Store conn.old) → Stays (state S.Store conn.old) (state S.Store conn.new) }
+    ensures clean { doubt (state S.Store conn.old).is_clean ≤ doubt (state S.Store conn.new).is_clean }
+    ensures idle { conn.old.in_transaction ≡ false → conn.new.in_transaction ≡ false }
+    ensures faults { IfErr result IsCallFault }
+{
+    let certificate = cert(conn, serial)?;
+    let revoked = revocation(conn, serial)?;
+    if certificate.is_none() {
+        return Err(StoreFault::Store);
+    }
+    Ok(matches!(status_of(now, certificate, revoked), Status::Good))
+}
+
+/// The report with one request more, whose id is above those in it.
+fn one_more(report: Option<Overdue>, id: u64) -> Result<Option<Overdue>, StoreFault>
+    ensures more { (requests : List RequestRow) → (request : RequestRow) → report ≡ overdue_report requests → request.id ≡ id → IfOk result (λ more. more ≡ overdue_report (requests ++ request ∷ [])) }
+    ensures faults { IfErr result IsCallFault }
+{
+    match report {
+        None => Ok(Some(Overdue {
+            count: 1,
+            first: id,
+        })),
+        Some(report) => Ok(Some(Overdue {
+            count: report.count.checked_add(1).ok_or(StoreFault::Store)?,
+            first: report.first,
+        })),
+    }
+}
+
+/// Whether a request that is not declined is overdue: its deadline is past, and its certificate is still good.
+#[tactic(auto, using(crate::proofs::OverdueLemmas::late_is))]
+fn is_late<S: Alter>(
+    conn: &mut Connection<S>,
+    request: RequestRow,
+    now: Moment,
+) -> Result<bool, StoreFault>
+    ensures found { (records : Records) → Shows S.Store conn.old records → HasCleanDisk (state S.Store conn.new) → IfOk result (λ late. late ≡ (is_good (status records request.serial now) && nat_lt (deadline request) now)) }
+    ensures same { IsRegister (state S.Store conn.old) → Stays (state S.Store conn.old) (state S.Store conn.new) }
+    ensures clean { doubt (state S.Store conn.old).is_clean ≤ doubt (state S.Store conn.new).is_clean }
+    ensures idle { conn.old.in_transaction ≡ false → conn.new.in_transaction ≡ false }
+    ensures faults { IfErr result IsCallFault }
+{
+    let deadline = request.received.secs() + request.ground.limit_secs();
+    let is_past = deadline < now.secs();
+    let is_good = is_good_at(conn, request.serial, now)?;
+    Ok(is_good && is_past)
+}
+
+/// How many requests are overdue at a moment, and the least id of them. It walks the requests that are not declined.
+///
+/// # Errors
+/// `Memory`; `Store` where the database fails, or where its rows are ones that no register writes, such as a request
+/// without its certificate.
+#[tactic(auto, using(crate::proofs::Staying::stays_register, crate::proofs::Staying::stays_then))]
+pub fn open_past_due<S: Alter>(
+    conn: &mut Connection<S>,
+    now: Moment,
+) -> Result<Option<Overdue>, StoreFault>
+    ensures found { (records : Records) → Shows S.Store conn.old records → HasCleanDisk (state S.Store conn.new) → IfOk result (λ report. report ≡ overdue_report (overdue records now)) }
+    ensures same { IsRegister (state S.Store conn.old) → Stays (state S.Store conn.old) (state S.Store conn.new) }
+    ensures clean { doubt (state S.Store conn.old).is_clean ≤ doubt (state S.Store conn.new).is_clean }
+    ensures idle { conn.old.in_transaction ≡ false → conn.new.in_transaction ≡ false }
+    ensures faults { IfErr result IsCallFault }
+{
+    let requests = undeclined(conn)?;
+    let mut report = None;
+    for request in &requests {
+        if is_late(conn, *request, now)? {
+            report = one_more(report, request.id)?;
+        }
+    }
+    Ok(report)
+}

@@ -1,0 +1,82 @@
+//! Look-ups of revocations.
+
+ghost use Rattle.std.specs.Prelude.{◌≡◌, ◌≤◌, nat_lt, false, filter, IsTrue, IfOk, IfErr};
+ghost use Rattle.sqlite.specs.Held.{state};
+ghost use Rattle.sqlite.specs.State.{HasCleanDisk};
+ghost use Rattle.sqlite_trees.specs.View.{doubt};
+ghost use Rattle.reg_core.specs.Due.{earliest, unlisted};
+ghost use Rattle.reg_core.specs.Records.{Records, revocation_in};
+ghost use Rattle.reg_tables.specs.Shows.{Shows};
+ghost use Rattle.reg_tables.specs.Stays.{IsCallFault, IsRegister, Stays};
+
+use crate::fault::StoreFault;
+use crate::reading::{at_most_one, read};
+use crate::rows;
+use crate::sizes::{Table, held};
+use crate::statements::{EARLIEST_ABOVE, REVOCATION_BY_SERIAL};
+use crate::values::{clock_moment_at, sql_number};
+use reg_core::{Moment, RevocationRow, Serial};
+use sqlite::{Alter, Connection, params};
+
+/// The revocation of a serial number.
+///
+/// # Errors
+/// `Memory`; `Store` where the database fails, or where its row is one that no register writes.
+#[tactic(auto, using(crate::proofs::RevocationLemmas::reading_by_serial))]
+pub fn revocation<S: Alter>(
+    conn: &mut Connection<S>,
+    serial: Serial,
+) -> Result<Option<RevocationRow>, StoreFault>
+    ensures found { (records : Records) → Shows S.Store conn.old records → HasCleanDisk (state S.Store conn.new) → IfOk result (λ row. row ≡ revocation_in records.revocations serial) }
+    ensures same { IsRegister (state S.Store conn.old) → Stays (state S.Store conn.old) (state S.Store conn.new) }
+    ensures clean { doubt (state S.Store conn.old).is_clean ≤ doubt (state S.Store conn.new).is_clean }
+    ensures idle { conn.old.in_transaction ≡ false → conn.new.in_transaction ≡ false }
+    ensures faults { IfErr result IsCallFault }
+{
+    let found = read(
+        conn,
+        REVOCATION_BY_SERIAL,
+        params![serial.bytes20().as_slice()],
+    )?;
+    match at_most_one(&found)? {
+        None => Ok(None),
+        Some(row) => Ok(Some(rows::revocation_in(row)?)),
+    }
+}
+
+/// The moment of the earliest of the revocations whose first CRL has a number above this one.
+#[tactic(auto, using(crate::proofs::UnlistedLemmas::reading_above))]
+fn earliest_above<S: Alter>(
+    conn: &mut Connection<S>,
+    number: u64,
+) -> Result<Option<Moment>, StoreFault>
+    ensures found { (records : Records) → Shows S.Store conn.old records → HasCleanDisk (state S.Store conn.new)
+        → IfOk result (λ at. IsTrue (state S.Store conn.old).is_open × (at ≡ earliest (filter (λ row. nat_lt number row.first) records.revocations))) }
+    ensures same { IsRegister (state S.Store conn.old) → Stays (state S.Store conn.old) (state S.Store conn.new) }
+    ensures clean { doubt (state S.Store conn.old).is_clean ≤ doubt (state S.Store conn.new).is_clean }
+    ensures idle { conn.old.in_transaction ≡ false → conn.new.in_transaction ≡ false }
+    ensures faults { IfErr result IsCallFault }
+{
+    let value = sql_number(number)?;
+    let found = read(conn, EARLIEST_ABOVE, params![&value])?;
+    match at_most_one(&found)? {
+        None => Ok(None),
+        Some(row) => Ok(Some(clock_moment_at(row, 0)?)),
+    }
+}
+
+/// The moment of the earliest revocation that no CRL can have listed yet. It walks the revocations.
+///
+/// # Errors
+/// `Memory`; `Store` where the database fails, or where its row is one that no register writes.
+#[tactic(auto, using(crate::proofs::Staying::stays_register, crate::proofs::Staying::stays_then))]
+pub fn earliest_unlisted<S: Alter>(conn: &mut Connection<S>) -> Result<Option<Moment>, StoreFault>
+    ensures found { (records : Records) → Shows S.Store conn.old records → HasCleanDisk (state S.Store conn.new) → IfOk result (λ at. at ≡ earliest (unlisted records)) }
+    ensures same { IsRegister (state S.Store conn.old) → Stays (state S.Store conn.old) (state S.Store conn.new) }
+    ensures clean { doubt (state S.Store conn.old).is_clean ≤ doubt (state S.Store conn.new).is_clean }
+    ensures idle { conn.old.in_transaction ≡ false → conn.new.in_transaction ≡ false }
+    ensures faults { IfErr result IsCallFault }
+{
+    let latest = held(conn, Table::Crls)?;
+    earliest_above(conn, latest)
+}

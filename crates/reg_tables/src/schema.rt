@@ -1,0 +1,52 @@
+//! The tables of the register, as SQL makes them, in this order. All are STRICT. Moments are whole seconds, and a serial
+//! number is its 20 bytes with the highest first, so that its order is that of the numbers.
+
+/// The one row of the office: its issuer, its policy but for the longest validities, and the last accepted moment.
+pub const OFFICE: &str =
+    "CREATE TABLE office (one INTEGER PRIMARY KEY CHECK (one = 1), version INTEGER NOT NULL, name BLOB NOT NULL, pubkey BLOB NOT NULL, days INTEGER NOT NULL, crl_life INTEGER NOT NULL, ocsp_life INTEGER NOT NULL, cap INTEGER NOT NULL, last_at INTEGER NOT NULL) STRICT";
+
+/// The subscribers.
+pub const SUBSCRIBER: &str =
+    "CREATE TABLE subscriber (id INTEGER PRIMARY KEY, name TEXT NOT NULL UNIQUE) STRICT";
+
+/// The orders.
+pub const ORDERS: &str =
+    "CREATE TABLE orders (id INTEGER PRIMARY KEY, subscriber INTEGER NOT NULL REFERENCES subscriber (id), days INTEGER NOT NULL) STRICT";
+
+/// The certificates.
+pub const CERT: &str =
+    "CREATE TABLE cert (serial BLOB NOT NULL PRIMARY KEY, order_id INTEGER NOT NULL UNIQUE REFERENCES orders (id), not_before INTEGER NOT NULL, not_after INTEGER NOT NULL) STRICT";
+
+/// The requests for revocation.
+pub const REQUEST: &str =
+    "CREATE TABLE request (id INTEGER PRIMARY KEY, serial BLOB NOT NULL REFERENCES cert (serial), ground INTEGER NOT NULL, received INTEGER NOT NULL, declined INTEGER NOT NULL) STRICT";
+
+/// The revocations.
+pub const REVOCATION: &str =
+    "CREATE TABLE revocation (serial BLOB NOT NULL PRIMARY KEY REFERENCES cert (serial), at INTEGER NOT NULL, reason INTEGER NOT NULL, request INTEGER NOT NULL UNIQUE REFERENCES request (id), first_crl INTEGER NOT NULL) STRICT";
+
+/// The issued CRLs.
+pub const CRL: &str =
+    "CREATE TABLE crl (number INTEGER PRIMARY KEY, this_update INTEGER NOT NULL, der BLOB NOT NULL) STRICT";
+
+/// The state letter of each certificate at the last accepted moment.
+pub const STANDING: &str =
+    "CREATE TABLE standing (serial BLOB NOT NULL PRIMARY KEY REFERENCES cert (serial), not_after INTEGER NOT NULL, state TEXT NOT NULL) STRICT";
+
+/// How many certificates have each state letter.
+pub const KEPT: &str =
+    "CREATE TABLE kept (one INTEGER PRIMARY KEY CHECK (one = 1), n_good INTEGER NOT NULL, n_revoked INTEGER NOT NULL, n_expired INTEGER NOT NULL) STRICT";
+
+/// What CRLs list of each revocation, and up to which number.
+pub const LISTED: &str =
+    "CREATE TABLE listed (serial BLOB NOT NULL PRIMARY KEY REFERENCES revocation (serial), at INTEGER NOT NULL, reason INTEGER NOT NULL, first_crl INTEGER NOT NULL, not_after INTEGER NOT NULL, last_listed INTEGER) STRICT";
+
+/// The schedule of longest validities.
+pub const LONGEST: &str =
+    "CREATE TABLE longest (from_at INTEGER PRIMARY KEY, days INTEGER NOT NULL) STRICT";
+
+/// The latest CRL is found in this index, without its bytes.
+pub const CRL_AT: &str = "CREATE INDEX crl_at ON crl (number, this_update)";
+
+/// The certificates that ended are found in this index.
+pub const STANDING_DUE: &str = "CREATE INDEX standing_due ON standing (state, not_after)";

@@ -1,0 +1,65 @@
+//! How many rows the tables of the records have: the number of the last row, since rows are numbered from 1 on.
+
+ghost use Rattle.std.specs.Prelude.{◌≡◌, ◌≤◌, ℕ, false, List, [], IfOk, IfErr};
+ghost use Rattle.sqlite_value.specs.Order.{Row};
+ghost use Rattle.sqlite.specs.Held.{state};
+ghost use Rattle.sqlite.specs.State.{HasCleanDisk};
+ghost use Rattle.sqlite_trees.specs.View.{doubt};
+ghost use Rattle.reg_core.specs.Records.{Records};
+ghost use Rattle.reg_tables.specs.Reading.{Answers, IsReading};
+ghost use Rattle.reg_tables.specs.Shows.{Shows};
+ghost use Rattle.reg_tables.specs.Stays.{IsCallFault, IsRegister, Stays};
+ghost use Rattle.reg_tables.specs.Tables.{IsNumberShown, rows_of};
+
+use crate::fault::StoreFault;
+use crate::reading::{at_most_one, read};
+use crate::statements::{LAST_CERT, LAST_ORDER, LAST_REQUEST, LAST_SUBSCRIBER, LATEST_CRL};
+use crate::values::number_at;
+use sqlite::{Alter, Connection};
+
+/// The tables of the records that have a cap.
+#[derive(Clone, Copy, Debug, PartialEq, Eq)]
+pub enum Table {
+    Subscribers,
+    Orders,
+    Certs,
+    Requests,
+    Crls,
+}
+
+/// The number in the one row that a query answers, or 0 where it answers none.
+fn number_shown<S: Alter>(conn: &mut Connection<S>, sql: &str) -> Result<u64, StoreFault>
+    ensures read { IsReading sql.now → IsRegister (state S.Store conn.old) → HasCleanDisk (state S.Store conn.new)
+        → IfOk result (λ n. (rows : List Row) × Answers (state S.Store conn.old) sql.now [] rows × ((m : ℕ) → IsNumberShown m rows → n ≡ m)) }
+    ensures same { IsReading sql.now → IsRegister (state S.Store conn.old) → Stays (state S.Store conn.old) (state S.Store conn.new) }
+    ensures clean { doubt (state S.Store conn.old).is_clean ≤ doubt (state S.Store conn.new).is_clean }
+    ensures idle { conn.old.in_transaction ≡ false → conn.new.in_transaction ≡ false }
+    ensures faults { IfErr result IsCallFault }
+{
+    let found = read(conn, sql, &[])?;
+    match at_most_one(&found)? {
+        None => Ok(0),
+        Some(row) => Ok(number_at(row, 0)?),
+    }
+}
+
+/// How many rows a table has, which is the last id, or for CRLs the latest number. It finds the last row alone.
+///
+/// # Errors
+/// `Memory`; `Store` where the database fails, or where its row is one that no register writes.
+#[tactic(auto, using(crate::proofs::HeldLemmas::reading_subscriber, crate::proofs::HeldLemmas::reading_order, crate::proofs::HeldLemmas::reading_cert, crate::proofs::HeldLemmas::reading_request, crate::proofs::HeldLemmas::reading_crl))]
+pub fn held<S: Alter>(conn: &mut Connection<S>, table: Table) -> Result<u64, StoreFault>
+    ensures found { (records : Records) → Shows S.Store conn.old records → HasCleanDisk (state S.Store conn.new) → IfOk result (λ rows. rows ≡ rows_of records table) }
+    ensures same { IsRegister (state S.Store conn.old) → Stays (state S.Store conn.old) (state S.Store conn.new) }
+    ensures clean { doubt (state S.Store conn.old).is_clean ≤ doubt (state S.Store conn.new).is_clean }
+    ensures idle { conn.old.in_transaction ≡ false → conn.new.in_transaction ≡ false }
+    ensures faults { IfErr result IsCallFault }
+{
+    match table {
+        Table::Subscribers => number_shown(conn, LAST_SUBSCRIBER),
+        Table::Orders => number_shown(conn, LAST_ORDER),
+        Table::Certs => number_shown(conn, LAST_CERT),
+        Table::Requests => number_shown(conn, LAST_REQUEST),
+        Table::Crls => number_shown(conn, LATEST_CRL),
+    }
+}

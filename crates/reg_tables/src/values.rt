@@ -1,0 +1,140 @@
+//! Values of SQL as values of the register. What no register writes is [`StoreFault::Store`].
+
+ghost use Rattle.std.specs.Prelude.{◌≡◌, ℕ, Bool, List, Option, cond, IfOk, IfErr};
+ghost use Rattle.sqlite_value.specs.declared.value.Value.TheVariants.{Text, Blob};
+ghost use Rattle.sqlite_value.specs.Order.{column};
+ghost use Rattle.reg_core.specs.Serial.{IsSerial};
+ghost use Rattle.reg_tables.specs.Columns.{number_or_null};
+ghost use Rattle.reg_tables.specs.Rows.{number, serial_value, ground_place};
+ghost use Rattle.reg_tables.specs.Stays.{IsCallFault};
+
+use crate::fault::StoreFault;
+use reg_core::{Ground, Label, Moment, Serial};
+use sqlite::Row;
+use sqlite::types::{Value, ValueRef};
+
+/// The number as SQL has it. `Store` above 2^63 - 1, which SQL doesn't have.
+pub(crate) fn sql_number(n: u64) -> Result<Value, StoreFault>
+    ensures value { IfOk result (λ value. value ≡ number n) }
+    ensures faults { IfErr result IsCallFault }
+{
+    match i64::try_from(n) {
+        Ok(n) => Ok(Value::Int(n)),
+        Err(_) => Err(StoreFault::Store),
+    }
+}
+
+/// The number in a column.
+pub(crate) fn number_at(row: &Row, at: usize) -> Result<u64, StoreFault>
+    ensures read { (n : ℕ) → column row.now at ≡ number n → IfOk result (λ read. read ≡ n) }
+    ensures faults { IfErr result IsCallFault }
+{
+    Ok(row.get::<u64>(at)?)
+}
+
+/// The moment in a column.
+pub(crate) fn moment_at(row: &Row, at: usize) -> Result<Moment, StoreFault>
+    ensures read { (n : ℕ) → column row.now at ≡ number n → IfOk result (λ read. read ≡ n) }
+    ensures faults { IfErr result IsCallFault }
+{
+    Moment::of_secs(number_at(row, at)?).ok_or(StoreFault::Store)
+}
+
+/// The moment in a column, one that the register's clock lets pass.
+pub(crate) fn clock_moment_at(row: &Row, at: usize) -> Result<Moment, StoreFault>
+    ensures read { (n : ℕ) → column row.now at ≡ number n → IfOk result (λ read. read ≡ n) }
+    ensures faults { IfErr result IsCallFault }
+{
+    let moment = moment_at(row, at)?;
+    if moment < Moment::CLOCK_END {
+        Ok(moment)
+    } else {
+        Err(StoreFault::Store)
+    }
+}
+
+/// The serial number in a column.
+#[tactic(auto, using(crate::proofs::Compares::serial_injective))]
+pub(crate) fn serial_at(row: &Row, at: usize) -> Result<Serial, StoreFault>
+    ensures read { (serial : ℕ) → IsSerial serial → column row.now at ≡ serial_value serial → IfOk result (λ read. read ≡ serial) }
+    ensures faults { IfErr result IsCallFault }
+{
+    match row.get_ref(at)? {
+        ValueRef::Blob(bytes) => Serial::from_bytes20(bytes).ok_or(StoreFault::Store),
+        _ => Err(StoreFault::Store),
+    }
+}
+
+/// The label in a column.
+pub(crate) fn label_at(row: &Row, at: usize) -> Result<Label, StoreFault>
+    ensures read { (text : List ℕ) → column row.now at ≡ Text text → IfOk result (λ read. read ≡ text) }
+    ensures faults { IfErr result IsCallFault }
+{
+    match row.get_ref(at)? {
+        ValueRef::Text(text) => Label::of(text).ok_or(StoreFault::Store),
+        _ => Err(StoreFault::Store),
+    }
+}
+
+/// The ground in a column, which has its place in the list of grounds.
+pub(crate) fn cause_at(row: &Row, at: usize) -> Result<Ground, StoreFault>
+    ensures read { (cause : Ground) → column row.now at ≡ number (ground_place cause) → IfOk result (λ read. read ≡ cause) }
+    ensures faults { IfErr result IsCallFault }
+{
+    match number_at(row, at)? {
+        1 => Ok(Ground::Asked),
+        2 => Ok(Ground::Unauthorized),
+        3 => Ok(Ground::KeyCompromise),
+        4 => Ok(Ground::ControlLost),
+        5 => Ok(Ground::Affiliation),
+        6 => Ok(Ground::Superseded),
+        7 => Ok(Ground::Cessation),
+        8 => Ok(Ground::Misuse),
+        9 => Ok(Ground::NameNotPermitted),
+        10 => Ok(Ground::Nonconforming),
+        11 => Ok(Ground::Inaccurate),
+        _ => Err(StoreFault::Store),
+    }
+}
+
+/// The flag in a column, 0 or 1.
+pub(crate) fn flag_at(row: &Row, at: usize) -> Result<bool, StoreFault>
+    ensures read { (flag : Bool) → column row.now at ≡ number (cond flag 1 0) → IfOk result (λ read. read ≡ flag) }
+    ensures faults { IfErr result IsCallFault }
+{
+    match number_at(row, at)? {
+        0 => Ok(false),
+        1 => Ok(true),
+        _ => Err(StoreFault::Store),
+    }
+}
+
+/// The reasonCode in a column (RFC 5280 5.3.1).
+pub(crate) fn reason_at(row: &Row, at: usize) -> Result<u8, StoreFault>
+    ensures read { (n : ℕ) → column row.now at ≡ number n → IfOk result (λ read. read ≡ n) }
+    ensures faults { IfErr result IsCallFault }
+{
+    u8::try_from(number_at(row, at)?).map_err(|_| StoreFault::Store)
+}
+
+/// The bytes in a column.
+pub(crate) fn bytes_at(row: &Row, at: usize) -> Result<&[u8], StoreFault>
+    ensures read { (bytes : List ℕ) → column row.now at ≡ Blob bytes → IfOk result (λ read. read.now ≡ bytes) }
+    ensures faults { IfErr result IsCallFault }
+{
+    match row.get_ref(at)? {
+        ValueRef::Blob(bytes) => Ok(bytes),
+        _ => Err(StoreFault::Store),
+    }
+}
+
+/// The number in a column that may be NULL.
+pub(crate) fn number_or_null_at(row: &Row, at: usize) -> Result<Option<u64>, StoreFault>
+    ensures read { (n : Option ℕ) → column row.now at ≡ number_or_null n → IfOk result (λ read. read ≡ n) }
+    ensures faults { IfErr result IsCallFault }
+{
+    match row.get_ref(at)? {
+        ValueRef::Null => Ok(None),
+        _ => Ok(Some(number_at(row, at)?)),
+    }
+}
