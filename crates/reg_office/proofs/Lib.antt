@@ -1,0 +1,5 @@
+pub mod Asking
+pub mod Composing
+pub mod Facts
+pub mod Issuing
+pub mod Standing

@@ -1,0 +1,71 @@
+use Rattle.std.specs.Prelude.{Result}
+use Rattle.std.proofs.Common.{◌≡◌, ◌+◌, ℕ, List, [], ◌∷◌, ◌++◌, take, refl, sym, ap, subst, ◌∙◌, append_assoc, arith}
+use Rattle.std.proofs.lemmas.List.{append-nil as append_nil, take_all, take_more}
+use Rattle.sqlite.specs.Held.{state}
+use Rattle.reg_core.specs.declared.command.Command.{Command}
+use Rattle.reg_core.specs.declared.command.Reply.{Reply}
+use Rattle.reg_core.specs.declared.refusal.Fault.{Fault}
+use Rattle.reg_office.specs.Stands.{Ran}
+use Rattle.reg_office.proofs.Composing.{was_clean}
+use Rattle.reg_office.proofs.Standing.{ran_more, ran_none}
+use Rattle.reg_office.proofs.office.Office.run.Goals as goal
+
+pub loop-now-init : goal.loop-now-init
+loop-now-init g c = record {
+  room = omega (arith, c.in-Ok.ensures.ok);
+  clean = omega arith;
+  same_identity = refl;
+  ran = λ records stands clean. (
+    [],
+    c.in-Ok.ensures.items ∙ sym (append_nil c.args.outcomes.now.items),
+    ran_none g.C.Store g.S.Signer.signs c.args.self.now.store (g.S.Signer.identity c.args.self.now.signer) records stands,
+  );
+}
+
+pub loop-now-preserved : goal.loop-now-preserved
+loop-now-preserved g c =
+    let s = g.C.Store in
+    let signs = g.S.Signer.signs in
+    let commands = c.args.commands.now in
+    let i = c.loop-now.now-index in
+    let timed = c.loop-now-item.result in
+    let outcome = c.run_one-outcome.result in
+    let old = c.loop-now.self in
+    let new = c.run_one-outcome.new.self in
+    let all : take (i + 1) commands ≡ take i commands ++ timed ∷ [] =
+    take_more commands i timed c.loop-now-test.true ∙ ap (λ (x : ℕ × Command). take i commands ++ x ∷ []) (sym c.loop-now-item.is) in
+    record {
+      room = omega (arith, c.in-Ok-push.ensures.len, c.in-Ok-push.ensures.capacity, c.loop-now.invariant.room);
+      clean = omega (arith, c.loop-now.invariant.clean, c.run_one-outcome.ensures.clean);
+      same_identity = c.run_one-outcome.ensures.same_identity ∙ c.loop-now.invariant.same_identity;
+      ran = λ records stands clean.
+          let before = was_clean (state s old.store) (state s new.store) c.run_one-outcome.ensures.clean clean in
+          let earlier = c.loop-now.invariant.ran records stands before in
+          let step = c.run_one-outcome.ensures.step earlier.2.after earlier.2.stands clean in (
+            earlier.0 ++ outcome ∷ [],
+            c.in-Ok-push.ensures.items
+                ∙ (ap (λ (l : List (Result Reply Fault)). l ++ outcome ∷ []) earlier.1 ∙ append_assoc c.args.outcomes.now.items earlier.0 (outcome ∷ [])),
+            subst
+                (λ (l : List (ℕ × Command)). Ran s signs new.store (g.S.Signer.identity new.signer) records l (earlier.0 ++ outcome ∷ []))
+                (sym all)
+                (ran_more s signs old.store new.store (g.S.Signer.identity old.signer) (g.S.Signer.identity new.signer) records (take i commands) earlier.0 timed outcome
+                c.run_one-outcome.ensures.same_identity earlier.2 step),
+          );
+    }
+
+pub returns-clause-ran : goal.returns-clause-ran
+returns-clause-ran g c records stands clean =
+    let ran = c.loop-now.invariant.ran records stands clean in
+    let commands = c.args.commands.now in
+    let done = c.loop-now.self in (
+      ran.0,
+      ran.1,
+      subst
+          (λ (l : List (ℕ × Command)). Ran g.C.Store g.S.Signer.signs done.store (g.S.Signer.identity done.signer) records l ran.0)
+          (take_all c.loop-now.now-index commands c.loop-now-test.false)
+          ran.2,
+    )
+
+pub returns-in_default-push-clause-none_ran : goal.returns-in_default-push-clause-none_ran
+returns-in_default-push-clause-none_ran g c =
+    absurd (omega (arith, c.in_default-push.ensures.full, c.loop-now.invariant.room, c.loop-now-test.true))

@@ -1,0 +1,30 @@
+-- Which faults a call of the office comes to.
+use Rattle.std.specs.Prelude.{◌≡◌, ◌⊎◌}
+use Rattle.reg_core.specs.declared.refusal.Fault.{Fault}
+use Rattle.reg_core.specs.declared.refusal.Fault.TheVariants.{Refused, Memory, Store, Signer, Read, Write}
+
+-- want of memory, or a failure of the store
+abbrev pub IsStoreFault : Fault → Type 0
+IsStoreFault fault = (fault ≡ Memory) ⊎ (fault ≡ Store)
+
+-- a refusal, want of memory, or a failure of the store
+abbrev pub IsTableFault : Fault → Type 0
+IsTableFault (Refused refusal) = Unit {0}
+IsTableFault Memory = Unit {0}
+IsTableFault Store = Unit {0}
+IsTableFault Signer = ⊥
+IsTableFault Read = ⊥
+IsTableFault Write = ⊥
+
+-- any of these, or a failure of the signer
+abbrev pub IsOfficeFault : Fault → Type 0
+IsOfficeFault (Refused refusal) = Unit {0}
+IsOfficeFault Memory = Unit {0}
+IsOfficeFault Store = Unit {0}
+IsOfficeFault Signer = Unit {0}
+IsOfficeFault Read = ⊥
+IsOfficeFault Write = ⊥
+
+-- want of memory, or a failure of the signer
+abbrev pub IsSigningFault : Fault → Type 0
+IsSigningFault fault = (fault ≡ Memory) ⊎ (fault ≡ Signer)

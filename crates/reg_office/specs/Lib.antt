@@ -1,0 +1,5 @@
+pub mod Faults
+pub mod Happened
+pub mod Stands
+pub mod Answered
+pub mod Cases

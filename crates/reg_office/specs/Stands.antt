@@ -1,0 +1,30 @@
+-- The records of an office.
+use Rattle.std.specs.Prelude.{ℕ, List, Result}
+use Rattle.sqlite_trees.specs.declared.store.Store.{Ghosts}
+use Rattle.sqlite.specs.Held.{Held}
+use Rattle.reg_core.specs.Records.{Records}
+use Rattle.reg_core.specs.Sound.{Sound}
+use Rattle.reg_core.specs.declared.command.Command.{Command}
+use Rattle.reg_core.specs.declared.command.Reply.{Reply}
+use Rattle.reg_core.specs.declared.refusal.Fault.{Fault}
+use Rattle.reg_crl.specs.Signing.{Identity, signed_by}
+use Rattle.reg_tables.specs.Kept.{ShowsKept}
+use Rattle.reg_laws.specs.Run.{Happens, Run}
+
+-- the tables show the records, and what is kept beside them stands for these; the records hold together, and each CRL is
+-- signed over what it lists by who signs for the office
+pub record Stands {C : Type 0} (g : Ghosts C) (signs : Identity → List ℕ → List ℕ → Type 0) (held : Held C) (identity : Identity) (records : Records) : Type 0 where
+  pub shown : ShowsKept g held records
+  pub sound : Sound (signed_by signs identity) records
+
+-- one command at a moment: it came to the outcome over the records, and the records after it stand
+pub record CameTo {C : Type 0} (g : Ghosts C) (signs : Identity → List ℕ → List ℕ → Type 0) (held : Held C) (identity : Identity) (records : Records) (now : ℕ) (command : Command) (outcome : Result Reply Fault) : Type 0 where
+  pub after : Records
+  pub happens : Happens (signed_by signs identity) records now command outcome after
+  pub stands : Stands g signs held identity after
+
+-- commands, each at its moment: they came to the outcomes, one for each and in order, and the records after them stand
+pub record Ran {C : Type 0} (g : Ghosts C) (signs : Identity → List ℕ → List ℕ → Type 0) (held : Held C) (identity : Identity) (records : Records) (commands : List (ℕ × Command)) (outcomes : List (Result Reply Fault)) : Type 0 where
+  pub after : Records
+  pub run : Run (signed_by signs identity) records commands outcomes after
+  pub stands : Stands g signs held identity after

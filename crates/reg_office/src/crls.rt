@@ -1,0 +1,142 @@
+//! CRLs.
+
+ghost use Rattle.std.specs.Prelude.{◌≡◌, ◌≤◌, ◌<◌, ◌+◌, length, IsErrOf, OnErr, IfOk, IfErr};
+ghost use Rattle.sqlite.specs.Held.{state};
+ghost use Rattle.sqlite.specs.State.{HasCleanDisk};
+ghost use Rattle.sqlite_trees.specs.View.{doubt};
+ghost use Rattle.reg_core.specs.Calendar.{clock_end};
+ghost use Rattle.reg_core.specs.Records.{Records};
+ghost use Rattle.reg_core.specs.Sound.{SoundRows};
+ghost use Rattle.reg_core.specs.declared.command.Command.TheVariants.{Crl as IssueCrl};
+ghost use Rattle.reg_tables.specs.Kept.{ShowsKept};
+ghost use Rattle.reg_tables.specs.Stays.{IsRegister, Stays};
+ghost use Rattle.reg_office.specs.Faults.{IsOfficeFault, IsSigningFault, IsTableFault};
+ghost use Rattle.reg_office.specs.Happened.{Happened};
+ghost use Rattle.reg_core.specs.Crls.{EntriesAscend};
+ghost use Rattle.reg_core.specs.declared.refusal.Fault.TheVariants.{Signer as SignerFailed};
+ghost use Rattle.reg_crl.specs.Signing.{signed_by};
+ghost use Rattle.reg_tables.specs.Shows.{Shows};
+ghost use Rattle.reg_office.specs.Answered.{IsGiven, items_of};
+
+use crate::heads::{head_at, latest_crl};
+use reg_core::{CrlRow, Entry, Fault, Moment, Refusal, Reply, decide_crl};
+use reg_crl::{Signer, crl_tbs, crl_whole};
+use reg_der::Issuer;
+use reg_store::{Store, Table};
+use sqlite::Alter;
+use std::alloc::Global;
+
+/// The DER of a CRL, signed.
+fn signed_crl<S: Signer>(
+    alloc: Global,
+    signer: &mut S,
+    issuer: &Issuer,
+    row: &CrlRow,
+    next_update: Moment,
+    entries: &[Entry],
+) -> Result<Vec<u8>, Fault>
+    requires ascending { EntriesAscend entries.now }
+    requires few { length entries.now ≤ 1000000 }
+    ensures signed { IfOk result (λ crl. signed_by S.signs (S.identity signer.old)
+        (record { issuer = issuer.now; number = row.now.number; this_update = row.now.this_update; next_update = next_update; entries = entries.now })
+        crl.items) }
+    ensures same_identity { S.identity signer.new ≡ S.identity signer.old }
+    ensures device { IsErrOf result SignerFailed → S.failure_count signer.old < S.failure_count signer.new }
+    ensures faults { IfErr result IsSigningFault }
+{
+    let tbs = crl_tbs(
+        alloc,
+        issuer,
+        signer.algorithm(),
+        row.number,
+        row.this_update,
+        next_update,
+        entries,
+    )?;
+    let signature = signer.sign(alloc, &tbs)?;
+    Ok(crl_whole(alloc, &tbs, signer.algorithm(), &signature)?)
+}
+
+/// Issues a CRL. It is made and signed before the store changes.
+///
+/// # Errors
+/// The refusals of [`decide_crl`]; `Memory`, `Store`; `Signer` where the signer counted a failure. Nothing has changed
+/// then.
+pub(crate) fn issue_crl<C: Alter, S: Signer>(
+    store: &mut Store<C>,
+    signer: &mut S,
+    alloc: Global,
+    now: Moment,
+) -> Result<Reply, Fault>
+    requires { now < clock_end }
+    ensures step { (records : Records) → ShowsKept C.Store store.old records → SoundRows records → HasCleanDisk (state C.Store store.new)
+        → Happened C.Store store.new (signed_by S.signs (S.identity signer.old)) records now IssueCrl result }
+    ensures err { IsRegister (state C.Store store.old) → OnErr result (Stays (state C.Store store.old) (state C.Store store.new)) }
+    ensures clean { doubt (state C.Store store.old).is_clean ≤ doubt (state C.Store store.new).is_clean }
+    ensures faults { IfErr result IsOfficeFault }
+    ensures same_identity { S.identity signer.new ≡ S.identity signer.old }
+    ensures device { IsErrOf result SignerFailed → S.failure_count signer.old < S.failure_count signer.new }
+{
+    let head = head_at(store, now, Table::Crls)?;
+    let latest = latest_crl(store)?;
+    let row = decide_crl(&head, latest)?;
+    let number = row.number;
+    let entries = store.entries(number)?;
+    let issuer = store.issuer()?;
+    let next_update = now.plus(head.policy.crl_life());
+    let der = signed_crl(alloc, signer, &issuer, &row, next_update, &entries)?;
+    let listed = entries.len() as u64;
+    store.add_crl(now, row, &der)?;
+    Ok(Reply::Crl {
+        number,
+        entries: listed,
+    })
+}
+
+/// The bytes of the CRL with a number, or of the latest.
+///
+/// # Errors
+/// `NoCrl` where there is none; `Memory`, `Store`.
+pub(crate) fn bytes_of<C: Alter>(
+    store: &mut Store<C>,
+    number: Option<u64>,
+) -> Result<Vec<u8>, Fault>
+    ensures found { (records : Records) → Shows C.Store store.old records → SoundRows records → HasCleanDisk (state C.Store store.new) → IsGiven records number (items_of result) }
+    ensures same { IsRegister (state C.Store store.old) → Stays (state C.Store store.old) (state C.Store store.new) }
+    ensures clean { doubt (state C.Store store.old).is_clean ≤ doubt (state C.Store store.new).is_clean }
+    ensures faults { IfErr result IsTableFault }
+{
+    match number {
+        Some(number) => numbered(store, number),
+        None => latest(store),
+    }
+}
+
+/// The bytes of the CRL with a number.
+fn numbered<C: Alter>(store: &mut Store<C>, number: u64) -> Result<Vec<u8>, Fault>
+    ensures found { (records : Records) → Shows C.Store store.old records → HasCleanDisk (state C.Store store.new) → IsGiven records (Some number) (items_of result) }
+    ensures same { IsRegister (state C.Store store.old) → Stays (state C.Store store.old) (state C.Store store.new) }
+    ensures clean { doubt (state C.Store store.old).is_clean ≤ doubt (state C.Store store.new).is_clean }
+    ensures faults { IfErr result IsTableFault }
+{
+    match store.crl(number)? {
+        Some(bytes) => Ok(bytes),
+        None => Err(Fault::Refused(Refusal::NoCrl)),
+    }
+}
+
+/// The bytes of the CRL that was issued last.
+fn latest<C: Alter>(store: &mut Store<C>) -> Result<Vec<u8>, Fault>
+    ensures found { (records : Records) → Shows C.Store store.old records → SoundRows records → HasCleanDisk (state C.Store store.new) → IsGiven records None (items_of result) }
+    ensures same { IsRegister (state C.Store store.old) → Stays (state C.Store store.old) (state C.Store store.new) }
+    ensures clean { doubt (state C.Store store.old).is_clean ≤ doubt (state C.Store store.new).is_clean }
+    ensures faults { IfErr result IsTableFault }
+{
+    match store.latest_crl()? {
+        Some(latest) => {
+            let number = latest.number;
+            numbered(store, number)
+        }
+        None => Err(Fault::Refused(Refusal::NoCrl)),
+    }
+}

@@ -1,0 +1,183 @@
+//! The office: a register's store, and who signs its CRLs.
+
+ghost use Rattle.std.specs.Prelude.{◌≡◌, ◌≤◌, ◌<◌, ◌↔◌, Err, IsErrOf, OnOk, OnErr, IfOk, IfErr};
+ghost use Rattle.sqlite.specs.Held.{state};
+ghost use Rattle.sqlite.specs.State.{HasCleanDisk};
+ghost use Rattle.sqlite_trees.specs.View.{doubt};
+ghost use Rattle.reg_core.specs.Calendar.{clock_end};
+ghost use Rattle.reg_core.specs.Changes.{with_schedule};
+ghost use Rattle.reg_core.specs.Records.{Records};
+ghost use Rattle.reg_core.specs.declared.command.Command.TheVariants.{Crl as IssueCrl};
+ghost use Rattle.reg_core.specs.declared.refusal.Fault.TheVariants.{Refused, Signer as SignerFailed};
+ghost use Rattle.reg_core.specs.declared.refusal.Refusal.TheVariants.{ClockEnd};
+ghost use Rattle.reg_tables.specs.Stays.{IsCallFault, IsRegister, Stays};
+ghost use Rattle.reg_ocsp.specs.Response.{refusal_response};
+ghost use Rattle.reg_ocsp.specs.declared.response.RefusalStatus.TheVariants.{Malformed, Internal};
+ghost use Rattle.reg_responder.specs.Ocsp.{HasNoReading, IsOcspReply};
+ghost use Rattle.reg_office.specs.Answered.{IsAnswered, IsGiven, items_of};
+ghost use Rattle.reg_office.specs.Faults.{IsOfficeFault, IsTableFault};
+ghost use Rattle.reg_office.specs.Stands.{Stands, CameTo};
+
+use crate::certificates::register;
+use crate::crls::{bytes_of, issue_crl};
+use crate::orders::enter_order;
+use crate::queries::answer;
+use crate::requests::{decline, enter_request, revoke};
+use crate::subscribers::enter_subscriber;
+use reg_core::{CertRow, Command, Fault, Memory, Moment, Query, Refusal, Reply, Schedule};
+use reg_crl::Signer;
+use reg_responder::ocsp;
+use reg_store::{Store, StoreFault};
+use sqlite::Alter;
+use std::alloc::Global;
+
+/// A register in a store, and who signs its CRLs. Nothing is kept between the two but what the store's tables show.
+#[derive(Drop)]
+pub struct Office<C: Alter, S: Signer> {
+    /// The register's tables.
+    pub store: Store<C>,
+    /// Who signs the CRLs and the OCSP responses.
+    pub signer: S,
+}
+
+impl<C: Alter, S: Signer> Office<C, S> {
+    /// An office over a store and a signer.
+    pub fn new(store: Store<C>, signer: S) -> Office<C, S>
+        ensures store { result.store ≡ store }
+        ensures signer { result.signer ≡ signer }
+    {
+        Self { store, signer }
+    }
+
+    /// The store and the signer, as they are.
+    pub fn into_parts(self) -> (Store<C>, S)
+        ensures store { result.0 ≡ self.store }
+        ensures signer { result.1 ≡ self.signer }
+    {
+        let Office { store, signer } = self;
+        (store, signer)
+    }
+
+    /// Runs one command at its moment.
+    ///
+    /// # Errors
+    /// `ClockEnd` before all; the refusals of the command, in their order; `Memory`, `Store`; for a CRL that is accepted
+    /// `Signer`, where the signer counted a failure. Nothing has changed then.
+    pub fn run_one(&mut self, alloc: Global, now: Moment, command: &Command) -> Result<Reply, Fault>
+        ensures step { (records : Records) → Stands C.Store S.signs self.old.store (S.identity self.old.signer) records
+            → HasCleanDisk (state C.Store self.new.store)
+            → CameTo C.Store S.signs self.new.store (S.identity self.new.signer) records now command.now result }
+        ensures ended { clock_end ≤ now → (result ≡ Err (Refused ClockEnd)) × (self.new ≡ self.old) }
+        ensures err { IsRegister (state C.Store self.old.store) → OnErr result (Stays (state C.Store self.old.store) (state C.Store self.new.store)) }
+        ensures clean { doubt (state C.Store self.old.store).is_clean ≤ doubt (state C.Store self.new.store).is_clean }
+        ensures same_identity { S.identity self.new.signer ≡ S.identity self.old.signer }
+        ensures device { IsErrOf result SignerFailed → (command.now ≡ IssueCrl) × (S.failure_count self.old.signer < S.failure_count self.new.signer) }
+        ensures faults { IfErr result IsOfficeFault }
+    {
+        if now >= Moment::CLOCK_END {
+            return Err(Fault::Refused(Refusal::ClockEnd));
+        }
+        match *command {
+            Command::Subscriber { name } => enter_subscriber(&mut self.store, now, name),
+            Command::Order { subscriber, days } => {
+                enter_order(&mut self.store, now, subscriber, days)
+            }
+            Command::Register {
+                order,
+                serial,
+                not_before,
+                not_after,
+            } => {
+                let wanted = CertRow {
+                    serial,
+                    order,
+                    not_before,
+                    not_after,
+                };
+                register(&mut self.store, now, wanted)
+            }
+            Command::Request { serial, ground } => {
+                enter_request(&mut self.store, now, serial, ground)
+            }
+            Command::Decline { request } => decline(&mut self.store, now, request),
+            Command::Revoke { request } => revoke(&mut self.store, now, request),
+            Command::Crl => issue_crl(&mut self.store, &mut self.signer, alloc, now),
+        }
+    }
+
+    /// Answers a query at its moment.
+    ///
+    /// # Errors
+    /// `ClockEnd` before all, then `ClockBack`; `UnknownSerial` for the listing of a serial number that is not
+    /// registered; `Memory`, `Store`.
+    pub fn ask(&mut self, alloc: Global, now: Moment, query: &Query) -> Result<Reply, Fault>
+        ensures answer { (records : Records) → Stands C.Store S.signs self.old.store (S.identity self.old.signer) records
+            → HasCleanDisk (state C.Store self.new.store)
+            → IsAnswered records now query.now result × Stands C.Store S.signs self.new.store (S.identity self.new.signer) records }
+        ensures ended { clock_end ≤ now → (result ≡ Err (Refused ClockEnd)) × (self.new ≡ self.old) }
+        ensures same { IsRegister (state C.Store self.old.store) → Stays (state C.Store self.old.store) (state C.Store self.new.store) }
+        ensures clean { doubt (state C.Store self.old.store).is_clean ≤ doubt (state C.Store self.new.store).is_clean }
+        ensures same_signer { self.new.signer ≡ self.old.signer }
+        ensures faults { IfErr result IsTableFault }
+    {
+        if now < Moment::CLOCK_END {
+            return answer(&mut self.store, now, query);
+        }
+        Err(Fault::Refused(Refusal::ClockEnd))
+    }
+
+    /// The DER of the CRL with a number, or of the latest.
+    ///
+    /// # Errors
+    /// `NoCrl` where there is none; `Memory`, `Store`.
+    pub fn crl_bytes(&mut self, alloc: Global, number: Option<u64>) -> Result<Vec<u8>, Fault>
+        ensures given { (records : Records) → Stands C.Store S.signs self.old.store (S.identity self.old.signer) records
+            → HasCleanDisk (state C.Store self.new.store)
+            → IsGiven records number (items_of result) × Stands C.Store S.signs self.new.store (S.identity self.new.signer) records }
+        ensures same { IsRegister (state C.Store self.old.store) → Stays (state C.Store self.old.store) (state C.Store self.new.store) }
+        ensures clean { doubt (state C.Store self.old.store).is_clean ≤ doubt (state C.Store self.new.store).is_clean }
+        ensures same_signer { self.new.signer ≡ self.old.signer }
+        ensures faults { IfErr result IsTableFault }
+    {
+        bytes_of(&mut self.store, number)
+    }
+
+    /// The whole OCSPResponse in DER (RFC 6960 4.2.1) to the bytes of a request, at a moment.
+    ///
+    /// malformedRequest exactly where the bytes are no request. Else internalError, where the store or the signer fails;
+    /// or tryLater, where the moment is refused; or else the response, signed: each CertID byte for byte, in the order
+    /// asked, told `good` (an expired one too), `revoked` with time and reason, or `unknown`.
+    ///
+    /// # Errors
+    /// `Memory`, the only one, where memory could not be had.
+    pub fn ocsp(&mut self, alloc: Global, now: Moment, request: &[u8]) -> Result<Vec<u8>, Memory>
+        ensures malformed { IfOk result (λ answer. (answer.items ≡ refusal_response Malformed) ↔ HasNoReading request.now) }
+        ensures answered { (records : Records) → Stands C.Store S.signs self.old.store (S.identity self.old.signer) records
+            → HasCleanDisk (state C.Store self.new.store)
+            → IfOk result (λ answer. IsOcspReply S.signs (S.identity self.old.signer) records now request.now answer.items) }
+        ensures stands { (records : Records) → Stands C.Store S.signs self.old.store (S.identity self.old.signer) records
+            → Stands C.Store S.signs self.new.store (S.identity self.new.signer) records }
+        ensures same { IsRegister (state C.Store self.old.store) → Stays (state C.Store self.old.store) (state C.Store self.new.store) }
+        ensures clean { doubt (state C.Store self.old.store).is_clean ≤ doubt (state C.Store self.new.store).is_clean }
+        ensures same_identity { S.identity self.new.signer ≡ S.identity self.old.signer }
+        ensures failed { S.failure_count self.old.signer < S.failure_count self.new.signer → IfOk result (λ answer. answer.items ≡ refusal_response Internal) }
+    {
+        ocsp(alloc, &mut self.store, &mut self.signer, now, request)
+    }
+
+    /// Sets the schedule of longest validities, which is no command: no record, nothing that is kept beside them and not
+    /// the last accepted moment changes.
+    ///
+    /// # Errors
+    /// `Memory`, `Store`. Nothing has changed then.
+    pub fn set_schedule(&mut self, alloc: Global, schedule: Schedule) -> Result<(), StoreFault>
+        ensures ok { (records : Records) → Stands C.Store S.signs self.old.store (S.identity self.old.signer) records
+            → OnOk result (Stands C.Store S.signs self.new.store (S.identity self.new.signer) (with_schedule records schedule)) }
+        ensures err { OnErr result (Stays (state C.Store self.old.store) (state C.Store self.new.store)) }
+        ensures clean { doubt (state C.Store self.old.store).is_clean ≤ doubt (state C.Store self.new.store).is_clean }
+        ensures same_signer { self.new.signer ≡ self.old.signer }
+        ensures faults { IfErr result IsCallFault }
+    {
+        self.store.set_schedule(schedule)
+    }
+}

@@ -1,0 +1,44 @@
+//! Orders.
+
+ghost use Rattle.std.specs.Prelude.{◌≡◌, ◌≤◌, ◌<◌, OnErr, IfErr};
+ghost use Rattle.sqlite.specs.Held.{state};
+ghost use Rattle.sqlite.specs.State.{HasCleanDisk};
+ghost use Rattle.sqlite_trees.specs.View.{doubt};
+ghost use Rattle.reg_core.specs.Calendar.{clock_end};
+ghost use Rattle.reg_core.specs.Records.{Records};
+ghost use Rattle.reg_core.specs.Sound.{SoundRows};
+ghost use Rattle.reg_core.specs.declared.command.Command.TheVariants.{Order as EnterOrder};
+ghost use Rattle.reg_tables.specs.Kept.{ShowsKept};
+ghost use Rattle.reg_tables.specs.Stays.{IsRegister, Stays};
+ghost use Rattle.reg_office.specs.Faults.{IsTableFault};
+ghost use Rattle.reg_office.specs.Happened.{Happened, unsigned};
+
+use crate::heads::head_at;
+use reg_core::{Fault, Moment, Reply, decide_order};
+use reg_store::{Store, Table};
+use sqlite::Alter;
+
+/// Enters a subscriber's order.
+///
+/// # Errors
+/// The refusals of [`decide_order`]; `Memory`, `Store`. Nothing has changed then.
+pub(crate) fn enter_order<C: Alter>(
+    store: &mut Store<C>,
+    now: Moment,
+    subscriber: u64,
+    days: u64,
+) -> Result<Reply, Fault>
+    requires { now < clock_end }
+    ensures step { (records : Records) → ShowsKept C.Store store.old records → SoundRows records → HasCleanDisk (state C.Store store.new)
+        → Happened C.Store store.new unsigned records now (EnterOrder subscriber days) result }
+    ensures err { IsRegister (state C.Store store.old) → OnErr result (Stays (state C.Store store.old) (state C.Store store.new)) }
+    ensures clean { doubt (state C.Store store.old).is_clean ≤ doubt (state C.Store store.new).is_clean }
+    ensures faults { IfErr result IsTableFault }
+{
+    let head = head_at(store, now, Table::Orders)?;
+    let known = store.subscriber(subscriber)?;
+    let row = decide_order(&head, known, days)?;
+    let id = row.id;
+    store.add_order(now, row)?;
+    Ok(Reply::Order { id })
+}

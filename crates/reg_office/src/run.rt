@@ -1,0 +1,49 @@
+//! Lists of commands.
+
+ghost use Rattle.std.specs.Prelude.{◌≡◌, ◌≤◌, ◌++◌, List, Result, OnOk, OnErr};
+ghost use Rattle.sqlite.specs.Held.{state};
+ghost use Rattle.sqlite.specs.State.{HasCleanDisk};
+ghost use Rattle.sqlite_trees.specs.View.{doubt};
+ghost use Rattle.reg_core.specs.Records.{Records};
+ghost use Rattle.reg_core.specs.declared.command.Reply.{Reply};
+ghost use Rattle.reg_core.specs.declared.refusal.Fault.{Fault};
+ghost use Rattle.reg_office.specs.Stands.{Stands, Ran};
+
+use crate::office::Office;
+use reg_core::{Command, Memory, Moment, Outcome};
+use reg_crl::Signer;
+use sqlite::Alter;
+use std::alloc::Global;
+
+impl<C: Alter, S: Signer> Office<C, S> {
+    /// Runs commands in their order, each at its moment, and goes on after refusals and faults. One outcome for each is
+    /// appended.
+    ///
+    /// # Errors
+    /// `Memory` where there is no room for the outcomes: then no command ran, and there is no outcome more.
+    pub fn run(
+        &mut self,
+        alloc: Global,
+        commands: &[(Moment, Command)],
+        outcomes: &mut Vec<Outcome>,
+    ) -> Result<(), Memory>
+        ensures ran { (records : Records) → Stands C.Store S.signs self.old.store (S.identity self.old.signer) records
+            → HasCleanDisk (state C.Store self.new.store)
+            → OnOk result ((came : List (Result Reply Fault)) × (outcomes.new.items ≡ outcomes.old.items ++ came)
+            × Ran C.Store S.signs self.new.store (S.identity self.new.signer) records commands.now came) }
+        ensures none_ran { OnErr result ((outcomes.new.items ≡ outcomes.old.items) × (self.new ≡ self.old)) }
+        ensures clean { doubt (state C.Store self.old.store).is_clean ≤ doubt (state C.Store self.new.store).is_clean }
+        ensures same_identity { S.identity self.new.signer ≡ S.identity self.old.signer }
+    {
+        let Ok(()) = outcomes.reserve(commands.len()) else {
+            return Err(Memory);
+        };
+        for (now, command) in commands {
+            let outcome = self.run_one(alloc, *now, command);
+            let Ok(()) = outcomes.push(outcome) else {
+                return Err(Memory);
+            };
+        }
+        Ok(())
+    }
+}

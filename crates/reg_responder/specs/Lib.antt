@@ -1,0 +1,2 @@
+pub mod Ocsp
+pub mod Agreement
