@@ -1,0 +1,5 @@
+pub mod FieldLemmas
+pub mod FrameLemmas
+pub mod HeadLemmas
+pub mod LawLemmas
+pub mod Written

@@ -1,0 +1,15 @@
+//! The head of an HTTP/1.1 request read exactly, and the text of a response written exactly.
+#![tactic(auto)]
+
+mod answer;
+mod fields;
+mod head;
+pub mod laws;
+mod request;
+mod response;
+pub mod status;
+
+pub use answer::Answer;
+pub use head::{Head, read_head};
+pub use request::{Request, read_request};
+pub use response::{HEAD_ROOM, put, write_answer, write_memory_fault};

@@ -1,0 +1,20 @@
+//! The status codes that the desk answers with (RFC 9110 15).
+
+/// 200: the answer is in the body.
+pub const OK: u16 = 200;
+/// 400: the request can't be read.
+pub const BAD_REQUEST: u16 = 400;
+/// 404: no route has the path, or there is no such CRL.
+pub const NOT_FOUND: u16 = 404;
+/// 405: the route has another method.
+pub const METHOD_NOT_ALLOWED: u16 = 405;
+/// 409: the register refuses.
+pub const CONFLICT: u16 = 409;
+/// 411: a body's length is not told by Content-Length.
+pub const LENGTH_REQUIRED: u16 = 411;
+/// 413: the body is longer than 65,536 bytes.
+pub const PAYLOAD_TOO_LARGE: u16 = 413;
+/// 431: the head is longer than 8,192 bytes, or has more than 64 fields (RFC 6585 5).
+pub const HEADERS_TOO_LARGE: u16 = 431;
+/// 500: a fault of the desk.
+pub const INTERNAL_SERVER_ERROR: u16 = 500;

@@ -1,0 +1,92 @@
+-- What a request asks: its route, its method, and what its path or body says.
+use Rattle.std.specs.Prelude.{ℕ, Bool, false, ◌&&◌, ◌==◌, nat_le, List, [], ◌∷◌, length, codes, bytes_eq, if◌then◌else◌, Option, Some, None, option_and_then, option_map}
+use Rattle.std.specs.List.{before_first}
+use Rattle.std.specs.Result.{result_ok}
+use Rattle.std.specs.Str.{is_utf8}
+use Rattle.base64.specs.Engines.{standard}
+use Rattle.base64.specs.GeneralPurpose.{decode_of}
+use Rattle.percent_encoding.specs.Percent.{percent_decode}
+use Rattle.serde_json.specs.Data.{Data}
+use Rattle.serde_json.specs.Find.{get, as_str}
+use Rattle.serde_json.specs.Read.{read}
+use Rattle.reg_core.specs.Number.{number_of}
+use Rattle.reg_core.specs.Serial.{serial_of}
+use Rattle.reg_routes.specs.Routes.{Route, ocsp, ocsp_rest, crl, crl_number, status, counts, requests, nowhere, route}
+
+-- what is asked: a refusal of HTTP, another method than the route's, what can't be read, an OCSP request that can't be
+-- decoded, or one of the five calls of the office
+pub data Asked : Type 0 where
+  refused : ℕ → Asked
+  only : List ℕ → Asked
+  unread : Asked
+  malformed : Asked
+  ocsp_of : List ℕ → Asked
+  crl_of : Option ℕ → Asked
+  status_of : ℕ → Asked
+  counts_of : Asked
+  request_of : ℕ → List ℕ → Asked
+
+-- the target begins with a slash (origin-form, RFC 9112 3.2.1)
+abbrev pub is_rooted : List ℕ → Bool
+is_rooted [] = false
+is_rooted (b ∷ text) = b == 47
+
+-- the path: up to the first `?` (RFC 3986 3.3)
+abbrev pub path_of : List ℕ → List ℕ
+path_of target = before_first (λ b. b == 63) target
+
+-- the OCSP request in a path: percent-decoded, then base64 (RFC 6960 A.1)
+unfoldable pub decoded : List ℕ → Option (List ℕ)
+decoded text = result_ok (decode_of standard (percent_decode text))
+
+-- a text of 1 to 64 bytes
+abbrev pub label_of : List ℕ → Option (List ℕ)
+label_of text = if nat_le 1 (length text) && nat_le (length text) 64 then Some text else None
+
+-- the JSON value of a body that is UTF-8 (RFC 8259 8.1)
+unfoldable pub json_of : List ℕ → Option Data
+json_of body = if is_utf8 body then read body else None
+
+-- the string of a member of a JSON object
+abbrev pub string_at : List ℕ → Data → Option (List ℕ)
+string_at name value = option_and_then as_str (get name value)
+
+-- the request for revocation in a JSON object: the strings `serial` and `ground`
+unfoldable pub wanted_in : Data → Option (ℕ × List ℕ)
+wanted_in value =
+    option_and_then
+    (λ serial. option_map (λ word. (serial, word)) (option_and_then label_of (string_at (codes "ground") value)))
+    (option_and_then serial_of (string_at (codes "serial") value))
+
+-- the same in a body
+abbrev pub wanted : List ℕ → Option (ℕ × List ℕ)
+wanted body = option_and_then wanted_in (json_of body)
+
+-- what a text that was read asks, or that it can't be read
+abbrev pub or_unread : {A : Type 0} → (A → Asked) → Option A → Asked
+or_unread asks (Some value) = asks value
+or_unread asks None = unread
+
+-- an OCSP request that was decoded, or that it can't be
+abbrev pub or_malformed : Option (List ℕ) → Asked
+or_malformed (Some request) = ocsp_of request
+or_malformed None = malformed
+
+-- a route has one method; any other is told so (RFC 9110 15.5.6)
+abbrev pub by_method : List ℕ → List ℕ → Asked → Asked
+by_method has method asks = if bytes_eq method has then asks else only has
+
+-- what is asked at a route
+abbrev pub asked_at : List ℕ → Route → List ℕ → Asked
+asked_at method ocsp body = by_method (codes "POST") method (ocsp_of body)
+asked_at method (ocsp_rest text) body = by_method (codes "GET") method (or_malformed (decoded text))
+asked_at method crl body = by_method (codes "GET") method (crl_of None)
+asked_at method (crl_number text) body = by_method (codes "GET") method (or_unread (λ n. crl_of (Some n)) (number_of text))
+asked_at method (status text) body = by_method (codes "GET") method (or_unread status_of (serial_of text))
+asked_at method counts body = by_method (codes "GET") method counts_of
+asked_at method requests body = by_method (codes "POST") method (or_unread (λ w. request_of w.0 w.1) (wanted body))
+asked_at method nowhere body = refused 404
+
+-- what a request asks
+abbrev pub asked : List ℕ → List ℕ → List ℕ → Asked
+asked method target body = if is_rooted target then asked_at method (route (path_of target)) body else refused 400

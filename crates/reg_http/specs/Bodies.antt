@@ -1,0 +1,108 @@
+-- The bodies that are JSON (RFC 8259), and the response that each outcome is told by.
+use Rattle.std.specs.Prelude.{ℕ, List, [], ◌∷◌, ◌++◌, codes, decimal, Option, Some, None, Result, Ok, Err}
+use Rattle.reg_core.specs.Calendar.{moment_text}
+use Rattle.reg_core.specs.Lines.{fault_line}
+use Rattle.reg_core.specs.declared.command.Status.{Status}
+use Rattle.reg_core.specs.declared.command.Status.TheVariants.{Unknown, Good, Expired, Revoked}
+use Rattle.reg_core.specs.declared.command.Counts.{Counts}
+use Rattle.reg_core.specs.declared.command.Reply.{Reply}
+use Rattle.reg_core.specs.declared.command.Reply.TheVariants.{Status as StatusIs, Counts as CountsAre, Request as RequestEntered}
+use Rattle.reg_core.specs.declared.memory.Memory.{Memory as NoMemory}
+use Rattle.reg_core.specs.declared.refusal.Refusal.{Refusal}
+use Rattle.reg_core.specs.declared.refusal.Refusal.TheVariants.{NoCrl, Syntax}
+use Rattle.reg_core.specs.declared.refusal.Fault.{Fault}
+use Rattle.reg_core.specs.declared.refusal.Fault.TheVariants.{Refused, Memory, Store}
+use Rattle.reg_heads.specs.Response.{Response}
+
+-- `{"error":"LINE"}`
+unfoldable pub error_text : List ℕ → List ℕ
+error_text line = codes "{\"error\":\"" ++ line ++ codes "\"}"
+
+-- `{"status":"good"}` and its kin, or `{"at":"MOMENT","reason":N,"status":"revoked"}`
+unfoldable pub status_text : Status → List ℕ
+status_text Unknown = codes "{\"status\":\"unknown\"}"
+status_text Good = codes "{\"status\":\"good\"}"
+status_text Expired = codes "{\"status\":\"expired\"}"
+status_text (Revoked at reason) =
+    codes "{\"at\":\"" ++ moment_text at ++ codes "\",\"reason\":" ++ decimal reason ++ codes ",\"status\":\"revoked\"}"
+
+-- `{"expired":C,"good":A,"revoked":B}`
+unfoldable pub counts_text : Counts → List ℕ
+counts_text counts =
+    codes "{\"expired\":" ++ decimal counts.expired ++ codes ",\"good\":" ++ decimal counts.good
+    ++ codes ",\"revoked\":" ++ decimal counts.revoked ++ codes "}"
+
+-- `{"due":"MOMENT","request":ID}`
+unfoldable pub due_text : ℕ → ℕ → List ℕ
+due_text id due = codes "{\"due\":\"" ++ moment_text due ++ codes "\",\"request\":" ++ decimal id ++ codes "}"
+
+-- a response with a JSON body
+unfoldable pub json : ℕ → List ℕ → Response
+json status body = record { status = status; kind = codes "application/json"; allow = None; body = body }
+
+-- a response with DER in its body
+unfoldable pub der : List ℕ → List ℕ → Response
+der kind body = record { status = 200; kind = kind; allow = None; body = body }
+
+-- a refusal of HTTP itself: its own status, in the body too
+unfoldable pub refusal : ℕ → Response
+refusal status = json status (error_text (decimal status))
+
+-- a 405 names the method that the route has (RFC 9110 15.5.6)
+unfoldable pub only : List ℕ → Response
+only method =
+    record { status = 405; kind = codes "application/json"; allow = Some method; body = error_text (decimal 405) }
+
+-- the status of a refusal: 400 for what can't be read, 404 for no CRL, 409 for any other (RFC 9110 15.5)
+abbrev pub refusal_status : Refusal → ℕ
+refusal_status Syntax = 400
+refusal_status NoCrl = 404
+refusal_status other = 409
+
+-- the same of a fault: 500 (RFC 9110 15.6.1)
+abbrev pub fault_status : Fault → ℕ
+fault_status (Refused refused) = refusal_status refused
+fault_status other = 500
+
+-- a refusal or a fault is told by its line
+unfoldable pub fault_response : Fault → Response
+fault_response fault = json (fault_status fault) (error_text (fault_line fault))
+
+-- the body that tells a status; none for a reply of another kind
+abbrev pub status_reply : Reply → Option (List ℕ)
+status_reply (StatusIs status) = Some (status_text status)
+status_reply other = None
+
+-- the body that tells counts; none for a reply of another kind
+abbrev pub counts_reply : Reply → Option (List ℕ)
+counts_reply (CountsAre counts) = Some (counts_text counts)
+counts_reply other = None
+
+-- the body that tells a request that was entered; none for a reply of another kind
+abbrev pub due_reply : Reply → Option (List ℕ)
+due_reply (RequestEntered id due) = Some (due_text id due)
+due_reply other = None
+
+-- 200 with its body; a reply of another kind, which no office gives, is a fault of the store
+abbrev pub told_or : Option (List ℕ) → Response
+told_or (Some body) = json 200 body
+told_or None = fault_response Store
+
+-- the response to an outcome
+abbrev pub told : (Reply → Option (List ℕ)) → Result Reply Fault → Response
+told body_of (Ok reply) = told_or (body_of reply)
+told body_of (Err fault) = fault_response fault
+
+-- an OCSP response, of any status (RFC 6960 A.2); want of memory is a fault
+abbrev pub ocsp_told : Result (List ℕ) NoMemory → Response
+ocsp_told (Ok body) = der (codes "application/ocsp-response") body
+ocsp_told (Err memory) = fault_response Memory
+
+-- a CRL (RFC 2585 4.2), or why there is none
+abbrev pub crl_told : Result (List ℕ) Fault → Response
+crl_told (Ok body) = der (codes "application/pkix-crl") body
+crl_told (Err fault) = fault_response fault
+
+-- the OCSPResponse of status malformedRequest (RFC 6960 4.2.1)
+abbrev pub malformed_text : List ℕ
+malformed_text = 48 ∷ 3 ∷ 10 ∷ 1 ∷ 1 ∷ []

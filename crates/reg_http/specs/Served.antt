@@ -1,0 +1,63 @@
+-- How serving one request ends.
+use Rattle.std.specs.Prelude.{◌≡◌, ℕ, ◌+◌, ◌≤◌, ◌⊎◌, List, length, Option, Result, Ok, Err}
+use Rattle.std.specs.Io.KnownBytes.{Consumes, Appends}
+use Rattle.reg_core.specs.declared.command.Command.{Command}
+use Rattle.reg_core.specs.declared.command.Query.{Query}
+use Rattle.reg_core.specs.declared.command.Reply.{Reply}
+use Rattle.reg_core.specs.declared.memory.Memory.{Memory as NoMemory}
+use Rattle.reg_core.specs.declared.refusal.Fault.{Fault}
+use Rattle.reg_core.specs.declared.refusal.Fault.TheVariants.{Refused, Memory, Store, Signer, Read, Write}
+use Rattle.reg_wire.specs.Put.{AppendsFront}
+use Rattle.reg_heads.specs.Frame.{Part, refused, asked, Framed, IsUnfinished}
+use Rattle.reg_heads.specs.Head.{longest_head, longest_body}
+use Rattle.reg_heads.specs.Response.{Response, IsText, memory_text}
+use Rattle.reg_http.specs.Answers.{Answers}
+use Rattle.reg_http.specs.Asked.{asked as asks_for}
+use Rattle.reg_http.specs.Bodies.{refusal}
+
+-- these bytes were taken from the reader, no more than a head and a body can have
+pub record Takes (input left : Option (List ℕ)) (took : List ℕ) : Type 0 where
+  pub consumed : Consumes input left took
+  pub few : length took ≤ longest_head + longest_body
+
+-- The office's relations, as in `Answers`; `s` is the office before, `t` after.
+module _ {S : Type 0} (runs : S → ℕ → Command → Result Reply Fault → S → Type 0)
+    (asks : S → ℕ → Query → Result Reply Fault → S → Type 0)
+    (ocsps : S → ℕ → List ℕ → Result (List ℕ) NoMemory → S → Type 0)
+    (crls : S → Option ℕ → Result (List ℕ) Fault → S → Type 0) where
+  -- the text of the refusal, or of what is answered; the constant text where there was no memory for an answer
+  abbrev pub Responds : ℕ → S → Part → List ℕ → S → Type 0
+  Responds now s (refused status) text t = (t ≡ s) × IsText (refusal status) now text
+  Responds now s (asked method target body) text t =
+      ((response : Response) × Answers runs asks ocsps crls now s (asks_for method target body) response t × IsText response now text)
+      ⊎ ((t ≡ s) × (text ≡ memory_text))
+
+  -- one request was read, and its response was written whole
+  pub record Served (now : ℕ) (s t : S) (input left out written : Option (List ℕ)) : Type 0 where
+    pub took : List ℕ
+    pub part : Part
+    pub text : List ℕ
+    pub takes : Takes input left took
+    pub framed : Framed took part
+    pub responds : Responds now s part text t
+    pub wrote : Appends out written text
+
+  -- one request was read, and less than the whole of its response was written, from the front
+  pub record CutShort (now : ℕ) (s t : S) (input left out written : Option (List ℕ)) : Type 0 where
+    pub took : List ℕ
+    pub part : Part
+    pub text : List ℕ
+    pub takes : Takes input left took
+    pub framed : Framed took part
+    pub responds : Responds now s part text t
+    pub wrote : AppendsFront out written text
+
+  -- served whole; cut short where the writer failed; else no whole request was there, or no memory for it
+  abbrev pub Ends : ℕ → S → S → Option (List ℕ) → Option (List ℕ) → Option (List ℕ) → Option (List ℕ) → Result (Unit {0}) Fault → Type 0
+  Ends now s t input left out written (Ok done) = Served now s t input left out written
+  Ends now s t input left out written (Err Write) = CutShort now s t input left out written
+  Ends now s t input left out written (Err Read) = (took : List ℕ) × Takes input left took × IsUnfinished took
+  Ends now s t input left out written (Err Memory) = (took : List ℕ) × Takes input left took
+  Ends now s t input left out written (Err Store) = ⊥
+  Ends now s t input left out written (Err Signer) = ⊥
+  Ends now s t input left out written (Err (Refused why)) = ⊥

@@ -1,0 +1,13 @@
+//! The HTTP face of the desk: one request in, one response out.
+#![tactic(auto)]
+
+mod bodies;
+mod office;
+mod parts;
+mod respond;
+pub mod routes;
+mod serve;
+
+pub use office::Office;
+pub use reg_heads::Answer;
+pub use serve::serve_one;

@@ -1,0 +1,209 @@
+//! What a request asks: read from its method, its target and its body, before any call of the office.
+
+ghost use Rattle.std.specs.Prelude.{◌≡◌, ℕ, List, IfOk, Some, codes, option_map, option_and_then};
+ghost use Rattle.reg_routes.specs.Routes.{seen};
+ghost use Rattle.reg_core.specs.Number.{number_of};
+ghost use Rattle.reg_core.specs.Serial.{serial_of};
+ghost use Rattle.serde_json.specs.Errors.{IsMemory};
+ghost use Rattle.serde_json.specs.View.{view};
+ghost use Rattle.reg_http.specs.Asked.{crl_of, status_of, asked as asked_by, asked_at, decoded as decoded_in, is_rooted as is_rooted_text, json_of, label_of as label_in, or_malformed, or_unread, path_of as path_in, request_of, string_at as text_at, wanted as wanted_by, wanted_in as wanted_of};
+ghost use Rattle.reg_http.specs.Parts.{part_asks};
+
+use base64::DecodeAllocError;
+use base64::engine::general_purpose::STANDARD;
+use http::Method;
+use percent_encoding::percent_decode;
+use reg_core::{Label, Memory, Serial, read_number};
+use reg_heads::status;
+use reg_routes::{Route, find_route};
+use serde_json::{Category, Error, Value};
+use std::alloc::Global;
+use std::str;
+
+/// What is asked of the office, or why nothing is.
+#[derive(Drop)]
+pub(crate) enum Part {
+    /// Refused by this status of HTTP.
+    Refused(u16),
+    /// The route has GET alone.
+    OnlyGet,
+    /// The route has POST alone.
+    OnlyPost,
+    /// A number, a serial number or a body can't be read.
+    Unread,
+    /// The text of an OCSP request in the path can't be decoded.
+    Malformed,
+    /// The OCSP request is the body.
+    Posted,
+    /// The OCSP request was in the path.
+    Ocsp(Vec<u8>),
+    /// The CRL of this number, or the latest.
+    Crl(Option<u64>),
+    /// The status of this serial number.
+    Status(Serial),
+    /// How many certificates have each status.
+    Counts,
+    /// The revocation of this serial number, on the ground that the word names.
+    Request { serial: Serial, word: Label },
+}
+
+/// Whether a target begins with a slash (origin-form, RFC 9112 3.2.1).
+fn is_rooted(target: &str) -> bool
+    ensures { result ≡ is_rooted_text target.now }
+{
+    target.starts_with('/')
+}
+
+/// The path of a target: up to the first `?` (RFC 3986 3.3).
+fn path_of(target: &str) -> &str
+    ensures { result.now ≡ path_in target.now }
+{
+    match target.split_once('?') {
+        Some((path, _)) => path,
+        None => target,
+    }
+}
+
+/// The OCSP request that a path carries: percent-decoded, then base64 (RFC 6960 A.1).
+#[tactic(auto, unfolding(crate::specs::Asked::decoded))]
+fn decoded(alloc: Global, text: &[u8]) -> Result<Part, Memory>
+    ensures { IfOk result (λ part. (body : List ℕ) → part_asks body part ≡ or_malformed (decoded_in text.now)) }
+{
+    let mut plain = Vec::new(alloc);
+    if percent_decode(text).append_to(&mut plain).is_err() {
+        return Err(Memory);
+    }
+    match STANDARD.decode(alloc, plain.as_slice()) {
+        Ok(request) => Ok(Part::Ocsp(request)),
+        Err(DecodeAllocError::DecodeError(_)) => Ok(Part::Malformed),
+        Err(DecodeAllocError::OutOfMemory) => Err(Memory),
+    }
+}
+
+/// The CRL of this number.
+fn crl_part(text: &[u8]) -> Part
+    ensures { (body : List ℕ) → part_asks body result ≡ or_unread (λ n. crl_of (Some n)) (number_of text.now) }
+{
+    match read_number(text) {
+        Some(number) => Part::Crl(Some(number)),
+        None => Part::Unread,
+    }
+}
+
+/// The status of this serial number.
+fn status_part(text: &[u8]) -> Part
+    ensures { (body : List ℕ) → part_asks body result ≡ or_unread status_of (serial_of text.now) }
+{
+    match Serial::read(text) {
+        Some(serial) => Part::Status(serial),
+        None => Part::Unread,
+    }
+}
+
+/// The string of a member of a JSON object.
+fn string_at<'v>(value: &'v Value, name: &str) -> Option<&'v str>
+    ensures { option_map (λ text. text.now) result ≡ text_at name.now (view value.entry.now) }
+{
+    value.get(name)?.as_str()
+}
+
+/// The serial number of a request for revocation.
+fn serial_in(value: &Value) -> Option<Serial>
+    ensures { result ≡ option_and_then serial_of (text_at (codes "serial") (view value.now)) }
+{
+    Serial::read(string_at(value, "serial")?.as_bytes())
+}
+
+/// A text of 1 to 64 bytes.
+fn label_of(text: &[u8]) -> Option<Label>
+    ensures { result ≡ label_in text.now }
+{
+    Label::of(text)
+}
+
+/// The ground of a request for revocation, in its own word.
+fn word_in(value: &Value) -> Option<Label>
+    ensures { result ≡ option_and_then label_in (text_at (codes "ground") (view value.now)) }
+{
+    label_of(string_at(value, "ground")?.as_bytes())
+}
+
+/// The request for revocation in a JSON object.
+#[tactic(auto, unfolding(crate::specs::Asked::wanted_in))]
+fn request_in(value: &Value) -> Part
+    ensures { (body : List ℕ) → part_asks body result ≡ or_unread (λ w. request_of w.0 w.1) (wanted_of (view value.now)) }
+{
+    match serial_in(value) {
+        Some(serial) => match word_in(value) {
+            Some(word) => Part::Request { serial, word },
+            None => Part::Unread,
+        },
+        None => Part::Unread,
+    }
+}
+
+/// A text that is no JSON can't be read; want of memory is told as such.
+fn unread(error: &Error) -> Result<Part, Memory>
+    ensures { IfOk result (λ part. ¬ (IsMemory error.now) × (part ≡ Part.Unread)) }
+{
+    match error.classify() {
+        Category::Memory => Err(Memory),
+        _ => Ok(Part::Unread),
+    }
+}
+
+/// The request for revocation in a body.
+#[tactic(auto, unfolding(crate::specs::Asked::json_of))]
+fn request_part(alloc: Global, body: &[u8]) -> Result<Part, Memory>
+    ensures { IfOk result (λ part. (posted : List ℕ) → part_asks posted part ≡ or_unread (λ w. request_of w.0 w.1) (wanted_by body.now)) }
+{
+    let Ok(text) = str::from_utf8(body) else {
+        return Ok(Part::Unread);
+    };
+    match Value::from_str(alloc, text) {
+        Ok(value) => Ok(request_in(&value)),
+        Err(error) => unread(&error),
+    }
+}
+
+/// What is asked at a route.
+fn part_at(alloc: Global, method: &Method, route: Route<'_>, body: &[u8]) -> Result<Part, Memory>
+    ensures { IfOk result (λ part. part_asks body.now part ≡ asked_at method.now (seen route.entry) body.now) }
+{
+    let is_get = method.as_str() == "GET";
+    let is_post = method.as_str() == "POST";
+    match route {
+        Route::Nowhere => Ok(Part::Refused(status::NOT_FOUND)),
+        Route::Ocsp if is_post => Ok(Part::Posted),
+        Route::Requests if is_post => request_part(alloc, body),
+        Route::Ocsp | Route::Requests => Ok(Part::OnlyPost),
+        _ if !is_get => Ok(Part::OnlyGet),
+        Route::OcspRest(text) => decoded(alloc, text),
+        Route::Crl => Ok(Part::Crl(None)),
+        Route::CrlNumber(text) => Ok(crl_part(text)),
+        Route::Status(text) => Ok(status_part(text)),
+        Route::Counts => Ok(Part::Counts),
+    }
+}
+
+/// What a request asks.
+///
+/// # Errors
+///
+/// [`Memory`] where memory is refused.
+pub(crate) fn read_part(
+    alloc: Global,
+    method: &Method,
+    target: &str,
+    body: &[u8],
+) -> Result<Part, Memory>
+    ensures { IfOk result (λ part. part_asks body.now part ≡ asked_by method.now target.now body.now) }
+{
+    if !is_rooted(target) {
+        return Ok(Part::Refused(status::BAD_REQUEST));
+    }
+    match find_route(alloc, path_of(target)) {
+        Ok(route) => part_at(alloc, method, route, body),
+        Err(_) => Err(Memory),
+    }
+}

@@ -1,0 +1,134 @@
+//! One request read, answered and written.
+
+ghost use Rattle.std.specs.Prelude.{◌≡◌, ◌≢◌, ◌≤◌, ◌⊎◌, [], ℕ, List, IfErr, OnOk, vec_capacity};
+ghost use Rattle.std.specs.Io.KnownBytes.{Appends};
+ghost use Rattle.reg_wire.specs.Put.{AppendsFront};
+ghost use Rattle.reg_heads.specs.Frame.{part_of};
+ghost use Rattle.reg_heads.specs.Response.{IsText, memory_text, shown};
+ghost use Rattle.reg_http.specs.Bodies.{refusal as refusal_of};
+ghost use Rattle.reg_http.specs.Served.{Ends, Responds};
+
+use crate::bodies::{JSON_ROOM, refusal};
+use crate::office::Office;
+use crate::routes::answer;
+use reg_core::{Fault, Moment};
+use reg_heads::{Answer, HEAD_ROOM, Request, read_request, write_answer, write_memory_fault};
+use std::alloc::Global;
+use std::io::{Read, Write};
+
+/// Writes an answer.
+fn send<W: Write>(writer: &mut W, room: Vec<u8>, answer: &Answer, now: Moment) -> Result<(), Fault>
+    requires empty { room.items ≡ [] }
+    requires room { 512 ≤ vec_capacity room }
+    ensures ok { OnOk result ((text : List ℕ) × IsText (shown answer.now) now text
+        × Appends (W.contents writer.old) (W.contents writer.new) text) }
+    ensures err { IfErr result (λ fault. (fault ≡ Fault.Write) × ((text : List ℕ) × IsText (shown answer.now) now text
+        × AppendsFront (W.contents writer.old) (W.contents writer.new) text)) }
+{
+    match write_answer(writer, room, answer, now) {
+        Ok(()) => Ok(()),
+        Err(_) => Err(Fault::Write),
+    }
+}
+
+/// Writes the constant text that tells want of memory.
+fn send_memory_fault<W: Write>(writer: &mut W) -> Result<(), Fault>
+    ensures ok { OnOk result (Appends (W.contents writer.old) (W.contents writer.new) memory_text) }
+    ensures err { IfErr result (λ fault. (fault ≡ Fault.Write)
+        × AppendsFront (W.contents writer.old) (W.contents writer.new) memory_text) }
+{
+    match write_memory_fault(writer) {
+        Ok(()) => Ok(()),
+        Err(_) => Err(Fault::Write),
+    }
+}
+
+/// Writes the refusal of a request that reaches no route.
+fn refuse<W: Write>(
+    alloc: Global,
+    writer: &mut W,
+    room: Vec<u8>,
+    status: u16,
+    now: Moment,
+) -> Result<(), Fault>
+    requires empty { room.items ≡ [] }
+    requires room { 512 ≤ vec_capacity room }
+    ensures ok { OnOk result ((text : List ℕ) × IsText (refusal_of status) now text
+        × Appends (W.contents writer.old) (W.contents writer.new) text) }
+    ensures err { IfErr result (λ fault. ((fault ≡ Fault.Write) × ((text : List ℕ) × IsText (refusal_of status) now text
+        × AppendsFront (W.contents writer.old) (W.contents writer.new) text))
+        ⊎ ((fault ≡ Fault.Memory) × (writer.new ≡ writer.old))) }
+{
+    match Vec::with_capacity(alloc, JSON_ROOM) {
+        Ok(body) => send(writer, room, &refusal(body, status), now),
+        Err(_) => Err(Fault::Memory),
+    }
+}
+
+/// Answers a request that was read, and writes the response.
+fn reply<W: Write, O: Office>(
+    alloc: Global,
+    writer: &mut W,
+    room: Vec<u8>,
+    request: Request,
+    now: Moment,
+    office: &mut O,
+) -> Result<(), Fault>
+    requires empty { room.items ≡ [] }
+    requires room { 512 ≤ vec_capacity room }
+    ensures ok { OnOk result ((text : List ℕ)
+        × Responds O.runs O.asks O.ocsps O.crls now office.old (part_of request) text office.new
+        × Appends (W.contents writer.old) (W.contents writer.new) text) }
+    ensures err { IfErr result (λ fault. ((fault ≡ Fault.Write) × ((text : List ℕ)
+        × Responds O.runs O.asks O.ocsps O.crls now office.old (part_of request) text office.new
+        × AppendsFront (W.contents writer.old) (W.contents writer.new) text))
+        ⊎ ((fault ≡ Fault.Memory) × (writer.new ≡ writer.old) × (office.new ≡ office.old))) }
+{
+    match request {
+        Request::Refused(status) => refuse(alloc, writer, room, status, now),
+        Request::Asked {
+            method,
+            target,
+            body,
+        } => match answer(
+            alloc,
+            &method,
+            target.as_str(),
+            body.as_slice(),
+            now,
+            office,
+        ) {
+            Ok(answer) => send(writer, room, &answer, now),
+            Err(_) => send_memory_fault(writer),
+        },
+    }
+}
+
+/// Serves one request: reads it, answers it, and writes the response. Reads and writes come in pieces of any size. Where
+/// there was no memory for an answer, the office is as it was, and a constant response of status 500 is written.
+///
+/// # Errors
+///
+/// [`Fault::Read`] where the reader fails or ends within the request, and [`Fault::Memory`] where memory is refused before
+/// the request is answered: then nothing was written, and the office is as it was. [`Fault::Write`] where the writer fails
+/// or takes nothing more: less than the whole response went out, from the front, and the office is as the answer left it.
+pub fn serve_one<R: Read, W: Write, O: Office>(
+    alloc: Global,
+    reader: &mut R,
+    writer: &mut W,
+    now: Moment,
+    office: &mut O,
+) -> Result<(), Fault>
+    ensures ends { Ends O.runs O.asks O.ocsps O.crls now office.old office.new (R.remaining reader.old)
+        (R.remaining reader.new) (W.contents writer.old) (W.contents writer.new) result }
+    ensures silent { IfErr result (λ fault. fault ≢ Fault.Write
+        → (writer.new ≡ writer.old) × (office.new ≡ office.old)) }
+{
+    let Ok(room) = Vec::with_capacity(alloc, HEAD_ROOM) else {
+        return Err(Fault::Memory);
+    };
+    match read_request(alloc, reader) {
+        Ok(request) => reply(alloc, writer, room, request, now, office),
+        Err(fault) => Err(fault),
+    }
+}

@@ -1,0 +1,2 @@
+pub mod SeekOne
+pub mod Routed

@@ -1,0 +1,87 @@
+-- Which route a path has.
+use Rattle.std.specs.Prelude.{ℕ, ◌==◌, List, [], ◌∷◌, codes, if◌then◌else◌, Option, Some, None, option_map, option_and_then}
+use Rattle.matchit.specs.Seek.{has_slash}
+use Rattle.reg_routes.specs.declared.routes.Route.{Route as RouteOf}
+use Rattle.reg_routes.specs.declared.routes.Route.TheVariants.{Ocsp, OcspRest, Crl, CrlNumber, Status, Counts, Requests, Nowhere}
+
+-- the routes, with the part of the path that the route names
+pub data Route : Type 0 where
+  ocsp : Route
+  ocsp_rest : List ℕ → Route
+  crl : Route
+  crl_number : List ℕ → Route
+  status : List ℕ → Route
+  counts : Route
+  requests : Route
+  nowhere : Route
+
+-- how a path goes on after its prefix: not at all, with one segment, or with anything, a slash too
+pub data Ending : Type 0 where
+  here : Ending
+  one : Ending
+  rest : Ending
+
+-- a line of the table
+pub record Line : Type 0 where
+  pub prefix : List ℕ
+  pub ending : Ending
+  pub to : List ℕ → Route
+
+abbrev pub line : List ℕ → Ending → (List ℕ → Route) → Line
+line prefix ending to = record { prefix = prefix; ending = ending; to = to }
+
+-- the routes of the desk
+abbrev pub table : List Line
+table =
+    line (codes "/counts") here (λ _. counts)
+    ∷ line (codes "/crl/") one crl_number
+    ∷ line (codes "/crl") here (λ _. crl)
+    ∷ line (codes "/ocsp/") rest ocsp_rest
+    ∷ line (codes "/ocsp") here (λ _. ocsp)
+    ∷ line (codes "/requests") here (λ _. requests)
+    ∷ line (codes "/status/") one status
+    ∷ []
+
+-- the path after a prefix, where it begins with it
+abbrev pub after : List ℕ → List ℕ → Option (List ℕ)
+after [] path = Some path
+after (x ∷ prefix) [] = None
+after (x ∷ prefix) (b ∷ path) = if x == b then after prefix path else None
+
+-- what is left is nothing, a segment with no slash, or any bytes but none
+abbrev pub ended : Ending → List ℕ → Option (List ℕ)
+ended here [] = Some []
+ended here (b ∷ left) = None
+ended one [] = None
+ended one (b ∷ left) = if has_slash (b ∷ left) then None else Some (b ∷ left)
+ended rest [] = None
+ended rest (b ∷ left) = Some (b ∷ left)
+
+-- the route of a line, where the path is the line's
+abbrev pub takes : Line → List ℕ → Option Route
+takes l path = option_map l.to (option_and_then (ended l.ending) (after l.prefix path))
+
+-- the route that was found, or the next
+abbrev pub or_next : Option Route → Route → Route
+or_next (Some found) next = found
+or_next None next = next
+
+-- the route of the first line that takes the path; nowhere where none does
+abbrev pub route_in : List Line → List ℕ → Route
+route_in [] path = nowhere
+route_in (l ∷ ls) path = or_next (takes l path) (route_in ls path)
+
+-- the route of a path
+unfoldable pub route : List ℕ → Route
+route path = route_in table path
+
+-- the same of a route that the program found
+abbrev pub seen : RouteOf → Route
+seen Ocsp = ocsp
+seen (OcspRest text) = ocsp_rest text.now
+seen Crl = crl
+seen (CrlNumber text) = crl_number text.now
+seen (Status text) = status text.now
+seen Counts = counts
+seen Requests = requests
+seen Nowhere = nowhere
