@@ -1,0 +1,69 @@
+-- What an HTTP request adds to the records.
+use Rattle.std.proofs.Common.{◌≡◌, ℕ, List, ap, inl, inr}
+use Rattle.std.specs.Prelude.{Option, Some, None, Result, Ok, Err}
+use Rattle.reg_core.specs.Changes.{with_request}
+use Rattle.reg_core.specs.Crls.{CertList}
+use Rattle.reg_core.specs.Records.{Records}
+use Rattle.reg_core.specs.Status.{counts}
+use Rattle.reg_core.specs.Step.{StepBy, refusal, request_row}
+use Rattle.reg_core.specs.declared.command.Command.TheVariants.{Request}
+use Rattle.reg_core.specs.declared.command.Reply.{Reply}
+use Rattle.reg_core.specs.declared.refusal.Refusal.{Refusal}
+use Rattle.reg_core.specs.declared.refusal.Fault.{Fault}
+use Rattle.reg_core.specs.declared.refusal.Fault.TheVariants.{Refused, Memory, Store, Signer, Read, Write}
+use Rattle.reg_core.specs.declared.rows.RequestRow.{RequestRow}
+use Rattle.reg_heads.specs.Response.{Response}
+use Rattle.reg_http.specs.Answers.{Answers}
+use Rattle.reg_http.specs.Asked.{Asked, refused, only, unread, malformed, ocsp_of, crl_of, status_of, counts_of, request_of}
+use Rattle.reg_laws.specs.Run.{Happens}
+use Rattle.reg_faces.specs.Kept.{Signs, Runs, Asks, Ocsps, Crls, AddsARequestAtMost}
+use Rattle.reg_crl.specs.Signing.{Identity, signed_by}
+
+-- records that stay
+pub nothing_added : (now : ℕ) (before after : Records) → after ≡ before → AddsARequestAtMost now before after
+nothing_added now before after same = record {
+  added = inl same;
+  counted = (λ moment. ap (λ (records : Records). counts records moment) same);
+}
+
+-- records with one request more
+pub one_added : (now : ℕ) (before after : Records) (row : RequestRow) → after ≡ with_request before now row → AddsARequestAtMost now before after
+one_added now before after row same = record {
+  added = inr (row, same);
+  counted = (λ moment. ap (λ (records : Records). counts records moment) same);
+}
+
+-- a step of a request
+step_adds : (signed : CertList → List ℕ → Type 0) (now serial : ℕ) (word : List ℕ) (before after : Records) (outcome : Result Reply Fault) (found : Option Refusal)
+    → StepBy signed found before now (Request serial word) outcome after → AddsARequestAtMost now before after
+step_adds signed now serial word before after outcome (Some why) step = nothing_added now before after step.1
+step_adds signed now serial word before after outcome None (bytes, told, unsigned, same) =
+    one_added now before after (request_row before now serial word) same
+
+-- a request for revocation
+pub request_adds : (signed : CertList → List ℕ → Type 0) (now serial : ℕ) (word : List ℕ) (before after : Records) (outcome : Result Reply Fault)
+    → Happens signed before now (Request serial word) outcome after → AddsARequestAtMost now before after
+request_adds signed now serial word before after (Ok reply) step =
+    step_adds signed now serial word before after (Ok reply) (refusal before now (Request serial word)) step
+request_adds signed now serial word before after (Err (Refused why)) step =
+    step_adds signed now serial word before after (Err (Refused why)) (refusal before now (Request serial word)) step
+request_adds signed now serial word before after (Err Memory) fault = nothing_added now before after fault.1
+request_adds signed now serial word before after (Err Store) fault = nothing_added now before after fault.1
+request_adds signed now serial word before after (Err Signer) fault = nothing_added now before after fault.2
+request_adds signed now serial word before after (Err Read) fault = absurd fault
+request_adds signed now serial word before after (Err Write) fault = absurd fault
+
+-- any answer
+pub answer_adds : (signs : Signs) (identity : Identity) (now : ℕ) (asked : Asked) (response : Response) (before after : Records)
+    → Answers (Runs signs identity) Asks (Ocsps signs identity) Crls now before asked response after → AddsARequestAtMost now before after
+answer_adds signs identity now (refused status) response before after answered = nothing_added now before after answered.0
+answer_adds signs identity now (only method) response before after answered = nothing_added now before after answered.0
+answer_adds signs identity now unread response before after answered = nothing_added now before after answered.0
+answer_adds signs identity now malformed response before after answered = nothing_added now before after answered.0
+answer_adds signs identity now (ocsp_of request) response before after (Ok bytes, came, is) = nothing_added now before after came.1
+answer_adds signs identity now (ocsp_of request) response before after (Err memory, came, is) = nothing_added now before after came
+answer_adds signs identity now (crl_of number) response before after (given, came, is) = nothing_added now before after came.1
+answer_adds signs identity now (status_of serial) response before after (given, came, is) = nothing_added now before after came.1
+answer_adds signs identity now counts_of response before after (given, came, is) = nothing_added now before after came.1
+answer_adds signs identity now (request_of serial word) response before after (given, came, is) =
+    request_adds (signed_by signs identity) now serial word before after given came

@@ -1,0 +1,6 @@
+pub mod Added
+pub mod Steps
+pub mod KeepingLemmas
+pub mod Lines
+pub mod Exchanges
+pub mod Twice

@@ -1,0 +1,317 @@
+-- An import that comes twice, row after row, by the rules.
+use Rattle.std.specs.Prelude.{Result, Ok, Err, codes, get_or, option_and_then}
+use Rattle.std.specs.List.{AllByRecursion, AllZip}
+use Rattle.std.proofs.Common.{◌≡◌, ◌==◌, ◌⊎◌, ℕ, true, false, List, [], ◌∷◌, map, Option, Some, None, refl, sym, ap, ◌∙◌, subst, inl, inr}
+use Rattle.csv.specs.Machine as machine
+use Rattle.csv.specs.Reading.{AreRecords, Reached, default_config, strip_bom}
+use Rattle.csv.specs.declared.parser.Config.{Config}
+use Rattle.csv.specs.declared.parser.State.{State}
+use Rattle.csv.specs.declared.parser.State.TheVariants as st
+use Rattle.reg_core.specs.Crls.{CertList}
+use Rattle.reg_core.specs.Lines.{fault_line, refusal_line}
+use Rattle.reg_core.specs.Records.{Records}
+use Rattle.reg_core.specs.Sound.{Sound}
+use Rattle.reg_core.specs.declared.command.Command.{Command}
+use Rattle.reg_core.specs.declared.command.Command.TheVariants.{Subscriber, Order, Register, Request, Decline, Revoke, Crl}
+use Rattle.reg_core.specs.declared.command.Reply.{Reply}
+use Rattle.reg_core.specs.declared.command.Reply.TheVariants as reply
+use Rattle.reg_core.specs.declared.command.Reply.TheVariants.{Registered, Same}
+use Rattle.reg_core.specs.declared.command.Status.TheVariants as status
+use Rattle.reg_core.specs.declared.refusal.Fault.{Fault}
+use Rattle.reg_core.specs.declared.refusal.Fault.TheVariants.{Refused, Memory, Store, Signer, Read, Write}
+use Rattle.reg_core.specs.declared.refusal.Refusal.{Refusal}
+use Rattle.reg_core.specs.declared.refusal.Refusal.TheVariants as refused
+use Rattle.reg_core.specs.declared.rows.CertRow.{CertRow}
+use Rattle.reg_laws.specs.Import.{register, Imports, IsFault, AnsweredAgain}
+use Rattle.reg_laws.specs.Run.{Happens}
+use Rattle.reg_laws.proofs.CountFacts.{same_number}
+use Rattle.reg_laws.proofs.Imported.{imports_twice}
+use Rattle.reg_lines.specs.Answer.{Answer, came_to}
+use Rattle.reg_lines.specs.Import.{AllRan, Row, RowMeans, RowReplies, data_rows}
+use Rattle.reg_lines.specs.Meaning.{Meaning, tells}
+use Rattle.reg_lines.specs.Reading.{register_of}
+use Rattle.reg_lines.specs.Replies.{outcome_line, reply_line, status_line, counts_line, listing_line, listing_by, overdue_line, next_crl_line, with_lf}
+use Rattle.reg_lines.proofs.Meanings.{register_read, row_spelled}
+use Rattle.reg_wire.specs.Run.{Answered}
+use Rattle.reg_faces.specs.Twice.{TellsFault, RepliedAgain}
+
+-- ---- the rows of a text
+
+-- one text has one list of rows
+rows_agree : (cfg : Config) (s : State) (text : List ℕ) (rows others : List Row)
+    → AreRecords cfg s text rows → AreRecords cfg s text others → rows ≡ others
+unfolding Reached
+rows_agree cfg s text [] [] a b = refl
+rows_agree cfg s text [] (row ∷ others) (t, left, (same, bytes), none) (u, rest, (p, found, is, more), end) =
+    absurd (let both : None ≡ Some p = sym none ∙ rw (sym same, sym bytes) found in let bad : ⊥ = cc in bad)
+rows_agree cfg s text (row ∷ rows) [] (u, rest, (p, found, is, more), end) (t, left, (same, bytes), none) =
+    absurd (let both : None ≡ Some p = sym none ∙ rw (sym same, sym bytes) found in let bad : ⊥ = cc in bad)
+rows_agree cfg s text (row ∷ rows) (other ∷ others) (t, left, (p, found, is, more), none) (u, rest, (q, found', is', more'), none') =
+    let both : Some p ≡ Some q = sym found ∙ found' in
+    let same : p ≡ q = cc in
+    let P : machine.Read → Type 0 = λ r. AreRecords cfg r.1 r.2 others in
+    let tail : rows ≡ others = rows_agree cfg p.1 p.2 rows others (t, left, more, none) (subst P (sym same) (u, rest, more', none')) in
+    let head : row ≡ other = is ∙ ap (λ r. r.0) same ∙ sym is' in
+    rw (head, tail) refl
+
+-- ---- what a row registers
+
+-- the row of the register that a command adds
+certificate_of : Command → Option CertRow
+certificate_of (Register order serial not_before not_after) =
+    Some (record { serial = serial; order = order; not_before = not_before; not_after = not_after })
+certificate_of (Subscriber name) = None
+certificate_of (Order subscriber days) = None
+certificate_of (Request serial ground) = None
+certificate_of (Decline request) = None
+certificate_of (Revoke request) = None
+certificate_of Crl = None
+
+-- the certificate that a row of a text spells
+spelled : Row → Option CertRow
+spelled row = option_and_then certificate_of (register_of row)
+
+-- a row that means a command spells a certificate, and the command registers it
+record Spells (row : Row) (command : Command) : Type 0 where
+  certificate : CertRow
+  is : spelled row ≡ Some certificate
+  command_is : command ≡ register certificate
+
+means_spells : (row : Row) (command : Command) → RowMeans row command → Spells row command
+unfolding spelled certificate_of
+means_spells row (Register order serial not_before not_after) (rest, is, fields) =
+    let same : row ≡ rest = cc in
+    let read : register_of row ≡ Some (Register order serial not_before not_after) =
+    ap register_of same ∙ register_read order serial not_before not_after rest fields in
+    record {
+      certificate = record { serial = serial; order = order; not_before = not_before; not_after = not_after };
+      is = ap (λ o. option_and_then certificate_of o) read;
+      command_is = refl;
+    }
+means_spells row (Subscriber name) (is, label) = absurd (let bad : ⊥ = cc in bad)
+means_spells row (Order subscriber days) (a, b, is, first, second) = absurd (let bad : ⊥ = cc in bad)
+means_spells row (Request serial ground) (a, is, first, second) = absurd (let bad : ⊥ = cc in bad)
+means_spells row (Decline request) (a, is, first) = absurd (let bad : ⊥ = cc in bad)
+means_spells row (Revoke request) (a, is, first) = absurd (let bad : ⊥ = cc in bad)
+means_spells row Crl is = absurd (let bad : ⊥ = cc in bad)
+
+-- a row that means no command spells no certificate
+unread_spells : (row : Row) → ((command : Command) → ¬ RowMeans row command) → spelled row ≡ None
+unfolding spelled
+unread_spells row unread = go (register_of row) refl
+  where
+    go : (o : Option Command) → register_of row ≡ o → option_and_then certificate_of o ≡ None
+    go None e = refl
+    go (Some command) e = absurd (unread command (row_spelled row command e))
+
+-- ---- the lines of replies
+
+-- the line of a refusal begins with E
+refusal_begins : (refusal : Refusal) → get_or (with_lf (refusal_line refusal)) 0 0 ≡ 69
+unfolding with_lf refusal_line
+refusal_begins (refused.ClockBack last) = refl
+refusal_begins refused.ClockEnd = refl
+refusal_begins refused.Full = refl
+refusal_begins refused.BadName = refl
+refusal_begins (refused.NameTaken id) = refl
+refusal_begins refused.NoSubscriber = refl
+refusal_begins (refused.BadDays most) = refl
+refusal_begins refused.NoOrder = refl
+refusal_begins refused.OrderFilled = refl
+refusal_begins refused.SerialTaken = refl
+refusal_begins refused.BadValidity = refl
+refusal_begins refused.TooLong = refl
+refusal_begins refused.Ended = refl
+refusal_begins refused.UnknownSerial = refl
+refusal_begins refused.NoHold = refl
+refusal_begins refused.BadGround = refl
+refusal_begins refused.NoRequest = refl
+refusal_begins refused.DeclinedBefore = refl
+refusal_begins (refused.RevokedBefore at) = refl
+refusal_begins refused.Expired = refl
+refusal_begins refused.NoCrl = refl
+refusal_begins refused.Syntax = refl
+
+-- and that of a listing with l
+listing_begins : (first : ℕ) (last : Option ℕ) → get_or (with_lf (listing_by first last)) 0 0 ≡ 108
+unfolding with_lf listing_by
+listing_begins first None = refl
+listing_begins first (Some last) = refl
+
+-- texts that differ at a place are not the same
+apart : (place : ℕ) (text other : List ℕ) → text ≡ other → (get_or text place 0 == get_or other place 0) ≡ false → ⊥
+apart place text other same differs =
+    let both : true ≡ false =
+    sym (same_number (get_or text place 0)) ∙ ap (λ t. get_or text place 0 == get_or t place 0) same ∙ differs
+    in
+    cc both
+
+-- a line that tells `registered` is that of this reply
+registered_told : (outcome : Result Reply Fault) → with_lf (outcome_line outcome) ≡ with_lf (codes "registered") → outcome ≡ Ok Registered
+unfolding with_lf outcome_line reply_line status_line counts_line listing_line overdue_line next_crl_line fault_line
+registered_told (Ok (reply.Subscriber id)) e = absurd (apart 0 _ _ e refl)
+registered_told (Ok (reply.Order id)) e = absurd (apart 0 _ _ e refl)
+registered_told (Ok reply.Registered) e = refl
+registered_told (Ok reply.Same) e = absurd (apart 0 _ _ e refl)
+registered_told (Ok (reply.Request id due)) e = absurd (apart 2 _ _ e refl)
+registered_told (Ok reply.Declined) e = absurd (apart 0 _ _ e refl)
+registered_told (Ok (reply.Revoked true)) e = absurd (apart 2 _ _ e refl)
+registered_told (Ok (reply.Revoked false)) e = absurd (apart 2 _ _ e refl)
+registered_told (Ok (reply.Crl number entries)) e = absurd (apart 0 _ _ e refl)
+registered_told (Ok (reply.Status status.Unknown)) e = absurd (apart 0 _ _ e refl)
+registered_told (Ok (reply.Status status.Good)) e = absurd (apart 0 _ _ e refl)
+registered_told (Ok (reply.Status status.Expired)) e = absurd (apart 0 _ _ e refl)
+registered_told (Ok (reply.Status (status.Revoked at reason))) e = absurd (apart 2 _ _ e refl)
+registered_told (Ok (reply.Counts counts)) e = absurd (apart 0 _ _ e refl)
+registered_told (Ok (reply.Listing None)) e = absurd (apart 0 _ _ e refl)
+registered_told (Ok (reply.Listing (Some listing))) e = absurd (apart 0 _ _ e (ap (λ n. n == get_or (with_lf (codes "registered")) 0 0) (listing_begins listing.first listing.last)))
+registered_told (Ok (reply.Overdue None)) e = absurd (apart 0 _ _ e refl)
+registered_told (Ok (reply.Overdue (Some overdue))) e = absurd (apart 0 _ _ e refl)
+registered_told (Ok (reply.NextCrl None)) e = absurd (apart 0 _ _ e refl)
+registered_told (Ok (reply.NextCrl (Some moment))) e = absurd (apart 0 _ _ e refl)
+registered_told (Err Memory) e = absurd (apart 0 _ _ e refl)
+registered_told (Err Store) e = absurd (apart 0 _ _ e refl)
+registered_told (Err Signer) e = absurd (apart 0 _ _ e refl)
+registered_told (Err Read) e = absurd (apart 0 _ _ e refl)
+registered_told (Err Write) e = absurd (apart 0 _ _ e refl)
+registered_told (Err (Refused refusal)) e = absurd (apart 0 _ _ e (ap (λ n. n == get_or (with_lf (codes "registered")) 0 0) (refusal_begins refusal)))
+
+-- a line that tells `same` is that of this reply
+same_told : (outcome : Result Reply Fault) → with_lf (outcome_line outcome) ≡ with_lf (codes "same") → outcome ≡ Ok Same
+unfolding with_lf outcome_line reply_line status_line counts_line listing_line overdue_line next_crl_line fault_line
+same_told (Ok (reply.Subscriber id)) e = absurd (apart 1 _ _ e refl)
+same_told (Ok (reply.Order id)) e = absurd (apart 0 _ _ e refl)
+same_told (Ok reply.Registered) e = absurd (apart 0 _ _ e refl)
+same_told (Ok reply.Same) e = refl
+same_told (Ok (reply.Request id due)) e = absurd (apart 0 _ _ e refl)
+same_told (Ok reply.Declined) e = absurd (apart 0 _ _ e refl)
+same_told (Ok (reply.Revoked true)) e = absurd (apart 0 _ _ e refl)
+same_told (Ok (reply.Revoked false)) e = absurd (apart 0 _ _ e refl)
+same_told (Ok (reply.Crl number entries)) e = absurd (apart 0 _ _ e refl)
+same_told (Ok (reply.Status status.Unknown)) e = absurd (apart 0 _ _ e refl)
+same_told (Ok (reply.Status status.Good)) e = absurd (apart 0 _ _ e refl)
+same_told (Ok (reply.Status status.Expired)) e = absurd (apart 0 _ _ e refl)
+same_told (Ok (reply.Status (status.Revoked at reason))) e = absurd (apart 0 _ _ e refl)
+same_told (Ok (reply.Counts counts)) e = absurd (apart 0 _ _ e refl)
+same_told (Ok (reply.Listing None)) e = absurd (apart 0 _ _ e refl)
+same_told (Ok (reply.Listing (Some listing))) e = absurd (apart 0 _ _ e (ap (λ n. n == get_or (with_lf (codes "same")) 0 0) (listing_begins listing.first listing.last)))
+same_told (Ok (reply.Overdue None)) e = absurd (apart 0 _ _ e refl)
+same_told (Ok (reply.Overdue (Some overdue))) e = absurd (apart 0 _ _ e refl)
+same_told (Ok (reply.NextCrl None)) e = absurd (apart 0 _ _ e refl)
+same_told (Ok (reply.NextCrl (Some moment))) e = absurd (apart 0 _ _ e refl)
+same_told (Err Memory) e = absurd (apart 0 _ _ e refl)
+same_told (Err Store) e = absurd (apart 0 _ _ e refl)
+same_told (Err Signer) e = absurd (apart 0 _ _ e refl)
+same_told (Err Read) e = absurd (apart 0 _ _ e refl)
+same_told (Err Write) e = absurd (apart 0 _ _ e refl)
+same_told (Err (Refused refusal)) e = absurd (apart 0 _ _ e (ap (λ n. n == get_or (with_lf (codes "same")) 0 0) (refusal_begins refusal)))
+
+same_line : with_lf (outcome_line (Ok Same)) ≡ with_lf (codes "same")
+unfolding outcome_line reply_line
+same_line = refl
+
+-- the reply tells the outcome
+abbrev IsTold : Result Reply Fault → List ℕ → Type 0
+IsTold outcome told = told ≡ with_lf (outcome_line outcome)
+
+-- outcomes that are answered again, by the replies that tell them
+replied_again : (first second : Result Reply Fault) (told other : List ℕ)
+    → IsTold first told → IsTold second other → AnsweredAgain first second → RepliedAgain told other
+replied_again first second told other is is' again said =
+    let outcome : (first ≡ Ok Registered) ⊎ (first ≡ Ok Same) =
+    elim said [
+      | inl new ↦ inl (registered_told first (sym is ∙ new))
+      | inr old ↦ inr (same_told first (sym is ∙ old))
+    ]
+    in
+    elim (again outcome) [
+      | inl same ↦ inl (is' ∙ ap (λ o. with_lf (outcome_line o)) same ∙ same_line)
+      | inr fault ↦ inr (second, is', fault)
+    ]
+
+all_again : (firsts : List (Result Reply Fault)) (replies : List (List ℕ)) (seconds : List (Result Reply Fault)) (others : List (List ℕ))
+    → AllZip IsTold firsts replies → AllZip IsTold seconds others → AllZip AnsweredAgain firsts seconds → AllZip RepliedAgain replies others
+all_again [] [] [] [] a b again = tt
+all_again [] [] [] (other ∷ others) a b again = absurd b
+all_again [] [] (second ∷ seconds) others a b again = absurd again
+all_again [] (told ∷ replies) seconds others a b again = absurd a
+all_again (first ∷ firsts) [] seconds others a b again = absurd a
+all_again (first ∷ firsts) (told ∷ replies) [] others a b again = absurd again
+all_again (first ∷ firsts) (told ∷ replies) (second ∷ seconds) [] a b again = absurd b
+all_again (first ∷ firsts) (told ∷ replies) (second ∷ seconds) (other ∷ others) a b again =
+    (replied_again first second told other a.0 b.0 again.0, all_again firsts replies seconds others a.1 b.1 again.1)
+
+-- where no reply tells a fault, no outcome is one
+no_faults : (outcomes : List (Result Reply Fault)) (replies : List (List ℕ))
+    → AllZip IsTold outcomes replies → AllByRecursion (λ told. ¬ TellsFault told) replies
+    → AllByRecursion (λ outcome. IsFault outcome → ⊥) outcomes
+no_faults [] [] is none = tt
+no_faults [] (told ∷ replies) is none = absurd is
+no_faults (outcome ∷ outcomes) [] is none = absurd is
+no_faults (outcome ∷ outcomes) (told ∷ replies) is none =
+    ((λ fault. none.0 (outcome, is.0, fault)), no_faults outcomes replies is.1 none.1)
+
+-- ---- a run of rows, as an import by the rules
+
+-- what came of each row, and that the replies tell it
+record Ran (signed : CertList → List ℕ → Type 0) (records : Records) (now : ℕ) (rows : List Row) (replies : List (List ℕ)) (after : Records) : Type 0 where
+  outcomes : List (Result Reply Fault)
+  imports : Imports signed records now (map spelled rows) outcomes after
+  told : AllZip IsTold outcomes replies
+
+module _ (signed : CertList → List ℕ → Type 0) (answers : Records → Meaning → Answer → Records → Type 0)
+    (by_rules : (s : Records) (now : ℕ) (command : Command) (outcome : Result Reply Fault) (t : Records)
+    → answers s (tells now command) (came_to outcome) t → Happens signed s now command outcome t) where
+  ran : (records after : Records) (now : ℕ) (rows : List Row) (replies : List (List ℕ))
+      → Answered (RowReplies answers now) records rows replies after → Ran signed records now rows replies after
+  ran records after now [] [] same = record { outcomes = []; imports = same; told = tt }
+  ran records after now [] (told ∷ replies) answered = absurd answered
+  ran records after now (row ∷ rows) [] answered = absurd answered
+  ran records after now (row ∷ rows) (told ∷ replies) (next, inl (command, outcome, means, happened, is), answered) =
+      let spells = means_spells row command means in
+      let rest = ran next after now rows replies answered in
+      let P : Command → Type 0 = λ c. Happens signed records now c outcome next in
+      let Q : Option CertRow → Type 0 = λ o. Imports signed records now (o ∷ map spelled rows) (outcome ∷ rest.outcomes) after in
+      let happens = subst P spells.command_is (by_rules records now command outcome next happened) in record {
+        outcomes = outcome ∷ rest.outcomes;
+        imports = subst Q (sym spells.is) (next, happens, rest.imports);
+        told = (is, rest.told);
+      }
+  ran records after now (row ∷ rows) (told ∷ replies) (next, inr (unread, is, same), answered) =
+      let P : Records → Type 0 = λ r. Answered (RowReplies answers now) r rows replies after in
+      let rest = ran records after now rows replies (subst P same answered) in
+      let outcome : Result Reply Fault = Err (Refused refused.Syntax) in
+      let Q : Option CertRow → Type 0 = λ o. Imports signed records now (o ∷ map spelled rows) (outcome ∷ rest.outcomes) after in record {
+        outcomes = outcome ∷ rest.outcomes;
+        imports = subst Q (sym (unread_spells row unread)) (refl, rest.imports);
+        told = (is, rest.told);
+      }
+
+  -- two runs of one text
+  pub comes_twice : (records between after : Records) (now : ℕ) (text : List ℕ) (out out' again again' : Option (List ℕ))
+      → Sound signed records
+      → (first : AllRan answers now records between out out' text)
+      → AllByRecursion (λ told. ¬ TellsFault told) first.replies
+      → (second : AllRan answers now between after again again' text)
+      → (after.certificates ≡ between.certificates) × AllZip RepliedAgain first.replies second.replies
+  comes_twice records between after now text out out' again again' sound first none second =
+      let same : second.rows ≡ first.rows = rows_agree default_config st.StartRecord (strip_bom text) second.rows first.rows second.all first.all in
+      let P : List Row → Type 0 = λ rows. Answered (RowReplies answers now) between (data_rows rows) second.replies after in
+      let one = ran records between now (data_rows first.rows) first.replies first.answered in
+      let two = ran between after now (data_rows first.rows) second.replies (subst P same second.answered) in
+      let both =
+      imports_twice
+      signed
+      records
+      between
+      after
+      now
+      (map spelled (data_rows first.rows))
+      one.outcomes
+      two.outcomes
+      sound
+      one.imports
+      (no_faults one.outcomes first.replies one.told none)
+      two.imports
+      in
+      (both.0, all_again one.outcomes first.replies two.outcomes second.replies one.told two.told both.1)

@@ -1,0 +1,6 @@
+use Rattle.reg_faces.proofs.KeepingLemmas.{command_leads}
+use Rattle.reg_faces.proofs.keeping.OfficeKeeper.run_one.Goals as goal
+
+pub returns : goal.returns
+returns g c =
+    command_leads g.C.Store g.S.Signer.signs _ _ _ _ c.run_one.ensures.clean c.run_one.ensures.same_identity _ _ _ c.run_one.ensures.step
