@@ -1,0 +1,190 @@
+//! Jobs, done one after the other.
+
+use reg_core::Moment;
+use reg_program::perform;
+use reg_words::{Job, Steps, Word};
+use std::fs;
+use std::test::Fail;
+
+/// The Name of an issuer called T (RFC 5280 4.1.2.4), in hexadecimal.
+const NAME: &str = "300C310A300806035504030C0154";
+
+/// The register's file of these tests.
+const FILE: &str = "desk_examples.db";
+
+/// Its log.
+const LOG: &str = "desk_examples.db-wal";
+
+/// A path where no file can be.
+const NOWHERE: &str = "no_such_folder/desk_examples.db";
+
+/// How a job ended.
+#[derive(Drop)]
+struct Ending {
+    status: u8,
+    output: Vec<u8>,
+    errors: Vec<u8>,
+}
+
+/// Does a job over this input.
+fn done(rt: &HostRuntime, job: &Job<'_>, input: &[u8]) -> Ending {
+    let mut reader = input;
+    let mut output = Vec::new(rt.alloc());
+    let mut errors = Vec::new(rt.alloc());
+    let status = perform(rt, job, &mut reader, &mut output, &mut errors);
+    Ending {
+        status,
+        output,
+        errors,
+    }
+}
+
+/// Whether a job was done and wrote this.
+fn wrote(done: &Ending, text: &[u8]) -> bool {
+    done.status == 0 && done.output.as_slice() == text && done.errors.is_empty()
+}
+
+/// Whether a job told this and wrote nothing.
+fn told(done: &Ending, line: &[u8]) -> bool {
+    done.status == 1 && done.errors.as_slice() == line && done.output.is_empty()
+}
+
+/// The job `init` at a path, under the usual policy but for the days.
+fn init<'a>(path: &'a str, name: &'a str, days: u64) -> Job<'a> {
+    Job::Init {
+        file: Word::of(path),
+        name: Word::of(name),
+        key: Word::of("0102"),
+        days,
+        crl_life: 691_200,
+        ocsp_life: 345_600,
+        cap: 1_000_000,
+    }
+}
+
+#[test]
+fn an_issuer_and_then_a_policy_are_looked_at_before_the_file(rt: HostRuntime) {
+    assert!(rt; told(&done(&rt, &init(NOWHERE, "zz", 0), b""), b"bad-issuer\n"));
+    assert!(rt;
+        told(
+            &done(&rt, &init(NOWHERE, "3000", 398), b""),
+            b"bad-issuer\n"
+        )
+    );
+    assert!(rt; told(&done(&rt, &init(NOWHERE, NAME, 0), b""), b"bad-policy\n"));
+    assert!(rt; told(&done(&rt, &init(NOWHERE, NAME, 398), b""), b"F2 store\n"));
+}
+
+#[test]
+fn a_schedule_is_looked_at_before_the_file(rt: HostRuntime) -> Result<(), Fail> {
+    let steps = Steps::of(vec![in rt.alloc(); (Moment::EPOCH, 0)]?);
+    let job = Job::Schedule {
+        file: Word::of(NOWHERE),
+        steps,
+    };
+    assert!(rt; told(&done(&rt, &job, b""), b"bad-policy\n"));
+    Ok(())
+}
+
+#[test]
+fn a_file_that_is_not_there_is_not_made(rt: HostRuntime) {
+    let job = Job::Script {
+        file: Some(Word::of("desk_examples_none.db")),
+    };
+    assert!(rt;
+        told(
+            &done(&rt, &job, b"2026-01-01T00:00:00Z counts\n"),
+            b"F2 store\n"
+        )
+    );
+    assert!(rt; !fs::exists(&rt, "desk_examples_none.db").unwrap_or(true));
+}
+
+#[test]
+fn a_script_without_a_file_runs_in_memory(rt: HostRuntime) {
+    let job = Job::Script { file: None };
+    let ended = done(
+        &rt,
+        &job,
+        b"2026-01-01T00:00:00Z subscriber acme\n2026-01-01T00:00:00Z counts\n",
+    );
+    assert!(rt; wrote(&ended, b"subscriber 1\ngood 0 revoked 0 expired 0\n"));
+}
+
+/// What the jobs over one file are, each with its input and what it writes; the one with no CRL comes to `E21 no-crl`.
+fn goes_on(rt: &HostRuntime) -> bool {
+    let script = Job::Script {
+        file: Some(Word::of(FILE)),
+    };
+    let first = done(
+        rt,
+        &script,
+        b"2026-01-01T00:00:00Z subscriber acme\n2026-01-01T00:00:00Z order 1 398\n",
+    );
+    let import = Job::Import {
+        file: Word::of(FILE),
+        now: Moment::of_secs(1_767_225_600).unwrap_or(Moment::EPOCH),
+    };
+    let rows = b"order,serial,notBefore,notAfter\n1,05,2026-01-01T00:00:00Z,2026-01-10T00:00:00Z\n";
+    let second = done(rt, &import, rows);
+    let again = done(rt, &import, rows);
+    let status = done(rt, &script, b"2026-01-01T00:00:00Z status 05\n");
+    wrote(&first, b"subscriber 1\norder 1\n")
+        && wrote(&second, b"registered\n")
+        && wrote(&again, b"same\n")
+        && wrote(&status, b"good\n")
+}
+
+/// Whether a CRL that was not issued is told, and a schedule is set.
+fn has_no_crl_and_sets_a_schedule(rt: &HostRuntime, steps: Steps) -> bool {
+    let crl = Job::Crl {
+        file: Word::of(FILE),
+        number: Some(3),
+    };
+    let schedule = Job::Schedule {
+        file: Word::of(FILE),
+        steps,
+    };
+    told(&done(rt, &crl, b""), b"E21 no-crl\n")
+        && wrote(&done(rt, &schedule, b""), b"schedule set\n")
+}
+
+/// A certificate that is revoked at 2026-01-02, listed on CRLs 1 and 2 and no more on CRL 3, and the replies.
+static REVOKED: (&[u8], &[u8]) = (
+    b"2026-01-01T00:00:00Z subscriber acme\n2026-01-01T00:00:00Z order 1 398\n2026-01-01T00:00:00Z register 1 05 2026-01-01T00:00:00Z 2026-01-10T00:00:00Z\n2026-01-02T00:00:00Z request 05 superseded\n2026-01-02T00:00:00Z revoke 1\n2026-01-10T00:00:00Z crl\n2026-01-10T00:00:01Z crl\n2026-01-10T00:00:01Z crl\n",
+    b"subscriber 1\norder 1\nregistered\nrequest 1 due 2026-01-03T00:00:00Z\nrevoked\ncrl 1 entries 1\ncrl 2 entries 1\ncrl 3 entries 0\n",
+);
+
+/// What is asked of the file opened again, and the replies.
+static REVOKED_STILL: (&[u8], &[u8]) = (
+    b"2026-01-10T00:00:00Z counts\n2026-01-10T00:00:01Z counts\n2026-01-10T00:00:01Z listing 05\n2026-01-10T00:00:01Z status 05\n2026-01-10T00:00:01Z crl\n",
+    b"E01 clock-back 2026-01-10T00:00:01Z\ngood 0 revoked 1 expired 0\nlisting first 1 last 2\nrevoked 2026-01-02T00:00:00Z reason 4\ncrl 4 entries 0\n",
+);
+
+#[test]
+fn a_revoked_certificate_stays_revoked_in_its_file(rt: HostRuntime) {
+    let file = "desk_examples_revoked.db";
+    drop(fs::remove_file(&rt, file));
+    let script = Job::Script {
+        file: Some(Word::of(file)),
+    };
+    assert!(rt; wrote(&done(&rt, &init(file, NAME, 398), b""), b"created\n"));
+    assert!(rt; wrote(&done(&rt, &script, REVOKED.0), REVOKED.1));
+    assert!(rt; wrote(&done(&rt, &script, REVOKED_STILL.0), REVOKED_STILL.1));
+    drop(fs::remove_file(&rt, file));
+    drop(fs::remove_file(&rt, "desk_examples_revoked.db-wal"));
+}
+
+#[test]
+fn a_register_goes_on_in_its_file(rt: HostRuntime) -> Result<(), Fail> {
+    drop(fs::remove_file(&rt, FILE));
+    drop(fs::remove_file(&rt, LOG));
+    assert!(rt; wrote(&done(&rt, &init(FILE, NAME, 398), b""), b"created\n"));
+    assert!(rt; told(&done(&rt, &init(FILE, NAME, 398), b""), b"not-empty\n"));
+    assert!(rt; goes_on(&rt));
+    let steps = Steps::of(vec![in rt.alloc(); (Moment::EPOCH, 47)]?);
+    assert!(rt; has_no_crl_and_sets_a_schedule(&rt, steps));
+    drop(fs::remove_file(&rt, FILE));
+    drop(fs::remove_file(&rt, LOG));
+    Ok(())
+}

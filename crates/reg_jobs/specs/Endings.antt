@@ -1,0 +1,32 @@
+-- How a job of the program ends.
+use Rattle.std.specs.Prelude.{ℕ, List, codes, Result, Ok, Err}
+use Rattle.reg_core.specs.Lines.{fault_line}
+use Rattle.reg_jobs.specs.declared.failure.Failure.{Failure}
+use Rattle.reg_jobs.specs.declared.failure.Failure.TheVariants as failure
+use Rattle.reg_tables.specs.declared.fault.StoreFault.{StoreFault}
+use Rattle.reg_tables.specs.declared.fault.StoreFault.TheVariants as stored
+use Rattle.reg_core.specs.declared.refusal.Fault.TheVariants as fault
+
+-- the line of standard error that tells a failure, without its LF
+unfoldable pub failure_line : Failure → List ℕ
+failure_line (failure.Fault fault) = fault_line fault
+failure_line failure.NotEmpty = codes "not-empty"
+failure_line failure.NotARegister = codes "not-a-register"
+failure_line failure.OldVersion = codes "old-version"
+failure_line failure.NewVersion = codes "new-version"
+failure_line failure.BadIssuer = codes "bad-issuer"
+failure_line failure.BadPolicy = codes "bad-policy"
+
+-- the exit status: 0 where the job is done, 1 where it is not
+abbrev pub status : {T : Type 0} → Result T Failure → ℕ
+status (Ok done) = 0
+status (Err failure) = 1
+
+-- a register that can't be made, opened or changed, as the end of a job
+abbrev pub store_failure : StoreFault → Failure
+store_failure stored.Memory = failure.Fault fault.Memory
+store_failure stored.Store = failure.Fault fault.Store
+store_failure stored.NotEmpty = failure.NotEmpty
+store_failure stored.NotARegister = failure.NotARegister
+store_failure stored.OldVersion = failure.OldVersion
+store_failure stored.NewVersion = failure.NewVersion

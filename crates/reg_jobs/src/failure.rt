@@ -1,0 +1,91 @@
+//! How a job ends that is not done.
+
+ghost use Rattle.std.specs.Prelude.{◌≡◌, ◌≤◌, length};
+ghost use Rattle.reg_jobs.specs.Endings.{failure_line, status};
+
+use reg_core::{Fault, Label};
+use reg_tables::StoreFault;
+
+/// Why a job is not done.
+#[derive(Clone, Copy, Debug, PartialEq, Eq)]
+pub enum Failure {
+    /// A refusal of the register, or a fault of memory, store, signer, input or output.
+    Fault(Fault),
+    /// The file of a new register has tables already.
+    NotEmpty,
+    /// The file holds no register.
+    NotARegister,
+    /// The register is of an older version.
+    OldVersion,
+    /// The register is of a newer version.
+    NewVersion,
+    /// The Name or the key is not what an issuer has.
+    BadIssuer,
+    /// The terms are not those of a policy.
+    BadPolicy,
+}
+
+impl Failure {
+    /// The one line of standard error that tells it, without LF.
+    #[tactic(auto, unfolding(crate::specs::Endings::failure_line))]
+    pub fn line(&self) -> Label
+        ensures { result ≡ failure_line self.now }
+    {
+        match *self {
+            Failure::Fault(fault) => fault.line(),
+            Failure::NotEmpty => words(b"not-empty"),
+            Failure::NotARegister => words(b"not-a-register"),
+            Failure::OldVersion => words(b"old-version"),
+            Failure::NewVersion => words(b"new-version"),
+            Failure::BadIssuer => words(b"bad-issuer"),
+            Failure::BadPolicy => words(b"bad-policy"),
+        }
+    }
+}
+
+impl From<Fault> for Failure {
+    ghost use Rattle.std.specs.Prelude.{◌≡◌};
+    ghost use Rattle.reg_jobs.specs.declared.failure.Failure.TheVariants.{Fault as HasFault};
+
+    ghost from_gives = { λ fault failure. failure ≡ HasFault fault };
+
+    fn from(fault: Fault) -> Failure {
+        Failure::Fault(fault)
+    }
+}
+
+impl From<StoreFault> for Failure {
+    ghost use Rattle.reg_jobs.specs.Endings.{store_failure};
+
+    ghost from_gives = { λ fault failure. failure ≡ store_failure fault };
+
+    fn from(fault: StoreFault) -> Failure {
+        match fault {
+            StoreFault::Memory => Failure::Fault(Fault::Memory),
+            StoreFault::Store => Failure::Fault(Fault::Store),
+            StoreFault::NotEmpty => Failure::NotEmpty,
+            StoreFault::NotARegister => Failure::NotARegister,
+            StoreFault::OldVersion => Failure::OldVersion,
+            StoreFault::NewVersion => Failure::NewVersion,
+        }
+    }
+}
+
+/// The exit status of a job: 0 where it is done, 1 where it is not.
+pub fn status_of(ending: &Result<(), Failure>) -> u8
+    ensures { result ≡ status ending.now }
+{
+    match ending {
+        Ok(()) => 0,
+        Err(_) => 1,
+    }
+}
+
+/// A line of words alone.
+fn words(text: &[u8]) -> Label
+    requires not_empty { 1 ≤ length text.now }
+    requires short { length text.now ≤ 64 }
+    ensures { result ≡ text.now }
+{
+    Label::joined(text, b"")
+}

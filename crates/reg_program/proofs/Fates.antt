@@ -1,0 +1,42 @@
+-- What a register's fault is as the end of a job, and a line that is told in two writes.
+use Rattle.std.proofs.Common.{◌≡◌, ◌≢◌, ◌⊎◌, ℕ, List, [], ◌∷◌, ◌++◌, Option, refl, sym, subst, inl, inr}
+use Rattle.std.specs.Io.KnownBytes.{Appends}
+use Rattle.std.proofs.KnownBytes.{Appends-trans}
+use Rattle.reg_heads.proofs.Written.{front_of_second}
+use Rattle.reg_jobs.specs.Endings.{store_failure}
+use Rattle.reg_jobs.specs.declared.failure.Failure.{Failure}
+use Rattle.reg_tables.specs.Stays.{IsCallFault}
+use Rattle.reg_tables.specs.declared.fault.StoreFault.{StoreFault}
+use Rattle.reg_tables.specs.declared.fault.StoreFault.TheVariants as stored
+use Rattle.reg_program.specs.Ends.{IsMaking, IsOpening}
+use Rattle.reg_program.specs.Told.{IsTold, IsWritten}
+
+-- a register that can't be opened
+pub opened : (fault : StoreFault) (why : Failure) → why ≡ store_failure fault → fault ≢ stored.NotEmpty → IsOpening why
+opened fault why is other =
+    let P : Failure → Type 0 = λ w. IsOpening w in
+    subst P (sym is) (go fault other)
+  where
+    go : (f : StoreFault) → f ≢ stored.NotEmpty → IsOpening (store_failure f)
+    go stored.Memory not = tt
+    go stored.Store not = tt
+    go stored.NotEmpty not = absurd (not refl)
+    go stored.NotARegister not = tt
+    go stored.OldVersion not = tt
+    go stored.NewVersion not = tt
+
+-- a register that can't be made
+pub unmade : (fault : StoreFault) (why : Failure) → why ≡ store_failure fault → (fault ≡ stored.NotEmpty) ⊎ IsCallFault fault → IsMaking why
+unmade fault why is which =
+    let P : Failure → Type 0 = λ w. IsMaking w in
+    let Q : StoreFault → Type 0 = λ f. IsMaking (store_failure f) in
+    subst P (sym is) (elim which [
+      | inl taken ↦ subst Q (sym taken) tt
+      | inr (inl memory) ↦ subst Q (sym memory) tt
+      | inr (inr store) ↦ subst Q (sym store) tt
+    ])
+
+-- a line, and then its end
+pub told : (old middle new : Option (List ℕ)) (line : List ℕ) → Appends old middle line → IsWritten middle new (10 ∷ []) → IsTold old new line
+told old middle new line first (inl second) = inl (Appends-trans old middle new line (10 ∷ []) first second)
+told old middle new line first (inr front) = inr (front_of_second old middle new line (10 ∷ []) first front)

@@ -1,0 +1,13 @@
+//! The jobs of the program `desk`: each over standard input and output, a register's file, and the loopback interface.
+#![tactic(auto)]
+
+mod clock;
+mod files;
+mod jobs;
+mod memory;
+mod peer;
+mod performing;
+mod serving;
+mod telling;
+
+pub use performing::perform;

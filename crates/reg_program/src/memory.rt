@@ -1,0 +1,42 @@
+//! A new register in memory.
+
+ghost use Rattle.std.specs.Prelude.{IfErr};
+ghost use Rattle.reg_program.specs.Ends.{IsMaking};
+
+use reg_core::{Fault, Policy};
+use reg_crl::DigestSeal;
+use reg_der::Issuer;
+use reg_faces::Desk;
+use reg_jobs::Failure;
+use reg_office::Office;
+use reg_store::Store;
+use sqlite::{Connection, MemStore};
+use std::alloc::Global;
+
+/// The Name of a sample issuer: the common name CA (RFC 5280 4.1.2.4).
+const NAME: [u8; 15] = *b"\x30\x0D\x31\x0B\x30\x09\x06\x03\x55\x04\x03\x0C\x02CA";
+
+/// The bytes of the sample issuer's public key.
+const KEY: [u8; 3] = *b"abc";
+
+/// The desk of a new register in memory, of a sample issuer and under the usual policy.
+///
+/// # Errors
+/// `Memory`, and `Store` where the database fails.
+pub(crate) fn desk_in_memory(alloc: Global) -> Result<Desk<Office<MemStore, DigestSeal>>, Failure>
+    ensures { IfErr result IsMaking }
+{
+    let Ok(issuer) = Issuer::new(alloc, &NAME, &KEY) else {
+        return Err(Failure::Fault(Fault::Memory));
+    };
+    let Ok(connection) = Connection::open_in_memory(alloc) else {
+        return Err(Failure::Fault(Fault::Memory));
+    };
+    match Store::create(connection, issuer, Policy::usual()) {
+        Ok(store) => Ok(Desk {
+            office: Office::new(store, DigestSeal),
+            alloc,
+        }),
+        Err(unopened) => Err(Failure::from(unopened.fault)),
+    }
+}

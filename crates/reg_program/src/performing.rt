@@ -1,0 +1,76 @@
+//! A job is done, and told.
+
+ghost use Rattle.std.specs.Prelude.{◌≡◌, Result};
+ghost use Rattle.reg_jobs.specs.Endings.{status};
+ghost use Rattle.reg_jobs.specs.declared.failure.Failure.{Failure as Failing};
+ghost use Rattle.reg_program.specs.Ends.{Ends};
+ghost use Rattle.reg_program.specs.Told.{Tells};
+
+use crate::jobs::{NewOffice, crl, import_rows, init, schedule, script, script_in_memory};
+use crate::serving::serve;
+use crate::telling::tell;
+use reg_jobs::{Failure, status_of};
+use reg_words::Job;
+use std::io::{Read, Write};
+
+/// Does a job over standard input and output, and gives its exit status: 0 where it is done; else 1, with its one line
+/// on standard error.
+pub fn perform<R: Read, W: Write, E: Write>(
+    rt: &HostRuntime,
+    job: &Job<'_>,
+    reader: &mut R,
+    writer: &mut W,
+    errors: &mut E,
+) -> u8
+    ensures { (ending : Result (Unit {0}) Failing) × Ends job.now ending × (result ≡ status ending)
+        × Tells ending (E.contents errors.old) (E.contents errors.new) }
+{
+    let ending = run(rt, job, reader, writer);
+    match &ending {
+        Ok(()) => {}
+        Err(failure) => tell(errors, failure),
+    }
+    status_of(&ending)
+}
+
+/// Does a job.
+fn run<R: Read, W: Write>(
+    rt: &HostRuntime,
+    job: &Job<'_>,
+    reader: &mut R,
+    writer: &mut W,
+) -> Result<(), Failure>
+    ensures { Ends job.now result }
+{
+    match job {
+        Job::Init {
+            file,
+            name,
+            key,
+            days,
+            crl_life,
+            ocsp_life,
+            cap,
+        } => {
+            let new = NewOffice {
+                name,
+                key,
+                days: *days,
+                crl_life: *crl_life,
+                ocsp_life: *ocsp_life,
+                cap: *cap,
+            };
+            init(rt, file.as_str(), &new, writer)
+        }
+        Job::Script { file: Some(file) } => script(rt, file.as_str(), reader, writer),
+        Job::Script { file: None } => script_in_memory(rt, reader, writer),
+        Job::Import { file, now } => import_rows(rt, file.as_str(), *now, reader, writer),
+        Job::Crl { file, number } => crl(rt, file.as_str(), *number, writer),
+        Job::Serve {
+            file,
+            port,
+            requests,
+        } => serve(rt, file.as_str(), *port, *requests, writer),
+        Job::Schedule { file, steps } => schedule(rt, file.as_str(), steps, writer),
+    }
+}

@@ -1,0 +1,46 @@
+//! What a job says.
+
+ghost use Rattle.std.specs.Prelude.{OnOk, OnErr, IfErr, ◌≡◌, ◌++◌, ◌∷◌, []};
+ghost use Rattle.std.specs.Io.KnownBytes.{Appends};
+ghost use Rattle.reg_jobs.specs.Endings.{failure_line};
+ghost use Rattle.reg_program.specs.Told.{IsTold, IsWritten};
+
+use reg_core::Fault;
+use reg_jobs::Failure;
+use reg_wire::write_whole;
+use std::io::Write;
+
+/// Says a text of the job.
+///
+/// # Errors
+/// `Write` where the writer fails, or takes no byte of what is left.
+pub(crate) fn say<W: Write>(writer: &mut W, text: &[u8]) -> Result<(), Failure>
+    ensures ok { OnOk result (Appends (W.contents writer.old) (W.contents writer.new) text.now) }
+    ensures err { IfErr result (λ why. why ≡ Failure.Fault Fault.Write) }
+{
+    match write_whole(writer, text) {
+        Ok(()) => Ok(()),
+        Err(_) => Err(Failure::Fault(Fault::Write)),
+    }
+}
+
+/// Tells on standard error why a job is not done, in one line. A device that fails is told nothing more.
+pub(crate) fn tell<W: Write>(errors: &mut W, failure: &Failure)
+    ensures { IsTold (W.contents errors.old) (W.contents errors.new) (failure_line failure.now) }
+{
+    let line = failure.line();
+    match write_whole(errors, line.as_bytes()) {
+        Ok(()) => end_line(errors),
+        Err(_) => {}
+    }
+}
+
+/// Ends a line.
+fn end_line<W: Write>(errors: &mut W)
+    ensures { IsWritten (W.contents errors.old) (W.contents errors.new) (10 ∷ []) }
+{
+    match write_whole(errors, b"\n") {
+        Ok(()) => {}
+        Err(_) => {}
+    }
+}

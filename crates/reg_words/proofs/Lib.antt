@@ -1,0 +1,3 @@
+pub mod DeskLemmas
+pub mod Moments
+pub mod StepTexts

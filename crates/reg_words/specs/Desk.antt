@@ -1,0 +1,66 @@
+-- The command line of the program in clap's own terms: its commands, and the words and options of each.
+use Rattle.std.specs.Prelude.{Some, true, List, [], ◌∷◌, codes}
+use Rattle.clap.specs.Lexer.{usize_max}
+use Rattle.clap.specs.Words.{App, Rule, Text, new_app, new_rule, with_rule, with_subcommand}
+
+-- a word that must be given
+abbrev pub must : Text → Rule
+must id = record (new_rule id) { required = true; value_names = 1 }
+
+-- a word that may be left out
+abbrev pub may : Text → Rule
+may id = record (new_rule id) { value_names = 1 }
+
+-- an option `--id VALUE` that must be given
+abbrev pub needs : Text → Rule
+needs id = record (new_rule id) { long = Some id; required = true; value_names = 1 }
+
+-- an option `--id VALUE` that may be left out
+abbrev pub takes : Text → Rule
+takes id = record (new_rule id) { long = Some id; value_names = 1 }
+
+-- one word or more, all that are left
+abbrev pub some : Text → Rule
+some id = record (new_rule id) { required = true; value_names = 1; range = Some (record { start_inclusive = 1; end_inclusive = usize_max }) }
+
+-- a command with words and options
+abbrev pub with_rules : App → List Rule → App
+with_rules app [] = app
+with_rules app (rule ∷ rest) = with_rules (with_rule app rule) rest
+
+-- `init FILE --name HEX --key HEX [--days N] [--crl-life N] [--ocsp-life N] [--cap N]`
+abbrev pub init_app : App
+init_app = with_rules (new_app (codes "init"))
+    (must (codes "file") ∷ needs (codes "name") ∷ needs (codes "key") ∷ takes (codes "days")
+    ∷ takes (codes "crl-life") ∷ takes (codes "ocsp-life") ∷ takes (codes "cap") ∷ [])
+
+-- `script [FILE]`
+abbrev pub script_app : App
+script_app = with_rules (new_app (codes "script")) (may (codes "file") ∷ [])
+
+-- `import FILE --now MOMENT`
+abbrev pub import_app : App
+import_app = with_rules (new_app (codes "import")) (must (codes "file") ∷ needs (codes "now") ∷ [])
+
+-- `crl FILE [--number N]`
+abbrev pub crl_app : App
+crl_app = with_rules (new_app (codes "crl")) (must (codes "file") ∷ takes (codes "number") ∷ [])
+
+-- `serve FILE --port N --requests N`
+abbrev pub serve_app : App
+serve_app = with_rules (new_app (codes "serve")) (must (codes "file") ∷ needs (codes "port") ∷ needs (codes "requests") ∷ [])
+
+-- `schedule FILE MOMENT=DAYS ..`
+abbrev pub schedule_app : App
+schedule_app = with_rules (new_app (codes "schedule")) (must (codes "file") ∷ some (codes "steps") ∷ [])
+
+-- one of the commands is wanted, and help is `--help` alone
+abbrev pub bare_app : App
+bare_app = record (new_app (codes "desk")) {
+  top = record ((new_app (codes "desk")).top) { subcommand_required = true; disable_help_subcommand = true };
+}
+
+-- `desk COMMAND ..`
+abbrev pub desk_app : App
+desk_app = with_subcommand (with_subcommand (with_subcommand (with_subcommand (with_subcommand (with_subcommand
+    bare_app init_app.top) script_app.top) import_app.top) crl_app.top) serve_app.top) schedule_app.top

@@ -1,0 +1,108 @@
+-- What the words of a command line say.
+use Rattle.std.specs.Prelude.{◌≡◌, ◌≢◌, ◌⊎◌, ℕ, List, [], codes, bytes_eq, if◌then◌else◌, Option, Some, None, option_map, option_and_then}
+use Rattle.std.specs.Option.{option_map_or}
+use Rattle.clap.specs.Words.{IsAmong, Row, Text, all_of, fault_of, first_of, subcommand_of}
+use Rattle.clap.specs.declared.error.kind.ErrorKind.{ErrorKind}
+use Rattle.clap.specs.declared.error.kind.ErrorKind.TheVariants.{DisplayHelp, OutOfMemory}
+use Rattle.reg_core.specs.Number.{number_of}
+use Rattle.reg_words.specs.Desk.{desk_app}
+use Rattle.reg_words.specs.Values.{moment_of, steps_of, within}
+use Rattle.reg_words.specs.declared.job.Job.{Job}
+use Rattle.reg_words.specs.declared.job.Job.TheVariants.{Init, Script, Import, Crl, Serve, Schedule}
+use Rattle.reg_words.specs.declared.job.Usage.{Usage}
+use Rattle.reg_words.specs.declared.job.Usage.TheVariants.{Help, Bad, Memory}
+
+-- the second step, if the first gave a value
+infixl 10 ◌>>=◌
+abbrev pub ◌>>=◌ : {A B : Type 0} → Option A → (A → Option B) → Option B
+o >>= f = option_and_then f o
+
+-- the number of an option, or the usual one where the option is left out
+abbrev pub given_or : ℕ → Text → List Row → Option ℕ
+given_or usual id rows = option_map_or number_of (first_of id rows) (Some usual)
+
+-- the number of an option, if it is given
+abbrev pub given : Text → List Row → Option (Option ℕ)
+given id rows = option_map_or (λ text. option_map (λ n. Some n) (number_of text)) (first_of id rows) (Some None)
+
+-- the number of an option, within bounds
+abbrev pub number_in : ℕ → ℕ → Text → List Row → Option ℕ
+number_in least most id rows = option_and_then (within least most) (option_and_then number_of (first_of id rows))
+
+-- each command by its words and options; the days and lives that `init` leaves out are those of the usual policy
+unfoldable pub init_of : List Row → Option Job
+init_of rows = do
+  file ← first_of (codes "file") rows
+  name ← first_of (codes "name") rows
+  key ← first_of (codes "key") rows
+  days ← given_or 398 (codes "days") rows
+  crl_life ← given_or 691200 (codes "crl-life") rows
+  ocsp_life ← given_or 345600 (codes "ocsp-life") rows
+  cap ← given_or 1000000 (codes "cap") rows
+  Some (Init file name key days crl_life ocsp_life cap)
+
+unfoldable pub script_of : List Row → Option Job
+script_of rows = Some (Script (first_of (codes "file") rows))
+
+unfoldable pub import_of : List Row → Option Job
+import_of rows = do
+  file ← first_of (codes "file") rows
+  now ← option_and_then moment_of (first_of (codes "now") rows)
+  Some (Import file now)
+
+unfoldable pub crl_of : List Row → Option Job
+crl_of rows = do
+  file ← first_of (codes "file") rows
+  number ← given (codes "number") rows
+  Some (Crl file number)
+
+unfoldable pub serve_of : List Row → Option Job
+serve_of rows = do
+  file ← first_of (codes "file") rows
+  port ← number_in 1 65535 (codes "port") rows
+  requests ← number_in 1 1000000 (codes "requests") rows
+  Some (Serve file port requests)
+
+unfoldable pub schedule_of : List Row → Option Job
+schedule_of rows = do
+  file ← first_of (codes "file") rows
+  steps ← option_and_then steps_of (all_of (codes "steps") rows)
+  Some (Schedule file steps)
+
+-- the job of a command, by its name and what was found for its words and options
+unfoldable pub job_in : Text → List Row → Option Job
+job_in name rows =
+    if bytes_eq name (codes "init") then init_of rows
+    else if bytes_eq name (codes "script") then script_of rows
+    else if bytes_eq name (codes "import") then import_of rows
+    else if bytes_eq name (codes "crl") then crl_of rows
+    else if bytes_eq name (codes "serve") then serve_of rows
+    else if bytes_eq name (codes "schedule") then schedule_of rows
+    else None
+
+-- the job that words say which clap accepts
+abbrev pub job_of : List Text → Option Job
+job_of words = option_and_then (λ found. job_in found.0 found.1) (subcommand_of desk_app words)
+
+-- clap accepts the words
+abbrev pub IsAccepted : List Text → Type 0
+IsAccepted words = fault_of desk_app words ≡ []
+
+-- clap accepts the words, and they say the job
+abbrev pub IsJobOf : List Text → Job → Type 0
+IsJobOf words job = IsAccepted words × (job_of words ≡ Some job)
+
+-- what is answered for an error of a kind: help for help, and bad words for the rest, unless memory runs out
+abbrev pub Tells : ErrorKind → Usage → Type 0
+Tells kind (Help text) = kind ≡ DisplayHelp
+Tells kind (Bad text) = (kind ≢ DisplayHelp) × (kind ≢ OutOfMemory)
+Tells kind Memory = Unit {0}
+
+-- help, where clap answers help; bad words, where clap finds another fault or a value is out of its form or range;
+-- memory may run out at any words
+abbrev pub IsUsageOf : List Text → Usage → Type 0
+IsUsageOf words (Help text) = IsAmong DisplayHelp (fault_of desk_app words)
+IsUsageOf words (Bad text) =
+    ((kind : ErrorKind) × (kind ≢ DisplayHelp) × IsAmong kind (fault_of desk_app words))
+    ⊎ (IsAccepted words × (job_of words ≡ None))
+IsUsageOf words Memory = Unit {0}

@@ -1,0 +1,4 @@
+pub mod Desk
+pub mod Jobs
+pub mod Statuses
+pub mod Values

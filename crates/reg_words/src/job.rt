@@ -1,0 +1,73 @@
+//! What the program is asked to do.
+
+ghost use Rattle.std.specs.Prelude.{◌≡◌};
+ghost use Rattle.reg_words.specs.Statuses.{usage_status};
+
+use crate::word::{Steps, Word};
+use reg_core::Moment;
+
+/// A job of the program, with all that the command line says of it. FILE is the path of a register.
+#[derive(Drop)]
+pub enum Job<'a> {
+    /// Makes a register: the DER of the issuer's Name and the bytes of its public key, both in hexadecimal, the
+    /// longest validity in days, the seconds from thisUpdate to nextUpdate of a CRL and of an OCSP answer, and the
+    /// most rows of a table.
+    Init {
+        file: Word<'a>,
+        name: Word<'a>,
+        key: Word<'a>,
+        days: u64,
+        crl_life: u64,
+        ocsp_life: u64,
+        cap: u64,
+    },
+    /// Runs the script of standard input, without FILE over a register in memory.
+    Script {
+        file: Option<Word<'a>>,
+    },
+    /// Registers the rows of standard input at a moment.
+    Import {
+        file: Word<'a>,
+        now: Moment,
+    },
+    /// Writes a CRL, the latest where no number is given.
+    Crl {
+        file: Word<'a>,
+        number: Option<u64>,
+    },
+    /// Answers so many requests over HTTP at a port, 1 to 65,535.
+    Serve {
+        file: Word<'a>,
+        port: u16,
+        requests: u32,
+    },
+    /// Gives the register another schedule of longest validities.
+    Schedule {
+        file: Word<'a>,
+        steps: Steps,
+    },
+}
+
+/// Why there is no job.
+#[derive(Drop)]
+pub enum Usage {
+    /// Help was asked for: its text, for standard output.
+    Help(String),
+    /// The words can't be read: what is wrong, for standard error.
+    Bad(String),
+    /// Memory could not be had.
+    Memory,
+}
+
+impl Usage {
+    /// The exit status: 0 where help was asked for, 2 where the words can't be read, 1 for want of memory.
+    pub fn status(&self) -> u8
+        ensures { result ≡ usage_status self.now }
+    {
+        match self {
+            Usage::Help(_) => 0,
+            Usage::Bad(_) => 2,
+            Usage::Memory => 1,
+        }
+    }
+}

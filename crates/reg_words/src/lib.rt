@@ -1,0 +1,15 @@
+//! The command line of the program `desk`: what its words say.
+#![tactic(auto)]
+
+mod desk;
+mod job;
+mod reading;
+mod values;
+mod word;
+
+pub use job::{Job, Usage};
+pub use reading::read_words;
+pub use word::{Steps, Word};
+
+#[cfg(test)]
+mod tests;

@@ -1,0 +1,183 @@
+//! What the words of a command line say.
+
+ghost use Rattle.std.specs.Prelude.{◌≡◌, IfErr, IfOk, map, option_and_then};
+ghost use Rattle.clap.specs.Words.{found_of, rows_of, subcommand_rows_of, kind_of};
+ghost use Rattle.reg_words.specs.Jobs.{IsJobOf, IsUsageOf, Tells, job_in, init_of, script_of, import_of, crl_of, serve_of, schedule_of};
+
+use crate::desk::desk;
+use crate::job::{Job, Usage};
+use crate::values::{moment, number_if_given, number_or, number_within, steps, word_of};
+use clap::error::ErrorKind;
+use clap::{ArgMatches, Command, Error};
+use std::alloc::{AllocError, Global};
+use std::convert::AsStr;
+
+/// The most days of validity of the usual policy.
+const USUAL_DAYS: u64 = 398;
+
+/// The seconds from thisUpdate to nextUpdate of a CRL by the usual policy: eight days.
+const USUAL_CRL_LIFE: u64 = 691_200;
+
+/// The seconds from thisUpdate to nextUpdate of an OCSP answer by the usual policy: four days.
+const USUAL_OCSP_LIFE: u64 = 345_600;
+
+/// The most rows of a table of the usual policy.
+const USUAL_CAP: u64 = 1_000_000;
+
+/// The last TCP port.
+const LAST_PORT: u64 = 65_535;
+
+/// The most connections of one run of the server.
+const MOST_REQUESTS: u64 = 1_000_000;
+
+/// Reads the words of a command line, of which the first is the program's name.
+///
+/// A job comes where clap accepts the words and each value is in its form and range, with options left out as in the
+/// usual policy. `Help` comes where clap answers help, `Bad` where clap finds another fault or where a value is out of
+/// its form or range, `Memory` where memory could not be had.
+pub fn read_words<'a, S: AsStr>(alloc: Global, words: &'a [S]) -> Result<Job<'a>, Usage>
+    ensures job { IfOk result (IsJobOf (map S.text words.entry.now)) }
+    ensures usage { IfErr result (IsUsageOf (map S.text words.entry.now)) }
+{
+    let Ok(mut desk) = desk(alloc) else {
+        return Err(Usage::Memory);
+    };
+    match desk.try_get_matches_from_mut(words) {
+        Ok(matches) => match read_job(alloc, &matches) {
+            Ok(Some(job)) => Ok(job),
+            Ok(None) => Err(bad_value(alloc, &mut desk)),
+            Err(_) => Err(Usage::Memory),
+        },
+        Err(error) => Err(usage_of(alloc, &error)),
+    }
+}
+
+/// The job of the command that was named; `None` where a value of it is out of its form or range.
+fn read_job<'a>(alloc: Global, matches: &ArgMatches<'a>) -> Result<Option<Job<'a>>, AllocError>
+    ensures { IfOk result (λ job. job ≡ option_and_then (λ found. job_in found.0 found.1) (subcommand_rows_of matches.now)) }
+{
+    match matches.subcommand() {
+        Some((name, given)) => read_command(alloc, name, given),
+        None => Ok(None),
+    }
+}
+
+#[tactic(auto, unfolding(crate::specs::Jobs::job_in))]
+fn read_command<'a>(
+    alloc: Global,
+    name: &str,
+    given: &ArgMatches<'a>,
+) -> Result<Option<Job<'a>>, AllocError>
+    ensures { IfOk result (λ job. job ≡ job_in name.now (rows_of (found_of given.now))) }
+{
+    if name == "init" {
+        Ok(read_init(given))
+    } else if name == "script" {
+        Ok(read_script(given))
+    } else if name == "import" {
+        Ok(read_import(given))
+    } else if name == "crl" {
+        Ok(read_crl(given))
+    } else if name == "serve" {
+        Ok(read_serve(given))
+    } else if name == "schedule" {
+        read_schedule(alloc, given)
+    } else {
+        Ok(None)
+    }
+}
+
+#[tactic(auto, unfolding(crate::specs::Jobs::init_of))]
+fn read_init<'a>(given: &ArgMatches<'a>) -> Option<Job<'a>>
+    ensures { result ≡ init_of (rows_of (found_of given.now)) }
+{
+    Some(Job::Init {
+        file: word_of(given, "file")?,
+        name: word_of(given, "name")?,
+        key: word_of(given, "key")?,
+        days: number_or(given, "days", USUAL_DAYS)?,
+        crl_life: number_or(given, "crl-life", USUAL_CRL_LIFE)?,
+        ocsp_life: number_or(given, "ocsp-life", USUAL_OCSP_LIFE)?,
+        cap: number_or(given, "cap", USUAL_CAP)?,
+    })
+}
+
+#[tactic(auto, unfolding(crate::specs::Jobs::script_of))]
+fn read_script<'a>(given: &ArgMatches<'a>) -> Option<Job<'a>>
+    ensures { result ≡ script_of (rows_of (found_of given.now)) }
+{
+    Some(Job::Script {
+        file: word_of(given, "file"),
+    })
+}
+
+#[tactic(auto, unfolding(crate::specs::Jobs::import_of))]
+fn read_import<'a>(given: &ArgMatches<'a>) -> Option<Job<'a>>
+    ensures { result ≡ import_of (rows_of (found_of given.now)) }
+{
+    Some(Job::Import {
+        file: word_of(given, "file")?,
+        now: moment(given, "now")?,
+    })
+}
+
+#[tactic(auto, unfolding(crate::specs::Jobs::crl_of))]
+fn read_crl<'a>(given: &ArgMatches<'a>) -> Option<Job<'a>>
+    ensures { result ≡ crl_of (rows_of (found_of given.now)) }
+{
+    Some(Job::Crl {
+        file: word_of(given, "file")?,
+        number: number_if_given(given, "number")?,
+    })
+}
+
+#[tactic(auto, unfolding(crate::specs::Jobs::serve_of))]
+fn read_serve<'a>(given: &ArgMatches<'a>) -> Option<Job<'a>>
+    ensures { result ≡ serve_of (rows_of (found_of given.now)) }
+{
+    Some(Job::Serve {
+        file: word_of(given, "file")?,
+        port: number_within(given, "port", 1, LAST_PORT)? as u16,
+        requests: number_within(given, "requests", 1, MOST_REQUESTS)? as u32,
+    })
+}
+
+#[tactic(auto, unfolding(crate::specs::Jobs::schedule_of))]
+fn read_schedule<'a>(alloc: Global, given: &ArgMatches<'a>) -> Result<Option<Job<'a>>, AllocError>
+    ensures { IfOk result (λ job. job ≡ schedule_of (rows_of (found_of given.now))) }
+{
+    let Some(file) = word_of(given, "file") else {
+        return Ok(None);
+    };
+    match steps(alloc, given, "steps")? {
+        Some(steps) => Ok(Some(Job::Schedule { file, steps })),
+        None => Ok(None),
+    }
+}
+
+/// What is answered where clap took the words, and a value is out of its form or range.
+fn bad_value(alloc: Global, desk: &mut Command<'_>) -> Usage
+    ensures { Tells ErrorKind.ValueValidation result }
+{
+    match desk.error(
+        ErrorKind::ValueValidation,
+        "a number is 1 to 18 digits and within the range that help tells, a moment is written as 2026-01-01T00:00:00Z",
+    ) {
+        Ok(error) => usage_of(alloc, &error),
+        Err(_) => Usage::Memory,
+    }
+}
+
+/// What is answered for an error of clap.
+fn usage_of(alloc: Global, error: &Error) -> Usage
+    ensures { Tells (kind_of error.now) result }
+{
+    let Ok(text) = format!(in alloc; "{error}") else {
+        return Usage::Memory;
+    };
+    match error.kind() {
+        ErrorKind::DisplayHelp => Usage::Help(text),
+        ErrorKind::OutOfMemory => Usage::Memory,
+        _ => Usage::Bad(text),
+    }
+}

@@ -1,0 +1,115 @@
+//! The values that the words of a command give.
+
+ghost use Rattle.std.specs.Prelude.{◌≡◌, ◌≤◌, IfOk, IfSome, List, ℕ, map, option_and_then, option_map};
+ghost use Rattle.reg_core.specs.Number.{number_of};
+ghost use Rattle.clap.specs.Words.{all_of, first_of, found_of, rows_of};
+ghost use Rattle.reg_words.specs.Jobs.{given, given_or, number_in};
+ghost use Rattle.reg_words.specs.Values.{moment_of, step_of, steps_of, within};
+
+use crate::word::{Steps, Word};
+use clap::ArgMatches;
+use reg_core::{Moment, read_number};
+use std::alloc::{AllocError, Global};
+
+/// The word that was given.
+pub(crate) fn word_of<'a>(matches: &ArgMatches<'a>, id: &str) -> Option<Word<'a>>
+    ensures { result ≡ first_of id.now (rows_of (found_of matches.now)) }
+{
+    Some(Word::of(text_of(matches, id)?))
+}
+
+/// The text that was given.
+fn text_of<'a>(matches: &ArgMatches<'a>, id: &str) -> Option<&'a str>
+    ensures { option_map (λ text. text.now) result ≡ first_of id.now (rows_of (found_of matches.now)) }
+{
+    matches.get_str(id)
+}
+
+/// The number of an option, or the usual one where the option is left out; `None` where it is no number.
+pub(crate) fn number_or(matches: &ArgMatches<'_>, id: &str, usual: u64) -> Option<u64>
+    ensures { result ≡ given_or usual id.now (rows_of (found_of matches.now)) }
+{
+    match text_of(matches, id) {
+        Some(text) => read_number(text.as_bytes()),
+        None => Some(usual),
+    }
+}
+
+/// The number of an option, if it is given; `None` where it is given and no number.
+pub(crate) fn number_if_given(matches: &ArgMatches<'_>, id: &str) -> Option<Option<u64>>
+    ensures { result ≡ given id.now (rows_of (found_of matches.now)) }
+{
+    match text_of(matches, id) {
+        Some(text) => Some(Some(read_number(text.as_bytes())?)),
+        None => Some(None),
+    }
+}
+
+/// The number of an option, where it is one and within bounds.
+pub(crate) fn number_within(
+    matches: &ArgMatches<'_>,
+    id: &str,
+    least: u64,
+    most: u64,
+) -> Option<u64>
+    ensures exact { result ≡ number_in least most id.now (rows_of (found_of matches.now)) }
+    ensures at_most { IfSome result (λ number. number ≤ most) }
+{
+    let number = read_number(text_of(matches, id)?.as_bytes())?;
+    if least <= number && number <= most {
+        Some(number)
+    } else {
+        None
+    }
+}
+
+/// The moment of an option.
+pub(crate) fn moment(matches: &ArgMatches<'_>, id: &str) -> Option<Moment>
+    ensures { result ≡ option_and_then moment_of (first_of id.now (rows_of (found_of matches.now))) }
+{
+    read_moment(text_of(matches, id)?.as_bytes())
+}
+
+/// The steps of a schedule; `None` where there are none, or one has another form than MOMENT=DAYS.
+pub(crate) fn steps(
+    alloc: Global,
+    matches: &ArgMatches<'_>,
+    id: &str,
+) -> Result<Option<Steps>, AllocError>
+    ensures { IfOk result (λ steps. steps ≡ option_and_then steps_of (all_of id.now (rows_of (found_of matches.now)))) }
+{
+    match matches.get_strs(id) {
+        Some(texts) => read_steps(alloc, texts),
+        None => Ok(None),
+    }
+}
+
+fn read_steps(alloc: Global, texts: &[&str]) -> Result<Option<Steps>, AllocError>
+    ensures { IfOk result (λ steps. steps ≡ steps_of (map (λ text. text.now) texts.now)) }
+{
+    let mut steps = Vec::new(alloc);
+    for text in texts {
+        match read_step(text) {
+            Some(step) => steps.push(step)?,
+            None => return Ok(None),
+        }
+    }
+    Ok(Some(Steps::of(steps)))
+}
+
+/// Reads `MOMENT=DAYS`.
+#[tactic(auto, unfolding(crate::specs::Values::step_of))]
+fn read_step(text: &str) -> Option<(Moment, u64)>
+    ensures { result ≡ step_of text.now }
+{
+    let (from, days) = text.split_once('=')?;
+    let days = read_number(days.as_bytes())?;
+    Some((read_moment(from.as_bytes())?, days))
+}
+
+/// Reads a moment.
+fn read_moment(text: &[u8]) -> Option<Moment>
+    ensures { result ≡ moment_of text.now }
+{
+    Moment::read(text)
+}
