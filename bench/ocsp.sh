@@ -1,0 +1,35 @@
+#!/bin/sh
+# OCSP answers a second over a register of so many certificates (100,000 unless a number is given), one connection each:
+# `desk serve` beside `openssl ocsp -port` with a P-256 issuer, asked the same requests by the same client, in turns.
+# Run it from the repository's root; needs openssl and python3.
+set -eu
+certificates=${1:-100000}
+requests=${2:-2000}
+desk="$(pwd)/desk"
+words="$(pwd)/examples/issuer-words.sh"
+client="$(pwd)/bench/ocsp_client.py"
+work=$(mktemp -d /tmp/desk-ocsp.XXXXXX)
+trap 'kill "$theirs" "$ours" 2>/dev/null || true; rm -rf "$work"' EXIT
+theirs= ours=
+cd "$work"
+
+openssl req -x509 -newkey ec -pkeyopt ec_paramgen_curve:P-256 -nodes -keyout ca.key -out ca.pem -subj /CN=T -days 3650 2>/dev/null
+start=$(date -u +%Y-%m-%dT00:00:00Z)
+end=$(date -u -d '+300 days' +%Y-%m-%dT00:00:00Z)
+
+echo "registering $certificates certificates" >&2
+# shellcheck disable=SC2046 # the words are meant to be split
+"$desk" init ca.db $("$words" ca.pem)
+python3 "$client" orders "$certificates" "$start" | "$desk" script ca.db >/dev/null
+python3 "$client" rows "$certificates" "$start" "$end" | "$desk" import ca.db --now "$start" >/dev/null
+python3 "$client" index "$certificates" "$(date -u -d '+300 days' +%y%m%d000000Z)" >index.txt
+for serial in 1000 1001 1002 1003 1004 1005 1006 1007; do
+    openssl ocsp -issuer ca.pem -serial "0x$serial" -no_nonce -reqout "$serial.der" >/dev/null 2>&1
+done
+
+openssl ocsp -index index.txt -port 8091 -rsigner ca.pem -rkey ca.key -CA ca.pem -ignore_err >/dev/null 2>&1 &
+theirs=$!
+"$desk" serve ca.db --port 8092 --requests 1000000 >/dev/null &
+ours=$!
+sleep 3
+python3 "$client" ask "$requests" 8091 8092 ./*.der

@@ -1,0 +1,5 @@
+mod altered;
+mod calls;
+mod kept;
+mod opening;
+mod register;
