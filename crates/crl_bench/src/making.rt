@@ -8,7 +8,7 @@ use std::alloc::Global;
 
 /// At most this many entries.
 #[tactic(auto, using(crate::proofs::Ascending::rises_push))]
-pub fn entries(alloc: Global, count: u64) -> Result<Vec<Entry>, Memory>
+pub(crate) fn entries(alloc: Global, count: u64) -> Result<Vec<Entry>, Memory>
     ensures ascend { IfOk result (λ all. EntriesAscend all.items) }
     ensures few { IfOk result (λ all. length all.items ≤ count) }
 {
