@@ -1,0 +1,6 @@
+//! A register's file, opened as a database with room in memory for its pages.
+#![tactic(auto)]
+
+mod file;
+
+pub use file::open_file;
