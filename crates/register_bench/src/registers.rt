@@ -2,6 +2,7 @@
 
 use reg_core::Policy;
 use reg_der::Issuer;
+use reg_files::open_file as open_database;
 use reg_store::{Store, StoreFault};
 use sqlite::{Connection, FileFrom, FileStore, MemStore};
 use sqlite_disk::Unknown;
@@ -18,7 +19,7 @@ pub type FileRegister = Store<FileStore<FileFrom<Unknown>>>;
 /// The register of a file, if there is one. How long the database and the register took to open is printed.
 pub fn open_file(rt: HostRuntime, path: &str) -> io::Result<Option<FileRegister>> {
     let start = Instant::now(&rt)?;
-    let Ok(connection) = Connection::open_from(&rt, path, false, Unknown) else {
+    let Ok(connection) = open_database(&rt, path, Unknown) else {
         eprintln!(rt; "no database at {path}")?;
         return Ok(None);
     };
