@@ -8,7 +8,7 @@ use Rattle.reg_jobs.specs.declared.failure.Failure.{Failure}
 use Rattle.reg_tables.specs.Stays.{IsCallFault}
 use Rattle.reg_tables.specs.declared.fault.StoreFault.{StoreFault}
 use Rattle.reg_tables.specs.declared.fault.StoreFault.TheVariants as stored
-use Rattle.reg_program.specs.Ends.{IsMaking, IsOpening}
+use Rattle.reg_program.specs.Failing.{IsMaking, IsOpening}
 use Rattle.reg_program.specs.Told.{IsTold, IsWritten}
 
 -- a register that can't be opened

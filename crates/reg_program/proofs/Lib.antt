@@ -1,1 +1,5 @@
+pub mod Clean
 pub mod Fates
+pub mod Opened
+pub mod Serves
+pub mod Setting

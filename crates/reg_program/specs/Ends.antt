@@ -1,47 +1,115 @@
--- How a job of the program may end, by what its words say.
-use Rattle.std.specs.Prelude.{◌≡◌, ◌⊎◌, ℕ, List, Result, Ok, Err, Some, None}
+-- How a job of the program ends.
+use Rattle.std.specs.Prelude.{◌≡◌, ◌⊎◌, ℕ, List, codes, Result, Ok, Err, Some, None}
+use Rattle.std.specs.declared.option.Option.{Option}
+use Rattle.std.specs.Io.KnownBytes.{Appends}
 use Rattle.reg_core.specs.Issuer.{Issuer}
-use Rattle.reg_core.specs.Policy.{IsPolicy}
+use Rattle.reg_core.specs.Policy.{Terms, IsPolicy}
+use Rattle.reg_core.specs.Records.{Records, no_records}
 use Rattle.reg_core.specs.Schedule.{IsSchedule}
+use Rattle.reg_core.specs.declared.refusal.Fault.{Fault}
+use Rattle.reg_core.specs.declared.refusal.Fault.TheVariants as fault
+use Rattle.reg_crl.specs.Signing.{Identity}
+use Rattle.reg_faces.specs.Kept.{Crls, Lines}
+use Rattle.reg_faces.specs.declared.keeper.Keeper.{Ghosts as Keeper}
 use Rattle.reg_jobs.specs.Checks.{WritesIssuer, IsNoOffice, IsNoSchedule, terms_of}
+use Rattle.reg_jobs.specs.Endings.{store_failure}
 use Rattle.reg_jobs.specs.declared.failure.Failure.{Failure}
 use Rattle.reg_jobs.specs.declared.failure.Failure.TheVariants as failure
+use Rattle.reg_lines.specs.Import.{ImportEnds}
+use Rattle.reg_lines.specs.Script.{ScriptEnds}
+use Rattle.reg_tables.specs.Stays.{IsCallFault}
+use Rattle.reg_tables.specs.declared.fault.StoreFault.{StoreFault}
+use Rattle.reg_wire.specs.Put.{AppendsFront}
 use Rattle.reg_words.specs.declared.job.Job.{Job}
 use Rattle.reg_words.specs.declared.job.Job.TheVariants as job
+use Rattle.reg_program.specs.Digest.{digest, digests}
+use Rattle.reg_program.specs.Failing.{IsMaking}
+use Rattle.reg_program.specs.Sample.{sample_records}
+use Rattle.reg_program.specs.Schedules.{Reschedules}
+use Rattle.reg_program.specs.Serving.{Exchanges, Served}
+use Rattle.reg_program.specs.Visits.{Visits, NotOpened, Makes, NotMade, ending_of}
+use Rattle.reg_program.specs.declared.place.Place.{Ghosts as Place}
 
--- a fault, or a file that has tables already
-abbrev pub IsMaking : Failure → Type 0
-IsMaking (failure.Fault fault) = Unit {0}
-IsMaking failure.NotEmpty = Unit {0}
-IsMaking failure.NotARegister = ⊥
-IsMaking failure.OldVersion = ⊥
-IsMaking failure.NewVersion = ⊥
-IsMaking failure.BadIssuer = ⊥
-IsMaking failure.BadPolicy = ⊥
+-- a text is said and the job is done; or a front of it, where the writer fails
+abbrev pub Says : List ℕ → Option (List ℕ) → Option (List ℕ) → Result (Unit {0}) Failure → Type 0
+Says text out out' (Ok done) = Appends out out' text
+Says text out out' (Err why) = (why ≡ failure.Fault fault.Write) × AppendsFront out out' text
 
--- a fault, or a file that holds no register of this version
-abbrev pub IsOpening : Failure → Type 0
-IsOpening (failure.Fault fault) = Unit {0}
-IsOpening failure.NotEmpty = ⊥
-IsOpening failure.NotARegister = Unit {0}
-IsOpening failure.OldVersion = Unit {0}
-IsOpening failure.NewVersion = Unit {0}
-IsOpening failure.BadIssuer = ⊥
-IsOpening failure.BadPolicy = ⊥
+-- what is given is said, or why nothing is given is the end
+abbrev pub SaysGiven : {W : Type 0} → (W → Option (List ℕ)) → W → W → Result (List ℕ) Fault → Result (Unit {0}) Failure → Type 0
+SaysGiven contents writer writer' (Ok text) result = Says text (contents writer) (contents writer') result
+SaysGiven contents writer writer' (Err why) result = (result ≡ Err (failure.Fault why)) × (writer' ≡ writer)
 
--- the end of a job: done only with an issuer, a policy and a schedule within their limits; refused for the one that is not
-abbrev pub Ends : Job → Result (Unit {0}) Failure → Type 0
-Ends (job.Init file name key days crl_life ocsp_life cap) (Ok done) =
-    ((issuer : Issuer) × WritesIssuer name key issuer) × IsPolicy (terms_of days crl_life ocsp_life cap)
-Ends (job.Init file name key days crl_life ocsp_life cap) (Err why) =
-    IsNoOffice name key (terms_of days crl_life ocsp_life cap) why ⊎ IsMaking why
-Ends (job.Schedule file steps) (Ok done) = IsSchedule steps
-Ends (job.Schedule file steps) (Err why) = IsNoSchedule steps why ⊎ IsOpening why
-Ends (job.Script file) (Ok done) = Unit {0}
-Ends (job.Script file) (Err why) = IsOpening why ⊎ IsMaking why
-Ends (job.Import file now) (Ok done) = Unit {0}
-Ends (job.Import file now) (Err why) = IsOpening why
-Ends (job.Crl file number) (Ok done) = Unit {0}
-Ends (job.Crl file number) (Err why) = IsOpening why
-Ends (job.Serve file port requests) (Ok done) = Unit {0}
-Ends (job.Serve file port requests) (Err why) = IsOpening why
+-- a schedule that was set is told, or why it was not set is the end
+abbrev pub TellsSet : {W : Type 0} → (W → Option (List ℕ)) → W → W → Result (Unit {0}) StoreFault → Result (Unit {0}) Failure → Type 0
+TellsSet contents writer writer' (Ok done) result = Says (codes "schedule set\n") (contents writer) (contents writer') result
+TellsSet contents writer writer' (Err why) result = (result ≡ Err (store_failure why)) × IsCallFault why × (writer' ≡ writer)
+
+-- A job that reads nothing, over a register at a path: the writer before it and after it.
+module _ {W P K : Type 0} (contents : W → Option (List ℕ)) (writer writer' : W) (place : Place P K) (keeper : Keeper K) where
+  -- the bytes of a CRL of the register at a path (RFC 5280 5), of which no record changes
+  abbrev pub CrlAt : List ℕ → Option ℕ → Result (Unit {0}) Failure → Type 0
+  CrlAt path number result =
+      (NotOpened place keeper path result × (writer' ≡ writer))
+      ⊎ ((given : Result (List ℕ) Fault) × Visits place keeper path (λ identity before after. Crls before number given after) × SaysGiven contents writer writer' given result)
+
+  -- another schedule for the register at a path: its steps are looked at before the path is
+  abbrev pub ScheduleAt : List ℕ → List (ℕ × ℕ) → Result (Unit {0}) Failure → Type 0
+  ScheduleAt path steps result =
+      ((why : Failure) × (result ≡ Err why) × IsNoSchedule steps why × (writer' ≡ writer))
+      ⊎ (IsSchedule steps × ((NotOpened place keeper path result × (writer' ≡ writer))
+      ⊎ ((set : Result (Unit {0}) StoreFault) × Visits place keeper path (λ identity. Reschedules steps set) × TellsSet contents writer writer' set result)))
+
+  -- a new register at a path: its issuer and its policy are looked at before the path is, and it begins with no records
+  abbrev pub InitAt : List ℕ → List ℕ → List ℕ → Terms → Result (Unit {0}) Failure → Type 0
+  InitAt path name key terms result =
+      ((why : Failure) × (result ≡ Err why) × IsNoOffice name key terms why × (writer' ≡ writer))
+      ⊎ ((issuer : Issuer) × WritesIssuer name key issuer × IsPolicy terms × ((NotMade place keeper path result × (writer' ≡ writer))
+      ⊎ (Makes place keeper path (no_records issuer terms) × Says (codes "created\n") (contents writer) (contents writer') result)))
+
+  -- HTTP requests over the register at a path (RFC 9112), which is opened before the port is bound
+  abbrev pub ServeAt : List ℕ → ℕ → ℕ → Result (Unit {0}) Failure → Type 0
+  ServeAt path port requests result =
+      (NotOpened place keeper path result × (writer' ≡ writer))
+      ⊎ ((count : ℕ) × Visits place keeper path (Exchanges keeper.signs count) × Served port requests count (contents writer) (contents writer') result)
+
+-- A job over what is read and what is written: the reader and the writer before it and after it.
+module _ {E W : Type 0} (remaining : E → Option (List ℕ)) (contents : W → Option (List ℕ)) (reader reader' : E) (writer writer' : W) where
+  -- nothing was read and nothing was written
+  abbrev pub IsSilent : Type 0
+  IsSilent = (reader' ≡ reader) × (writer' ≡ writer)
+
+  -- a script without FILE: no register could be made, or it ran over a new one in memory
+  abbrev pub ScriptInMemory : Result (Unit {0}) Failure → Type 0
+  ScriptInMemory result =
+      ((why : Failure) × (result ≡ Err why) × IsMaking why × IsSilent)
+      ⊎ ((ran : Result (Unit {0}) Fault) × (result ≡ ending_of ran) × ((after : Records)
+      × ScriptEnds (Lines digests digest) remaining contents sample_records after reader reader' writer writer' ran))
+
+  module _ {P K : Type 0} (place : Place P K) (keeper : Keeper K) where
+    -- a run over the register at a path: it could not be opened, or the run led from its records to those after it
+    abbrev pub RunsAt : List ℕ → (Result (Unit {0}) Fault → Identity → Records → Records → Type 0) → Result (Unit {0}) Failure → Type 0
+    RunsAt path Ran result =
+        (NotOpened place keeper path result × IsSilent)
+        ⊎ ((ran : Result (Unit {0}) Fault) × (result ≡ ending_of ran) × Visits place keeper path (Ran ran))
+
+    -- a script over the register at a path
+    abbrev pub ScriptAt : List ℕ → Result (Unit {0}) Failure → Type 0
+    ScriptAt path = RunsAt path (λ ran identity before after.
+        ScriptEnds (Lines keeper.signs identity) remaining contents before after reader reader' writer writer' ran)
+
+    -- an import into the register at a path, at a moment
+    abbrev pub ImportAt : List ℕ → ℕ → Result (Unit {0}) Failure → Type 0
+    ImportAt path now = RunsAt path (λ ran identity before after.
+        ImportEnds (Lines keeper.signs identity) remaining contents now before after reader reader' writer writer' ran)
+
+    -- the end of a job: what it read, what it did to the register at its path, and what it wrote
+    abbrev pub Ends : Job → Result (Unit {0}) Failure → Type 0
+    Ends (job.Init file name key days crl_life ocsp_life cap) result =
+        (reader' ≡ reader) × InitAt contents writer writer' place keeper file name key (terms_of days crl_life ocsp_life cap) result
+    Ends (job.Script (Some file)) result = ScriptAt file result
+    Ends (job.Script None) result = ScriptInMemory result
+    Ends (job.Import file now) result = ImportAt file now result
+    Ends (job.Crl file number) result = (reader' ≡ reader) × CrlAt contents writer writer' place keeper file number result
+    Ends (job.Schedule file steps) result = (reader' ≡ reader) × ScheduleAt contents writer writer' place keeper file steps result
+    Ends (job.Serve file port requests) result = (reader' ≡ reader) × ServeAt contents writer writer' place keeper file port requests result

@@ -1,2 +1,9 @@
+pub mod Digest
 pub mod Ends
+pub mod Failing
+pub mod Files
+pub mod Sample
+pub mod Schedules
+pub mod Serving
 pub mod Told
+pub mod Visits

@@ -1,90 +1,138 @@
-//! A register's file: made, opened and closed.
+//! Registers in files: made, opened and closed.
 
-ghost use Rattle.std.specs.Prelude.{◌≡◌, false, IfOk, IfErr};
-ghost use Rattle.reg_program.specs.Ends.{IsMaking, IsOpening};
+ghost use Rattle.std.specs.Prelude.{◌≡◌, ◌≢◌, false, OnOk, IfOk, IfErr};
+ghost use Rattle.sqlite.specs.Files.{over_files};
+ghost use Rattle.reg_core.specs.Records.{no_records};
+ghost use Rattle.reg_crl.specs.Signing.{Identity};
+ghost use Rattle.reg_program.specs.Digest.{digest, digests};
+ghost use Rattle.reg_program.specs.Failing.{IsMaking, IsOpening};
+ghost use Rattle.reg_program.specs.Files.{IsConnection, IsOpenedFrom, IsMadeFrom};
+ghost use Rattle.reg_office.specs.Stands.{Stands};
 
-use reg_core::{Fault, Policy};
+use crate::place::{Place, Register};
+use reg_core::{Command, Fault, Memory, Moment, Outcome, Policy, Query, Schedule};
 use reg_crl::DigestSeal;
 use reg_der::Issuer;
-use reg_faces::Desk;
+use reg_faces::Keeper;
 use reg_jobs::Failure;
 use reg_office::Office;
-use reg_store::Store;
+use reg_store::{Store, StoreFault};
 use sqlite::{Connection, Error, ErrorCode, FileFrom, FileStore};
 use sqlite_disk::Unknown;
+use std::alloc::Global;
 use std::fs;
 
 /// A connection to a register's file, with its checks for damage.
 pub(crate) type FileConnection = Connection<FileStore<FileFrom<Unknown>>>;
 
-/// The office over a register's file, with the digest as its signer.
-pub(crate) type FileDesk = Desk<Office<FileStore<FileFrom<Unknown>>, DigestSeal>>;
+/// A register in a file, with the digest as its signer.
+#[derive(Drop)]
+pub struct FileRegister {
+    /// The office over the file.
+    pub office: Office<FileStore<FileFrom<Unknown>>, DigestSeal>,
+}
 
-/// Makes a register in a file that is new or empty. Where that fails, a file that was not there is not there afterwards.
-///
-/// # Errors
-/// `NotEmpty` where the file has tables already; `Fault` of `Memory` or `Store`.
-pub(crate) fn create_register(
+impl Keeper for FileRegister {
+    ghost use Rattle.std.specs.Prelude.{◌≡◌};
+    ghost use Rattle.sqlite.specs.Files.{file_state, over_files};
+    ghost use Rattle.sqlite.specs.State.{HasCleanDisk};
+    ghost use Rattle.reg_office.specs.Stands.{Stands};
+    ghost use Rattle.reg_program.specs.Digest.{digest, digests};
+
+    ghost is_clean = { λ register. HasCleanDisk (file_state register.office.store) };
+
+    ghost stands = { λ identity register records. (digest ≡ identity)
+        × Stands over_files digests register.office.store identity records };
+
+    ghost signs = { digests };
+
+    fn run_one(&mut self, alloc: Global, now: Moment, command: &Command) -> Outcome {
+        Keeper::run_one(&mut self.office, alloc, now, command)
+    }
+
+    fn ask(&mut self, alloc: Global, now: Moment, query: &Query) -> Outcome {
+        Keeper::ask(&mut self.office, alloc, now, query)
+    }
+
+    fn ocsp(&mut self, alloc: Global, now: Moment, request: &[u8]) -> Result<Vec<u8>, Memory> {
+        Keeper::ocsp(&mut self.office, alloc, now, request)
+    }
+
+    fn crl_bytes(&mut self, alloc: Global, number: Option<u64>) -> Result<Vec<u8>, Fault> {
+        Keeper::crl_bytes(&mut self.office, alloc, number)
+    }
+}
+
+impl Register for FileRegister {
+    fn set_schedule(&mut self, alloc: Global, schedule: Schedule) -> Result<(), StoreFault> {
+        self.office.set_schedule(alloc, schedule)
+    }
+}
+
+/// The machine's files, as a place where registers lie.
+impl Place for HostRuntime {
+    ghost use Rattle.reg_program.specs.Files.{IsOpenedFrom, IsMadeFrom};
+
+    type Opened = FileRegister;
+
+    ghost opened = { λ path register. IsOpenedFrom register.office.store };
+
+    ghost unopened = { λ path why. Unit {0} };
+
+    ghost made = { λ path register. IsMadeFrom register.office.store };
+
+    ghost unmade = { λ path why. Unit {0} };
+
+    ghost closed = { λ path register. Unit {0} };
+
+    fn open(&self, path: &str) -> Result<FileRegister, Failure> {
+        // To open a path where no file is would make one.
+        if !fs::exists(self, path).unwrap_or(false) {
+            return Err(Failure::Fault(Fault::Store));
+        }
+        open_register(self, path)
+    }
+
+    fn make(&self, path: &str, issuer: Issuer, policy: Policy) -> Result<FileRegister, Failure> {
+        // What can't be looked for is left alone.
+        let was_there = fs::exists(self, path).unwrap_or(true);
+        match make_register(self, path, issuer, policy) {
+            Ok(register) => Ok(register),
+            Err(failure) => {
+                if !was_there {
+                    remove(self, path);
+                }
+                Err(failure)
+            }
+        }
+    }
+
+    fn close(&self, path: &str, register: FileRegister)
+        ensures { Unit {0} }
+    {
+        let (store, _signer) = register.office.into_parts();
+        close(store.into_connection());
+    }
+}
+
+/// Makes a register in a file.
+fn make_register(
     rt: &HostRuntime,
     path: &str,
     issuer: Issuer,
     policy: Policy,
-) -> Result<(), Failure>
-    ensures { IfErr result IsMaking }
-{
-    // What can't be looked for is left alone.
-    let was_there = fs::exists(rt, path).unwrap_or(true);
-    match create_in(rt, path, issuer, policy) {
-        Ok(()) => Ok(()),
-        Err(failure) => {
-            if !was_there {
-                remove(rt, path);
-            }
-            Err(failure)
-        }
-    }
-}
-
-fn create_in(rt: &HostRuntime, path: &str, issuer: Issuer, policy: Policy) -> Result<(), Failure>
-    ensures { IfErr result IsMaking }
+) -> Result<FileRegister, Failure>
+    ensures ok { IfOk result (λ register. IsMadeFrom register.office.store) }
+    ensures stands { IfOk result (λ register. Stands over_files digests register.office.store digest (no_records issuer policy)) }
+    ensures err { IfErr result IsMaking }
 {
     let connection = match connect(rt, path) {
         Ok(connection) => connection,
         Err(fault) => return Err(Failure::Fault(fault)),
     };
     match Store::create(connection, issuer, policy) {
-        Ok(store) => {
-            close(store.into_connection());
-            Ok(())
-        }
-        Err(unopened) => {
-            let fault = unopened.fault;
-            close(unopened.connection);
-            Err(Failure::from(fault))
-        }
-    }
-}
-
-/// Opens the register of a file.
-///
-/// # Errors
-/// `NotARegister`, `OldVersion` and `NewVersion` for other tables; `Fault` of `Memory`, and of `Store` where there is no
-/// such file or it can't be opened.
-pub(crate) fn open_desk(rt: &HostRuntime, path: &str) -> Result<FileDesk, Failure>
-    ensures { IfErr result IsOpening }
-{
-    // To open a path where no file is would make one.
-    if !fs::exists(rt, path).unwrap_or(false) {
-        return Err(Failure::Fault(Fault::Store));
-    }
-    let connection = match connect(rt, path) {
-        Ok(connection) => connection,
-        Err(fault) => return Err(Failure::Fault(fault)),
-    };
-    match Store::open(connection) {
-        Ok(store) => Ok(Desk {
+        Ok(store) => Ok(FileRegister {
             office: Office::new(store, DigestSeal),
-            alloc: rt.alloc(),
         }),
         Err(unopened) => {
             let fault = unopened.fault;
@@ -94,10 +142,25 @@ pub(crate) fn open_desk(rt: &HostRuntime, path: &str) -> Result<FileDesk, Failur
     }
 }
 
-/// Closes the register's file.
-pub(crate) fn close_desk(desk: FileDesk) {
-    let (store, _signer) = desk.office.into_parts();
-    close(store.into_connection());
+/// Opens the register of a file.
+fn open_register(rt: &HostRuntime, path: &str) -> Result<FileRegister, Failure>
+    ensures ok { IfOk result (λ register. IsOpenedFrom register.office.store) }
+    ensures err { IfErr result IsOpening }
+{
+    let connection = match connect(rt, path) {
+        Ok(connection) => connection,
+        Err(fault) => return Err(Failure::Fault(fault)),
+    };
+    match Store::open(connection) {
+        Ok(store) => Ok(FileRegister {
+            office: Office::new(store, DigestSeal),
+        }),
+        Err(unopened) => {
+            let fault = unopened.fault;
+            close(unopened.connection);
+            Err(Failure::from(fault))
+        }
+    }
 }
 
 /// Closes a connection. Where its log can't be copied into the file, the next opening reads the log: nothing is lost.
@@ -107,7 +170,8 @@ fn close(connection: FileConnection) {
 
 /// Opens a file as a database, in no transaction.
 fn connect(rt: &HostRuntime, path: &str) -> Result<FileConnection, Fault>
-    ensures { IfOk result (λ connection. connection.in_transaction ≡ false) }
+    ensures idle { IfOk result (λ connection. connection.in_transaction ≡ false) }
+    ensures connects { IfOk result IsConnection }
 {
     match Connection::open_from(rt, path, false, Unknown) {
         Ok(connection) => Ok(connection),

@@ -1,19 +1,22 @@
 //! The jobs but `serve`.
 
-ghost use Rattle.std.specs.Prelude.{◌≡◌, ◌⊎◌, IfErr, OnOk};
-ghost use Rattle.reg_core.specs.Issuer.{Issuer as Issued};
-ghost use Rattle.reg_core.specs.Policy.{IsPolicy};
-ghost use Rattle.reg_core.specs.Schedule.{IsSchedule};
-ghost use Rattle.reg_jobs.specs.Checks.{WritesIssuer, IsNoOffice, IsNoSchedule, terms_of};
-ghost use Rattle.reg_program.specs.Ends.{IsMaking, IsOpening};
+ghost use Rattle.std.specs.Prelude.{◌≡◌, Result, IfOk, IfErr};
+ghost use Rattle.reg_http.specs.Office.{bytes_of};
+ghost use Rattle.reg_jobs.specs.Checks.{terms_of};
+ghost use Rattle.reg_program.specs.Ends.{CrlAt, ImportAt, InitAt, SaysGiven, ScheduleAt, ScriptAt, ScriptInMemory, TellsSet};
+ghost use Rattle.reg_program.specs.Failing.{IsOpening};
+ghost use Rattle.reg_program.specs.Visits.{ending_of};
+ghost use Rattle.reg_tables.specs.Stays.{IsCallFault};
 
-use crate::files::{close_desk, create_register, open_desk};
 use crate::memory::desk_in_memory;
+use crate::place::{Place, Register};
 use crate::telling::say;
 use reg_core::{Fault, Moment};
-use reg_faces::{import, run_script};
+use reg_faces::{Desk, Keeper, import, run_script};
 use reg_jobs::{Failure, office_of, schedule_of};
+use reg_store::StoreFault;
 use reg_words::{Steps, Word};
+use std::alloc::Global;
 use std::io::{Read, Write};
 
 /// What `init` is told: the issuer's Name and key in hexadecimal, and the terms of the policy.
@@ -27,104 +30,182 @@ pub(crate) struct NewOffice<'a> {
     pub(crate) cap: u64,
 }
 
-/// Makes a register in a file. The issuer and then the policy are looked at before the file is.
-pub(crate) fn init<W: Write>(
-    rt: &HostRuntime,
-    file: &str,
+/// How a job ends whose run of a register ended so.
+fn ended(ran: Result<(), Fault>) -> Result<(), Failure>
+    ensures { result ≡ ending_of ran }
+{
+    match ran {
+        Ok(()) => Ok(()),
+        Err(fault) => Err(Failure::Fault(fault)),
+    }
+}
+
+/// Opens the register at a path, with its faces.
+pub(crate) fn open_desk<P: Place>(
+    alloc: Global,
+    place: &P,
+    path: &str,
+) -> Result<Desk<P::Opened>, Failure>
+    ensures ok { IfOk result (λ desk. P.opened path.now desk.office) }
+    ensures err { IfErr result (P.unopened path.now) }
+    ensures faults { IfErr result IsOpening }
+{
+    match place.open(path) {
+        Ok(office) => Ok(Desk { office, alloc }),
+        Err(why) => Err(why),
+    }
+}
+
+/// Closes the register at a path.
+pub(crate) fn close_desk<P: Place>(place: &P, path: &str, desk: Desk<P::Opened>)
+    ensures { P.closed path.now desk.office }
+{
+    place.close(path, desk.office);
+}
+
+/// Makes a register at a path. The issuer and then the policy are looked at before the path is.
+pub(crate) fn init<P: Place, W: Write>(
+    alloc: Global,
+    place: &P,
+    path: &str,
     new: &NewOffice<'_>,
     writer: &mut W,
 ) -> Result<(), Failure>
-    ensures done { OnOk result (((issuer : Issued) × WritesIssuer new.now.name.now new.now.key.now issuer) × IsPolicy (terms_of new.now.days new.now.crl_life new.now.ocsp_life new.now.cap)) }
-    ensures refused { IfErr result (λ why. IsNoOffice new.now.name.now new.now.key.now (terms_of new.now.days new.now.crl_life new.now.ocsp_life new.now.cap) why ⊎ IsMaking why) }
+    ensures { InitAt W.contents writer.old writer.new P.Place P.Opened.Keeper path.now new.now.name.now new.now.key.now
+        (terms_of new.now.days new.now.crl_life new.now.ocsp_life new.now.cap) result }
 {
-    let (issuer, policy) = office_of(
-        rt.alloc(),
+    let (issuer, policy) = match office_of(
+        alloc,
         new.name,
         new.key,
         new.days,
         new.crl_life,
         new.ocsp_life,
         new.cap,
-    )?;
-    create_register(rt, file, issuer, policy)?;
+    ) {
+        Ok(office) => office,
+        Err(why) => return Err(why),
+    };
+    let register = match place.make(path, issuer, policy) {
+        Ok(register) => register,
+        Err(why) => return Err(why),
+    };
+    place.close(path, register);
     say(writer, b"created\n")
 }
 
 /// Runs the script of standard input over a new register in memory.
 pub(crate) fn script_in_memory<R: Read, W: Write>(
-    rt: &HostRuntime,
+    alloc: Global,
     reader: &mut R,
     writer: &mut W,
 ) -> Result<(), Failure>
-    ensures { IfErr result (λ why. IsOpening why ⊎ IsMaking why) }
+    ensures { ScriptInMemory R.remaining W.contents reader.old reader.new writer.old writer.new result }
 {
-    let mut desk = desk_in_memory(rt.alloc())?;
-    run_script(rt.alloc(), reader, writer, &mut desk)?;
-    Ok(())
+    let mut desk = match desk_in_memory(alloc) {
+        Ok(desk) => desk,
+        Err(why) => return Err(why),
+    };
+    let ran = run_script(alloc, reader, writer, &mut desk);
+    ended(ran)
 }
 
-/// Runs the script of standard input over a register's file.
-pub(crate) fn script<R: Read, W: Write>(
-    rt: &HostRuntime,
-    file: &str,
+/// Runs the script of standard input over the register at a path.
+pub(crate) fn script<P: Place, R: Read, W: Write>(
+    alloc: Global,
+    place: &P,
+    path: &str,
     reader: &mut R,
     writer: &mut W,
 ) -> Result<(), Failure>
-    ensures { IfErr result IsOpening }
+    ensures { ScriptAt R.remaining W.contents reader.old reader.new writer.old writer.new P.Place P.Opened.Keeper path.now result }
 {
-    let mut desk = open_desk(rt, file)?;
-    let ran = run_script(rt.alloc(), reader, writer, &mut desk);
-    close_desk(desk);
-    ran?;
-    Ok(())
+    let mut desk = match open_desk(alloc, place, path) {
+        Ok(desk) => desk,
+        Err(why) => return Err(why),
+    };
+    let ran = run_script(alloc, reader, writer, &mut desk);
+    close_desk(place, path, desk);
+    ended(ran)
 }
 
-/// Imports standard input into a register's file.
-pub(crate) fn import_rows<R: Read, W: Write>(
-    rt: &HostRuntime,
-    file: &str,
+/// Imports standard input into the register at a path.
+pub(crate) fn import_rows<P: Place, R: Read, W: Write>(
+    alloc: Global,
+    place: &P,
+    path: &str,
     now: Moment,
     reader: &mut R,
     writer: &mut W,
 ) -> Result<(), Failure>
-    ensures { IfErr result IsOpening }
+    ensures { ImportAt R.remaining W.contents reader.old reader.new writer.old writer.new P.Place P.Opened.Keeper path.now now result }
 {
-    let mut desk = open_desk(rt, file)?;
-    let imported = import(rt.alloc(), reader, writer, now, &mut desk);
-    close_desk(desk);
-    imported?;
-    Ok(())
+    let mut desk = match open_desk(alloc, place, path) {
+        Ok(desk) => desk,
+        Err(why) => return Err(why),
+    };
+    let imported = import(alloc, reader, writer, now, &mut desk);
+    close_desk(place, path, desk);
+    ended(imported)
 }
 
-/// Writes the bytes of a CRL of a register's file.
-pub(crate) fn crl<W: Write>(
-    rt: &HostRuntime,
-    file: &str,
+/// Writes the bytes of a CRL of the register at a path.
+pub(crate) fn crl<P: Place, W: Write>(
+    alloc: Global,
+    place: &P,
+    path: &str,
     number: Option<u64>,
     writer: &mut W,
 ) -> Result<(), Failure>
-    ensures { IfErr result IsOpening }
+    ensures { CrlAt W.contents writer.old writer.new P.Place P.Opened.Keeper path.now number result }
 {
-    let mut desk = open_desk(rt, file)?;
-    let bytes = desk.office.crl_bytes(rt.alloc(), number);
-    close_desk(desk);
-    say(writer, &bytes?)
+    let mut register = match place.open(path) {
+        Ok(register) => register,
+        Err(why) => return Err(why),
+    };
+    let given = register.crl_bytes(alloc, number);
+    place.close(path, register);
+    say_given(writer, given)
 }
 
-/// Gives a register's file another schedule, which is looked at before the file is.
-pub(crate) fn schedule<W: Write>(
-    rt: &HostRuntime,
-    file: &str,
+/// Says the bytes that are given.
+fn say_given<W: Write>(writer: &mut W, given: Result<Vec<u8>, Fault>) -> Result<(), Failure>
+    ensures { SaysGiven W.contents writer.old writer.new (bytes_of given) result }
+{
+    match given {
+        Ok(bytes) => say(writer, &bytes),
+        Err(fault) => Err(Failure::Fault(fault)),
+    }
+}
+
+/// Gives the register at a path another schedule, which is looked at before the path is.
+pub(crate) fn schedule<P: Place, W: Write>(
+    alloc: Global,
+    place: &P,
+    path: &str,
     steps: &Steps,
     writer: &mut W,
 ) -> Result<(), Failure>
-    ensures done { OnOk result (IsSchedule steps.now) }
-    ensures refused { IfErr result (λ why. IsNoSchedule steps.now why ⊎ IsOpening why) }
+    ensures { ScheduleAt W.contents writer.old writer.new P.Place P.Opened.Keeper path.now steps.now result }
 {
-    let schedule = schedule_of(steps)?;
-    let mut desk = open_desk(rt, file)?;
-    let set = desk.office.set_schedule(rt.alloc(), schedule);
-    close_desk(desk);
+    let schedule = match schedule_of(steps) {
+        Ok(schedule) => schedule,
+        Err(why) => return Err(why),
+    };
+    let mut register = match place.open(path) {
+        Ok(register) => register,
+        Err(why) => return Err(why),
+    };
+    let set = register.set_schedule(alloc, schedule);
+    place.close(path, register);
+    tell_set(writer, set)
+}
+
+/// Tells that a schedule was set.
+fn tell_set<W: Write>(writer: &mut W, set: Result<(), StoreFault>) -> Result<(), Failure>
+    requires { IfErr set IsCallFault }
+    ensures { TellsSet W.contents writer.old writer.new set result }
+{
     match set {
         Ok(()) => say(writer, b"schedule set\n"),
         Err(fault) => Err(Failure::from(fault)),

@@ -7,7 +7,10 @@ mod jobs;
 mod memory;
 mod peer;
 mod performing;
+mod place;
 mod serving;
 mod telling;
 
-pub use performing::perform;
+pub use files::FileRegister;
+pub use performing::{perform, perform_at};
+pub use place::{Place, Register};

@@ -1,7 +1,11 @@
 //! A new register in memory.
 
-ghost use Rattle.std.specs.Prelude.{IfErr};
-ghost use Rattle.reg_program.specs.Ends.{IsMaking};
+ghost use Rattle.std.specs.Prelude.{IfErr, IfOk};
+ghost use Rattle.sqlite.specs.Steps.{over_memory};
+ghost use Rattle.reg_office.specs.Stands.{Stands};
+ghost use Rattle.reg_program.specs.Digest.{digest, digests};
+ghost use Rattle.reg_program.specs.Failing.{IsMaking};
+ghost use Rattle.reg_program.specs.Sample.{sample_records};
 
 use reg_core::{Fault, Policy};
 use reg_crl::DigestSeal;
@@ -24,7 +28,8 @@ const KEY: [u8; 3] = *b"abc";
 /// # Errors
 /// `Memory`, and `Store` where the database fails.
 pub(crate) fn desk_in_memory(alloc: Global) -> Result<Desk<Office<MemStore, DigestSeal>>, Failure>
-    ensures { IfErr result IsMaking }
+    ensures ok { IfOk result (λ desk. Stands over_memory digests desk.office.store digest sample_records) }
+    ensures err { IfErr result IsMaking }
 {
     let Ok(issuer) = Issuer::new(alloc, &NAME, &KEY) else {
         return Err(Failure::Fault(Fault::Memory));

@@ -6,15 +6,17 @@ ghost use Rattle.reg_jobs.specs.declared.failure.Failure.{Failure as Failing};
 ghost use Rattle.reg_program.specs.Ends.{Ends};
 ghost use Rattle.reg_program.specs.Told.{Tells};
 
+use crate::files::FileRegister;
 use crate::jobs::{NewOffice, crl, import_rows, init, schedule, script, script_in_memory};
+use crate::place::Place;
 use crate::serving::serve;
 use crate::telling::tell;
+use reg_faces::Keeper;
 use reg_jobs::{Failure, status_of};
 use reg_words::Job;
 use std::io::{Read, Write};
 
-/// Does a job over standard input and output, and gives its exit status: 0 where it is done; else 1, with its one line
-/// on standard error.
+/// Does a job over standard input and output and the machine's files, as [`perform_at`] says.
 pub fn perform<R: Read, W: Write, E: Write>(
     rt: &HostRuntime,
     job: &Job<'_>,
@@ -22,10 +24,28 @@ pub fn perform<R: Read, W: Write, E: Write>(
     writer: &mut W,
     errors: &mut E,
 ) -> u8
-    ensures { (ending : Result (Unit {0}) Failing) × Ends job.now ending × (result ≡ status ending)
-        × Tells ending (E.contents errors.old) (E.contents errors.new) }
+    ensures { (ending : Result (Unit {0}) Failing)
+        × Ends R.remaining W.contents reader.old reader.new writer.old writer.new ⟦<HostRuntime as Place>⟧ ⟦<FileRegister as Keeper>⟧ job.now ending
+        × (result ≡ status ending) × Tells ending (E.contents errors.old) (E.contents errors.new) }
 {
-    let ending = run(rt, job, reader, writer);
+    perform_at(rt, rt, job, reader, writer, errors)
+}
+
+/// Does a job over standard input and output and the registers of a place, and gives its exit status: 0 where it is done;
+/// else 1, with its one line on standard error.
+pub fn perform_at<P: Place, R: Read, W: Write, E: Write>(
+    rt: &HostRuntime,
+    place: &P,
+    job: &Job<'_>,
+    reader: &mut R,
+    writer: &mut W,
+    errors: &mut E,
+) -> u8
+    ensures { (ending : Result (Unit {0}) Failing)
+        × Ends R.remaining W.contents reader.old reader.new writer.old writer.new P.Place P.Opened.Keeper job.now ending
+        × (result ≡ status ending) × Tells ending (E.contents errors.old) (E.contents errors.new) }
+{
+    let ending = run(rt, place, job, reader, writer);
     match &ending {
         Ok(()) => {}
         Err(failure) => tell(errors, failure),
@@ -34,14 +54,16 @@ pub fn perform<R: Read, W: Write, E: Write>(
 }
 
 /// Does a job.
-fn run<R: Read, W: Write>(
+fn run<P: Place, R: Read, W: Write>(
     rt: &HostRuntime,
+    place: &P,
     job: &Job<'_>,
     reader: &mut R,
     writer: &mut W,
 ) -> Result<(), Failure>
-    ensures { Ends job.now result }
+    ensures { Ends R.remaining W.contents reader.old reader.new writer.old writer.new P.Place P.Opened.Keeper job.now result }
 {
+    let alloc = rt.alloc();
     match job {
         Job::Init {
             file,
@@ -60,17 +82,19 @@ fn run<R: Read, W: Write>(
                 ocsp_life: *ocsp_life,
                 cap: *cap,
             };
-            init(rt, file.as_str(), &new, writer)
+            init(alloc, place, file.as_str(), &new, writer)
         }
-        Job::Script { file: Some(file) } => script(rt, file.as_str(), reader, writer),
-        Job::Script { file: None } => script_in_memory(rt, reader, writer),
-        Job::Import { file, now } => import_rows(rt, file.as_str(), *now, reader, writer),
-        Job::Crl { file, number } => crl(rt, file.as_str(), *number, writer),
+        Job::Script { file: Some(file) } => script(alloc, place, file.as_str(), reader, writer),
+        Job::Script { file: None } => script_in_memory(alloc, reader, writer),
+        Job::Import { file, now } => {
+            import_rows(alloc, place, file.as_str(), *now, reader, writer)
+        }
+        Job::Crl { file, number } => crl(alloc, place, file.as_str(), *number, writer),
         Job::Serve {
             file,
             port,
             requests,
-        } => serve(rt, file.as_str(), *port, *requests, writer),
-        Job::Schedule { file, steps } => schedule(rt, file.as_str(), steps, writer),
+        } => serve(rt, place, file.as_str(), *port, *requests, writer),
+        Job::Schedule { file, steps } => schedule(alloc, place, file.as_str(), steps, writer),
     }
 }

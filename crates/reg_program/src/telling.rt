@@ -1,8 +1,8 @@
 //! What a job says.
 
-ghost use Rattle.std.specs.Prelude.{OnOk, OnErr, IfErr, ◌≡◌, ◌++◌, ◌∷◌, []};
-ghost use Rattle.std.specs.Io.KnownBytes.{Appends};
+ghost use Rattle.std.specs.Prelude.{◌++◌, ◌∷◌, []};
 ghost use Rattle.reg_jobs.specs.Endings.{failure_line};
+ghost use Rattle.reg_program.specs.Ends.{Says};
 ghost use Rattle.reg_program.specs.Told.{IsTold, IsWritten};
 
 use reg_core::Fault;
@@ -15,8 +15,7 @@ use std::io::Write;
 /// # Errors
 /// `Write` where the writer fails, or takes no byte of what is left.
 pub(crate) fn say<W: Write>(writer: &mut W, text: &[u8]) -> Result<(), Failure>
-    ensures ok { OnOk result (Appends (W.contents writer.old) (W.contents writer.new) text.now) }
-    ensures err { IfErr result (λ why. why ≡ Failure.Fault Fault.Write) }
+    ensures { Says text.now (W.contents writer.old) (W.contents writer.new) result }
 {
     match write_whole(writer, text) {
         Ok(()) => Ok(()),

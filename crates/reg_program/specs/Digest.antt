@@ -1,0 +1,12 @@
+-- Who signs for the registers of the program.
+use Rattle.std.specs.Prelude.{◌≡◌, ℕ, List, []}
+use Rattle.sha1.specs.Sha1.{sha1}
+use Rattle.reg_crl.specs.Signing.{Identity, sha1_algorithm}
+
+-- the digest, which stands where there is no key: the AlgorithmIdentifier of SHA-1 (RFC 5280 4.1.1.2), and a key of no bytes
+abbrev pub digest : Identity
+digest = record { algorithm = sha1_algorithm; public_key = [] }
+
+-- its signature of a message: the SHA-1 of it
+abbrev pub digests : Identity → List ℕ → List ℕ → Type 0
+digests identity message signature = signature ≡ sha1 message

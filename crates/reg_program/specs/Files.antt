@@ -1,0 +1,31 @@
+-- What is known of a register in a file.
+use Rattle.std.specs.Prelude.{◌≡◌, ◌≤◌}
+use Rattle.sqlite.specs.Files.{file_state, over_files, IsOpened}
+use Rattle.sqlite.specs.Held.{Held, IsNew}
+use Rattle.sqlite.specs.State.{HasCleanDisk}
+use Rattle.sqlite_disk.specs.declared.Disk as disk
+use Rattle.sqlite_store.specs.declared.store.FileStore.{FileStore}
+use Rattle.sqlite_trees.specs.View.{doubt}
+use Rattle.reg_core.specs.Records.{Records}
+use Rattle.reg_tables.specs.Kept.{ShowsKept}
+use Rattle.reg_tables.specs.Schema.{no_schema}
+
+module _ {D : Type 0} {g : disk.Ghosts D} where
+  -- a connection that is new and in no transaction, to a database that is whole where the disk returned what was written
+  pub record IsConnection (connection : Held (FileStore D g)) : Type 0 where
+    pub fresh : IsNew connection
+    pub whole : HasCleanDisk (file_state connection) → IsOpened connection
+
+  -- what a register holds was opened by a connection, and shows the records that the connection showed
+  pub record IsOpenedFrom (register : Held (FileStore D g)) : Type 0 where
+    pub connection : Held (FileStore D g)
+    pub connects : IsConnection connection
+    pub kept : (records : Records) → ShowsKept over_files connection records → ShowsKept over_files register records
+    pub clean : doubt (file_state connection).is_clean ≤ doubt (file_state register).is_clean
+
+  -- what a register holds was made by a connection to a database with no table, index or view
+  pub record IsMadeFrom (register : Held (FileStore D g)) : Type 0 where
+    pub connection : Held (FileStore D g)
+    pub connects : IsConnection connection
+    pub empty : connection.schema ≡ no_schema
+    pub clean : doubt (file_state connection).is_clean ≤ doubt (file_state register).is_clean

@@ -1,0 +1,42 @@
+-- What a job does at a place where registers lie.
+use Rattle.std.specs.Prelude.{◌≡◌, ◌⊎◌, ℕ, List, Result, Ok, Err}
+use Rattle.reg_core.specs.Records.{Records}
+use Rattle.reg_core.specs.declared.refusal.Fault.{Fault}
+use Rattle.reg_crl.specs.Signing.{Identity}
+use Rattle.reg_faces.specs.Moves.{Moves}
+use Rattle.reg_faces.specs.declared.keeper.Keeper.{Ghosts as Keeper}
+use Rattle.reg_jobs.specs.declared.failure.Failure.{Failure}
+use Rattle.reg_jobs.specs.declared.failure.Failure.TheVariants as failure
+use Rattle.reg_program.specs.Failing.{IsMaking, IsOpening}
+use Rattle.reg_program.specs.declared.place.Place.{Ghosts as Place}
+
+-- how a job ends whose run of a register ended so
+abbrev pub ending_of : Result (Unit {0}) Fault → Result (Unit {0}) Failure
+ending_of (Ok done) = Ok done
+ending_of (Err fault) = Err (failure.Fault fault)
+
+module _ {P K : Type 0} (place : Place P K) (keeper : Keeper K) where
+  -- The register at a path was opened, and closed at the end. The step leads from the records that stood in it, whatever they
+  -- were, to those that stand there afterwards, where the medium has returned all that was written.
+  pub record Visits (path : List ℕ) (step : Identity → Records → Records → Type 0) : Type 0 where
+    pub first : K
+    pub last : K
+    pub opened : place.opened path first
+    pub moves : Moves keeper.is_clean keeper.stands step first last
+    pub closed : place.closed path last
+
+  -- the register at a path could not be opened, and that is how the job ends
+  abbrev pub NotOpened : List ℕ → Result (Unit {0}) Failure → Type 0
+  NotOpened path result = (why : Failure) × (result ≡ Err why) × place.unopened path why × IsOpening why
+
+  -- a register was made at a path, in which these records stood, and it was closed
+  pub record Makes (path : List ℕ) (records : Records) : Type 0 where
+    pub register : K
+    pub identity : Identity
+    pub made : place.made path register
+    pub stands : keeper.stands identity register records
+    pub closed : place.closed path register
+
+  -- no register could be made at a path, and that is how the job ends
+  abbrev pub NotMade : List ℕ → Result (Unit {0}) Failure → Type 0
+  NotMade path result = (why : Failure) × (result ≡ Err why) × place.unmade path why × IsMaking why
