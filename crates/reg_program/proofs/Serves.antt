@@ -1,6 +1,6 @@
 -- Requests served, one after the other, and a text that is said in two parts.
-use Rattle.std.proofs.Common.{◌≡◌, ◌≢◌, ℕ, suc, ◌+◌, ◌<◌, List, ◌++◌, Option, refl, sym, ap, subst, inl, inr}
-use Rattle.std.specs.Prelude.{Result, Ok, Err, IfErr, MatchResult}
+use Rattle.std.proofs.Common.{◌≡◌, ◌≢◌, ℕ, suc, List, ◌++◌, Option, refl, sym, ap, subst}
+use Rattle.std.specs.Prelude.{Result, Ok, Err, IfErr}
 use Rattle.std.specs.Io.KnownBytes.{Appends}
 use Rattle.std.proofs.KnownBytes.{Appends-trans}
 use Rattle.reg_core.specs.Records.{Records}
@@ -14,9 +14,8 @@ use Rattle.reg_faces.specs.Moves.{Moves}
 use Rattle.reg_heads.proofs.Written.{front_of_first, front_of_second}
 use Rattle.reg_http.specs.Served.{Ends}
 use Rattle.reg_jobs.specs.declared.failure.Failure.{Failure}
-use Rattle.reg_jobs.specs.declared.failure.Failure.TheVariants as failure
 use Rattle.reg_program.specs.Ends.{Says}
-use Rattle.reg_program.specs.Serving.{Exchange, Exchanges, Served, listening}
+use Rattle.reg_program.specs.Serving.{Exchange, Exchanges}
 
 module _ {K : Type 0} (is_clean : K → Type 0) (stands : Identity → K → Records → Type 0) (signs : Signs) where
   -- how one request ends, over the records

@@ -6,7 +6,7 @@ ghost use Rattle.reg_core.specs.Records.{no_records};
 ghost use Rattle.reg_crl.specs.Signing.{Identity};
 ghost use Rattle.reg_program.specs.Digest.{digest, digests};
 ghost use Rattle.reg_program.specs.Failing.{IsMaking, IsOpening};
-ghost use Rattle.reg_program.specs.Files.{IsConnection, IsOpenedFrom, IsMadeFrom};
+ghost use Rattle.reg_program.specs.Files.{IsOpenedFrom, IsMadeFrom};
 ghost use Rattle.reg_office.specs.Stands.{Stands};
 
 use crate::place::{Place, Register};
@@ -14,10 +14,11 @@ use reg_core::{Command, Fault, Memory, Moment, Outcome, Policy, Query, Schedule}
 use reg_crl::DigestSeal;
 use reg_der::Issuer;
 use reg_faces::Keeper;
+use reg_files::open_file;
 use reg_jobs::Failure;
 use reg_office::Office;
 use reg_store::{Store, StoreFault};
-use sqlite::{Connection, Error, ErrorCode, FileFrom, FileStore};
+use sqlite::{Connection, FileFrom, FileStore};
 use sqlite_disk::Unknown;
 use std::alloc::Global;
 use std::fs;
@@ -126,10 +127,7 @@ fn make_register(
     ensures stands { IfOk result (λ register. Stands over_files digests register.office.store digest (no_records issuer policy)) }
     ensures err { IfErr result IsMaking }
 {
-    let connection = match connect(rt, path) {
-        Ok(connection) => connection,
-        Err(fault) => return Err(Failure::Fault(fault)),
-    };
+    let connection = open_file(rt, path, Unknown)?;
     match Store::create(connection, issuer, policy) {
         Ok(store) => Ok(FileRegister {
             office: Office::new(store, DigestSeal),
@@ -147,10 +145,7 @@ fn open_register(rt: &HostRuntime, path: &str) -> Result<FileRegister, Failure>
     ensures ok { IfOk result (λ register. IsOpenedFrom register.office.store) }
     ensures err { IfErr result IsOpening }
 {
-    let connection = match connect(rt, path) {
-        Ok(connection) => connection,
-        Err(fault) => return Err(Failure::Fault(fault)),
-    };
+    let connection = open_file(rt, path, Unknown)?;
     match Store::open(connection) {
         Ok(store) => Ok(FileRegister {
             office: Office::new(store, DigestSeal),
@@ -166,18 +161,6 @@ fn open_register(rt: &HostRuntime, path: &str) -> Result<FileRegister, Failure>
 /// Closes a connection. Where its log can't be copied into the file, the next opening reads the log: nothing is lost.
 fn close(connection: FileConnection) {
     drop(connection.close());
-}
-
-/// Opens a file as a database, in no transaction.
-fn connect(rt: &HostRuntime, path: &str) -> Result<FileConnection, Fault>
-    ensures idle { IfOk result (λ connection. connection.in_transaction ≡ false) }
-    ensures connects { IfOk result IsConnection }
-{
-    match Connection::open_from(rt, path, false, Unknown) {
-        Ok(connection) => Ok(connection),
-        Err((Error::SqliteFailure(ErrorCode::OutOfMemory), _)) => Err(Fault::Memory),
-        Err(_) => Err(Fault::Store),
-    }
 }
 
 /// Removes a register's file that could not be made, and its log. What can't be removed stays.

@@ -74,7 +74,7 @@ pub(crate) fn init<P: Place, W: Write>(
     ensures { InitAt W.contents writer.old writer.new P.Place P.Opened.Keeper path.now new.now.name.now new.now.key.now
         (terms_of new.now.days new.now.crl_life new.now.ocsp_life new.now.cap) result }
 {
-    let (issuer, policy) = match office_of(
+    let (issuer, policy) = office_of(
         alloc,
         new.name,
         new.key,
@@ -82,14 +82,8 @@ pub(crate) fn init<P: Place, W: Write>(
         new.crl_life,
         new.ocsp_life,
         new.cap,
-    ) {
-        Ok(office) => office,
-        Err(why) => return Err(why),
-    };
-    let register = match place.make(path, issuer, policy) {
-        Ok(register) => register,
-        Err(why) => return Err(why),
-    };
+    )?;
+    let register = place.make(path, issuer, policy)?;
     place.close(path, register);
     say(writer, b"created\n")
 }
@@ -102,10 +96,7 @@ pub(crate) fn script_in_memory<R: Read, W: Write>(
 ) -> Result<(), Failure>
     ensures { ScriptInMemory R.remaining W.contents reader.old reader.new writer.old writer.new result }
 {
-    let mut desk = match desk_in_memory(alloc) {
-        Ok(desk) => desk,
-        Err(why) => return Err(why),
-    };
+    let mut desk = desk_in_memory(alloc)?;
     let ran = run_script(alloc, reader, writer, &mut desk);
     ended(ran)
 }
@@ -120,10 +111,7 @@ pub(crate) fn script<P: Place, R: Read, W: Write>(
 ) -> Result<(), Failure>
     ensures { ScriptAt R.remaining W.contents reader.old reader.new writer.old writer.new P.Place P.Opened.Keeper path.now result }
 {
-    let mut desk = match open_desk(alloc, place, path) {
-        Ok(desk) => desk,
-        Err(why) => return Err(why),
-    };
+    let mut desk = open_desk(alloc, place, path)?;
     let ran = run_script(alloc, reader, writer, &mut desk);
     close_desk(place, path, desk);
     ended(ran)
@@ -140,10 +128,7 @@ pub(crate) fn import_rows<P: Place, R: Read, W: Write>(
 ) -> Result<(), Failure>
     ensures { ImportAt R.remaining W.contents reader.old reader.new writer.old writer.new P.Place P.Opened.Keeper path.now now result }
 {
-    let mut desk = match open_desk(alloc, place, path) {
-        Ok(desk) => desk,
-        Err(why) => return Err(why),
-    };
+    let mut desk = open_desk(alloc, place, path)?;
     let imported = import(alloc, reader, writer, now, &mut desk);
     close_desk(place, path, desk);
     ended(imported)
@@ -159,10 +144,7 @@ pub(crate) fn crl<P: Place, W: Write>(
 ) -> Result<(), Failure>
     ensures { CrlAt W.contents writer.old writer.new P.Place P.Opened.Keeper path.now number result }
 {
-    let mut register = match place.open(path) {
-        Ok(register) => register,
-        Err(why) => return Err(why),
-    };
+    let mut register = place.open(path)?;
     let given = register.crl_bytes(alloc, number);
     place.close(path, register);
     say_given(writer, given)
@@ -188,14 +170,8 @@ pub(crate) fn schedule<P: Place, W: Write>(
 ) -> Result<(), Failure>
     ensures { ScheduleAt W.contents writer.old writer.new P.Place P.Opened.Keeper path.now steps.now result }
 {
-    let schedule = match schedule_of(steps) {
-        Ok(schedule) => schedule,
-        Err(why) => return Err(why),
-    };
-    let mut register = match place.open(path) {
-        Ok(register) => register,
-        Err(why) => return Err(why),
-    };
+    let schedule = schedule_of(steps)?;
+    let mut register = place.open(path)?;
     let set = register.set_schedule(alloc, schedule);
     place.close(path, register);
     tell_set(writer, set)

@@ -28,10 +28,7 @@ pub(crate) fn serve<P: Place, W: Write>(
 ) -> Result<(), Failure>
     ensures { ServeAt W.contents writer.old writer.new P.Place P.Opened.Keeper path.now port requests result }
 {
-    let mut desk = match open_desk(rt.alloc(), place, path) {
-        Ok(desk) => desk,
-        Err(why) => return Err(why),
-    };
+    let mut desk = open_desk(rt.alloc(), place, path)?;
     let served = serve_desk(rt, &mut desk, port, requests, writer);
     close_desk(place, path, desk);
     served

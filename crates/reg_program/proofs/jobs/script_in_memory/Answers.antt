@@ -6,5 +6,5 @@ use Rattle.reg_program.proofs.jobs.script_in_memory.Goals as goal
 
 pub returns : goal.returns
 returns g c =
-    let (after, ran, stands) = c.run_script-ran.ensures.1 digest sample_records (refl, c.in-Ok.ensures.ok) (always_clean c.run_script-ran.new.desk.office.store) in
+    let (after, ran, stands) = c.run_script-ran.ensures.1 digest sample_records (refl, c.in_ok-desk.ensures.ok) (always_clean c.run_script-ran.new.desk.office.store) in
     inr (c.run_script-ran.result, c.ended.ensures, (after, ran))

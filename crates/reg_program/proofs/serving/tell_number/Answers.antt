@@ -1,4 +1,4 @@
-use Rattle.std.proofs.Common.{◌≡◌, ◌∙◌, ◌∷◌, [], ap, decimal}
+use Rattle.std.proofs.Common.{◌∙◌, ◌∷◌, [], ap, decimal}
 use Rattle.reg_program.proofs.Serves.{says_then}
 use Rattle.reg_program.proofs.serving.tell_number.Goals as goal
 
