@@ -1,5 +1,4 @@
-use Rattle.std.proofs.Common.{◌≡◌, ◌∙◌, List, ℕ, subst}
-use Rattle.std.specs.Io.KnownBytes.{Appends}
+use Rattle.std.proofs.Common.{◌∙◌}
 use Rattle.reg_program.proofs.Fates.{told}
 use Rattle.reg_program.proofs.telling.tell.Goals as goal
 
