@@ -1,13 +1,14 @@
--- What a register's fault is as the end of a job, and a line that is told in two writes.
-use Rattle.std.proofs.Common.{◌≡◌, ◌≢◌, ◌⊎◌, ℕ, List, [], ◌∷◌, Option, refl, sym, subst, inl, inr}
+-- What a register's fault is as the end of a job, and a text that is told in two writes.
+use Rattle.std.proofs.Common.{◌≡◌, ◌≢◌, ◌⊎◌, ℕ, List, [], ◌∷◌, ◌++◌, Option, Result, Ok, Err, refl, sym, subst, inl, inr}
 use Rattle.std.specs.Io.KnownBytes.{Appends}
 use Rattle.std.proofs.KnownBytes.{Appends-trans}
-use Rattle.reg_heads.proofs.Written.{front_of_second}
+use Rattle.reg_heads.proofs.Written.{front_of_first, front_of_second}
 use Rattle.reg_jobs.specs.Endings.{store_failure}
 use Rattle.reg_jobs.specs.declared.failure.Failure.{Failure}
 use Rattle.reg_tables.specs.Stays.{IsCallFault}
 use Rattle.reg_tables.specs.declared.fault.StoreFault.{StoreFault}
 use Rattle.reg_tables.specs.declared.fault.StoreFault.TheVariants as stored
+use Rattle.reg_program.specs.Ends.{Says}
 use Rattle.reg_program.specs.Failing.{IsMaking, IsOpening}
 use Rattle.reg_program.specs.Told.{IsTold, IsWritten}
 
@@ -37,6 +38,18 @@ unmade fault why is which =
     ])
 
 -- a line, and then its end
-pub told : (old middle new : Option (List ℕ)) (line : List ℕ) → Appends old middle line → IsWritten middle new (10 ∷ []) → IsTold old new line
+pub told : (old middle new : Option (List ℕ)) (line : List ℕ) → Appends old middle line → IsWritten middle new (10 ∷ [])
+    → IsTold old new line
 told old middle new line first (inl second) = inl (Appends-trans old middle new line (10 ∷ []) first second)
 told old middle new line first (inr front) = inr (front_of_second old middle new line (10 ∷ []) first front)
+
+-- a second part is said, after the first
+pub says_then : (head body : List ℕ) (old middle new : Option (List ℕ)) (result : Result (Unit {0}) Failure)
+    → Appends old middle head → Says body middle new result → Says (head ++ body) old new result
+says_then head body old middle new (Ok done) first second = Appends-trans old middle new head body first second
+says_then head body old middle new (Err why) first second = (second.0, front_of_second old middle new head body first second.1)
+
+-- the first part is not said whole
+pub says_not : (head body : List ℕ) (old new : Option (List ℕ)) (why : Failure) → Says head old new (Err why)
+    → Says (head ++ body) old new (Err why)
+says_not head body old new why first = (first.0, front_of_first old new head body first.1)

@@ -1,5 +1,4 @@
 pub mod Clean
 pub mod Fates
 pub mod Opened
-pub mod Serves
 pub mod Setting

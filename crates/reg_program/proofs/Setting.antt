@@ -16,12 +16,15 @@ use Rattle.reg_program.specs.Schedules.{Reschedules}
 use Rattle.reg_tables.specs.Stays.{Stays}
 use Rattle.reg_tables.specs.declared.fault.StoreFault.{StoreFault}
 
+-- the steps of a schedule, set or not
 pub schedule_moves :
-    {C : Type 0} (g : Ghosts C) (signs : Signs) (who : Identity) (old new : Held C) (steps : List (ℕ × ℕ)) (result : Result (Unit {0}) StoreFault)
+    {C : Type 0} (g : Ghosts C) (signs : Signs) (who : Identity) (old new : Held C) (steps : List (ℕ × ℕ))
+    (result : Result (Unit {0}) StoreFault)
     → doubt (state g old).is_clean ≤ doubt (state g new).is_clean
     → ((records : Records) → Stands g signs old who records → OnOk result (Stands g signs new who (with_schedule records steps)))
     → OnErr result (Stays (state g old) (state g new))
-    → Moves (λ held. HasCleanDisk (state g held)) (λ identity held records. (who ≡ identity) × Stands g signs held identity records) (λ identity. Reschedules steps result) old new
+    → Moves (λ held. HasCleanDisk (state g held)) (λ identity held records. (who ≡ identity) × Stands g signs held identity records)
+    (λ identity. Reschedules steps result) old new
 schedule_moves g signs who old new steps (Ok done) forgets ok err = (
   was_clean (state g old) (state g new) forgets,
   (λ identity before stood clean.

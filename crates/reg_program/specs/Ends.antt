@@ -51,14 +51,16 @@ module _ {W P K : Type 0} (contents : W → Option (List ℕ)) (writer writer' :
   abbrev pub CrlAt : List ℕ → Option ℕ → Result (Unit {0}) Failure → Type 0
   CrlAt path number result =
       (NotOpened place keeper path result × (writer' ≡ writer))
-      ⊎ ((given : Result (List ℕ) Fault) × Visits place keeper path (λ identity before after. Crls before number given after) × SaysGiven contents writer writer' given result)
+      ⊎ ((given : Result (List ℕ) Fault) × Visits place keeper path (λ identity before after. Crls before number given after)
+      × SaysGiven contents writer writer' given result)
 
   -- another schedule for the register at a path: its steps are looked at before the path is
   abbrev pub ScheduleAt : List ℕ → List (ℕ × ℕ) → Result (Unit {0}) Failure → Type 0
   ScheduleAt path steps result =
       ((why : Failure) × (result ≡ Err why) × IsNoSchedule steps why × (writer' ≡ writer))
       ⊎ (IsSchedule steps × ((NotOpened place keeper path result × (writer' ≡ writer))
-      ⊎ ((set : Result (Unit {0}) StoreFault) × Visits place keeper path (λ identity. Reschedules steps set) × TellsSet contents writer writer' set result)))
+      ⊎ ((set : Result (Unit {0}) StoreFault) × Visits place keeper path (λ identity. Reschedules steps set)
+      × TellsSet contents writer writer' set result)))
 
   -- a new register at a path: its issuer and its policy are looked at before the path is, and it begins with no records
   abbrev pub InitAt : List ℕ → List ℕ → List ℕ → Terms → Result (Unit {0}) Failure → Type 0
@@ -71,7 +73,8 @@ module _ {W P K : Type 0} (contents : W → Option (List ℕ)) (writer writer' :
   abbrev pub ServeAt : List ℕ → ℕ → ℕ → Result (Unit {0}) Failure → Type 0
   ServeAt path port requests result =
       (NotOpened place keeper path result × (writer' ≡ writer))
-      ⊎ ((count : ℕ) × Visits place keeper path (Exchanges keeper.signs count) × Served port requests count (contents writer) (contents writer') result)
+      ⊎ ((count : ℕ) × Visits place keeper path (Exchanges keeper.signs count)
+      × Served port requests count (contents writer) (contents writer') result)
 
 -- A job over what is read and what is written: the reader and the writer before it and after it.
 module _ {E W : Type 0} (remaining : E → Option (List ℕ)) (contents : W → Option (List ℕ)) (reader reader' : E) (writer writer' : W) where

@@ -1,14 +1,21 @@
 //! The jobs but `serve`.
 
 ghost use Rattle.std.specs.Prelude.{◌≡◌, Result, IfOk, IfErr};
+ghost use Rattle.sqlite.specs.Steps.{over_memory};
+ghost use Rattle.reg_core.specs.Records.{Records};
+ghost use Rattle.reg_faces.specs.Kept.{Lines};
 ghost use Rattle.reg_http.specs.Office.{bytes_of};
 ghost use Rattle.reg_jobs.specs.Checks.{terms_of};
+ghost use Rattle.reg_lines.specs.Script.{ScriptEnds};
+ghost use Rattle.reg_office.specs.Stands.{Stands};
+ghost use Rattle.reg_program.specs.Digest.{digest, digests};
 ghost use Rattle.reg_program.specs.Ends.{CrlAt, ImportAt, InitAt, SaysGiven, ScheduleAt, ScriptAt, ScriptInMemory, TellsSet};
 ghost use Rattle.reg_program.specs.Failing.{IsOpening};
+ghost use Rattle.reg_program.specs.Sample.{sample_records};
 ghost use Rattle.reg_program.specs.Visits.{ending_of};
 ghost use Rattle.reg_tables.specs.Stays.{IsCallFault};
 
-use crate::memory::desk_in_memory;
+use crate::memory::{MemoryDesk, desk_in_memory};
 use crate::place::{Place, Register};
 use crate::telling::say;
 use reg_core::{Fault, Moment};
@@ -96,9 +103,23 @@ pub(crate) fn script_in_memory<R: Read, W: Write>(
 ) -> Result<(), Failure>
     ensures { ScriptInMemory R.remaining W.contents reader.old reader.new writer.old writer.new result }
 {
-    let mut desk = desk_in_memory(alloc)?;
-    let ran = run_script(alloc, reader, writer, &mut desk);
+    let mut fresh = desk_in_memory(alloc)?;
+    let ran = run_in_memory(alloc, reader, writer, &mut fresh);
     ended(ran)
+}
+
+/// Runs the script of standard input over a register in memory that has the sample's records.
+fn run_in_memory<R: Read, W: Write>(
+    alloc: Global,
+    reader: &mut R,
+    writer: &mut W,
+    desk: &mut MemoryDesk,
+) -> Result<(), Fault>
+    requires { Stands over_memory digests desk.old.office.store digest sample_records }
+    ensures { (after : Records) × ScriptEnds (Lines digests digest) R.remaining W.contents sample_records after
+        reader.old reader.new writer.old writer.new result }
+{
+    run_script(alloc, reader, writer, desk)
 }
 
 /// Runs the script of standard input over the register at a path.
@@ -111,9 +132,9 @@ pub(crate) fn script<P: Place, R: Read, W: Write>(
 ) -> Result<(), Failure>
     ensures { ScriptAt R.remaining W.contents reader.old reader.new writer.old writer.new P.Place P.Opened.Keeper path.now result }
 {
-    let mut desk = open_desk(alloc, place, path)?;
-    let ran = run_script(alloc, reader, writer, &mut desk);
-    close_desk(place, path, desk);
+    let mut opened = open_desk(alloc, place, path)?;
+    let ran = run_script(alloc, reader, writer, &mut opened);
+    close_desk(place, path, opened);
     ended(ran)
 }
 

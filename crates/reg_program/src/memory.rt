@@ -23,11 +23,14 @@ const NAME: [u8; 15] = *b"\x30\x0D\x31\x0B\x30\x09\x06\x03\x55\x04\x03\x0C\x02CA
 /// The bytes of the sample issuer's public key.
 const KEY: [u8; 3] = *b"abc";
 
+/// The desk of a register in memory, with the digest as its signer.
+pub(crate) type MemoryDesk = Desk<Office<MemStore, DigestSeal>>;
+
 /// The desk of a new register in memory, of a sample issuer and under the usual policy.
 ///
 /// # Errors
 /// `Memory`, and `Store` where the database fails.
-pub(crate) fn desk_in_memory(alloc: Global) -> Result<Desk<Office<MemStore, DigestSeal>>, Failure>
+pub(crate) fn desk_in_memory(alloc: Global) -> Result<MemoryDesk, Failure>
     ensures ok { IfOk result (λ desk. Stands over_memory digests desk.office.store digest sample_records) }
     ensures err { IfErr result IsMaking }
 {

@@ -25,7 +25,8 @@ pub fn perform<R: Read, W: Write, E: Write>(
     errors: &mut E,
 ) -> u8
     ensures { (ending : Result (Unit {0}) Failing)
-        × Ends R.remaining W.contents reader.old reader.new writer.old writer.new ⟦<HostRuntime as Place>⟧ ⟦<FileRegister as Keeper>⟧ job.now ending
+        × Ends R.remaining W.contents reader.old reader.new writer.old writer.new
+        ⟦<HostRuntime as Place>⟧ ⟦<FileRegister as Keeper>⟧ job.now ending
         × (result ≡ status ending) × Tells ending (E.contents errors.old) (E.contents errors.new) }
 {
     perform_at(rt, rt, job, reader, writer, errors)

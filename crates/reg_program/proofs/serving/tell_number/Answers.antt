@@ -1,5 +1,5 @@
 use Rattle.std.proofs.Common.{◌∙◌, ◌∷◌, [], ap, decimal}
-use Rattle.reg_program.proofs.Serves.{says_then}
+use Rattle.reg_program.proofs.Fates.{says_then}
 use Rattle.reg_program.proofs.serving.tell_number.Goals as goal
 
 pub returns-in-Ok : goal.returns-in-Ok

@@ -1,5 +1,5 @@
 use Rattle.std.proofs.Common.{◌++◌, ◌∷◌, [], codes, decimal}
-use Rattle.reg_program.proofs.Serves.{says_then, says_not}
+use Rattle.reg_program.proofs.Fates.{says_then, says_not}
 use Rattle.reg_program.proofs.serving.tell_port.Goals as goal
 
 pub returns-in-Ok : goal.returns-in-Ok
