@@ -1,7 +1,8 @@
 #!/usr/bin/env bash
-# tools/refused-memory.sh CRATE: runs a crate's tests with the Nth allocation refused, for N = 1, 2 and so on, until a run
-# meets no refusal. The tests called `refused_..` must pass in each: they call what takes memory, and find the whole answer, or
-# `Memory` with every buffer as it was. Other tests may stop at a refusal, by their own `?`.
+# tools/refused-memory.sh CRATE: runs a crate's tests, as those of der_examples or crl_examples, with the Nth allocation of each
+# test refused, for N = 1, 2 and so on, until no test meets a refusal. The tests called `refused_..` must pass in each: they call
+# what takes memory, and find the whole answer, or `Memory` with every buffer as it was. Other tests may stop at a refusal, by
+# their own `?`. The libraries below the crate are proved first, where they are not built yet.
 set -euo pipefail
 top=$(cd "$(dirname "$0")/.." && pwd)
 crate=${1:?usage: tools/refused-memory.sh CRATE}

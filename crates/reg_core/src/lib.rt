@@ -35,6 +35,3 @@ pub use schedule::Schedule;
 pub use serial::Serial;
 pub use signed::SignsCrls;
 pub use status::{due_of, status_of};
-
-#[cfg(test)]
-mod tests;

@@ -256,6 +256,3 @@ fn append(out: &mut Vec<u8>, bytes: &[u8]) -> Result<(), Memory>
 {
     out.extend_from_slice(bytes).map_err(|_| Memory)
 }
-
-#[cfg(test)]
-mod tests;

@@ -10,6 +10,3 @@ mod writing;
 pub use issuer::{Issuer, IssuerFault};
 pub use reading::{Tlv, take};
 pub use writing::{put, put_bits, put_general, put_number, put_serial, put_utc_or_general};
-
-#[cfg(test)]
-mod tests;

@@ -14,6 +14,3 @@ pub use office::Answers;
 pub use reply::ReplyText;
 pub use rows::{MOST_BYTES, import};
 pub use script::{LONGEST_LINE, MOST_LINES, run_script};
-
-#[cfg(test)]
-mod tests;

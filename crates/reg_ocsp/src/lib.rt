@@ -16,6 +16,3 @@ pub use fault::AskFault;
 pub use matching::matches;
 pub use reading::read_request;
 pub use response::{RefusalStatus, basic, refusal, response_data};
-
-#[cfg(test)]
-mod tests;

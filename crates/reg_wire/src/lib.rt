@@ -4,8 +4,6 @@
 
 mod fill;
 mod put;
-#[cfg(test)]
-mod tests;
 
 pub use fill::{Reached, ReadFault, fill_to_mark, fill_whole};
 pub use put::{WriteFault, write_whole};

@@ -10,6 +10,3 @@ mod word;
 pub use job::{Job, Usage};
 pub use reading::read_words;
 pub use word::{Steps, Word};
-
-#[cfg(test)]
-mod tests;

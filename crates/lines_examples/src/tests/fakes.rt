@@ -2,10 +2,10 @@
 
 ghost use Rattle.std.specs.Prelude.{ℕ};
 
-use crate::office::Answers;
 use reg_core::{
     Command, Counts, Fault, Listing, Memory, Moment, Outcome, Query, Refusal, Reply, Status,
 };
+use reg_lines::Answers;
 use std::alloc::Global;
 use std::io;
 use std::io::{Read, Write};

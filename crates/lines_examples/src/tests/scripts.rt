@@ -1,8 +1,8 @@
 //! Scripts: their limits, and readers and writers of all kinds.
 
-use crate::script::run_script;
 use crate::tests::fakes::{Repeats, Tally, Trouble, office, reader_of, writer_of};
 use reg_core::Fault;
+use reg_lines::run_script;
 use std::test::Fail;
 
 /// Lines with their ends, the reply of each, and how many commands ran by then.

@@ -1,11 +1,10 @@
 //! Lines that are read and lines that are not; the line of each reply.
 
-use crate::line::{Line, read_line};
-use crate::reply::ReplyText;
 use reg_core::{
     Command, Counts, Fault, Label, Listing, Moment, Outcome, Overdue, Query, Refusal, Reply,
     Serial, Status,
 };
+use reg_lines::{Line, ReplyText, read_line};
 use std::test::Fail;
 
 /// 2026-01-01T00:00:00Z.

@@ -1,7 +1,10 @@
 //! Values, times and issuers by hand: X.690, RFC 5280, and SHA-1 digests by coreutils' sha1sum.
 
-use super::*;
 use reg_core::{Memory, Moment, Serial};
+use reg_der::{
+    Issuer, IssuerFault, put, put_bits, put_general, put_number, put_serial, put_utc_or_general,
+    take,
+};
 use std::alloc::{AllocError, Global};
 use std::process::Abort;
 use std::test::Fail;

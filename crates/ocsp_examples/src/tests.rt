@@ -2,9 +2,11 @@
 
 ghost use Rattle.std.specs.Prelude.{◌≡◌, ◌<◌, IfOk, length, map};
 
-use super::*;
 use reg_core::{Moment, Serial, Status};
 use reg_der::{Issuer, put};
+use reg_ocsp::{
+    AskFault, CertId, RefusalStatus, basic, laws, matches, read_request, refusal, response_data,
+};
 use std::alloc::Global;
 use std::process::Abort;
 use std::test::Fail;
@@ -116,7 +118,7 @@ fn answers<'a>(
 }
 
 /// The ResponseData that answers the request.
-#[tactic(auto, using(crate::proofs::Answering::answered_sum, crate::proofs::Answering::answered_count))]
+#[tactic(auto, using(reg_ocsp::proofs::Answering::answered_sum, reg_ocsp::proofs::Answering::answered_count))]
 fn answer(alloc: Global, request: &[u8], status: Status) -> Result<Vec<u8>, Fail> {
     let issuer = issuer(alloc)?;
     let now = Moment::of_secs(NOW_SECONDS).ok_or("a moment")?;

@@ -1,6 +1,6 @@
 use Rattle.std.proofs.Common.{◌≡◌, take}
 use Rattle.reg_ocsp.proofs.Answering.{answered}
-use Rattle.reg_ocsp.proofs.tests.answers.Given as goal
+use Rattle.ocsp_examples.proofs.tests.answers.Given as goal
 
 abbrev pub invariant-loop-id : goal.invariant-loop-id
 invariant-loop-id l = answered l.answers.items ≡ take l.id-index l.ids

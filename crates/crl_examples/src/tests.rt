@@ -4,11 +4,10 @@ ghost use Rattle.std.specs.Prelude.{◌<◌, ◌≤◌, ◌↔◌, length, IsTru
 ghost use Rattle.reg_core.specs.Crls.{EntriesAscend};
 ghost use Rattle.reg_crl.specs.Signing.{signed_by};
 
-use super::*;
-use crate::seal::DigestSeal;
-use crate::signer::{SignFault, Signer};
-use reg_core::Serial;
-use reg_der::IssuerFault;
+use reg_core::{Entry, Memory, Moment, Serial};
+use reg_crl::{DigestSeal, SignFault, Signer, crl_tbs, crl_whole};
+use reg_der::{Issuer, IssuerFault, take};
+use std::alloc::Global;
 use std::process::Abort;
 use std::test::Fail;
 
@@ -79,6 +78,33 @@ fn moment(seconds: u64) -> Result<Moment, Fail> {
 
 fn serial(text: &[u8]) -> Result<Serial, Fail> {
     Ok(Serial::read(text).ok_or("a serial number")?)
+}
+
+/// What follows the first values of the bytes, as many as this.
+fn after(bytes: &[u8], values: usize) -> Option<&[u8]> {
+    let mut rest = bytes;
+    for _ in 0..values {
+        rest = take(rest)?.1;
+    }
+    Some(rest)
+}
+
+/// The contents of a value of the bytes, behind as many values as this.
+fn contents_after(bytes: &[u8], values: usize) -> Option<&[u8]> {
+    Some(take(after(bytes, values)?)?.0.contents)
+}
+
+/// The entries of a TBSCertList that has some: version, signature, issuer, thisUpdate and nextUpdate stand before them.
+fn entries_of(tbs: &[u8]) -> Option<&[u8]> {
+    contents_after(contents_after(tbs, 0)?, 5)
+}
+
+/// The extensions of a TBSCertList without entries, but for the first, the authority key identifier.
+fn last_extension_of(tbs: &[u8]) -> Option<&[u8]> {
+    after(
+        contents_after(contents_after(contents_after(tbs, 0)?, 5)?, 0)?,
+        1,
+    )
 }
 
 fn is_below(first: Serial, second: Serial) -> bool
@@ -234,16 +260,24 @@ fn entries_of_each_reason(rt: HostRuntime) -> Result<(), Fail> {
             b"\x30\x33\x02\x14\x7F\xFF\xFF\xFF\xFF\xFF\xFF\xFF\xFF\xFF\xFF\xFF\xFF\xFF\xFF\xFF\xFF\xFF\xFF\xFF\x17\x0D260102000000Z\x30\x0C\x30\x0A\x06\x03\x55\x1D\x15\x04\x03\x0A\x01\x09".as_slice(),
         ),
     ];
-    let mut buffer = Vec::new(rt.alloc());
+    let issuer = issuer(rt.alloc())?;
+    let (this_update, next_update) = (moment(DAY_2)?, moment(DAY_10)?);
     for (number, seconds, reason, want) in table {
         let entry = Entry {
             serial: serial(number.as_bytes())?,
             at: moment(seconds)?,
             reason,
         };
-        let mut out = Vec::new(rt.alloc());
-        put_revoked_certificate(&mut out, &mut buffer, entry)?;
-        assert_eq!(rt; out.as_slice(), want, "{number} {reason}");
+        let tbs = crl_tbs(
+            rt.alloc(),
+            &issuer,
+            &SHA1,
+            1,
+            this_update,
+            next_update,
+            &[entry],
+        )?;
+        assert_eq!(rt; entries_of(&tbs), Some(want), "{number} {reason}");
     }
     Ok(())
 }
@@ -272,10 +306,19 @@ fn crl_numbers(rt: HostRuntime) -> Result<(), Fail> {
             b"\x30\x12\x06\x03\x55\x1D\x14\x04\x0B\x02\x09\x00\x80\x00\x00\x00\x00\x00\x00\x00".as_slice(),
         ),
     ];
+    let issuer = issuer(rt.alloc())?;
+    let (this_update, next_update) = (moment(DAY_1)?, moment(DAY_9)?);
     for (number, want) in table {
-        let mut out = Vec::new(rt.alloc());
-        put_crl_number(&mut out, rt.alloc(), number)?;
-        assert_eq!(rt; out.as_slice(), want, "{number}");
+        let tbs = crl_tbs(
+            rt.alloc(),
+            &issuer,
+            &SHA1,
+            number,
+            this_update,
+            next_update,
+            &[],
+        )?;
+        assert_eq!(rt; last_extension_of(&tbs), Some(want), "{number}");
     }
     Ok(())
 }

@@ -1,8 +1,8 @@
 //! Imports.
 
-use crate::rows::import;
 use crate::tests::fakes::{Repeats, Tally, Trouble, office, reader_of, writer_of};
 use reg_core::{Fault, Moment};
+use reg_lines::import;
 use std::test::Fail;
 
 /// A header and three rows.

@@ -1,7 +1,7 @@
 //! Command lines, and what they say.
 
-use crate::{Job, Usage, read_words};
 use reg_core::Moment;
+use reg_words::{Job, Usage, read_words};
 use std::test::Fail;
 
 /// Which of its outcomes a command line has.

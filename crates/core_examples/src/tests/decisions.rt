@@ -3,7 +3,11 @@
 ghost use Rattle.std.specs.Prelude.{ℕ, ◌<◌, IfOk};
 ghost use Rattle.reg_core.specs.Calendar.{clock_end};
 
-use crate::*;
+use reg_core::{
+    CertRow, CrlRow, Fault, Ground, Head, Label, Moment, OrderRow, Policy, Refusal, RequestRow,
+    RevocationRow, Serial, Status, SubscriberRow, clock, decide_crl, decide_decline, decide_order,
+    decide_register, decide_request, decide_revoke, decide_subscriber, due_of, status_of,
+};
 use std::test::Fail;
 
 /// 2026-01-01T00:00:00Z.

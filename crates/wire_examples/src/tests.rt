@@ -1,4 +1,6 @@
-use crate::{Reached, ReadFault, WriteFault, fill_to_mark, fill_whole, write_whole};
+//! Readers and writers of all kinds, and those that fail.
+
+use reg_wire::{Reached, ReadFault, WriteFault, fill_to_mark, fill_whole, write_whole};
 use std::io;
 use std::io::{Read, Write};
 use std::test::*;
