@@ -1,10 +1,21 @@
 -- Which failures a register may come to.
+use Rattle.reg_core.specs.declared.refusal.Fault.{Fault}
+use Rattle.reg_core.specs.declared.refusal.Fault.TheVariants.{Refused, Memory, Store, Signer, Read, Write}
 use Rattle.reg_jobs.specs.declared.failure.Failure.{Failure}
 use Rattle.reg_jobs.specs.declared.failure.Failure.TheVariants as failure
 
--- of one that is made: a fault, or a file that has tables already
+-- want of memory, or a failure of the store
+abbrev pub IsOfStore : Fault → Type 0
+IsOfStore Memory = Unit {0}
+IsOfStore Store = Unit {0}
+IsOfStore (Refused why) = ⊥
+IsOfStore Signer = ⊥
+IsOfStore Read = ⊥
+IsOfStore Write = ⊥
+
+-- of one that is made: such a fault, or a file that has tables already
 abbrev pub IsMaking : Failure → Type 0
-IsMaking (failure.Fault fault) = Unit {0}
+IsMaking (failure.Fault fault) = IsOfStore fault
 IsMaking failure.NotEmpty = Unit {0}
 IsMaking failure.NotARegister = ⊥
 IsMaking failure.OldVersion = ⊥
@@ -12,9 +23,9 @@ IsMaking failure.NewVersion = ⊥
 IsMaking failure.BadIssuer = ⊥
 IsMaking failure.BadPolicy = ⊥
 
--- of one that is opened: a fault, or a file that holds no register of this version
+-- of one that is opened: such a fault, or a file that holds no register of this version
 abbrev pub IsOpening : Failure → Type 0
-IsOpening (failure.Fault fault) = Unit {0}
+IsOpening (failure.Fault fault) = IsOfStore fault
 IsOpening failure.NotEmpty = ⊥
 IsOpening failure.NotARegister = Unit {0}
 IsOpening failure.OldVersion = Unit {0}
