@@ -88,12 +88,16 @@ fn measure_memory(rt: HostRuntime, what: &str, certs: &str, count: u64) -> io::R
 
 fn main(rt: HostRuntime) -> io::Result<()> {
     let mut words = env::args(&rt)?.skip(1);
-    let (Some(what), Some(place), Some(object), Some(count)) = (
-        words.next(),
-        words.next(),
-        words.next(),
-        words.next(),
-    ) else {
+    let Some(what) = words.next() else {
+        return Ok(());
+    };
+    let Some(place) = words.next() else {
+        return Ok(());
+    };
+    let Some(object) = words.next() else {
+        return Ok(());
+    };
+    let Some(count) = words.next() else {
         return Ok(());
     };
     let Ok(count) = count.as_str().parse::<u64>() else {
