@@ -26,7 +26,7 @@ pub enum Change {
 }
 
 /// Makes the change: the one with this number, from 1 on, of a round.
-pub fn make_change<S: Alter>(
+pub(crate) fn make_change<S: Alter>(
     store: &mut Store<S>,
     call: Change,
     sizes: &Sizes,
@@ -61,7 +61,7 @@ fn latest(rows: u64, sizes: &Sizes, number: u64) -> u64 {
 }
 
 /// Adds the subscriber with an id.
-pub fn add_subscriber<S: Alter>(
+pub(crate) fn add_subscriber<S: Alter>(
     store: &mut Store<S>,
     now: Moment,
     id: u64,
@@ -71,7 +71,11 @@ pub fn add_subscriber<S: Alter>(
 }
 
 /// Adds the order with an id.
-pub fn add_order<S: Alter>(store: &mut Store<S>, now: Moment, id: u64) -> Result<(), StoreFault> {
+pub(crate) fn add_order<S: Alter>(
+    store: &mut Store<S>,
+    now: Moment,
+    id: u64,
+) -> Result<(), StoreFault> {
     let row = OrderRow {
         id,
         subscriber: 1,
@@ -81,7 +85,11 @@ pub fn add_order<S: Alter>(store: &mut Store<S>, now: Moment, id: u64) -> Result
 }
 
 /// Adds the certificate of a place, which fills the order with that id.
-pub fn add_cert<S: Alter>(store: &mut Store<S>, now: Moment, place: u64) -> Result<(), StoreFault> {
+pub(crate) fn add_cert<S: Alter>(
+    store: &mut Store<S>,
+    now: Moment,
+    place: u64,
+) -> Result<(), StoreFault> {
     let row = CertRow {
         serial: serial_of(place)?,
         order: place,
@@ -92,7 +100,7 @@ pub fn add_cert<S: Alter>(store: &mut Store<S>, now: Moment, place: u64) -> Resu
 }
 
 /// Adds the request with an id, for the certificate of a place.
-pub fn add_request<S: Alter>(
+pub(crate) fn add_request<S: Alter>(
     store: &mut Store<S>,
     now: Moment,
     id: u64,
@@ -109,7 +117,7 @@ pub fn add_request<S: Alter>(
 }
 
 /// Adds the revocation that a request asks for, of the certificate of a place.
-pub fn add_revocation<S: Alter>(
+pub(crate) fn add_revocation<S: Alter>(
     store: &mut Store<S>,
     now: Moment,
     request: u64,
@@ -127,7 +135,11 @@ pub fn add_revocation<S: Alter>(
 }
 
 /// Adds the CRL with a number, of a thousand bytes.
-pub fn add_crl<S: Alter>(store: &mut Store<S>, now: Moment, number: u64) -> Result<(), StoreFault> {
+pub(crate) fn add_crl<S: Alter>(
+    store: &mut Store<S>,
+    now: Moment,
+    number: u64,
+) -> Result<(), StoreFault> {
     let row = CrlRow {
         number,
         this_update: now,

@@ -140,7 +140,7 @@ fn measure_kinds<C: Alter>(
 }
 
 /// Measures so many of each kind.
-pub fn run_round<C: Alter>(
+pub(crate) fn run_round<C: Alter>(
     rt: HostRuntime,
     office: &mut Office<C, DigestSeal>,
     count: u64,
@@ -156,7 +156,7 @@ pub fn run_round<C: Alter>(
 }
 
 /// Enters a subscriber, so many orders, and the certificates that fill them, in an empty register.
-pub fn fill_office<C: Alter>(
+pub(crate) fn fill_office<C: Alter>(
     rt: HostRuntime,
     office: &mut Office<C, DigestSeal>,
     certs: u64,

@@ -8,7 +8,7 @@ use sqlite::Alter;
 
 /// Enters so many certificates, each with a subscriber and an order of its own; then a request for each fifth, a
 /// revocation for each tenth, and a CRL.
-pub fn fill_store<S: Alter>(store: &mut Store<S>, certs: u64) -> Result<(), StoreFault> {
+pub(crate) fn fill_store<S: Alter>(store: &mut Store<S>, certs: u64) -> Result<(), StoreFault> {
     let now = first_moment()?;
     for place in 1..=certs {
         add_subscriber(store, now, place)?;

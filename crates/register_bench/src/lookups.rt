@@ -43,7 +43,7 @@ pub enum Walk {
 }
 
 /// Makes the look-up once.
-pub fn find_single<S: Alter>(
+pub(crate) fn find_single<S: Alter>(
     store: &mut Store<S>,
     call: Single,
     sizes: &Sizes,
@@ -60,7 +60,7 @@ pub fn find_single<S: Alter>(
 }
 
 /// Makes the look-up of one key, another for each number, and answers whether it found a row.
-pub fn find_keyed<S: Alter>(
+pub(crate) fn find_keyed<S: Alter>(
     store: &mut Store<S>,
     call: Keyed,
     sizes: &Sizes,
@@ -90,7 +90,7 @@ pub fn find_keyed<S: Alter>(
 }
 
 /// Makes the look-up once.
-pub fn find_by_walk<S: Alter>(
+pub(crate) fn find_by_walk<S: Alter>(
     store: &mut Store<S>,
     call: Walk,
     sizes: &Sizes,

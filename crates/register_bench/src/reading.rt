@@ -37,7 +37,7 @@ fn measure_crl<C: Alter>(rt: HostRuntime, office: &mut Office<C, DigestSeal>) ->
 }
 
 /// Issues CRLs, and prints the times of each.
-pub fn issue_all<C: Alter>(
+pub(crate) fn issue_all<C: Alter>(
     rt: HostRuntime,
     office: &mut Office<C, DigestSeal>,
     rounds: u64,
@@ -67,7 +67,7 @@ fn answer<C: Alter>(
 }
 
 /// Answers the request of a file so many times, in five rounds, and prints the time of each.
-pub fn answer_all<C: Alter>(
+pub(crate) fn answer_all<C: Alter>(
     rt: HostRuntime,
     office: &mut Office<C, DigestSeal>,
     path: &str,

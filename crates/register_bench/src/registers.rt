@@ -17,7 +17,7 @@ const NAME: [u8; 15] = *b"\x30\x0D\x31\x0B\x30\x09\x06\x03\x55\x04\x03\x0C\x02CA
 pub type FileRegister = Store<FileStore<FileFrom<Unknown>>>;
 
 /// The register of a file, if there is one. How long the database and the register took to open is printed.
-pub fn open_file(rt: HostRuntime, path: &str) -> io::Result<Option<FileRegister>> {
+pub(crate) fn open_file(rt: HostRuntime, path: &str) -> io::Result<Option<FileRegister>> {
     let start = Instant::now(&rt)?;
     let Ok(connection) = open_database(&rt, path, Unknown) else {
         eprintln!(rt; "no database at {path}")?;
@@ -40,7 +40,7 @@ pub fn open_file(rt: HostRuntime, path: &str) -> io::Result<Option<FileRegister>
 }
 
 /// A new register in memory.
-pub fn create_in_memory(alloc: Global) -> Result<Store<MemStore>, StoreFault> {
+pub(crate) fn create_in_memory(alloc: Global) -> Result<Store<MemStore>, StoreFault> {
     let Ok(issuer) = Issuer::new(alloc, &NAME, b"abc") else {
         return Err(StoreFault::Memory);
     };

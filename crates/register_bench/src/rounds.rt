@@ -96,7 +96,11 @@ fn measure<S: Alter>(
 }
 
 /// Measures all calls in each of some rounds.
-pub fn measure_all<S: Alter>(rt: HostRuntime, store: &mut Store<S>, rounds: u64) -> io::Result<()> {
+pub(crate) fn measure_all<S: Alter>(
+    rt: HostRuntime,
+    store: &mut Store<S>,
+    rounds: u64,
+) -> io::Result<()> {
     for _ in 0..rounds {
         for (call, calls) in ROUND {
             measure(rt, store, call, calls)?;

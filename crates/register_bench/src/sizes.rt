@@ -19,7 +19,7 @@ pub struct Sizes {
 
 impl Sizes {
     /// The sizes before a round of so many calls.
-    pub fn of<S: Alter>(store: &mut Store<S>, calls: u64) -> Result<Sizes, StoreFault> {
+    pub(crate) fn of<S: Alter>(store: &mut Store<S>, calls: u64) -> Result<Sizes, StoreFault> {
         Ok(Sizes {
             subscribers: store.held(Table::Subscribers)?,
             orders: store.held(Table::Orders)?,
