@@ -3,8 +3,9 @@
 use reg_core::Moment;
 use reg_program::perform;
 use reg_words::{Job, Steps, Word};
-use std::fs;
+use std::io::Write;
 use std::test::Fail;
+use std::{fs, io};
 
 /// The Name of an issuer called T (RFC 5280 4.1.2.4), in hexadecimal.
 const NAME: &str = "300C310A300806035504030C0154";
@@ -98,6 +99,34 @@ fn a_file_that_is_not_there_is_not_made(rt: HostRuntime) {
         )
     );
     assert!(rt; !fs::exists(&rt, "desk_examples_none.db").unwrap_or(true));
+}
+
+/// A writer that takes no byte.
+#[derive(Drop)]
+struct Full;
+
+impl Write for Full {
+    fn write(&mut self, _buf: &[u8]) -> io::Result<usize> {
+        Ok(0)
+    }
+
+    fn flush(&mut self) -> io::Result<()> {
+        Ok(())
+    }
+}
+
+#[test]
+fn a_register_that_can_not_be_told_is_not_left(rt: HostRuntime) {
+    let file = "desk_examples_untold.db";
+    drop(fs::remove_file(&rt, file));
+    let mut reader: &[u8] = b"";
+    let mut output = Full;
+    let mut errors = Vec::new(rt.alloc());
+    let job = init(file, NAME, 398);
+    let status = perform(&rt, &job, &mut reader, &mut output, &mut errors);
+    assert!(rt; status == 1 && errors.as_slice() == b"F5 write\n".as_slice());
+    assert!(rt; !fs::exists(&rt, file).unwrap_or(true));
+    assert!(rt; !fs::exists(&rt, "desk_examples_untold.db-wal").unwrap_or(true));
 }
 
 #[test]

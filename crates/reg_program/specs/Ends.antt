@@ -1,5 +1,5 @@
 -- How a job of the program ends.
-use Rattle.std.specs.Prelude.{◌≡◌, ◌⊎◌, ℕ, List, codes, Result, Ok, Err, Some, None}
+use Rattle.std.specs.Prelude.{◌≡◌, ◌⊎◌, ℕ, List, codes, Result, Ok, Err, Some, None, IfErr}
 use Rattle.std.specs.declared.option.Option.{Option}
 use Rattle.std.specs.Io.KnownBytes.{Appends}
 use Rattle.reg_core.specs.Issuer.{Issuer}
@@ -62,12 +62,19 @@ module _ {W P K : Type 0} (contents : W → Option (List ℕ)) (writer writer' :
       ⊎ ((set : Result (Unit {0}) StoreFault) × Visits place keeper path (λ identity. Reschedules steps set)
       × TellsSet contents writer writer' set result)))
 
-  -- a new register at a path: its issuer and its policy are looked at before the path is, and it begins with no records
+  -- a new register at a path, which begins with no records
+  abbrev pub MakesAt : List ℕ → Issuer → Terms → Result (Unit {0}) Failure → Type 0
+  MakesAt path issuer terms result =
+      (NotMade place keeper path result × (writer' ≡ writer))
+      ⊎ (Makes place keeper path (no_records issuer terms) × Says (codes "created\n") (contents writer) (contents writer') result)
+
+  -- the same of the issuer and the policy that are written, which are looked at before the path is; where it fails, something lay at
+  -- the path before, or what lies there is removed
   abbrev pub InitAt : List ℕ → List ℕ → List ℕ → Terms → Result (Unit {0}) Failure → Type 0
   InitAt path name key terms result =
       ((why : Failure) × (result ≡ Err why) × IsNoOffice name key terms why × (writer' ≡ writer))
-      ⊎ ((issuer : Issuer) × WritesIssuer name key issuer × IsPolicy terms × ((NotMade place keeper path result × (writer' ≡ writer))
-      ⊎ (Makes place keeper path (no_records issuer terms) × Says (codes "created\n") (contents writer) (contents writer') result)))
+      ⊎ ((issuer : Issuer) × WritesIssuer name key issuer × IsPolicy terms × MakesAt path issuer terms result
+      × IfErr result (λ why. place.lies path ⊎ place.removed path))
 
   -- HTTP requests over the register at a path (RFC 9112), which is opened before the port is bound
   abbrev pub ServeAt : List ℕ → ℕ → ℕ → Result (Unit {0}) Failure → Type 0

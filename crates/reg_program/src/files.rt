@@ -76,6 +76,10 @@ impl Place for HostRuntime {
 
     type Opened = FileRegister;
 
+    ghost lies = { λ path. Unit {0} };
+
+    ghost removed = { λ path. Unit {0} };
+
     ghost opened = { λ path register. IsOpenedFrom register.office.store };
 
     ghost unopened = { λ path why. Unit {0} };
@@ -86,6 +90,12 @@ impl Place for HostRuntime {
 
     ghost closed = { λ path register. Unit {0} };
 
+    fn has(&self, path: &str) -> bool
+        ensures { Unit {0} }
+    {
+        fs::exists(self, path).unwrap_or(true)
+    }
+
     fn open(&self, path: &str) -> Result<FileRegister, Failure> {
         // To open a path where no file is would make one.
         if !fs::exists(self, path).unwrap_or(false) {
@@ -95,17 +105,7 @@ impl Place for HostRuntime {
     }
 
     fn make(&self, path: &str, issuer: Issuer, policy: Policy) -> Result<FileRegister, Failure> {
-        // What can't be looked for is left alone.
-        let was_there = fs::exists(self, path).unwrap_or(true);
-        match make_register(self, path, issuer, policy) {
-            Ok(register) => Ok(register),
-            Err(failure) => {
-                if !was_there {
-                    remove(self, path);
-                }
-                Err(failure)
-            }
-        }
+        make_register(self, path, issuer, policy)
     }
 
     fn close(&self, path: &str, register: FileRegister)
@@ -113,6 +113,12 @@ impl Place for HostRuntime {
     {
         let (store, _signer) = register.office.into_parts();
         close(store.into_connection());
+    }
+
+    fn remove(&self, path: &str)
+        ensures { Unit {0} }
+    {
+        remove(self, path);
     }
 }
 
@@ -163,7 +169,7 @@ fn close(connection: FileConnection) {
     drop(connection.close());
 }
 
-/// Removes a register's file that could not be made, and its log. What can't be removed stays.
+/// Removes a register's file and its log. What can't be removed stays.
 fn remove(rt: &HostRuntime, path: &str) {
     drop(fs::remove_file(rt, path));
     let mut log = String::new(rt.alloc());

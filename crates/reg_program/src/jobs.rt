@@ -9,7 +9,7 @@ ghost use Rattle.reg_jobs.specs.Checks.{terms_of};
 ghost use Rattle.reg_lines.specs.Script.{ScriptEnds};
 ghost use Rattle.reg_office.specs.Stands.{Stands};
 ghost use Rattle.reg_program.specs.Digest.{digest, digests};
-ghost use Rattle.reg_program.specs.Ends.{CrlAt, ImportAt, InitAt, SaysGiven, ScheduleAt, ScriptAt, ScriptInMemory, TellsSet};
+ghost use Rattle.reg_program.specs.Ends.{CrlAt, ImportAt, InitAt, MakesAt, SaysGiven, ScheduleAt, ScriptAt, ScriptInMemory, TellsSet};
 ghost use Rattle.reg_program.specs.Failing.{IsOpening};
 ghost use Rattle.reg_program.specs.Sample.{sample_records};
 ghost use Rattle.reg_program.specs.Visits.{ending_of};
@@ -18,7 +18,8 @@ ghost use Rattle.reg_tables.specs.Stays.{IsCallFault};
 use crate::memory::{MemoryDesk, desk_in_memory};
 use crate::place::{Place, Register};
 use crate::telling::say;
-use reg_core::{Fault, Moment};
+use reg_core::{Fault, Moment, Policy};
+use reg_der::Issuer;
 use reg_faces::{Desk, Keeper, import, run_script};
 use reg_jobs::{Failure, office_of, schedule_of};
 use reg_store::StoreFault;
@@ -70,7 +71,8 @@ pub(crate) fn close_desk<P: Place>(place: &P, path: &str, desk: Desk<P::Opened>)
     place.close(path, desk.office);
 }
 
-/// Makes a register at a path. The issuer and then the policy are looked at before the path is.
+/// Makes a register at a path. The issuer and then the policy are looked at before the path is. Where that fails, a path
+/// at which nothing lay has nothing there afterwards.
 pub(crate) fn init<P: Place, W: Write>(
     alloc: Global,
     place: &P,
@@ -90,6 +92,28 @@ pub(crate) fn init<P: Place, W: Write>(
         new.ocsp_life,
         new.cap,
     )?;
+    let was_there = place.has(path);
+    match make_at(place, path, issuer, policy, writer) {
+        Ok(()) => Ok(()),
+        Err(why) => {
+            if !was_there {
+                place.remove(path);
+            }
+            Err(why)
+        }
+    }
+}
+
+/// Makes a register at a path, and tells it.
+fn make_at<P: Place, W: Write>(
+    place: &P,
+    path: &str,
+    issuer: Issuer,
+    policy: Policy,
+    writer: &mut W,
+) -> Result<(), Failure>
+    ensures { MakesAt W.contents writer.old writer.new P.Place P.Opened.Keeper path.now issuer policy result }
+{
     let register = place.make(path, issuer, policy)?;
     place.close(path, register);
     say(writer, b"created\n")

@@ -27,7 +27,7 @@ pub trait Register: Keeper {
 /// A place where registers lie, each at a path. Who is handed no more than the place can tell only by a call of it that a
 /// register was opened, made or closed.
 pub trait Place {
-    ghost use Rattle.std.specs.Prelude.{ℕ, List, OnOk, IfOk, IfErr};
+    ghost use Rattle.std.specs.Prelude.{ℕ, List, IsTrue, OnOk, IfOk, IfErr};
     ghost use Rattle.reg_core.specs.Records.{no_records};
     ghost use Rattle.reg_crl.specs.Signing.{Identity};
     ghost use Rattle.reg_jobs.specs.declared.failure.Failure.{Failure as Failing};
@@ -35,6 +35,12 @@ pub trait Place {
 
     /// What is opened: a register.
     type Opened: Register + Drop;
+
+    /// Something lies at the path.
+    ghost lies: { List ℕ → Type 0 };
+
+    /// What lay at the path was removed.
+    ghost removed: { List ℕ → Type 0 };
 
     /// This register was opened at the path.
     ghost opened: { List ℕ → Self.Opened → Type 0 };
@@ -51,6 +57,10 @@ pub trait Place {
     /// What was opened at the path was closed, with this register in it.
     ghost closed: { List ℕ → Self.Opened → Type 0 };
 
+    /// Whether something lies at a path. Where that can't be found out, something may, and the answer is that it does.
+    fn has(&self, path: &str) -> bool
+        ensures { IsTrue result → lies path.now };
+
     /// Opens the register that lies at a path.
     ///
     /// # Errors
@@ -62,8 +72,8 @@ pub trait Place {
         ensures err { IfErr result (unopened path.now) }
         ensures faults { IfErr result IsOpening };
 
-    /// Makes a register with no records at a path where nothing lies, or nothing with tables. Where that fails, a path at
-    /// which nothing lay has nothing there afterwards.
+    /// Makes a register with no records at a path where nothing lies, or nothing with tables. Where that fails, something
+    /// without a register may be left there.
     ///
     /// # Errors
     ///
@@ -77,4 +87,8 @@ pub trait Place {
     /// Closes what was opened at a path.
     fn close(&self, path: &str, register: Self::Opened)
         ensures { closed path.now register };
+
+    /// Removes what lies at a path. What can't be removed stays.
+    fn remove(&self, path: &str)
+        ensures { removed path.now };
 }
