@@ -1,5 +1,6 @@
 #!/usr/bin/env bash
-# Checks `desk serve` from outside, on every route, with openssl and curl: a CA and a revoked, a good and an unknown certificate.
+# Checks `desk serve` from outside, on every route, with openssl and curl: a CA and a revoked, a good and an unknown certificate; and
+# that it ends after as many connections as it was told.
 # Run it from the repository's root; it works in a new folder and prints a line for each check. Exit status 1 where one fails.
 set -euo pipefail
 desk="$(pwd)/desk"
@@ -51,12 +52,18 @@ $now revoke 1
 $now crl
 LINES
 
-"$desk" serve ca.db --port "$port" --requests 1000 >out &
-server=$!
-for _ in $(seq 50); do
-    [ -s out ] && break
-    sleep 0.1
-done
+# Serves so many connections, and waits until the port is told.
+serve() {
+    : >out
+    "$desk" serve ca.db --port "$port" --requests "$1" >out &
+    server=$!
+    for _ in $(seq 50); do
+        [ -s out ] && break
+        sleep 0.1
+    done
+}
+
+serve 1000
 same "the port is told" "$(cat out)" "listening $port"
 
 same "GET /counts" "$(status "$url/counts") $(cat body)" '200 {"expired":0,"good":1,"revoked":1}'
@@ -86,4 +93,18 @@ text=$(openssl base64 -A -in asked.der | sed 's/+/%2B/g; s#/#%2F#g; s/=/%3D/g')
 same "OCSP by GET" "$(status "$url/ocsp/$text")" 200
 has "its answer" "$(openssl ocsp -issuer ca.pem -serial 0x06 -no_nonce -respin body -noverify 2>&1)" '0x06: good'
 same "OCSP of garbage" "$(status --data-binary garbage "$url/ocsp") $(od -An -tx1 body | tr -d ' ')" '200 30030a0101'
+
+# It ends by itself after as many connections as it was told, with status 0, and has said nothing but its port.
+kill "$server"
+wait "$server" 2>/dev/null || true
+port=$((port + 1))
+url="http://127.0.0.1:$port"
+serve 3
+for at in 1 2 3; do
+    same "connection $at of 3" "$(status "$url/status/06")" 200
+done
+ended=0
+wait "$server" || ended=$?
+server=
+same "it ends after 3 connections" "$ended $(cat out)" "0 listening $port"
 exit "$failed"
