@@ -190,7 +190,7 @@ class Found:
 
 def measure_file(certs, folder):
     """Measures the calls over a register in a file."""
-    runs, rounds = (1, 6) if certs >= 1_000_000 else (4, 2) if certs >= 100_000 else (10, 2)
+    runs, rounds = (1, 20) if certs >= 1_000_000 else (4, 5) if certs >= 100_000 else (10, 2)
     made, copy, found = f"{folder}/made.db", f"{folder}/copy.db", Found()
     make_file(made, certs)
     for _ in range(runs):
