@@ -1,5 +1,5 @@
 -- How a job of the program ends.
-use Rattle.std.specs.Prelude.{◌≡◌, ◌⊎◌, ℕ, List, codes, Result, Ok, Err, Some, None, IfErr}
+use Rattle.std.specs.Prelude.{◌≡◌, ◌⊎◌, ℕ, List, codes, Result, Ok, Err, Some, None}
 use Rattle.std.specs.declared.option.Option.{Option}
 use Rattle.std.specs.Io.KnownBytes.{Appends}
 use Rattle.reg_core.specs.Issuer.{Issuer}
@@ -46,42 +46,52 @@ TellsSet contents writer writer' (Ok done) result = Says (codes "schedule set\n"
 TellsSet contents writer writer' (Err why) result = (result ≡ Err (store_failure why)) × IsCallFault why × (writer' ≡ writer)
 
 -- A job that reads nothing, over a register at a path: the writer before it and after it.
-module _ {W P K : Type 0} (contents : W → Option (List ℕ)) (writer writer' : W) (place : Place P K) (keeper : Keeper K) where
-  -- the bytes of a CRL of the register at a path (RFC 5280 5), of which no record changes
-  abbrev pub CrlAt : List ℕ → Option ℕ → Result (Unit {0}) Failure → Type 0
-  CrlAt path number result =
-      (NotOpened place keeper path result × (writer' ≡ writer))
-      ⊎ ((given : Result (List ℕ) Fault) × Visits place keeper path (λ identity before after. Crls before number given after)
-      × SaysGiven contents writer writer' given result)
+module _ {W P K : Type 0} (contents : W → Option (List ℕ)) (writer writer' : W) (places : Place P K) (keeper : Keeper K) where
+  -- a new register at a path, which begins with no records: the place before it is made and after that
+  abbrev pub MakesAt : P → P → List ℕ → Issuer → Terms → Result (Unit {0}) Failure → Type 0
+  MakesAt before after path issuer terms result =
+      (NotMade places keeper before after path result × (writer' ≡ writer))
+      ⊎ (Makes places keeper before after path (no_records issuer terms)
+      × Says (codes "created\n") (contents writer) (contents writer') result)
 
-  -- another schedule for the register at a path: its steps are looked at before the path is
-  abbrev pub ScheduleAt : List ℕ → List (ℕ × ℕ) → Result (Unit {0}) Failure → Type 0
-  ScheduleAt path steps result =
-      ((why : Failure) × (result ≡ Err why) × IsNoSchedule steps why × (writer' ≡ writer))
-      ⊎ (IsSchedule steps × ((NotOpened place keeper path result × (writer' ≡ writer))
-      ⊎ ((set : Result (Unit {0}) StoreFault) × Visits place keeper path (λ identity. Reschedules steps set)
-      × TellsSet contents writer writer' set result)))
+  -- The place before the job and after it.
+  module _ (place place' : P) where
+    -- the bytes of a CRL of the register at a path (RFC 5280 5), of which no record changes
+    abbrev pub CrlAt : List ℕ → Option ℕ → Result (Unit {0}) Failure → Type 0
+    CrlAt path number result =
+        (NotOpened places keeper place place' path result × (writer' ≡ writer))
+        ⊎ ((given : Result (List ℕ) Fault)
+        × Visits places keeper place place' path (λ identity before after. Crls before number given after)
+        × SaysGiven contents writer writer' given result)
 
-  -- a new register at a path, which begins with no records
-  abbrev pub MakesAt : List ℕ → Issuer → Terms → Result (Unit {0}) Failure → Type 0
-  MakesAt path issuer terms result =
-      (NotMade place keeper path result × (writer' ≡ writer))
-      ⊎ (Makes place keeper path (no_records issuer terms) × Says (codes "created\n") (contents writer) (contents writer') result)
+    -- another schedule for the register at a path: its steps are looked at before the path is
+    abbrev pub ScheduleAt : List ℕ → List (ℕ × ℕ) → Result (Unit {0}) Failure → Type 0
+    ScheduleAt path steps result =
+        ((why : Failure) × (result ≡ Err why) × IsNoSchedule steps why × (writer' ≡ writer) × (place' ≡ place))
+        ⊎ (IsSchedule steps × ((NotOpened places keeper place place' path result × (writer' ≡ writer))
+        ⊎ ((set : Result (Unit {0}) StoreFault) × Visits places keeper place place' path (λ identity. Reschedules steps set)
+        × TellsSet contents writer writer' set result)))
 
-  -- the same of the issuer and the policy that are written, which are looked at before the path is; where it fails, something lay at
-  -- the path before, or what lies there is removed
-  abbrev pub InitAt : List ℕ → List ℕ → List ℕ → Terms → Result (Unit {0}) Failure → Type 0
-  InitAt path name key terms result =
-      ((why : Failure) × (result ≡ Err why) × IsNoOffice name key terms why × (writer' ≡ writer))
-      ⊎ ((issuer : Issuer) × WritesIssuer name key issuer × IsPolicy terms × MakesAt path issuer terms result
-      × IfErr result (λ why. place.lies path ⊎ place.removed path))
+    -- what is left at a path where a register was to be made, from the place after that on: all stays where the job is done, or where
+    -- something lay there before; else what lies there is removed
+    abbrev pub Leaves : P → List ℕ → Result (Unit {0}) Failure → Type 0
+    Leaves between path (Ok done) = place' ≡ between
+    Leaves between path (Err why) =
+        (places.lies place path × (place' ≡ between)) ⊎ (places.lacks place path × places.removed between path place')
 
-  -- HTTP requests over the register at a path (RFC 9112), which is opened before the port is bound
-  abbrev pub ServeAt : List ℕ → ℕ → ℕ → Result (Unit {0}) Failure → Type 0
-  ServeAt path port requests result =
-      (NotOpened place keeper path result × (writer' ≡ writer))
-      ⊎ ((count : ℕ) × Visits place keeper path (Exchanges keeper.signs count)
-      × Served port requests count (contents writer) (contents writer') result)
+    -- a new register at a path, of the issuer and the policy that are written, which are looked at before the path is
+    abbrev pub InitAt : List ℕ → List ℕ → List ℕ → Terms → Result (Unit {0}) Failure → Type 0
+    InitAt path name key terms result =
+        ((why : Failure) × (result ≡ Err why) × IsNoOffice name key terms why × (writer' ≡ writer) × (place' ≡ place))
+        ⊎ ((issuer : Issuer) × WritesIssuer name key issuer × IsPolicy terms
+        × ((between : P) × MakesAt place between path issuer terms result × Leaves between path result))
+
+    -- HTTP requests over the register at a path (RFC 9112), which is opened before the port is bound
+    abbrev pub ServeAt : List ℕ → ℕ → ℕ → Result (Unit {0}) Failure → Type 0
+    ServeAt path port requests result =
+        (NotOpened places keeper place place' path result × (writer' ≡ writer))
+        ⊎ ((count : ℕ) × Visits places keeper place place' path (Exchanges keeper.signs count)
+        × Served port requests count (contents writer) (contents writer') result)
 
 -- A job over what is read and what is written: the reader and the writer before it and after it.
 module _ {E W : Type 0} (remaining : E → Option (List ℕ)) (contents : W → Option (List ℕ)) (reader reader' : E) (writer writer' : W) where
@@ -96,12 +106,12 @@ module _ {E W : Type 0} (remaining : E → Option (List ℕ)) (contents : W → 
       ⊎ ((ran : Result (Unit {0}) Fault) × (result ≡ ending_of ran) × ((after : Records)
       × ScriptEnds (Lines digests digest) remaining contents sample_records after reader reader' writer writer' ran))
 
-  module _ {P K : Type 0} (place : Place P K) (keeper : Keeper K) where
+  module _ {P K : Type 0} (places : Place P K) (keeper : Keeper K) (place place' : P) where
     -- a run over the register at a path: it could not be opened, or the run led from its records to those after it
     abbrev pub RunsAt : List ℕ → (Result (Unit {0}) Fault → Identity → Records → Records → Type 0) → Result (Unit {0}) Failure → Type 0
     RunsAt path Ran result =
-        (NotOpened place keeper path result × IsSilent)
-        ⊎ ((ran : Result (Unit {0}) Fault) × (result ≡ ending_of ran) × Visits place keeper path (Ran ran))
+        (NotOpened places keeper place place' path result × IsSilent)
+        ⊎ ((ran : Result (Unit {0}) Fault) × (result ≡ ending_of ran) × Visits places keeper place place' path (Ran ran))
 
     -- a script over the register at a path
     abbrev pub ScriptAt : List ℕ → Result (Unit {0}) Failure → Type 0
@@ -113,13 +123,15 @@ module _ {E W : Type 0} (remaining : E → Option (List ℕ)) (contents : W → 
     ImportAt path now = RunsAt path (λ ran identity before after.
         ImportEnds (Lines keeper.signs identity) remaining contents now before after reader reader' writer writer' ran)
 
-    -- the end of a job: what it read, what it did to the register at its path, and what it wrote
+    -- the end of a job: what it read, what it did at its place to the register at its path and nothing else, and what it wrote
     abbrev pub Ends : Job → Result (Unit {0}) Failure → Type 0
-    Ends (job.Init file name key days crl_life ocsp_life cap) result =
-        (reader' ≡ reader) × InitAt contents writer writer' place keeper file name key (terms_of days crl_life ocsp_life cap) result
+    Ends (job.Init file name key days crl_life ocsp_life cap) result = (reader' ≡ reader)
+        × InitAt contents writer writer' places keeper place place' file name key (terms_of days crl_life ocsp_life cap) result
     Ends (job.Script (Some file)) result = ScriptAt file result
-    Ends (job.Script None) result = ScriptInMemory result
+    Ends (job.Script None) result = (place' ≡ place) × ScriptInMemory result
     Ends (job.Import file now) result = ImportAt file now result
-    Ends (job.Crl file number) result = (reader' ≡ reader) × CrlAt contents writer writer' place keeper file number result
-    Ends (job.Schedule file steps) result = (reader' ≡ reader) × ScheduleAt contents writer writer' place keeper file steps result
-    Ends (job.Serve file port requests) result = (reader' ≡ reader) × ServeAt contents writer writer' place keeper file port requests result
+    Ends (job.Crl file number) result = (reader' ≡ reader) × CrlAt contents writer writer' places keeper place place' file number result
+    Ends (job.Schedule file steps) result =
+        (reader' ≡ reader) × ScheduleAt contents writer writer' places keeper place place' file steps result
+    Ends (job.Serve file port requests) result =
+        (reader' ≡ reader) × ServeAt contents writer writer' places keeper place place' file port requests result

@@ -15,28 +15,31 @@ abbrev pub ending_of : Result (Unit {0}) Fault → Result (Unit {0}) Failure
 ending_of (Ok done) = Ok done
 ending_of (Err fault) = Err (failure.Fault fault)
 
-module _ {P K : Type 0} (place : Place P K) (keeper : Keeper K) where
-  -- The register at a path was opened, and closed at the end. The step leads from the records that stood in it, whatever they
+-- What calls of a place did: the place before them and after them. No other call of it lies between.
+module _ {P K : Type 0} (places : Place P K) (keeper : Keeper K) (place place' : P) where
+  -- The register at a path was opened, and then closed. The step leads from the records that stood in it, whatever they
   -- were, to those that stand there afterwards, where the medium has returned all that was written.
   pub record Visits (path : List ℕ) (step : Identity → Records → Records → Type 0) : Type 0 where
     pub first : K
     pub last : K
-    pub opened : place.opened path first
+    pub between : P
+    pub opened : places.opened place path first between
     pub moves : Moves keeper.is_clean keeper.stands step first last
-    pub closed : place.closed path last
+    pub closed : places.closed between path last place'
 
   -- the register at a path could not be opened, and that is how the job ends
   abbrev pub NotOpened : List ℕ → Result (Unit {0}) Failure → Type 0
-  NotOpened path result = (why : Failure) × (result ≡ Err why) × place.unopened path why × IsOpening why
+  NotOpened path result = (why : Failure) × (result ≡ Err why) × places.unopened place path why place' × IsOpening why
 
-  -- a register was made at a path, in which these records stood, and it was closed
+  -- a register was made at a path, in which these records stood, and then it was closed
   pub record Makes (path : List ℕ) (records : Records) : Type 0 where
     pub register : K
     pub identity : Identity
-    pub made : place.made path register
+    pub between : P
+    pub made : places.made place path register between
     pub stands : keeper.stands identity register records
-    pub closed : place.closed path register
+    pub closed : places.closed between path register place'
 
   -- no register could be made at a path, and that is how the job ends
   abbrev pub NotMade : List ℕ → Result (Unit {0}) Failure → Type 0
-  NotMade path result = (why : Failure) × (result ≡ Err why) × place.unmade path why × IsMaking why
+  NotMade path result = (why : Failure) × (result ≡ Err why) × places.unmade place path why place' × IsMaking why

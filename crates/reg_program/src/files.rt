@@ -70,25 +70,27 @@ impl Register for FileRegister {
     }
 }
 
-/// The machine's files, as a place where registers lie.
+/// The machine's files, as a place where registers lie. No state of theirs stands in the handle, so its relations read none.
 impl Place for HostRuntime {
     ghost use Rattle.reg_program.specs.Files.{IsOpenedFrom, IsMadeFrom};
 
     type Opened = FileRegister;
 
-    ghost lies = { λ path. Unit {0} };
+    ghost lies = { λ files path. Unit {0} };
 
-    ghost removed = { λ path. Unit {0} };
+    ghost lacks = { λ files path. Unit {0} };
 
-    ghost opened = { λ path register. IsOpenedFrom register.office.store };
+    ghost removed = { λ files path after. Unit {0} };
 
-    ghost unopened = { λ path why. Unit {0} };
+    ghost opened = { λ files path register after. IsOpenedFrom register.office.store };
 
-    ghost made = { λ path register. IsMadeFrom register.office.store };
+    ghost unopened = { λ files path why after. Unit {0} };
 
-    ghost unmade = { λ path why. Unit {0} };
+    ghost made = { λ files path register after. IsMadeFrom register.office.store };
 
-    ghost closed = { λ path register. Unit {0} };
+    ghost unmade = { λ files path why after. Unit {0} };
+
+    ghost closed = { λ files path register after. Unit {0} };
 
     fn has(&self, path: &str) -> bool
         ensures { Unit {0} }
@@ -96,7 +98,7 @@ impl Place for HostRuntime {
         fs::exists(self, path).unwrap_or(true)
     }
 
-    fn open(&self, path: &str) -> Result<FileRegister, Failure> {
+    fn open(&mut self, path: &str) -> Result<FileRegister, Failure> {
         // To open a path where no file is would make one.
         if !fs::exists(self, path).unwrap_or(false) {
             return Err(Failure::Fault(Fault::Store));
@@ -104,18 +106,23 @@ impl Place for HostRuntime {
         open_register(self, path)
     }
 
-    fn make(&self, path: &str, issuer: Issuer, policy: Policy) -> Result<FileRegister, Failure> {
+    fn make(
+        &mut self,
+        path: &str,
+        issuer: Issuer,
+        policy: Policy,
+    ) -> Result<FileRegister, Failure> {
         make_register(self, path, issuer, policy)
     }
 
-    fn close(&self, path: &str, register: FileRegister)
+    fn close(&mut self, path: &str, register: FileRegister)
         ensures { Unit {0} }
     {
         let (store, _signer) = register.office.into_parts();
         close(store.into_connection());
     }
 
-    fn remove(&self, path: &str)
+    fn remove(&mut self, path: &str)
         ensures { Unit {0} }
     {
         remove(self, path);

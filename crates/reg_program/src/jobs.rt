@@ -51,11 +51,11 @@ fn ended(ran: Result<(), Fault>) -> Result<(), Failure>
 /// Opens the register at a path, with its faces.
 pub(crate) fn open_desk<P: Place>(
     alloc: Global,
-    place: &P,
+    place: &mut P,
     path: &str,
 ) -> Result<Desk<P::Opened>, Failure>
-    ensures ok { IfOk result (λ desk. P.opened path.now desk.office) }
-    ensures err { IfErr result (P.unopened path.now) }
+    ensures ok { IfOk result (λ desk. P.opened place.old path.now desk.office place.new) }
+    ensures err { IfErr result (λ why. P.unopened place.old path.now why place.new) }
     ensures faults { IfErr result IsOpening }
 {
     match place.open(path) {
@@ -65,8 +65,8 @@ pub(crate) fn open_desk<P: Place>(
 }
 
 /// Closes the register at a path.
-pub(crate) fn close_desk<P: Place>(place: &P, path: &str, desk: Desk<P::Opened>)
-    ensures { P.closed path.now desk.office }
+pub(crate) fn close_desk<P: Place>(place: &mut P, path: &str, desk: Desk<P::Opened>)
+    ensures { P.closed place.old path.now desk.office place.new }
 {
     place.close(path, desk.office);
 }
@@ -75,13 +75,13 @@ pub(crate) fn close_desk<P: Place>(place: &P, path: &str, desk: Desk<P::Opened>)
 /// at which nothing lay has nothing there afterwards.
 pub(crate) fn init<P: Place, W: Write>(
     alloc: Global,
-    place: &P,
+    place: &mut P,
     path: &str,
     new: &NewOffice<'_>,
     writer: &mut W,
 ) -> Result<(), Failure>
-    ensures { InitAt W.contents writer.old writer.new P.Place P.Opened.Keeper path.now new.now.name.now new.now.key.now
-        (terms_of new.now.days new.now.crl_life new.now.ocsp_life new.now.cap) result }
+    ensures { InitAt W.contents writer.old writer.new P.Place P.Opened.Keeper place.old place.new path.now
+        new.now.name.now new.now.key.now (terms_of new.now.days new.now.crl_life new.now.ocsp_life new.now.cap) result }
 {
     let (issuer, policy) = office_of(
         alloc,
@@ -106,13 +106,14 @@ pub(crate) fn init<P: Place, W: Write>(
 
 /// Makes a register at a path, and tells it.
 fn make_at<P: Place, W: Write>(
-    place: &P,
+    place: &mut P,
     path: &str,
     issuer: Issuer,
     policy: Policy,
     writer: &mut W,
 ) -> Result<(), Failure>
-    ensures { MakesAt W.contents writer.old writer.new P.Place P.Opened.Keeper path.now issuer policy result }
+    ensures { MakesAt W.contents writer.old writer.new P.Place P.Opened.Keeper place.old place.new path.now issuer policy
+        result }
 {
     let register = place.make(path, issuer, policy)?;
     place.close(path, register);
@@ -149,12 +150,13 @@ fn run_in_memory<R: Read, W: Write>(
 /// Runs the script of standard input over the register at a path.
 pub(crate) fn script<P: Place, R: Read, W: Write>(
     alloc: Global,
-    place: &P,
+    place: &mut P,
     path: &str,
     reader: &mut R,
     writer: &mut W,
 ) -> Result<(), Failure>
-    ensures { ScriptAt R.remaining W.contents reader.old reader.new writer.old writer.new P.Place P.Opened.Keeper path.now result }
+    ensures { ScriptAt R.remaining W.contents reader.old reader.new writer.old writer.new
+        P.Place P.Opened.Keeper place.old place.new path.now result }
 {
     let mut opened = open_desk(alloc, place, path)?;
     let ran = run_script(alloc, reader, writer, &mut opened);
@@ -165,13 +167,14 @@ pub(crate) fn script<P: Place, R: Read, W: Write>(
 /// Imports standard input into the register at a path.
 pub(crate) fn import_rows<P: Place, R: Read, W: Write>(
     alloc: Global,
-    place: &P,
+    place: &mut P,
     path: &str,
     now: Moment,
     reader: &mut R,
     writer: &mut W,
 ) -> Result<(), Failure>
-    ensures { ImportAt R.remaining W.contents reader.old reader.new writer.old writer.new P.Place P.Opened.Keeper path.now now result }
+    ensures { ImportAt R.remaining W.contents reader.old reader.new writer.old writer.new
+        P.Place P.Opened.Keeper place.old place.new path.now now result }
 {
     let mut desk = open_desk(alloc, place, path)?;
     let imported = import(alloc, reader, writer, now, &mut desk);
@@ -182,12 +185,12 @@ pub(crate) fn import_rows<P: Place, R: Read, W: Write>(
 /// Writes the bytes of a CRL of the register at a path.
 pub(crate) fn crl<P: Place, W: Write>(
     alloc: Global,
-    place: &P,
+    place: &mut P,
     path: &str,
     number: Option<u64>,
     writer: &mut W,
 ) -> Result<(), Failure>
-    ensures { CrlAt W.contents writer.old writer.new P.Place P.Opened.Keeper path.now number result }
+    ensures { CrlAt W.contents writer.old writer.new P.Place P.Opened.Keeper place.old place.new path.now number result }
 {
     let mut register = place.open(path)?;
     let given = register.crl_bytes(alloc, number);
@@ -208,12 +211,12 @@ fn say_given<W: Write>(writer: &mut W, given: Result<Vec<u8>, Fault>) -> Result<
 /// Gives the register at a path another schedule, which is looked at before the path is.
 pub(crate) fn schedule<P: Place, W: Write>(
     alloc: Global,
-    place: &P,
+    place: &mut P,
     path: &str,
     steps: &Steps,
     writer: &mut W,
 ) -> Result<(), Failure>
-    ensures { ScheduleAt W.contents writer.old writer.new P.Place P.Opened.Keeper path.now steps.now result }
+    ensures { ScheduleAt W.contents writer.old writer.new P.Place P.Opened.Keeper place.old place.new path.now steps.now result }
 {
     let schedule = schedule_of(steps)?;
     let mut register = place.open(path)?;

@@ -16,7 +16,8 @@ use reg_jobs::{Failure, status_of};
 use reg_words::Job;
 use std::io::{Read, Write};
 
-/// Does a job over standard input and output and the machine's files, as [`perform_at`] says.
+/// Does a job over standard input and output and the machine's files, as [`perform_at`] says. The handle for the files is the
+/// place before the job and after it: no state of theirs stands in it.
 pub fn perform<R: Read, W: Write, E: Write>(
     rt: &HostRuntime,
     job: &Job<'_>,
@@ -26,24 +27,26 @@ pub fn perform<R: Read, W: Write, E: Write>(
 ) -> u8
     ensures { (ending : Result (Unit {0}) Failing)
         × Ends R.remaining W.contents reader.old reader.new writer.old writer.new
-        ⟦<HostRuntime as Place>⟧ ⟦<FileRegister as Keeper>⟧ job.now ending
+        ⟦<HostRuntime as Place>⟧ ⟦<FileRegister as Keeper>⟧ rt.now rt.now job.now ending
         × (result ≡ status ending) × Tells ending (E.contents errors.old) (E.contents errors.new) }
 {
-    perform_at(rt, rt, job, reader, writer, errors)
+    let mut files = *rt;
+    perform_at(rt, &mut files, job, reader, writer, errors)
 }
 
 /// Does a job over standard input and output and the registers of a place, and gives its exit status: 0 where it is done;
 /// else 1, with its one line on standard error.
 pub fn perform_at<P: Place, R: Read, W: Write, E: Write>(
     rt: &HostRuntime,
-    place: &P,
+    place: &mut P,
     job: &Job<'_>,
     reader: &mut R,
     writer: &mut W,
     errors: &mut E,
 ) -> u8
     ensures { (ending : Result (Unit {0}) Failing)
-        × Ends R.remaining W.contents reader.old reader.new writer.old writer.new P.Place P.Opened.Keeper job.now ending
+        × Ends R.remaining W.contents reader.old reader.new writer.old writer.new
+        P.Place P.Opened.Keeper place.old place.new job.now ending
         × (result ≡ status ending) × Tells ending (E.contents errors.old) (E.contents errors.new) }
 {
     let ending = run(rt, place, job, reader, writer);
@@ -57,12 +60,13 @@ pub fn perform_at<P: Place, R: Read, W: Write, E: Write>(
 /// Does a job.
 fn run<P: Place, R: Read, W: Write>(
     rt: &HostRuntime,
-    place: &P,
+    place: &mut P,
     job: &Job<'_>,
     reader: &mut R,
     writer: &mut W,
 ) -> Result<(), Failure>
-    ensures { Ends R.remaining W.contents reader.old reader.new writer.old writer.new P.Place P.Opened.Keeper job.now result }
+    ensures { Ends R.remaining W.contents reader.old reader.new writer.old writer.new
+        P.Place P.Opened.Keeper place.old place.new job.now result }
 {
     let alloc = rt.alloc();
     match job {

@@ -25,9 +25,10 @@ pub trait Register: Keeper {
 }
 
 /// A place where registers lie, each at a path. Who is handed no more than the place can tell only by a call of it that a
-/// register was opened, made or closed.
+/// register was opened, made or closed. Each call that may change the place is stated by a relation of the place before and
+/// after it: so a clause that leads from one place to another by such calls says that nothing else was done there.
 pub trait Place {
-    ghost use Rattle.std.specs.Prelude.{ℕ, List, IsTrue, OnOk, IfOk, IfErr};
+    ghost use Rattle.std.specs.Prelude.{ℕ, List, IsTrue, IsFalse, OnOk, IfOk, IfErr};
     ghost use Rattle.reg_core.specs.Records.{no_records};
     ghost use Rattle.reg_crl.specs.Signing.{Identity};
     ghost use Rattle.reg_jobs.specs.declared.failure.Failure.{Failure as Failing};
@@ -36,30 +37,34 @@ pub trait Place {
     /// What is opened: a register.
     type Opened: Register + Drop;
 
-    /// Something lies at the path.
-    ghost lies: { List ℕ → Type 0 };
+    /// Something lies at the path, or may.
+    ghost lies: { Self → List ℕ → Type 0 };
 
-    /// What lay at the path was removed.
-    ghost removed: { List ℕ → Type 0 };
+    /// Nothing lies at the path.
+    ghost lacks: { Self → List ℕ → Type 0 };
 
-    /// This register was opened at the path.
-    ghost opened: { List ℕ → Self.Opened → Type 0 };
+    /// What lay at the path was removed, and the place after it.
+    ghost removed: { Self → List ℕ → Self → Type 0 };
 
-    /// For this no register could be opened at the path.
-    ghost unopened: { List ℕ → Failing → Type 0 };
+    /// This register was opened at the path, and the place after it.
+    ghost opened: { Self → List ℕ → Self.Opened → Self → Type 0 };
 
-    /// This register was made at the path.
-    ghost made: { List ℕ → Self.Opened → Type 0 };
+    /// For this no register could be opened at the path, and the place after it.
+    ghost unopened: { Self → List ℕ → Failing → Self → Type 0 };
 
-    /// For this no register could be made at the path.
-    ghost unmade: { List ℕ → Failing → Type 0 };
+    /// This register was made at the path, and the place after it.
+    ghost made: { Self → List ℕ → Self.Opened → Self → Type 0 };
 
-    /// What was opened at the path was closed, with this register in it.
-    ghost closed: { List ℕ → Self.Opened → Type 0 };
+    /// For this no register could be made at the path, and the place after it.
+    ghost unmade: { Self → List ℕ → Failing → Self → Type 0 };
+
+    /// What was opened at the path was closed, with this register in it, and the place after it.
+    ghost closed: { Self → List ℕ → Self.Opened → Self → Type 0 };
 
     /// Whether something lies at a path. Where that can't be found out, something may, and the answer is that it does.
     fn has(&self, path: &str) -> bool
-        ensures { IsTrue result → lies path.now };
+        ensures lies { IsTrue result → lies self.now path.now }
+        ensures lacks { IsFalse result → lacks self.now path.now };
 
     /// Opens the register that lies at a path.
     ///
@@ -67,9 +72,9 @@ pub trait Place {
     ///
     /// `NotARegister`, `OldVersion` and `NewVersion` for other tables; `Fault` of `Memory`, and of `Store` where nothing
     /// lies there or it can't be opened.
-    fn open(&self, path: &str) -> Result<Self::Opened, Failure>
-        ensures ok { IfOk result (opened path.now) }
-        ensures err { IfErr result (unopened path.now) }
+    fn open(&mut self, path: &str) -> Result<Self::Opened, Failure>
+        ensures ok { IfOk result (λ register. opened self.old path.now register self.new) }
+        ensures err { IfErr result (λ why. unopened self.old path.now why self.new) }
         ensures faults { IfErr result IsOpening };
 
     /// Makes a register with no records at a path where nothing lies, or nothing with tables. Where that fails, something
@@ -78,17 +83,17 @@ pub trait Place {
     /// # Errors
     ///
     /// `NotEmpty` where there are tables already; `Fault` of `Memory` or `Store`.
-    fn make(&self, path: &str, issuer: Issuer, policy: Policy) -> Result<Self::Opened, Failure>
-        ensures ok { IfOk result (made path.now) }
+    fn make(&mut self, path: &str, issuer: Issuer, policy: Policy) -> Result<Self::Opened, Failure>
+        ensures ok { IfOk result (λ register. made self.old path.now register self.new) }
         ensures stands { IfOk result (λ register. (identity : Identity) × Self.Opened.stands identity register (no_records issuer policy)) }
-        ensures err { IfErr result (unmade path.now) }
+        ensures err { IfErr result (λ why. unmade self.old path.now why self.new) }
         ensures faults { IfErr result IsMaking };
 
     /// Closes what was opened at a path.
-    fn close(&self, path: &str, register: Self::Opened)
-        ensures { closed path.now register };
+    fn close(&mut self, path: &str, register: Self::Opened)
+        ensures { closed self.old path.now register self.new };
 
     /// Removes what lies at a path. What can't be removed stays.
-    fn remove(&self, path: &str)
-        ensures { removed path.now };
+    fn remove(&mut self, path: &str)
+        ensures { removed self.old path.now self.new };
 }

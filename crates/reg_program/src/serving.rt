@@ -20,13 +20,13 @@ use std::time::Instant;
 /// Answers so many connections over a register at a path. It is opened before the port is bound.
 pub(crate) fn serve<P: Place, W: Write>(
     rt: &HostRuntime,
-    place: &P,
+    place: &mut P,
     path: &str,
     port: u16,
     requests: u32,
     writer: &mut W,
 ) -> Result<(), Failure>
-    ensures { ServeAt W.contents writer.old writer.new P.Place P.Opened.Keeper path.now port requests result }
+    ensures { ServeAt W.contents writer.old writer.new P.Place P.Opened.Keeper place.old place.new path.now port requests result }
 {
     let mut desk = open_desk(rt.alloc(), place, path)?;
     let served = serve_desk(rt, &mut desk, port, requests, writer);
