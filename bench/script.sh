@@ -6,4 +6,6 @@
 set -euo pipefail
 top=$(cd "$(dirname "$0")/.." && pwd)
 (cd "$top/crates/reg_desk" && rt run -- script < /dev/null)
+# shellcheck source=tools/large-pages.sh
+. "$top/tools/large-pages.sh"
 exec python3 "$top/bench/script.py" "$@"

@@ -8,4 +8,6 @@
 set -euo pipefail
 top=$(cd "$(dirname "$0")/.." && pwd)
 (cd "$top/crates/register_bench" && rt run)
+# shellcheck source=tools/large-pages.sh
+. "$top/tools/large-pages.sh"
 exec python3 "$top/bench/store.py" "$@"
