@@ -1,6 +1,6 @@
 //! Statements that write, inside a transaction.
 
-ghost use Rattle.std.specs.Prelude.{◌≡◌, ◌≤◌, pos, cond, IfOk, IfErr};
+ghost use Rattle.std.specs.Prelude.{◌≡◌, ◌<◌, ◌≤◌, ◌^◌, pos, cond, OnOk, IfOk, IfErr};
 ghost use Rattle.sqlite.specs.Values.{bound};
 ghost use Rattle.sqlite.specs.Held.{state};
 ghost use Rattle.sqlite.specs.State.{HasCleanDisk, KeepsCommit};
@@ -20,6 +20,8 @@ use sqlite::{Alter, Transaction};
 /// `Store` above 2^63 - 1, which SQL doesn't have.
 pub fn sql_number(n: u64) -> Result<ValueRef<'static>, StoreFault>
     ensures value { IfOk result (λ value. value ≡ ValueRef.Int (pos n)) }
+    ensures had { OnOk result (n < 2 ^ 63) }
+    ensures refused { IfErr result (λ fault. (fault ≡ StoreFault.Store) × (2 ^ 63 ≤ n)) }
     ensures faults { IfErr result IsCallFault }
 {
     match i64::try_from(n) {
