@@ -1,5 +1,5 @@
 -- What a query answers, and why it fails.
-use Rattle.std.proofs.Common.{◌≡◌, ◌≤◌, ◌⊎◌, inl, inr, ℕ, List, [], length, None, Result, Ok, Err, IsTrue, refl, sym, ap, subst, ◌∙◌}
+use Rattle.std.proofs.Common.{◌≡◌, ◌≤◌, ◌⊎◌, inl, inr, ℕ, false, List, [], length, Option, None, Result, Ok, Err, IsTrue, refl, sym, ap, subst, ◌∙◌}
 use Rattle.std.proofs.lemmas.Bool.{cases_Bool}
 use Rattle.sqlite_value.specs.Order.{Row}
 use Rattle.sqlite_ast.specs.declared.Select as written_select
@@ -8,6 +8,7 @@ use Rattle.sqlite_syntax.specs.declared.statement.Parsed.{Parsed}
 use Rattle.sqlite_trees.specs.declared.error.StoreError.{StoreError}
 use Rattle.sqlite_trees.specs.declared.error.StoreError.TheVariants.{OutOfMemory, Io, Corrupt, Full, Broken, Unstorable}
 use Rattle.sqlite_schema.specs.declared.command.Command.{Command}
+use Rattle.sqlite_schema.specs.declared.command.Command.TheVariants as command
 use Rattle.sqlite_schema.specs.declared.schema.Schema.{Schema}
 use Rattle.sqlite_resolve.specs.declared.compiled.Compiled.{Compiled}
 use Rattle.sqlite_resolve.specs.declared.error.CompileError.{CompileError}
@@ -15,14 +16,19 @@ use Rattle.sqlite_resolve.specs.Lowering.{Checked, and_then}
 use Rattle.sqlite_resolve.specs.Compile as compile
 use Rattle.sqlite.specs.Clock.{timed}
 use Rattle.sqlite.specs.declared.error.Error.{Error}
+use Rattle.sqlite.specs.declared.error.Error.TheVariants.{SqliteFailure}
+use Rattle.sqlite.specs.declared.error.ErrorCode.TheVariants as code
 use Rattle.sqlite.specs.Effect.{Database, Reads, RefusesToRead}
 use Rattle.sqlite.specs.Given.{IsPlain}
 use Rattle.sqlite.specs.Listing.{understood, reads_listing, listing_schema, if_select, is_select, IsSourceOf}
 use Rattle.sqlite.specs.State.{State, HasCause, store_error, Fails, IsUnchanged, IsRolledBack, KeepsCommit, IsStatement, IsNoStatement, IsNotRun, FailsToQuery, FailsToShow, ShowsRows, Shown, IsTooLate}
 use Rattle.reg_tables.specs.Reading.{command_of}
 use Rattle.reg_tables.specs.Schema.{register_schema}
+use Rattle.reg_tables.specs.Stays.{IsCallFault}
+use Rattle.reg_tables.specs.declared.fault.StoreFault.{StoreFault}
+use Rattle.reg_tables.specs.declared.fault.StoreFault.TheVariants.{NotARegister}
 use Rattle.reg_tables.proofs.Staying.{fails_remains}
-use Rattle.reg_opening.specs.Said.{is_call_error, NeverWrites, IsQuery, IsNeverRefused, IsRead}
+use Rattle.reg_opening.specs.Said.{is_call_error, NeverWrites, IsQuery, IsNeverRefused, IsRead, IsRefused}
 
 -- ---- a text that is a SELECT, whatever the tables are
 
@@ -132,3 +138,73 @@ module _ (text : List ℕ) (query : IsQuery text) (never : IsNeverRefused text) 
   fails_is_call (inl (inl h)) = not_run_is_call h
   fails_is_call (inl (inr h)) = show_is_call h.0 h.1 h.2
   fails_is_call (inr h) = let none = (query old.now.schema h.0 h.1.is).returning in let some = rw none at h.2 in absurd (cc)
+
+-- ---- and why it fails over any
+
+not_call : IsCallFault NotARegister → ⊥
+not_call (inl memory) = absurd (cc)
+not_call (inr store) = absurd (cc)
+
+pub other_error : (e : Error) (fault : StoreFault) → fault ≡ NotARegister → (IsTrue (is_call_error e) → IsCallFault fault) → is_call_error e ≡ false
+other_error e fault is call = elim (cases_Bool (is_call_error e)) [ inl is_call ↦ absurd (not_call (subst IsCallFault is (call (subst IsTrue (sym is_call) refl)))) | inr other ↦ other ]
+
+interrupted_is_call : (e : Error) → e ≡ SqliteFailure code.OperationInterrupted → is_call_error e ≡ false → ⊥
+interrupted_is_call e is other = let call = rw is at other in absurd (cc)
+
+-- with no limit on steps it would be refused too
+unlimited : (limit : Option ℕ) (k : Command) (db : Database) (e : Error) → is_call_error e ≡ false → RefusesToRead limit k db [] e → RefusesToRead None k db [] e
+unlimited limit (command.Select q names) db e other (inl h) = inl h
+unlimited limit (command.Select q names) db e other (inr (inl h)) = inr (inl h)
+unlimited limit (command.Select q names) db e other (inr (inr h)) = absurd (interrupted_is_call e h.0 other)
+unlimited limit (command.Rows values width names) db e other h = absurd (interrupted_is_call e h.0 other)
+unlimited limit (command.Insert at from) db e other h = h
+unlimited limit (command.InsertOr at how from clauses) db e other h = h
+unlimited limit (command.Update at q) db e other h = h
+unlimited limit (command.Delete at q) db e other h = h
+unlimited limit command.CreateTable db e other h = h
+unlimited limit (command.CreateIndex at) db e other h = h
+unlimited limit (command.DropTable at) db e other h = h
+unlimited limit (command.DropIndex at) db e other h = h
+unlimited limit command.Begin db e other h = h
+unlimited limit command.Commit db e other h = h
+unlimited limit command.Rollback db e other h = h
+unlimited limit (command.Savepoint name) db e other h = h
+unlimited limit (command.Release name) db e other h = h
+unlimited limit (command.RollbackTo name) db e other h = h
+unlimited limit command.Nothing db e other h = h
+unlimited limit command.CreateView db e other h = h
+unlimited limit (command.DropView at) db e other h = h
+
+module _ (text : List ℕ) (query : IsQuery text) (old new : State) (e : Error) (other : is_call_error e ≡ false) where
+  failed_otherwise : Fails old new ⊥ e → ⊥
+  failed_otherwise h = let call = failed_is_call old new e h in absurd (let no = other in cc)
+
+  not_understood : IsNoStatement old text [] e → IsRefused old.now text
+  not_understood (inl h) = inl (h.0, h.1)
+  not_understood (inr h) =
+      let is = query old.now.schema h.0 h.1 in
+      elim h.2 [
+        | inl longer ↦ absurd (longer.0 is.whole)
+        | inr others ↦ elim others [
+          | inl given ↦ absurd (given.0 (sym is.names))
+          | inr formats ↦ absurd (formats.0 is.formats)
+        ]
+      ]
+
+  not_run_is_refused : IsNotRun old new text [] e → IsRefused old.now text
+  unfolding IsNotRun
+  not_run_is_refused (inl h) = not_understood h.0
+  not_run_is_refused (inr h) = absurd (failed_otherwise h)
+
+  show_is_refused : (c : Compiled) (it : IsStatement old text [] c) → FailsToShow old new text c (timed [] c.formats it.now) e c.returning → IsRefused old.now text
+  show_is_refused c it h =
+      let is = query old.now.schema c it.is in
+      let fails = subst (FailsToShow old new text c (timed [] c.formats it.now) e) is.returning h in
+      let refuses : RefusesToRead old.step_limit c.command fails.0 [] e = subst (λ f. RefusesToRead old.step_limit c.command fails.0 (timed [] f it.now) e) is.formats fails.2 in
+      inr (record { compiled = c; is = it.is; source = fails.0; from = fails.1; error = e; refuses = unlimited old.step_limit c.command fails.0 e other refuses })
+
+  pub fails_is_refused : FailsToQuery text [] old new e ⊎ IsTooLate text [] old new e → IsRefused old.now text
+  unfolding FailsToQuery
+  fails_is_refused (inl (inl h)) = not_run_is_refused h
+  fails_is_refused (inl (inr h)) = show_is_refused h.0 h.1 h.2
+  fails_is_refused (inr h) = let none = (query old.now.schema h.0 h.1.is).returning in let some = rw none at h.2 in absurd (cc)

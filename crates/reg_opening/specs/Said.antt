@@ -1,10 +1,11 @@
 -- What the tables of an opened database say.
-use Rattle.std.specs.Prelude.{◌≡◌, ◌<◌, ◌≤◌, ℕ, Bool, true, false, List, [], ◌∷◌, length, Option, None, Ok, IsTrue}
+use Rattle.std.specs.Prelude.{◌≡◌, ◌⊎◌, ◌<◌, ◌≤◌, ℕ, Bool, true, false, List, [], ◌∷◌, length, Option, None, Ok, Err, IsTrue}
 use Rattle.std.specs.List.{AllByRecursion}
 use Rattle.sqlite_value.specs.declared.value.Value.TheVariants.{Blob}
 use Rattle.sqlite_value.specs.Order.{Row, column}
 use Rattle.sqlite_schema.specs.declared.schema.Schema.{Schema}
 use Rattle.sqlite_resolve.specs.declared.compiled.Compiled.{Compiled}
+use Rattle.sqlite_resolve.specs.declared.error.CompileError.{CompileError}
 use Rattle.sqlite.specs.Effect.{Database, Reads, RefusesToRead}
 use Rattle.sqlite.specs.Listing.{understood, reads_listing, IsSourceOf}
 use Rattle.sqlite.specs.declared.error.Error.{Error}
@@ -96,6 +97,33 @@ AreOffice rows steps = (schedule : List (ℕ × ℕ)) × HaveMoments schedule ×
 -- the tables say an office, each value within its range
 abbrev pub SaysOffice : Database → Type 0
 SaysOffice db = (rows : List Row) × (steps : List Row) × IsRead db OFFICE.now rows × IsRead db STEPS.now steps × AreOffice rows steps
+
+-- a text that is understood is refused over the rows that are there, and by no limit on steps
+pub record IsUnreadable (db : Database) (text : List ℕ) : Type 0 where
+  pub compiled : Compiled
+  pub is : understood db.schema text ≡ Ok compiled
+  pub source : Database
+  pub from : IsSourceOf (reads_listing db.schema text) db source
+  pub error : Error
+  pub refuses : RefusesToRead None compiled.command source [] error
+
+-- the tables have no answer to a text: it is not understood over them, or it is refused
+abbrev pub IsRefused : Database → List ℕ → Type 0
+IsRefused db text = ((error : CompileError) × (understood db.schema text ≡ Err error)) ⊎ IsUnreadable db text
+
+-- the tables say no version: they have no answer to its text, or it is not one row of a number from 1 on
+abbrev pub SaysNoVersion : Database → Type 0
+SaysNoVersion db = IsRefused db VERSION.now ⊎ ((rows : List Row) × IsRead db VERSION.now rows × ((n : ℕ) → 1 ≤ n → ¬ IsOne (λ row. column row 0 ≡ number n) rows))
+
+-- the tables say no office: they have no answer to its texts, or a value is out of its range
+abbrev pub SaysNoOffice : Database → Type 0
+SaysNoOffice db =
+    (IsRefused db OFFICE.now ⊎ IsRefused db STEPS.now)
+    ⊎ ((rows : List Row) × (steps : List Row) × IsRead db OFFICE.now rows × IsRead db STEPS.now steps × (¬ AreOffice rows steps))
+
+-- no register of any version stands in the tables: they say no version, or version 3 and no office
+abbrev pub SaysNoRegister : Database → Type 0
+SaysNoRegister db = SaysNoVersion db ⊎ (HasVersion db 3 × SaysNoOffice db)
 
 -- what a register's issuer, moments and last accepted moment always are
 pub record InRange (records : Records) : Type 0 where

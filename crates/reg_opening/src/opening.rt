@@ -7,7 +7,7 @@ ghost use Rattle.sqlite_trees.specs.View.{doubt};
 ghost use Rattle.reg_core.specs.Records.{Records};
 ghost use Rattle.reg_tables.specs.Shows.{IsShownBy, Shows};
 ghost use Rattle.reg_tables.specs.Stays.{IsCallFault, Stays};
-ghost use Rattle.reg_opening.specs.Said.{HasVersion, SaysOffice, InRange};
+ghost use Rattle.reg_opening.specs.Said.{HasVersion, SaysOffice, SaysNoVersion, SaysNoOffice, SaysNoRegister, InRange};
 
 use crate::judging::{judge_office, judge_version};
 use crate::peeking::peek;
@@ -23,6 +23,7 @@ fn test_version<S: Alter>(tx: &mut Transaction<'_, S>) -> Result<(), StoreFault>
     ensures same { HasCleanDisk (state S.Store tx.new.conn.now) → OnOk result (IsUnchanged (state S.Store tx.old.conn.now) (state S.Store tx.new.conn.now)) }
     ensures old { HasCleanDisk (state S.Store tx.new.conn.now) → result ≡ Err StoreFault.OldVersion → (n : ℕ) × (1 ≤ n) × (n < 3) × HasVersion (state S.Store tx.old.conn.now).now n }
     ensures newer { HasCleanDisk (state S.Store tx.new.conn.now) → result ≡ Err StoreFault.NewVersion → (n : ℕ) × (3 < n) × HasVersion (state S.Store tx.old.conn.now).now n }
+    ensures none { HasCleanDisk (state S.Store tx.new.conn.now) → result ≡ Err StoreFault.NotARegister → SaysNoVersion (state S.Store tx.old.conn.now).now }
     ensures shown { HasCleanDisk (state S.Store tx.new.conn.now) → (records : Records) → (IsTrue (state S.Store tx.old.conn.now).is_open → IsShownBy (state S.Store tx.old.conn.now).now records) → IfErr result IsCallFault }
     ensures kept { HasCleanDisk (state S.Store tx.new.conn.now) → KeepsCommit (state S.Store tx.old.conn.now) (state S.Store tx.new.conn.now) }
     ensures clean { doubt (state S.Store tx.old.conn.now).is_clean ≤ doubt (state S.Store tx.new.conn.now).is_clean }
@@ -36,6 +37,7 @@ fn test_version<S: Alter>(tx: &mut Transaction<'_, S>) -> Result<(), StoreFault>
 fn test_office<S: Alter>(tx: &mut Transaction<'_, S>) -> Result<(), StoreFault>
     ensures same_reference { tx.new.conn.ghost_name ≡ tx.old.conn.ghost_name }
     ensures ok { HasCleanDisk (state S.Store tx.new.conn.now) → OnOk result (SaysOffice (state S.Store tx.old.conn.now).now) }
+    ensures none { HasCleanDisk (state S.Store tx.new.conn.now) → result ≡ Err StoreFault.NotARegister → SaysNoOffice (state S.Store tx.old.conn.now).now }
     ensures shown { HasCleanDisk (state S.Store tx.new.conn.now) → (records : Records) → InRange records → (IsTrue (state S.Store tx.old.conn.now).is_open → IsShownBy (state S.Store tx.old.conn.now).now records) → IfErr result IsCallFault }
     ensures kept { HasCleanDisk (state S.Store tx.new.conn.now) → KeepsCommit (state S.Store tx.old.conn.now) (state S.Store tx.new.conn.now) }
     ensures clean { doubt (state S.Store tx.old.conn.now).is_clean ≤ doubt (state S.Store tx.new.conn.now).is_clean }
@@ -52,6 +54,7 @@ fn test_tables<S: Alter>(tx: &mut Transaction<'_, S>) -> Result<(), StoreFault>
     ensures ok { HasCleanDisk (state S.Store tx.new.conn.now) → OnOk result (HasVersion (state S.Store tx.old.conn.now).now 3 × SaysOffice (state S.Store tx.old.conn.now).now) }
     ensures old { HasCleanDisk (state S.Store tx.new.conn.now) → result ≡ Err StoreFault.OldVersion → (n : ℕ) × (1 ≤ n) × (n < 3) × HasVersion (state S.Store tx.old.conn.now).now n }
     ensures newer { HasCleanDisk (state S.Store tx.new.conn.now) → result ≡ Err StoreFault.NewVersion → (n : ℕ) × (3 < n) × HasVersion (state S.Store tx.old.conn.now).now n }
+    ensures none { HasCleanDisk (state S.Store tx.new.conn.now) → result ≡ Err StoreFault.NotARegister → SaysNoRegister (state S.Store tx.old.conn.now).now }
     ensures shown { HasCleanDisk (state S.Store tx.new.conn.now) → (records : Records) → InRange records → (IsTrue (state S.Store tx.old.conn.now).is_open → IsShownBy (state S.Store tx.old.conn.now).now records) → IfErr result IsCallFault }
     ensures kept { HasCleanDisk (state S.Store tx.new.conn.now) → KeepsCommit (state S.Store tx.old.conn.now) (state S.Store tx.new.conn.now) }
     ensures clean { doubt (state S.Store tx.old.conn.now).is_clean ≤ doubt (state S.Store tx.new.conn.now).is_clean }
@@ -72,6 +75,7 @@ pub fn open<S: Alter>(conn: &mut Connection<S>) -> Result<(), StoreFault>
     ensures ok { HasCleanDisk (state S.Store conn.new) → OnOk result (HasVersion (state S.Store conn.old).now 3 × SaysOffice (state S.Store conn.old).now) }
     ensures old { HasCleanDisk (state S.Store conn.new) → result ≡ Err StoreFault.OldVersion → (n : ℕ) × (1 ≤ n) × (n < 3) × HasVersion (state S.Store conn.old).now n }
     ensures newer { HasCleanDisk (state S.Store conn.new) → result ≡ Err StoreFault.NewVersion → (n : ℕ) × (3 < n) × HasVersion (state S.Store conn.old).now n }
+    ensures none { HasCleanDisk (state S.Store conn.new) → result ≡ Err StoreFault.NotARegister → SaysNoRegister (state S.Store conn.old).now }
     ensures shown { HasCleanDisk (state S.Store conn.new) → (records : Records) → InRange records → Shows S.Store conn.old records → IfErr result IsCallFault }
     ensures same { Stays (state S.Store conn.old) (state S.Store conn.new) }
     ensures clean { doubt (state S.Store conn.old).is_clean ≤ doubt (state S.Store conn.new).is_clean }

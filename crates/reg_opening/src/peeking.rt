@@ -1,12 +1,12 @@
 //! Statements that only read, whatever the tables are.
 
-ghost use Rattle.std.specs.Prelude.{◌≡◌, ◌≤◌, ◌⊎◌, false, IsTrue, IfOk, IfErr};
+ghost use Rattle.std.specs.Prelude.{◌≡◌, ◌≤◌, ◌⊎◌, false, IsTrue, IfOk, IfErr, Err};
 ghost use Rattle.sqlite.specs.Held.{state};
 ghost use Rattle.sqlite.specs.State.{HasCleanDisk, KeepsCommit, IsUnchanged};
 ghost use Rattle.sqlite_trees.specs.View.{doubt};
 ghost use Rattle.reg_tables.specs.Schema.{register_schema};
 ghost use Rattle.reg_tables.specs.Stays.{IsCallFault};
-ghost use Rattle.reg_opening.specs.Said.{is_call_error, IsQuery, IsNeverRefused, IsRead};
+ghost use Rattle.reg_opening.specs.Said.{is_call_error, IsQuery, IsNeverRefused, IsRead, IsRefused};
 
 use reg_tables::StoreFault;
 use sqlite::{Alter, Error, ErrorCode, Row, Transaction};
@@ -35,6 +35,7 @@ pub(crate) fn peek<S: Alter>(tx: &mut Transaction<'_, S>, sql: &str) -> Result<V
     ensures same { HasCleanDisk (state S.Store tx.new.conn.now) → IsQuery sql.now → IfOk result (λ _. IsUnchanged (state S.Store tx.old.conn.now) (state S.Store tx.new.conn.now)) }
     ensures refused { HasCleanDisk (state S.Store tx.new.conn.now) → IsQuery sql.now → IsNeverRefused sql.now → (IsTrue (state S.Store tx.old.conn.now).is_open → (state S.Store tx.old.conn.now).now.schema ≡ register_schema)
         → IfErr result IsCallFault }
+    ensures none { HasCleanDisk (state S.Store tx.new.conn.now) → IsQuery sql.now → result ≡ Err StoreFault.NotARegister → IsRefused (state S.Store tx.old.conn.now).now sql.now }
     ensures kept { HasCleanDisk (state S.Store tx.new.conn.now) → IsQuery sql.now → KeepsCommit (state S.Store tx.old.conn.now) (state S.Store tx.new.conn.now) }
     ensures clean { doubt (state S.Store tx.old.conn.now).is_clean ≤ doubt (state S.Store tx.new.conn.now).is_clean }
     ensures faults { IfErr result (λ fault. IsCallFault fault ⊎ (fault ≡ StoreFault.NotARegister)) }

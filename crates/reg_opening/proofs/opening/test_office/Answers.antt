@@ -1,10 +1,10 @@
-use Rattle.std.proofs.Common.{rules, sym, subst}
+use Rattle.std.proofs.Common.{inl, inr, rules, sym, subst}
 use Rattle.sqlite.specs.Effect.{Database}
 use Rattle.sqlite.specs.Held.{state}
 use Rattle.sqlite.specs.State.{HasCleanDisk}
 use Rattle.reg_tables.specs.Shows.{IsShownBy}
 use Rattle.reg_changes.proofs.Moving.{keeps_on, was_clean}
-use Rattle.reg_opening.specs.Said.{SaysOffice, IsRead}
+use Rattle.reg_opening.specs.Said.{SaysOffice, IsRead, IsRefused}
 use Rattle.reg_tables.specs.declared.statements.TheConstants.{STEPS}
 use Rattle.reg_opening.proofs.FirstShown.{ok_on}
 use Rattle.reg_opening.proofs.QueryTexts.{office_query, steps_query}
@@ -65,3 +65,25 @@ returns-clause-shown g c clean records within before =
     let office = office_read s0.now records shown c.in_ok-office.office.items within (c.in_ok-office.ensures.rows clean1 office_query) in
     let steps = steps_read s0.now records shown c.in_ok-steps.steps.items (subst (λ (d : Database). IsRead d STEPS.now c.in_ok-steps.steps.items) same.0.now_is (c.in_ok-steps.ensures.rows clean steps_query)) in
     office_shown c.in_ok-office.office.items c.in_ok-steps.steps.items c.judge_office.result (records.policy.schedule, within.moments, steps, office) c.judge_office.ensures.none c.judge_office.ensures.faults
+
+pub returns-in_err-office-clause-none : goal.returns-in_err-office-clause-none
+returns-in_err-office-clause-none g c clean is = inl (inl (c.peek.ensures.none clean office_query (search (rules, is))))
+
+pub returns-in_err-steps-clause-none : goal.returns-in_err-steps-clause-none
+returns-in_err-steps-clause-none g c clean is =
+    let s1 = state g.S.Store c.peek.new.tx.conn.now in
+    let s2 = state g.S.Store c.peek-2.new.tx.conn.now in
+    let clean1 : HasCleanDisk s1 = was_clean s1 s2 c.peek-2.ensures.clean clean in
+    let same = c.in_ok-office.ensures.same clean1 office_query in
+    inl (inr (subst (λ (d : Database). IsRefused d STEPS.now) same.0.now_is (c.peek-2.ensures.none clean steps_query (search (rules, is)))))
+
+pub returns-clause-none : goal.returns-clause-none
+returns-clause-none g c clean is =
+    let s0 = state g.S.Store c.args.tx.now.conn.now in
+    let s1 = state g.S.Store c.peek.new.tx.conn.now in
+    let s2 = state g.S.Store c.peek-2.new.tx.conn.now in
+    let clean1 : HasCleanDisk s1 = was_clean s1 s2 c.peek-2.ensures.clean clean in
+    let same = c.in_ok-office.ensures.same clean1 office_query in
+    let office = c.in_ok-office.ensures.rows clean1 office_query in
+    let steps : IsRead s0.now STEPS.now c.in_ok-steps.steps.items = subst (λ (d : Database). IsRead d STEPS.now c.in_ok-steps.steps.items) same.0.now_is (c.in_ok-steps.ensures.rows clean steps_query) in
+    inr (c.in_ok-office.office.items, c.in_ok-steps.steps.items, office, steps, c.judge_office.ensures.none is)

@@ -1,4 +1,4 @@
-use Rattle.std.proofs.Common.{◌≡◌, rules, sym, subst}
+use Rattle.std.proofs.Common.{◌≡◌, inl, inr, rules, sym, subst}
 use Rattle.sqlite_value.specs.Order.{column}
 use Rattle.sqlite.specs.Held.{state}
 use Rattle.reg_tables.specs.Rows.{number}
@@ -46,3 +46,10 @@ returns-clause-shown g c clean records before =
     let shown = before (c.in_ok-rows.ensures.same clean version_query).0.was_open in
     let one = subst (IsOne (λ row. column row 0 ≡ number 3)) (sym c.deref.ensures.value) (version_read db records shown c.in_ok-rows.rows.items (c.in_ok-rows.ensures.rows clean version_query)) in
     judged_shown c.deref.result.now c.judge_version.result one c.judge_version.ensures.old c.judge_version.ensures.newer c.judge_version.ensures.none c.judge_version.ensures.faults
+
+pub returns-in_err-rows-clause-none : goal.returns-in_err-rows-clause-none
+returns-in_err-rows-clause-none g c clean is = inl (c.peek.ensures.none clean version_query (search (rules, is)))
+
+pub returns-clause-none : goal.returns-clause-none
+returns-clause-none g c clean is =
+    inr (c.in_ok-rows.rows.items, c.in_ok-rows.ensures.rows clean version_query, λ n low one. c.judge_version.ensures.none is n low (subst (IsOne (λ row. column row 0 ≡ number n)) (sym c.deref.ensures.value) one))

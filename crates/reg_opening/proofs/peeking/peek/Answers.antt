@@ -1,5 +1,6 @@
+use Rattle.std.proofs.Common.{rules}
 use Rattle.sqlite.specs.Held.{state}
-use Rattle.reg_opening.proofs.Queried.{shown_reads, fails_keeps, fails_is_call}
+use Rattle.reg_opening.proofs.Queried.{shown_reads, fails_keeps, fails_is_call, fails_is_refused, other_error}
 use Rattle.reg_opening.proofs.peeking.peek.Goals as goal
 
 pub returns-in-Ok-clause-rows : goal.returns-in-Ok-clause-rows
@@ -22,3 +23,9 @@ returns-in-Err-clause-refused g c clean query never register =
 pub returns-in-Err-clause-kept : goal.returns-in-Err-clause-kept
 returns-in-Err-clause-kept g c clean query =
     fails_keeps c.args.sql.now query (state g.S.Store c.args.tx.now.conn.now) (state g.S.Store c.query_all.new.self.conn.now) c.in-Err.error (c.in-Err.ensures.err clean)
+
+pub returns-in-Err-clause-none : goal.returns-in-Err-clause-none
+returns-in-Err-clause-none g c clean query is =
+    let fault = c.unread.result in
+    let other = other_error c.in-Err.error fault (search (rules, is)) c.unread.ensures.call in
+    fails_is_refused c.args.sql.now query (state g.S.Store c.args.tx.now.conn.now) (state g.S.Store c.query_all.new.self.conn.now) c.in-Err.error other (c.in-Err.ensures.err clean)
