@@ -4,5 +4,13 @@ pub mod FirstRows
 pub mod FirstShown
 pub mod Queried
 pub mod QueryTexts
+pub mod Resolved
+pub mod OneTable
+pub mod Simple
+pub mod Understood
+pub mod TableTexts
+pub mod SameRows
+pub mod Determined
+pub mod NoRegister
 pub mod Steps
 pub mod Registered

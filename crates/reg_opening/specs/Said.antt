@@ -125,6 +125,10 @@ SaysNoOffice db =
 abbrev pub SaysNoRegister : Database → Type 0
 SaysNoRegister db = SaysNoVersion db ⊎ (HasVersion db 3 × SaysNoOffice db)
 
+-- over tables with no view: no version from 1 on stands there but 3, and where 3 does, no office
+abbrev pub HoldsNoRegister : Database → Type 0
+HoldsNoRegister db = db.schema.views ≡ [] → (n : ℕ) → 1 ≤ n → HasVersion db n → (n ≡ 3) × (¬ SaysOffice db)
+
 -- what a register's issuer, moments and last accepted moment always are
 pub record InRange (records : Records) : Type 0 where
   pub issuer : IsIssuer records.issuer

@@ -7,7 +7,7 @@ ghost use Rattle.sqlite_trees.specs.View.{doubt};
 ghost use Rattle.reg_core.specs.Records.{Records};
 ghost use Rattle.reg_tables.specs.Shows.{IsShownBy, Shows};
 ghost use Rattle.reg_tables.specs.Stays.{IsCallFault, Stays};
-ghost use Rattle.reg_opening.specs.Said.{HasVersion, SaysOffice, SaysNoVersion, SaysNoOffice, SaysNoRegister, InRange};
+ghost use Rattle.reg_opening.specs.Said.{HasVersion, SaysOffice, SaysNoVersion, SaysNoOffice, SaysNoRegister, HoldsNoRegister, InRange};
 
 use crate::judging::{judge_office, judge_version};
 use crate::peeking::peek;
@@ -76,6 +76,7 @@ pub fn open<S: Alter>(conn: &mut Connection<S>) -> Result<(), StoreFault>
     ensures old { HasCleanDisk (state S.Store conn.new) → result ≡ Err StoreFault.OldVersion → (n : ℕ) × (1 ≤ n) × (n < 3) × HasVersion (state S.Store conn.old).now n }
     ensures newer { HasCleanDisk (state S.Store conn.new) → result ≡ Err StoreFault.NewVersion → (n : ℕ) × (3 < n) × HasVersion (state S.Store conn.old).now n }
     ensures none { HasCleanDisk (state S.Store conn.new) → result ≡ Err StoreFault.NotARegister → SaysNoRegister (state S.Store conn.old).now }
+    ensures alone { HasCleanDisk (state S.Store conn.new) → result ≡ Err StoreFault.NotARegister → HoldsNoRegister (state S.Store conn.old).now }
     ensures shown { HasCleanDisk (state S.Store conn.new) → (records : Records) → InRange records → Shows S.Store conn.old records → IfErr result IsCallFault }
     ensures same { Stays (state S.Store conn.old) (state S.Store conn.new) }
     ensures clean { doubt (state S.Store conn.old).is_clean ≤ doubt (state S.Store conn.new).is_clean }

@@ -9,7 +9,7 @@ ghost use Rattle.reg_tables.specs.Kept.{ShowsKept};
 ghost use Rattle.reg_tables.specs.Schema.{no_schema};
 ghost use Rattle.reg_tables.specs.Shows.{Shows};
 ghost use Rattle.reg_tables.specs.Stays.{IsCallFault, Stays};
-ghost use Rattle.reg_opening.specs.Said.{HasVersion, SaysOffice, SaysNoRegister, InRange};
+ghost use Rattle.reg_opening.specs.Said.{HasVersion, SaysOffice, SaysNoRegister, HoldsNoRegister, InRange};
 
 use crate::store::Store;
 use reg_core::Policy;
@@ -72,6 +72,7 @@ impl<S: Alter> Store<S> {
         ensures old { IfErr result (λ unopened. HasCleanDisk (state S.Store unopened.connection) → unopened.fault ≡ StoreFault.OldVersion → (n : ℕ) × (1 ≤ n) × (n < 3) × HasVersion (state S.Store connection).now n) }
         ensures newer { IfErr result (λ unopened. HasCleanDisk (state S.Store unopened.connection) → unopened.fault ≡ StoreFault.NewVersion → (n : ℕ) × (3 < n) × HasVersion (state S.Store connection).now n) }
         ensures none { IfErr result (λ unopened. HasCleanDisk (state S.Store unopened.connection) → unopened.fault ≡ StoreFault.NotARegister → SaysNoRegister (state S.Store connection).now) }
+        ensures alone { IfErr result (λ unopened. HasCleanDisk (state S.Store unopened.connection) → unopened.fault ≡ StoreFault.NotARegister → HoldsNoRegister (state S.Store connection).now) }
         ensures clean { IfOk result (λ store. doubt (state S.Store connection).is_clean ≤ doubt (state S.Store store).is_clean) }
         ensures clean_after { IfErr result (λ unopened. doubt (state S.Store connection).is_clean ≤ doubt (state S.Store unopened.connection).is_clean) }
         ensures idle { IfErr result (λ unopened. unopened.connection.in_transaction ≡ false) }

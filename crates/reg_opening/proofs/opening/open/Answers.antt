@@ -3,6 +3,7 @@ use Rattle.sqlite.specs.Held.{state}
 use Rattle.sqlite.specs.State.{HasCleanDisk}
 use Rattle.reg_changes.proofs.Moving.{was_clean}
 use Rattle.reg_opening.specs.Said.{HasVersion, SaysNoRegister}
+use Rattle.reg_opening.proofs.NoRegister.{no_register}
 use Rattle.reg_opening.proofs.opening.open.Goals as goal
 
 pub returns-clause-old : goal.returns-clause-old
@@ -31,3 +32,6 @@ returns-clause-none g c clean is =
     let cleaner : HasCleanDisk (state s ended) = search (rules, clean) in
     let was : HasCleanDisk (state s entered) = was_clean (state s entered) (state s ended) c.rollback.ensures.survives.clean cleaner in
     subst (λ h. SaysNoRegister (state s h).now) c.transaction-tx.ensures.begun (c.test_tables-tested.ensures.none was is)
+
+pub returns-clause-alone : goal.returns-clause-alone
+returns-clause-alone g c clean is unviewed = no_register (state g.S.Store c.args.conn.now).now unviewed (returns-clause-none g c clean is)

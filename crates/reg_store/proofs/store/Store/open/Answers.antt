@@ -3,3 +3,6 @@ use Rattle.reg_store.proofs.store.Store.open.Goals as goal
 
 pub returns-in-Err-clause-none : goal.returns-in-Err-clause-none
 returns-in-Err-clause-none g c clean is = c.in-Err.ensures.none clean (search (rules, is))
+
+pub returns-in-Err-clause-alone : goal.returns-in-Err-clause-alone
+returns-in-Err-clause-alone g c clean is = c.in-Err.ensures.alone clean (search (rules, is))

@@ -1,0 +1,74 @@
+-- Over tables with no view, what is told as no register says no version from 1 on but 3, and then no office.
+use Rattle.std.proofs.Common.{◌≡◌, ◌≤◌, ℕ, false, List, [], None, Ok, sym, ap, subst, ◌∙◌, inl, inr}
+use Rattle.sqlite_value.specs.Order.{Row, column}
+use Rattle.sqlite_resolve.specs.declared.compiled.Compiled.{Compiled}
+use Rattle.sqlite.specs.Effect.{Database, Reads, RefusesToRead}
+use Rattle.sqlite.specs.Listing.{understood, reads_listing, IsSourceOf}
+use Rattle.reg_core.specs.Schedule.{Ascends}
+use Rattle.reg_tables.specs.Rows.{number}
+use Rattle.reg_tables.specs.declared.statements.TheConstants.{STEPS}
+use Rattle.reg_opening.specs.declared.texts.TheConstants.{VERSION, OFFICE}
+use Rattle.reg_opening.specs.Said.{IsRead, IsRefused, IsOne, KeepsTo, HasVersion, SaysOffice, SaysNoRegister, SaysNoOffice}
+use Rattle.reg_opening.proofs.Steps.{only_row}
+use Rattle.reg_opening.proofs.Resolved.{ok_one}
+use Rattle.reg_opening.proofs.Understood.{ReadsTable}
+use Rattle.reg_opening.proofs.TableTexts.{version_names, version_is, office_names, office_is, steps_names, steps_keys, steps_is}
+use Rattle.reg_opening.proofs.SameRows.{not_both, same_row}
+use Rattle.reg_opening.proofs.Determined.{same_steps}
+
+-- ---- a text that reads one table
+
+module _ (text : List ℕ) (names keys : List (List ℕ)) (db : Database) (means : (c : Compiled) → understood db.schema text ≡ Ok c → ReadsTable db.schema names keys c.command × (reads_listing db.schema text ≡ false)) where
+  here : (c : Compiled) → understood db.schema text ≡ Ok c → (source : Database) → IsSourceOf (reads_listing db.schema text) db source → source ≡ db
+  here c is source from = subst (λ b. IsSourceOf b db source) (means c is).1 from
+
+  reads_of : (rows : List Row) (read : IsRead db text rows) → Reads read.compiled.command db [] rows
+  reads_of rows read = subst (λ d. Reads read.compiled.command d [] rows) (here read.compiled read.is read.source read.from) read.reads
+
+  reads_as : (rows others : List Row) (read : IsRead db text rows) (again : IsRead db text others) → Reads read.compiled.command db [] others
+  reads_as rows others read again =
+      let same : again.compiled ≡ read.compiled = ok_one again.compiled read.compiled (sym again.is ∙ read.is) in
+      subst (λ (c : Compiled). Reads c.command db [] others) same (reads_of others again)
+
+  not_refused : (rows : List Row) → IsRead db text rows → IsRefused db text → ⊥
+  not_refused rows read (inl h) = absurd (let failed = sym h.1 ∙ read.is in cc)
+  not_refused rows read (inr u) =
+      let same : u.compiled ≡ read.compiled = ok_one u.compiled read.compiled (sym u.is ∙ read.is) in
+      let refuses = subst (λ d. RefusesToRead None u.compiled.command d [] u.error) (here u.compiled u.is u.source u.from) u.refuses in
+      not_both db.schema names keys read.compiled.command (means read.compiled read.is).0 db rows u.error (reads_of rows read) (subst (λ (c : Compiled). RefusesToRead None c.command db [] u.error) same refuses)
+
+  one_again : (P : Row → Type 0) (rows others : List Row) → IsRead db text rows → IsRead db text others → IsOne P rows → IsOne P others
+  one_again P rows others read again one =
+      let same = same_row db.schema names keys read.compiled.command (means read.compiled read.is).0 db rows others one.0 (reads_of rows read) (reads_as rows others read again) one.1 in
+      (one.0, same ∙ one.1, one.2)
+
+-- ---- the tables of an office
+
+number_one : (a b : ℕ) → number a ≡ number b → a ≡ b
+number_one a b e = cc
+
+one_version : (rows : List Row) (a b : ℕ) → IsOne (λ row. column row 0 ≡ number a) rows → IsOne (λ row. column row 0 ≡ number b) rows → a ≡ b
+one_version rows a b one two = number_one a b (sym one.2 ∙ ap (λ r. column r 0) (only_row rows one.0 two.0 one.1 two.1) ∙ two.2)
+
+module _ (db : Database) (unviewed : db.schema.views ≡ []) where
+  no_office : SaysNoOffice db → SaysOffice db → ⊥
+  no_office (inl (inl refused)) says = not_refused OFFICE.now office_names [] db (office_is db.schema unviewed) says.0 says.2 refused
+  no_office (inl (inr refused)) says = not_refused STEPS.now steps_names steps_keys db (steps_is db.schema unviewed) says.1 says.3 refused
+  no_office (inr h) says =
+      let are = says.4 in
+      let keeps = are.3 in
+      let rise : Ascends are.0 = subst Ascends keeps.2.3 keeps.2.4.of_policy.schedule.ascending in
+      let row = one_again OFFICE.now office_names [] db (office_is db.schema unviewed) (KeepsTo are.0) says.0 h.0 says.2 h.2 keeps in
+      let means = steps_is db.schema unviewed in
+      let steps =
+      same_steps db.schema _ _ says.3.compiled.command (means says.3.compiled says.3.is).0 db says.1 h.1 are.0
+      (reads_of STEPS.now steps_names steps_keys db means says.1 says.3) (reads_as STEPS.now steps_names steps_keys db means says.1 h.1 says.3 h.3) rise are.2 in
+      h.4 (are.0, are.1, steps, row)
+
+  pub no_register : SaysNoRegister db → (n : ℕ) → 1 ≤ n → HasVersion db n → (n ≡ 3) × (SaysOffice db → ⊥)
+  no_register (inl (inl refused)) n low has = absurd (not_refused VERSION.now version_names [] db (version_is db.schema unviewed) has.0 has.1 refused)
+  no_register (inl (inr h)) n low has = absurd (h.2 n low (one_again VERSION.now version_names [] db (version_is db.schema unviewed) (λ row. column row 0 ≡ number n) has.0 h.0 has.1 h.1 has.2))
+  no_register (inr h) n low has = (
+    one_version h.0.0 n 3 (one_again VERSION.now version_names [] db (version_is db.schema unviewed) (λ row. column row 0 ≡ number n) has.0 h.0.0 has.1 h.0.1 has.2) h.0.2,
+    no_office h.1,
+  )
