@@ -1,6 +1,6 @@
 //! Values of SQL as values of the register. What no register writes is [`StoreFault::Store`].
 
-ghost use Rattle.std.specs.Prelude.{◌≡◌, ℕ, Bool, List, Option, cond, IfOk, IfErr};
+ghost use Rattle.std.specs.Prelude.{◌≡◌, ◌<◌, ◌≤◌, ◌^◌, ℕ, Bool, List, Option, cond, OnOk, IfOk, IfErr};
 ghost use Rattle.sqlite_value.specs.declared.value.Value.TheVariants.{Text, Blob};
 ghost use Rattle.sqlite_value.specs.Order.{column};
 ghost use Rattle.reg_core.specs.Serial.{IsSerial};
@@ -16,6 +16,8 @@ use sqlite::types::{Value, ValueRef};
 /// The number as SQL has it. `Store` above 2^63 - 1, which SQL doesn't have.
 pub(crate) fn sql_number(n: u64) -> Result<Value, StoreFault>
     ensures value { IfOk result (λ value. value ≡ number n) }
+    ensures had { OnOk result (n < 2 ^ 63) }
+    ensures refused { IfErr result (λ fault. (fault ≡ StoreFault.Store) × (2 ^ 63 ≤ n)) }
     ensures faults { IfErr result IsCallFault }
 {
     match i64::try_from(n) {
