@@ -15,7 +15,7 @@ abbrev pub ending_of : Result (Unit {0}) Fault → Result (Unit {0}) Failure
 ending_of (Ok done) = Ok done
 ending_of (Err fault) = Err (failure.Fault fault)
 
--- What calls of a place did: the place before them and after them. No other call of it lies between.
+-- What calls of a place did: the place before them and after them. No other call that may change it lies between.
 module _ {P K : Type 0} (places : Place P K) (keeper : Keeper K) (place place' : P) where
   -- The register at a path was opened, and then closed. The step leads from the records that stood in it, whatever they
   -- were, to those that stand there afterwards, where the medium has returned all that was written.
