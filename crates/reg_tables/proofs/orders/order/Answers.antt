@@ -1,21 +1,24 @@
-use Rattle.std.proofs.Common.{Some, sym, ap, ◌∙◌}
+use Rattle.std.proofs.Common.{◌≡◌, Some, sym, ap, ◌∙◌}
 use Rattle.sqlite.specs.Held.{state}
 use Rattle.reg_core.specs.declared.rows.OrderRow.{OrderRow}
+use Rattle.reg_tables.specs.Rows.{number}
 use Rattle.reg_tables.proofs.Staying.{shows_register, shown_then}
 use Rattle.reg_tables.proofs.OrderLemmas.{reading_by_id, by_id_none, by_id_one}
 use Rattle.reg_tables.proofs.orders.order.Goals as goal
 
 pub returns-in-None-clause-found : goal.returns-in-None-clause-found
 returns-in-None-clause-found g c records shows clean =
+    let value : c.in_ok-value.value ≡ number c.args.id = c.in_ok-value.ensures.value in
     let answer = c.in_ok-found.ensures.rows reading_by_id (shows_register g.S.Store c.args.conn.now records shows) clean in
     let shown = shown_then g.S.Store c.args.conn.now c.read.new.conn records c.read.ensures.clean clean answer.is_open shows in
-    by_id_none (state g.S.Store c.args.conn.now).now records shown c.args.id c.in_ok-found.found.items (rw (c.params-to_sql.ensures, c.in_ok-value.ensures.value) at answer.reads)
+    by_id_none (state g.S.Store c.args.conn.now).now records shown c.args.id c.in_ok-found.found.items (rw (c.params-to_sql.ensures, value) at answer.reads)
     (sym c.deref.ensures.value ∙ (rw c.in-None.is at c.in_ok-at_most_one.ensures.found))
 
 pub returns-clause-found : goal.returns-clause-found
 returns-clause-found g c records shows clean =
+    let value : c.in_ok-value.value ≡ number c.args.id = c.in_ok-value.ensures.value in
     let answer = c.in_ok-found.ensures.rows reading_by_id (shows_register g.S.Store c.args.conn.now records shows) clean in
     let shown = shown_then g.S.Store c.args.conn.now c.read.new.conn records c.read.ensures.clean clean answer.is_open shows in
-    let one = by_id_one (state g.S.Store c.args.conn.now).now records shown c.args.id c.in_ok-found.found.items (rw (c.params-to_sql.ensures, c.in_ok-value.ensures.value) at answer.reads)
+    let one = by_id_one (state g.S.Store c.args.conn.now).now records shown c.args.id c.in_ok-found.found.items (rw (c.params-to_sql.ensures, value) at answer.reads)
     c.in-Some.row.now (sym c.deref.ensures.value ∙ (rw c.in-Some.is at c.in_ok-at_most_one.ensures.found)) in
     ap (λ (row : OrderRow). Some row) (c.in_ok-order_in-in-Some.ensures.read one.it one.shown) ∙ one.first

@@ -33,3 +33,18 @@ returns-in-Crls-clause-found g c records shows clean =
     rw c.in-Crls.is (ok_then c.number_shown-in-Crls.result (c.number_shown-in-Crls.ensures.read reading_crl (shows_register g.S.Store c.args.conn.now records shows) clean) (λ n known.
     known.2 (length records.crls)
     (crl_count (state g.S.Store c.args.conn.now).now records (shown_then g.S.Store c.args.conn.now c.number_shown-in-Crls.new.conn records c.number_shown-in-Crls.ensures.clean clean known.1.is_open shows) known.0 known.1.reads)))
+
+pub returns-in-Subscribers-clause-same : goal.returns-in-Subscribers-clause-same
+returns-in-Subscribers-clause-same g c register = c.number_shown.ensures.same reading_subscriber register
+
+pub returns-in-Orders-clause-same : goal.returns-in-Orders-clause-same
+returns-in-Orders-clause-same g c register = c.number_shown-in-Orders.ensures.same reading_order register
+
+pub returns-in-Certs-clause-same : goal.returns-in-Certs-clause-same
+returns-in-Certs-clause-same g c register = c.number_shown-in-Certs.ensures.same reading_cert register
+
+pub returns-in-Requests-clause-same : goal.returns-in-Requests-clause-same
+returns-in-Requests-clause-same g c register = c.number_shown-in-Requests.ensures.same reading_request register
+
+pub returns-in-Crls-clause-same : goal.returns-in-Crls-clause-same
+returns-in-Crls-clause-same g c register = c.number_shown-in-Crls.ensures.same reading_crl register
