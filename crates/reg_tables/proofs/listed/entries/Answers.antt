@@ -1,4 +1,4 @@
-use Rattle.std.proofs.Common.{rules, subst, ◌∙◌}
+use Rattle.std.proofs.Common.{refl, subst, ◌∙◌, arith}
 use Rattle.sqlite.specs.Held.{state}
 use Rattle.reg_core.specs.Crls.{EntriesAscend}
 use Rattle.reg_tables.proofs.Staying.{kept_shows, shows_register, both_then}
@@ -13,5 +13,23 @@ returns-clause-found g c records kept clean =
     let it = entries_lists (state g.S.Store c.args.conn.now).now records kept.0 both kept.2 c.args.number c.in_ok-found.found.items reads in
     let found = found_entries (state g.S.Store c.args.conn.now).now records kept.0 both kept.2 c.args.number c.in_ok-found.found.items reads in
     let same = c.in_ok-entries.ensures.read found it.serials it.shown in
-    let up : EntriesAscend c.in_ok-entries.entries.items = search rules in
+    let up = subst EntriesAscend c.deref.ensures.value (c.if-not-ascends.ensures.0 refl) in
     same ∙ entries_are records c.args.number c.in_ok-found.found.items found it (subst EntriesAscend same up)
+
+pub returns-clause-ascending : goal.returns-clause-ascending
+returns-clause-ascending g c = subst EntriesAscend c.deref.ensures.value (c.if-not-ascends.ensures.0 refl)
+
+pub returns-clause-at_most : goal.returns-clause-at_most
+returns-clause-at_most g c = omega arith
+
+pub returns-in_err-found-clause-same : goal.returns-in_err-found-clause-same
+returns-in_err-found-clause-same g c register = c.read.ensures.same reading_entries register
+
+pub returns-in_err-entries-clause-same : goal.returns-in_err-entries-clause-same
+returns-in_err-entries-clause-same g c register = c.read.ensures.same reading_entries register
+
+pub returns-then-len-gt-MOST_ENTRIES-clause-same : goal.returns-then-len-gt-MOST_ENTRIES-clause-same
+returns-then-len-gt-MOST_ENTRIES-clause-same g c register = c.read.ensures.same reading_entries register
+
+pub returns-clause-same : goal.returns-clause-same
+returns-clause-same g c register = c.read.ensures.same reading_entries register

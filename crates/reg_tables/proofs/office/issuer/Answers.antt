@@ -14,3 +14,21 @@ returns-clause-found g c records shows clean =
     let key = c.in_ok-bytes_at-2.ensures.read records.issuer.key (ap (λ (r : Row). column r 1) row) in
     let made = c.in_ok-new.ensures.ok in
     λ i. record { name = (made.0 ∙ name) i; key = (made.1 ∙ key) i }
+
+pub returns-in_err-found-clause-same : goal.returns-in_err-found-clause-same
+returns-in_err-found-clause-same g c register = c.read.ensures.same reading_issuer register
+
+pub returns-in_err-row-clause-same : goal.returns-in_err-row-clause-same
+returns-in_err-row-clause-same g c register = c.read.ensures.same reading_issuer register
+
+pub returns-in_err-bytes_at-clause-same : goal.returns-in_err-bytes_at-clause-same
+returns-in_err-bytes_at-clause-same g c register = c.read.ensures.same reading_issuer register
+
+pub returns-in_err-bytes_at-2-clause-same : goal.returns-in_err-bytes_at-2-clause-same
+returns-in_err-bytes_at-2-clause-same g c register = c.read.ensures.same reading_issuer register
+
+pub returns-in_err-new-clause-same : goal.returns-in_err-new-clause-same
+returns-in_err-new-clause-same g c register = c.read.ensures.same reading_issuer register
+
+pub returns-clause-same : goal.returns-clause-same
+returns-clause-same g c register = c.read.ensures.same reading_issuer register
