@@ -22,3 +22,15 @@ returns-clause-found g c records kept shows clean =
           let row = first_row c.in_ok-only.field-0.now (number (length (filter (ends_before c.args.now) kept.letters)) ∷ []) (sym one ∙ shown) in
           c.in_ok-ended.ensures.read (length (filter (ends_before c.args.now) kept.letters)) (ap (λ (r : Row). column r 0) row),
     )
+
+pub returns-clause-same : goal.returns-clause-same
+returns-clause-same g c register = c.read.ensures.same reading_ended register
+
+pub returns-in_err-ended-clause-same : goal.returns-in_err-ended-clause-same
+returns-in_err-ended-clause-same g c register = c.read.ensures.same reading_ended register
+
+pub returns-in_err-found-clause-same : goal.returns-in_err-found-clause-same
+returns-in_err-found-clause-same g c register = c.read.ensures.same reading_ended register
+
+pub returns-in_err-only-clause-same : goal.returns-in_err-only-clause-same
+returns-in_err-only-clause-same g c register = c.read.ensures.same reading_ended register

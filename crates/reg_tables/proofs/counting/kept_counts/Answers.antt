@@ -14,3 +14,21 @@ returns-clause-found g c records kept shows clean =
     let revoked = c.in_ok-number_at-2.ensures.read kept.counts.revoked (ap (λ (r : Row). column r 1) row) in
     let expired = c.in_ok-number_at-3.ensures.read kept.counts.expired (ap (λ (r : Row). column r 2) row) in
     λ i. record { good = good i; revoked = revoked i; expired = expired i }
+
+pub returns-clause-same : goal.returns-clause-same
+returns-clause-same g c register = c.read.ensures.same reading_counts register
+
+pub returns-in_err-found-clause-same : goal.returns-in_err-found-clause-same
+returns-in_err-found-clause-same g c register = c.read.ensures.same reading_counts register
+
+pub returns-in_err-number_at-clause-same : goal.returns-in_err-number_at-clause-same
+returns-in_err-number_at-clause-same g c register = c.read.ensures.same reading_counts register
+
+pub returns-in_err-number_at-2-clause-same : goal.returns-in_err-number_at-2-clause-same
+returns-in_err-number_at-2-clause-same g c register = c.read.ensures.same reading_counts register
+
+pub returns-in_err-number_at-3-clause-same : goal.returns-in_err-number_at-3-clause-same
+returns-in_err-number_at-3-clause-same g c register = c.read.ensures.same reading_counts register
+
+pub returns-in_err-row-clause-same : goal.returns-in_err-row-clause-same
+returns-in_err-row-clause-same g c register = c.read.ensures.same reading_counts register

@@ -25,3 +25,18 @@ returns-clause-found g c records shows clean =
     c.in-Some.row.now (sym c.deref.ensures.value ∙ (rw c.in-Some.is at c.in_ok-at_most_one.ensures.found)) in
     let same = same_blob (column c.in-Some.row.now 0) c.in_ok-get-in-Some.field-0.items one.it.bytes c.in_ok-get-in-Some.ensures.ok.1 (ap (λ (r : Row). column r 0) one.shown) in
     ap (λ (bytes : List ℕ). Some bytes) same ∙ ap (option_map (λ (crl : Crl). crl.bytes)) one.first
+
+pub returns-clause-same : goal.returns-clause-same
+returns-clause-same g c register = c.read.ensures.same reading_bytes register
+
+pub returns-in-None-clause-same : goal.returns-in-None-clause-same
+returns-in-None-clause-same g c register = c.read.ensures.same reading_bytes register
+
+pub returns-in_err-at_most_one-clause-same : goal.returns-in_err-at_most_one-clause-same
+returns-in_err-at_most_one-clause-same g c register = c.read.ensures.same reading_bytes register
+
+pub returns-in_err-found-clause-same : goal.returns-in_err-found-clause-same
+returns-in_err-found-clause-same g c register = c.read.ensures.same reading_bytes register
+
+pub returns-in_err-get-in-Some-clause-same : goal.returns-in_err-get-in-Some-clause-same
+returns-in_err-get-in-Some-clause-same g c register = c.read.ensures.same reading_bytes register

@@ -23,3 +23,21 @@ returns-clause-found g c records kept clean =
     let last = c.in_ok-number_or_null_at-in-Some.ensures.read one.0.last (ap (λ (r : Row). column r 1) one.2) in
     let same : ◌≡◌ {A = Listing} (record { first = c.in_ok-number_at-in-Some.field-0; last = c.in_ok-number_or_null_at-in-Some.field-0 }) one.0 = λ i. record { first = first i; last = last i } in
     ap (λ (it : Listing). Some it) same ∙ one.1
+
+pub returns-clause-same : goal.returns-clause-same
+returns-clause-same g c register = c.read.ensures.same reading_listed register
+
+pub returns-in-None-clause-same : goal.returns-in-None-clause-same
+returns-in-None-clause-same g c register = c.read.ensures.same reading_listed register
+
+pub returns-in_err-at_most_one-clause-same : goal.returns-in_err-at_most_one-clause-same
+returns-in_err-at_most_one-clause-same g c register = c.read.ensures.same reading_listed register
+
+pub returns-in_err-found-clause-same : goal.returns-in_err-found-clause-same
+returns-in_err-found-clause-same g c register = c.read.ensures.same reading_listed register
+
+pub returns-in_err-number_at-in-Some-clause-same : goal.returns-in_err-number_at-in-Some-clause-same
+returns-in_err-number_at-in-Some-clause-same g c register = c.read.ensures.same reading_listed register
+
+pub returns-in_err-number_or_null_at-in-Some-clause-same : goal.returns-in_err-number_or_null_at-in-Some-clause-same
+returns-in_err-number_or_null_at-in-Some-clause-same g c register = c.read.ensures.same reading_listed register

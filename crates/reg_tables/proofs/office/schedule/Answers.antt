@@ -11,3 +11,12 @@ returns-clause-found g c records shows clean =
     let rows = steps_are (state g.S.Store c.args.conn.now).now records shown c.in_ok-found.found.items answer.reads in
     let steps = c.in_ok-steps.ensures.read records.policy.schedule rows in
     some_then c.ok_or.result c.new.result _ c.ok_or.ensures.value c.new.ensures.value (λ schedule is. is ∙ c.deref.ensures.value ∙ steps)
+
+pub returns-clause-same : goal.returns-clause-same
+returns-clause-same g c register = c.read.ensures.same reading_steps register
+
+pub returns-in_err-found-clause-same : goal.returns-in_err-found-clause-same
+returns-in_err-found-clause-same g c register = c.read.ensures.same reading_steps register
+
+pub returns-in_err-steps-clause-same : goal.returns-in_err-steps-clause-same
+returns-in_err-steps-clause-same g c register = c.read.ensures.same reading_steps register

@@ -14,3 +14,21 @@ returns-clause-found g c records shows clean =
       c.in_ok-number_at-2.ensures.read records.policy.ocsp_life (ap (λ (r : Row). column r 1) row),
       c.in_ok-number_at-3.ensures.read records.policy.cap (ap (λ (r : Row). column r 2) row),
     )
+
+pub returns-clause-same : goal.returns-clause-same
+returns-clause-same g c register = c.read.ensures.same reading_terms register
+
+pub returns-in_err-found-clause-same : goal.returns-in_err-found-clause-same
+returns-in_err-found-clause-same g c register = c.read.ensures.same reading_terms register
+
+pub returns-in_err-number_at-clause-same : goal.returns-in_err-number_at-clause-same
+returns-in_err-number_at-clause-same g c register = c.read.ensures.same reading_terms register
+
+pub returns-in_err-number_at-2-clause-same : goal.returns-in_err-number_at-2-clause-same
+returns-in_err-number_at-2-clause-same g c register = c.read.ensures.same reading_terms register
+
+pub returns-in_err-number_at-3-clause-same : goal.returns-in_err-number_at-3-clause-same
+returns-in_err-number_at-3-clause-same g c register = c.read.ensures.same reading_terms register
+
+pub returns-in_err-row-clause-same : goal.returns-in_err-row-clause-same
+returns-in_err-row-clause-same g c register = c.read.ensures.same reading_terms register

@@ -10,3 +10,9 @@ returns-clause-found g c records shows clean =
     let shown = shown_then g.S.Store c.args.conn.now c.read.new.conn records c.read.ensures.clean clean answer.is_open shows in
     c.requests_in.ensures.read (filter undeclined records.requests) (undeclined_serials (state g.S.Store c.args.conn.now).now records shown c.in_ok-found.found.items answer.reads)
     (undeclined_are (state g.S.Store c.args.conn.now).now records shown c.in_ok-found.found.items answer.reads)
+
+pub returns-clause-same : goal.returns-clause-same
+returns-clause-same g c register = c.read.ensures.same reading_undeclined register
+
+pub returns-in_err-found-clause-same : goal.returns-in_err-found-clause-same
+returns-in_err-found-clause-same g c register = c.read.ensures.same reading_undeclined register

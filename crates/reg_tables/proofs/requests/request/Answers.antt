@@ -22,3 +22,18 @@ returns-clause-found g c records shows clean =
     let one = by_id_one (state g.S.Store c.args.conn.now).now records shown c.args.id c.in_ok-found.found.items (rw (c.params-to_sql.ensures, value) at answer.reads)
     c.in-Some.row.now (sym c.deref.ensures.value ∙ (rw c.in-Some.is at c.in_ok-at_most_one.ensures.found)) in
     ap (λ (row : RequestRow). Some row) (c.in_ok-request_in-in-Some.ensures.read one.it one.holds one.shown) ∙ one.first
+
+pub returns-clause-same : goal.returns-clause-same
+returns-clause-same g c register = c.read.ensures.same reading_by_id register
+
+pub returns-in-None-clause-same : goal.returns-in-None-clause-same
+returns-in-None-clause-same g c register = c.read.ensures.same reading_by_id register
+
+pub returns-in_err-at_most_one-clause-same : goal.returns-in_err-at_most_one-clause-same
+returns-in_err-at_most_one-clause-same g c register = c.read.ensures.same reading_by_id register
+
+pub returns-in_err-found-clause-same : goal.returns-in_err-found-clause-same
+returns-in_err-found-clause-same g c register = c.read.ensures.same reading_by_id register
+
+pub returns-in_err-request_in-in-Some-clause-same : goal.returns-in_err-request_in-in-Some-clause-same
+returns-in_err-request_in-in-Some-clause-same g c register = c.read.ensures.same reading_by_id register

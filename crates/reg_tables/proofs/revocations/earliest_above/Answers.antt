@@ -21,3 +21,18 @@ returns-clause-found g c records shows clean =
     let one = above_one (state g.S.Store c.args.conn.now).now records shown c.args.number c.in_ok-found.found.items (rw (c.params-to_sql.ensures, c.in_ok-value.ensures.value) at answer.reads)
     c.in-Some.row.now (sym c.deref.ensures.value ∙ (rw c.in-Some.is at c.in_ok-at_most_one.ensures.found)) in
     (answer.is_open, ap (λ (at : ℕ). Some at) (c.in_ok-clock_moment_at-in-Some.ensures.read one.0 (ap (λ (r : Row). column r 0) one.2)) ∙ one.1)
+
+pub returns-clause-same : goal.returns-clause-same
+returns-clause-same g c register = c.read.ensures.same reading_above register
+
+pub returns-in-None-clause-same : goal.returns-in-None-clause-same
+returns-in-None-clause-same g c register = c.read.ensures.same reading_above register
+
+pub returns-in_err-at_most_one-clause-same : goal.returns-in_err-at_most_one-clause-same
+returns-in_err-at_most_one-clause-same g c register = c.read.ensures.same reading_above register
+
+pub returns-in_err-clock_moment_at-in-Some-clause-same : goal.returns-in_err-clock_moment_at-in-Some-clause-same
+returns-in_err-clock_moment_at-in-Some-clause-same g c register = c.read.ensures.same reading_above register
+
+pub returns-in_err-found-clause-same : goal.returns-in_err-found-clause-same
+returns-in_err-found-clause-same g c register = c.read.ensures.same reading_above register
