@@ -3,7 +3,7 @@ use Rattle.sqlite.specs.Held.{state}
 use Rattle.sqlite.specs.State.{HasCleanDisk}
 use Rattle.reg_core.specs.Status.{counts}
 use Rattle.reg_core.specs.declared.command.Counts.{Counts}
-use Rattle.reg_tables.proofs.Staying.{kept_shows, shows_register, stays_both, both_then}
+use Rattle.reg_tables.proofs.Staying.{kept_shows, shows_register, stays_register, stays_then, stays_both, both_then}
 use Rattle.reg_tables.proofs.CountLaws.{letters_as_many, good_then, revoked_then, expired_then}
 use Rattle.reg_tables.proofs.counting.counts.Goals as goal
 
@@ -29,3 +29,30 @@ returns-clause-found g c records kept sound later clean =
     let revoked_is : c.in_ok-kept.kept.revoked ≡ (counts records c.args.now).revoked = ap (λ (k : Counts). k.revoked) was ∙ revoked in
     let expired_is : c.in_ok-ok_or-2.field-0 ≡ (counts records c.args.now).expired = omega arith in
     λ i. record { good = good_is i; revoked = revoked_is i; expired = expired_is i }
+
+pub returns-in_err-kept-clause-same : goal.returns-in_err-kept-clause-same
+returns-in_err-kept-clause-same g c register = c.kept_counts.ensures.same register
+
+pub returns-in_err-ended-clause-same : goal.returns-in_err-ended-clause-same
+returns-in_err-ended-clause-same g c register =
+    let first = c.kept_counts.ensures.same register in
+    let then = c.ended_before.ensures.same (stays_register (state g.S.Store c.args.conn.now) (state g.S.Store c.kept_counts.new.conn) c.kept_counts.ensures.clean first register) in
+    stays_then (state g.S.Store c.args.conn.now) (state g.S.Store c.kept_counts.new.conn) (state g.S.Store c.ended_before.new.conn) c.ended_before.ensures.clean first then
+
+pub returns-in_err-ok_or-clause-same : goal.returns-in_err-ok_or-clause-same
+returns-in_err-ok_or-clause-same g c register =
+    let first = c.kept_counts.ensures.same register in
+    let then = c.ended_before.ensures.same (stays_register (state g.S.Store c.args.conn.now) (state g.S.Store c.kept_counts.new.conn) c.kept_counts.ensures.clean first register) in
+    stays_then (state g.S.Store c.args.conn.now) (state g.S.Store c.kept_counts.new.conn) (state g.S.Store c.ended_before.new.conn) c.ended_before.ensures.clean first then
+
+pub returns-in_err-ok_or-2-clause-same : goal.returns-in_err-ok_or-2-clause-same
+returns-in_err-ok_or-2-clause-same g c register =
+    let first = c.kept_counts.ensures.same register in
+    let then = c.ended_before.ensures.same (stays_register (state g.S.Store c.args.conn.now) (state g.S.Store c.kept_counts.new.conn) c.kept_counts.ensures.clean first register) in
+    stays_then (state g.S.Store c.args.conn.now) (state g.S.Store c.kept_counts.new.conn) (state g.S.Store c.ended_before.new.conn) c.ended_before.ensures.clean first then
+
+pub returns-clause-same : goal.returns-clause-same
+returns-clause-same g c register =
+    let first = c.kept_counts.ensures.same register in
+    let then = c.ended_before.ensures.same (stays_register (state g.S.Store c.args.conn.now) (state g.S.Store c.kept_counts.new.conn) c.kept_counts.ensures.clean first register) in
+    stays_then (state g.S.Store c.args.conn.now) (state g.S.Store c.kept_counts.new.conn) (state g.S.Store c.ended_before.new.conn) c.ended_before.ensures.clean first then

@@ -5,7 +5,7 @@ use Rattle.sqlite.specs.Held.{state}
 use Rattle.sqlite.specs.State.{HasCleanDisk}
 use Rattle.reg_core.specs.Due.{earliest}
 use Rattle.reg_core.specs.declared.rows.RevocationRow.{RevocationRow}
-use Rattle.reg_tables.proofs.Staying.{shows_register, stays_shows, shown_then, ok_then}
+use Rattle.reg_tables.proofs.Staying.{shows_register, stays_register, stays_shows, stays_then, shown_then, ok_then}
 use Rattle.reg_tables.proofs.UnlistedLemmas.{unlisted_is}
 use Rattle.reg_tables.proofs.revocations.earliest_unlisted.Goals as goal
 
@@ -17,3 +17,12 @@ returns-clause-found g c records shows clean =
     ok_then c.earliest_above.result (c.earliest_above.ensures.found records mid clean) (λ at known.
     let shown = shown_then g.S.Store c.held.new.conn c.earliest_above.new.conn records c.earliest_above.ensures.clean clean known.0 mid in
     known.1 ∙ ap (λ n. earliest (filter (λ (row : RevocationRow). nat_lt n row.first) records.revocations)) latest ∙ ap earliest (unlisted_is records shown.rows.crls_numbered))
+
+pub returns-in_err-latest-clause-same : goal.returns-in_err-latest-clause-same
+returns-in_err-latest-clause-same g c register = c.held.ensures.same register
+
+pub returns-clause-same : goal.returns-clause-same
+returns-clause-same g c register =
+    let first = c.held.ensures.same register in
+    let then = c.earliest_above.ensures.same (stays_register (state g.S.Store c.args.conn.now) (state g.S.Store c.held.new.conn) c.held.ensures.clean first register) in
+    stays_then (state g.S.Store c.args.conn.now) (state g.S.Store c.held.new.conn) (state g.S.Store c.earliest_above.new.conn) c.earliest_above.ensures.clean first then
