@@ -19,69 +19,72 @@ mod reading;
 mod registers;
 mod rounds;
 mod sizes;
+mod tasks;
 
 use commands::{fill_office, run_round};
 use filling::fill_store;
-use reading::{answer_all, issue_all};
 use reg_crl::DigestSeal;
 use reg_office::Office;
-use registers::{create_in_memory, open_file};
+use reg_store::{Store, StoreFault};
+use registers::{create_in_memory, measure_file};
 use rounds::measure_all;
+use sqlite::Alter;
 use std::time::Instant;
 use std::{env, io};
+use tasks::Task;
 
-/// Measures the register of a file.
-fn measure_file(rt: HostRuntime, what: &str, path: &str, count: u64) -> io::Result<()> {
-    let Some(mut store) = open_file(rt, path)? else {
-        return Ok(());
-    };
-    match what {
-        "store" => measure_all(rt, &mut store, count),
-        "crl" => issue_all(rt, &mut Office::new(store, DigestSeal), count),
-        _ => run_round(rt, &mut Office::new(store, DigestSeal), count),
-    }
-}
-
-/// Measures the calls of a store in memory, and how long it took to fill it.
-fn measure_store(rt: HostRuntime, certs: u64, rounds: u64) -> io::Result<()> {
-    let Ok(mut store) = create_in_memory(rt.alloc()) else {
-        return eprintln!(rt; "no register in memory");
-    };
+/// Measures the calls of a store with no records, and how long it took to fill it.
+fn measure_store<S: Alter>(
+    rt: HostRuntime,
+    store: &mut Store<S>,
+    certs: u64,
+    rounds: u64,
+) -> io::Result<()> {
     let start = Instant::now(&rt)?;
-    let filled = fill_store(&mut store, certs);
+    let filled = fill_store(store, certs);
     let took = start.elapsed(&rt)?.as_nanos();
     match filled {
         Ok(()) => {
             println!(rt; "Fill {certs} {took}")?;
-            measure_all(rt, &mut store, rounds)
+            measure_all(rt, store, rounds)
         }
         Err(fault) => eprintln!(rt; "not filled: {fault:?}"),
     }
 }
 
-/// Runs commands over a register in memory that has so many certificates.
-fn measure_office(rt: HostRuntime, certs: u64, count: u64) -> io::Result<()> {
-    let Ok(store) = create_in_memory(rt.alloc()) else {
+/// Runs commands over a register with no records, once it has so many certificates.
+fn measure_office<S: Alter>(
+    rt: HostRuntime,
+    office: &mut Office<S, DigestSeal>,
+    certs: u64,
+    count: u64,
+) -> io::Result<()> {
+    fill_office(rt, office, certs)?;
+    run_round(rt, office, count)
+}
+
+/// Measures a register that was made, if it was, with so many certificates.
+fn measure_made<S: Alter + Drop>(
+    rt: HostRuntime,
+    made: Result<Store<S>, StoreFault>,
+    what: &str,
+    certs: u64,
+    count: u64,
+) -> io::Result<()> {
+    let Ok(store) = made else {
         return eprintln!(rt; "no register in memory");
     };
     let mut office = Office::new(store, DigestSeal);
-    fill_office(rt, &mut office, certs)?;
-    run_round(rt, &mut office, count)
-}
-
-/// Answers an OCSP request over the register of a file.
-fn measure_ocsp(rt: HostRuntime, path: &str, request: &str, calls: u64) -> io::Result<()> {
-    match open_file(rt, path)? {
-        Some(store) => answer_all(rt, &mut Office::new(store, DigestSeal), request, calls),
-        None => Ok(()),
+    match what {
+        "store" => measure_store(rt, &mut office.store, certs, count),
+        _ => measure_office(rt, &mut office, certs, count),
     }
 }
 
 /// Measures a register in memory of so many certificates.
 fn measure_memory(rt: HostRuntime, what: &str, certs: &str, count: u64) -> io::Result<()> {
     match certs.parse::<u64>() {
-        Ok(certs) if what == "store" => measure_store(rt, certs, count),
-        Ok(certs) => measure_office(rt, certs, count),
+        Ok(certs) => measure_made(rt, create_in_memory(rt.alloc()), what, certs, count),
         Err(_) => eprintln!(rt; "not a number of certificates: {certs}"),
     }
 }
@@ -104,10 +107,10 @@ fn main(rt: HostRuntime) -> io::Result<()> {
         return eprintln!(rt; "not a number: {count}");
     };
     if what.as_str() == "ocsp" {
-        return measure_ocsp(rt, place.as_str(), object.as_str(), count);
+        return measure_file(rt, place.as_str(), Task::Answers(object.as_str(), count));
     }
     match place.as_str() {
         "memory" => measure_memory(rt, what.as_str(), object.as_str(), count),
-        _ => measure_file(rt, what.as_str(), object.as_str(), count),
+        _ => measure_file(rt, object.as_str(), Task::of(what.as_str(), count)),
     }
 }

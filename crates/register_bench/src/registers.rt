@@ -1,11 +1,16 @@
 //! The registers that are measured.
 
-use reg_core::Policy;
+ghost use Rattle.std.specs.Prelude.{◌≡◌, false, IfOk};
+
+use crate::tasks::Task;
+use reg_core::{Fault, Policy};
+use reg_crl::DigestSeal;
 use reg_der::Issuer;
-use reg_files::open_file as open_database;
+use reg_files::open_file;
+use reg_office::Office;
 use reg_store::{Store, StoreFault};
-use sqlite::{Connection, FileFrom, FileStore, MemStore};
-use sqlite_disk::Unknown;
+use sqlite::{Alter, Connection, MemStore};
+use sqlite_disk::{Start, Unknown};
 use std::alloc::Global;
 use std::io;
 use std::time::Instant;
@@ -13,30 +18,47 @@ use std::time::Instant;
 /// The Name with the common name CA.
 const NAME: [u8; 15] = *b"\x30\x0D\x31\x0B\x30\x09\x06\x03\x55\x04\x03\x0C\x02CA";
 
-/// A register in a file.
-pub type FileRegister = Store<FileStore<FileFrom<Unknown>>>;
-
-/// The register of a file, if there is one. How long the database and the register took to open is printed.
-pub(crate) fn open_file(rt: HostRuntime, path: &str) -> io::Result<Option<FileRegister>> {
+/// Measures the register of a file.
+pub(crate) fn measure_file(rt: HostRuntime, path: &str, task: Task) -> io::Result<()> {
     let start = Instant::now(&rt)?;
-    let Ok(connection) = open_database(&rt, path, Unknown) else {
-        eprintln!(rt; "no database at {path}")?;
-        return Ok(None);
+    measure_from(rt, Unknown, start, path, task)
+}
+
+/// Measures the register of a file, of which `found` stands for what the file and its log hold. The type of a file's
+/// connection is long, and costs the prover at each step: here are as few as there can be.
+fn measure_from<S: Start + Drop>(
+    rt: HostRuntime,
+    found: S,
+    start: Instant,
+    path: &str,
+    task: Task,
+) -> io::Result<()> {
+    measure_database(rt, open_file(&rt, path, found), start, path, task)
+}
+
+/// Measures the register that a database holds, if there is one. How long the database, from `start` on, and the register
+/// took to open is printed.
+fn measure_database<S: Alter + Drop>(
+    rt: HostRuntime,
+    database: Result<Connection<S>, Fault>,
+    start: Instant,
+    path: &str,
+    task: Task,
+) -> io::Result<()>
+    requires { IfOk database (λ connection. connection.in_transaction ≡ false) }
+{
+    let Ok(connection) = database else {
+        return eprintln!(rt; "no database at {path}");
     };
     let connected = start.elapsed(&rt)?.as_nanos();
     let start = Instant::now(&rt)?;
-    match Store::open(connection) {
-        Ok(store) => {
-            let opened = start.elapsed(&rt)?.as_nanos();
-            println!(rt; "Connect 1 {connected}")?;
-            println!(rt; "Open 1 {opened}")?;
-            Ok(Some(store))
-        }
-        Err(_) => {
-            eprintln!(rt; "no register at {path}")?;
-            Ok(None)
-        }
-    }
+    let Ok(store) = Store::open(connection) else {
+        return eprintln!(rt; "no register at {path}");
+    };
+    let opened = start.elapsed(&rt)?.as_nanos();
+    println!(rt; "Connect 1 {connected}")?;
+    println!(rt; "Open 1 {opened}")?;
+    task.measure(rt, &mut Office::new(store, DigestSeal))
 }
 
 /// A new register in memory.
