@@ -24,7 +24,7 @@ enum Kind {
 }
 
 /// What a register has as a round begins.
-#[derive(Clone, Copy, Debug)]
+#[derive(Clone, Copy)]
 struct Base {
     /// As many certificates as orders, all of which are filled.
     certs: u64,

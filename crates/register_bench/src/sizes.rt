@@ -5,7 +5,7 @@ use reg_store::{Store, StoreFault, Table};
 use sqlite::Alter;
 
 /// How many rows the tables have, and the last accepted moment.
-#[derive(Clone, Copy, Debug)]
+#[derive(Clone, Copy)]
 pub struct Sizes {
     pub subscribers: u64,
     pub orders: u64,

@@ -9,7 +9,7 @@ use sqlite::Alter;
 use std::io;
 
 /// What is measured over a register, and how often.
-#[derive(Clone, Copy, Debug)]
+#[derive(Clone, Copy)]
 pub enum Task<'a> {
     /// Rounds of the store's calls.
     Store(u64),
