@@ -18,8 +18,9 @@ use Rattle.reg_ocsp.specs.Views.{id_seen, ids_seen, answers_seen}
 use Rattle.reg_ocsp.proofs.Answering.{answered}
 use Rattle.reg_tables.specs.Shows.{Shows}
 use Rattle.reg_tables.specs.Stays.{IsRegister, Stays}
-use Rattle.reg_tables.proofs.Staying.{shows_register, stays_shows}
+use Rattle.reg_tables.proofs.Staying.{shows_register, stays_register, stays_shows, stays_then}
 use Rattle.sqlite.specs.Held.{Held, state}
+use Rattle.sqlite.specs.State.{State}
 use Rattle.sqlite_trees.specs.View.{doubt}
 use Rattle.sqlite_trees.specs.declared.store.Store.{Ghosts}
 use Rattle.reg_responder.specs.Ocsp.{IsAnswer, IsTold}
@@ -30,6 +31,11 @@ use Rattle.reg_responder.specs.Ocsp.{IsAnswer, IsTold}
 pub shown_on : {S : Type 0} (g : Ghosts S) (old new : Held S) (records : Records) → doubt (state g old).is_clean ≤ doubt (state g new).is_clean → (IsRegister (state g old) → Stays (state g old) (state g new)) → Shows g old records
     → Shows g new records
 shown_on g old new records forgets same shows = stays_shows g old new records forgets (same (shows_register g old records shows)) shows
+
+-- what stays over one call and over the next stays over both
+pub same_on : (a b c : State) → doubt a.is_clean ≤ doubt b.is_clean → doubt b.is_clean ≤ doubt c.is_clean → (IsRegister a → Stays a b) → (IsRegister b → Stays b c)
+    → IsRegister a → Stays a c
+same_on a b c first second to_b to_c register = stays_then a b c second (to_b register) (to_c (stays_register a b first (to_b register) register))
 
 -- THE ANSWERS
 

@@ -1,6 +1,6 @@
 //! The answer to an OCSP request.
 
-ghost use Rattle.std.specs.Prelude.{◌≡◌, ◌≢◌, ◌≤◌, ◌<◌, ◌^◌, ◌↔◌, length, Some, None, IfOk, IfErr, IsErrOf, IsSome, IsOkAnd, OnOk, option_copied};
+ghost use Rattle.std.specs.Prelude.{◌≡◌, ◌≢◌, ◌≤◌, ◌<◌, ◌^◌, ◌↔◌, ◌⊎◌, length, Some, None, IfOk, IfErr, IsErrOf, IsSome, IsOkAnd, OnOk, option_copied};
 ghost use Rattle.sqlite.specs.Held.{state};
 ghost use Rattle.sqlite.specs.State.{HasCleanDisk};
 ghost use Rattle.sqlite_trees.specs.View.{doubt};
@@ -99,7 +99,7 @@ fn response<C: Alter, S: Signer>(
 }
 
 /// The ResponseData to what a request asks.
-#[tactic(auto, using(reg_tables::proofs::Staying::stays_register, reg_tables::proofs::Staying::stays_then, reg_ocsp::proofs::Answering::answered_sum, reg_ocsp::proofs::Answering::answered_count))]
+#[tactic(auto, using(reg_tables::proofs::Staying::stays_register, reg_tables::proofs::Staying::stays_then))]
 fn ocsp_data<C: Alter>(
     alloc: Global,
     store: &mut Store<C>,
@@ -119,6 +119,26 @@ fn ocsp_data<C: Alter>(
     ensures faults { ¬ (IsErrOf result ResponseFault.Signer) }
 {
     check_clock(store, now)?;
+    data_at(alloc, store, now, asked)
+}
+
+/// The ResponseData to what a request asks, at a moment that the clock takes.
+#[tactic(auto, using(reg_ocsp::proofs::Answering::answered_count))]
+fn data_at<C: Alter>(
+    alloc: Global,
+    store: &mut Store<C>,
+    now: Moment,
+    asked: &Asked<'_>,
+) -> Result<Vec<u8>, ResponseFault>
+    requires asked { CanBeAnswered (ids_seen asked.now.ids.items) (option_copied asked.now.nonce) }
+    requires in_range { now < clock_end }
+    ensures found { (records : Records) → Shows C.Store store.old records → HasCleanDisk (state C.Store store.new)
+        → IfOk result (λ bytes. IsOcspData records now (ids_seen asked.now.ids.items) (option_copied asked.now.nonce) bytes.items) }
+    ensures bounded { IfOk result (λ bytes. length bytes.items ≤ 2 ^ 27) }
+    ensures same { IsRegister (state C.Store store.old) → Stays (state C.Store store.old) (state C.Store store.new) }
+    ensures clean { doubt (state C.Store store.old).is_clean ≤ doubt (state C.Store store.new).is_clean }
+    ensures faults { IfErr result (λ fault. (fault ≡ ResponseFault.Memory) ⊎ (fault ≡ ResponseFault.Store)) }
+{
     let issuer = store.issuer()?;
     let policy = store.policy()?;
     let answers = answers(alloc, store, &issuer, now, &asked.ids)?;
