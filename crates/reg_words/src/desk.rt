@@ -1,7 +1,7 @@
 //! The commands of the program, as clap reads them, and what help says of each.
 
 ghost use Rattle.std.specs.Prelude.{◌≡◌, IfOk, false, pos};
-ghost use Rattle.clap.specs.Words.{app_of, new_app, rule_of, with_rule, with_subcommand};
+ghost use Rattle.clap.specs.Words.{App, Rule, app_of, new_app, rule_of, with_rule, with_subcommand};
 ghost use Rattle.clap.specs.declared.builder.command.Command.TheViews.{out-Command as fields_of};
 ghost use Rattle.reg_words.specs.Desk.{must, may, needs, takes, some, init_app, script_app, import_app, crl_app, serve_app, schedule_app, bare_app, desk_app};
 
@@ -46,12 +46,12 @@ const STEPS: &str =
 pub(crate) fn desk<'a>(alloc: Global) -> Result<Command<'a>, AllocError>
     ensures { IfOk result (λ made. app_of made ≡ desk_app) }
 {
-    let desk = with_command(bare(alloc), init(alloc)?)?;
-    let desk = with_command(desk, script(alloc)?)?;
-    let desk = with_command(desk, import(alloc)?)?;
-    let desk = with_command(desk, crl(alloc)?)?;
-    let desk = with_command(desk, serve(alloc)?)?;
-    with_command(desk, schedule(alloc)?)
+    let desk = with_command(Ok(bare(alloc)), init(alloc));
+    let desk = with_command(desk, script(alloc));
+    let desk = with_command(desk, import(alloc));
+    let desk = with_command(desk, crl(alloc));
+    let desk = with_command(desk, serve(alloc));
+    with_command(desk, schedule(alloc))
 }
 
 /// The command line with no command yet.
@@ -73,18 +73,18 @@ fn init<'a>(alloc: Global) -> Result<Command<'a>, AllocError>
     ensures app { IfOk result (λ made. app_of made ≡ init_app) }
     ensures local { IfOk result (λ made. (fields_of made).has_globals ≡ false) }
 {
-    let command = command_named(
+    let command = Ok(command_named(
         alloc,
         "init",
         "Make a new register in a file.",
         "Example:\n  desk init ca.db --name 300C310A300806035504030C0154 --key 0102",
-    );
-    let command = with_arg(command, required_word(alloc, "file", "FILE", NEW_FILE))?;
-    let command = with_arg(command, required_option(alloc, "name", "HEX", NAME))?;
-    let command = with_arg(command, required_option(alloc, "key", "HEX", KEY))?;
-    let command = with_arg(command, option(alloc, "days", "N", DAYS))?;
-    let command = with_arg(command, option(alloc, "crl-life", "N", CRL_LIFE))?;
-    let command = with_arg(command, option(alloc, "ocsp-life", "N", OCSP_LIFE))?;
+    ));
+    let command = with_arg(command, required_word(alloc, "file", "FILE", NEW_FILE));
+    let command = with_arg(command, required_option(alloc, "name", "HEX", NAME));
+    let command = with_arg(command, required_option(alloc, "key", "HEX", KEY));
+    let command = with_arg(command, option(alloc, "days", "N", DAYS));
+    let command = with_arg(command, option(alloc, "crl-life", "N", CRL_LIFE));
+    let command = with_arg(command, option(alloc, "ocsp-life", "N", OCSP_LIFE));
     with_arg(command, option(alloc, "cap", "N", CAP))
 }
 
@@ -93,12 +93,12 @@ fn script<'a>(alloc: Global) -> Result<Command<'a>, AllocError>
     ensures app { IfOk result (λ made. app_of made ≡ script_app) }
     ensures local { IfOk result (λ made. (fields_of made).has_globals ≡ false) }
 {
-    let command = command_named(
+    let command = Ok(command_named(
         alloc,
         "script",
         "Run the lines of standard input, and write one reply line for each.",
         "Example:\n  echo '2026-01-01T00:00:00Z counts' | desk script ca.db",
-    );
+    ));
     with_arg(command, word(alloc, "file", "FILE", FILE_OR_MEMORY))
 }
 
@@ -107,13 +107,13 @@ fn import<'a>(alloc: Global) -> Result<Command<'a>, AllocError>
     ensures app { IfOk result (λ made. app_of made ≡ import_app) }
     ensures local { IfOk result (λ made. (fields_of made).has_globals ≡ false) }
 {
-    let command = command_named(
+    let command = Ok(command_named(
         alloc,
         "import",
         "Register the certificates of a CSV file on standard input: order,serial,notBefore,notAfter.",
         "Example:\n  desk import ca.db --now 2026-01-01T00:00:00Z < certificates.csv",
-    );
-    let command = with_arg(command, required_word(alloc, "file", "FILE", FILE))?;
+    ));
+    let command = with_arg(command, required_word(alloc, "file", "FILE", FILE));
     with_arg(command, required_option(alloc, "now", "MOMENT", NOW))
 }
 
@@ -122,13 +122,13 @@ fn crl<'a>(alloc: Global) -> Result<Command<'a>, AllocError>
     ensures app { IfOk result (λ made. app_of made ≡ crl_app) }
     ensures local { IfOk result (λ made. (fields_of made).has_globals ≡ false) }
 {
-    let command = command_named(
+    let command = Ok(command_named(
         alloc,
         "crl",
         "Write an issued CRL to standard output, in DER.",
         "Example:\n  desk crl ca.db > latest.crl",
-    );
-    let command = with_arg(command, required_word(alloc, "file", "FILE", FILE))?;
+    ));
+    let command = with_arg(command, required_word(alloc, "file", "FILE", FILE));
     with_arg(command, option(alloc, "number", "N", NUMBER))
 }
 
@@ -137,14 +137,14 @@ fn serve<'a>(alloc: Global) -> Result<Command<'a>, AllocError>
     ensures app { IfOk result (λ made. app_of made ≡ serve_app) }
     ensures local { IfOk result (λ made. (fields_of made).has_globals ≡ false) }
 {
-    let command = command_named(
+    let command = Ok(command_named(
         alloc,
         "serve",
         "Answer OCSP, CRLs and status over HTTP on 127.0.0.1, by the machine's clock.",
         "Example:\n  desk serve ca.db --port 8080 --requests 1000",
-    );
-    let command = with_arg(command, required_word(alloc, "file", "FILE", FILE))?;
-    let command = with_arg(command, required_option(alloc, "port", "N", PORT))?;
+    ));
+    let command = with_arg(command, required_word(alloc, "file", "FILE", FILE));
+    let command = with_arg(command, required_option(alloc, "port", "N", PORT));
     with_arg(command, required_option(alloc, "requests", "N", REQUESTS))
 }
 
@@ -153,13 +153,13 @@ fn schedule<'a>(alloc: Global) -> Result<Command<'a>, AllocError>
     ensures app { IfOk result (λ made. app_of made ≡ schedule_app) }
     ensures local { IfOk result (λ made. (fields_of made).has_globals ≡ false) }
 {
-    let command = command_named(
+    let command = Ok(command_named(
         alloc,
         "schedule",
         "Set how many days a certificate may be valid, by the moment from which it is valid.",
         "Example:\n  desk schedule ca.db 1970-01-01T00:00:00Z=398 2026-03-15T00:00:00Z=200",
-    );
-    let command = with_arg(command, required_word(alloc, "file", "FILE", FILE))?;
+    ));
+    let command = with_arg(command, required_word(alloc, "file", "FILE", FILE));
     let steps = required_word(alloc, "steps", "MOMENT=DAYS", STEPS).num_args(1..);
     with_arg(command, steps)
 }
@@ -204,22 +204,30 @@ fn option<'a>(alloc: Global, id: &'a str, name: &'a str, help: &'a str) -> Arg<'
     word(alloc, id, name, help).long(id)
 }
 
-/// The command with one more word or option.
-fn with_arg<'a>(command: Command<'a>, arg: Arg<'a>) -> Result<Command<'a>, AllocError>
-    requires command { (fields_of command).has_globals ≡ false }
+/// The command with one more word or option, where there is a command.
+fn with_arg<'a>(
+    command: Result<Command<'a>, AllocError>,
+    arg: Arg<'a>,
+) -> Result<Command<'a>, AllocError>
+    requires command { IfOk command (λ command. (fields_of command).has_globals ≡ false) }
     requires arg { arg.global ≡ false }
-    ensures app { IfOk result (λ made. app_of made ≡ with_rule (app_of command.entry) (rule_of arg.entry)) }
+    ensures app { (app : App) (rule : Rule) → IfOk command.entry (λ command. app_of command ≡ app) → rule_of arg.entry ≡ rule
+        → IfOk result (λ made. app_of made ≡ with_rule app rule) }
     ensures local { IfOk result (λ made. (fields_of made).has_globals ≡ false) }
 {
-    command.arg(arg)
+    command?.arg(arg)
 }
 
-/// The command line with one more command.
-fn with_command<'a>(desk: Command<'a>, command: Command<'a>) -> Result<Command<'a>, AllocError>
-    requires desk { (fields_of desk).has_globals ≡ false }
-    requires command { (fields_of command).has_globals ≡ false }
-    ensures app { IfOk result (λ made. app_of made ≡ with_subcommand (app_of desk.entry) ((app_of command.entry).top)) }
+/// The command line with one more command, where there are both.
+fn with_command<'a>(
+    desk: Result<Command<'a>, AllocError>,
+    command: Result<Command<'a>, AllocError>,
+) -> Result<Command<'a>, AllocError>
+    requires desk { IfOk desk (λ desk. (fields_of desk).has_globals ≡ false) }
+    requires command { IfOk command (λ command. (fields_of command).has_globals ≡ false) }
+    ensures app { (line sub : App) → IfOk desk.entry (λ desk. app_of desk ≡ line) → IfOk command.entry (λ command. app_of command ≡ sub)
+        → IfOk result (λ made. app_of made ≡ with_subcommand line sub.top) }
     ensures local { IfOk result (λ made. (fields_of made).has_globals ≡ false) }
 {
-    desk.subcommand(command)
+    desk?.subcommand(command?)
 }
