@@ -1,11 +1,13 @@
 -- What follows from a request that can be settled.
-use Rattle.std.proofs.Common.{◌≡◌, true, ap, Option, Some, None, Result, Ok, IfSome}
-use Rattle.reg_core.specs.Checks.{settle_checks}
-use Rattle.reg_core.specs.Decisions.{IsDecided, IsDecidedBy, DecidesDecline, DecidesRevoke, revocation_by}
+use Rattle.std.proofs.Common.{◌≡◌, true, List, [], ◌∷◌, ◌++◌, refl, ap, Option, Some, None, Result, Ok, IfSome}
+use Rattle.std.specs.Prelude.{⊤}
+use Rattle.reg_core.specs.Checks.{clock_checks, first_of_all, settle_checks}
+use Rattle.reg_core.specs.Decisions.{IsDecided, IsDecidedBy, DecidesDecline, DecidesRegister, DecidesRevoke, is_same, revocation_by}
 use Rattle.reg_core.specs.declared.refusal.Refusal.{Refusal}
 use Rattle.reg_core.specs.declared.rows.Head.{Head}
 use Rattle.reg_core.specs.declared.rows.CertRow.{CertRow}
 use Rattle.reg_core.specs.declared.rows.CrlRow.{CrlRow}
+use Rattle.reg_core.specs.declared.rows.OrderRow.{OrderRow}
 use Rattle.reg_core.specs.declared.rows.RequestRow.{RequestRow}
 use Rattle.reg_core.specs.declared.rows.RevocationRow.{RevocationRow}
 
@@ -13,6 +15,25 @@ use Rattle.reg_core.specs.declared.rows.RevocationRow.{RevocationRow}
 pub decided_ok : {A B : Type 0} (refusal : Option Refusal) (P : A → Type 0) (Q : B → Type 0) (x : A) (y : B) → IsDecidedBy refusal P (Ok x) → (P x → Q y) → IsDecidedBy refusal Q (Ok y)
 decided_ok (Some refused) P Q x y e f = absurd (let bad : ⊥ = cc in bad)
 decided_ok None P Q x y p f = f p
+
+-- an answer after checks that were passed
+passed
+    : {A B : Type 0} (first second : List (Option Refusal)) (P : A → Type 0) (Q : B → Type 0) (x : A) (result : Result B Refusal)
+    → IsDecidedBy (first_of_all first) P (Ok x)
+    → IsDecidedBy (first_of_all second) Q result
+    → IsDecidedBy (first_of_all (first ++ second)) Q result
+passed [] second P Q x result accepted next = next
+passed (None ∷ rest) second P Q x result accepted next = passed rest second P Q x result accepted next
+passed (Some refused ∷ rest) second P Q x result accepted next = absurd (let bad : ⊥ = cc in bad)
+
+-- a certificate that stands registered, equal in all parts, is answered by none
+pub stands
+    : {A : Type 0} (head : Head) (wanted : CertRow) (order : Option OrderRow) (by_order by_serial : Option CertRow) (x : A)
+    → IsDecidedBy (first_of_all (clock_checks head.now head.last)) (λ (answer : A). ⊤) (Ok x)
+    → is_same wanted by_serial ≡ true
+    → DecidesRegister head wanted order by_order by_serial (Ok None)
+stands head wanted order by_order by_serial x clock same =
+    rw same (passed (clock_checks head.now head.last) [] (λ answer. ⊤) (λ (row : Option CertRow). row ≡ None) x (Ok None) clock refl)
 
 -- what is made of a looked-up row is made of the same row
 pub IfSome-made : {A B : Type 0} (f : A → B) (looked_up : Option A) (x : A) → IfSome looked_up (λ known. x ≡ known) → IfSome looked_up (λ known. f x ≡ f known)
