@@ -6,3 +6,6 @@ returns-in-Err-clause-none g c clean is = c.in-Err.ensures.none clean (search (r
 
 pub returns-in-Err-clause-alone : goal.returns-in-Err-clause-alone
 returns-in-Err-clause-alone g c clean is = c.in-Err.ensures.alone clean (search (rules, is))
+
+pub returns-in-Ok-clause-said : goal.returns-in-Ok-clause-said
+returns-in-Ok-clause-said g c = search rules

@@ -1,0 +1,8 @@
+use Rattle.std.proofs.Common.{rules}
+use Rattle.reg_store.proofs.store.Store.set_schedule.Goals as goal
+
+pub returns-clause-ok : goal.returns-clause-ok
+returns-clause-ok g c = search rules
+
+pub returns-clause-shown : goal.returns-clause-shown
+returns-clause-shown g c = search rules
