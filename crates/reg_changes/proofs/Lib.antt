@@ -1,3 +1,4 @@
+pub mod Committing
 pub mod Edits
 pub mod Law
 pub mod Letters

@@ -1,11 +1,10 @@
-use Rattle.std.proofs.Common.{◌≡◌, rules, subst}
-use Rattle.sqlite.specs.Held.{state}
-use Rattle.sqlite.specs.State.{HasCleanDisk}
+use Rattle.std.proofs.Common.{◌≡◌, rules}
 use Rattle.reg_core.specs.Changes.{with_order}
 use Rattle.reg_tables.specs.Shows.{ShowsBoth}
 use Rattle.reg_tables.proofs.Staying.{stays_both, shows_register, both_shows}
 use Rattle.reg_changes.specs.Steps.{after_time}
-use Rattle.reg_changes.proofs.Moving.{commits, was_clean}
+use Rattle.reg_changes.proofs.Committing.{clean_before, shows_back}
+use Rattle.reg_changes.proofs.Moving.{commits}
 use Rattle.reg_changes.proofs.transactions.commit_order.Goals as goal
 
 pub returns-clause-ok : goal.returns-clause-ok
@@ -22,8 +21,8 @@ returns-clause-ok g c records columns both next =
     let done : ShowsBoth s ended later beside =
     commits s was begun entered ended c.transaction-tx.ensures.begun c.enter_order.ensures.clean c.commit.ensures.survives.clean records columns later beside still
     (λ clean before. c.in_ok-enter_order.ensures.ok clean records columns
-    (c.in_ok-counts.ensures.found records columns both (subst (λ h. HasCleanDisk (state s h)) c.transaction-tx.ensures.begun (was_clean (state s begun) (state s entered) c.enter_order.ensures.clean clean)))
+    (c.in_ok-counts.ensures.found records columns both (clean_before s was begun entered c.transaction-tx.ensures.begun c.enter_order.ensures.clean clean))
     next before)
     (λ clean. (c.in_ok-commit.ensures.ok clean).1) in
     let same : ended ≡ c.conn-2-1.given.0 = search rules in
-    subst (λ h. ShowsBoth s h later beside) same done
+    shows_back s ended c.conn-2-1.given.0 later beside same done
