@@ -4,6 +4,7 @@ use reg_core::Moment;
 use reg_program::perform;
 use reg_words::{Job, Steps, Word};
 use std::io::Write;
+use std::os::unix::fs::{MetadataExt, symlink};
 use std::test::Fail;
 use std::{fs, io};
 
@@ -127,6 +128,50 @@ fn a_register_that_can_not_be_told_is_not_left(rt: HostRuntime) {
     assert!(rt; status == 1 && errors.as_slice() == b"F5 write\n".as_slice());
     assert!(rt; !fs::exists(&rt, file).unwrap_or(true));
     assert!(rt; !fs::exists(&rt, "desk_examples_untold.db-wal").unwrap_or(true));
+}
+
+#[test]
+fn a_new_register_is_its_owners_alone(rt: HostRuntime) {
+    let file = "desk_examples_own.db";
+    drop(fs::remove_file(&rt, file));
+    assert!(rt; wrote(&done(&rt, &init(file, NAME, 398), b""), b"created\n"));
+    let mode = fs::metadata(&rt, file).map_or(0, |it| it.mode() & 0o777);
+    assert!(rt; mode == 0o600);
+    drop(fs::remove_file(&rt, file));
+}
+
+#[test]
+fn a_log_without_its_register_stays(rt: HostRuntime) {
+    let file = "desk_examples_lost.db";
+    let log = "desk_examples_lost.db-wal";
+    drop(fs::remove_file(&rt, file));
+    assert!(rt; fs::write(&rt, log, b"what is left of one").is_ok());
+    assert!(rt; told(&done(&rt, &init(file, NAME, 398), b""), b"F2 store\n"));
+    assert!(rt; !fs::exists(&rt, file).unwrap_or(true));
+    let left = fs::metadata(&rt, log).map_or(0, |it| it.len());
+    assert!(rt; left == 19);
+    drop(fs::remove_file(&rt, log));
+}
+
+#[test]
+fn a_link_that_leads_nowhere_stays(rt: HostRuntime) {
+    let link = "desk_examples_link.db";
+    drop(fs::remove_file(&rt, link));
+    assert!(rt; symlink(&rt, "desk_examples_away.db", link).is_ok());
+    assert!(rt; told(&done(&rt, &init(link, NAME, 398), b""), b"F2 store\n"));
+    assert!(rt; !fs::exists(&rt, "desk_examples_away.db").unwrap_or(true));
+    assert!(rt; fs::symlink_metadata(&rt, link).is_ok());
+    drop(fs::remove_file(&rt, link));
+}
+
+#[test]
+fn a_register_is_not_made_twice(rt: HostRuntime) {
+    let file = "desk_examples_twice.db";
+    drop(fs::remove_file(&rt, file));
+    assert!(rt; wrote(&done(&rt, &init(file, NAME, 398), b""), b"created\n"));
+    assert!(rt; told(&done(&rt, &init(file, NAME, 398), b""), b"not-empty\n"));
+    assert!(rt; fs::exists(&rt, file).unwrap_or(false));
+    drop(fs::remove_file(&rt, file));
 }
 
 #[test]

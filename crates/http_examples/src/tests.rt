@@ -1,6 +1,7 @@
 //! The worked examples.
 
 mod answers;
+mod collected;
 mod desk;
 mod framing;
 mod loopback;

@@ -4,7 +4,7 @@
 mod changes;
 mod entering;
 mod scheduling;
-mod steps;
+pub mod steps;
 mod texts;
 mod transactions;
 pub mod writing;

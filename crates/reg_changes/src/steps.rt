@@ -21,7 +21,7 @@ use sqlite::types::ValueRef;
 use sqlite::{Alter, Transaction};
 
 /// Turns the letter of each good certificate that ended before now, and answers how many.
-pub(crate) fn sweep<S: Alter>(tx: &mut Transaction<'_, S>, now: Moment) -> Result<usize, StoreFault>
+pub fn sweep<S: Alter>(tx: &mut Transaction<'_, S>, now: Moment) -> Result<usize, StoreFault>
     ensures same_reference { tx.new.conn.ghost_name ≡ tx.old.conn.ghost_name }
     ensures ok { HasCleanDisk (state S.Store tx.new.conn.now) → (records : Records) → (columns : Columns) → Before (state S.Store tx.old.conn.now) records columns
         → IfOk result (λ count. Moved (state S.Store tx.old.conn.now) (state S.Store tx.new.conn.now) records (swept now columns) × (count ≡ ended_by now columns)) }
@@ -33,7 +33,7 @@ pub(crate) fn sweep<S: Alter>(tx: &mut Transaction<'_, S>, now: Moment) -> Resul
 }
 
 /// Turns the letter of the good certificate with the serial number, and answers how many they are.
-pub(crate) fn mark_revoked<S: Alter>(
+pub fn mark_revoked<S: Alter>(
     tx: &mut Transaction<'_, S>,
     serial: Serial,
 ) -> Result<usize, StoreFault>
@@ -68,14 +68,12 @@ pub(crate) fn mark_listed<S: Alter>(
 }
 
 /// Sets the counts.
-pub(crate) fn set_counts<S: Alter>(
-    tx: &mut Transaction<'_, S>,
-    counts: Counts,
-) -> Result<(), StoreFault>
+pub fn set_counts<S: Alter>(tx: &mut Transaction<'_, S>, counts: Counts) -> Result<(), StoreFault>
     ensures same_reference { tx.new.conn.ghost_name ≡ tx.old.conn.ghost_name }
     ensures ok { HasCleanDisk (state S.Store tx.new.conn.now) → (records : Records) → (columns : Columns) → Before (state S.Store tx.old.conn.now) records columns
         → OnOk result (Moved (state S.Store tx.old.conn.now) (state S.Store tx.new.conn.now) records (with_counts counts columns)) }
     ensures kept { HasCleanDisk (state S.Store tx.new.conn.now) → KeepsCommit (state S.Store tx.old.conn.now) (state S.Store tx.new.conn.now) }
+    ensures inside { HasCleanDisk (state S.Store tx.new.conn.now) → OnOk result (tx.new.conn.now.in_transaction ≡ true) }
     ensures clean { doubt (state S.Store tx.old.conn.now).is_clean ≤ doubt (state S.Store tx.new.conn.now).is_clean }
     ensures faults { IfErr result IsCallFault }
 {

@@ -31,7 +31,7 @@ pub fn sql_number(n: u64) -> Result<ValueRef<'static>, StoreFault>
 }
 
 /// The moment as SQL has it, in whole seconds.
-pub(crate) fn sql_moment(moment: Moment) -> ValueRef<'static>
+pub fn sql_moment(moment: Moment) -> ValueRef<'static>
     ensures { result ≡ ValueRef.Int (pos moment) }
 {
     ValueRef::Int(moment.secs() as i64)
@@ -45,7 +45,7 @@ pub(crate) fn sql_flag(flag: bool) -> ValueRef<'static>
 }
 
 /// The reasonCode as SQL has it (RFC 5280 5.3.1).
-pub(crate) fn sql_reason(reason: u8) -> ValueRef<'static>
+pub fn sql_reason(reason: u8) -> ValueRef<'static>
     ensures { result ≡ ValueRef.Int (pos reason) }
 {
     ValueRef::Int(i64::from(reason))

@@ -1,7 +1,7 @@
 -- An import that comes twice, row after row, by the rules.
 use Rattle.std.specs.Prelude.{Result, Ok, Err, codes, get_or, option_and_then}
 use Rattle.std.specs.List.{AllByRecursion, AllZip}
-use Rattle.std.proofs.Common.{◌≡◌, ◌==◌, ◌⊎◌, ℕ, true, false, List, [], ◌∷◌, map, Option, Some, None, refl, sym, ap, ◌∙◌, subst, inl, inr}
+use Rattle.std.proofs.Common.{◌≡◌, ◌==◌, ◌⊎◌, ◌<◌, ℕ, Bool, true, false, cond, List, [], ◌∷◌, map, Option, Some, None, refl, sym, ap, ◌∙◌, subst, inl, inr, arith, lit<}
 use Rattle.csv.specs.Machine as machine
 use Rattle.csv.specs.Reading.{AreRecords, Reached, default_config, strip_bom}
 use Rattle.csv.specs.declared.parser.Config.{Config}
@@ -11,14 +11,13 @@ use Rattle.reg_core.specs.Crls.{CertList}
 use Rattle.reg_core.specs.Lines.{fault_line, refusal_line}
 use Rattle.reg_core.specs.Records.{Records}
 use Rattle.reg_core.specs.Sound.{Sound}
+use Rattle.reg_core.specs.Step.{is_repeat}
 use Rattle.reg_core.specs.declared.command.Command.{Command}
 use Rattle.reg_core.specs.declared.command.Command.TheVariants.{Subscriber, Order, Register, Request, Decline, Revoke, Crl}
 use Rattle.reg_core.specs.declared.command.Reply.{Reply}
-use Rattle.reg_core.specs.declared.command.Reply.TheVariants as reply
 use Rattle.reg_core.specs.declared.command.Reply.TheVariants.{Registered, Same}
-use Rattle.reg_core.specs.declared.command.Status.TheVariants as status
 use Rattle.reg_core.specs.declared.refusal.Fault.{Fault}
-use Rattle.reg_core.specs.declared.refusal.Fault.TheVariants.{Refused, Memory, Store, Signer, Read, Write}
+use Rattle.reg_core.specs.declared.refusal.Fault.TheVariants.{Refused}
 use Rattle.reg_core.specs.declared.refusal.Refusal.{Refusal}
 use Rattle.reg_core.specs.declared.refusal.Refusal.TheVariants as refused
 use Rattle.reg_core.specs.declared.rows.CertRow.{CertRow}
@@ -26,11 +25,12 @@ use Rattle.reg_laws.specs.Import.{register, Imports, IsFault, AnsweredAgain}
 use Rattle.reg_laws.specs.Run.{Happens}
 use Rattle.reg_laws.proofs.CountFacts.{same_number}
 use Rattle.reg_laws.proofs.Imported.{imports_twice}
+use Rattle.reg_laws.proofs.Outcomes.{Outcome, Stays, Changes, outcome_of}
 use Rattle.reg_lines.specs.Answer.{Answer, came_to}
 use Rattle.reg_lines.specs.Import.{AllRan, Row, RowMeans, RowReplies, data_rows}
 use Rattle.reg_lines.specs.Meaning.{Meaning, tells}
 use Rattle.reg_lines.specs.Reading.{register_of}
-use Rattle.reg_lines.specs.Replies.{outcome_line, reply_line, status_line, counts_line, listing_line, listing_by, overdue_line, next_crl_line, with_lf}
+use Rattle.reg_lines.specs.Replies.{outcome_line, reply_line, with_lf}
 use Rattle.reg_lines.proofs.Meanings.{register_read, row_spelled}
 use Rattle.reg_wire.specs.Run.{Answered}
 use Rattle.reg_faces.specs.Twice.{TellsFault, RepliedAgain}
@@ -106,37 +106,46 @@ unread_spells row unread = go (register_of row) refl
 
 -- ---- the lines of replies
 
+-- what a row comes to: it is registered, or stands registered, or there is a refusal or a fault; no other reply
+abbrev IsOfRow : Result Reply Fault → Type 0
+IsOfRow outcome =
+    (outcome ≡ Ok Registered) ⊎ ((outcome ≡ Ok Same) ⊎ ((fault : Fault) × (outcome ≡ Err fault)))
+
+of_row
+    : (signed : CertList → List ℕ → Type 0) (records : Records) (now : ℕ) (certificate : CertRow) (outcome : Result Reply Fault) (after : Records)
+    → Happens signed records now (register certificate) outcome after
+    → IsOfRow outcome
+of_row signed records now certificate outcome after happens =
+    go (outcome_of signed records now (register certificate) outcome after happens)
+  where
+    by_repeat : (repeat : Bool) → outcome ≡ Ok (cond repeat Same Registered) → IsOfRow outcome
+    by_repeat true is = inr (inl is)
+    by_repeat false is = inl is
+
+    go : Outcome signed records now (register certificate) outcome after → IsOfRow outcome
+    go (Stays fault is same) = inr (inr (fault, is))
+    go (Changes bytes accepted is over made) = by_repeat (is_repeat records (register certificate)) is
+
 -- the line of a refusal begins with E
 refusal_begins : (refusal : Refusal) → get_or (with_lf (refusal_line refusal)) 0 0 ≡ 69
 unfolding with_lf refusal_line
-refusal_begins (refused.ClockBack last) = refl
 refusal_begins refused.ClockEnd = refl
-refusal_begins refused.Full = refl
-refusal_begins refused.BadName = refl
-refusal_begins (refused.NameTaken id) = refl
-refusal_begins refused.NoSubscriber = refl
-refusal_begins (refused.BadDays most) = refl
-refusal_begins refused.NoOrder = refl
-refusal_begins refused.OrderFilled = refl
-refusal_begins refused.SerialTaken = refl
-refusal_begins refused.BadValidity = refl
-refusal_begins refused.TooLong = refl
-refusal_begins refused.Ended = refl
-refusal_begins refused.UnknownSerial = refl
-refusal_begins refused.NoHold = refl
-refusal_begins refused.BadGround = refl
-refusal_begins refused.NoRequest = refl
-refusal_begins refused.DeclinedBefore = refl
-refusal_begins (refused.RevokedBefore at) = refl
-refusal_begins refused.Expired = refl
-refusal_begins refused.NoCrl = refl
-refusal_begins refused.Syntax = refl
+refusal_begins other = refl
 
--- and that of a listing with l
-listing_begins : (first : ℕ) (last : Option ℕ) → get_or (with_lf (listing_by first last)) 0 0 ≡ 108
-unfolding with_lf listing_by
-listing_begins first None = refl
-listing_begins first (Some last) = refl
+-- and that of another fault with F
+fault_begins
+    : (fault : Fault)
+    → (get_or (with_lf (outcome_line (Err fault))) 0 0 ≡ 69) ⊎ (get_or (with_lf (outcome_line (Err fault))) 0 0 ≡ 70)
+unfolding with_lf outcome_line fault_line
+fault_begins (Refused refusal) = inl (refusal_begins refusal)
+fault_begins other = inr refl
+
+-- so no text that begins with a later letter tells either
+no_fault_told
+    : (fault : Fault) (told : List ℕ) → with_lf (outcome_line (Err fault)) ≡ told → 70 < get_or told 0 0 → ⊥
+no_fault_told fault told same later =
+    let first : get_or (with_lf (outcome_line (Err fault))) 0 0 ≡ get_or told 0 0 = ap (λ text. get_or text 0 0) same in
+    elim (fault_begins fault) [ inl refusal ↦ omega (arith, first, refusal) | inr other ↦ omega (arith, first, other) ]
 
 -- texts that differ at a place are not the same
 apart : (place : ℕ) (text other : List ℕ) → text ≡ other → (get_or text place 0 == get_or other place 0) ≡ false → ⊥
@@ -146,65 +155,41 @@ apart place text other same differs =
     in
     cc both
 
--- a line that tells `registered` is that of this reply
-registered_told : (outcome : Result Reply Fault) → with_lf (outcome_line outcome) ≡ with_lf (codes "registered") → outcome ≡ Ok Registered
-unfolding with_lf outcome_line reply_line status_line counts_line listing_line overdue_line next_crl_line fault_line
-registered_told (Ok (reply.Subscriber id)) e = absurd (apart 0 _ _ e refl)
-registered_told (Ok (reply.Order id)) e = absurd (apart 0 _ _ e refl)
-registered_told (Ok reply.Registered) e = refl
-registered_told (Ok reply.Same) e = absurd (apart 0 _ _ e refl)
-registered_told (Ok (reply.Request id due)) e = absurd (apart 2 _ _ e refl)
-registered_told (Ok reply.Declined) e = absurd (apart 0 _ _ e refl)
-registered_told (Ok (reply.Revoked true)) e = absurd (apart 2 _ _ e refl)
-registered_told (Ok (reply.Revoked false)) e = absurd (apart 2 _ _ e refl)
-registered_told (Ok (reply.Crl number entries)) e = absurd (apart 0 _ _ e refl)
-registered_told (Ok (reply.Status status.Unknown)) e = absurd (apart 0 _ _ e refl)
-registered_told (Ok (reply.Status status.Good)) e = absurd (apart 0 _ _ e refl)
-registered_told (Ok (reply.Status status.Expired)) e = absurd (apart 0 _ _ e refl)
-registered_told (Ok (reply.Status (status.Revoked at reason))) e = absurd (apart 2 _ _ e refl)
-registered_told (Ok (reply.Counts counts)) e = absurd (apart 0 _ _ e refl)
-registered_told (Ok (reply.Listing None)) e = absurd (apart 0 _ _ e refl)
-registered_told (Ok (reply.Listing (Some listing))) e = absurd (apart 0 _ _ e (ap (λ n. n == get_or (with_lf (codes "registered")) 0 0) (listing_begins listing.first listing.last)))
-registered_told (Ok (reply.Overdue None)) e = absurd (apart 0 _ _ e refl)
-registered_told (Ok (reply.Overdue (Some overdue))) e = absurd (apart 0 _ _ e refl)
-registered_told (Ok (reply.NextCrl None)) e = absurd (apart 0 _ _ e refl)
-registered_told (Ok (reply.NextCrl (Some moment))) e = absurd (apart 0 _ _ e refl)
-registered_told (Err Memory) e = absurd (apart 0 _ _ e refl)
-registered_told (Err Store) e = absurd (apart 0 _ _ e refl)
-registered_told (Err Signer) e = absurd (apart 0 _ _ e refl)
-registered_told (Err Read) e = absurd (apart 0 _ _ e refl)
-registered_told (Err Write) e = absurd (apart 0 _ _ e refl)
-registered_told (Err (Refused refusal)) e = absurd (apart 0 _ _ e (ap (λ n. n == get_or (with_lf (codes "registered")) 0 0) (refusal_begins refusal)))
+-- a row's line that tells `registered` is that of this reply
+registered_told
+    : (outcome : Result Reply Fault)
+    → IsOfRow outcome
+    → with_lf (outcome_line outcome) ≡ with_lf (codes "registered")
+    → outcome ≡ Ok Registered
+unfolding with_lf outcome_line reply_line
+registered_told outcome (inl is) told = is
+registered_told outcome (inr (inl is)) told =
+    absurd (apart 0 _ _ (ap (λ o. with_lf (outcome_line o)) (sym is) ∙ told) refl)
+registered_told outcome (inr (inr its)) told =
+    absurd
+    (no_fault_told
+    its.0
+    (with_lf (codes "registered"))
+    (ap (λ o. with_lf (outcome_line o)) (sym its.1) ∙ told)
+    (lit< tt))
 
--- a line that tells `same` is that of this reply
-same_told : (outcome : Result Reply Fault) → with_lf (outcome_line outcome) ≡ with_lf (codes "same") → outcome ≡ Ok Same
-unfolding with_lf outcome_line reply_line status_line counts_line listing_line overdue_line next_crl_line fault_line
-same_told (Ok (reply.Subscriber id)) e = absurd (apart 1 _ _ e refl)
-same_told (Ok (reply.Order id)) e = absurd (apart 0 _ _ e refl)
-same_told (Ok reply.Registered) e = absurd (apart 0 _ _ e refl)
-same_told (Ok reply.Same) e = refl
-same_told (Ok (reply.Request id due)) e = absurd (apart 0 _ _ e refl)
-same_told (Ok reply.Declined) e = absurd (apart 0 _ _ e refl)
-same_told (Ok (reply.Revoked true)) e = absurd (apart 0 _ _ e refl)
-same_told (Ok (reply.Revoked false)) e = absurd (apart 0 _ _ e refl)
-same_told (Ok (reply.Crl number entries)) e = absurd (apart 0 _ _ e refl)
-same_told (Ok (reply.Status status.Unknown)) e = absurd (apart 0 _ _ e refl)
-same_told (Ok (reply.Status status.Good)) e = absurd (apart 0 _ _ e refl)
-same_told (Ok (reply.Status status.Expired)) e = absurd (apart 0 _ _ e refl)
-same_told (Ok (reply.Status (status.Revoked at reason))) e = absurd (apart 0 _ _ e refl)
-same_told (Ok (reply.Counts counts)) e = absurd (apart 0 _ _ e refl)
-same_told (Ok (reply.Listing None)) e = absurd (apart 0 _ _ e refl)
-same_told (Ok (reply.Listing (Some listing))) e = absurd (apart 0 _ _ e (ap (λ n. n == get_or (with_lf (codes "same")) 0 0) (listing_begins listing.first listing.last)))
-same_told (Ok (reply.Overdue None)) e = absurd (apart 0 _ _ e refl)
-same_told (Ok (reply.Overdue (Some overdue))) e = absurd (apart 0 _ _ e refl)
-same_told (Ok (reply.NextCrl None)) e = absurd (apart 0 _ _ e refl)
-same_told (Ok (reply.NextCrl (Some moment))) e = absurd (apart 0 _ _ e refl)
-same_told (Err Memory) e = absurd (apart 0 _ _ e refl)
-same_told (Err Store) e = absurd (apart 0 _ _ e refl)
-same_told (Err Signer) e = absurd (apart 0 _ _ e refl)
-same_told (Err Read) e = absurd (apart 0 _ _ e refl)
-same_told (Err Write) e = absurd (apart 0 _ _ e refl)
-same_told (Err (Refused refusal)) e = absurd (apart 0 _ _ e (ap (λ n. n == get_or (with_lf (codes "same")) 0 0) (refusal_begins refusal)))
+-- a row's line that tells `same` is that of this reply
+same_told
+    : (outcome : Result Reply Fault)
+    → IsOfRow outcome
+    → with_lf (outcome_line outcome) ≡ with_lf (codes "same")
+    → outcome ≡ Ok Same
+unfolding with_lf outcome_line reply_line
+same_told outcome (inl is) told =
+    absurd (apart 0 _ _ (ap (λ o. with_lf (outcome_line o)) (sym is) ∙ told) refl)
+same_told outcome (inr (inl is)) told = is
+same_told outcome (inr (inr its)) told =
+    absurd
+    (no_fault_told
+    its.0
+    (with_lf (codes "same"))
+    (ap (λ o. with_lf (outcome_line o)) (sym its.1) ∙ told)
+    (lit< tt))
 
 same_line : with_lf (outcome_line (Ok Same)) ≡ with_lf (codes "same")
 unfolding outcome_line reply_line
@@ -216,12 +201,12 @@ IsTold outcome told = told ≡ with_lf (outcome_line outcome)
 
 -- outcomes that are answered again, by the replies that tell them
 replied_again : (first second : Result Reply Fault) (told other : List ℕ)
-    → IsTold first told → IsTold second other → AnsweredAgain first second → RepliedAgain told other
-replied_again first second told other is is' again said =
+    → IsOfRow first → IsTold first told → IsTold second other → AnsweredAgain first second → RepliedAgain told other
+replied_again first second told other of is is' again said =
     let outcome : (first ≡ Ok Registered) ⊎ (first ≡ Ok Same) =
     elim said [
-      | inl new ↦ inl (registered_told first (sym is ∙ new))
-      | inr old ↦ inr (same_told first (sym is ∙ old))
+      | inl new ↦ inl (registered_told first of (sym is ∙ new))
+      | inr old ↦ inr (same_told first of (sym is ∙ old))
     ]
     in
     elim (again outcome) [
@@ -230,16 +215,17 @@ replied_again first second told other is is' again said =
     ]
 
 all_again : (firsts : List (Result Reply Fault)) (replies : List (List ℕ)) (seconds : List (Result Reply Fault)) (others : List (List ℕ))
-    → AllZip IsTold firsts replies → AllZip IsTold seconds others → AllZip AnsweredAgain firsts seconds → AllZip RepliedAgain replies others
-all_again [] [] [] [] a b again = tt
-all_again [] [] [] (other ∷ others) a b again = absurd b
-all_again [] [] (second ∷ seconds) others a b again = absurd again
-all_again [] (told ∷ replies) seconds others a b again = absurd a
-all_again (first ∷ firsts) [] seconds others a b again = absurd a
-all_again (first ∷ firsts) (told ∷ replies) [] others a b again = absurd again
-all_again (first ∷ firsts) (told ∷ replies) (second ∷ seconds) [] a b again = absurd b
-all_again (first ∷ firsts) (told ∷ replies) (second ∷ seconds) (other ∷ others) a b again =
-    (replied_again first second told other a.0 b.0 again.0, all_again firsts replies seconds others a.1 b.1 again.1)
+    → AllByRecursion IsOfRow firsts → AllZip IsTold firsts replies → AllZip IsTold seconds others → AllZip AnsweredAgain firsts seconds
+    → AllZip RepliedAgain replies others
+all_again [] [] [] [] of a b again = tt
+all_again [] [] [] (other ∷ others) of a b again = absurd b
+all_again [] [] (second ∷ seconds) others of a b again = absurd again
+all_again [] (told ∷ replies) seconds others of a b again = absurd a
+all_again (first ∷ firsts) [] seconds others of a b again = absurd a
+all_again (first ∷ firsts) (told ∷ replies) [] others of a b again = absurd again
+all_again (first ∷ firsts) (told ∷ replies) (second ∷ seconds) [] of a b again = absurd b
+all_again (first ∷ firsts) (told ∷ replies) (second ∷ seconds) (other ∷ others) of a b again =
+    (replied_again first second told other of.0 a.0 b.0 again.0, all_again firsts replies seconds others of.1 a.1 b.1 again.1)
 
 -- where no reply tells a fault, no outcome is one
 no_faults : (outcomes : List (Result Reply Fault)) (replies : List (List ℕ))
@@ -257,6 +243,7 @@ no_faults (outcome ∷ outcomes) (told ∷ replies) is none =
 record Ran (signed : CertList → List ℕ → Type 0) (records : Records) (now : ℕ) (rows : List Row) (replies : List (List ℕ)) (after : Records) : Type 0 where
   outcomes : List (Result Reply Fault)
   imports : Imports signed records now (map spelled rows) outcomes after
+  of_rows : AllByRecursion IsOfRow outcomes
   told : AllZip IsTold outcomes replies
 
 module _ (signed : CertList → List ℕ → Type 0) (answers : Records → Meaning → Answer → Records → Type 0)
@@ -264,7 +251,7 @@ module _ (signed : CertList → List ℕ → Type 0) (answers : Records → Mean
     → answers s (tells now command) (came_to outcome) t → Happens signed s now command outcome t) where
   ran : (records after : Records) (now : ℕ) (rows : List Row) (replies : List (List ℕ))
       → Answered (RowReplies answers now) records rows replies after → Ran signed records now rows replies after
-  ran records after now [] [] same = record { outcomes = []; imports = same; told = tt }
+  ran records after now [] [] same = record { outcomes = []; imports = same; of_rows = tt; told = tt }
   ran records after now [] (told ∷ replies) answered = absurd answered
   ran records after now (row ∷ rows) [] answered = absurd answered
   ran records after now (row ∷ rows) (told ∷ replies) (next, inl (command, outcome, means, happened, is), answered) =
@@ -275,6 +262,7 @@ module _ (signed : CertList → List ℕ → Type 0) (answers : Records → Mean
       let happens = subst P spells.command_is (by_rules records now command outcome next happened) in record {
         outcomes = outcome ∷ rest.outcomes;
         imports = subst Q (sym spells.is) (next, happens, rest.imports);
+        of_rows = (of_row signed records now spells.certificate outcome next happens, rest.of_rows);
         told = (is, rest.told);
       }
   ran records after now (row ∷ rows) (told ∷ replies) (next, inr (unread, is, same), answered) =
@@ -284,6 +272,7 @@ module _ (signed : CertList → List ℕ → Type 0) (answers : Records → Mean
       let Q : Option CertRow → Type 0 = λ o. Imports signed records now (o ∷ map spelled rows) (outcome ∷ rest.outcomes) after in record {
         outcomes = outcome ∷ rest.outcomes;
         imports = subst Q (sym (unread_spells row unread)) (refl, rest.imports);
+        of_rows = (inr (inr (Refused refused.Syntax, refl)), rest.of_rows);
         told = (is, rest.told);
       }
 
@@ -314,4 +303,4 @@ module _ (signed : CertList → List ℕ → Type 0) (answers : Records → Mean
       (no_faults one.outcomes first.replies one.told none)
       two.imports
       in
-      (both.0, all_again one.outcomes first.replies two.outcomes second.replies one.told two.told both.1)
+      (both.0, all_again one.outcomes first.replies two.outcomes second.replies one.of_rows one.told two.told both.1)

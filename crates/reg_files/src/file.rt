@@ -1,6 +1,6 @@
 //! Files that hold databases.
 
-ghost use Rattle.std.specs.Prelude.{◌≡◌, ◌⊎◌, ◌≤◌, false, IfOk, IfErr};
+ghost use Rattle.std.specs.Prelude.{◌≡◌, ◌⊎◌, ◌≤◌, ◌++◌, codes, false, string_bytes, IfOk, IfErr};
 ghost use Rattle.sqlite.specs.Files.{file_state, IsOpened};
 ghost use Rattle.sqlite.specs.Held.{IsNew};
 ghost use Rattle.sqlite.specs.Start.{FindsIn};
@@ -10,11 +10,14 @@ ghost use Rattle.sqlite_wal.specs.Files.{image_at};
 
 use reg_core::Fault;
 use sqlite::{Connection, Error, ErrorCode, FileFrom, FileStore, Options};
-use sqlite_disk::Start;
+use sqlite_disk::{Start, Unknown};
 use sqlite_std_file::OpenError;
+use std::alloc::AllocError;
 use std::fs;
+use std::fs::OpenOptions;
 use std::hash::{BuildHasher, RandomState};
 use std::io::ErrorKind;
+use std::os::unix::fs::OpenOptionsExt;
 
 /// How many bytes a page has.
 const PAGE: u64 = 4096;
@@ -24,6 +27,9 @@ const FEWEST_PAGES: usize = 2_000;
 
 /// The most pages that are kept in memory: 256 MiB.
 const MOST_PAGES: usize = 65_536;
+
+/// The mode of a file that its owner alone may read and write.
+const OWNER_ALONE: u32 = 0o600;
 
 /// Opens the file at a path as a database, or makes it, with its checks for damage; `start` stands for what the file and
 /// its log hold. As many pages are kept in memory as the file has now, 8 MB at least and 256 MiB at most, so that a look-up
@@ -92,4 +98,42 @@ fn pages_for(rt: &HostRuntime, path: &str) -> usize
         .unwrap_or(MOST_PAGES)
         .max(FEWEST_PAGES)
         .min(MOST_PAGES)
+}
+
+/// Lays an empty file at a path where nothing lies, in one step, so that of two who do so at once one has it; answers
+/// whether it did. The file's owner alone may read and write it. A link that leads nowhere is something that lies there,
+/// and so is a log that lies beside no register: it may be all that is left of one.
+pub fn claim_file(rt: &HostRuntime, path: &str) -> bool {
+    let Ok(log) = log_of(rt, path) else {
+        return false;
+    };
+    if fs::exists(rt, log.as_str()).unwrap_or(true) {
+        return false;
+    }
+    let mut options = OpenOptions::new();
+    options.write(true).create_new(true).mode(OWNER_ALONE);
+    options.open(rt, path).is_ok()
+}
+
+/// Removes a database's file and its log. It holds them meanwhile, as who opens them does, so that what another program
+/// has open stays; what can't be removed stays too.
+pub fn remove_file(rt: &HostRuntime, path: &str) {
+    let Ok(held) = sqlite_std_file::open(rt, path, Unknown) else {
+        return;
+    };
+    drop(fs::remove_file(rt, path));
+    if let Ok(log) = log_of(rt, path) {
+        drop(fs::remove_file(rt, log.as_str()));
+    }
+    drop(held);
+}
+
+/// The path of the log that lies beside a database's file.
+fn log_of(rt: &HostRuntime, path: &str) -> Result<String, AllocError>
+    ensures { IfOk result (λ log. string_bytes log ≡ path.now ++ codes "-wal") }
+{
+    let mut log = String::new(rt.alloc());
+    log.push_str(path)?;
+    log.push_str("-wal")?;
+    Ok(log)
 }

@@ -1,3 +1,4 @@
+pub mod CollectLemmas
 pub mod FieldLemmas
 pub mod FrameLemmas
 pub mod HeadLemmas

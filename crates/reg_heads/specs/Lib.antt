@@ -1,4 +1,6 @@
 pub mod Allow
+pub mod Bytes
+pub mod Collected
 pub mod Fields
 pub mod Frame
 pub mod Head

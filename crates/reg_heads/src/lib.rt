@@ -2,14 +2,17 @@
 #![tactic(auto)]
 
 mod answer;
+mod collected;
 mod fields;
 mod head;
+mod known;
 pub mod laws;
 mod request;
 mod response;
 pub mod status;
 
 pub use answer::Answer;
+pub use collected::Collected;
 pub use head::{Head, read_head};
 pub use request::{Request, read_request};
 pub use response::{HEAD_ROOM, put, write_answer, write_memory_fault};

@@ -14,10 +14,10 @@ use std::alloc::Global;
 use std::io::Read;
 
 /// The longest head, in bytes.
-const LONGEST_HEAD: usize = 8_192;
+pub(crate) const LONGEST_HEAD: usize = 8_192;
 
 /// The end of the last line of a head, and the empty line after it.
-const BLANK_LINE: &[u8] = b"\r\n\r\n";
+pub(crate) const BLANK_LINE: &[u8] = b"\r\n\r\n";
 
 /// A request that was read.
 #[derive(Drop)]

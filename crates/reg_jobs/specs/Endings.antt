@@ -12,7 +12,6 @@ unfoldable pub failure_line : Failure → List ℕ
 failure_line (failure.Fault fault) = fault_line fault
 failure_line failure.NotEmpty = codes "not-empty"
 failure_line failure.NotARegister = codes "not-a-register"
-failure_line failure.OldVersion = codes "old-version"
 failure_line failure.NewVersion = codes "new-version"
 failure_line failure.BadIssuer = codes "bad-issuer"
 failure_line failure.BadPolicy = codes "bad-policy"
@@ -28,5 +27,4 @@ store_failure stored.Memory = failure.Fault fault.Memory
 store_failure stored.Store = failure.Fault fault.Store
 store_failure stored.NotEmpty = failure.NotEmpty
 store_failure stored.NotARegister = failure.NotARegister
-store_failure stored.OldVersion = failure.OldVersion
 store_failure stored.NewVersion = failure.NewVersion

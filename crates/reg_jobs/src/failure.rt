@@ -15,8 +15,6 @@ pub enum Failure {
     NotEmpty,
     /// The file holds no register.
     NotARegister,
-    /// The register is of an older version.
-    OldVersion,
     /// The register is of a newer version.
     NewVersion,
     /// The Name or the key is not what an issuer has.
@@ -35,7 +33,6 @@ impl Failure {
             Failure::Fault(fault) => fault.line(),
             Failure::NotEmpty => words(b"not-empty"),
             Failure::NotARegister => words(b"not-a-register"),
-            Failure::OldVersion => words(b"old-version"),
             Failure::NewVersion => words(b"new-version"),
             Failure::BadIssuer => words(b"bad-issuer"),
             Failure::BadPolicy => words(b"bad-policy"),
@@ -65,7 +62,6 @@ impl From<StoreFault> for Failure {
             StoreFault::Store => Failure::Fault(Fault::Store),
             StoreFault::NotEmpty => Failure::NotEmpty,
             StoreFault::NotARegister => Failure::NotARegister,
-            StoreFault::OldVersion => Failure::OldVersion,
             StoreFault::NewVersion => Failure::NewVersion,
         }
     }

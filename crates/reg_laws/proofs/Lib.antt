@@ -12,6 +12,8 @@ pub mod Listings
 pub mod Lists
 pub mod Outcomes
 pub mod Parted
+pub mod Revoked
 pub mod Runs
 pub mod Timed
 pub mod Told
+pub mod Worked

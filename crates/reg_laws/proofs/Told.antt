@@ -1,28 +1,26 @@
 -- What CRLs tell over runs: of a revocation from the command that it came by, and of recorded CRLs that they stay.
-use Rattle.std.proofs.Common.{◌≡◌, ◌↔◌, ℕ, ◌+◌, ◌<◌, ◌≤◌, Bool, true, false, not, cond, ◌&&◌, nat_lt, nat_le, List, [], ◌∷◌, ◌++◌, length, Some, None, Ok, IsTrue, IsFalse, refl, sym, ap, ◌∙◌, subst, arith}
+use Rattle.std.proofs.Common.{◌≡◌, ◌↔◌, ℕ, ◌+◌, ◌<◌, ◌≤◌, false, not, ◌&&◌, nat_lt, nat_le, List, [], ◌∷◌, ◌++◌, length, Some, Ok, IsTrue, IsFalse, sym, ap, ◌∙◌, subst, arith}
 use Rattle.std.specs.List.{AllByRecursion, list_any}
 use Rattle.std.proofs.lemmas.Bool.{and_left}
 use Rattle.std.proofs.lemmas.Bool.Decides.{nat_tests}
-use Rattle.reg_core.specs.Changes.{with_revocation}
-use Rattle.reg_core.specs.Crls.{CertList, cert_list, content, entries, is_on, is_past_on, next_number}
+use Rattle.reg_core.specs.Crls.{CertList, cert_list, content, is_on, is_past_on, next_number}
 use Rattle.reg_core.specs.Records.{Records, Crl, certificate_in, revocation_in, request_in}
 use Rattle.reg_core.specs.Sound.{Sound, SoundRows, NumberedFrom}
-use Rattle.reg_core.specs.Step.{refusal, reply, changed, is_repeat, revocation_row}
+use Rattle.reg_core.specs.Step.{changed}
 use Rattle.reg_core.specs.declared.rows.CertRow.{CertRow}
-use Rattle.reg_core.specs.declared.rows.RequestRow.{RequestRow}
 use Rattle.reg_core.specs.declared.rows.RevocationRow.{RevocationRow}
-use Rattle.reg_core.specs.declared.command.Command.{Command}
-use Rattle.reg_core.specs.declared.command.Command.TheVariants.{Subscriber, Order, Register, Request, Decline, Revoke, Crl as IssueCrl}
-use Rattle.reg_core.specs.declared.command.Reply.TheVariants.{Registered, Same, Revoked}
-use Rattle.reg_laws.specs.Headline.{lists, NonePastBetween, ToldByCrls, IsDueEntry, ListsRevoked}
+use Rattle.reg_core.specs.declared.command.Command.TheVariants.{Revoke}
+use Rattle.reg_core.specs.declared.command.Reply.TheVariants.{Revoked}
+use Rattle.reg_laws.specs.Headline.{lists, NonePastBetween, ToldByCrls, ListsRevoked}
 use Rattle.reg_laws.specs.History.{HistoryStands}
-use Rattle.reg_laws.proofs.Accepted.{SettleAccepted, accepted_revoke}
+use Rattle.reg_laws.specs.Revocations.{RevocationsMove}
 use Rattle.reg_laws.proofs.Contents.{Grows, next_is, content_kept, cert_list_kept}
 use Rattle.reg_laws.proofs.Listed.{on_means, lists_is, RevokedCertificate, certificate_of, due_entries, listed_from_first_to_last}
 use Rattle.reg_laws.proofs.Lists.{all_front, all_back, all_weaker, each_found, key_found, numbered_above, numbered_below}
 use Rattle.reg_laws.proofs.ListFacts.{numbered_back}
 use Rattle.reg_laws.proofs.Outcomes.{Outcome, outcome_of}
 use Rattle.reg_laws.proofs.Outcomes.Outcome.{Stays, Changes}
+use Rattle.reg_laws.proofs.Revoked.{revocations_move_exactly}
 use Rattle.reg_laws.proofs.Runs.{keeps_sound, step_keeps_sound, run_grows}
 
 -- A REVOCATION
@@ -142,35 +140,13 @@ told_by_crls before after revocation more later sound_before sound first_is ente
         later
         (subst (NumberedFrom (λ crl. crl.number) 1) issued sound.crls.numbered)
 
--- a command that answers a revocation enters one
-pub revoked_by
-    : (records : Records) (now : ℕ) (command : Command) (is_late : Bool) (bytes : List ℕ)
-    → SoundRows records
-    → refusal records now command ≡ None
-    → Revoked is_late ≡ reply records now command
-    → (request : RequestRow)
-    × (changed records now command bytes ≡ with_revocation records now (revocation_row records now request))
-revoked_by records now (Subscriber name) is_late bytes sound accepted is = absurd (let bad : ⊥ = cc in bad)
-revoked_by records now (Order subscriber days) is_late bytes sound accepted is = absurd (let bad : ⊥ = cc in bad)
-revoked_by records now (Register order serial not_before not_after) is_late bytes sound accepted is =
-    absurd (go (is_repeat records (Register order serial not_before not_after)) is)
-  where
-    go : (repeat : Bool) → Revoked is_late ≡ cond repeat Same Registered → ⊥
-    go true same = cc
-    go false same = cc
-revoked_by records now (Request serial word) is_late bytes sound accepted is = absurd (let bad : ⊥ = cc in bad)
-revoked_by records now (Decline id) is_late bytes sound accepted is = absurd (let bad : ⊥ = cc in bad)
-revoked_by records now (Revoke id) is_late bytes sound accepted is =
-    let settled : SettleAccepted records now id = accepted_revoke records now id sound accepted in
-    let found : request_in records.requests id ≡ Some settled.request = settled.found in
-    (settled.request, rw (found, changed))
-revoked_by records now IssueCrl is_late bytes sound accepted is = absurd (let bad : ⊥ = cc in bad)
-
 -- every CRL after a revocation lists it up to and including the first one issued past its certificate's end, and lists
 -- nothing else
 pub lists_revoked : (signed : CertList → List ℕ → Type 0) → ListsRevoked signed
-lists_revoked signed records before next after front rest early late now command is_late sound run happens more_run =
-    go (outcome_of signed before now command (Ok (Revoked is_late)) next happens)
+lists_revoked signed records before next after front rest early late now command is_late sound run happens more_run = (
+  (told.0, brought.0, told.1, brought.1, brought.2, told.2),
+  λ n. due_entries after n sound_after.rows,
+)
   where
     sound_before : Sound signed before
     sound_before = keeps_sound signed records before front early sound run
@@ -184,24 +160,53 @@ lists_revoked signed records before next after front rest early late now command
     grows : Grows next after
     grows = run_grows signed next after rest late sound_next more_run
 
-    go
-        : Outcome signed before now command (Ok (Revoked is_late)) next
-        → ((certificate : CertRow)
-        × (revocation : RevocationRow)
-        × (certificate_in after.certificates revocation.serial ≡ Some certificate)
-        × (next.revocations ≡ before.revocations ++ revocation ∷ [])
-        × (revocation.at ≡ now)
-        × ToldByCrls before.crls after certificate revocation)
-        × ((n : ℕ) → AllByRecursion (IsDueEntry after n) (entries after n))
-    go (Stays fault is same) = absurd (let bad : ⊥ = cc in bad)
-    go (Changes bytes accepted is signed_over change) =
-        let by = revoked_by before now command is_late bytes sound_before.rows accepted (let same : Revoked is_late ≡ reply before now command = cc in same) in
-        let row = revocation_row before now by.0 in
-        let became : next ≡ with_revocation before now row = change ∙ by.1 in
-        let entered : next.revocations ≡ before.revocations ++ row ∷ [] = ap (λ r. r.revocations) became in
-        let crls : next.crls ≡ before.crls = ap (λ r. r.crls) became in
-        let told = told_by_crls before after row grows.more_revocations grows.more_crls sound_before.rows sound_after.rows refl (grows.revocations ∙ ap (λ rows. rows ++ grows.more_revocations) entered) (grows.crls ∙ ap (λ rows. rows ++ grows.more_crls) crls) in
-        ((told.0, row, told.1, entered, refl, told.2), λ n. due_entries after n sound_after.rows)
+    brought : RevocationsMove before now command (Ok (Revoked is_late)) next
+    brought =
+        revocations_move_exactly
+        signed
+        records
+        before
+        next
+        front
+        early
+        now
+        command
+        (Ok (Revoked is_late))
+        sound
+        run
+        happens
+
+    no_crl : next.crls ≡ before.crls
+    no_crl = go (outcome_of signed before now command (Ok (Revoked is_late)) next happens)
+      where
+        still : (changed before now (Revoke brought.2.request.id) []).crls ≡ before.crls
+        still =
+            let found : request_in before.requests brought.2.request.id ≡ Some brought.2.request = brought.2.recorded in
+            rw (found, changed)
+
+        go : Outcome signed before now command (Ok (Revoked is_late)) next → next.crls ≡ before.crls
+        go (Stays fault is same) = absurd (let bad : ⊥ = cc in bad)
+        go (Changes bytes accepted is signed_over change) =
+            ap (λ r. r.crls) change
+            ∙ ap (λ c. (changed before now c bytes).crls) brought.2.commanded
+            ∙ still
+
+    told
+        : (certificate : CertRow)
+        × (certificate_in after.certificates brought.0.serial ≡ Some certificate)
+        × ToldByCrls before.crls after certificate brought.0
+    told =
+        told_by_crls
+        before
+        after
+        brought.0
+        grows.more_revocations
+        grows.more_crls
+        sound_before.rows
+        sound_after.rows
+        brought.2.from_next
+        (grows.revocations ∙ ap (λ rows. rows ++ grows.more_revocations) brought.1)
+        (grows.crls ∙ ap (λ rows. rows ++ grows.more_crls) no_crl)
 
 -- RECORDED CRLS
 
@@ -212,6 +217,7 @@ history_stands signed records after commands outcomes sound run =
     let recorded : AllByRecursion (λ crl. crl.number < 1 + length records.crls) records.crls =
     numbered_below (λ crl. crl.number) 1 records.crls sound.rows.crls.numbered in (
       listed_from_first_to_last after sound_after.rows,
+      λ n. due_entries after n sound_after.rows,
       record {
         later = grows.more_crls;
         recorded = grows.crls;

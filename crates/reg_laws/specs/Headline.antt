@@ -20,6 +20,7 @@ use Rattle.reg_core.specs.declared.command.Reply.{Reply}
 use Rattle.reg_core.specs.declared.command.Reply.TheVariants.{Registered, Revoked}
 use Rattle.reg_core.specs.declared.refusal.Fault.{Fault}
 use Rattle.reg_core.specs.declared.command.Status.TheVariants.{Good, Expired}
+use Rattle.reg_laws.specs.Revocations.{IsRevocationBy}
 use Rattle.reg_laws.specs.Run.{Happens, Run}
 
 -- a register is sound as it is created
@@ -161,6 +162,10 @@ pub record IsDueEntry (records : Records) (n : ℕ) (entry : Entry) : Type 0 whe
   pub can_list : revocation.first ≤ n
   pub none_past : NonePastBetween records.crls revocation.first n certificate.not_after
 
+-- each CRL lists revocations that it is to list, and nothing else
+abbrev pub ListsNothingElse : Records → Type 0
+ListsNothingElse records = (n : ℕ) → AllByRecursion (IsDueEntry records n) (entries records n)
+
 -- every CRL after a revocation lists it up to and including the first one issued past its certificate's end, and lists
 -- nothing else
 abbrev pub ListsRevoked : (CertList → List ℕ → Type 0) → Type 0
@@ -179,9 +184,9 @@ ListsRevoked signed =
     × (revocation : RevocationRow)
     × (certificate_in after.certificates revocation.serial ≡ Some certificate)
     × (next.revocations ≡ before.revocations ++ revocation ∷ [])
-    × (revocation.at ≡ now)
+    × IsRevocationBy before now command revocation
     × ToldByCrls before.crls after certificate revocation)
-    × ((n : ℕ) → AllByRecursion (IsDueEntry after n) (entries after n))
+    × ListsNothingElse after
 
 -- a command that is refused, or answers a fault, changes nothing
 abbrev pub RefusalsChangeNothing : (CertList → List ℕ → Type 0) → Type 0

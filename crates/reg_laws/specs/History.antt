@@ -1,4 +1,5 @@
--- The history of CRLs: which ones list a revocation, and that a recorded one stays as it was.
+-- The history of CRLs: which ones list a revocation, that they list nothing else, and that a recorded one stays as it
+-- was.
 use Rattle.std.specs.Prelude.{◌≡◌, ℕ, ◌↔◌, ◌≤◌, List, ◌++◌, Result, IsTrue, IfSome}
 use Rattle.std.specs.List.{AllByRecursion}
 use Rattle.reg_core.specs.Crls.{CertList, cert_list, content, last_listing}
@@ -7,7 +8,7 @@ use Rattle.reg_core.specs.Sound.{Sound}
 use Rattle.reg_core.specs.declared.command.Command.{Command}
 use Rattle.reg_core.specs.declared.command.Reply.{Reply}
 use Rattle.reg_core.specs.declared.refusal.Fault.{Fault}
-use Rattle.reg_laws.specs.Headline.{lists}
+use Rattle.reg_laws.specs.Headline.{lists, ListsNothingElse}
 use Rattle.reg_laws.specs.Run.{Run}
 
 -- the CRLs that list a revoked serial number are exactly those from its first to its last, or from its first on while
@@ -40,4 +41,4 @@ HistoryStands signed =
     (outcomes : List (Result Reply Fault))
     → Sound signed records
     → Run signed records commands outcomes after
-    → ListedFromFirstToLast after × CrlsStay signed records after
+    → ListedFromFirstToLast after × ListsNothingElse after × CrlsStay signed records after

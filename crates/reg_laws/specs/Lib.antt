@@ -2,4 +2,5 @@ pub mod Examples
 pub mod Headline
 pub mod History
 pub mod Import
+pub mod Revocations
 pub mod Run

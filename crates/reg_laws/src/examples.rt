@@ -1,8 +1,8 @@
 //! Worked examples over the definitions, which the check computes: a wrong definition is refused here.
 
-ghost use Rattle.reg_laws.specs.Examples.{ANewRegisterIsEmpty, TheLongestValidity, ASecondRegisterIsTheSame, NotAfterIsTheLastGoodSecond, TimeMovesTheCounts, TheDeadlineIsInTime, ASecondLaterIsLate, EachCrlListsARevocation, TheLastListingIsPastTheEnd, ALateCrlListsOnce, OneRevocationOfASerialNumber, AFullTableTakesNoMore, ADeclinedRequestStaysSo, EachRefusalHasItsCase, TheClockEnds, TheScheduleGoesByNotBefore};
+ghost use Rattle.reg_laws.specs.Examples.{ANewRegisterIsEmpty, TheLongestValidity, ASecondRegisterIsTheSame, NotAfterIsTheLastGoodSecond, TimeMovesTheCounts, TheDeadlineIsInTime, ASecondLaterIsLate, EachCrlListsARevocation, TheLastListingIsPastTheEnd, ALateCrlListsOnce, OneRevocationOfASerialNumber, TheNextCrlIsDue, TheNextCrlIsDueByNextUpdate, EachGroundHasItsLimitAndReason, AFullTableTakesNoMore, ADeclinedRequestStaysSo, EachRefusalHasItsCase, TheClockEnds, TheScheduleGoesByNotBefore};
 
-/// Scripts of commands and queries, and what each of their lines comes to.
+/// Days at the office: what each command comes to, what each query is answered, and which entries a CRL has.
 pub fn worked_examples()
     ensures a_new_register_is_empty { ANewRegisterIsEmpty }
     ensures the_longest_validity { TheLongestValidity }
@@ -15,6 +15,9 @@ pub fn worked_examples()
     ensures the_last_listing_is_past_the_end { TheLastListingIsPastTheEnd }
     ensures a_late_crl_lists_once { ALateCrlListsOnce }
     ensures one_revocation_of_a_serial_number { OneRevocationOfASerialNumber }
+    ensures the_next_crl_is_due { TheNextCrlIsDue }
+    ensures the_next_crl_is_due_by_next_update { TheNextCrlIsDueByNextUpdate }
+    ensures each_ground_has_its_limit_and_reason { EachGroundHasItsLimitAndReason }
     ensures a_full_table_takes_no_more { AFullTableTakesNoMore }
     ensures a_declined_request_stays_so { ADeclinedRequestStaysSo }
     ensures each_refusal_has_its_case { EachRefusalHasItsCase }

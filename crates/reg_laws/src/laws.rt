@@ -3,6 +3,7 @@
 ghost use Rattle.reg_laws.specs.Headline.{CreatedSound, KeepsSound, RunsInParts, StandsInExactlyOne, CountsMoveExactly, ListsRevoked, RefusalsChangeNothing};
 ghost use Rattle.reg_laws.specs.History.{HistoryStands};
 ghost use Rattle.reg_laws.specs.Import.{ImportsTwice};
+ghost use Rattle.reg_laws.specs.Revocations.{RevocationsMoveExactly};
 
 use reg_core::SignsCrls;
 
@@ -21,9 +22,16 @@ pub fn headline<S: SignsCrls>()
 {}
 
 /// The CRLs that list a revoked serial number are exactly those from its first to its last, or from its first on while
-/// there is no last; a recorded CRL never changes, nor do what it lists, what is signed in it and that it is signed.
+/// there is no last; no CRL lists anything else; a recorded CRL never changes, nor do what it lists, what is signed in it
+/// and that it is signed.
 pub fn history<S: SignsCrls>()
     ensures { (signer : S) → HistoryStands (S.signed signer) }
+{}
+
+/// A revocation comes by a command that is answered `Revoked`, of its request's serial number, at its moment, with the
+/// reason of its request's ground; no other command and no fault brings or changes one.
+pub fn revocations<S: SignsCrls>()
+    ensures { (signer : S) → RevocationsMoveExactly (S.signed signer) }
 {}
 
 /// An import that comes twice, with nothing between, adds no certificate the second time.

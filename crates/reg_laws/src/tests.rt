@@ -14,6 +14,7 @@ impl SignsCrls for AnyBytes {
 fn the_laws_at_a_signer() {
     laws::headline::<AnyBytes>();
     laws::history::<AnyBytes>();
+    laws::revocations::<AnyBytes>();
     laws::import_twice::<AnyBytes>();
     examples::worked_examples();
 }

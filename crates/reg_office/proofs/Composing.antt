@@ -23,7 +23,7 @@ use Rattle.reg_tables.specs.Shows.{Shows}
 use Rattle.reg_tables.specs.Stays.{IsRegister, Stays}
 use Rattle.reg_tables.proofs.Staying.{kept_shows, shows_register, stays_kept, stays_register, stays_shows, stays_then}
 use Rattle.reg_tables.specs.declared.fault.StoreFault.{StoreFault}
-use Rattle.reg_tables.specs.declared.fault.StoreFault.TheVariants.{Memory as NoMemory, Store as Failed, NotEmpty, NotARegister, OldVersion, NewVersion}
+use Rattle.reg_tables.specs.declared.fault.StoreFault.TheVariants.{Memory as NoMemory, Store as Failed, NotEmpty, NotARegister, NewVersion}
 use Rattle.reg_office.specs.Faults.{IsStoreFault}
 use Rattle.reg_office.specs.Happened.{Happened, unsigned}
 
@@ -85,7 +85,6 @@ stored_is NoMemory = inl refl
 stored_is Failed = inr refl
 stored_is NotEmpty = inr refl
 stored_is NotARegister = inr refl
-stored_is OldVersion = inr refl
 stored_is NewVersion = inr refl
 
 -- so does one whose look-up or change fails

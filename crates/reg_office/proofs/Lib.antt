@@ -3,3 +3,7 @@ pub mod Composing
 pub mod Facts
 pub mod Issuing
 pub mod Standing
+pub mod ShowingNothingElse
+pub mod ShowingRevoked
+pub mod ShownByCrls
+pub mod ShownByOcsp

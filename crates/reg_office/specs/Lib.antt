@@ -1,5 +1,6 @@
 pub mod Faults
 pub mod Happened
+pub mod Shown
 pub mod Stands
 pub mod Answered
 pub mod Cases

@@ -1,8 +1,10 @@
 //! Each function here does nothing when it runs: its contract is a law, and the check proves it.
 
+ghost use Rattle.std.specs.Prelude.{ℕ};
 ghost use Rattle.reg_crl.specs.Signing.{signed_by};
 ghost use Rattle.reg_laws.specs.Headline.{CreatedSound, KeepsSound, RunsInParts, StandsInExactlyOne, CountsMoveExactly, ListsRevoked, RefusalsChangeNothing};
 ghost use Rattle.reg_laws.specs.History.{HistoryStands};
+ghost use Rattle.reg_office.specs.Shown.{SoundRun, AcceptedRevocation, IsShownEverywhere, WasRevoked, IsNowhereShown};
 ghost use Rattle.reg_responder.specs.Agreement.{OcspAgrees};
 
 use reg_crl::{CrlSigner, Signer};
@@ -26,4 +28,35 @@ pub fn headline<S: Signer>()
     reg_laws::laws::headline::<CrlSigner<S>>();
     reg_laws::laws::history::<CrlSigner<S>>();
     reg_responder::laws::statuses_agree();
+}
+
+/// A revoked certificate is shown as revoked everywhere.
+///
+/// In every run of commands from sound records, whoever signs, take any place at which the command to revoke by a
+/// request was answered `Revoked`. After it, and at every moment that is reached:
+///
+/// - the status of the request's serial number is revoked, with the moment of the command and the reason of the request's
+///   ground, also after the certificate's end; and whoever asks the office for it ([`Office::ask`](crate::Office::ask))
+///   is told so, or `F1 memory` or `F2 store`;
+/// - each CertID of an OCSP request that names the certificate ([`Office::ocsp`](crate::Office::ocsp)) is told so, or the
+///   reply is malformedRequest, where the bytes are no request, or internalError (RFC 6960 2.2, 2.3);
+/// - each CRL that is issued later ([`Office::crl_bytes`](crate::Office::crl_bytes)) lists the serial number with that
+///   moment and that reason, up to and including the first whose thisUpdate is past the certificate's notAfter
+///   (RFC 5280 3.3), and is signed over just what it lists.
+pub fn a_revoked_certificate_is_shown_as_revoked_everywhere<S: Signer>()
+    ensures { (signer : S) (run : SoundRun S.signs (S.identity signer)) (its : AcceptedRevocation run) → IsShownEverywhere its }
+{
+    headline::<S>();
+}
+
+/// Nothing else is shown as revoked.
+///
+/// After every run of commands from sound records, whoever signs, a serial number that was not revoked when the run began,
+/// and of which the run accepted no revocation, is nowhere shown as revoked: its status is another at every moment, no
+/// CertID of an OCSP request that names it is told `revoked`, and no CRL has an entry of it.
+pub fn nothing_else_is_shown_as_revoked<S: Signer>()
+    ensures { (signer : S) (run : SoundRun S.signs (S.identity signer)) (serial : ℕ) → ¬ (WasRevoked run serial) → IsNowhereShown run serial }
+{
+    headline::<S>();
+    reg_laws::laws::revocations::<CrlSigner<S>>();
 }

@@ -11,7 +11,7 @@ use Rattle.reg_tables.specs.Schema.{no_schema}
 use Rattle.reg_tables.specs.Kept.{ShowsKept}
 use Rattle.reg_tables.specs.Shows.{AreBoth}
 use Rattle.reg_opening.specs.Blank.{BlankBefore}
-use Rattle.reg_opening.specs.Filled.{no_columns}
+use Rattle.reg_migration.specs.Refilled.{no_columns}
 use Rattle.reg_opening.proofs.FirstRows.{none_kept}
 
 -- what a transaction begins with, where there is no table

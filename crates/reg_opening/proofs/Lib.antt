@@ -1,4 +1,3 @@
-pub mod Defining
 pub mod SchemaTexts
 pub mod FirstRows
 pub mod FirstShown
@@ -14,3 +13,5 @@ pub mod Determined
 pub mod NoRegister
 pub mod Steps
 pub mod Registered
+pub mod OlderRead
+pub mod Newer

@@ -1,18 +1,21 @@
 -- Over tables with no view, what is told as no register says no version from 1 on but 3, and then no office.
-use Rattle.std.proofs.Common.{◌≡◌, ◌≤◌, ℕ, false, List, [], None, Ok, sym, ap, subst, ◌∙◌, inl, inr}
+use Rattle.std.proofs.Common.{◌≡◌, ◌⊎◌, ◌<◌, ◌≤◌, ℕ, false, List, [], None, Ok, sym, ap, subst, ◌∙◌, inl, inr, arith}
 use Rattle.sqlite_value.specs.Order.{Row, column}
 use Rattle.sqlite_resolve.specs.declared.compiled.Compiled.{Compiled}
 use Rattle.sqlite.specs.Effect.{Database, Reads, RefusesToRead}
 use Rattle.sqlite.specs.Listing.{understood, reads_listing, IsSourceOf}
-use Rattle.reg_core.specs.Schedule.{Ascends}
+use Rattle.reg_core.specs.Schedule.{Ascends, one_step}
 use Rattle.reg_tables.specs.Rows.{number}
 use Rattle.reg_tables.specs.declared.statements.TheConstants.{STEPS}
-use Rattle.reg_opening.specs.declared.texts.TheConstants.{VERSION, OFFICE}
-use Rattle.reg_opening.specs.Said.{IsRead, IsRefused, IsOne, KeepsTo, HasVersion, SaysOffice, SaysNoRegister, SaysNoOffice}
+use Rattle.reg_migration.specs.Older.{number_of}
+use Rattle.reg_migration.specs.declared.version.Earlier.{Earlier}
+use Rattle.reg_migration.specs.declared.version.Earlier.TheVariants.{First, Second}
+use Rattle.reg_opening.specs.declared.texts.TheConstants.{VERSION, OFFICE, OLDER_OFFICE}
+use Rattle.reg_opening.specs.Said.{IsRead, IsRefused, IsOne, KeepsTo, HasVersion, SaysOffice, SaysOlder, SaysNoRegister, SaysNoOffice, SaysNoOlder}
 use Rattle.reg_opening.proofs.Steps.{only_row}
 use Rattle.reg_opening.proofs.Resolved.{ok_one}
 use Rattle.reg_opening.proofs.Understood.{ReadsTable}
-use Rattle.reg_opening.proofs.TableTexts.{version_names, version_is, office_names, office_is, steps_names, steps_keys, steps_is}
+use Rattle.reg_opening.proofs.TableTexts.{version_names, version_is, office_names, office_is, older_names, older_is, steps_names, steps_keys, steps_is}
 use Rattle.reg_opening.proofs.SameRows.{not_both, same_row}
 use Rattle.reg_opening.proofs.Determined.{same_steps}
 
@@ -65,10 +68,23 @@ module _ (db : Database) (unviewed : db.schema.views ≡ []) where
       (reads_of STEPS.now steps_names steps_keys db means says.1 says.3) (reads_as STEPS.now steps_names steps_keys db means says.1 h.1 says.3 h.3) rise are.2 in
       h.4 (are.0, are.1, steps, row)
 
-  pub no_register : SaysNoRegister db → (n : ℕ) → 1 ≤ n → HasVersion db n → (n ≡ 3) × (SaysOffice db → ⊥)
+  no_older : SaysNoOlder db → SaysOlder db → ⊥
+  no_older (inl refused) says = not_refused OLDER_OFFICE.now older_names [] db (older_is db.schema unviewed) says.2.0 says.2.1 refused
+  no_older (inr h) says =
+      let P : Row → Type 0 = λ row. (column row 6 ≡ number says.0) × (column row 5 ≡ number says.1) × KeepsTo (one_step says.0) row in
+      h.2 says.0 says.1 (one_again OLDER_OFFICE.now older_names [] db (older_is db.schema unviewed) P says.2.0 h.0 says.2.1 h.1 says.2.2)
+
+  version_again : (n m : ℕ) → HasVersion db n → HasVersion db m → n ≡ m
+  version_again n m one two = one_version two.0 n m (one_again VERSION.now version_names [] db (version_is db.schema unviewed) (λ row. column row 0 ≡ number n) one.0 two.0 one.1 two.1 one.2) two.2
+
+  older_below : (version : Earlier) → number_of version < 3
+  older_below First = omega arith
+  older_below Second = omega arith
+
+  pub no_register : SaysNoRegister db → (n : ℕ) → 1 ≤ n → HasVersion db n → ((n ≡ 3) × (SaysOffice db → ⊥)) ⊎ ((n < 3) × (SaysOlder db → ⊥))
   no_register (inl (inl refused)) n low has = absurd (not_refused VERSION.now version_names [] db (version_is db.schema unviewed) has.0 has.1 refused)
   no_register (inl (inr h)) n low has = absurd (h.2 n low (one_again VERSION.now version_names [] db (version_is db.schema unviewed) (λ row. column row 0 ≡ number n) has.0 h.0 has.1 h.1 has.2))
-  no_register (inr h) n low has = (
-    one_version h.0.0 n 3 (one_again VERSION.now version_names [] db (version_is db.schema unviewed) (λ row. column row 0 ≡ number n) has.0 h.0.0 has.1 h.0.1 has.2) h.0.2,
-    no_office h.1,
-  )
+  no_register (inr (inl h)) n low has = inl (version_again n 3 has h.0, no_office h.1)
+  no_register (inr (inr h)) n low has =
+      let same : n ≡ number_of h.0 = version_again n (number_of h.0) has h.1 in
+      inr (omega (arith, same, older_below h.0), no_older h.2)

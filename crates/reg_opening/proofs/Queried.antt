@@ -23,7 +23,6 @@ use Rattle.sqlite.specs.Given.{IsPlain}
 use Rattle.sqlite.specs.Listing.{understood, reads_listing, listing_schema, if_select, is_select, IsSourceOf}
 use Rattle.sqlite.specs.State.{State, HasCause, store_error, Fails, IsUnchanged, IsRolledBack, KeepsCommit, IsStatement, IsNoStatement, IsNotRun, FailsToQuery, FailsToShow, ShowsRows, Shown, IsTooLate}
 use Rattle.reg_tables.specs.Reading.{command_of}
-use Rattle.reg_tables.specs.Schema.{register_schema}
 use Rattle.reg_tables.specs.Stays.{IsCallFault}
 use Rattle.reg_tables.specs.declared.fault.StoreFault.{StoreFault}
 use Rattle.reg_tables.specs.declared.fault.StoreFault.TheVariants.{NotARegister}
@@ -100,9 +99,9 @@ cause_is_call old new Unstorable why = absurd why
 failed_is_call : (old new : State) (e : Error) → Fails old new ⊥ e → IsTrue (is_call_error e)
 failed_is_call old new e h = subst (λ x. IsTrue (is_call_error x)) (sym h.1) (cause_is_call old new h.0 h.2)
 
-module _ (text : List ℕ) (query : IsQuery text) (never : IsNeverRefused text) (old new : State) (e : Error) (register : IsTrue old.is_open → old.now.schema ≡ register_schema) where
+module _ (tables : Schema) (text : List ℕ) (query : IsQuery text) (never : IsNeverRefused tables text) (old new : State) (e : Error) (register : IsTrue old.is_open → old.now.schema ≡ tables) where
   understood_is : IsTrue old.is_open → IsPlain (understood old.now.schema text)
-  understood_is up = subst (λ s. IsPlain (understood s text)) (sym (register up)) never.0.plain
+  understood_is up = subst (λ s. IsPlain (understood s text)) (sym (register up)) never.plain
 
   no_statement : IsTrue old.is_open → IsNoStatement old text [] e → ⊥
   no_statement up (inl h) = absurd (subst IsPlain h.1 (understood_is up))
@@ -128,10 +127,10 @@ module _ (text : List ℕ) (query : IsQuery text) (never : IsNeverRefused text) 
       let up = fails.3.0.was_open in
       let schema = register up in
       let refuses : RefusesToRead old.step_limit c.command fails.0 [] e = subst (λ f. RefusesToRead old.step_limit c.command fails.0 (timed [] f it.now) e) is.formats fails.2 in
-      let known : understood register_schema text ≡ Ok c = subst (λ s. understood s text ≡ Ok c) schema it.is in
-      let command : c.command ≡ command_of (understood register_schema text) = sym (ap command_of known) in
-      let source : fails.0 ≡ old.now = subst (λ b. IsSourceOf b old.now fails.0) (ap (λ s. reads_listing s text) schema ∙ never.0.unlisted) fails.1 in
-      never.1 old.step_limit fails.0 e (ap (λ (d : Database). d.schema) source ∙ schema) (subst (λ k. RefusesToRead old.step_limit k fails.0 [] e) command refuses)
+      let known : understood tables text ≡ Ok c = subst (λ s. understood s text ≡ Ok c) schema it.is in
+      let command : c.command ≡ command_of (understood tables text) = sym (ap command_of known) in
+      let source : fails.0 ≡ old.now = subst (λ b. IsSourceOf b old.now fails.0) (ap (λ s. reads_listing s text) schema ∙ never.unlisted) fails.1 in
+      never.never old.step_limit fails.0 e (ap (λ (d : Database). d.schema) source ∙ schema) (subst (λ k. RefusesToRead old.step_limit k fails.0 [] e) command refuses)
 
   pub fails_is_call : FailsToQuery text [] old new e ⊎ IsTooLate text [] old new e → IsTrue (is_call_error e)
   unfolding FailsToQuery

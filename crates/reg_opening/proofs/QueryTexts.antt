@@ -3,7 +3,7 @@ use Rattle.std.proofs.Common.{refl, arith}
 use Rattle.sqlite_resolve.specs.Compile.{first}
 use Rattle.sqlite_tied.specs.Compute.{everything}
 use Rattle.reg_tables.specs.declared.statements.TheConstants.{STEPS}
-use Rattle.reg_opening.specs.declared.texts.TheConstants.{VERSION, OFFICE}
+use Rattle.reg_opening.specs.declared.texts.TheConstants.{VERSION, OFFICE, OLDER_OFFICE}
 use Rattle.reg_opening.specs.Said.{IsQuery}
 use Rattle.reg_opening.proofs.Queried.{query_text}
 
@@ -18,3 +18,7 @@ office_query = query_text OFFICE.now _ _ refl refl refl refl (omega arith)
 pub steps_query : IsQuery STEPS.now
 unfolding first everything
 steps_query = query_text STEPS.now _ _ refl refl refl refl (omega arith)
+
+pub older_query : IsQuery OLDER_OFFICE.now
+unfolding first everything
+older_query = query_text OLDER_OFFICE.now _ _ refl refl refl refl (omega arith)

@@ -1,8 +1,8 @@
 -- What the statements that test the tables read of a register's.
-use Rattle.std.proofs.Common.{◌≡◌, ◌<◌, ◌≤◌, ◌⊎◌, inl, inr, ℕ, true, List, [], ◌∷◌, map, codes, Option, Result, Ok, Err, IfErr, IsTrue, refl, sym, ap, subst, ◌∙◌, arith}
+use Rattle.std.proofs.Common.{◌≡◌, ◌⊎◌, inl, inr, ℕ, true, List, [], ◌∷◌, map, codes, Option, Result, Ok, Err, IfErr, IsTrue, refl, sym, ap, subst, ◌∙◌}
 use Rattle.sqlite_value.specs.declared.value.Value.TheVariants.{Blob}
 use Rattle.sqlite_value.specs.declared.keys.Key.{Key}
-use Rattle.sqlite_value.specs.Order.{Row, column}
+use Rattle.sqlite_value.specs.Order.{Row}
 use Rattle.sqlite_sql.specs.Term.{Term, col, eval_all}
 use Rattle.sqlite_sql.specs.Query.{Output}
 use Rattle.sqlite_tied.specs.Compute.{everything}
@@ -21,14 +21,13 @@ use Rattle.reg_tables.proofs.Queries.{selects, as_command, no_limit, Given, keye
 use Rattle.reg_tables.proofs.ScheduleLemmas.{reading_steps, steps_are}
 use Rattle.reg_tables.specs.Stays.{IsCallFault}
 use Rattle.reg_tables.specs.declared.fault.StoreFault.{StoreFault}
-use Rattle.reg_tables.specs.declared.fault.StoreFault.TheVariants.{Memory, NotARegister, OldVersion, NewVersion}
-use Rattle.reg_opening.proofs.Steps.{only_row}
-use Rattle.reg_opening.specs.declared.texts.TheConstants.{VERSION, OFFICE}
+use Rattle.reg_tables.specs.declared.fault.StoreFault.TheVariants.{Memory, NotARegister}
+use Rattle.reg_opening.specs.declared.texts.TheConstants.{OFFICE}
 use Rattle.reg_opening.specs.Said.{is_call_error, IsNeverRefused, IsRead, IsOne, AreSteps, KeepsTo, AreOffice, InRange}
 
 -- ---- a query on one table is refused for no reason of its own
 
-refused_call : (tree : ℕ) (project : List Term) (order : List (Term × Key)) (names : List (List ℕ)) (limit : Option ℕ) (db : Database) (e : Error) → accepts_program db.schema [] (selects tree [] project order no_limit) [] ≡ true
+pub refused_call : (tree : ℕ) (project : List Term) (order : List (Term × Key)) (names : List (List ℕ)) (limit : Option ℕ) (db : Database) (e : Error) → accepts_program db.schema [] (selects tree [] project order no_limit) [] ≡ true
     → RefusesToRead limit (as_command (selects tree [] project order no_limit) names) db [] e → IsTrue (is_call_error e)
 refused_call tree project order names limit db e accepts (inl h) = absurd (let no = h.1 in cc)
 refused_call tree project order names limit db e accepts (inr (inl h)) = elim h.1 [
@@ -38,12 +37,13 @@ refused_call tree project order names limit db e accepts (inr (inl h)) = elim h.
 refused_call tree project order names limit db e accepts (inr (inr h)) = subst (λ x. IsTrue (is_call_error x)) (sym h.0) refl
 
 never_by : (text : List ℕ) (tree : ℕ) (project : List Term) (order : List (Term × Key)) (names : List (List ℕ)) → IsReading text → command_of (understood register_schema text) ≡ as_command (selects tree [] project order no_limit) names
-    → accepts_program register_schema [] (selects tree [] project order no_limit) [] ≡ true → IsNeverRefused text
-never_by text tree project order names reading means accepts = (
-  reading,
-  λ limit db e schema refuses.
-      refused_call tree project order names limit db e (ap (λ s. accepts_program s [] (selects tree [] project order no_limit) []) schema ∙ accepts) (subst (λ k. RefusesToRead limit k db [] e) means refuses),
-)
+    → accepts_program register_schema [] (selects tree [] project order no_limit) [] ≡ true → IsNeverRefused register_schema text
+never_by text tree project order names reading means accepts = record {
+  plain = reading.plain;
+  unlisted = reading.unlisted;
+  never = λ limit db e schema refuses.
+      refused_call tree project order names limit db e (ap (λ s. accepts_program s [] (selects tree [] project order no_limit) []) schema ∙ accepts) (subst (λ k. RefusesToRead limit k db [] e) means refuses);
+}
 
 -- ---- the texts
 
@@ -52,14 +52,6 @@ office_columns = col 1 3 ∷ col 1 4 ∷ col 1 6 ∷ col 1 7 ∷ col 1 8 ∷ col
 
 abbrev office_names : List (List ℕ)
 office_names = codes "name" ∷ codes "pubkey" ∷ codes "crl_life" ∷ codes "ocsp_life" ∷ codes "cap" ∷ codes "last_at" ∷ []
-
-reading_version : IsReading VERSION.now
-unfolding understood everything register_schema
-reading_version = record { plain = (refl, refl); unlisted = refl }
-
-version_means : command_of (understood register_schema VERSION.now) ≡ as_command (selects 0 [] (col 1 2 ∷ []) [] no_limit) (codes "version" ∷ [])
-unfolding understood everything register_schema
-version_means = refl
 
 reading_office : IsReading OFFICE.now
 unfolding understood everything register_schema
@@ -76,10 +68,6 @@ steps_means : command_of (understood register_schema STEPS.now) ≡ as_command (
 unfolding understood everything register_schema
 steps_means = refl
 
-version_accepted : accepts_program register_schema [] (selects 0 [] (col 1 2 ∷ []) [] no_limit) [] ≡ true
-unfolding everything register_schema
-version_accepted = refl
-
 office_accepted : accepts_program register_schema [] (selects 0 [] office_columns [] no_limit) [] ≡ true
 unfolding everything register_schema
 office_accepted = refl
@@ -88,13 +76,10 @@ steps_accepted : accepts_program register_schema [] (selects 17 [] (col 1 0 ∷ 
 unfolding everything register_schema
 steps_accepted = refl
 
-pub version_never : IsNeverRefused VERSION.now
-version_never = never_by VERSION.now 0 (col 1 2 ∷ []) [] (codes "version" ∷ []) reading_version version_means version_accepted
-
-pub office_never : IsNeverRefused OFFICE.now
+pub office_never : IsNeverRefused register_schema OFFICE.now
 office_never = never_by OFFICE.now 0 office_columns [] office_names reading_office office_means office_accepted
 
-pub steps_never : IsNeverRefused STEPS.now
+pub steps_never : IsNeverRefused register_schema STEPS.now
 steps_never = never_by STEPS.now 17 (col 1 0 ∷ col 1 2 ∷ []) step_order (codes "from_at" ∷ codes "days" ∷ []) reading_steps steps_means steps_accepted
 
 -- ---- what they read where records are shown
@@ -121,11 +106,6 @@ module _ (db : Database) (records : Records) (shown : IsShownBy db records) (row
       keyed_given (λ _. Unit {0}) stored (λ _. true) (out project) (records ∷ []) (tt, tt) 0 [] project [] no_limit [] text names means db refl rows reads shown.rows.office (λ r any. refl) (λ r. refl) in
       let to : given.to ≡ records ∷ [] = one_permutation records given.to given.same in
       given.shown ∙ ap (λ l. Rattle.sqlite_sql.specs.Query.page (selects 0 [] project [] no_limit) [] (map (λ a. (out project a).1) l)) to
-
-  pub version_read : IsRead db VERSION.now rows → IsOne (λ row. column row 0 ≡ number 3) rows
-  version_read read =
-      let rows_are = office_rows (col 1 2 ∷ []) VERSION.now (codes "version" ∷ []) version_means reading_version read in
-      (number 3 ∷ [], rows_are, refl)
 
   pub office_read : InRange records → IsRead db OFFICE.now rows → IsOne (KeepsTo records.policy.schedule) rows
   office_read within read =
@@ -160,32 +140,10 @@ module _ (db : Database) (records : Records) (shown : IsShownBy db records) (row
 
 -- ---- how they are judged
 
-number_one : (a b : ℕ) → number a ≡ number b → a ≡ b
+pub number_one : (a b : ℕ) → number a ≡ number b → a ≡ b
 number_one a b e = cc
 
-same_version : (rows : List Row) (a b : ℕ) → IsOne (λ row. column row 0 ≡ number a) rows → IsOne (λ row. column row 0 ≡ number b) rows → a ≡ b
-same_version rows a b one two =
-    let row : one.0 ≡ two.0 = only_row rows one.0 two.0 one.1 two.1 in
-    number_one a b (sym one.2 ∙ ap (λ r. column r 0) row ∙ two.2)
-
--- version 3 is not refused
-pub judged_shown : {A : Type 0} (rows : List Row) (r : Result A StoreFault) → IsOne (λ row. column row 0 ≡ number 3) rows
-    → (r ≡ Err OldVersion → (n : ℕ) × (1 ≤ n) × (n < 3) × IsOne (λ row. column row 0 ≡ number n) rows)
-    → (r ≡ Err NewVersion → (n : ℕ) × (3 < n) × IsOne (λ row. column row 0 ≡ number n) rows)
-    → (r ≡ Err NotARegister → (n : ℕ) → 1 ≤ n → IsOne (λ row. column row 0 ≡ number n) rows → ⊥)
-    → IfErr r (λ fault. (fault ≡ NotARegister) ⊎ ((fault ≡ OldVersion) ⊎ (fault ≡ NewVersion))) → IfErr r IsCallFault
-judged_shown rows (Ok x) one old newer none faults = tt
-judged_shown rows (Err f) one old newer none (inl is) = absurd (none (ap Err is) 3 (omega arith) one)
-judged_shown rows (Err f) one old newer none (inr (inl is)) =
-    let found = old (ap Err is) in
-    let same : 3 ≡ found.0 = same_version rows 3 found.0 one found.3 in
-    absurd (omega (arith, found.2, same))
-judged_shown rows (Err f) one old newer none (inr (inr is)) =
-    let found = newer (ap Err is) in
-    let same : 3 ≡ found.0 = same_version rows 3 found.0 one found.2 in
-    absurd (omega (arith, found.1, same))
-
--- and an office within its ranges is not refused
+-- an office within its ranges is not refused
 pub office_shown : {A : Type 0} (rows steps : List Row) (r : Result A StoreFault) → AreOffice rows steps → (r ≡ Err NotARegister → AreOffice rows steps → ⊥) → IfErr r (λ fault. (fault ≡ Memory) ⊎ (fault ≡ NotARegister)) → IfErr r IsCallFault
 office_shown rows steps (Ok x) are none faults = tt
 office_shown rows steps (Err f) are none (inl is) = inl is

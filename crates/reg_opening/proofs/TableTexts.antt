@@ -5,7 +5,7 @@ use Rattle.sqlite_resolve.specs.declared.compiled.Compiled.{Compiled}
 use Rattle.sqlite_tied.specs.Compute.{everything}
 use Rattle.sqlite.specs.Listing.{understood, reads_listing, listing_schema}
 use Rattle.reg_tables.specs.declared.statements.TheConstants.{STEPS}
-use Rattle.reg_opening.specs.declared.texts.TheConstants.{VERSION, OFFICE}
+use Rattle.reg_opening.specs.declared.texts.TheConstants.{VERSION, OFFICE, OLDER_OFFICE}
 use Rattle.reg_opening.proofs.Understood.{ReadsTable, understood_is}
 
 abbrev pub version_names : List (List ℕ)
@@ -45,6 +45,34 @@ office_is schema unviewed =
         using = refl;
         named = refl;
         shown = ((_, _, refl, refl, refl), ((_, _, refl, refl, refl), ((_, _, refl, refl, refl), ((_, _, refl, refl, refl), ((_, _, refl, refl, refl), ((_, _, refl, refl, refl), tt))))));
+        filter = refl;
+        group = refl;
+        having = refl;
+        distinct = refl;
+      };
+      sorted = tt;
+    }) refl
+
+abbrev pub older_names : List (List ℕ)
+older_names = codes "name" ∷ codes "pubkey" ∷ codes "crl_life" ∷ codes "ocsp_life" ∷ codes "cap" ∷ codes "last_at" ∷ codes "days" ∷ []
+
+pub older_is : (schema : Schema) (unviewed : schema.views ≡ []) (c : Compiled) → understood schema OLDER_OFFICE.now ≡ Ok c → ReadsTable schema older_names [] c.command × (reads_listing schema OLDER_OFFICE.now ≡ false)
+unfolding everything listing_schema
+older_is schema unviewed =
+    understood_is schema unviewed OLDER_OFFICE.now older_names [] _ _ refl refl
+    (record {
+      source = _;
+      with = refl;
+      others = refl;
+      limit = refl;
+      offset = refl;
+      bare = record {
+        from = refl;
+        inner = refl;
+        on = refl;
+        using = refl;
+        named = refl;
+        shown = ((_, _, refl, refl, refl), ((_, _, refl, refl, refl), ((_, _, refl, refl, refl), ((_, _, refl, refl, refl), ((_, _, refl, refl, refl), ((_, _, refl, refl, refl), ((_, _, refl, refl, refl), tt)))))));
         filter = refl;
         group = refl;
         having = refl;

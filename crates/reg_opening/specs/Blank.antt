@@ -1,51 +1,24 @@
--- Tables that have no rows, and the texts that make them.
-use Rattle.std.specs.Prelude.{◌≡◌, ℕ, false, List, [], slice_get, Some, Result, Ok, Err, IsTrue}
-use Rattle.std.specs.List.{AllByRecursion}
-use Rattle.sqlite_schema.specs.declared.command.Command.TheVariants.{CreateTable, CreateIndex}
+-- Tables that have no rows.
+use Rattle.std.specs.Prelude.{[]}
+use Rattle.sqlite_trees.specs.Tree.{Trees}
 use Rattle.sqlite_schema.specs.declared.schema.Schema.{Schema}
-use Rattle.sqlite_schema.specs.declared.schema.Table.{Table}
-use Rattle.sqlite_schema.specs.declared.schema.Index.{Index}
-use Rattle.sqlite_resolve.specs.Compile.{table_defined_by, index_defined_by}
-use Rattle.sqlite_resolve.specs.declared.compiled.Compiled.{Compiled}
-use Rattle.sqlite_resolve.specs.declared.error.CompileError.{CompileError}
 use Rattle.sqlite_catalog.specs.Change.{created}
-use Rattle.sqlite.specs.Does.{lacks_sequence}
 use Rattle.sqlite.specs.Effect.{Database}
-use Rattle.sqlite.specs.Given.{IsPlain}
-use Rattle.sqlite.specs.Listing.{understood}
-use Rattle.sqlite.specs.State.{State, text_of}
-use Rattle.reg_tables.specs.Reading.{command_of}
+use Rattle.sqlite.specs.State.{State}
 use Rattle.reg_tables.specs.Schema.{no_schema, office, subscriber, orders, cert}
+use Rattle.reg_migration.specs.Rows.{HasRows, HadRows}
+
+-- no table has a row
+abbrev pub no_rows : Trees
+no_rows = λ _. []
 
 -- the tables of a schema, and none has a row
-pub record IsBlank (tables : Schema) (db : Database) : Type 0 where
-  pub schema : db.schema ≡ tables
-  pub rows : AllByRecursion (λ table. db.trees table.tree ≡ []) tables.tables
+abbrev pub IsBlank : Schema → Database → Type 0
+IsBlank tables db = HasRows tables no_rows db
 
--- while the connection is open, its tables are those of a schema, and none has a row
+-- the same while the connection is open
 abbrev pub BlankBefore : State → Schema → Type 0
-BlankBefore old schema = IsTrue old.is_open → IsBlank schema old.now
-
--- the one statement of a text
-abbrev pub statement_of : List ℕ → Result Compiled CompileError → List ℕ
-statement_of text (Ok compiled) = text_of text compiled
-statement_of text (Err error) = []
-
--- beside these tables the text is one statement, which makes this table
-pub record DefinesTable (schema : Schema) (text : List ℕ) (table : Table) : Type 0 where
-  pub plain : IsPlain (understood schema text)
-  pub is : command_of (understood schema text) ≡ CreateTable
-  pub whole : statement_of text (understood schema text) ≡ text
-  pub defined : table_defined_by text ≡ Ok table
-  pub uncounted : lacks_sequence (created schema table) ≡ false
-
--- beside these tables the text is one statement, which makes this index of the table at a place
-pub record DefinesIndex (schema : Schema) (text : List ℕ) (at : ℕ) (table : Table) (index : Index) : Type 0 where
-  pub plain : IsPlain (understood schema text)
-  pub is : command_of (understood schema text) ≡ CreateIndex at
-  pub whole : statement_of text (understood schema text) ≡ text
-  pub there : slice_get schema.tables at ≡ Some table
-  pub defined : index_defined_by table text ≡ Ok index
+BlankBefore old tables = HadRows old tables no_rows
 
 -- the tables of the office, of subscribers, orders and certificates
 abbrev pub entry_tables : Schema

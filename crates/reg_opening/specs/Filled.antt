@@ -6,12 +6,9 @@ use Rattle.reg_core.specs.Issuer.{Issuer}
 use Rattle.reg_core.specs.Policy.{Terms, IsPolicy}
 use Rattle.reg_tables.specs.Schema.{register_schema}
 use Rattle.reg_tables.specs.Rows.{stored_office}
-use Rattle.reg_tables.specs.Columns.{Columns, stored_counts}
+use Rattle.reg_tables.specs.Columns.{stored_counts}
 use Rattle.reg_changes.specs.Staged.{table_trees}
-
--- what is kept beside no records
-abbrev pub no_columns : Columns
-no_columns = record { letters = []; counts = record { good = 0; revoked = 0; expired = 0 }; listed = [] }
+use Rattle.reg_migration.specs.Refilled.{no_columns}
 
 -- the office's row is written, at moment 0, and no other table has a row
 pub record HasOffice (issuer : Issuer) (policy : Terms) (db : Database) : Type 0 where

@@ -1,3 +1,4 @@
 pub mod Blank
 pub mod Filled
 pub mod Said
+pub mod Examined

@@ -1,5 +1,5 @@
 -- What the tables of an opened database say.
-use Rattle.std.specs.Prelude.{◌≡◌, ◌⊎◌, ◌<◌, ◌≤◌, ℕ, Bool, true, false, List, [], ◌∷◌, length, Option, None, Ok, Err, IsTrue}
+use Rattle.std.specs.Prelude.{◌≡◌, ◌⊎◌, ◌<◌, ◌≤◌, ℕ, Bool, true, false, List, [], ◌∷◌, length, Option, None, Some, Ok, Err, IsTrue}
 use Rattle.std.specs.List.{AllByRecursion}
 use Rattle.sqlite_value.specs.declared.value.Value.TheVariants.{Blob}
 use Rattle.sqlite_value.specs.Order.{Row, column}
@@ -7,6 +7,7 @@ use Rattle.sqlite_schema.specs.declared.schema.Schema.{Schema}
 use Rattle.sqlite_resolve.specs.declared.compiled.Compiled.{Compiled}
 use Rattle.sqlite_resolve.specs.declared.error.CompileError.{CompileError}
 use Rattle.sqlite.specs.Effect.{Database, Reads, RefusesToRead}
+use Rattle.sqlite.specs.Given.{IsPlain}
 use Rattle.sqlite.specs.Listing.{understood, reads_listing, IsSourceOf}
 use Rattle.sqlite.specs.declared.error.Error.{Error}
 use Rattle.sqlite.specs.declared.error.Error.TheVariants.{SqliteFailure}
@@ -15,12 +16,15 @@ use Rattle.reg_core.specs.Calendar.{IsMoment, clock_end}
 use Rattle.reg_core.specs.Issuer.{Issuer}
 use Rattle.reg_core.specs.Policy.{Terms, IsPolicy}
 use Rattle.reg_core.specs.Records.{Records}
+use Rattle.reg_core.specs.Schedule.{one_step}
 use Rattle.reg_der.specs.Authority.{IsIssuer}
-use Rattle.reg_tables.specs.Reading.{IsReading, command_of}
+use Rattle.reg_tables.specs.Reading.{command_of}
 use Rattle.reg_tables.specs.Rows.{number}
 use Rattle.reg_tables.specs.Schema.{register_schema}
 use Rattle.reg_tables.specs.declared.statements.TheConstants.{STEPS}
-use Rattle.reg_opening.specs.declared.texts.TheConstants.{VERSION, OFFICE}
+use Rattle.reg_migration.specs.Older.{number_of, older_schema}
+use Rattle.reg_migration.specs.declared.version.Earlier.{Earlier}
+use Rattle.reg_opening.specs.declared.texts.TheConstants.{VERSION, OFFICE, OLDER_OFFICE}
 
 -- a failure of memory, of the disk, or of the limit on steps that the caller has set
 abbrev pub is_call_error : Error → Bool
@@ -42,10 +46,11 @@ pub record NeverWrites (text : List ℕ) (compiled : Compiled) : Type 0 where
 abbrev pub IsQuery : List ℕ → Type 0
 IsQuery text = (schema : Schema) (compiled : Compiled) → understood schema text ≡ Ok compiled → NeverWrites text compiled
 
--- over the tables of a register, only memory, the disk or the limit on steps refuses it
-abbrev pub IsNeverRefused : List ℕ → Type 0
-IsNeverRefused text =
-    IsReading text × ((limit : Option ℕ) (db : Database) (e : Error) → db.schema ≡ register_schema → RefusesToRead limit (command_of (understood register_schema text)) db [] e → IsTrue (is_call_error e))
+-- over the tables of a schema, only memory, the disk or the limit on steps refuses it
+pub record IsNeverRefused (schema : Schema) (text : List ℕ) : Type 0 where
+  pub plain : IsPlain (understood schema text)
+  pub unlisted : reads_listing schema text ≡ false
+  pub never : (limit : Option ℕ) (db : Database) (e : Error) → db.schema ≡ schema → RefusesToRead limit (command_of (understood schema text)) db [] e → IsTrue (is_call_error e)
 
 -- the rows are what a text reads of a database
 pub record IsRead (db : Database) (text : List ℕ) (rows : List Row) : Type 0 where
@@ -58,6 +63,23 @@ pub record IsRead (db : Database) (text : List ℕ) (rows : List Row) : Type 0 w
 -- there is one row, and it has a property
 abbrev pub IsOne : (Row → Type 0) → List Row → Type 0
 IsOne P rows = (row : Row) × (rows ≡ row ∷ []) × P row
+
+-- the number of the program's version, or of an older one
+abbrev pub version_of : Option Earlier → ℕ
+version_of None = 3
+version_of (Some version) = number_of version
+
+-- the tables of that version
+abbrev pub schema_of : Option Earlier → Schema
+schema_of None = register_schema
+schema_of (Some version) = older_schema version
+
+-- the tables are of a version, which the one row of the office says too
+pub record IsOfVersion (version : Option Earlier) (db : Database) : Type 0 where
+  pub schema : db.schema ≡ schema_of version
+  pub row : Row
+  pub office : db.trees 0 ≡ row ∷ []
+  pub says : column row 2 ≡ number (version_of version)
 
 -- the one row of the office has this version
 abbrev pub HasVersion : Database → ℕ → Type 0
@@ -98,6 +120,22 @@ AreOffice rows steps = (schedule : List (ℕ × ℕ)) × HaveMoments schedule ×
 abbrev pub SaysOffice : Database → Type 0
 SaysOffice db = (rows : List Row) × (steps : List Row) × IsRead db OFFICE.now rows × IsRead db STEPS.now steps × AreOffice rows steps
 
+-- the one row of an older office, each value within its range: its days and its last accepted moment, and a schedule of the one step
+abbrev pub AreOlderOffice : ℕ → ℕ → List Row → Type 0
+AreOlderOffice days last rows = IsOne (λ row. (column row 6 ≡ number days) × (column row 5 ≡ number last) × KeepsTo (one_step days) row) rows
+
+-- the tables say an older office of these days and this last accepted moment
+abbrev pub ReadsOlder : Database → ℕ → ℕ → Type 0
+ReadsOlder db days last = (rows : List Row) × IsRead db OLDER_OFFICE.now rows × AreOlderOffice days last rows
+
+-- the tables say an older office, each value within its range
+abbrev pub SaysOlder : Database → Type 0
+SaysOlder db = (days : ℕ) × (last : ℕ) × ReadsOlder db days last
+
+-- the tables say an older version, and its office
+abbrev pub IsOlder : Database → Type 0
+IsOlder db = (version : Earlier) × HasVersion db (number_of version) × SaysOlder db
+
 -- a text that is understood is refused over the rows that are there, and by no limit on steps
 pub record IsUnreadable (db : Database) (text : List ℕ) : Type 0 where
   pub compiled : Compiled
@@ -121,13 +159,17 @@ SaysNoOffice db =
     (IsRefused db OFFICE.now ⊎ IsRefused db STEPS.now)
     ⊎ ((rows : List Row) × (steps : List Row) × IsRead db OFFICE.now rows × IsRead db STEPS.now steps × (¬ AreOffice rows steps))
 
--- no register of any version stands in the tables: they say no version, or version 3 and no office
-abbrev pub SaysNoRegister : Database → Type 0
-SaysNoRegister db = SaysNoVersion db ⊎ (HasVersion db 3 × SaysNoOffice db)
+-- the tables say no older office: they have no answer to its text, or a value is out of its range
+abbrev pub SaysNoOlder : Database → Type 0
+SaysNoOlder db = IsRefused db OLDER_OFFICE.now ⊎ ((rows : List Row) × IsRead db OLDER_OFFICE.now rows × ((days last : ℕ) → ¬ AreOlderOffice days last rows))
 
--- over tables with no view: no version from 1 on stands there but 3, and where 3 does, no office
+-- no register of any version stands in the tables: they say no version, or version 3 and no office, or an older version and no older office
+abbrev pub SaysNoRegister : Database → Type 0
+SaysNoRegister db = SaysNoVersion db ⊎ ((HasVersion db 3 × SaysNoOffice db) ⊎ ((version : Earlier) × HasVersion db (number_of version) × SaysNoOlder db))
+
+-- over tables with no view: no version from 1 on stands there but 3 with no office, and 1 and 2 with no older office
 abbrev pub HoldsNoRegister : Database → Type 0
-HoldsNoRegister db = db.schema.views ≡ [] → (n : ℕ) → 1 ≤ n → HasVersion db n → (n ≡ 3) × (¬ SaysOffice db)
+HoldsNoRegister db = db.schema.views ≡ [] → (n : ℕ) → 1 ≤ n → HasVersion db n → ((n ≡ 3) × (¬ SaysOffice db)) ⊎ ((n < 3) × (¬ SaysOlder db))
 
 -- what a register's issuer, moments and last accepted moment always are
 pub record InRange (records : Records) : Type 0 where

@@ -10,7 +10,7 @@ ghost use Rattle.reg_tables.specs.Schema.{no_schema};
 ghost use Rattle.reg_tables.specs.Shows.{AreBoth};
 ghost use Rattle.reg_tables.specs.Stays.{IsCallFault, Stays};
 ghost use Rattle.reg_opening.specs.Blank.{BlankBefore};
-ghost use Rattle.reg_opening.specs.Filled.{no_columns};
+ghost use Rattle.reg_migration.specs.Refilled.{no_columns};
 
 use crate::filling::fill;
 use crate::making::make;

@@ -11,13 +11,15 @@ ghost use Rattle.reg_tables.specs.Schema.{register_schema};
 ghost use Rattle.reg_tables.specs.Shows.{AreBoth};
 ghost use Rattle.reg_tables.specs.Stays.{IsCallFault, Moves};
 ghost use Rattle.reg_opening.specs.Blank.{BlankBefore};
-ghost use Rattle.reg_opening.specs.Filled.{HasOffice, HasCounts, no_columns};
+ghost use Rattle.reg_migration.specs.Refilled.{no_columns};
+ghost use Rattle.reg_opening.specs.Filled.{HasOffice, HasCounts};
 
 use crate::texts;
 use reg_changes::put_steps;
 use reg_changes::writing::{sql_number, write};
 use reg_core::Policy;
 use reg_der::Issuer;
+use reg_migration::texts::PUT_COUNTS;
 use reg_tables::StoreFault;
 use sqlite::types::ValueRef;
 use sqlite::{Alter, Transaction};
@@ -59,7 +61,7 @@ fn put_counts<S: Alter>(tx: &mut Transaction<'_, S>) -> Result<(), StoreFault>
     ensures clean { doubt (state S.Store tx.old.conn.now).is_clean ≤ doubt (state S.Store tx.new.conn.now).is_clean }
     ensures faults { IfErr result IsCallFault }
 {
-    write(tx, texts::PUT_COUNTS, &[])?;
+    write(tx, PUT_COUNTS, &[])?;
     Ok(())
 }
 

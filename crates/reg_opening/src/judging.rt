@@ -6,14 +6,15 @@ ghost use Rattle.sqlite_value.specs.Order.{column};
 ghost use Rattle.reg_core.specs.Calendar.{IsMoment, clock_end};
 ghost use Rattle.reg_core.specs.Issuer as core;
 ghost use Rattle.reg_core.specs.Policy.{Terms, IsPolicy};
-ghost use Rattle.reg_core.specs.Schedule.{IsSchedule};
+ghost use Rattle.reg_core.specs.Schedule.{IsSchedule, one_step};
 ghost use Rattle.reg_der.specs.Authority.{IsIssuer};
 ghost use Rattle.reg_tables.specs.Rows.{number};
-ghost use Rattle.reg_opening.specs.Said.{IsOne, AreSteps, HaveMoments, KeepsTo, AreOffice};
+ghost use Rattle.reg_opening.specs.Said.{version_of, IsOne, AreSteps, HaveMoments, KeepsTo, AreOffice, AreOlderOffice};
 
 use crate::values::{bytes_at, number_at, only};
 use reg_core::{Moment, Policy, Schedule};
 use reg_der::{Issuer, IssuerFault};
+use reg_migration::Earlier;
 use reg_tables::StoreFault;
 use sqlite::Row;
 use std::alloc::Global;
@@ -25,20 +26,19 @@ fn version_in(rows: &[Row]) -> Option<u64>
     number_at(only(rows)?, 0)
 }
 
-/// Whether the tables are of the version that the program has.
-pub(crate) fn judge_version(rows: &[Row]) -> Result<(), StoreFault>
-    ensures ok { OnOk result (IsOne (λ row. column row 0 ≡ number 3) rows.now) }
-    ensures old { result ≡ Err StoreFault.OldVersion → (n : ℕ) × (1 ≤ n) × (n < 3) × IsOne (λ row. column row 0 ≡ number n) rows.now }
+/// The version of the tables where it is older than the program's, and none where it is the program's.
+pub(crate) fn judge_version(rows: &[Row]) -> Result<Option<Earlier>, StoreFault>
+    ensures ok { IfOk result (λ found. IsOne (λ row. column row 0 ≡ number (version_of found)) rows.now) }
     ensures newer { result ≡ Err StoreFault.NewVersion → (n : ℕ) × (3 < n) × IsOne (λ row. column row 0 ≡ number n) rows.now }
     ensures none { result ≡ Err StoreFault.NotARegister → (n : ℕ) → 1 ≤ n → ¬ IsOne (λ row. column row 0 ≡ number n) rows.now }
-    ensures faults { IfErr result (λ fault. (fault ≡ StoreFault.NotARegister) ⊎ ((fault ≡ StoreFault.OldVersion) ⊎ (fault ≡ StoreFault.NewVersion))) }
+    ensures faults { IfErr result (λ fault. (fault ≡ StoreFault.NotARegister) ⊎ (fault ≡ StoreFault.NewVersion)) }
 {
     match version_in(rows) {
         None => Err(StoreFault::NotARegister),
         Some(0) => Err(StoreFault::NotARegister),
-        Some(1) => Err(StoreFault::OldVersion),
-        Some(2) => Err(StoreFault::OldVersion),
-        Some(3) => Ok(()),
+        Some(1) => Ok(Some(Earlier::First)),
+        Some(2) => Ok(Some(Earlier::Second)),
+        Some(3) => Ok(None),
         Some(_) => Err(StoreFault::NewVersion),
     }
 }
@@ -148,5 +148,44 @@ pub(crate) fn judge_office(rows: &Vec<Row>, steps: &Vec<Row>) -> Result<(), Stor
     match only(rows) {
         None => Err(StoreFault::NotARegister),
         Some(row) => judge_row(*rows.allocator(), row, schedule),
+    }
+}
+
+/// The days of an older office, and the schedule of that one step.
+fn days_in(row: &Row) -> Option<(u64, Schedule)>
+    ensures { MatchOption result ((days : ℕ) → IsSchedule (one_step days) → column row.now 6 ≢ number days) (λ found. (column row.now 6 ≡ number found.0) × (found.1 ≡ one_step found.0)) }
+{
+    let days = number_at(row, 6)?;
+    let schedule = Schedule::new(&[(Moment::EPOCH, days)])?;
+    Some((days, schedule))
+}
+
+/// The days and the last accepted moment of the row of an older office.
+fn older_in(alloc: Global, row: &Row) -> Result<(u64, Moment), StoreFault>
+    ensures ok { IfOk result (λ found. (column row.now 6 ≡ number found.0) × (column row.now 5 ≡ number found.1) × KeepsTo (one_step found.0) row.now) }
+    ensures none { result ≡ Err StoreFault.NotARegister → (days : ℕ) → (last : ℕ) → column row.now 6 ≡ number days → column row.now 5 ≡ number last → ¬ KeepsTo (one_step days) row.now }
+    ensures faults { IfErr result (λ fault. (fault ≡ StoreFault.Memory) ⊎ (fault ≡ StoreFault.NotARegister)) }
+{
+    match days_in(row) {
+        None => Err(StoreFault::NotARegister),
+        Some((days, schedule)) => match last_in(row) {
+            None => Err(StoreFault::NotARegister),
+            Some(last) => match judge_row(alloc, row, schedule) {
+                Ok(()) => Ok((days, last)),
+                Err(fault) => Err(fault),
+            },
+        },
+    }
+}
+
+/// The days and the last accepted moment, where the rows are those of an older office.
+pub(crate) fn judge_older(rows: &Vec<Row>) -> Result<(u64, Moment), StoreFault>
+    ensures ok { IfOk result (λ found. AreOlderOffice found.0 found.1 rows.now.items) }
+    ensures none { result ≡ Err StoreFault.NotARegister → (days : ℕ) → (last : ℕ) → ¬ AreOlderOffice days last rows.now.items }
+    ensures faults { IfErr result (λ fault. (fault ≡ StoreFault.Memory) ⊎ (fault ≡ StoreFault.NotARegister)) }
+{
+    match only(rows) {
+        None => Err(StoreFault::NotARegister),
+        Some(row) => older_in(*rows.allocator(), row),
     }
 }

@@ -1,35 +1,16 @@
 //! The tables and indexes of a register, made with no rows.
 
-ghost use Rattle.std.specs.Prelude.{◌≡◌, ◌≤◌, ℕ, true, IsTrue, OnOk, IfErr};
+ghost use Rattle.std.specs.Prelude.{◌≡◌, ◌≤◌, OnOk, IfErr};
 ghost use Rattle.sqlite.specs.Held.{state};
 ghost use Rattle.sqlite.specs.State.{HasCleanDisk, KeepsCommit};
 ghost use Rattle.sqlite_trees.specs.View.{doubt};
-ghost use Rattle.sqlite_schema.specs.declared.schema.Schema.{Schema};
-ghost use Rattle.sqlite_schema.specs.declared.schema.Table.{Table};
-ghost use Rattle.sqlite_schema.specs.declared.schema.Index.{Index};
-ghost use Rattle.sqlite_catalog.specs.Change.{created, indexed};
-ghost use Rattle.reg_tables.specs.Schema.{no_schema, record_tables, all_tables, register_schema};
+ghost use Rattle.reg_tables.specs.Schema.{no_schema, record_tables, register_schema};
 ghost use Rattle.reg_tables.specs.Stays.{IsCallFault, Moves};
-ghost use Rattle.reg_opening.specs.Blank.{IsBlank, BlankBefore, DefinesTable, DefinesIndex, entry_tables};
+ghost use Rattle.reg_opening.specs.Blank.{IsBlank, BlankBefore, entry_tables};
 
-use reg_changes::writing::write;
+use reg_migration::making::{define, make_kept_tables, make_schedule_and_indexes};
 use reg_tables::{StoreFault, schema};
 use sqlite::{Alter, Transaction};
-
-/// Makes one table or index.
-fn define<S: Alter>(tx: &mut Transaction<'_, S>, sql: &str) -> Result<(), StoreFault>
-    ensures same_reference { tx.new.conn.ghost_name ≡ tx.old.conn.ghost_name }
-    ensures table { HasCleanDisk (state S.Store tx.new.conn.now) → (schema : Schema) → (table : Table) → DefinesTable schema sql.now table → BlankBefore (state S.Store tx.old.conn.now) schema
-        → OnOk result (Moves (state S.Store tx.old.conn.now) (state S.Store tx.new.conn.now) (IsBlank (created schema table))) }
-    ensures index { HasCleanDisk (state S.Store tx.new.conn.now) → (schema : Schema) → (at : ℕ) → (table : Table) → (index : Index) → DefinesIndex schema sql.now at table index → BlankBefore (state S.Store tx.old.conn.now) schema
-        → OnOk result (Moves (state S.Store tx.old.conn.now) (state S.Store tx.new.conn.now) (IsBlank (indexed schema table index))) }
-    ensures kept { HasCleanDisk (state S.Store tx.new.conn.now) → KeepsCommit (state S.Store tx.old.conn.now) (state S.Store tx.new.conn.now) }
-    ensures clean { doubt (state S.Store tx.old.conn.now).is_clean ≤ doubt (state S.Store tx.new.conn.now).is_clean }
-    ensures faults { IfErr result IsCallFault }
-{
-    write(tx, sql, &[])?;
-    Ok(())
-}
 
 /// Makes the tables of the office, of subscribers, orders and certificates.
 fn make_entry_tables<S: Alter>(tx: &mut Transaction<'_, S>) -> Result<(), StoreFault>
@@ -60,34 +41,6 @@ fn make_revocation_tables<S: Alter>(tx: &mut Transaction<'_, S>) -> Result<(), S
     define(tx, schema::CRL)
 }
 
-/// Makes the tables that are kept beside the records, and that of the schedule.
-fn make_kept_tables<S: Alter>(tx: &mut Transaction<'_, S>) -> Result<(), StoreFault>
-    ensures same_reference { tx.new.conn.ghost_name ≡ tx.old.conn.ghost_name }
-    ensures ok { HasCleanDisk (state S.Store tx.new.conn.now) → BlankBefore (state S.Store tx.old.conn.now) record_tables
-        → OnOk result (Moves (state S.Store tx.old.conn.now) (state S.Store tx.new.conn.now) (IsBlank all_tables)) }
-    ensures kept { HasCleanDisk (state S.Store tx.new.conn.now) → KeepsCommit (state S.Store tx.old.conn.now) (state S.Store tx.new.conn.now) }
-    ensures clean { doubt (state S.Store tx.old.conn.now).is_clean ≤ doubt (state S.Store tx.new.conn.now).is_clean }
-    ensures faults { IfErr result IsCallFault }
-{
-    define(tx, schema::STANDING)?;
-    define(tx, schema::KEPT)?;
-    define(tx, schema::LISTED)?;
-    define(tx, schema::LONGEST)
-}
-
-/// Makes the indexes.
-fn make_indexes<S: Alter>(tx: &mut Transaction<'_, S>) -> Result<(), StoreFault>
-    ensures same_reference { tx.new.conn.ghost_name ≡ tx.old.conn.ghost_name }
-    ensures ok { HasCleanDisk (state S.Store tx.new.conn.now) → BlankBefore (state S.Store tx.old.conn.now) all_tables
-        → OnOk result (Moves (state S.Store tx.old.conn.now) (state S.Store tx.new.conn.now) (IsBlank register_schema)) }
-    ensures kept { HasCleanDisk (state S.Store tx.new.conn.now) → KeepsCommit (state S.Store tx.old.conn.now) (state S.Store tx.new.conn.now) }
-    ensures clean { doubt (state S.Store tx.old.conn.now).is_clean ≤ doubt (state S.Store tx.new.conn.now).is_clean }
-    ensures faults { IfErr result IsCallFault }
-{
-    define(tx, schema::CRL_AT)?;
-    define(tx, schema::STANDING_DUE)
-}
-
 /// Makes all tables and indexes, in a database that has none.
 pub(crate) fn make<S: Alter>(tx: &mut Transaction<'_, S>) -> Result<(), StoreFault>
     ensures same_reference { tx.new.conn.ghost_name ≡ tx.old.conn.ghost_name }
@@ -100,5 +53,5 @@ pub(crate) fn make<S: Alter>(tx: &mut Transaction<'_, S>) -> Result<(), StoreFau
     make_entry_tables(tx)?;
     make_revocation_tables(tx)?;
     make_kept_tables(tx)?;
-    make_indexes(tx)
+    make_schedule_and_indexes(tx)
 }

@@ -1,30 +1,47 @@
-//! The tables of an opened database, tested before they are used. Nothing is changed, whatever they are.
+//! The tables of an opened database, tested before they are used, and made newer where they are of an older version.
 
-ghost use Rattle.std.specs.Prelude.{◌≡◌, ◌≢◌, ◌≤◌, ◌<◌, ◌⊎◌, ℕ, false, IsTrue, OnOk, IfErr, Err};
+ghost use Rattle.std.specs.Prelude.{◌≡◌, ◌≢◌, ◌≤◌, ◌<◌, ◌⊎◌, ℕ, Option, None, false, IsTrue, MatchResult, OnOk, OnErr, IfOk, IfErr, Err};
 ghost use Rattle.sqlite.specs.Held.{state};
 ghost use Rattle.sqlite.specs.State.{HasCleanDisk, KeepsCommit, IsUnchanged};
 ghost use Rattle.sqlite_trees.specs.View.{doubt};
 ghost use Rattle.reg_core.specs.Records.{Records};
+ghost use Rattle.reg_core.specs.Schedule.{one_step};
+ghost use Rattle.reg_core.specs.Sound.{SoundRows};
+ghost use Rattle.reg_tables.specs.Kept.{ShowsKept};
 ghost use Rattle.reg_tables.specs.Shows.{IsShownBy, Shows};
 ghost use Rattle.reg_tables.specs.Stays.{IsCallFault, Stays};
-ghost use Rattle.reg_opening.specs.Said.{HasVersion, SaysOffice, SaysNoVersion, SaysNoOffice, SaysNoRegister, HoldsNoRegister, InRange};
+ghost use Rattle.reg_migration.specs.Older.{IsShownByOlder, ShowsOlder};
+ghost use Rattle.reg_opening.specs.Said.{version_of, IsOfVersion, HasVersion, SaysOffice, ReadsOlder, IsOlder, SaysNoVersion, SaysNoOffice, SaysNoOlder, SaysNoRegister, HoldsNoRegister, InRange};
+ghost use Rattle.reg_opening.specs.Examined.{SaysFound, IsOlderOf};
 
-use crate::judging::{judge_office, judge_version};
+use crate::judging::{judge_office, judge_older, judge_version};
 use crate::peeking::peek;
 use crate::texts;
+use reg_core::Moment;
+use reg_migration::{Earlier, migrate};
 use reg_tables::StoreFault;
 use reg_tables::statements::STEPS;
 use sqlite::{Alter, Connection, Transaction};
 
-/// Tests the version of the tables.
-fn test_version<S: Alter>(tx: &mut Transaction<'_, S>) -> Result<(), StoreFault>
+/// What the office of an older version says.
+#[derive(Clone, Copy)]
+pub(crate) struct Older {
+    /// Its version.
+    version: Earlier,
+    /// The longest validity, in days.
+    days: u64,
+    /// The last accepted moment.
+    last: Moment,
+}
+
+/// The version of the tables where it is older than the program's, and none where it is the program's.
+fn test_version<S: Alter>(tx: &mut Transaction<'_, S>) -> Result<Option<Earlier>, StoreFault>
     ensures same_reference { tx.new.conn.ghost_name ≡ tx.old.conn.ghost_name }
-    ensures ok { HasCleanDisk (state S.Store tx.new.conn.now) → OnOk result (HasVersion (state S.Store tx.old.conn.now).now 3) }
+    ensures ok { HasCleanDisk (state S.Store tx.new.conn.now) → IfOk result (λ found. HasVersion (state S.Store tx.old.conn.now).now (version_of found)) }
     ensures same { HasCleanDisk (state S.Store tx.new.conn.now) → OnOk result (IsUnchanged (state S.Store tx.old.conn.now) (state S.Store tx.new.conn.now)) }
-    ensures old { HasCleanDisk (state S.Store tx.new.conn.now) → result ≡ Err StoreFault.OldVersion → (n : ℕ) × (1 ≤ n) × (n < 3) × HasVersion (state S.Store tx.old.conn.now).now n }
     ensures newer { HasCleanDisk (state S.Store tx.new.conn.now) → result ≡ Err StoreFault.NewVersion → (n : ℕ) × (3 < n) × HasVersion (state S.Store tx.old.conn.now).now n }
     ensures none { HasCleanDisk (state S.Store tx.new.conn.now) → result ≡ Err StoreFault.NotARegister → SaysNoVersion (state S.Store tx.old.conn.now).now }
-    ensures shown { HasCleanDisk (state S.Store tx.new.conn.now) → (records : Records) → (IsTrue (state S.Store tx.old.conn.now).is_open → IsShownBy (state S.Store tx.old.conn.now).now records) → IfErr result IsCallFault }
+    ensures told { HasCleanDisk (state S.Store tx.new.conn.now) → (version : Option Earlier) → (IsTrue (state S.Store tx.old.conn.now).is_open → IsOfVersion version (state S.Store tx.old.conn.now).now) → MatchResult result (λ found. found ≡ version) IsCallFault }
     ensures kept { HasCleanDisk (state S.Store tx.new.conn.now) → KeepsCommit (state S.Store tx.old.conn.now) (state S.Store tx.new.conn.now) }
     ensures clean { doubt (state S.Store tx.old.conn.now).is_clean ≤ doubt (state S.Store tx.new.conn.now).is_clean }
     ensures faults { IfErr result (λ fault. fault ≢ StoreFault.NotEmpty) }
@@ -48,36 +65,63 @@ fn test_office<S: Alter>(tx: &mut Transaction<'_, S>) -> Result<(), StoreFault>
     judge_office(&office, &steps)
 }
 
-/// Tests the tables, the version first.
-fn test_tables<S: Alter>(tx: &mut Transaction<'_, S>) -> Result<(), StoreFault>
+/// The days and the last accepted moment of an older office.
+fn test_older<S: Alter>(tx: &mut Transaction<'_, S>) -> Result<(u64, Moment), StoreFault>
     ensures same_reference { tx.new.conn.ghost_name ≡ tx.old.conn.ghost_name }
-    ensures ok { HasCleanDisk (state S.Store tx.new.conn.now) → OnOk result (HasVersion (state S.Store tx.old.conn.now).now 3 × SaysOffice (state S.Store tx.old.conn.now).now) }
-    ensures old { HasCleanDisk (state S.Store tx.new.conn.now) → result ≡ Err StoreFault.OldVersion → (n : ℕ) × (1 ≤ n) × (n < 3) × HasVersion (state S.Store tx.old.conn.now).now n }
+    ensures ok { HasCleanDisk (state S.Store tx.new.conn.now) → IfOk result (λ found. ReadsOlder (state S.Store tx.old.conn.now).now found.0 found.1) }
+    ensures none { HasCleanDisk (state S.Store tx.new.conn.now) → result ≡ Err StoreFault.NotARegister → SaysNoOlder (state S.Store tx.old.conn.now).now }
+    ensures told { HasCleanDisk (state S.Store tx.new.conn.now) → (version : Earlier) → (records : Records) → (IsTrue (state S.Store tx.old.conn.now).is_open → IsShownByOlder version (state S.Store tx.old.conn.now).now records)
+        → IfOk result (λ found. (records.policy.schedule ≡ one_step found.0) × (records.last ≡ found.1)) }
+    ensures shown { HasCleanDisk (state S.Store tx.new.conn.now) → (version : Earlier) → (records : Records) → InRange records → (IsTrue (state S.Store tx.old.conn.now).is_open → IsShownByOlder version (state S.Store tx.old.conn.now).now records) → IfErr result IsCallFault }
+    ensures kept { HasCleanDisk (state S.Store tx.new.conn.now) → KeepsCommit (state S.Store tx.old.conn.now) (state S.Store tx.new.conn.now) }
+    ensures clean { doubt (state S.Store tx.old.conn.now).is_clean ≤ doubt (state S.Store tx.new.conn.now).is_clean }
+    ensures faults { IfErr result (λ fault. IsCallFault fault ⊎ (fault ≡ StoreFault.NotARegister)) }
+{
+    let rows = peek(tx, texts::OLDER_OFFICE)?;
+    judge_older(&rows)
+}
+
+/// Tests the tables, the version first: what an older office says, or none where they are of the program's version.
+fn test_tables<S: Alter>(tx: &mut Transaction<'_, S>) -> Result<Option<Older>, StoreFault>
+    ensures same_reference { tx.new.conn.ghost_name ≡ tx.old.conn.ghost_name }
+    ensures ok { HasCleanDisk (state S.Store tx.new.conn.now) → IfOk result (λ found. SaysFound (state S.Store tx.old.conn.now).now found) }
     ensures newer { HasCleanDisk (state S.Store tx.new.conn.now) → result ≡ Err StoreFault.NewVersion → (n : ℕ) × (3 < n) × HasVersion (state S.Store tx.old.conn.now).now n }
     ensures none { HasCleanDisk (state S.Store tx.new.conn.now) → result ≡ Err StoreFault.NotARegister → SaysNoRegister (state S.Store tx.old.conn.now).now }
+    ensures register { HasCleanDisk (state S.Store tx.new.conn.now) → (records : Records) → (IsTrue (state S.Store tx.old.conn.now).is_open → IsShownBy (state S.Store tx.old.conn.now).now records) → IfOk result (λ found. found ≡ None) }
+    ensures older { HasCleanDisk (state S.Store tx.new.conn.now) → (version : Earlier) → (records : Records) → (IsTrue (state S.Store tx.old.conn.now).is_open → IsShownByOlder version (state S.Store tx.old.conn.now).now records) → IfOk result (IsOlderOf version records) }
     ensures shown { HasCleanDisk (state S.Store tx.new.conn.now) → (records : Records) → InRange records → (IsTrue (state S.Store tx.old.conn.now).is_open → IsShownBy (state S.Store tx.old.conn.now).now records) → IfErr result IsCallFault }
+    ensures shown_older { HasCleanDisk (state S.Store tx.new.conn.now) → (version : Earlier) → (records : Records) → InRange records → (IsTrue (state S.Store tx.old.conn.now).is_open → IsShownByOlder version (state S.Store tx.old.conn.now).now records) → IfErr result IsCallFault }
     ensures kept { HasCleanDisk (state S.Store tx.new.conn.now) → KeepsCommit (state S.Store tx.old.conn.now) (state S.Store tx.new.conn.now) }
     ensures clean { doubt (state S.Store tx.old.conn.now).is_clean ≤ doubt (state S.Store tx.new.conn.now).is_clean }
     ensures faults { IfErr result (λ fault. fault ≢ StoreFault.NotEmpty) }
 {
-    test_version(tx)?;
-    test_office(tx)
+    let older = test_version(tx)?;
+    match older {
+        None => {
+            test_office(tx)?;
+            Ok(None)
+        }
+        Some(version) => {
+            let (days, last) = test_older(tx)?;
+            Ok(Some(Older {
+                version,
+                days,
+                last,
+            }))
+        }
+    }
 }
 
-/// Tests whether the tables are a register's of the version that the program has. Nothing is changed.
-///
-/// # Errors
-/// `NotARegister` where the one row of the office can't be read for another cause than memory or the database, its
-/// version is below 1, or its values or the schedule's are not within their ranges; `OldVersion` for 1 and 2;
-/// `NewVersion` above 3; `Memory`; `Store` where the database fails.
-pub fn open<S: Alter>(conn: &mut Connection<S>) -> Result<(), StoreFault>
+/// Tests whether the tables are a register's, and tells what an older office says. Nothing is changed, whatever they are.
+fn examine<S: Alter>(conn: &mut Connection<S>) -> Result<Option<Older>, StoreFault>
     requires { conn.old.in_transaction ≡ false }
-    ensures ok { HasCleanDisk (state S.Store conn.new) → OnOk result (HasVersion (state S.Store conn.old).now 3 × SaysOffice (state S.Store conn.old).now) }
-    ensures old { HasCleanDisk (state S.Store conn.new) → result ≡ Err StoreFault.OldVersion → (n : ℕ) × (1 ≤ n) × (n < 3) × HasVersion (state S.Store conn.old).now n }
+    ensures ok { HasCleanDisk (state S.Store conn.new) → IfOk result (λ found. SaysFound (state S.Store conn.old).now found) }
     ensures newer { HasCleanDisk (state S.Store conn.new) → result ≡ Err StoreFault.NewVersion → (n : ℕ) × (3 < n) × HasVersion (state S.Store conn.old).now n }
     ensures none { HasCleanDisk (state S.Store conn.new) → result ≡ Err StoreFault.NotARegister → SaysNoRegister (state S.Store conn.old).now }
-    ensures alone { HasCleanDisk (state S.Store conn.new) → result ≡ Err StoreFault.NotARegister → HoldsNoRegister (state S.Store conn.old).now }
+    ensures register { HasCleanDisk (state S.Store conn.new) → (records : Records) → Shows S.Store conn.old records → IfOk result (λ found. found ≡ None) }
+    ensures older { HasCleanDisk (state S.Store conn.new) → (version : Earlier) → (records : Records) → ShowsOlder version S.Store conn.old records → IfOk result (IsOlderOf version records) }
     ensures shown { HasCleanDisk (state S.Store conn.new) → (records : Records) → InRange records → Shows S.Store conn.old records → IfErr result IsCallFault }
+    ensures shown_older { HasCleanDisk (state S.Store conn.new) → (version : Earlier) → (records : Records) → InRange records → ShowsOlder version S.Store conn.old records → IfErr result IsCallFault }
     ensures same { Stays (state S.Store conn.old) (state S.Store conn.new) }
     ensures clean { doubt (state S.Store conn.old).is_clean ≤ doubt (state S.Store conn.new).is_clean }
     ensures idle { conn.new.in_transaction ≡ false }
@@ -87,4 +131,36 @@ pub fn open<S: Alter>(conn: &mut Connection<S>) -> Result<(), StoreFault>
     let tested = test_tables(&mut tx);
     tx.rollback();
     tested
+}
+
+/// Tests whether the tables are a register's, and changes nothing where they are of the program's version. Where they are
+/// of version 1 or 2 they are made ones of the program's version, in one transaction: the records stay, and what is kept
+/// beside them is made anew from them.
+///
+/// # Errors
+/// `NotARegister` where the one row of the office can't be read for another cause than memory or the database, its
+/// version is below 1, or its values or the schedule's are not within their ranges; `NewVersion` above 3; `Memory`;
+/// `Store` where the database fails, or where an older register can't be made newer, as with a row that no register
+/// writes. The tables are as they were then.
+pub fn open<S: Alter>(conn: &mut Connection<S>) -> Result<(), StoreFault>
+    requires { conn.old.in_transaction ≡ false }
+    ensures shows { (records : Records) → Shows S.Store conn.old records → OnOk result (Shows S.Store conn.new records) }
+    ensures keeps { (records : Records) → ShowsKept S.Store conn.old records → OnOk result (ShowsKept S.Store conn.new records) }
+    ensures migrated { (version : Earlier) → (records : Records) → ShowsOlder version S.Store conn.old records → SoundRows records → OnOk result (ShowsKept S.Store conn.new records) }
+    ensures said { HasCleanDisk (state S.Store conn.new) → OnOk result ((Stays (state S.Store conn.old) (state S.Store conn.new) × HasVersion (state S.Store conn.old).now 3 × SaysOffice (state S.Store conn.old).now) ⊎ IsOlder (state S.Store conn.old).now) }
+    ensures newer { HasCleanDisk (state S.Store conn.new) → result ≡ Err StoreFault.NewVersion → (n : ℕ) × (3 < n) × HasVersion (state S.Store conn.old).now n }
+    ensures none { HasCleanDisk (state S.Store conn.new) → result ≡ Err StoreFault.NotARegister → SaysNoRegister (state S.Store conn.old).now }
+    ensures alone { HasCleanDisk (state S.Store conn.new) → result ≡ Err StoreFault.NotARegister → HoldsNoRegister (state S.Store conn.old).now }
+    ensures shown { HasCleanDisk (state S.Store conn.new) → (records : Records) → InRange records → Shows S.Store conn.old records → IfErr result IsCallFault }
+    ensures shown_older { HasCleanDisk (state S.Store conn.new) → (version : Earlier) → (records : Records) → InRange records → ShowsOlder version S.Store conn.old records → IfErr result IsCallFault }
+    ensures err { OnErr result (Stays (state S.Store conn.old) (state S.Store conn.new)) }
+    ensures clean { doubt (state S.Store conn.old).is_clean ≤ doubt (state S.Store conn.new).is_clean }
+    ensures idle { conn.new.in_transaction ≡ false }
+    ensures faults { IfErr result (λ fault. fault ≢ StoreFault.NotEmpty) }
+{
+    let found = examine(conn)?;
+    match found {
+        None => Ok(()),
+        Some(older) => migrate(conn, older.version, older.days, older.last),
+    }
 }

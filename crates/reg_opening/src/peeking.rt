@@ -4,7 +4,7 @@ ghost use Rattle.std.specs.Prelude.{◌≡◌, ◌≤◌, ◌⊎◌, false, IsTr
 ghost use Rattle.sqlite.specs.Held.{state};
 ghost use Rattle.sqlite.specs.State.{HasCleanDisk, KeepsCommit, IsUnchanged};
 ghost use Rattle.sqlite_trees.specs.View.{doubt};
-ghost use Rattle.reg_tables.specs.Schema.{register_schema};
+ghost use Rattle.sqlite_schema.specs.declared.schema.Schema.{Schema};
 ghost use Rattle.reg_tables.specs.Stays.{IsCallFault};
 ghost use Rattle.reg_opening.specs.Said.{is_call_error, IsQuery, IsNeverRefused, IsRead, IsRefused};
 
@@ -33,7 +33,7 @@ pub(crate) fn peek<S: Alter>(tx: &mut Transaction<'_, S>, sql: &str) -> Result<V
     ensures same_reference { tx.new.conn.ghost_name ≡ tx.old.conn.ghost_name }
     ensures rows { HasCleanDisk (state S.Store tx.new.conn.now) → IsQuery sql.now → IfOk result (λ rows. IsRead (state S.Store tx.old.conn.now).now sql.now rows.items) }
     ensures same { HasCleanDisk (state S.Store tx.new.conn.now) → IsQuery sql.now → IfOk result (λ _. IsUnchanged (state S.Store tx.old.conn.now) (state S.Store tx.new.conn.now)) }
-    ensures refused { HasCleanDisk (state S.Store tx.new.conn.now) → IsQuery sql.now → IsNeverRefused sql.now → (IsTrue (state S.Store tx.old.conn.now).is_open → (state S.Store tx.old.conn.now).now.schema ≡ register_schema)
+    ensures refused { HasCleanDisk (state S.Store tx.new.conn.now) → IsQuery sql.now → (schema : Schema) → IsNeverRefused schema sql.now → (IsTrue (state S.Store tx.old.conn.now).is_open → (state S.Store tx.old.conn.now).now.schema ≡ schema)
         → IfErr result IsCallFault }
     ensures none { HasCleanDisk (state S.Store tx.new.conn.now) → IsQuery sql.now → result ≡ Err StoreFault.NotARegister → IsRefused (state S.Store tx.old.conn.now).now sql.now }
     ensures kept { HasCleanDisk (state S.Store tx.new.conn.now) → IsQuery sql.now → KeepsCommit (state S.Store tx.old.conn.now) (state S.Store tx.new.conn.now) }

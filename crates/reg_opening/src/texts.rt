@@ -4,12 +4,12 @@
 pub const PUT_OFFICE: &str =
     "INSERT INTO office (one, version, name, pubkey, days, crl_life, ocsp_life, cap, last_at) VALUES (1, 3, ?1, ?2, ?3, ?4, ?5, ?6, 0)";
 
-/// The one row of the counts, of no certificates.
-pub const PUT_COUNTS: &str =
-    "INSERT INTO kept (one, n_good, n_revoked, n_expired) VALUES (1, 0, 0, 0)";
-
 /// The version of the tables.
 pub const VERSION: &str = "SELECT version FROM office";
 
 /// What else the office has, but for its days, which no one reads.
 pub const OFFICE: &str = "SELECT name, pubkey, crl_life, ocsp_life, cap, last_at FROM office";
+
+/// What the office of an older version has, whose schedule is its days.
+pub const OLDER_OFFICE: &str =
+    "SELECT name, pubkey, crl_life, ocsp_life, cap, last_at, days FROM office";

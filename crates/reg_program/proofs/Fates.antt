@@ -23,7 +23,6 @@ opened fault why is other =
     go stored.Store not = tt
     go stored.NotEmpty not = absurd (not refl)
     go stored.NotARegister not = tt
-    go stored.OldVersion not = tt
     go stored.NewVersion not = tt
 
 -- a register that can't be made

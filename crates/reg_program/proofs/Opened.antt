@@ -1,14 +1,19 @@
 -- Registers in files, as they were opened and made.
-use Rattle.std.proofs.Common.{◌≡◌, ◌≤◌, sym, subst}
+use Rattle.std.proofs.Common.{◌≡◌, ◌≤◌, Result, Ok, Err, IfOk, IfErr, MatchResult, sym, subst}
 use Rattle.sqlite.specs.Files.{file_state, over_files}
 use Rattle.sqlite.specs.Held.{Held}
 use Rattle.sqlite_disk.specs.declared.Disk as disk
 use Rattle.sqlite_store.specs.declared.store.FileStore.{FileStore}
 use Rattle.sqlite_trees.specs.View.{doubt}
+use Rattle.sqlite_trees.specs.declared.store.Store.{Ghosts}
 use Rattle.reg_core.specs.Issuer.{Issuer}
 use Rattle.reg_core.specs.Policy.{Terms}
 use Rattle.reg_core.specs.Records.{Records, no_records}
+use Rattle.reg_core.specs.Sound.{SoundRows}
+use Rattle.reg_migration.specs.Older.{ShowsOlder}
+use Rattle.reg_migration.specs.declared.version.Earlier.{Earlier}
 use Rattle.reg_crl.specs.Signing.{signed_by}
+use Rattle.reg_jobs.specs.declared.failure.Failure.{Failure}
 use Rattle.reg_laws.proofs.Runs.{created_sound}
 use Rattle.reg_office.specs.Stands.{Stands}
 use Rattle.reg_tables.specs.Kept.{ShowsKept}
@@ -16,26 +21,71 @@ use Rattle.reg_tables.specs.Schema.{no_schema}
 use Rattle.reg_program.specs.Digest.{digest, digests}
 use Rattle.reg_program.specs.Files.{IsConnection, IsOpenedFrom, IsMadeFrom}
 
-module _ {D : Type 0} {g : disk.Ghosts D} (connection store register : Held (FileStore D g)) (is : register ≡ store)
-    (connects : IsConnection connection) where
+-- the records of one that was made
+pub made_stands : {C : Type 0} (g : Ghosts C) (store register : Held C) (issuer : Issuer) (policy : Terms)
+    → register ≡ store
+    → ShowsKept g store (no_records issuer policy) → Stands g digests register digest (no_records issuer policy)
+made_stands {C} g store register issuer policy is shown =
+    let P : Held C → Type 0 = λ v. ShowsKept g v (no_records issuer policy) in
+    record { shown = subst P (sym is) shown; sound = created_sound (signed_by digests digest) issuer policy }
+
+-- the records of one that was opened
+pub opened_shows : {C : Type 0} (g : Ghosts C) (store register : Held C) (records : Records)
+    → register ≡ store → ShowsKept g store records → ShowsKept g register records
+opened_shows {C} g store register records is shown =
+    let P : Held C → Type 0 = λ v. ShowsKept g v records in
+    subst P (sym is) shown
+
+-- a property of the office that was found
+pub settled_ok : {O L : Type 0} (P : O → Type 0) (failure : L → Failure) (found : Result O L) (result : Result O Failure)
+    → IfOk found P → MatchResult found (λ office. result ≡ Ok office) (λ left. result ≡ Err (failure left)) → IfOk result P
+settled_ok {O} {L} P failure (Ok office) result holds is =
+    let Q : Result O Failure → Type 0 = λ r. IfOk r P in
+    subst Q (sym is) holds
+settled_ok {O} {L} P failure (Err left) result holds is =
+    let Q : Result O Failure → Type 0 = λ r. IfOk r P in
+    subst Q (sym is) tt
+
+-- a property of the failure where there is none
+pub settled_not : {O L : Type 0} (P : Failure → Type 0) (failure : L → Failure) (found : Result O L) (result : Result O Failure)
+    → IfErr found (λ left. P (failure left)) → MatchResult found (λ office. result ≡ Ok office) (λ left. result ≡ Err (failure left))
+    → IfErr result P
+settled_not {O} {L} P failure (Ok office) result holds is =
+    let Q : Result O Failure → Type 0 = λ r. IfErr r P in
+    subst Q (sym is) tt
+settled_not {O} {L} P failure (Err left) result holds is =
+    let Q : Result O Failure → Type 0 = λ r. IfErr r P in
+    subst Q (sym is) holds
+
+module _ {D : Type 0} {g : disk.Ghosts D} {O L : Type 0} (store : O → Held (FileStore D g)) (failure : L → Failure)
+    (connection : Held (FileStore D g)) (connects : IsConnection connection) (found : Result O L) (result : Result O Failure)
+    (settled : MatchResult found (λ office. result ≡ Ok office) (λ left. result ≡ Err (failure left))) where
   -- one that was opened
-  pub opened_from : ((records : Records) → ShowsKept over_files connection records → ShowsKept over_files store records)
-      → doubt (file_state connection).is_clean ≤ doubt (file_state store).is_clean → IsOpenedFrom register
-  opened_from kept clean =
-      let P : Held (FileStore D g) → Type 0 = λ v. IsOpenedFrom v in
-      subst P (sym is) (record { connection = connection; connects = connects; kept = kept; clean = clean })
+  pub settled_opened :
+      IfOk found (λ office. (records : Records) → ShowsKept over_files connection records → ShowsKept over_files (store office) records)
+      → IfOk found (λ office. (version : Earlier) (records : Records) → ShowsOlder version over_files connection records → SoundRows records → ShowsKept over_files (store office) records)
+      → IfOk found (λ office. doubt (file_state connection).is_clean ≤ doubt (file_state (store office)).is_clean)
+      → IfOk result (λ office. IsOpenedFrom (store office))
+  settled_opened kept migrated clean = settled_ok (λ office. IsOpenedFrom (store office)) failure found result (go found kept migrated clean) settled
+    where
+      go : (r : Result O L)
+          → IfOk r (λ office. (records : Records) → ShowsKept over_files connection records → ShowsKept over_files (store office) records)
+          → IfOk r (λ office. (version : Earlier) (records : Records) → ShowsOlder version over_files connection records → SoundRows records → ShowsKept over_files (store office) records)
+          → IfOk r (λ office. doubt (file_state connection).is_clean ≤ doubt (file_state (store office)).is_clean)
+          → IfOk r (λ office. IsOpenedFrom (store office))
+      go (Ok office) kept migrated clean = record { connection = connection; connects = connects; kept = kept; migrated = migrated; clean = clean }
+      go (Err left) kept migrated clean = tt
 
   -- one that was made
-  pub made_from : connection.schema ≡ no_schema
-      → doubt (file_state connection).is_clean ≤ doubt (file_state store).is_clean → IsMadeFrom register
-  made_from empty clean =
-      let P : Held (FileStore D g) → Type 0 = λ v. IsMadeFrom v in
-      subst P (sym is) (record { connection = connection; connects = connects; empty = empty; clean = clean })
-
--- its records
-pub made_stands : {D : Type 0} {g : disk.Ghosts D} (store register : Held (FileStore D g)) (issuer : Issuer) (policy : Terms)
-    → register ≡ store
-    → ShowsKept over_files store (no_records issuer policy) → Stands over_files digests register digest (no_records issuer policy)
-made_stands {D} {g} store register issuer policy is shown =
-    let P : Held (FileStore D g) → Type 0 = λ v. ShowsKept over_files v (no_records issuer policy) in
-    record { shown = subst P (sym is) shown; sound = created_sound (signed_by digests digest) issuer policy }
+  pub settled_made :
+      IfOk found (λ office. connection.schema ≡ no_schema)
+      → IfOk found (λ office. doubt (file_state connection).is_clean ≤ doubt (file_state (store office)).is_clean)
+      → IfOk result (λ office. IsMadeFrom (store office))
+  settled_made empty clean = settled_ok (λ office. IsMadeFrom (store office)) failure found result (go found empty clean) settled
+    where
+      go : (r : Result O L)
+          → IfOk r (λ office. connection.schema ≡ no_schema)
+          → IfOk r (λ office. doubt (file_state connection).is_clean ≤ doubt (file_state (store office)).is_clean)
+          → IfOk r (λ office. IsMadeFrom (store office))
+      go (Ok office) empty clean = record { connection = connection; connects = connects; empty = empty; clean = clean }
+      go (Err left) empty clean = tt

@@ -1,5 +1,5 @@
 -- A schedule that is set, as a step of the records.
-use Rattle.std.proofs.Common.{◌≡◌, ℕ, ◌≤◌, List, Result, Ok, Err, OnOk, OnErr, refl, sym, subst}
+use Rattle.std.proofs.Common.{◌≡◌, ◌∙◌, ℕ, ◌≤◌, List, Result, Ok, Err, OnOk, OnErr, refl, sym, subst}
 use Rattle.sqlite.specs.Held.{Held, state}
 use Rattle.sqlite.specs.State.{HasCleanDisk}
 use Rattle.sqlite_trees.specs.View.{doubt}
@@ -9,33 +9,38 @@ use Rattle.reg_core.specs.Changes.{with_schedule}
 use Rattle.reg_core.specs.Records.{Records}
 use Rattle.reg_crl.specs.Signing.{Identity}
 use Rattle.reg_faces.specs.Kept.{Signs}
-use Rattle.reg_faces.specs.Moves.{Moves}
 use Rattle.reg_office.proofs.Standing.{stands_on}
 use Rattle.reg_office.specs.Stands.{Stands}
 use Rattle.reg_program.specs.Schedules.{Reschedules}
 use Rattle.reg_tables.specs.Stays.{Stays}
 use Rattle.reg_tables.specs.declared.fault.StoreFault.{StoreFault}
 
--- the steps of a schedule, set or not
-pub schedule_moves :
-    {C : Type 0} (g : Ghosts C) (signs : Signs) (who : Identity) (old new : Held C) (steps : List (ℕ × ℕ))
-    (result : Result (Unit {0}) StoreFault)
-    → doubt (state g old).is_clean ≤ doubt (state g new).is_clean
-    → ((records : Records) → Stands g signs old who records → OnOk result (Stands g signs new who (with_schedule records steps)))
-    → OnErr result (Stays (state g old) (state g new))
-    → Moves (λ held. HasCleanDisk (state g held)) (λ identity held records. (who ≡ identity) × Stands g signs held identity records)
-    (λ identity. Reschedules steps result) old new
-schedule_moves g signs who old new steps (Ok done) forgets ok err = (
-  was_clean (state g old) (state g new) forgets,
-  (λ identity before stood clean.
-      let (is, stands) = stood in
-      let P : Identity → Type 0 = λ v. Stands g signs old v before in
-      let Q : Identity → Type 0 = λ v. Stands g signs new v (with_schedule before steps) in
-      (with_schedule before steps, refl, (is, subst Q is (ok before (subst P (sym is) stands))))),
-)
-schedule_moves g signs who old new steps (Err why) forgets ok err = (
-  was_clean (state g old) (state g new) forgets,
-  (λ identity before stood clean.
-      let (is, stands) = stood in
-      (before, refl, (is, stands_on g signs old new identity before forgets (λ register. err) stands))),
-)
+-- Who signs before a call and after it, and the tables before it and after it.
+module _ {C : Type 0} (g : Ghosts C) (signs : Signs) (who who' : Identity) (old new : Held C) (steps : List (ℕ × ℕ)) where
+  -- what a register keeps, as one that signs stands for it
+  abbrev StandsBy : Identity → Held C → Identity → Records → Type 0
+  StandsBy signer held identity records = (signer ≡ identity) × Stands g signs held identity records
+
+  -- the steps of a schedule, set or not
+  pub schedule_moves : (result : Result (Unit {0}) StoreFault)
+      → doubt (state g old).is_clean ≤ doubt (state g new).is_clean → who' ≡ who
+      → ((records : Records) → Stands g signs old who records → OnOk result (Stands g signs new who' (with_schedule records steps)))
+      → OnErr result (Stays (state g old) (state g new))
+      → (HasCleanDisk (state g new) → HasCleanDisk (state g old))
+      × ((identity : Identity) (before : Records) → StandsBy who old identity before → HasCleanDisk (state g new)
+      → (after : Records) × Reschedules steps result before after × StandsBy who' new identity after)
+  schedule_moves (Ok done) forgets same ok err = (
+    was_clean (state g old) (state g new) forgets,
+    (λ identity before stood clean.
+        let (is, stands) = stood in
+        let is' : who' ≡ identity = same ∙ is in
+        let P : Identity → Type 0 = λ v. Stands g signs old v before in
+        let Q : Identity → Type 0 = λ v. Stands g signs new v (with_schedule before steps) in
+        (with_schedule before steps, refl, (is', subst Q is' (ok before (subst P (sym is) stands))))),
+  )
+  schedule_moves (Err why) forgets same ok err = (
+    was_clean (state g old) (state g new) forgets,
+    (λ identity before stood clean.
+        let (is, stands) = stood in
+        (before, refl, (same ∙ is, stands_on g signs old new identity before forgets (λ register. err) stands))),
+  )

@@ -1,5 +1,5 @@
 -- How a job of the program ends.
-use Rattle.std.specs.Prelude.{◌≡◌, ◌⊎◌, ℕ, List, codes, Result, Ok, Err, Some, None}
+use Rattle.std.specs.Prelude.{◌≡◌, ◌≢◌, ◌⊎◌, ℕ, List, codes, Result, Ok, Err, Some, None}
 use Rattle.std.specs.declared.option.Option.{Option}
 use Rattle.std.specs.Io.KnownBytes.{Appends}
 use Rattle.reg_core.specs.Issuer.{Issuer}
@@ -72,19 +72,24 @@ module _ {W P K : Type 0} (contents : W → Option (List ℕ)) (writer writer' :
         ⊎ ((set : Result (Unit {0}) StoreFault) × Visits places keeper place place' path (λ identity. Reschedules steps set)
         × TellsSet contents writer writer' set result)))
 
-    -- what is left at a path where a register was to be made, from the place after that on: all stays where the job is done, or where
-    -- something lay there before; else what lies there is removed
-    abbrev pub Leaves : P → List ℕ → Result (Unit {0}) Failure → Type 0
-    Leaves between path (Ok done) = place' ≡ between
-    Leaves between path (Err why) =
-        (places.lies place path × (place' ≡ between)) ⊎ (places.lacks place path × places.removed between path place')
+    -- a path at which nothing lay was claimed, and the place after that; or something lay there, and the place is as it was
+    abbrev pub Claims : List ℕ → P → Type 0
+    Claims path start = places.claimed place path start ⊎ (places.lies place path × (start ≡ place))
+
+    -- what is left at a path where a register was to be made, from the place after that on: all stays where the job is done, where
+    -- somebody else made a register there meanwhile, and where something lay there before; else what was laid there is removed
+    abbrev pub Leaves : List ℕ → P → P → Result (Unit {0}) Failure → Type 0
+    Leaves path start between (Ok done) = place' ≡ between
+    Leaves path start between (Err why) =
+        (((why ≡ failure.NotEmpty) ⊎ (places.lies place path × (start ≡ place))) × (place' ≡ between))
+        ⊎ (places.claimed place path start × (why ≢ failure.NotEmpty) × places.removed between path place')
 
     -- a new register at a path, of the issuer and the policy that are written, which are looked at before the path is
     abbrev pub InitAt : List ℕ → List ℕ → List ℕ → Terms → Result (Unit {0}) Failure → Type 0
     InitAt path name key terms result =
         ((why : Failure) × (result ≡ Err why) × IsNoOffice name key terms why × (writer' ≡ writer) × (place' ≡ place))
         ⊎ ((issuer : Issuer) × WritesIssuer name key issuer × IsPolicy terms
-        × ((between : P) × MakesAt place between path issuer terms result × Leaves between path result))
+        × ((start between : P) × Claims path start × MakesAt start between path issuer terms result × Leaves path start between result))
 
     -- HTTP requests over the register at a path (RFC 9112), which is opened before the port is bound
     abbrev pub ServeAt : List ℕ → ℕ → ℕ → Result (Unit {0}) Failure → Type 0

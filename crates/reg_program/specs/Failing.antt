@@ -18,17 +18,15 @@ abbrev pub IsMaking : Failure → Type 0
 IsMaking (failure.Fault fault) = IsOfStore fault
 IsMaking failure.NotEmpty = Unit {0}
 IsMaking failure.NotARegister = ⊥
-IsMaking failure.OldVersion = ⊥
 IsMaking failure.NewVersion = ⊥
 IsMaking failure.BadIssuer = ⊥
 IsMaking failure.BadPolicy = ⊥
 
--- of one that is opened: such a fault, or a file that holds no register of this version
+-- of one that is opened: such a fault, or a file that holds no register of a version up to this program's
 abbrev pub IsOpening : Failure → Type 0
 IsOpening (failure.Fault fault) = IsOfStore fault
 IsOpening failure.NotEmpty = ⊥
 IsOpening failure.NotARegister = Unit {0}
-IsOpening failure.OldVersion = Unit {0}
 IsOpening failure.NewVersion = Unit {0}
 IsOpening failure.BadIssuer = ⊥
 IsOpening failure.BadPolicy = ⊥

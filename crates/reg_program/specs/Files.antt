@@ -7,6 +7,9 @@ use Rattle.sqlite_disk.specs.declared.Disk as disk
 use Rattle.sqlite_store.specs.declared.store.FileStore.{FileStore}
 use Rattle.sqlite_trees.specs.View.{doubt}
 use Rattle.reg_core.specs.Records.{Records}
+use Rattle.reg_core.specs.Sound.{SoundRows}
+use Rattle.reg_migration.specs.Older.{ShowsOlder}
+use Rattle.reg_migration.specs.declared.version.Earlier.{Earlier}
 use Rattle.reg_tables.specs.Kept.{ShowsKept}
 use Rattle.reg_tables.specs.Schema.{no_schema}
 
@@ -16,11 +19,13 @@ module _ {D : Type 0} {g : disk.Ghosts D} where
     pub fresh : IsNew connection
     pub whole : HasCleanDisk (file_state connection) → IsOpened connection
 
-  -- what a register holds was opened by a connection, and shows the records that the connection showed
+  -- what a register holds was opened by a connection, and shows the records that the connection showed, also those that its
+  -- tables showed as ones of an older version
   pub record IsOpenedFrom (register : Held (FileStore D g)) : Type 0 where
     pub connection : Held (FileStore D g)
     pub connects : IsConnection connection
     pub kept : (records : Records) → ShowsKept over_files connection records → ShowsKept over_files register records
+    pub migrated : (version : Earlier) (records : Records) → ShowsOlder version over_files connection records → SoundRows records → ShowsKept over_files register records
     pub clean : doubt (file_state connection).is_clean ≤ doubt (file_state register).is_clean
 
   -- what a register holds was made by a connection to a database with no table, index or view

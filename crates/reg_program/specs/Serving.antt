@@ -47,7 +47,6 @@ Served port requests count out out' (Err (failure.Fault fault.Signer)) = ⊥
 Served port requests count out out' (Err (failure.Fault (fault.Refused why))) = ⊥
 Served port requests count out out' (Err failure.NotEmpty) = ⊥
 Served port requests count out out' (Err failure.NotARegister) = ⊥
-Served port requests count out out' (Err failure.OldVersion) = ⊥
 Served port requests count out out' (Err failure.NewVersion) = ⊥
 Served port requests count out out' (Err failure.BadIssuer) = ⊥
 Served port requests count out out' (Err failure.BadPolicy) = ⊥

@@ -1,72 +1,40 @@
 //! Registers in files: made, opened and closed.
 
-ghost use Rattle.std.specs.Prelude.{◌≡◌, ◌≢◌, false, OnOk, IfOk, IfErr};
+ghost use Rattle.std.specs.Prelude.{◌≡◌, ◌≤◌, false, IfOk, IfErr, IsFalse, MatchResult};
 ghost use Rattle.sqlite.specs.Files.{over_files};
-ghost use Rattle.reg_core.specs.Records.{no_records};
-ghost use Rattle.reg_crl.specs.Signing.{Identity};
+ghost use Rattle.sqlite.specs.Held.{state};
+ghost use Rattle.sqlite_trees.specs.View.{doubt};
+ghost use Rattle.reg_core.specs.Records.{Records, no_records};
+ghost use Rattle.reg_core.specs.Sound.{SoundRows};
+ghost use Rattle.reg_migration.specs.Older.{ShowsOlder};
+ghost use Rattle.reg_migration.specs.declared.version.Earlier.{Earlier};
 ghost use Rattle.reg_program.specs.Digest.{digest, digests};
 ghost use Rattle.reg_program.specs.Failing.{IsMaking, IsOpening};
 ghost use Rattle.reg_program.specs.Files.{IsOpenedFrom, IsMadeFrom};
 ghost use Rattle.reg_office.specs.Stands.{Stands};
+ghost use Rattle.reg_tables.specs.Kept.{ShowsKept};
+ghost use Rattle.reg_tables.specs.Schema.{no_schema};
 
 use crate::place::{Place, Register};
-use reg_core::{Command, Fault, Memory, Moment, Outcome, Policy, Query, Schedule};
-use reg_crl::DigestSeal;
+use reg_core::{Fault, Policy, Schedule};
+use reg_crl::{DigestSeal, Signer};
 use reg_der::Issuer;
 use reg_faces::Keeper;
-use reg_files::open_file;
+use reg_files::{claim_file, open_file, remove_file};
 use reg_jobs::Failure;
 use reg_office::Office;
 use reg_store::{Store, StoreFault};
-use sqlite::{Connection, FileFrom, FileStore};
-use sqlite_disk::Unknown;
+use sqlite::{Alter, Connection, FileFrom, FileStore};
+use sqlite_disk::{Disk, Unknown};
 use std::alloc::Global;
 use std::fs;
 
-/// A connection to a register's file, with its checks for damage.
-pub(crate) type FileConnection = Connection<FileStore<FileFrom<Unknown>>>;
+/// An office over a register's file, with its checks for damage, and the digest as its signer.
+pub type FileOffice = Office<FileStore<FileFrom<Unknown>>, DigestSeal>;
 
-/// A register in a file, with the digest as its signer.
-#[derive(Drop)]
-pub struct FileRegister {
-    /// The office over the file.
-    pub office: Office<FileStore<FileFrom<Unknown>>, DigestSeal>,
-}
-
-impl Keeper for FileRegister {
-    ghost use Rattle.std.specs.Prelude.{◌≡◌};
-    ghost use Rattle.sqlite.specs.Files.{file_state, over_files};
-    ghost use Rattle.sqlite.specs.State.{HasCleanDisk};
-    ghost use Rattle.reg_office.specs.Stands.{Stands};
-    ghost use Rattle.reg_program.specs.Digest.{digest, digests};
-
-    ghost is_clean = { λ register. HasCleanDisk (file_state register.office.store) };
-
-    ghost stands = { λ identity register records. (digest ≡ identity)
-        × Stands over_files digests register.office.store identity records };
-
-    ghost signs = { digests };
-
-    fn run_one(&mut self, alloc: Global, now: Moment, command: &Command) -> Outcome {
-        Keeper::run_one(&mut self.office, alloc, now, command)
-    }
-
-    fn ask(&mut self, alloc: Global, now: Moment, query: &Query) -> Outcome {
-        Keeper::ask(&mut self.office, alloc, now, query)
-    }
-
-    fn ocsp(&mut self, alloc: Global, now: Moment, request: &[u8]) -> Result<Vec<u8>, Memory> {
-        Keeper::ocsp(&mut self.office, alloc, now, request)
-    }
-
-    fn crl_bytes(&mut self, alloc: Global, number: Option<u64>) -> Result<Vec<u8>, Fault> {
-        Keeper::crl_bytes(&mut self.office, alloc, number)
-    }
-}
-
-impl Register for FileRegister {
+impl<C: Alter, S: Signer> Register for Office<C, S> {
     fn set_schedule(&mut self, alloc: Global, schedule: Schedule) -> Result<(), StoreFault> {
-        self.office.set_schedule(alloc, schedule)
+        self.set_schedule(alloc, schedule)
     }
 }
 
@@ -74,31 +42,31 @@ impl Register for FileRegister {
 impl Place for HostRuntime {
     ghost use Rattle.reg_program.specs.Files.{IsOpenedFrom, IsMadeFrom};
 
-    type Opened = FileRegister;
+    type Opened = FileOffice;
 
     ghost lies = { λ files path. Unit {0} };
 
-    ghost lacks = { λ files path. Unit {0} };
+    ghost claimed = { λ files path after. Unit {0} };
 
     ghost removed = { λ files path after. Unit {0} };
 
-    ghost opened = { λ files path register after. IsOpenedFrom register.office.store };
+    ghost opened = { λ files path register after. IsOpenedFrom register.store };
 
     ghost unopened = { λ files path why after. Unit {0} };
 
-    ghost made = { λ files path register after. IsMadeFrom register.office.store };
+    ghost made = { λ files path register after. IsMadeFrom register.store };
 
     ghost unmade = { λ files path why after. Unit {0} };
 
     ghost closed = { λ files path register after. Unit {0} };
 
-    fn has(&self, path: &str) -> bool
-        ensures { Unit {0} }
+    fn claim(&mut self, path: &str) -> bool
+        ensures same { IsFalse result → self.new ≡ self.old }
     {
-        fs::exists(self, path).unwrap_or(true)
+        claim_file(self, path)
     }
 
-    fn open(&mut self, path: &str) -> Result<FileRegister, Failure> {
+    fn open(&mut self, path: &str) -> Result<FileOffice, Failure> {
         // To open a path where no file is would make one.
         if !fs::exists(self, path).unwrap_or(false) {
             return Err(Failure::Fault(Fault::Store));
@@ -106,26 +74,24 @@ impl Place for HostRuntime {
         open_register(self, path)
     }
 
-    fn make(
-        &mut self,
-        path: &str,
-        issuer: Issuer,
-        policy: Policy,
-    ) -> Result<FileRegister, Failure> {
+    fn make(&mut self, path: &str, issuer: Issuer, policy: Policy) -> Result<FileOffice, Failure> {
+        // What could not be claimed and is not there can't be made: a link that leads nowhere, a log without its register.
+        if !fs::exists(self, path).unwrap_or(false) {
+            return Err(Failure::Fault(Fault::Store));
+        }
         make_register(self, path, issuer, policy)
     }
 
-    fn close(&mut self, path: &str, register: FileRegister)
+    fn close(&mut self, path: &str, register: FileOffice)
         ensures { Unit {0} }
     {
-        let (store, _signer) = register.office.into_parts();
-        close(store.into_connection());
+        close_office(register);
     }
 
     fn remove(&mut self, path: &str)
         ensures { Unit {0} }
     {
-        remove(self, path);
+        remove_file(self, path);
     }
 }
 
@@ -135,52 +101,81 @@ fn make_register(
     path: &str,
     issuer: Issuer,
     policy: Policy,
-) -> Result<FileRegister, Failure>
-    ensures ok { IfOk result (λ register. IsMadeFrom register.office.store) }
-    ensures stands { IfOk result (λ register. Stands over_files digests register.office.store digest (no_records issuer policy)) }
+) -> Result<FileOffice, Failure>
+    ensures ok { IfOk result (λ register. IsMadeFrom register.store) }
+    ensures stands { IfOk result (λ register. Stands over_files digests register.store digest (no_records issuer policy)) }
     ensures err { IfErr result IsMaking }
 {
     let connection = open_file(rt, path, Unknown)?;
-    match Store::create(connection, issuer, policy) {
-        Ok(store) => Ok(FileRegister {
-            office: Office::new(store, DigestSeal),
-        }),
-        Err(unopened) => {
-            let fault = unopened.fault;
-            close(unopened.connection);
-            Err(Failure::from(fault))
-        }
-    }
+    settled(made_over(connection, issuer, policy))
 }
 
 /// Opens the register of a file.
-fn open_register(rt: &HostRuntime, path: &str) -> Result<FileRegister, Failure>
-    ensures ok { IfOk result (λ register. IsOpenedFrom register.office.store) }
+fn open_register(rt: &HostRuntime, path: &str) -> Result<FileOffice, Failure>
+    ensures ok { IfOk result (λ register. IsOpenedFrom register.store) }
     ensures err { IfErr result IsOpening }
 {
     let connection = open_file(rt, path, Unknown)?;
+    settled(opened_over(connection))
+}
+
+/// The office over a register that is made in a database; where it can't be made, why, and the connection back.
+fn made_over<C: Alter>(
+    connection: Connection<C>,
+    issuer: Issuer,
+    policy: Policy,
+) -> Result<Office<C, DigestSeal>, (Failure, Connection<C>)>
+    requires { connection.in_transaction ≡ false }
+    ensures stands { IfOk result (λ office. Stands C.Store digests office.store digest (no_records issuer policy)) }
+    ensures empty { IfOk result (λ office. connection.schema ≡ no_schema) }
+    ensures clean { IfOk result (λ office. doubt (state C.Store connection).is_clean ≤ doubt (state C.Store office.store).is_clean) }
+    ensures err { IfErr result (λ left. IsMaking left.0) }
+{
+    match Store::create(connection, issuer, policy) {
+        Ok(store) => Ok(Office::new(store, DigestSeal)),
+        Err(unopened) => Err((Failure::from(unopened.fault), unopened.connection)),
+    }
+}
+
+/// The office over the register of a database; where there is none, why, and the connection back.
+fn opened_over<C: Alter>(
+    connection: Connection<C>,
+) -> Result<Office<C, DigestSeal>, (Failure, Connection<C>)>
+    requires { connection.in_transaction ≡ false }
+    ensures kept { IfOk result (λ office. (records : Records) → ShowsKept C.Store connection records → ShowsKept C.Store office.store records) }
+    ensures migrated { IfOk result (λ office. (version : Earlier) → (records : Records) → ShowsOlder version C.Store connection records → SoundRows records
+        → ShowsKept C.Store office.store records) }
+    ensures clean { IfOk result (λ office. doubt (state C.Store connection).is_clean ≤ doubt (state C.Store office.store).is_clean) }
+    ensures err { IfErr result (λ left. IsOpening left.0) }
+{
     match Store::open(connection) {
-        Ok(store) => Ok(FileRegister {
-            office: Office::new(store, DigestSeal),
-        }),
-        Err(unopened) => {
-            let fault = unopened.fault;
-            close(unopened.connection);
-            Err(Failure::from(fault))
+        Ok(store) => Ok(Office::new(store, DigestSeal)),
+        Err(unopened) => Err((Failure::from(unopened.fault), unopened.connection)),
+    }
+}
+
+/// What was found, with the connection closed where it is no office.
+fn settled<D: Disk + Drop>(
+    found: Result<Office<FileStore<D>, DigestSeal>, (Failure, Connection<FileStore<D>>)>,
+) -> Result<Office<FileStore<D>, DigestSeal>, Failure>
+    ensures { MatchResult found (λ office. result ≡ Ok office) (λ left. result ≡ Err left.0) }
+{
+    match found {
+        Ok(office) => Ok(office),
+        Err((why, connection)) => {
+            close(connection);
+            Err(why)
         }
     }
 }
 
-/// Closes a connection. Where its log can't be copied into the file, the next opening reads the log: nothing is lost.
-fn close(connection: FileConnection) {
-    drop(connection.close());
+/// Closes what an office lies in.
+fn close_office<D: Disk + Drop>(office: Office<FileStore<D>, DigestSeal>) {
+    let (store, _signer) = office.into_parts();
+    close(store.into_connection());
 }
 
-/// Removes a register's file and its log. What can't be removed stays.
-fn remove(rt: &HostRuntime, path: &str) {
-    drop(fs::remove_file(rt, path));
-    let mut log = String::new(rt.alloc());
-    if log.push_str(path).is_ok() && log.push_str("-wal").is_ok() {
-        drop(fs::remove_file(rt, log.as_str()));
-    }
+/// Closes a connection. Where its log can't be copied into the file, the next opening reads the log: nothing is lost.
+fn close<D: Disk + Drop>(connection: Connection<FileStore<D>>) {
+    drop(connection.close());
 }

@@ -72,7 +72,7 @@ pub(crate) fn close_desk<P: Place>(place: &mut P, path: &str, desk: Desk<P::Open
 }
 
 /// Makes a register at a path. The issuer and then the policy are looked at before the path is. Where that fails, a path
-/// at which nothing lay has nothing there afterwards.
+/// at which nothing lay has nothing there afterwards, but for a register that somebody else made there meanwhile.
 pub(crate) fn init<P: Place, W: Write>(
     alloc: Global,
     place: &mut P,
@@ -92,11 +92,12 @@ pub(crate) fn init<P: Place, W: Write>(
         new.ocsp_life,
         new.cap,
     )?;
-    let was_there = place.has(path);
+    let is_ours = place.claim(path);
     match make_at(place, path, issuer, policy, writer) {
         Ok(()) => Ok(()),
+        Err(Failure::NotEmpty) => Err(Failure::NotEmpty),
         Err(why) => {
-            if !was_there {
+            if is_ours {
                 place.remove(path);
             }
             Err(why)

@@ -11,6 +11,6 @@ mod place;
 mod serving;
 mod telling;
 
-pub use files::FileRegister;
+pub use files::FileOffice;
 pub use performing::{perform, perform_at};
 pub use place::{Place, Register};

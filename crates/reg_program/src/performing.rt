@@ -6,7 +6,7 @@ ghost use Rattle.reg_jobs.specs.declared.failure.Failure.{Failure as Failing};
 ghost use Rattle.reg_program.specs.Ends.{Ends};
 ghost use Rattle.reg_program.specs.Told.{Tells};
 
-use crate::files::FileRegister;
+use crate::files::FileOffice;
 use crate::jobs::{NewOffice, crl, import_rows, init, schedule, script, script_in_memory};
 use crate::place::Place;
 use crate::serving::serve;
@@ -27,7 +27,7 @@ pub fn perform<R: Read, W: Write, E: Write>(
 ) -> u8
     ensures { (ending : Result (Unit {0}) Failing)
         × Ends R.remaining W.contents reader.old reader.new writer.old writer.new
-        ⟦<HostRuntime as Place>⟧ ⟦<FileRegister as Keeper>⟧ rt.now rt.now job.now ending
+        ⟦<HostRuntime as Place>⟧ ⟦<FileOffice as Keeper>⟧ rt.now rt.now job.now ending
         × (result ≡ status ending) × Tells ending (E.contents errors.old) (E.contents errors.new) }
 {
     let mut files = *rt;

@@ -28,7 +28,7 @@ pub trait Register: Keeper {
 /// register was opened, made or closed. Each call that may change the place is stated by a relation of the place before and
 /// after it: so a clause that leads from one place to another by such calls says that nothing else was done there.
 pub trait Place {
-    ghost use Rattle.std.specs.Prelude.{ℕ, List, IsTrue, IsFalse, OnOk, IfOk, IfErr};
+    ghost use Rattle.std.specs.Prelude.{◌≡◌, ℕ, List, IsTrue, IsFalse, OnOk, IfOk, IfErr};
     ghost use Rattle.reg_core.specs.Records.{no_records};
     ghost use Rattle.reg_crl.specs.Signing.{Identity};
     ghost use Rattle.reg_jobs.specs.declared.failure.Failure.{Failure as Failing};
@@ -40,8 +40,8 @@ pub trait Place {
     /// Something lies at the path, or may.
     ghost lies: { Self → List ℕ → Type 0 };
 
-    /// Nothing lies at the path.
-    ghost lacks: { Self → List ℕ → Type 0 };
+    /// Nothing lay at the path, an empty file was laid there, and the place after it.
+    ghost claimed: { Self → List ℕ → Self → Type 0 };
 
     /// What lay at the path was removed, and the place after it.
     ghost removed: { Self → List ℕ → Self → Type 0 };
@@ -61,28 +61,32 @@ pub trait Place {
     /// What was opened at the path was closed, with this register in it, and the place after it.
     ghost closed: { Self → List ℕ → Self.Opened → Self → Type 0 };
 
-    /// Whether something lies at a path. Where that can't be found out, something may, and the answer is that it does.
-    fn has(&self, path: &str) -> bool
-        ensures lies { IsTrue result → lies self.now path.now }
-        ensures lacks { IsFalse result → lacks self.now path.now };
+    /// Lays an empty file at a path where nothing lies, and no log either, in one step, so that of two who do so at once one
+    /// has it; and answers whether it did. Its owner alone may read and write it. A link that leads nowhere is something that
+    /// lies there, and so is what can't be found out.
+    fn claim(&mut self, path: &str) -> bool
+        ensures ours { IsTrue result → claimed self.old path.now self.new }
+        ensures lies { IsFalse result → lies self.old path.now }
+        ensures same { IsFalse result → self.new ≡ self.old };
 
     /// Opens the register that lies at a path.
     ///
     /// # Errors
     ///
-    /// `NotARegister`, `OldVersion` and `NewVersion` for other tables; `Fault` of `Memory`, and of `Store` where nothing
-    /// lies there or it can't be opened.
+    /// `NotARegister` and `NewVersion` for other tables; `Fault` of `Memory`, and of `Store` where nothing lies there or it
+    /// can't be opened.
     fn open(&mut self, path: &str) -> Result<Self::Opened, Failure>
         ensures ok { IfOk result (λ register. opened self.old path.now register self.new) }
         ensures err { IfErr result (λ why. unopened self.old path.now why self.new) }
         ensures faults { IfErr result IsOpening };
 
-    /// Makes a register with no records at a path where nothing lies, or nothing with tables. Where that fails, something
-    /// without a register may be left there.
+    /// Makes a register with no records in what lies at a path and has no tables. Where that fails, something without a
+    /// register may be left there.
     ///
     /// # Errors
     ///
-    /// `NotEmpty` where there are tables already; `Fault` of `Memory` or `Store`.
+    /// `NotEmpty` where there are tables already; `Fault` of `Memory`, and of `Store` where nothing lies there or it can't be
+    /// opened.
     fn make(&mut self, path: &str, issuer: Issuer, policy: Policy) -> Result<Self::Opened, Failure>
         ensures ok { IfOk result (λ register. made self.old path.now register self.new) }
         ensures stands { IfOk result (λ register. (identity : Identity) × Self.Opened.stands identity register (no_records issuer policy)) }
@@ -93,7 +97,7 @@ pub trait Place {
     fn close(&mut self, path: &str, register: Self::Opened)
         ensures { closed self.old path.now register self.new };
 
-    /// Removes what lies at a path. What can't be removed stays.
+    /// Removes what lies at a path. What can't be removed, or is in use, stays.
     fn remove(&mut self, path: &str)
         ensures { removed self.old path.now self.new };
 }

@@ -9,7 +9,10 @@ ghost use Rattle.reg_tables.specs.Kept.{ShowsKept};
 ghost use Rattle.reg_tables.specs.Schema.{no_schema};
 ghost use Rattle.reg_tables.specs.Shows.{Shows};
 ghost use Rattle.reg_tables.specs.Stays.{IsCallFault, Stays};
-ghost use Rattle.reg_opening.specs.Said.{HasVersion, SaysOffice, SaysNoRegister, HoldsNoRegister, InRange};
+ghost use Rattle.reg_core.specs.Sound.{SoundRows};
+ghost use Rattle.reg_migration.specs.Older.{ShowsOlder};
+ghost use Rattle.reg_migration.specs.declared.version.Earlier.{Earlier};
+ghost use Rattle.reg_opening.specs.Said.{HasVersion, SaysOffice, IsOlder, SaysNoRegister, HoldsNoRegister, InRange};
 
 use crate::store::Store;
 use reg_core::Policy;
@@ -54,22 +57,24 @@ impl<S: Alter> Store<S> {
         }
     }
 
-    /// Opens the register that a database holds: what its tables showed, they show. The connection is in no transaction,
-    /// as one that was just opened or handed back by a store.
+    /// Opens the register that a database holds: what its tables showed, they show. Tables of version 1 or 2 are made ones
+    /// of the program's version, in one transaction, and show the same records: what is kept beside them is made anew from
+    /// them. The connection is in no transaction, as one that was just opened or handed back by a store.
     ///
     /// # Errors
     /// `NotARegister` where the version, the issuer, the policy or the last accepted moment can't be read, are not in one
-    /// row or out of range; `OldVersion` and `NewVersion` for tables of another version; `Memory`; `Store` where the
-    /// database fails. The connection comes back with its tables as they were.
+    /// row or out of range; `NewVersion` for tables of a newer version; `Memory`; `Store` where the database fails, or
+    /// where an older register has a table or an index of a newer one, or a row that no register writes. The connection
+    /// comes back with its tables as they were.
     pub fn open(connection: Connection<S>) -> Result<Store<S>, Unopened<S>>
         requires { connection.in_transaction ≡ false }
         ensures ok { (records : Records) → Shows S.Store connection records → IfOk result (λ store. Shows S.Store store records) }
         ensures kept { (records : Records) → ShowsKept S.Store connection records → IfOk result (λ store. ShowsKept S.Store store records) }
-        ensures stays { IfOk result (λ store. Stays (state S.Store connection) (state S.Store store)) }
+        ensures migrated { (version : Earlier) → (records : Records) → ShowsOlder version S.Store connection records → SoundRows records → IfOk result (λ store. ShowsKept S.Store store records) }
         ensures same { IfErr result (λ unopened. Stays (state S.Store connection) (state S.Store unopened.connection)) }
         ensures shown { (records : Records) → InRange records → Shows S.Store connection records → IfErr result (λ unopened. HasCleanDisk (state S.Store unopened.connection) → IsCallFault unopened.fault) }
-        ensures said { IfOk result (λ store. HasCleanDisk (state S.Store store) → HasVersion (state S.Store connection).now 3 × SaysOffice (state S.Store connection).now) }
-        ensures old { IfErr result (λ unopened. HasCleanDisk (state S.Store unopened.connection) → unopened.fault ≡ StoreFault.OldVersion → (n : ℕ) × (1 ≤ n) × (n < 3) × HasVersion (state S.Store connection).now n) }
+        ensures shown_older { (version : Earlier) → (records : Records) → InRange records → ShowsOlder version S.Store connection records → IfErr result (λ unopened. HasCleanDisk (state S.Store unopened.connection) → IsCallFault unopened.fault) }
+        ensures said { IfOk result (λ store. HasCleanDisk (state S.Store store) → (Stays (state S.Store connection) (state S.Store store) × HasVersion (state S.Store connection).now 3 × SaysOffice (state S.Store connection).now) ⊎ IsOlder (state S.Store connection).now) }
         ensures newer { IfErr result (λ unopened. HasCleanDisk (state S.Store unopened.connection) → unopened.fault ≡ StoreFault.NewVersion → (n : ℕ) × (3 < n) × HasVersion (state S.Store connection).now n) }
         ensures none { IfErr result (λ unopened. HasCleanDisk (state S.Store unopened.connection) → unopened.fault ≡ StoreFault.NotARegister → SaysNoRegister (state S.Store connection).now) }
         ensures alone { IfErr result (λ unopened. HasCleanDisk (state S.Store unopened.connection) → unopened.fault ≡ StoreFault.NotARegister → HoldsNoRegister (state S.Store connection).now) }

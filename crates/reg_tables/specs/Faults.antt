@@ -2,7 +2,7 @@
 use Rattle.reg_core.specs.declared.refusal.Fault.{Fault}
 use Rattle.reg_core.specs.declared.refusal.Fault.TheVariants.{Memory as LackedMemory, Store as StoreFailed}
 use Rattle.reg_tables.specs.declared.fault.StoreFault.{StoreFault}
-use Rattle.reg_tables.specs.declared.fault.StoreFault.TheVariants.{Memory, Store, NotEmpty, NotARegister, OldVersion, NewVersion}
+use Rattle.reg_tables.specs.declared.fault.StoreFault.TheVariants.{Memory, Store, NotEmpty, NotARegister, NewVersion}
 
 -- want of memory stays so; all else is a failure of the store
 abbrev pub fault_of : StoreFault → Fault
@@ -10,5 +10,4 @@ fault_of Memory = LackedMemory
 fault_of Store = StoreFailed
 fault_of NotEmpty = StoreFailed
 fault_of NotARegister = StoreFailed
-fault_of OldVersion = StoreFailed
 fault_of NewVersion = StoreFailed

@@ -18,8 +18,6 @@ pub enum StoreFault {
     NotEmpty,
     /// The tables are not those of a register.
     NotARegister,
-    /// The tables are of an older version.
-    OldVersion,
     /// The tables are of a newer version.
     NewVersion,
 }

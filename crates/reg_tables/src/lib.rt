@@ -12,7 +12,7 @@ mod overdue;
 mod reading;
 mod requests;
 mod revocations;
-mod rows;
+pub mod rows;
 pub mod schema;
 mod sizes;
 pub mod statements;

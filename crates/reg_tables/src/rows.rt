@@ -39,7 +39,7 @@ pub(crate) fn order_in(row: &Row) -> Result<OrderRow, StoreFault>
 }
 
 /// serial, order_id, not_before, not_after.
-pub(crate) fn certificate_in(row: &Row) -> Result<CertRow, StoreFault>
+pub fn certificate_in(row: &Row) -> Result<CertRow, StoreFault>
     ensures read { (certificate : CertRow) → IsSerial certificate.serial → row.now ≡ shown_certificate certificate → IfOk result (λ read. read ≡ certificate) }
     ensures faults { IfErr result IsCallFault }
 {
@@ -66,7 +66,7 @@ pub(crate) fn request_in(row: &Row) -> Result<RequestRow, StoreFault>
 }
 
 /// serial, at, reason, request, first_crl.
-pub(crate) fn revocation_in(row: &Row) -> Result<RevocationRow, StoreFault>
+pub fn revocation_in(row: &Row) -> Result<RevocationRow, StoreFault>
     ensures read { (revocation : RevocationRow) → IsSerial revocation.serial → row.now ≡ shown_revocation revocation → IfOk result (λ read. read ≡ revocation) }
     ensures faults { IfErr result IsCallFault }
 {
@@ -80,7 +80,7 @@ pub(crate) fn revocation_in(row: &Row) -> Result<RevocationRow, StoreFault>
 }
 
 /// number, this_update.
-pub(crate) fn crl_in(row: &Row) -> Result<CrlRow, StoreFault>
+pub fn crl_in(row: &Row) -> Result<CrlRow, StoreFault>
     ensures read { (crl : CrlRow) → row.now ≡ shown_crl crl → IfOk result (λ read. read ≡ crl) }
     ensures faults { IfErr result IsCallFault }
 {

@@ -38,7 +38,7 @@ pub(crate) const SUBSCRIBER_BY_NAME: &str = "SELECT id, name FROM subscriber WHE
 pub(crate) const ORDER_BY_ID: &str = "SELECT id, subscriber, days FROM orders WHERE id = ?1";
 
 /// The certificate with a serial number.
-pub(crate) const CERT_BY_SERIAL: &str =
+pub const CERT_BY_SERIAL: &str =
     "SELECT serial, order_id, not_before, not_after FROM cert WHERE serial = ?1";
 
 /// The certificate that fills an order.

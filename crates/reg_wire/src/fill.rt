@@ -66,7 +66,7 @@ pub fn fill_to_mark<R: Read>(
 }
 
 /// Where the first mark ends among the first `held` bytes, none of whose first `searched` ends one.
-fn first_mark(buf: &[u8], held: usize, mark: &[u8], searched: usize) -> Option<usize>
+pub fn first_mark(buf: &[u8], held: usize, mark: &[u8], searched: usize) -> Option<usize>
     requires held_fits { held ≤ length buf.now }
     requires none_before { (n : ℕ) → n ≤ searched → ¬ EndsWith (take n buf.now) mark.now }
     ensures { MatchOption result

@@ -5,5 +5,5 @@
 mod fill;
 mod put;
 
-pub use fill::{Reached, ReadFault, fill_to_mark, fill_whole};
+pub use fill::{Reached, ReadFault, fill_to_mark, fill_whole, first_mark};
 pub use put::{WriteFault, write_whole};

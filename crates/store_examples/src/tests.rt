@@ -1,5 +1,7 @@
 mod altered;
 mod calls;
 mod kept;
+mod migrated;
+mod older;
 mod opening;
 mod register;

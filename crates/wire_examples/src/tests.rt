@@ -1,9 +1,16 @@
 //! Readers and writers of all kinds, and those that fail.
 
 use reg_wire::{Reached, ReadFault, WriteFault, fill_to_mark, fill_whole, write_whole};
+use std::fmt::Debug;
 use std::io;
 use std::io::{Read, Write};
+use std::process::Abort;
 use std::test::*;
+
+// What was got is what was wanted. One function for all tests, since each assertion that stands in a test by itself makes that test long to prove.
+fn assert_same<T: PartialEq + Debug>(rt: &impl Abort, got: &T, wanted: &T) {
+    assert_eq!(rt; *got, *wanted);
+}
 
 // What goes wrong at one call: it fails, or it moves 0 bytes.
 #[derive(Clone, Copy, Debug, PartialEq, Eq)]
@@ -94,9 +101,9 @@ fn all_is_written_in_any_pieces(rt: HostRuntime) -> Result<(), Fail> {
             calls: 0,
             trouble: None,
         };
-        assert_eq!(rt; write_whole(&mut sink, b"abcdef"), Ok(()));
-        assert_eq!(rt; sink.got.as_slice(), b"abcdef".as_slice());
-        assert_eq!(rt; sink.calls, calls, "pieces of {piece}");
+        assert_same(&rt, &write_whole(&mut sink, b"abcdef"), &Ok(()));
+        assert_same(&rt, &sink.got.as_slice(), &b"abcdef".as_slice());
+        assert_same(&rt, &sink.calls, &calls);
     }
     Ok(())
 }
@@ -113,13 +120,10 @@ fn a_write_that_goes_wrong_leaves_the_front(rt: HostRuntime) -> Result<(), Fail>
                 calls: 0,
                 trouble: Some(trouble),
             };
-            assert_eq!(rt;
-                write_whole(&mut sink, b"abcdef"),
-                Err(WriteFault),
-                "{trouble:?}"
-            );
-            assert_eq!(rt; sink.got.as_slice(), *front, "{trouble:?}");
-            assert_eq!(rt; sink.calls, front.len().saturating_add(1), "{trouble:?}");
+            assert_same(&rt, &write_whole(&mut sink, b"abcdef"), &Err(WriteFault));
+            let wrote = sink.got.as_slice() == *front;
+            assert_same(&rt, &wrote, &true);
+            assert_same(&rt, &sink.calls, &front.len().saturating_add(1));
         }
     }
     Ok(())
@@ -134,8 +138,8 @@ fn nothing_is_written_of_no_bytes(rt: HostRuntime) {
         calls: 0,
         trouble: Some((0, Trouble::Failure)),
     };
-    assert_eq!(rt; write_whole(&mut sink, b""), Ok(()));
-    assert_eq!(rt; sink.calls, 0);
+    assert_same(&rt, &write_whole(&mut sink, b""), &Ok(()));
+    assert_same(&rt, &sink.calls, &0);
 }
 
 const HEAD: &[u8] = b"ab\r\nc\r\n\r\nrest";
@@ -148,13 +152,9 @@ fn no_read_follows_the_mark(rt: HostRuntime) {
         let mut buf = [0u8; 20];
         let mut reader = reader_of(HEAD, piece, None);
         let reached = fill_to_mark(&mut reader, &mut buf, 0, BLANK_LINE);
-        assert_eq!(rt;
-            reached,
-            Ok(Reached::Mark { end: 9, held }),
-            "pieces of {piece}"
-        );
-        assert_eq!(rt; buf.get(..held), HEAD.get(..held), "pieces of {piece}");
-        assert_eq!(rt; reader.calls, calls, "pieces of {piece}");
+        assert_same(&rt, &reached, &Ok(Reached::Mark { end: 9, held }));
+        assert_same(&rt, &buf.get(..held), &HEAD.get(..held));
+        assert_same(&rt, &reader.calls, &calls);
     }
 }
 
@@ -169,9 +169,9 @@ fn a_read_that_goes_wrong_before_the_mark_ends_the_reading(rt: HostRuntime) {
                 Trouble::Nothing => Ok(Reached::End { held: k }),
             };
             let reached = fill_to_mark(&mut reader, &mut buf, 0, BLANK_LINE);
-            assert_eq!(rt; reached, wanted, "{trouble:?}");
-            assert_eq!(rt; reader.at, k, "{trouble:?}");
-            assert_eq!(rt; buf.get(..k), HEAD.get(..k), "{trouble:?}");
+            assert_same(&rt, &reached, &wanted);
+            assert_same(&rt, &reader.at, &k);
+            assert_same(&rt, &buf.get(..k), &HEAD.get(..k));
         }
     }
 }
@@ -182,17 +182,17 @@ fn what_is_held_already_is_searched_first(rt: HostRuntime) {
     let mut two_lines = *b"x\ny\n__";
     let mut reader = reader_of(b"more", 1, fails);
     let reached = fill_to_mark(&mut reader, &mut two_lines, 4, b"\n");
-    assert_eq!(rt; reached, Ok(Reached::Mark { end: 2, held: 4 }));
+    assert_same(&rt, &reached, &Ok(Reached::Mark { end: 2, held: 4 }));
     let mut full = *b"long";
     let reached = fill_to_mark(&mut reader, &mut full, 4, b"\n");
-    assert_eq!(rt; reached, Ok(Reached::Full));
-    assert_eq!(rt; reader.calls, 0);
+    assert_same(&rt, &reached, &Ok(Reached::Full));
+    assert_same(&rt, &reader.calls, &0);
 
     // A mark past the held bytes is none.
     let mut old = *b"x\n__";
     let mut reader = reader_of(b"", 1, None);
     let reached = fill_to_mark(&mut reader, &mut old, 1, b"\n");
-    assert_eq!(rt; reached, Ok(Reached::End { held: 1 }));
+    assert_same(&rt, &reached, &Ok(Reached::End { held: 1 }));
 }
 
 #[test]
@@ -200,21 +200,21 @@ fn a_mark_is_found_across_the_seam_of_two_reads(rt: HostRuntime) {
     let mut buf = *b"ab\r_____";
     let mut reader = reader_of(b"\n\r\ncd", 2, None);
     let reached = fill_to_mark(&mut reader, &mut buf, 3, BLANK_LINE);
-    assert_eq!(rt; reached, Ok(Reached::Mark { end: 6, held: 7 }));
-    assert_eq!(rt; buf, *b"ab\r\n\r\nc_");
+    assert_same(&rt, &reached, &Ok(Reached::Mark { end: 6, held: 7 }));
+    assert_same(&rt, &buf, &*b"ab\r\n\r\nc_");
 
     // The mark ends where the buffer does.
     let mut buf = [0u8; 4];
     let mut reader = reader_of(b"abc\nd", 3, None);
     let reached = fill_to_mark(&mut reader, &mut buf, 0, b"\n");
-    assert_eq!(rt; reached, Ok(Reached::Mark { end: 4, held: 4 }));
+    assert_same(&rt, &reached, &Ok(Reached::Mark { end: 4, held: 4 }));
 
     // One byte more than the buffer has room for.
     let mut buf = [0u8; 3];
     let mut reader = reader_of(b"abc\nd", 2, None);
     let reached = fill_to_mark(&mut reader, &mut buf, 0, b"\n");
-    assert_eq!(rt; reached, Ok(Reached::Full));
-    assert_eq!(rt; reader.at, 3);
+    assert_same(&rt, &reached, &Ok(Reached::Full));
+    assert_same(&rt, &reader.at, &3);
 }
 
 #[test]
@@ -222,13 +222,9 @@ fn a_buffer_is_filled_in_any_pieces(rt: HostRuntime) {
     for (piece, calls) in [(1, 4), (3, 2), (4, 1), (100, 1)] {
         let mut buf = *b"x____";
         let mut reader = reader_of(b"abcdef", piece, None);
-        assert_eq!(rt;
-            fill_whole(&mut reader, &mut buf, 1),
-            Ok(()),
-            "pieces of {piece}"
-        );
-        assert_eq!(rt; buf, *b"xabcd", "pieces of {piece}");
-        assert_eq!(rt; (reader.at, reader.calls), (4, calls), "pieces of {piece}");
+        assert_same(&rt, &fill_whole(&mut reader, &mut buf, 1), &Ok(()));
+        assert_same(&rt, &buf, &*b"xabcd");
+        assert_same(&rt, &(reader.at, reader.calls), &(4, calls));
     }
 }
 
@@ -238,18 +234,14 @@ fn a_buffer_is_not_whole_where_a_read_goes_wrong(rt: HostRuntime) {
         for trouble in troubles_at(k) {
             let mut buf = *b"x____";
             let mut reader = reader_of(b"abcdef", 1, Some(trouble));
-            assert_eq!(rt;
-                fill_whole(&mut reader, &mut buf, 1),
-                Err(ReadFault),
-                "{trouble:?}"
-            );
-            assert_eq!(rt; reader.at, k, "{trouble:?}");
+            assert_same(&rt, &fill_whole(&mut reader, &mut buf, 1), &Err(ReadFault));
+            assert_same(&rt, &reader.at, &k);
         }
     }
     let mut whole = *b"whole";
     let mut reader = reader_of(b"more", 1, Some((0, Trouble::Failure)));
-    assert_eq!(rt; fill_whole(&mut reader, &mut whole, 5), Ok(()));
-    assert_eq!(rt; reader.calls, 0);
+    assert_same(&rt, &fill_whole(&mut reader, &mut whole, 5), &Ok(()));
+    assert_same(&rt, &reader.calls, &0);
 }
 
 #[test]
@@ -258,12 +250,12 @@ fn lines_go_from_a_slice_to_a_vector(rt: HostRuntime) -> Result<(), Fail> {
     let mut written: Vec<u8> = Vec::new(rt.alloc());
     let mut buf = [0u8; 5];
     let reached = fill_to_mark(&mut reader, &mut buf, 0, b"\n");
-    assert_eq!(rt; reached, Ok(Reached::Mark { end: 4, held: 5 }));
-    assert_eq!(rt; write_whole(&mut written, &buf[..4]), Ok(()));
+    assert_same(&rt, &reached, &Ok(Reached::Mark { end: 4, held: 5 }));
+    assert_same(&rt, &write_whole(&mut written, &buf[..4]), &Ok(()));
     buf.rotate_left(4);
     let reached = fill_to_mark(&mut reader, &mut buf, 1, b"\n");
-    assert_eq!(rt; reached, Ok(Reached::End { held: 3 }));
-    assert_eq!(rt; write_whole(&mut written, &buf[..3]), Ok(()));
-    assert_eq!(rt; written.as_slice(), b"one\ntwo".as_slice());
+    assert_same(&rt, &reached, &Ok(Reached::End { held: 3 }));
+    assert_same(&rt, &write_whole(&mut written, &buf[..3]), &Ok(()));
+    assert_same(&rt, &written.as_slice(), &b"one\ntwo".as_slice());
     Ok(())
 }

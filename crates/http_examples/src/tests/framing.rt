@@ -117,7 +117,7 @@ fn each_request_is_framed(rt: HostRuntime) -> Result<(), Fail> {
 }
 
 /// A request whose head has this many bytes, at least 28.
-fn of_length(alloc: Global, length: usize) -> Result<Vec<u8>, Fail> {
+pub(super) fn of_length(alloc: Global, length: usize) -> Result<Vec<u8>, Fail> {
     let mut request = Vec::from_slice(alloc, b"GET /counts HTTP/1.1\r\na:")?;
     for _ in 28..length {
         request.push(b'x')?;
@@ -153,7 +153,7 @@ fn a_head_has_at_most_8192_bytes(rt: HostRuntime) -> Result<(), Fail> {
 }
 
 /// A POST of this many bytes 00.
-fn of_zeros(alloc: Global, length: usize) -> Result<Vec<u8>, Fail> {
+pub(super) fn of_zeros(alloc: Global, length: usize) -> Result<Vec<u8>, Fail> {
     let head = format!(in alloc; "POST /ocsp HTTP/1.1\r\nContent-Length: {length}\r\n\r\n")?;
     let mut request = Vec::from_slice(alloc, head.as_bytes())?;
     let zeros = vec![in alloc; 0u8; length]?;

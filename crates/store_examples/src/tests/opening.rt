@@ -51,17 +51,11 @@ const REFUSED: [(&str, Option<StoreFault>); 27] = [
         "UPDATE office SET version = 4",
         Some(StoreFault::NewVersion),
     ),
-    (
-        "UPDATE office SET version = 2",
-        Some(StoreFault::OldVersion),
-    ),
-    (
-        "UPDATE office SET version = 1",
-        Some(StoreFault::OldVersion),
-    ),
+    ("UPDATE office SET version = 2", Some(StoreFault::Store)),
+    ("UPDATE office SET version = 1", Some(StoreFault::Store)),
     (
         "UPDATE office SET version = 2, name = x''",
-        Some(StoreFault::OldVersion),
+        Some(StoreFault::NotARegister),
     ),
     (
         "UPDATE office SET version = 4; DROP TABLE longest",

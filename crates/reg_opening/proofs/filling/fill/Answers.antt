@@ -5,7 +5,7 @@ use Rattle.reg_core.specs.Records.{no_records}
 use Rattle.reg_tables.specs.Shows.{AreBoth}
 use Rattle.reg_changes.specs.Staged.{IsStaged}
 use Rattle.reg_changes.proofs.Moving.{was_clean}
-use Rattle.reg_opening.specs.Filled.{no_columns}
+use Rattle.reg_migration.specs.Refilled.{no_columns}
 use Rattle.reg_opening.proofs.FirstShown.{ok_on}
 use Rattle.reg_opening.proofs.FirstRows.{staged_first, filled}
 use Rattle.reg_opening.proofs.filling.fill.Goals as goal

@@ -1,8 +1,10 @@
+use Rattle.std.proofs.Common.{refl}
 use Rattle.sqlite.specs.Held.{state}
 use Rattle.sqlite.specs.State.{HasCleanDisk}
 use Rattle.sqlite_catalog.specs.Change.{created}
 use Rattle.reg_tables.specs.Schema.{no_schema, office, subscriber, orders, cert}
 use Rattle.reg_changes.proofs.Moving.{moves_on, ok_then_on, was_clean}
+use Rattle.reg_opening.specs.Blank.{no_rows}
 use Rattle.reg_opening.proofs.SchemaTexts.{office_defined, subscriber_defined, orders_defined, cert_defined}
 use Rattle.reg_opening.proofs.making.make_entry_tables.Goals as goal
 
@@ -17,7 +19,7 @@ returns-clause-ok g c clean before =
     let clean3 : HasCleanDisk s3 = was_clean s3 s4 c.define-4.ensures.clean clean4 in
     let clean2 : HasCleanDisk s2 = was_clean s2 s3 c.define-3.ensures.clean clean3 in
     let clean1 : HasCleanDisk s1 = was_clean s1 s2 c.define-2.ensures.clean clean2 in
-    let step1 = c.in_ok-define.ensures.table clean1 no_schema (record office { tree = 0 }) office_defined before in
-    let step2 = c.in_ok-define-2.ensures.table clean2 (created no_schema office) (record subscriber { tree = 0 }) subscriber_defined (λ up. step1.tables) in
-    let step3 = c.in_ok-define-3.ensures.table clean3 (created (created no_schema office) subscriber) (record orders { tree = 0 }) orders_defined (λ up. step2.tables) in
-    ok_then_on s0 s3 s4 _ _ c.define-4.result (moves_on s0 s2 s3 _ _ (moves_on s0 s1 s2 _ _ step1 step2) step3) (c.define-4.ensures.table clean4 (created (created (created no_schema office) subscriber) orders) (record cert { tree = 0 }) cert_defined (λ up. step3.tables))
+    let step1 = c.in_ok-define.ensures.table clean1 no_schema (record office { tree = 0 }) no_rows office_defined refl before in
+    let step2 = c.in_ok-define-2.ensures.table clean2 (created no_schema office) (record subscriber { tree = 0 }) no_rows subscriber_defined refl (λ up. step1.tables) in
+    let step3 = c.in_ok-define-3.ensures.table clean3 (created (created no_schema office) subscriber) (record orders { tree = 0 }) no_rows orders_defined refl (λ up. step2.tables) in
+    ok_then_on s0 s3 s4 _ _ c.define-4.result (moves_on s0 s2 s3 _ _ (moves_on s0 s1 s2 _ _ step1 step2) step3) (c.define-4.ensures.table clean4 (created (created (created no_schema office) subscriber) orders) (record cert { tree = 0 }) no_rows cert_defined refl (λ up. step3.tables))

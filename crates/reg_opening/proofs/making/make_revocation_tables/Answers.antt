@@ -1,8 +1,9 @@
+use Rattle.std.proofs.Common.{refl}
 use Rattle.sqlite.specs.Held.{state}
 use Rattle.sqlite.specs.State.{HasCleanDisk}
 use Rattle.sqlite_catalog.specs.Change.{created}
 use Rattle.reg_tables.specs.Schema.{request, revocation, crl}
-use Rattle.reg_opening.specs.Blank.{entry_tables}
+use Rattle.reg_opening.specs.Blank.{no_rows, entry_tables}
 use Rattle.reg_changes.proofs.Moving.{moves_on, ok_then_on, was_clean}
 use Rattle.reg_opening.proofs.SchemaTexts.{request_defined, revocation_defined, crl_defined}
 use Rattle.reg_opening.proofs.making.make_revocation_tables.Goals as goal
@@ -16,6 +17,6 @@ returns-clause-ok g c clean before =
     let clean3 : HasCleanDisk s3 = clean in
     let clean2 : HasCleanDisk s2 = was_clean s2 s3 c.define-3.ensures.clean clean3 in
     let clean1 : HasCleanDisk s1 = was_clean s1 s2 c.define-2.ensures.clean clean2 in
-    let step1 = c.in_ok-define.ensures.table clean1 entry_tables (record request { tree = 0 }) request_defined before in
-    let step2 = c.in_ok-define-2.ensures.table clean2 (created entry_tables request) (record revocation { tree = 0 }) revocation_defined (λ up. step1.tables) in
-    ok_then_on s0 s2 s3 _ _ c.define-3.result (moves_on s0 s1 s2 _ _ step1 step2) (c.define-3.ensures.table clean3 (created (created entry_tables request) revocation) (record crl { tree = 0 }) crl_defined (λ up. step2.tables))
+    let step1 = c.in_ok-define.ensures.table clean1 entry_tables (record request { tree = 0 }) no_rows request_defined refl before in
+    let step2 = c.in_ok-define-2.ensures.table clean2 (created entry_tables request) (record revocation { tree = 0 }) no_rows revocation_defined refl (λ up. step1.tables) in
+    ok_then_on s0 s2 s3 _ _ c.define-3.result (moves_on s0 s1 s2 _ _ step1 step2) (c.define-3.ensures.table clean3 (created (created entry_tables request) revocation) (record crl { tree = 0 }) no_rows crl_defined refl (λ up. step2.tables))

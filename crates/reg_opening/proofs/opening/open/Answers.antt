@@ -1,37 +1,48 @@
-use Rattle.std.proofs.Common.{◌<◌, ◌≤◌, ℕ, rules, subst}
+use Rattle.std.proofs.Common.{inr, rules, sym, subst, ◌∙◌}
 use Rattle.sqlite.specs.Held.{state}
 use Rattle.sqlite.specs.State.{HasCleanDisk}
-use Rattle.reg_changes.proofs.Moving.{was_clean}
-use Rattle.reg_opening.specs.Said.{HasVersion, SaysNoRegister}
+use Rattle.reg_tables.proofs.Staying.{kept_shows}
+use Rattle.reg_changes.proofs.Moving.{ok_if, was_clean}
+use Rattle.reg_migration.specs.Older.{ShowsOlder}
+use Rattle.reg_migration.proofs.Whole.{any_kept}
+use Rattle.reg_opening.specs.Examined.{SaysFound, IsOlderOf}
+use Rattle.reg_opening.proofs.Newer.{never_some, newer_kept}
 use Rattle.reg_opening.proofs.NoRegister.{no_register}
 use Rattle.reg_opening.proofs.opening.open.Goals as goal
 
-pub returns-clause-old : goal.returns-clause-old
-returns-clause-old g c clean is =
-    let s = g.S.Store in
-    let entered = c.test_tables-tested.new.tx.conn.now in
-    let ended = c.rollback.new.self.0 in
-    let cleaner : HasCleanDisk (state s ended) = search (rules, clean) in
-    let was : HasCleanDisk (state s entered) = was_clean (state s entered) (state s ended) c.rollback.ensures.survives.clean cleaner in
-    subst (λ h. (n : ℕ) × (1 ≤ n) × (n < 3) × HasVersion (state s h).now n) c.transaction-tx.ensures.begun (c.test_tables-tested.ensures.old was is)
+pub returns-in_err-found-clause-none : goal.returns-in_err-found-clause-none
+returns-in_err-found-clause-none g c clean is = c.examine.ensures.none clean (search (rules, is))
 
-pub returns-clause-newer : goal.returns-clause-newer
-returns-clause-newer g c clean is =
-    let s = g.S.Store in
-    let entered = c.test_tables-tested.new.tx.conn.now in
-    let ended = c.rollback.new.self.0 in
-    let cleaner : HasCleanDisk (state s ended) = search (rules, clean) in
-    let was : HasCleanDisk (state s entered) = was_clean (state s entered) (state s ended) c.rollback.ensures.survives.clean cleaner in
-    subst (λ h. (n : ℕ) × (3 < n) × HasVersion (state s h).now n) c.transaction-tx.ensures.begun (c.test_tables-tested.ensures.newer was is)
+pub returns-in_err-found-clause-alone : goal.returns-in_err-found-clause-alone
+returns-in_err-found-clause-alone g c clean is unviewed = no_register (state g.S.Store c.args.conn.now).now unviewed (returns-in_err-found-clause-none g c clean is)
 
-pub returns-clause-none : goal.returns-clause-none
-returns-clause-none g c clean is =
-    let s = g.S.Store in
-    let entered = c.test_tables-tested.new.tx.conn.now in
-    let ended = c.rollback.new.self.0 in
-    let cleaner : HasCleanDisk (state s ended) = search (rules, clean) in
-    let was : HasCleanDisk (state s entered) = was_clean (state s entered) (state s ended) c.rollback.ensures.survives.clean cleaner in
-    subst (λ h. SaysNoRegister (state s h).now) c.transaction-tx.ensures.begun (c.test_tables-tested.ensures.none was is)
+pub returns-in-None-clause-migrated : goal.returns-in-None-clause-migrated
+returns-in-None-clause-migrated g c version records shows sound =
+    any_kept g.S.Store c.examine.new.conn records (λ clean. subst (IsOlderOf version records) c.in-None.is (c.in_ok-found.ensures.older clean version records shows))
 
-pub returns-clause-alone : goal.returns-clause-alone
-returns-clause-alone g c clean is unviewed = no_register (state g.S.Store c.args.conn.now).now unviewed (returns-clause-none g c clean is)
+pub returns-in-Some-clause-keeps : goal.returns-in-Some-clause-keeps
+returns-in-Some-clause-keeps g c records kept =
+    let s = g.S.Store in
+    let mid = c.examine.new.conn in
+    let new = c.migrate.new.conn in
+    ok_if _ c.migrate.result (any_kept s new records (λ clean.
+    let was : HasCleanDisk (state s mid) = was_clean (state s mid) (state s new) c.migrate.ensures.clean clean in
+    never_some c.in-Some.older (sym c.in-Some.is ∙ c.in_ok-found.ensures.register was records (kept_shows s c.args.conn.now records kept))))
+
+pub returns-in-Some-clause-migrated : goal.returns-in-Some-clause-migrated
+returns-in-Some-clause-migrated g c version records shows sound =
+    let s = g.S.Store in
+    let mid = c.examine.new.conn in
+    newer_kept s c.args.conn.now mid c.migrate.new.conn version records c.in-Some.older c.migrate.result c.examine.ensures.clean c.migrate.ensures.clean c.examine.ensures.same shows sound
+    (λ clean. subst (IsOlderOf version records) c.in-Some.is (c.in_ok-found.ensures.older clean version records shows))
+    (λ v those shown whole e one last. c.migrate.ensures.ok those (subst (λ w. ShowsOlder w s mid those) e shown) whole one last)
+
+pub returns-in-Some-clause-said : goal.returns-in-Some-clause-said
+returns-in-Some-clause-said g c clean =
+    let s = g.S.Store in
+    let mid = c.examine.new.conn in
+    let new = c.migrate.new.conn in
+    let was : HasCleanDisk (state s mid) = was_clean (state s mid) (state s new) c.migrate.ensures.clean clean in
+    let it = subst (SaysFound (state s c.args.conn.now).now) c.in-Some.is (c.in_ok-found.ensures.ok was) in
+    let older = c.in-Some.older in
+    ok_if _ c.migrate.result (inr (older.version, it.0, (older.days, older.last, it.1)))

@@ -2,6 +2,7 @@ use Rattle.std.proofs.Common.{inl, inr, rules, sym, subst}
 use Rattle.sqlite.specs.Effect.{Database}
 use Rattle.sqlite.specs.Held.{state}
 use Rattle.sqlite.specs.State.{HasCleanDisk}
+use Rattle.reg_tables.specs.Schema.{register_schema}
 use Rattle.reg_tables.specs.Shows.{IsShownBy}
 use Rattle.reg_changes.proofs.Moving.{keeps_on, was_clean}
 use Rattle.reg_opening.specs.Said.{SaysOffice, IsRead, IsRefused}
@@ -13,7 +14,7 @@ use Rattle.reg_opening.proofs.opening.test_office.Goals as goal
 
 pub returns-in_err-office-clause-shown : goal.returns-in_err-office-clause-shown
 returns-in_err-office-clause-shown g c clean records within before =
-    let refused = c.in_err-office.ensures.refused clean office_query office_never (λ up. (before up).schema) in
+    let refused = c.in_err-office.ensures.refused clean office_query register_schema office_never (λ up. (before up).schema) in
     search (rules, refused)
 
 pub returns-in_err-office-clause-kept : goal.returns-in_err-office-clause-kept
@@ -26,7 +27,7 @@ returns-in_err-steps-clause-shown g c clean records within before =
     let clean1 : HasCleanDisk s1 = was_clean s1 s2 c.peek-2.ensures.clean clean in
     let same = c.in_ok-office.ensures.same clean1 office_query in
     let shown : IsShownBy s1.now records = subst (λ (d : Database). IsShownBy d records) (sym same.0.now_is) (before same.0.was_open) in
-    let refused = c.in_err-steps.ensures.refused clean steps_query steps_never (λ up. shown.schema) in
+    let refused = c.in_err-steps.ensures.refused clean steps_query register_schema steps_never (λ up. shown.schema) in
     search (rules, refused)
 
 pub returns-in_err-steps-clause-kept : goal.returns-in_err-steps-clause-kept

@@ -17,8 +17,8 @@ returns-in-Ok-clause-kept g c clean query =
     record { was_open = λ up. same.0.was_open; committed = λ up. same.0.committed_is }
 
 pub returns-in-Err-clause-refused : goal.returns-in-Err-clause-refused
-returns-in-Err-clause-refused g c clean query never register =
-    c.unread.ensures.call (fails_is_call c.args.sql.now query never (state g.S.Store c.args.tx.now.conn.now) (state g.S.Store c.query_all.new.self.conn.now) c.in-Err.error register (c.in-Err.ensures.err clean))
+returns-in-Err-clause-refused g c clean query schema never register =
+    c.unread.ensures.call (fails_is_call schema c.args.sql.now query never (state g.S.Store c.args.tx.now.conn.now) (state g.S.Store c.query_all.new.self.conn.now) c.in-Err.error register (c.in-Err.ensures.err clean))
 
 pub returns-in-Err-clause-kept : goal.returns-in-Err-clause-kept
 returns-in-Err-clause-kept g c clean query =

@@ -1,14 +1,21 @@
-use Rattle.reg_program.proofs.Fates.{unmade}
-use Rattle.reg_program.proofs.Opened.{made_from, made_stands}
+use Rattle.sqlite.specs.Files.{over_files}
+use Rattle.reg_core.specs.Records.{no_records}
+use Rattle.reg_office.specs.Stands.{Stands}
+use Rattle.reg_program.proofs.Opened.{settled_made, settled_not, settled_ok}
+use Rattle.reg_program.specs.Digest.{digest, digests}
+use Rattle.reg_program.specs.Failing.{IsMaking}
 use Rattle.reg_program.proofs.files.make_register.Goals as goal
 
-pub returns-in-Ok-clause-ok : goal.returns-in-Ok-clause-ok
-returns-in-Ok-clause-ok c =
+pub returns-clause-ok : goal.returns-clause-ok
+returns-clause-ok c =
     let found = c.in_ok-connection.ensures in
-    made_from _ _ _ c.new.ensures.store (record { fresh = found.fresh; whole = found.opened }) c.in-Ok.ensures.empty c.in-Ok.ensures.clean
+    settled_made (λ office. office.store) (λ left. left.0) _ (record { fresh = found.fresh; whole = found.opened }) c.made_over.result _ c.settled.ensures
+    c.made_over.ensures.empty c.made_over.ensures.clean
 
-pub returns-in-Ok-clause-stands : goal.returns-in-Ok-clause-stands
-returns-in-Ok-clause-stands c = made_stands _ _ _ _ c.new.ensures.store c.in-Ok.ensures.ok
+pub returns-clause-stands : goal.returns-clause-stands
+returns-clause-stands c =
+    settled_ok (λ office. Stands over_files digests office.store digest (no_records c.args.issuer c.args.policy)) (λ left. left.0)
+    c.made_over.result _ c.made_over.ensures.stands c.settled.ensures
 
-pub returns-in-Err-clause-err : goal.returns-in-Err-clause-err
-returns-in-Err-clause-err c = unmade _ _ c.from.ensures c.in-Err.ensures.faults
+pub returns-clause-err : goal.returns-clause-err
+returns-clause-err c = settled_not IsMaking (λ left. left.0) c.made_over.result _ c.made_over.ensures.err c.settled.ensures

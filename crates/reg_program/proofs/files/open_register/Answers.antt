@@ -1,11 +1,12 @@
-use Rattle.reg_program.proofs.Fates.{opened}
-use Rattle.reg_program.proofs.Opened.{opened_from}
+use Rattle.reg_program.proofs.Opened.{settled_opened, settled_not}
+use Rattle.reg_program.specs.Failing.{IsOpening}
 use Rattle.reg_program.proofs.files.open_register.Goals as goal
 
-pub returns-in-Ok-clause-ok : goal.returns-in-Ok-clause-ok
-returns-in-Ok-clause-ok c =
+pub returns-clause-ok : goal.returns-clause-ok
+returns-clause-ok c =
     let found = c.in_ok-connection.ensures in
-    opened_from _ _ _ c.new.ensures.store (record { fresh = found.fresh; whole = found.opened }) c.in-Ok.ensures.kept c.in-Ok.ensures.clean
+    settled_opened (λ office. office.store) (λ left. left.0) _ (record { fresh = found.fresh; whole = found.opened }) c.opened_over.result _ c.settled.ensures
+    c.opened_over.ensures.kept c.opened_over.ensures.migrated c.opened_over.ensures.clean
 
-pub returns-in-Err-clause-err : goal.returns-in-Err-clause-err
-returns-in-Err-clause-err c = opened _ _ c.from.ensures c.in-Err.ensures.faults
+pub returns-clause-err : goal.returns-clause-err
+returns-clause-err c = settled_not IsOpening (λ left. left.0) c.opened_over.result _ c.opened_over.ensures.err c.settled.ensures

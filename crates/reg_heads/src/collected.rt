@@ -1,0 +1,76 @@
+//! The bytes of a connection, as they come, until they hold a whole request.
+
+ghost use Rattle.reg_heads.specs.Collected.{Knows};
+
+use crate::known::{Known, told};
+use std::alloc::{AllocError, Global};
+
+/// The bytes that came on a connection. Each of them is searched once for the end of a head, and the head is read once,
+/// in however many pieces they come.
+#[derive(Drop)]
+pub struct Collected {
+    bytes: Vec<u8>,
+    known: Known,
+    ghost is_known: { ∥ Knows bytes.items known ∥₁ },
+}
+
+impl Collected {
+    ghost use Rattle.std.specs.Prelude.{◌≡◌, ◌++◌, [], true, false, OnOk, OnErr};
+    ghost use Rattle.reg_heads.specs.Bytes.{bytes_of, IsExact};
+    ghost use Rattle.reg_heads.specs.Collected.{IsWhole};
+    ghost use Rattle.reg_heads.specs.Frame.{IsUnfinished};
+
+    /// No bytes yet.
+    pub fn new(alloc: Global) -> Collected
+        ensures { bytes_of result ≡ [] }
+    {
+        Collected {
+            bytes: Vec::new(alloc),
+            known: Known::Unmarked(0),
+        }
+    }
+
+    /// The bytes that came.
+    pub fn as_slice(&self) -> &[u8]
+        ensures { result.now ≡ bytes_of self.now }
+    {
+        self.bytes.as_slice()
+    }
+
+    /// Takes more bytes behind those that came before.
+    ///
+    /// # Errors
+    ///
+    /// `AllocError`, and none of them was taken.
+    pub fn add(&mut self, more: &[u8]) -> Result<(), AllocError>
+        ensures ok { OnOk result (bytes_of self.new ≡ bytes_of self.old ++ more.now) }
+        ensures err { OnErr result (bytes_of self.new ≡ bytes_of self.old) }
+    {
+        self.bytes.extend_from_slice(more)
+    }
+
+    /// Whether the bytes begin with a whole request (RFC 9112 2.1): one that is asked with all of its body, or one that
+    /// is refused by its head. Whoever reads it from these bytes is not kept waiting for more.
+    pub fn is_whole(&mut self) -> bool
+        ensures same { bytes_of self.new ≡ bytes_of self.old }
+        ensures whole { result ≡ true → ∥ IsWhole (bytes_of self.old) ∥₁ }
+        ensures unfinished { result ≡ false → ∥ IsUnfinished (bytes_of self.old) ∥₁ }
+    {
+        self.known = told(self.bytes.as_slice(), self.known);
+        match self.known {
+            Known::Unmarked(_) => false,
+            Known::Refused(_) => true,
+            Known::Asked(needed) => needed <= self.bytes.len(),
+        }
+    }
+
+    /// Whether the bytes were found to be one whole request that is asked, and nothing behind it.
+    pub fn is_exact(&self) -> bool
+        ensures { result ≡ true → ∥ IsExact (bytes_of self.now) ∥₁ }
+    {
+        match self.known {
+            Known::Asked(needed) => needed == self.bytes.len(),
+            _ => false,
+        }
+    }
+}

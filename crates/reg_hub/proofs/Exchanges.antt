@@ -1,0 +1,58 @@
+-- Exchanges, one after the other.
+use Rattle.std.proofs.Common.{◌≡◌, ℕ, suc, ◌+◌, List, [], ◌∷◌, ◌++◌, refl, sym, subst, ap, ◌∙◌, arith, inl, inr}
+use Rattle.reg_wire.proofs.Runs.{answered_append}
+use Rattle.std.specs.Prelude.{Result, Ok, Err, OnOk, OnErr, take, drop}
+use Rattle.reg_hub.specs.Lines.{Telling}
+use Rattle.reg_hub.specs.Exchange.{Input, request, line, asked_in, Handles, Exchanged}
+
+-- the requests of two lists
+pub asked_in_append : (first rest : List Input) → asked_in (first ++ rest) ≡ asked_in first + asked_in rest
+asked_in_append [] rest = omega arith
+asked_in_append (request bytes ∷ first) rest = omega (arith, asked_in_append first rest)
+asked_in_append (line bytes ∷ first) rest = asked_in_append first rest
+
+module _ {S : Type 0} (answers tells : S → List ℕ → List ℕ → S → Type 0) where
+  -- nothing was exchanged
+  pub exchanged_none : (s t : S) (made made' : ℕ) → t ≡ s → made' ≡ made → Exchanged answers tells s t made made'
+  exchanged_none s t made made' same count = record { inputs = []; texts = []; run = same; counted = omega (arith, count) }
+
+  -- a request was answered
+  pub exchanged_request : (s t : S) (made made' : ℕ) (bytes text : List ℕ) → answers s bytes text t → made' ≡ made + 1
+      → Exchanged answers tells s t made made'
+  exchanged_request s t made made' bytes text step count = record {
+    inputs = request bytes ∷ [];
+    texts = text ∷ [];
+    run = (t, step, refl);
+    counted = omega (arith, count);
+  }
+
+  -- a line was answered
+  pub exchanged_line : (s t : S) (made : ℕ) (bytes text : List ℕ) → tells s bytes text t → Exchanged answers tells s t made made
+  exchanged_line s t made bytes text step = record {
+    inputs = line bytes ∷ [];
+    texts = text ∷ [];
+    run = (t, step, refl);
+    counted = omega arith;
+  }
+
+  -- some were exchanged, and then others
+  pub exchanged_then : (s m t : S) (made made' made'' : ℕ) → Exchanged answers tells s m made made' → Exchanged answers tells m t made' made''
+      → Exchanged answers tells s t made made''
+  exchanged_then s m t made made' made'' first rest = record {
+    inputs = first.inputs ++ rest.inputs;
+    texts = first.texts ++ rest.texts;
+    run = answered_append (Handles answers tells) s m t first.inputs first.texts rest.inputs rest.texts first.run rest.run;
+    counted = omega (arith, first.counted, rest.counted, asked_in_append first.inputs rest.inputs);
+  }
+
+  -- a line was answered, or none was there
+  pub exchanged_telling : (s t : S) (made : ℕ) (before after unsent unsent' : List ℕ) → Telling tells s t before after unsent unsent'
+      → Exchanged answers tells s t made made
+  exchanged_telling s t made before after unsent unsent' (inl told) = exchanged_line s t made (take told.0 before) unsent' told.3
+  exchanged_telling s t made before after unsent unsent' (inr silent) = exchanged_none s t made made silent.1 refl
+
+  -- or it stopped before
+  pub exchanged_told : {U E : Type 0} (P : Type 0) (r : Result U E) (s t : S) (made : ℕ) (before after unsent unsent' : List ℕ)
+      → OnOk r (Telling tells s t before after unsent unsent') → OnErr r (P × (t ≡ s)) → Exchanged answers tells s t made made
+  exchanged_told P (Ok u) s t made before after unsent unsent' told stopped = exchanged_telling s t made before after unsent unsent' told
+  exchanged_told P (Err e) s t made before after unsent unsent' told stopped = exchanged_none s t made made stopped.1 refl

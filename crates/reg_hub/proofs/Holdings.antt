@@ -1,0 +1,105 @@
+-- What is held of what came, and what is sent of a text, one step after the other.
+use Rattle.std.proofs.Common.{◌≡◌, ℕ, Bool, ◌+◌, ◌-◌, ◌≤◌, List, [], ◌∷◌, ◌++◌, length, take, drop, refl, sym, subst, ap, ◌∙◌, arith, take-append-drop, length-drop}
+use Rattle.std.specs.Prelude.{Option, None, Some, MatchOption}
+use Rattle.std.specs.Io.KnownBytes.{Appends, Consumes}
+use Rattle.std.proofs.KnownBytes.{Appends-nil, Appends-trans, Consumes-nil, Consumes-trans}
+use Rattle.std.proofs.lemmas.List.{append-nil, append_assoc, drop-drop, take-take, take_all}
+use Rattle.reg_wire.specs.Mark.{EndsWith, FirstMark, HasNoMark}
+use Rattle.reg_wire.proofs.Marks.{no_mark_of_fronts}
+use Rattle.reg_heads.specs.Bytes.{bytes_of}
+use Rattle.reg_hub.specs.Calls.{Asks, Takes, Sends}
+use Rattle.reg_hub.specs.Held.{AddsTo, TakesIn, SendsOn, IsSentAt}
+use Rattle.reg_hub.specs.Unsent.{unsent_of}
+use Rattle.reg_hub.specs.declared.caller.Stage.TheVariants as stage
+use Rattle.reg_hub.specs.declared.taking.Taken.{Taken}
+use Rattle.reg_hub.specs.declared.taking.Taken.TheVariants as taken
+use Rattle.reg_hub.specs.declared.unsent.Unsent.{Unsent}
+use Rattle.reg_hub.specs.declared.unsent.Sent.{Sent}
+use Rattle.reg_heads.specs.declared.collected.Collected.{Collected}
+use Rattle.reg_hub.specs.declared.unsent.Sent.TheVariants as sent
+
+-- bytes that came before stand before those that came then
+pub adds_then : (x y z first came : List ℕ) (t : Taken) → y ≡ x ++ first → AddsTo y came z t → AddsTo x (first ++ came) z t
+adds_then x y z first came taken.Lost before (kept, lost, parted, after) = (
+  first ++ kept,
+  lost,
+  ap (λ (l : List ℕ). first ++ l) parted ∙ sym (append_assoc first kept lost),
+  after ∙ ap (λ (l : List ℕ). l ++ kept) before ∙ append_assoc x first kept,
+)
+adds_then x y z first came taken.Whole before after = after ∙ ap (λ (l : List ℕ). l ++ came) before ∙ append_assoc x first came
+adds_then x y z first came taken.Waits before after = after ∙ ap (λ (l : List ℕ). l ++ came) before ∙ append_assoc x first came
+adds_then x y z first came taken.More before after = after ∙ ap (λ (l : List ℕ). l ++ came) before ∙ append_assoc x first came
+adds_then x y z first came taken.Ended before after = after ∙ ap (λ (l : List ℕ). l ++ came) before ∙ append_assoc x first came
+
+-- nothing was taken in
+pub takes_none : (input : Option (List ℕ)) (held : List ℕ) → TakesIn input input held held taken.More
+takes_none input held = record { came = []; consumed = Consumes-nil input; held = sym (append-nil held) }
+
+-- some were taken in, and then others
+pub takes_then : (a b c : Option (List ℕ)) (x y z : List ℕ) (t : Taken) → TakesIn a b x y taken.More → TakesIn b c y z t → TakesIn a c x z t
+takes_then a b c x y z t first rest = record {
+  came = first.came ++ rest.came;
+  consumed = Consumes-trans a b c first.came rest.came first.consumed rest.consumed;
+  held = adds_then x y z first.came rest.came t first.held rest.held;
+}
+
+-- what is held is a front of what came
+pub kept_of : (x came z : List ℕ) (t : Taken) → AddsTo x came z t → (kept : List ℕ) × (lost : List ℕ) × (came ≡ kept ++ lost) × (z ≡ x ++ kept)
+kept_of x came z taken.Lost adds = adds
+kept_of x came z taken.Whole adds = (came, [], sym (append-nil came), adds)
+kept_of x came z taken.Waits adds = (came, [], sym (append-nil came), adds)
+kept_of x came z taken.More adds = (came, [], sym (append-nil came), adds)
+kept_of x came z taken.Ended adds = (came, [], sym (append-nil came), adds)
+
+-- nothing was sent
+pub sends_none : (old : Option (List ℕ)) (text : List ℕ) → SendsOn old old text text sent.More
+sends_none old text = record { went = []; appended = Appends-nil old; parted = refl; all = tt }
+
+-- some was sent, and then more
+pub sends_then : (a b c : Option (List ℕ)) (x y z : List ℕ) (t : Sent) → SendsOn a b x y sent.More → SendsOn b c y z t → SendsOn a c x z t
+sends_then a b c x y z t first rest = record {
+  went = first.went ++ rest.went;
+  appended = Appends-trans a b c first.went rest.went first.appended rest.appended;
+  parted = first.parted ∙ ap (λ (l : List ℕ). first.went ++ l) rest.parted ∙ sym (append_assoc first.went rest.went z);
+  all = rest.all;
+}
+
+-- a piece was sent, or a front of it
+pub sends_piece : (old new : Option (List ℕ)) (text : List ℕ) (at end count : ℕ) → count ≤ end - at
+    → Appends old new (take count (take (end - at) (drop at text))) → SendsOn old new (drop at text) (drop (at + count) text) sent.More
+sends_piece old new text at end count few appended = record {
+  went = take count (drop at text);
+  appended = subst (Appends old new) (take-take count (end - at) (drop at text) few) appended;
+  parted = sym (take-append-drop count (drop at text)) ∙ ap (λ (l : List ℕ). take count (drop at text) ++ l) (drop-drop count at text);
+  all = tt;
+}
+
+-- the end of the first line, or none
+pub found_or_none : (bytes mark : List ℕ) (r : Option ℕ)
+    → MatchOption r ((n : ℕ) → n ≤ length bytes → ¬ EndsWith (take n bytes) mark) (λ end. (end ≤ length bytes) × FirstMark mark bytes end)
+    → MatchOption r (HasNoMark mark bytes) (λ end. FirstMark mark bytes end)
+found_or_none bytes mark None none =
+    let P : List ℕ → Type 0 = λ l. HasNoMark mark l in
+    subst P (take_all (length bytes) bytes (omega arith)) (no_mark_of_fronts mark bytes (length bytes) none)
+found_or_none bytes mark (Some end) found = found.1
+
+-- a list of no length
+pub empty_is : (xs : List ℕ) → length xs ≡ 0 → xs ≡ []
+empty_is [] none = refl
+empty_is (x ∷ xs) none = absurd (omega (arith, none))
+
+-- a taking in, of a peer that asks
+pub takes_asking : {S : Type 0} (remaining : S → Option (List ℕ)) (s t : S) (c c' : Collected) (taken : Taken)
+    → TakesIn (remaining s) (remaining t) (bytes_of c) (bytes_of c') taken → Takes remaining s t (stage.Asking c) (stage.Asking c')
+takes_asking remaining s t c c' taken took bytes is =
+    let k = kept_of (bytes_of c) took.came (bytes_of c') taken took.held in (
+      k.0,
+      k.1,
+      subst (Consumes (remaining s) (remaining t)) k.2 took.consumed,
+      ap (λ (l : List ℕ). l ++ k.0) is ∙ sym k.3,
+    )
+
+-- a sending, to a peer that is answered
+pub sends_answering : {S : Type 0} (contents : S → Option (List ℕ)) (s t : S) (u u' : Unsent) (exact exact' : Bool) (sent : Sent)
+    → SendsOn (contents s) (contents t) (unsent_of u) (unsent_of u') sent → Sends contents s t (stage.Answering u exact) (stage.Answering u' exact')
+sends_answering contents s t u u' exact exact' sent on text is = (on.went, unsent_of u', is ∙ on.parted, on.appended, refl)

@@ -1,0 +1,8 @@
+use Rattle.std.proofs.Common.{◌≤◌}
+use Rattle.reg_hub.specs.Exchange.{Exchanged}
+use Rattle.reg_hub.proofs.hub.Hub.answer_all.Given as goal
+
+-- what was exchanged so far
+abbrev pub invariant-loop-index : goal.invariant-loop-index
+invariant-loop-index g l =
+    Exchanged g.H.Handler.answers g.H.Handler.tells l.initial.handler l.handler l.initial.made l.made × (l.made ≤ l.most)

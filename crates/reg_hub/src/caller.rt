@@ -1,0 +1,213 @@
+//! One peer, which is answered once.
+
+ghost use Rattle.std.specs.Prelude.{◌≡◌, ◌≤◌, ◌+◌, OnOk, OnErr};
+ghost use Rattle.reg_hub.specs.Calls.{Answering, Takes, Sends};
+ghost use Rattle.reg_hub.specs.Exchange.{Exchanged};
+
+use crate::handler::{Handler, Stopped, answer_one};
+use crate::link::Link;
+use crate::taking::{Taken, take_in};
+use crate::unsent::{Sent, Unsent};
+use mio::Interest;
+use reg_heads::Collected;
+use std::alloc::Global;
+use std::io::{ErrorKind, Read};
+
+/// How many milliseconds a peer has for its request to be whole, and as many for its answer to be taken.
+const PATIENCE: u64 = 30_000;
+
+/// How many milliseconds what a peer still sends is dropped, once it has its answer.
+const LINGER: u64 = 1_000;
+
+/// The most reads of what is dropped in a turn.
+const MOST_DROPPED: usize = 32;
+
+/// How far a peer is.
+#[derive(Drop)]
+pub(crate) enum Stage {
+    /// Its request comes in.
+    Asking(Collected),
+    /// Its answer goes out; whether it is let go at once then.
+    Answering(Unsent, bool),
+    /// It has its answer, and what it still sends is dropped.
+    Leaving,
+}
+
+/// What is to be done with a peer next.
+#[derive(Clone, Copy)]
+pub enum Next {
+    /// It is to be answered: no more of its request is waited for.
+    Due,
+    /// It is waited for.
+    Waits(Interest),
+    /// It is to be let go.
+    Gone,
+}
+
+/// What is to be done with a peer once its answer was sent on.
+#[derive(Clone, Copy)]
+enum After {
+    /// The peer takes no more of it yet.
+    Waits,
+    /// The peer has it, and may still send.
+    Finished,
+    /// The peer has it and sends no more, or is gone.
+    Gone,
+}
+
+/// What is to be done where a taking in came to rest so.
+fn after_taking(taken: Taken) -> Next {
+    match taken {
+        Taken::Whole | Taken::Ended | Taken::Lost => Next::Due,
+        Taken::Waits | Taken::More => Next::Waits(Interest::READABLE),
+    }
+}
+
+/// What is to be done where a sending came to rest so, of an answer to a peer that is let go at once then, or is not.
+fn after_sending(sent: Sent, is_last: bool) -> After {
+    match sent {
+        Sent::All if is_last => After::Gone,
+        Sent::All => After::Finished,
+        Sent::Waits | Sent::More => After::Waits,
+        Sent::Broken => After::Gone,
+    }
+}
+
+/// A connection of a peer that is answered once.
+#[derive(Drop)]
+pub struct Caller<S: Link> {
+    pub(crate) link: S,
+    pub(crate) stage: Stage,
+    pub(crate) until: u64,
+    pub(crate) number: u64,
+    pub(crate) is_registered: bool,
+}
+
+impl<S: Link> Caller<S> {
+    /// A peer that was accepted at this moment, in milliseconds of a clock that never goes back.
+    pub fn new(alloc: Global, link: S, number: u64, now: u64) -> Caller<S> {
+        Caller {
+            link,
+            stage: Stage::Asking(Collected::new(alloc)),
+            until: now.saturating_add(PATIENCE),
+            number,
+            is_registered: false,
+        }
+    }
+
+    /// Whether its request still comes in.
+    pub fn is_asking(&self) -> bool {
+        matches!(self.stage, Stage::Asking(_))
+    }
+
+    /// Whether its time is over.
+    pub fn is_late(&self, now: u64) -> bool {
+        self.until <= now
+    }
+
+    /// How many bytes of its answer are not sent yet.
+    pub fn unsent(&self) -> usize {
+        match &self.stage {
+            Stage::Answering(unsent, _) => unsent.len(),
+            _ => 0,
+        }
+    }
+
+    /// Goes on as far as the connection does without waiting.
+    pub fn advance(&mut self, room: &mut [u8], now: u64) -> Next {
+        match &self.stage {
+            Stage::Asking(_) => self.take(room),
+            Stage::Answering(..) => match self.send() {
+                After::Waits => Next::Waits(Interest::WRITABLE),
+                After::Finished => self.finish(now),
+                After::Gone => Next::Gone,
+            },
+            Stage::Leaving => self.leave(room),
+        }
+    }
+
+    /// Takes in what came of its request.
+    fn take(&mut self, room: &mut [u8]) -> Next
+        ensures { Takes S.Read.remaining self.old.link self.new.link self.old.stage self.new.stage }
+    {
+        match &mut self.stage {
+            Stage::Asking(collected) => after_taking(take_in(&mut self.link, collected, room)),
+            Stage::Answering(..) => Next::Gone,
+            Stage::Leaving => Next::Gone,
+        }
+    }
+
+    /// Sends on its answer.
+    fn send(&mut self) -> After
+        ensures { Sends S.Write.contents self.old.link self.new.link self.old.stage self.new.stage }
+    {
+        match &mut self.stage {
+            Stage::Answering(unsent, is_last) => after_sending(
+                unsent.send_on(&mut self.link),
+                *is_last,
+            ),
+            Stage::Asking(_) => After::Gone,
+            Stage::Leaving => After::Gone,
+        }
+    }
+
+    /// Tells the peer that no more is written. A side that is closed over unread bytes may cost the peer the answer that it
+    /// has not read yet: so what it still sends is taken for a short time.
+    fn finish(&mut self, now: u64) -> Next {
+        self.stage = Stage::Leaving;
+        self.until = now.saturating_add(LINGER);
+        match self.link.finish() {
+            Ok(()) => Next::Waits(Interest::READABLE),
+            Err(_) => Next::Gone,
+        }
+    }
+
+    /// Drops what the peer still sends.
+    fn leave(&mut self, room: &mut [u8]) -> Next {
+        for _ in 0..MOST_DROPPED {
+            match self.link.read(room) {
+                Ok(0) => return Next::Gone,
+                Ok(_) => {}
+                Err(error) if error.kind() == ErrorKind::WouldBlock => break,
+                Err(_) => return Next::Gone,
+            }
+        }
+        Next::Waits(Interest::READABLE)
+    }
+
+    /// Whether one whole request came, and nothing behind it.
+    fn is_exact(&self) -> bool {
+        match &self.stage {
+            Stage::Asking(collected) => collected.is_exact(),
+            _ => false,
+        }
+    }
+
+    /// Answers what came of its request, whatever it is. Who has an answer is not answered again.
+    ///
+    /// # Errors
+    ///
+    /// [`Stopped`], and nothing was answered.
+    pub fn answer<H: Handler>(
+        &mut self,
+        handler: &mut H,
+        made: &mut u64,
+        now: u64,
+    ) -> Result<(), Stopped>
+        ensures exchanged { Exchanged H.answers H.tells handler.old handler.new made.old made.new }
+        ensures one { made.new ≤ made.old + 1 }
+        ensures answered { OnOk result (Answering H.answers handler.old handler.new self.old.stage self.new.stage) }
+        ensures err { OnErr result ((self.new ≡ self.old) × (handler.new ≡ handler.old)) }
+    {
+        let text = match &self.stage {
+            Stage::Asking(collected) => answer_one(handler, made, collected.as_slice())?,
+            Stage::Answering(..) => return Ok(()),
+            Stage::Leaving => return Ok(()),
+        };
+        // Where nothing is sent, there is no answer that unread bytes could cost.
+        let is_last = self.is_exact() || text.is_empty();
+        self.stage = Stage::Answering(Unsent::new(text), is_last);
+        self.until = now.saturating_add(PATIENCE);
+        Ok(())
+    }
+}

@@ -1,0 +1,54 @@
+//! Who answers what the peers send.
+
+ghost use Rattle.std.specs.Prelude.{◌≡◌, ◌+◌, IfOk, OnOk, OnErr};
+
+/// No more can be answered: the clock can't be read, or the sockets fail.
+#[derive(Clone, Copy, Debug, PartialEq, Eq)]
+pub struct Stopped;
+
+/// What answers requests and lines, one after the other.
+pub trait Handler {
+    ghost use Rattle.std.specs.Prelude.{◌≡◌, ℕ, List, IfOk, OnErr};
+
+    // This request was answered by this text: the handler before and after it.
+    ghost answers: { Self → List ℕ → List ℕ → Self → Type 0 };
+
+    // This line was answered by this text: the handler before and after it.
+    ghost tells: { Self → List ℕ → List ℕ → Self → Type 0 };
+
+    /// Answers what came of one peer. Where that is no whole request, the text may be empty.
+    ///
+    /// # Errors
+    ///
+    /// [`Stopped`], and the handler is as it was.
+    fn answer(&mut self, request: &[u8]) -> Result<Vec<u8>, Stopped>
+        ensures ok { IfOk result (λ text. answers self.old request.now text.items self.new) }
+        ensures err { OnErr result (self.new ≡ self.old) };
+
+    /// Answers one line of a counter.
+    ///
+    /// # Errors
+    ///
+    /// [`Stopped`], and the handler is as it was.
+    fn tell(&mut self, line: &[u8]) -> Result<Vec<u8>, Stopped>
+        ensures ok { IfOk result (λ text. tells self.old line.now text.items self.new) }
+        ensures err { OnErr result (self.new ≡ self.old) };
+}
+
+/// Answers what came of one peer, and counts it.
+pub(crate) fn answer_one<H: Handler>(
+    handler: &mut H,
+    made: &mut u64,
+    request: &[u8],
+) -> Result<Vec<u8>, Stopped>
+    ensures ok { IfOk result (λ text. H.answers handler.old request.now text.items handler.new) }
+    ensures counted { OnOk result (made.new ≡ made.old + 1) }
+    ensures err { OnErr result ((handler.new ≡ handler.old) × (made.new ≡ made.old)) }
+{
+    let Some(count) = made.checked_add(1) else {
+        return Err(Stopped);
+    };
+    let text = handler.answer(request)?;
+    *made = count;
+    Ok(text)
+}

@@ -1,0 +1,131 @@
+//! One connection at a counter, whose lines are answered in turn.
+
+ghost use Rattle.std.specs.Prelude.{◌≡◌, ◌≤◌, ◌∷◌, [], length, take, drop, MatchOption, OnOk, OnErr};
+ghost use Rattle.reg_wire.specs.Mark.{FirstMark, HasNoMark};
+ghost use Rattle.reg_hub.specs.Lines.{Telling};
+ghost use Rattle.reg_hub.specs.Unsent.{unsent_of};
+
+use crate::caller::Next;
+use crate::handler::{Handler, Stopped};
+use crate::link::Link;
+use crate::unsent::{Sent, Unsent};
+use mio::Interest;
+use reg_wire::first_mark;
+use std::alloc::Global;
+use std::io::ErrorKind;
+
+/// The most bytes of a line, with its LF.
+const LONGEST_LINE: usize = 8_194;
+
+/// The most reads of a counter in a turn.
+const MOST_READS: usize = 4;
+
+/// A connection at a counter.
+#[derive(Drop)]
+pub struct Teller<S: Link> {
+    pub(crate) link: S,
+    pub(crate) came: Vec<u8>,
+    pub(crate) unsent: Unsent,
+    pub(crate) has_ended: bool,
+    pub(crate) is_registered: bool,
+}
+
+/// Where the first line ends, behind its LF.
+fn line_end(bytes: &[u8]) -> Option<usize>
+    ensures { MatchOption result (HasNoMark (10 ∷ []) bytes.now) (λ end. FirstMark (10 ∷ []) bytes.now end) }
+{
+    first_mark(bytes, bytes.len(), b"\n", 0)
+}
+
+impl<S: Link> Teller<S> {
+    /// A connection that was accepted.
+    pub fn new(alloc: Global, link: S) -> Teller<S> {
+        Teller {
+            link,
+            came: Vec::new(alloc),
+            unsent: Unsent::new(Vec::new(alloc)),
+            has_ended: false,
+            is_registered: false,
+        }
+    }
+
+    /// Goes on as far as the connection does without waiting.
+    pub fn advance(&mut self, room: &mut [u8]) -> Next {
+        match self.unsent.send_on(&mut self.link) {
+            Sent::All => self.take(room),
+            Sent::Waits | Sent::More => Next::Waits(Interest::WRITABLE),
+            Sent::Broken => Next::Gone,
+        }
+    }
+
+    /// Takes in what came, until a line is whole.
+    fn take(&mut self, room: &mut [u8]) -> Next {
+        for _ in 0..MOST_READS {
+            if line_end(self.came.as_slice()).is_some() {
+                return Next::Due;
+            }
+            // A line that is not whole is none.
+            if self.has_ended || self.came.len() >= LONGEST_LINE {
+                return Next::Gone;
+            }
+            if !self.take_once(room) {
+                break;
+            }
+        }
+        Next::Waits(Interest::READABLE)
+    }
+
+    /// Takes in what one read gives; whether more may have come.
+    fn take_once(&mut self, room: &mut [u8]) -> bool {
+        match self.link.read(room) {
+            Ok(0) => self.has_ended = true,
+            Ok(count) => self.has_ended = self.came.extend_from_slice(&room[..count]).is_err(),
+            Err(error) if error.kind() == ErrorKind::WouldBlock => return false,
+            Err(error) if error.kind() == ErrorKind::Interrupted => {}
+            Err(_) => self.has_ended = true,
+        }
+        true
+    }
+
+    /// Answers the first line, if one is whole and the replies before it were taken.
+    ///
+    /// # Errors
+    ///
+    /// [`Stopped`], and nothing was answered.
+    pub fn tell<H: Handler>(&mut self, handler: &mut H) -> Result<(), Stopped>
+        ensures ok { OnOk result (Telling H.tells handler.old handler.new self.old.came.items self.new.came.items
+            (unsent_of self.old.unsent) (unsent_of self.new.unsent)) }
+        ensures err { OnErr result ((self.new ≡ self.old) × (handler.new ≡ handler.old)) }
+    {
+        if self.unsent.len() > 0 {
+            return Ok(());
+        }
+        match line_end(self.came.as_slice()) {
+            None => Ok(()),
+            Some(end) => self.tell_to(handler, end),
+        }
+    }
+
+    /// Answers the first line, which ends here.
+    fn tell_to<H: Handler>(&mut self, handler: &mut H, end: usize) -> Result<(), Stopped>
+        requires { end ≤ length self.old.came.items }
+        ensures ok { OnOk result (H.tells handler.old (take end self.old.came.items) (unsent_of self.new.unsent) handler.new
+            × (self.new.came.items ≡ drop end self.old.came.items)) }
+        ensures err { OnErr result ((self.new ≡ self.old) × (handler.new ≡ handler.old)) }
+    {
+        let text = handler.tell(&self.came[..end])?;
+        self.unsent = Unsent::new(text);
+        drop_front(&mut self.came, end);
+        Ok(())
+    }
+}
+
+/// Drops so many bytes from the front.
+fn drop_front(bytes: &mut Vec<u8>, count: usize)
+    requires { count ≤ length bytes.old.items }
+    ensures { bytes.new.items ≡ drop count bytes.old.items }
+{
+    let left = bytes.len() - count;
+    bytes.rotate_left(count);
+    bytes.truncate(left);
+}

@@ -1,0 +1,87 @@
+//! A text on its way to a peer.
+
+ghost use Rattle.std.specs.Prelude.{◌≤◌, length};
+
+use std::io::{ErrorKind, Write};
+
+/// The most bytes that one write is handed.
+const LONGEST_PIECE: usize = 65_536;
+
+/// The most writes to one connection in a turn.
+const MOST_WRITES: usize = 4;
+
+/// Where a sending came to rest.
+#[derive(Clone, Copy, Debug, PartialEq, Eq)]
+pub enum Sent {
+    /// All of the text was taken.
+    All,
+    /// The peer takes no more yet.
+    Waits,
+    /// The peer may take more.
+    More,
+    /// The writer fails, or takes nothing more.
+    Broken,
+}
+
+/// A text of which a front was sent.
+#[derive(Drop)]
+pub struct Unsent {
+    pub(crate) text: Vec<u8>,
+    pub(crate) sent: usize,
+    ghost within: { sent ≤ length text.items },
+}
+
+impl Unsent {
+    ghost use Rattle.std.specs.Prelude.{◌≡◌};
+    ghost use Rattle.reg_hub.specs.Held.{SendsOn};
+    ghost use Rattle.reg_hub.specs.Unsent.{unsent_of};
+
+    /// The whole of a text.
+    pub fn new(text: Vec<u8>) -> Unsent
+        ensures { unsent_of result ≡ text.items }
+    {
+        Unsent { text, sent: 0 }
+    }
+
+    /// How many bytes are left.
+    pub fn len(&self) -> usize
+        ensures { result ≡ length (unsent_of self.now) }
+    {
+        self.text.len() - self.sent
+    }
+
+    /// Sends what is left, as far as the writer takes it, or for so many writes.
+    pub fn send_on<W: Write>(&mut self, writer: &mut W) -> Sent
+        ensures { SendsOn (W.contents writer.old) (W.contents writer.new) (unsent_of self.old) (unsent_of self.new) result }
+    {
+        for _ in 0..MOST_WRITES {
+            match self.send_once(writer) {
+                Sent::More => {}
+                sent => return sent,
+            }
+        }
+        Sent::More
+    }
+
+    /// Sends the next piece.
+    fn send_once<W: Write>(&mut self, writer: &mut W) -> Sent
+        ensures { SendsOn (W.contents writer.old) (W.contents writer.new) (unsent_of self.old) (unsent_of self.new) result }
+    {
+        let end = self.text.len().min(self.sent.saturating_add(LONGEST_PIECE));
+        if end == self.sent {
+            return Sent::All;
+        }
+        match writer.write(&self.text[self.sent..end]) {
+            Ok(0) => Sent::Broken,
+            Ok(count) => {
+                self.sent += count;
+                Sent::More
+            }
+            Err(error) => match error.kind() {
+                ErrorKind::WouldBlock => Sent::Waits,
+                ErrorKind::Interrupted => Sent::More,
+                _ => Sent::Broken,
+            },
+        }
+    }
+}

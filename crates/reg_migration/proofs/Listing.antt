@@ -1,0 +1,56 @@
+-- What CRLs list of a revocation, put in.
+use Rattle.std.proofs.Common.{◌≡◌, ℕ, Option, None, Some, [], ◌∷◌, ◌++◌, map, IsTrue, refl, ap, ◌∙◌}
+use Rattle.sqlite_value.specs.declared.value.Value.TheVariants.{Null}
+use Rattle.sqlite_trees.specs.Tree.{put_row}
+use Rattle.sqlite_sql.specs.Term.{lit, col, eval_all}
+use Rattle.sqlite_schema.specs.declared.schema.Kind.TheVariants.{Integer}
+use Rattle.sqlite_rules.specs.declared.error.Rowids.TheVariants.{Chosen}
+use Rattle.sqlite_rules.specs.Edit.{with_rowid}
+use Rattle.sqlite_rules.specs.Cast.{cast, cast_row}
+use Rattle.sqlite_tied.specs.Compute.{everything}
+use Rattle.sqlite.specs.Listing.{understood}
+use Rattle.sqlite.specs.State.{State}
+use Rattle.reg_core.specs.Records.{Records}
+use Rattle.reg_core.specs.Serial.{IsSerial}
+use Rattle.reg_tables.specs.Schema.{register_schema, listed}
+use Rattle.reg_tables.specs.Rows.{number, serial_value, counted_rows}
+use Rattle.reg_tables.specs.Columns.{Columns, Listed, stored_listed, number_or_null}
+use Rattle.reg_tables.specs.Shows.{AreBoth}
+use Rattle.reg_tables.specs.Stays.{Moves}
+use Rattle.reg_changes.specs.Ran.{Ran}
+use Rattle.reg_changes.proofs.Edits.{cast_int, cast_null}
+use Rattle.reg_changes.proofs.Meaning.{inserts, IsWriting}
+use Rattle.reg_changes.proofs.Placing.{counted_put, mapped_push}
+use Rattle.reg_changes.proofs.Putting.{pushed}
+use Rattle.reg_changes.proofs.Registers.{puts_row, puts_spares}
+use Rattle.reg_changes.proofs.Spared.{rows_spared, listings_are}
+use Rattle.reg_migration.specs.Refilled.{with_listed}
+use Rattle.reg_migration.specs.declared.texts.TheConstants.{PUT_LISTING}
+use Rattle.reg_migration.proofs.Defining.{moves_to}
+
+put_listing_means : IsWriting PUT_LISTING.now (inserts 9 (lit Null ∷ col 0 0 ∷ col 0 1 ∷ col 0 2 ∷ col 0 3 ∷ col 0 4 ∷ col 0 5 ∷ []) 7)
+unfolding understood everything register_schema
+put_listing_means = record { plain = (refl, refl); is = refl }
+
+cast_last : (last : Option ℕ) → cast Integer (number_or_null last) ≡ number_or_null last
+cast_last None = cast_null
+cast_last (Some n) = cast_int _
+
+pub puts_listing : (old new : State) (records : Records) (columns : Columns) (row : Listed) (count : ℕ)
+    → Ran PUT_LISTING.now (serial_value row.serial ∷ number row.at ∷ number row.reason ∷ number row.first ∷ number row.not_after ∷ number_or_null row.last ∷ []) old new count → IsSerial row.serial
+    → (IsTrue old.is_open → AreBoth old.now records columns) → Moves old new (λ db. AreBoth db records (with_listed row columns))
+unfolding register_schema
+puts_listing old new records columns row count ran its before =
+    let params = serial_value row.serial ∷ number row.at ∷ number row.reason ∷ number row.first ∷ number row.not_after ∷ number_or_null row.last ∷ [] in
+    let terms = lit Null ∷ col 0 0 ∷ col 0 1 ∷ col 0 2 ∷ col 0 3 ∷ col 0 4 ∷ col 0 5 ∷ [] in
+    let both = before ran.was_open in
+    let was = both.kept.listed in
+    let puts = puts_row PUT_LISTING.now params old new count ran both.shown.schema 9 listed refl terms 7 put_listing_means refl refl refl in
+    let rows : new.now.trees 15 ≡ counted_rows (map stored_listed (columns.listed ++ row ∷ [])) =
+    puts.rows ∙ ap (λ row. put_row (with_rowid Chosen (old.now.trees 15) row) (old.now.trees 15)) (let made : cast_row listed (eval_all terms (params ∷ [])) ≡ Null ∷ stored_listed row = simp (cast_int, cast_null, cast_last) in made)
+    ∙ ap (λ rows. put_row (with_rowid Chosen rows (Null ∷ stored_listed row)) rows) was ∙ counted_put (stored_listed row) (map stored_listed columns.listed) ∙ ap counted_rows (mapped_push stored_listed row columns.listed) in
+    let spares = puts_spares listed _ old.now.trees new.now puts in
+    moves_to PUT_LISTING.now params old new count _ ran (record {
+      shown = record { schema = puts.keeps_schema; rows = rows_spared 15 old.now.trees new.now.trees records spares refl refl refl refl refl refl refl refl both.shown.rows };
+      kept = listings_are old.now.trees new.now.trees columns (columns.listed ++ row ∷ []) spares both.kept rows (pushed (λ (row : Listed). IsSerial row.serial) columns.listed row both.kept.listed_serials its);
+    })

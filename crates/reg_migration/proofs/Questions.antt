@@ -1,0 +1,200 @@
+-- What is read inside a transaction, and that nothing changes by it.
+use Rattle.std.proofs.Common.{◌≡◌, ◌⊎◌, ◌+◌, ℕ, true, Option, None, Some, List, [], ◌∷◌, map, codes, Result, Ok, Err, IsTrue, refl, sym, ap, subst, ◌∙◌, inl, inr}
+use Rattle.std.specs.List.{AllByRecursion, filter}
+use Rattle.sqlite_value.specs.Order.{Row}
+use Rattle.sqlite_value.specs.declared.keys.Key.{Key}
+use Rattle.sqlite_trees.proofs.ListLemmas.{map-map}
+use Rattle.sqlite_ast.specs.declared.Select as written_select
+use Rattle.sqlite_ast.specs.declared.Statement.TheVariants as written
+use Rattle.sqlite_syntax.specs.declared.statement.Parsed.{Parsed}
+use Rattle.sqlite_sql.specs.Term.{Term, col}
+use Rattle.sqlite_sql.specs.Query.{Output}
+use Rattle.sqlite_schema.specs.declared.command.Command.{Command}
+use Rattle.sqlite_schema.specs.declared.command.Returning.{Returning}
+use Rattle.sqlite_schema.specs.declared.schema.Schema.{Schema}
+use Rattle.sqlite_resolve.specs.declared.compiled.Compiled.{Compiled}
+use Rattle.sqlite_resolve.specs.declared.error.CompileError.{CompileError}
+use Rattle.sqlite_resolve.specs.Lowering.{Checked, and_then}
+use Rattle.sqlite_resolve.specs.Compile as compile
+use Rattle.sqlite_tied.specs.Compute.{everything}
+use Rattle.std.proofs.lemmas.Bool.{cases_Bool}
+use Rattle.sqlite.specs.Effect.{Database, Reads}
+use Rattle.sqlite.specs.Listing.{understood, reads_listing, listing_schema, if_select, is_select}
+use Rattle.sqlite.specs.State.{State, KeepsCommit, IsUnchanged, IsRolledBack, ShowsRows, Shown, FailsToQuery, IsTooLate}
+use Rattle.sqlite.specs.declared.error.Error.{Error}
+use Rattle.sqlite.proofs.Callers.{reads_as}
+use Rattle.reg_core.specs.Crls.{row_of}
+use Rattle.reg_core.specs.Records.{Records, Crl}
+use Rattle.reg_core.specs.Sound.{NumberedFrom}
+use Rattle.reg_core.specs.declared.rows.RevocationRow.{RevocationRow}
+use Rattle.reg_tables.specs.Schema.{register_schema}
+use Rattle.reg_tables.specs.Rows.{number, behind_rowids, stored_revocation, stored_crl}
+use Rattle.reg_tables.specs.Shows.{IsShownBy}
+use Rattle.reg_tables.specs.Reading.{Answers, IsReading, command_of, shown_revocation, shown_crl}
+use Rattle.reg_tables.specs.declared.statements.TheConstants.{CERT_BY_SERIAL}
+use Rattle.reg_tables.proofs.Queries.{selects, as_command, no_limit, Given, keyed_given, all_of}
+use Rattle.reg_tables.proofs.Sorting.{ascending_key, ascends, sorted_same}
+use Rattle.reg_tables.proofs.Greatest.{numbered_rises}
+use Rattle.reg_tables.proofs.Staying.{shown_open, fails_remains}
+use Rattle.reg_migration.specs.Makes.{NeverReturns}
+use Rattle.reg_migration.specs.declared.texts.TheConstants.{REVOCATIONS, CRLS}
+
+-- ---- a text that is a SELECT returns nothing of a write, whatever the tables are
+
+planned_by : (p : Parsed) (k : Checked Command) (c : Compiled) → and_then (and_then (and_then k (λ c. Ok (c, None))) (λ found. Ok ([], found))) (λ plan. Ok (compile.with_command p plan)) ≡ Ok c → c.returning ≡ None
+planned_by p (Ok k) c made = let same : compile.with_command p ([], (k, None)) ≡ c = cc in ap (λ (x : Compiled). x.returning) (sym same)
+planned_by p (Err e) c made = absurd (cc)
+
+select_planned : (schema : Schema) (p : Parsed) (s : written_select.Select) (c : Compiled) → p.statement ≡ written.Select s → p.formats ≡ [] → and_then (compile.planned schema p) (λ plan. Ok (compile.with_command p plan)) ≡ Ok c → c.returning ≡ None
+unfolding compile.planned compile.meaning compile.returning compile.timed
+select_planned schema p s c is none made = planned_by p _ c (rw (is, none) at made)
+
+selected : (r : Result Compiled CompileError) (c : Compiled) → if_select r ≡ Ok c → r ≡ Ok c
+selected (Ok k) c is = elim (cases_Bool (is_select k.command)) [
+  | inl selects ↦ rw selects at is
+  | inr no_select ↦ absurd (let e = rw no_select at is in cc)
+]
+selected (Err e) c is = absurd (cc)
+
+pub never_returns : (text : List ℕ) (p : Parsed) (s : written_select.Select) → compile.first text ≡ Ok p → p.statement ≡ written.Select s → p.formats ≡ [] → NeverReturns text
+unfolding understood compile.compiled
+never_returns text p s first is none schema c known =
+    let by : (sch : Schema) → compile.compiled sch text ≡ Ok c → c.returning ≡ None = λ sch made. select_planned sch p s c is none (rw first at made) in
+    elim (cases_Bool (reads_listing schema text)) [
+      | inl listing ↦ by listing_schema (selected (compile.compiled listing_schema text) c (rw listing at known))
+      | inr direct ↦ by schema (rw direct at known)
+    ]
+
+pub revocations_never : NeverReturns REVOCATIONS.now
+unfolding compile.first everything
+revocations_never = never_returns REVOCATIONS.now _ _ refl refl refl
+
+pub crls_never : NeverReturns CRLS.now
+unfolding compile.first everything
+crls_never = never_returns CRLS.now _ _ refl refl refl
+
+pub cert_never : NeverReturns CERT_BY_SERIAL.now
+unfolding compile.first everything
+cert_never = never_returns CERT_BY_SERIAL.now _ _ refl refl refl
+
+-- ---- so nothing changes by it
+
+unchanged_by : (old new : State) (sql : List ℕ) (c : Compiled) (params : Row) (rows : List Row) (returning : Option Returning) → returning ≡ None → ShowsRows old new sql c params rows returning → IsUnchanged old new
+unchanged_by old new sql c params rows None none h = h.3
+unchanged_by old new sql c params rows (Some what) none h = absurd (cc)
+
+pub asked_same : (old new : State) (sql : List ℕ) (params : Row) (rows : List Row) → NeverReturns sql → Shown sql params old new rows → IsUnchanged old new
+unfolding Shown
+asked_same old new sql params rows never h = unchanged_by old new sql h.0 _ rows _ (never old.now.schema h.0 h.1.is) h.2
+
+pub unchanged_keeps : (old new : State) → IsUnchanged old new → KeepsCommit old new
+unchanged_keeps old new same = record { was_open = λ up. same.0.was_open; committed = λ up. same.0.committed_is }
+
+pub failed_keeps : (old new : State) (sql : List ℕ) (params : Row) (e : Error) → NeverReturns sql → FailsToQuery sql params old new e ⊎ IsTooLate sql params old new e → KeepsCommit old new
+failed_keeps old new sql params e never (inl h) = keeps (fails_remains old new sql params e h)
+  where
+    keeps : IsUnchanged old new ⊎ IsRolledBack old new → KeepsCommit old new
+    keeps (inl same) = unchanged_keeps old new same
+    keeps (inr back) = record { was_open = back.was_open; committed = λ up. (back.undone up).1 }
+failed_keeps old new sql params e never (inr h) = absurd (let none = never old.now.schema h.0 h.1.is in let some = rw none at h.2 in cc)
+
+pub asked_answers : (old new : State) (sql : List ℕ) (params : Row) (rows : List Row) → IsReading sql → (IsTrue old.is_open → old.now.schema ≡ register_schema) → Shown sql params old new rows → Answers old sql params rows
+asked_answers old new sql params rows reading register shown =
+    let up = shown_open old new sql params rows shown in
+    record { is_open = up; reads = reads_as sql params old new register_schema (register up) (command_of (understood register_schema sql)) refl reading.plain reading.unlisted rows shown }
+
+-- ---- revocations, in the order of entry
+
+abbrev with_rowids : ℕ → List RevocationRow → List (ℕ × RevocationRow)
+with_rowids from [] = []
+with_rowids from (row ∷ rest) = (from, row) ∷ with_rowids (from + 1) rest
+
+abbrev stored_numbered : ℕ × RevocationRow → Row
+stored_numbered row = number row.0 ∷ stored_revocation row.1
+
+rowids_are : (from : ℕ) (rows : List RevocationRow) → behind_rowids from (map stored_revocation rows) ≡ map stored_numbered (with_rowids from rows)
+rowids_are from [] = refl
+rowids_are from (row ∷ rest) = ap (λ (l : List Row). stored_numbered (from, row) ∷ l) (rowids_are (from + 1) rest)
+
+rowids_numbered : (from : ℕ) (rows : List RevocationRow) → NumberedFrom (λ (row : ℕ × RevocationRow). row.0) from (with_rowids from rows)
+rowids_numbered from [] = tt
+rowids_numbered from (row ∷ rest) = (refl, rowids_numbered (from + 1) rest)
+
+abbrev shown_numbered : ℕ × RevocationRow → Row
+shown_numbered row = shown_revocation row.1
+
+rowids_shown : (from : ℕ) (rows : List RevocationRow) → map shown_numbered (with_rowids from rows) ≡ map shown_revocation rows
+rowids_shown from [] = refl
+rowids_shown from (row ∷ rest) = ap (λ (l : List Row). shown_revocation row ∷ l) (rowids_shown (from + 1) rest)
+
+all_kept : {A : Type 0} (xs : List A) → filter (λ _. true) xs ≡ xs
+all_kept [] = refl
+all_kept (x ∷ xs) = ap (λ l. x ∷ l) (all_kept xs)
+
+abbrev by_first : List (Term × Key)
+by_first = (col 1 0, ascending_key) ∷ []
+
+abbrev revocation_columns : List Term
+revocation_columns = col 1 1 ∷ col 1 2 ∷ col 1 3 ∷ col 1 4 ∷ col 1 5 ∷ []
+
+abbrev revocation_names : List (List ℕ)
+revocation_names = codes "serial" ∷ codes "at" ∷ codes "reason" ∷ codes "request" ∷ codes "first_crl" ∷ []
+
+revocations_mean : command_of (understood register_schema REVOCATIONS.now) ≡ as_command (selects 8 [] revocation_columns by_first no_limit) revocation_names
+unfolding understood everything register_schema
+revocations_mean = refl
+
+pub reading_revocations : IsReading REVOCATIONS.now
+unfolding understood everything register_schema
+reading_revocations = record { plain = (refl, refl); unlisted = refl }
+
+abbrev rowid_of : ℕ × RevocationRow → ℕ
+rowid_of row = row.0
+
+abbrev numbered_out : ℕ × RevocationRow → Output
+numbered_out row = (number row.0 ∷ [], shown_revocation row.1)
+
+module _ (db : Database) (records : Records) (shown : IsShownBy db records) (rows : List Row) (reads : Reads (command_of (understood register_schema REVOCATIONS.now)) db [] rows) where
+  abbrev numbered : List (ℕ × RevocationRow)
+  numbered = with_rowids 1 records.revocations
+
+  revocations_given : Given (λ _. true) numbered_out numbered (selects 8 [] revocation_columns by_first no_limit) [] rows
+  revocations_given =
+      keyed_given (λ _. Unit {0}) stored_numbered (λ _. true) numbered_out numbered (all_of (λ _. Unit {0}) (λ _. tt) numbered) 8 [] revocation_columns by_first no_limit [] REVOCATIONS.now revocation_names revocations_mean db refl rows reads
+      (shown.rows.revocations ∙ rowids_are 1 records.revocations) (λ row any. refl) (λ row. refl)
+
+  pub revocations_are : rows ≡ map shown_revocation records.revocations
+  revocations_are =
+      let rises = numbered_rises rowid_of 1 numbered (rowids_numbered 1 records.revocations) in
+      let same = subst (λ l. Rattle.std.specs.List.Sorted.IsPermutation l revocations_given.to) (all_kept numbered) revocations_given.same in
+      let to : revocations_given.to ≡ numbered = sorted_same rowid_of numbered revocations_given.to rises same (ascends rowid_of revocations_given.to revocations_given.sorted) in
+      revocations_given.shown ∙ ap (map shown_numbered) to ∙ rowids_shown 1 records.revocations
+
+-- ---- CRLs, in the order of their numbers
+
+crls_mean : command_of (understood register_schema CRLS.now) ≡ as_command (selects 11 [] (col 1 0 ∷ col 1 2 ∷ []) by_first no_limit) (codes "number" ∷ codes "this_update" ∷ [])
+unfolding understood everything register_schema
+crls_mean = refl
+
+pub reading_crls : IsReading CRLS.now
+unfolding understood everything register_schema
+reading_crls = record { plain = (refl, refl); unlisted = refl }
+
+abbrev number_of_crl : Crl → ℕ
+number_of_crl crl = crl.number
+
+abbrev crl_out : Crl → Output
+crl_out crl = (number crl.number ∷ [], shown_crl (row_of crl))
+
+module _ (db : Database) (records : Records) (shown : IsShownBy db records) (rows : List Row) (reads : Reads (command_of (understood register_schema CRLS.now)) db [] rows) where
+  crls_given : Given (λ _. true) crl_out records.crls (selects 11 [] (col 1 0 ∷ col 1 2 ∷ []) by_first no_limit) [] rows
+  crls_given =
+      keyed_given (λ _. Unit {0}) stored_crl (λ _. true) crl_out records.crls (all_of (λ _. Unit {0}) (λ _. tt) records.crls) 11 [] (col 1 0 ∷ col 1 2 ∷ []) by_first no_limit [] CRLS.now (codes "number" ∷ codes "this_update" ∷ []) crls_mean db refl rows reads
+      shown.rows.crls (λ crl any. refl) (λ crl. refl)
+
+  pub crls_are : rows ≡ map shown_crl (map row_of records.crls)
+  crls_are =
+      let rises = numbered_rises number_of_crl 1 records.crls shown.rows.crls_numbered in
+      let same = subst (λ l. Rattle.std.specs.List.Sorted.IsPermutation l crls_given.to) (all_kept records.crls) crls_given.same in
+      let to : crls_given.to ≡ records.crls = sorted_same number_of_crl records.crls crls_given.to rises same (ascends number_of_crl crls_given.to crls_given.sorted) in
+      crls_given.shown ∙ ap (map (λ crl. shown_crl (row_of crl))) to ∙ sym (map-map shown_crl row_of records.crls)

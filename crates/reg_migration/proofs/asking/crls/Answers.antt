@@ -1,0 +1,22 @@
+use Rattle.std.proofs.Common.{map}
+use Rattle.sqlite.specs.Held.{state}
+use Rattle.reg_core.specs.Crls.{row_of}
+use Rattle.reg_migration.proofs.Steps.{if_ok}
+use Rattle.reg_migration.proofs.Questions.{crls_never, reading_crls, crls_are}
+use Rattle.reg_migration.proofs.asking.crls.Goals as goal
+
+pub returns-in_err-found-clause-kept : goal.returns-in_err-found-clause-kept
+returns-in_err-found-clause-kept g c clean = c.ask.ensures.kept clean crls_never
+
+pub returns-clause-kept : goal.returns-clause-kept
+returns-clause-kept g c clean = c.ask.ensures.kept clean crls_never
+
+pub returns-clause-same : goal.returns-clause-same
+returns-clause-same g c clean = if_ok _ c.crls_in.result (c.in_ok-found.ensures.same clean crls_never)
+
+pub returns-clause-found : goal.returns-clause-found
+returns-clause-found g c clean records before =
+    let s0 = state g.S.Store c.args.tx.now.conn.now in
+    let answer = c.in_ok-found.ensures.rows clean reading_crls (λ up. (before up).schema) in
+    let shown = before answer.is_open in
+    c.crls_in.ensures.read (map row_of records.crls) (crls_are s0.now records shown c.in_ok-found.found.items answer.reads)

@@ -1,0 +1,30 @@
+use Rattle.std.proofs.Common.{◌≡◌, sym, ◌∙◌}
+use Rattle.sqlite.specs.Held.{state}
+use Rattle.reg_core.specs.Records.{certificate_in}
+use Rattle.reg_core.specs.declared.rows.CertRow.{CertRow}
+use Rattle.reg_laws.proofs.Lists.{some_and_here}
+use Rattle.reg_tables.proofs.Staying.{ok_then}
+use Rattle.reg_tables.proofs.CertificateLemmas.{reading_by_serial, by_serial_one}
+use Rattle.reg_migration.proofs.Steps.{if_ok}
+use Rattle.reg_migration.proofs.Questions.{cert_never}
+use Rattle.reg_migration.proofs.asking.end_of.Goals as goal
+
+pub returns-in_err-found-clause-kept : goal.returns-in_err-found-clause-kept
+returns-in_err-found-clause-kept g c clean = c.ask.ensures.kept clean cert_never
+
+pub returns-clause-kept : goal.returns-clause-kept
+returns-clause-kept g c clean = c.ask.ensures.kept clean cert_never
+
+pub returns-clause-same : goal.returns-clause-same
+returns-clause-same g c clean = if_ok _ c.end_in.result (c.in_ok-found.ensures.same clean cert_never)
+
+pub returns-clause-found : goal.returns-clause-found
+returns-clause-found g c clean records before =
+    let s0 = state g.S.Store c.args.tx.now.conn.now in
+    let serial = c.args.serial in
+    let answer = c.in_ok-found.ensures.rows clean reading_by_serial (λ up. (before up).schema) in
+    let shown = before answer.is_open in
+    let reads = rw (c.params-to_sql.ensures, c.as_slice.ensures, c.bytes20.ensures.bytes) at answer.reads in
+    ok_then c.end_in.result c.end_in.ensures.read (λ end read.
+    let one = by_serial_one s0.now records shown serial c.bytes20.ensures.in_range c.in_ok-found.found.items reads read.0 (sym c.deref.ensures.value ∙ read.1) in
+    some_and_here (λ (certificate : CertRow). certificate.not_after ≡ end) (certificate_in records.certificates serial) one.it (sym one.first) (sym (read.2 one.it one.holds one.shown)))

@@ -1,0 +1,20 @@
+use Rattle.sqlite.specs.Held.{state}
+use Rattle.reg_migration.proofs.Steps.{if_ok}
+use Rattle.reg_migration.proofs.Questions.{revocations_never, reading_revocations, revocations_are}
+use Rattle.reg_migration.proofs.asking.revocations.Goals as goal
+
+pub returns-in_err-found-clause-kept : goal.returns-in_err-found-clause-kept
+returns-in_err-found-clause-kept g c clean = c.ask.ensures.kept clean revocations_never
+
+pub returns-clause-kept : goal.returns-clause-kept
+returns-clause-kept g c clean = c.ask.ensures.kept clean revocations_never
+
+pub returns-clause-same : goal.returns-clause-same
+returns-clause-same g c clean = if_ok _ c.revocations_in.result (c.in_ok-found.ensures.same clean revocations_never)
+
+pub returns-clause-found : goal.returns-clause-found
+returns-clause-found g c clean records before =
+    let s0 = state g.S.Store c.args.tx.now.conn.now in
+    let answer = c.in_ok-found.ensures.rows clean reading_revocations (λ up. (before up).schema) in
+    let shown = before answer.is_open in
+    c.revocations_in.ensures.read records.revocations shown.rows.revocation_serials (revocations_are s0.now records shown c.in_ok-found.found.items answer.reads)

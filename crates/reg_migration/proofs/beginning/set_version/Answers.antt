@@ -1,0 +1,7 @@
+use Rattle.sqlite.specs.Held.{state}
+use Rattle.reg_migration.proofs.FirstRows.{sets_version}
+use Rattle.reg_migration.proofs.beginning.set_version.Goals as goal
+
+pub returns-clause-ok : goal.returns-clause-ok
+returns-clause-ok g c clean rows version days issuer policy last first before =
+    sets_version rows version days issuer policy last (state g.S.Store c.args.tx.now.conn.now) (state g.S.Store c.write.new.tx.conn.now) c.in_ok-write.field-0 (c.in_ok-write.ensures.ran clean) first before

@@ -1,0 +1,4 @@
+pub mod Rows
+pub mod Older
+pub mod Makes
+pub mod Refilled

@@ -1,0 +1,14 @@
+//! A register's file of an older version, made one of the program's version.
+#![tactic(auto)]
+
+mod asking;
+mod beginning;
+pub mod making;
+mod migrating;
+mod refilling;
+mod relisting;
+pub mod texts;
+mod version;
+
+pub use migrating::migrate;
+pub use version::Earlier;

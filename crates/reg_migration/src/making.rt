@@ -1,0 +1,120 @@
+//! The tables and indexes that an older version lacks.
+
+ghost use Rattle.std.specs.Prelude.{◌≡◌, ◌≤◌, ℕ, [], IsTrue, OnOk, IfErr};
+ghost use Rattle.sqlite.specs.Held.{state};
+ghost use Rattle.sqlite.specs.State.{HasCleanDisk, KeepsCommit};
+ghost use Rattle.sqlite_trees.specs.Tree.{Trees};
+ghost use Rattle.sqlite_trees.specs.View.{doubt};
+ghost use Rattle.sqlite_schema.specs.declared.schema.Schema.{Schema};
+ghost use Rattle.sqlite_schema.specs.declared.schema.Table.{Table};
+ghost use Rattle.sqlite_schema.specs.declared.schema.Index.{Index};
+ghost use Rattle.sqlite_catalog.specs.Change.{next_tree, created, indexed};
+ghost use Rattle.reg_tables.specs.Schema.{record_tables, register_schema};
+ghost use Rattle.reg_tables.specs.Stays.{IsCallFault, Moves};
+ghost use Rattle.reg_migration.specs.Makes.{DefinesTable, DefinesIndex};
+ghost use Rattle.reg_migration.specs.Older.{kept_tables, older_schema, HasBeside};
+ghost use Rattle.reg_migration.specs.Rows.{HasRows, HadRows, records_alone};
+
+use crate::texts;
+use crate::version::Earlier;
+use reg_changes::writing::write;
+use reg_tables::{StoreFault, schema};
+use sqlite::{Alter, Transaction};
+
+/// Makes one table or index.
+///
+/// # Errors
+/// `Memory`; `Store` where the database fails, or has the name already.
+pub fn define<S: Alter>(tx: &mut Transaction<'_, S>, sql: &str) -> Result<(), StoreFault>
+    ensures same_reference { tx.new.conn.ghost_name ≡ tx.old.conn.ghost_name }
+    ensures table { HasCleanDisk (state S.Store tx.new.conn.now) → (schema : Schema) → (table : Table) → (rows : Trees) → DefinesTable schema sql.now table → rows (next_tree schema) ≡ [] → HadRows (state S.Store tx.old.conn.now) schema rows
+        → OnOk result (Moves (state S.Store tx.old.conn.now) (state S.Store tx.new.conn.now) (HasRows (created schema table) rows)) }
+    ensures index { HasCleanDisk (state S.Store tx.new.conn.now) → (schema : Schema) → (at : ℕ) → (table : Table) → (index : Index) → (rows : Trees) → DefinesIndex schema sql.now at table index → HadRows (state S.Store tx.old.conn.now) schema rows
+        → OnOk result (Moves (state S.Store tx.old.conn.now) (state S.Store tx.new.conn.now) (HasRows (indexed schema table index) rows)) }
+    ensures kept { HasCleanDisk (state S.Store tx.new.conn.now) → KeepsCommit (state S.Store tx.old.conn.now) (state S.Store tx.new.conn.now) }
+    ensures clean { doubt (state S.Store tx.old.conn.now).is_clean ≤ doubt (state S.Store tx.new.conn.now).is_clean }
+    ensures faults { IfErr result IsCallFault }
+{
+    write(tx, sql, &[])?;
+    Ok(())
+}
+
+/// Makes the tables that are kept beside those of the records.
+///
+/// # Errors
+/// `Memory`; `Store` where the database fails, or has one of their names already.
+pub fn make_kept_tables<S: Alter>(tx: &mut Transaction<'_, S>) -> Result<(), StoreFault>
+    ensures same_reference { tx.new.conn.ghost_name ≡ tx.old.conn.ghost_name }
+    ensures ok { HasCleanDisk (state S.Store tx.new.conn.now) → (rows : Trees) → HadRows (state S.Store tx.old.conn.now) record_tables rows
+        → OnOk result (Moves (state S.Store tx.old.conn.now) (state S.Store tx.new.conn.now) (HasRows kept_tables (records_alone rows))) }
+    ensures kept { HasCleanDisk (state S.Store tx.new.conn.now) → KeepsCommit (state S.Store tx.old.conn.now) (state S.Store tx.new.conn.now) }
+    ensures clean { doubt (state S.Store tx.old.conn.now).is_clean ≤ doubt (state S.Store tx.new.conn.now).is_clean }
+    ensures faults { IfErr result IsCallFault }
+{
+    define(tx, schema::STANDING)?;
+    define(tx, schema::KEPT)?;
+    define(tx, schema::LISTED)
+}
+
+/// Takes out what is kept beside the records.
+fn clear_kept_tables<S: Alter>(tx: &mut Transaction<'_, S>) -> Result<(), StoreFault>
+    ensures same_reference { tx.new.conn.ghost_name ≡ tx.old.conn.ghost_name }
+    ensures ok { HasCleanDisk (state S.Store tx.new.conn.now) → (rows : Trees) → (IsTrue (state S.Store tx.old.conn.now).is_open → HasBeside Earlier.Second rows) → HadRows (state S.Store tx.old.conn.now) kept_tables rows
+        → OnOk result (Moves (state S.Store tx.old.conn.now) (state S.Store tx.new.conn.now) (HasRows kept_tables (records_alone rows))) }
+    ensures kept { HasCleanDisk (state S.Store tx.new.conn.now) → KeepsCommit (state S.Store tx.old.conn.now) (state S.Store tx.new.conn.now) }
+    ensures clean { doubt (state S.Store tx.old.conn.now).is_clean ≤ doubt (state S.Store tx.new.conn.now).is_clean }
+    ensures faults { IfErr result IsCallFault }
+{
+    write(tx, texts::CLEAR_LISTED, &[])?;
+    write(tx, texts::CLEAR_STANDING, &[])?;
+    write(tx, texts::CLEAR_KEPT, &[])?;
+    Ok(())
+}
+
+/// Makes the tables beside those of the records, or takes their rows out.
+fn make_beside<S: Alter>(tx: &mut Transaction<'_, S>, version: Earlier) -> Result<(), StoreFault>
+    ensures same_reference { tx.new.conn.ghost_name ≡ tx.old.conn.ghost_name }
+    ensures ok { HasCleanDisk (state S.Store tx.new.conn.now) → (rows : Trees) → (IsTrue (state S.Store tx.old.conn.now).is_open → HasBeside version rows) → HadRows (state S.Store tx.old.conn.now) (older_schema version) rows
+        → OnOk result (Moves (state S.Store tx.old.conn.now) (state S.Store tx.new.conn.now) (HasRows kept_tables (records_alone rows))) }
+    ensures kept { HasCleanDisk (state S.Store tx.new.conn.now) → KeepsCommit (state S.Store tx.old.conn.now) (state S.Store tx.new.conn.now) }
+    ensures clean { doubt (state S.Store tx.old.conn.now).is_clean ≤ doubt (state S.Store tx.new.conn.now).is_clean }
+    ensures faults { IfErr result IsCallFault }
+{
+    match version {
+        Earlier::First => make_kept_tables(tx),
+        Earlier::Second => clear_kept_tables(tx),
+    }
+}
+
+/// Makes the table of the schedule, and the indexes.
+///
+/// # Errors
+/// `Memory`; `Store` where the database fails, or has one of their names already.
+pub fn make_schedule_and_indexes<S: Alter>(tx: &mut Transaction<'_, S>) -> Result<(), StoreFault>
+    ensures same_reference { tx.new.conn.ghost_name ≡ tx.old.conn.ghost_name }
+    ensures ok { HasCleanDisk (state S.Store tx.new.conn.now) → (rows : Trees) → HadRows (state S.Store tx.old.conn.now) kept_tables (records_alone rows)
+        → OnOk result (Moves (state S.Store tx.old.conn.now) (state S.Store tx.new.conn.now) (HasRows register_schema (records_alone rows))) }
+    ensures kept { HasCleanDisk (state S.Store tx.new.conn.now) → KeepsCommit (state S.Store tx.old.conn.now) (state S.Store tx.new.conn.now) }
+    ensures clean { doubt (state S.Store tx.old.conn.now).is_clean ≤ doubt (state S.Store tx.new.conn.now).is_clean }
+    ensures faults { IfErr result IsCallFault }
+{
+    define(tx, schema::LONGEST)?;
+    define(tx, schema::CRL_AT)?;
+    define(tx, schema::STANDING_DUE)
+}
+
+/// Makes all tables and indexes that the version lacks; what is kept beside the records is empty then.
+pub(crate) fn make_missing<S: Alter>(
+    tx: &mut Transaction<'_, S>,
+    version: Earlier,
+) -> Result<(), StoreFault>
+    ensures same_reference { tx.new.conn.ghost_name ≡ tx.old.conn.ghost_name }
+    ensures ok { HasCleanDisk (state S.Store tx.new.conn.now) → (rows : Trees) → (IsTrue (state S.Store tx.old.conn.now).is_open → HasBeside version rows) → HadRows (state S.Store tx.old.conn.now) (older_schema version) rows
+        → OnOk result (Moves (state S.Store tx.old.conn.now) (state S.Store tx.new.conn.now) (HasRows register_schema (records_alone rows))) }
+    ensures kept { HasCleanDisk (state S.Store tx.new.conn.now) → KeepsCommit (state S.Store tx.old.conn.now) (state S.Store tx.new.conn.now) }
+    ensures clean { doubt (state S.Store tx.old.conn.now).is_clean ≤ doubt (state S.Store tx.new.conn.now).is_clean }
+    ensures faults { IfErr result IsCallFault }
+{
+    make_beside(tx, version)?;
+    make_schedule_and_indexes(tx)
+}

@@ -1,0 +1,67 @@
+//! A register of an older version, made one of the program's version.
+
+ghost use Rattle.std.specs.Prelude.{◌≡◌, ◌≤◌, true, false, IsTrue, OnOk, OnErr, IfErr};
+ghost use Rattle.sqlite.specs.Held.{state};
+ghost use Rattle.sqlite.specs.State.{HasCleanDisk, KeepsCommit};
+ghost use Rattle.sqlite_trees.specs.View.{doubt};
+ghost use Rattle.reg_core.specs.Records.{Records};
+ghost use Rattle.reg_core.specs.Schedule.{one_step};
+ghost use Rattle.reg_core.specs.Sound.{SoundRows};
+ghost use Rattle.reg_tables.specs.Kept.{ShowsKept};
+ghost use Rattle.reg_tables.specs.Stays.{IsCallFault, Stays};
+ghost use Rattle.reg_migration.specs.Older.{IsShownByOlder, ShowsOlder};
+ghost use Rattle.reg_migration.specs.Refilled.{HasKept};
+
+use crate::beginning::begin;
+use crate::refilling::refill;
+use crate::version::Earlier;
+use reg_core::Moment;
+use reg_tables::StoreFault;
+use sqlite::{Alter, Connection, Transaction};
+
+/// Makes the tables ones of the program's version, inside a transaction.
+fn make_newer<S: Alter>(
+    tx: &mut Transaction<'_, S>,
+    version: Earlier,
+    days: u64,
+    last: Moment,
+) -> Result<(), StoreFault>
+    ensures same_reference { tx.new.conn.ghost_name ≡ tx.old.conn.ghost_name }
+    ensures ok { HasCleanDisk (state S.Store tx.new.conn.now) → (records : Records) → SoundRows records → records.policy.schedule ≡ one_step days → records.last ≡ last
+        → (IsTrue (state S.Store tx.old.conn.now).is_open → IsShownByOlder version (state S.Store tx.old.conn.now).now records)
+        → OnOk result (IsTrue (state S.Store tx.new.conn.now).is_open → HasKept (state S.Store tx.new.conn.now).now records) }
+    ensures kept { HasCleanDisk (state S.Store tx.new.conn.now) → KeepsCommit (state S.Store tx.old.conn.now) (state S.Store tx.new.conn.now) }
+    ensures inside { HasCleanDisk (state S.Store tx.new.conn.now) → OnOk result (tx.new.conn.now.in_transaction ≡ true) }
+    ensures clean { doubt (state S.Store tx.old.conn.now).is_clean ≤ doubt (state S.Store tx.new.conn.now).is_clean }
+    ensures faults { IfErr result IsCallFault }
+{
+    begin(tx, version, days)?;
+    refill(tx, last)
+}
+
+/// Makes a register of an older version, with one longest validity in days and this last accepted moment, one of the
+/// program's version, in one transaction: the records stay, and what is kept beside them is made anew from them, whatever
+/// stood there. It costs time that grows with the rows.
+///
+/// # Errors
+/// `Memory`; `Store` where the database fails, has a table or an index of a newer version already, or a row is one that
+/// no register writes. The tables are as they were then.
+pub fn migrate<S: Alter>(
+    conn: &mut Connection<S>,
+    version: Earlier,
+    days: u64,
+    last: Moment,
+) -> Result<(), StoreFault>
+    requires { conn.old.in_transaction ≡ false }
+    ensures ok { (records : Records) → ShowsOlder version S.Store conn.old records → SoundRows records → records.policy.schedule ≡ one_step days → records.last ≡ last
+        → OnOk result (ShowsKept S.Store conn.new records) }
+    ensures err { OnErr result (Stays (state S.Store conn.old) (state S.Store conn.new)) }
+    ensures clean { doubt (state S.Store conn.old).is_clean ≤ doubt (state S.Store conn.new).is_clean }
+    ensures idle { conn.new.in_transaction ≡ false }
+    ensures faults { IfErr result IsCallFault }
+{
+    let mut tx = conn.transaction();
+    make_newer(&mut tx, version, days, last)?;
+    tx.commit()?;
+    Ok(())
+}

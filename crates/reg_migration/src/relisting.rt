@@ -1,0 +1,143 @@
+//! What CRLs list of each revocation, made anew.
+
+ghost use Rattle.std.specs.Prelude.{◌≡◌, ◌≤◌, ◌&&◌, nat_le, nat_lt, length, map, IsTrue, IsSomeAnd, OnOk, IfOk, IfErr};
+ghost use Rattle.sqlite_value.specs.Value.{owned};
+ghost use Rattle.sqlite.specs.Values.{bound_value};
+ghost use Rattle.sqlite.specs.Held.{state};
+ghost use Rattle.sqlite.specs.State.{HasCleanDisk, KeepsCommit};
+ghost use Rattle.sqlite_trees.specs.View.{doubt};
+ghost use Rattle.reg_core.specs.Crls.{row_of};
+ghost use Rattle.reg_core.specs.Records.{Records, certificate_in};
+ghost use Rattle.reg_core.specs.Sound.{NumberedFrom, NeverFalls, SoundRows};
+ghost use Rattle.reg_tables.specs.Columns.{Columns, number_or_null};
+ghost use Rattle.reg_tables.specs.Stays.{IsCallFault};
+ghost use Rattle.reg_changes.specs.Ran.{Before, Moved};
+ghost use Rattle.reg_changes.specs.Steps.{good_at};
+ghost use Rattle.reg_migration.specs.Refilled.{last_in, listed_by, with_listed, relisted, HasRelisted};
+
+use crate::asking::{crls, end_of, revocations};
+use crate::texts;
+use reg_changes::steps::mark_revoked;
+use reg_changes::writing::{sql_moment, sql_number, sql_reason, write};
+use reg_core::{CrlRow, Moment, RevocationRow};
+use reg_tables::StoreFault;
+use sqlite::types::ValueRef;
+use sqlite::{Alter, Transaction};
+
+/// Whether a CRL can list from a number on, and its thisUpdate is past a moment.
+fn is_past(crl: &CrlRow, first: u64, not_after: Moment) -> bool
+    ensures { result ≡ (nat_le first crl.now.number && nat_lt not_after crl.now.this_update) }
+{
+    first <= crl.number && not_after < crl.this_update
+}
+
+/// The number of the first CRL from a number on whose thisUpdate is past a moment. The numbers rise and the thisUpdates
+/// do not fall, so that it is found by halves.
+fn last_listing(crls: &[CrlRow], first: u64, not_after: Moment) -> Option<u64>
+    ensures { NumberedFrom (λ crl. crl.number) 1 crls.now → NeverFalls (λ crl. crl.this_update) crls.now → result ≡ last_in crls.now first not_after }
+{
+    let at = crls.partition_point(|crl| !is_past(crl, first, not_after));
+    match crls.get(at) {
+        Some(crl) => Some(crl.number),
+        None => None,
+    }
+}
+
+/// The number as SQL has it, or NULL.
+fn sql_number_or_null(number: Option<u64>) -> Result<ValueRef<'static>, StoreFault>
+    ensures value { IfOk result (λ value. bound_value (owned value) ≡ number_or_null number) }
+    ensures faults { IfErr result IsCallFault }
+{
+    match number {
+        Some(number) => sql_number(number),
+        None => Ok(ValueRef::Null),
+    }
+}
+
+/// Puts in what CRLs list of a revocation, up to the last one that does, where it has been issued.
+fn put_listing<S: Alter>(
+    tx: &mut Transaction<'_, S>,
+    row: RevocationRow,
+    crls: &[CrlRow],
+    not_after: Moment,
+) -> Result<(), StoreFault>
+    ensures same_reference { tx.new.conn.ghost_name ≡ tx.old.conn.ghost_name }
+    ensures ok { HasCleanDisk (state S.Store tx.new.conn.now) → (records : Records) → (columns : Columns) → NumberedFrom (λ crl. crl.number) 1 crls.now → NeverFalls (λ crl. crl.this_update) crls.now
+        → Before (state S.Store tx.old.conn.now) records columns
+        → OnOk result (Moved (state S.Store tx.old.conn.now) (state S.Store tx.new.conn.now) records (with_listed (listed_by crls.now row not_after) columns)) }
+    ensures kept { HasCleanDisk (state S.Store tx.new.conn.now) → KeepsCommit (state S.Store tx.old.conn.now) (state S.Store tx.new.conn.now) }
+    ensures clean { doubt (state S.Store tx.old.conn.now).is_clean ≤ doubt (state S.Store tx.new.conn.now).is_clean }
+    ensures faults { IfErr result IsCallFault }
+{
+    let last = sql_number_or_null(last_listing(crls, row.first, not_after))?;
+    let serial = row.serial.bytes20();
+    let at = sql_moment(row.at);
+    let reason = sql_reason(row.reason);
+    let first = sql_number(row.first)?;
+    let not_after = sql_moment(not_after);
+    write(
+        tx,
+        texts::PUT_LISTING,
+        &[ValueRef::Blob(&serial), at, reason, first, not_after, last],
+    )?;
+    Ok(())
+}
+
+/// Lists a revocation, and turns its certificate's letter. `Store` where there is no such letter, or more than one.
+fn relist_one<S: Alter>(
+    tx: &mut Transaction<'_, S>,
+    revocation: RevocationRow,
+    crls: &[CrlRow],
+) -> Result<(), StoreFault>
+    ensures same_reference { tx.new.conn.ghost_name ≡ tx.old.conn.ghost_name }
+    ensures ok { HasCleanDisk (state S.Store tx.new.conn.now) → (records : Records) → (columns : Columns) → NumberedFrom (λ crl. crl.number) 1 crls.now → NeverFalls (λ crl. crl.this_update) crls.now
+        → Before (state S.Store tx.old.conn.now) records columns
+        → OnOk result ((good_at revocation.serial columns ≡ 1)
+        × IsSomeAnd (certificate_in records.certificates revocation.serial) (λ certificate. Moved (state S.Store tx.old.conn.now) (state S.Store tx.new.conn.now) records (relisted (listed_by crls.now revocation certificate.not_after) columns))) }
+    ensures kept { HasCleanDisk (state S.Store tx.new.conn.now) → KeepsCommit (state S.Store tx.old.conn.now) (state S.Store tx.new.conn.now) }
+    ensures clean { doubt (state S.Store tx.old.conn.now).is_clean ≤ doubt (state S.Store tx.new.conn.now).is_clean }
+    ensures faults { IfErr result IsCallFault }
+{
+    let not_after = end_of(tx, revocation.serial)?;
+    put_listing(tx, revocation, crls, not_after)?;
+    if mark_revoked(tx, revocation.serial)? == 1 {
+        Ok(())
+    } else {
+        Err(StoreFault::Store)
+    }
+}
+
+/// Lists each revocation, and turns the letter of its certificate.
+fn relist_each<S: Alter>(
+    tx: &mut Transaction<'_, S>,
+    revocations: &[RevocationRow],
+    crls: &[CrlRow],
+) -> Result<(), StoreFault>
+    ensures same_reference { tx.new.conn.ghost_name ≡ tx.old.conn.ghost_name }
+    ensures ok { HasCleanDisk (state S.Store tx.new.conn.now) → (records : Records) → SoundRows records → revocations.now ≡ records.revocations → crls.now ≡ map row_of records.crls
+        → (IsTrue (state S.Store tx.old.conn.now).is_open → HasRelisted (state S.Store tx.old.conn.now).now records 0)
+        → OnOk result (IsTrue (state S.Store tx.new.conn.now).is_open → HasRelisted (state S.Store tx.new.conn.now).now records (length records.revocations)) }
+    ensures kept { HasCleanDisk (state S.Store tx.new.conn.now) → KeepsCommit (state S.Store tx.old.conn.now) (state S.Store tx.new.conn.now) }
+    ensures clean { doubt (state S.Store tx.old.conn.now).is_clean ≤ doubt (state S.Store tx.new.conn.now).is_clean }
+    ensures faults { IfErr result IsCallFault }
+{
+    for revocation in revocations {
+        relist_one(tx, *revocation, crls)?;
+    }
+    Ok(())
+}
+
+/// Lists each revocation, and turns the letter of its certificate. Answers how many they are.
+pub(crate) fn relist<S: Alter>(tx: &mut Transaction<'_, S>) -> Result<usize, StoreFault>
+    ensures same_reference { tx.new.conn.ghost_name ≡ tx.old.conn.ghost_name }
+    ensures ok { HasCleanDisk (state S.Store tx.new.conn.now) → (records : Records) → SoundRows records → (IsTrue (state S.Store tx.old.conn.now).is_open → HasRelisted (state S.Store tx.old.conn.now).now records 0)
+        → IfOk result (λ revoked. IsTrue (state S.Store tx.new.conn.now).is_open → (revoked ≡ length records.revocations) × HasRelisted (state S.Store tx.new.conn.now).now records revoked) }
+    ensures kept { HasCleanDisk (state S.Store tx.new.conn.now) → KeepsCommit (state S.Store tx.old.conn.now) (state S.Store tx.new.conn.now) }
+    ensures clean { doubt (state S.Store tx.old.conn.now).is_clean ≤ doubt (state S.Store tx.new.conn.now).is_clean }
+    ensures faults { IfErr result IsCallFault }
+{
+    let crls = crls(tx)?;
+    let revocations = revocations(tx)?;
+    relist_each(tx, &revocations, &crls)?;
+    Ok(revocations.len())
+}

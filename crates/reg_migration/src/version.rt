@@ -1,0 +1,10 @@
+//! The versions of the tables before the program's.
+
+/// A version of the tables that is older than the program's.
+#[derive(Clone, Copy, Debug, PartialEq, Eq)]
+pub enum Earlier {
+    /// Version 1: the tables of the records alone.
+    First,
+    /// Version 2: letters, counts and last listings are kept beside the records.
+    Second,
+}

@@ -1,0 +1,389 @@
+-- A serial number that was not revoked is nowhere shown as revoked.
+use Rattle.std.proofs.Common.{◌≡◌, ◌⊎◌, ◌==◌, ℕ, Bool, true, false, nat_lt, cond, List, [], ◌∷◌, ◌++◌, get_or, Option, Some, None, Result, Ok, IsFalse, inl, inr, refl, sym, ap, ◌∙◌, subst, arith}
+use Rattle.std.specs.Prelude.{IsSomeAnd}
+use Rattle.std.proofs.lemmas.Bool.Decides.{nat_tests}
+use Rattle.reg_core.specs.Checks.{clock_checks, first_of_all}
+use Rattle.reg_core.specs.Decisions.{refused_or}
+use Rattle.reg_core.specs.Records.{Records, certificate_in, revocation_in, request_in}
+use Rattle.reg_core.specs.Sound.{Sound}
+use Rattle.reg_core.specs.Status.{status, status_by, is_revoked}
+use Rattle.reg_core.specs.declared.command.Command.{Command}
+use Rattle.reg_core.specs.declared.command.Command.TheVariants.{Revoke}
+use Rattle.reg_core.specs.declared.command.Reply.{Reply}
+use Rattle.reg_core.specs.declared.command.Reply.TheVariants.{Revoked as IsRevokedNow, Status as StatusIs}
+use Rattle.reg_core.specs.declared.command.Status.{Status}
+use Rattle.reg_core.specs.declared.command.Status.TheVariants.{Unknown, Good, Expired, Revoked}
+use Rattle.reg_core.specs.declared.refusal.Refusal.{Refusal}
+use Rattle.reg_core.specs.declared.refusal.Fault.{Fault}
+use Rattle.reg_core.specs.declared.rows.CertRow.{CertRow}
+use Rattle.reg_core.specs.declared.rows.RevocationRow.{RevocationRow}
+use Rattle.reg_crl.specs.Signing.{Identity, signed_by}
+use Rattle.reg_der.specs.Der.{tlv}
+use Rattle.reg_laws.specs.Headline.{KeepsSound}
+use Rattle.reg_laws.specs.History.{HistoryStands}
+use Rattle.reg_laws.specs.Revocations.{IsRevocationBy, RevocationsMove, RevocationsMoveExactly}
+use Rattle.reg_laws.specs.Run.{Happens, Run}
+use Rattle.reg_laws.proofs.Lists.{all_any, find_back, some_and_here, some_here, some_of}
+use Rattle.reg_ocsp.specs.Matching.{IsMatch}
+use Rattle.reg_ocsp.specs.Request.{Id}
+use Rattle.reg_ocsp.specs.Response.{Answer, cert_status}
+use Rattle.reg_responder.specs.Agreement.{Agrees, OcspAgrees}
+use Rattle.reg_office.specs.Shown.{entry_in, SoundRun, AcceptedRevocation, WasRevoked, IsNowhereShown}
+use Rattle.reg_office.proofs.ShownByCrls.{no_entry_of_unrevoked}
+use Rattle.reg_office.proofs.ShownByOcsp.{ocsp_tells}
+
+-- WHERE A REVOCATION COMES FROM
+
+-- a revocation that a command brought, or else the revocations stayed
+moved
+    : (before : Records) (now : ℕ) (command : Command) (outcome : Result Reply Fault) (after : Records)
+    → RevocationsMove before now command outcome after
+    → (after.revocations ≡ before.revocations)
+    ⊎ ((late : Bool)
+    × (revocation : RevocationRow)
+    × (outcome ≡ Ok (IsRevokedNow late))
+    × (after.revocations ≡ before.revocations ++ revocation ∷ [])
+    × IsRevocationBy before now command revocation)
+moved before now command (Ok (IsRevokedNow late)) after move = inr (late, move.0, refl, move.1, move.2)
+moved before now command outcome after move = inl move
+
+-- a run goes on from its first command
+abbrev from_next
+    : (signs : Identity → List ℕ → List ℕ → Type 0) (identity : Identity)
+    → KeepsSound (signed_by signs identity)
+    → (start after : Records) (timed : ℕ × Command) (commands : List (ℕ × Command))
+    → (outcome : Result Reply Fault) (outcomes : List (Result Reply Fault))
+    → Sound (signed_by signs identity) start
+    → Run (signed_by signs identity) start (timed ∷ commands) (outcome ∷ outcomes) after
+    → SoundRun signs identity
+from_next signs identity keeps start after timed commands outcome outcomes sound ran = record {
+  start = ran.0;
+  commands = commands;
+  outcomes = outcomes;
+  after = after;
+  sound = keeps start ran.0 (timed ∷ []) (outcome ∷ []) sound (ran.0, ran.1, refl);
+  ran = ran.2;
+}
+
+abbrev run_of
+    : (signs : Identity → List ℕ → List ℕ → Type 0) (identity : Identity)
+    → (start after : Records) (commands : List (ℕ × Command)) (outcomes : List (Result Reply Fault))
+    → Sound (signed_by signs identity) start
+    → Run (signed_by signs identity) start commands outcomes after
+    → SoundRun signs identity
+run_of signs identity start after commands outcomes sound ran = record {
+  start = start;
+  commands = commands;
+  outcomes = outcomes;
+  after = after;
+  sound = sound;
+  ran = ran;
+}
+
+-- a revocation of the serial number that the run accepted
+abbrev Accepts
+    : {signs : Identity → List ℕ → List ℕ → Type 0} {identity : Identity} → SoundRun signs identity → ℕ → Type 0
+Accepts run serial =
+    (its : AcceptedRevocation run)
+    × IsSomeAnd (request_in its.before.requests its.id) (λ request. request.serial ≡ serial)
+
+-- what a run accepted after its first command
+accepted_later
+    : (signs : Identity → List ℕ → List ℕ → Type 0) (identity : Identity)
+    → (keeps : KeepsSound (signed_by signs identity))
+    → (start after : Records) (timed : ℕ × Command) (commands : List (ℕ × Command))
+    → (outcome : Result Reply Fault) (outcomes : List (Result Reply Fault))
+    → (sound : Sound (signed_by signs identity) start)
+    → (ran : Run (signed_by signs identity) start (timed ∷ commands) (outcome ∷ outcomes) after)
+    → (serial : ℕ)
+    → Accepts (from_next signs identity keeps start after timed commands outcome outcomes sound ran) serial
+    → Accepts (run_of signs identity start after (timed ∷ commands) (outcome ∷ outcomes) sound ran) serial
+accepted_later signs identity keeps start after timed commands outcome outcomes sound ran serial accepts = (
+  record {
+    id = its.id;
+    at = its.at;
+    is_late = its.is_late;
+    front = timed ∷ its.front;
+    early = outcome ∷ its.early;
+    before = its.before;
+    ran_before = (ran.0, ran.1, its.ran_before);
+    next = its.next;
+    accepted = its.accepted;
+    rest = its.rest;
+    late = its.late;
+    ran_after = its.ran_after;
+    commands_are = ap (◌∷◌ timed) its.commands_are;
+    outcomes_are = ap (◌∷◌ outcome) its.outcomes_are;
+  },
+  accepts.1,
+)
+  where
+    its : AcceptedRevocation (from_next signs identity keeps start after timed commands outcome outcomes sound ran)
+    its = accepts.0
+
+-- what it accepted as its first command
+accepted_first
+    : (signs : Identity → List ℕ → List ℕ → Type 0) (identity : Identity)
+    → (start after : Records) (timed : ℕ × Command) (commands : List (ℕ × Command))
+    → (outcome : Result Reply Fault) (outcomes : List (Result Reply Fault))
+    → (sound : Sound (signed_by signs identity) start)
+    → (ran : Run (signed_by signs identity) start (timed ∷ commands) (outcome ∷ outcomes) after)
+    → (late : Bool) (revocation : RevocationRow)
+    → outcome ≡ Ok (IsRevokedNow late)
+    → IsRevocationBy start timed.0 timed.1 revocation
+    → Accepts (run_of signs identity start after (timed ∷ commands) (outcome ∷ outcomes) sound ran) revocation.serial
+accepted_first signs identity start after timed commands outcome outcomes sound ran late revocation is by = (
+  record {
+    id = by.request.id;
+    at = timed.0;
+    is_late = late;
+    front = [];
+    early = [];
+    before = start;
+    ran_before = refl;
+    next = ran.0;
+    accepted = subst (λ (o : Result Reply Fault). Happens (signed_by signs identity) start timed.0 (Revoke by.request.id) o ran.0) is (subst (λ (command : Command). Happens (signed_by signs identity) start timed.0 command outcome ran.0) by.commanded ran.1);
+    rest = commands;
+    late = outcomes;
+    ran_after = ran.2;
+    commands_are = λ i. (timed.0, by.commanded i) ∷ commands;
+    outcomes_are = λ i. is i ∷ outcomes;
+  },
+  some_and_here
+      (λ request. request.serial ≡ revocation.serial)
+      (request_in start.requests by.request.id)
+      by.request
+      by.recorded
+      (sym by.of_serial),
+)
+
+-- a row that is found alone has the serial number
+only_one
+    : (added found : RevocationRow) (serial : ℕ)
+    → revocation_in (added ∷ []) serial ≡ Some found
+    → added.serial ≡ serial
+only_one added found serial is = go (added.serial == serial) refl is
+  where
+    go
+        : (same : Bool)
+        → (added.serial == serial) ≡ same
+        → cond same (Some added) None ≡ Some found
+        → added.serial ≡ serial
+    go true test some = grind (arith, nat_tests)
+    go false test some = absurd (let bad : ⊥ = cc in bad)
+
+-- a revocation after a run stood when it began, or the run accepted it
+pub traced
+    : (signs : Identity → List ℕ → List ℕ → Type 0) (identity : Identity)
+    → KeepsSound (signed_by signs identity)
+    → RevocationsMoveExactly (signed_by signs identity)
+    → (start after : Records) (commands : List (ℕ × Command)) (outcomes : List (Result Reply Fault))
+    → (sound : Sound (signed_by signs identity) start)
+    → (ran : Run (signed_by signs identity) start commands outcomes after)
+    → (serial : ℕ) (revocation : RevocationRow)
+    → revocation_in after.revocations serial ≡ Some revocation
+    → WasRevoked (run_of signs identity start after commands outcomes sound ran) serial
+traced signs identity keeps moves start after [] [] sound ran serial revocation is =
+    inl (some_here (revocation_in start.revocations serial) revocation (ap (λ r. revocation_in r.revocations serial) (sym ran) ∙ is))
+traced signs identity keeps moves start after [] (outcome ∷ outcomes) sound ran serial revocation is = absurd ran
+traced signs identity keeps moves start after (timed ∷ commands) [] sound ran serial revocation is = absurd ran
+traced signs identity keeps moves start after (timed ∷ commands) (outcome ∷ outcomes) sound ran serial revocation is =
+    later (traced signs identity keeps moves ran.0 after commands outcomes sound_next ran.2 serial revocation is)
+  where
+    sound_next : Sound (signed_by signs identity) ran.0
+    sound_next = keeps start ran.0 (timed ∷ []) (outcome ∷ []) sound (ran.0, ran.1, refl)
+
+    this : SoundRun signs identity
+    this = run_of signs identity start after (timed ∷ commands) (outcome ∷ outcomes) sound ran
+
+    -- one that the first command brought
+    brought
+        : (found : RevocationRow)
+        → revocation_in ran.0.revocations serial ≡ Some found
+        → (late : Bool) (added : RevocationRow)
+        → outcome ≡ Ok (IsRevokedNow late)
+        → ran.0.revocations ≡ start.revocations ++ added ∷ []
+        → IsRevocationBy start timed.0 timed.1 added
+        → (old : Option RevocationRow)
+        → revocation_in start.revocations serial ≡ old
+        → WasRevoked (run_of signs identity start after (timed ∷ commands) (outcome ∷ outcomes) sound ran) serial
+    brought found stands late added answered entered by (Some old) stood =
+        inl (some_here (revocation_in start.revocations serial) old stood)
+    brought found stands late added answered entered by None stood =
+        inr
+        (subst
+        (Accepts (run_of signs identity start after (timed ∷ commands) (outcome ∷ outcomes) sound ran))
+        (only_one
+        added
+        found
+        serial
+        (sym (find_back (λ row. row.serial == serial) start.revocations (added ∷ []) stood)
+        ∙ ap (λ rows. revocation_in rows serial) (sym entered)
+        ∙ stands))
+        (accepted_first signs identity start after timed commands outcome outcomes sound ran late added answered by))
+
+    -- one that stands after the first command
+    here
+        : (found : RevocationRow)
+        → revocation_in ran.0.revocations serial ≡ Some found
+        → (ran.0.revocations ≡ start.revocations)
+        ⊎ ((late : Bool)
+        × (added : RevocationRow)
+        × (outcome ≡ Ok (IsRevokedNow late))
+        × (ran.0.revocations ≡ start.revocations ++ added ∷ [])
+        × IsRevocationBy start timed.0 timed.1 added)
+        → WasRevoked (run_of signs identity start after (timed ∷ commands) (outcome ∷ outcomes) sound ran) serial
+    here found stands (inl same) =
+        inl
+        (some_here
+        (revocation_in start.revocations serial)
+        found
+        (ap (λ rows. revocation_in rows serial) (sym same) ∙ stands))
+    here found stands (inr its) =
+        brought found stands its.0 its.1 its.2 its.3 its.4 (revocation_in start.revocations serial) refl
+
+    later
+        : WasRevoked (from_next signs identity keeps start after timed commands outcome outcomes sound ran) serial
+        → WasRevoked (run_of signs identity start after (timed ∷ commands) (outcome ∷ outcomes) sound ran) serial
+    later (inl stood) =
+        let found : (known : RevocationRow) × (revocation_in ran.0.revocations serial ≡ Some known) = some_of (revocation_in ran.0.revocations serial) stood in
+        here
+        found.0
+        found.1
+        (moved
+        start
+        timed.0
+        timed.1
+        outcome
+        ran.0
+        (moves start start ran.0 [] [] timed.0 timed.1 outcome sound refl ran.1))
+    later (inr accepts) =
+        inr
+        (accepted_later signs identity keeps start after timed commands outcome outcomes sound ran serial accepts)
+
+-- WHERE THERE IS NONE
+
+-- a status is not revoked
+status_unrevoked
+    : (records : Records) (serial : ℕ)
+    → revocation_in records.revocations serial ≡ None
+    → (moment : ℕ)
+    → IsFalse (is_revoked (status records serial moment))
+status_unrevoked records serial none moment =
+    ap (λ (row : Option RevocationRow). is_revoked (status_by moment (certificate_in records.certificates serial) row)) none
+    ∙ go (certificate_in records.certificates serial)
+  where
+    either : (past : Bool) → IsFalse (is_revoked (cond past Expired Good))
+    either true = refl
+    either false = refl
+
+    go : (row : Option CertRow) → IsFalse (is_revoked (status_by moment row None))
+    go None = refl
+    go (Some certificate) = either (nat_lt certificate.not_after moment)
+
+-- what OCSP tells as good is not revoked
+not_told
+    : (told : Status) → cert_status told ≡ cert_status Good → IsFalse (is_revoked told)
+unfolding tlv
+not_told Unknown same = refl
+not_told Good same = refl
+not_told Expired same = refl
+not_told (Revoked at reason) same =
+    let tags : ◌≡◌ {A = ℕ} 0xA1 0x80 = ap (λ (bytes : List ℕ). get_or bytes 0 0) same in
+    absurd (omega arith)
+
+-- an answer that agrees with the records tells of no revocation where there is none
+answer_unrevoked
+    : (records : Records) (serial : ℕ)
+    → revocation_in records.revocations serial ≡ None
+    → (id : Id) (answer : Answer)
+    → IsMatch records.issuer id serial
+    → Agrees records id answer
+    → IsFalse (is_revoked answer.status)
+answer_unrevoked records serial none id answer match agrees = go (certificate_in records.certificates serial) refl
+  where
+    go
+        : (row : Option CertRow)
+        → certificate_in records.certificates serial ≡ row
+        → IsFalse (is_revoked answer.status)
+    go None is = ap is_revoked (agrees.unregistered serial match is)
+    go (Some certificate) is = not_told answer.status (agrees.good serial certificate match is none)
+
+-- the status that is told, where one is
+told_is
+    : (refused : Option Refusal) (status told : Status)
+    → refused_or refused (StatusIs status) ≡ Ok (StatusIs told)
+    → told ≡ status
+told_is None status told is = cc
+told_is (Some refusal) status told is = absurd (let bad : ⊥ = cc in bad)
+
+-- a serial number that was not revoked is nowhere shown, where the headline stands
+pub nowhere_shown
+    : (signs : Identity → List ℕ → List ℕ → Type 0) (identity : Identity)
+    → KeepsSound (signed_by signs identity)
+    → HistoryStands (signed_by signs identity)
+    → RevocationsMoveExactly (signed_by signs identity)
+    → OcspAgrees
+    → (run : SoundRun signs identity)
+    → (serial : ℕ)
+    → ¬ (WasRevoked run serial)
+    → IsNowhereShown run serial
+nowhere_shown signs identity keeps history moves agree run serial not_revoked =
+    shown (revocation_in run.after.revocations serial) refl
+  where
+    sound : Sound (signed_by signs identity) run.after
+    sound = keeps run.start run.after run.commands run.outcomes run.sound run.ran
+
+    shown
+        : (found : Option RevocationRow)
+        → revocation_in run.after.revocations serial ≡ found
+        → IsNowhereShown run serial
+    shown (Some revocation) is =
+        absurd
+        (not_revoked
+        (traced
+        signs
+        identity
+        keeps
+        moves
+        run.start
+        run.after
+        run.commands
+        run.outcomes
+        run.sound
+        run.ran
+        serial
+        revocation
+        is))
+    shown None is = record {
+      by_status = status_unrevoked run.after serial is;
+      when_asked = λ moment told answered.
+          subst
+          (λ (status : Status). IsFalse (is_revoked status))
+          (sym (told_is (first_of_all (clock_checks moment run.after.last)) (status run.after serial moment) told answered))
+          (status_unrevoked run.after serial is moment);
+      by_ocsp = λ moment reached.
+          ocsp_tells
+          signs
+          identity
+          run.after
+          moment
+          serial
+          (λ told. IsFalse (is_revoked told))
+          agree
+          sound.rows
+          (answer_unrevoked run.after serial is)
+          reached;
+      by_crls =
+          all_any
+          (λ crl. entry_in run.after crl serial ≡ None)
+          (λ crl.
+          no_entry_of_unrevoked
+          run.after
+          crl
+          serial
+          ((history run.start run.after run.commands run.outcomes run.sound run.ran).1 crl.number)
+          is)
+          run.after.crls;
+      signed_so = sound.signatures;
+    }

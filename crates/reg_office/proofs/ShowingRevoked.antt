@@ -1,0 +1,208 @@
+-- A revocation that a run accepted is shown everywhere.
+use Rattle.std.proofs.Common.{◌≡◌, ◌⊎◌, ◌+◌, ◌<◌, ◌≤◌, ℕ, List, Option, Some, Result, Ok, Err, inl, inr, IsFalse, ◌==◌, refl, sym, ap, ◌∙◌, subst, arith}
+use Rattle.std.specs.List.{AllByRecursion}
+use Rattle.reg_core.specs.Crls.{entries}
+use Rattle.reg_core.specs.Queries.{answer}
+use Rattle.reg_core.specs.Records.{Records, certificate_in, request_in, revocation_in}
+use Rattle.reg_core.specs.Sound.{Sound, SoundRevocation}
+use Rattle.reg_core.specs.Status.{status, status_by}
+use Rattle.reg_core.specs.declared.command.Command.TheVariants.{Revoke}
+use Rattle.reg_core.specs.declared.command.Query.TheVariants.{Status as AskStatus}
+use Rattle.reg_core.specs.declared.command.Reply.{Reply}
+use Rattle.reg_core.specs.declared.command.Reply.TheVariants.{Status as StatusIs}
+use Rattle.reg_core.specs.declared.command.Status.{Status}
+use Rattle.reg_core.specs.declared.command.Status.TheVariants.{Revoked}
+use Rattle.reg_core.specs.declared.refusal.Refusal.{Refusal}
+use Rattle.reg_core.specs.declared.refusal.Fault.{Fault}
+use Rattle.reg_core.specs.declared.refusal.Fault.TheVariants.{Refused, Memory, Store, Signer, Read, Write}
+use Rattle.reg_core.specs.declared.rows.CertRow.{CertRow}
+use Rattle.reg_core.specs.declared.rows.Entry.{Entry}
+use Rattle.reg_core.specs.declared.rows.RevocationRow.{RevocationRow}
+use Rattle.reg_crl.specs.Signing.{Identity, signed_by}
+use Rattle.reg_laws.specs.Headline.{KeepsSound, ListsRevoked, lists, ToldByCrls, IsDueEntry}
+use Rattle.reg_laws.specs.Revocations.{IsRevocationBy}
+use Rattle.reg_laws.proofs.Lists.{all_weaker, all_found, key_found, some_at}
+use Rattle.reg_responder.specs.Agreement.{OcspAgrees}
+use Rattle.reg_office.specs.Answered.{IsAnswered}
+use Rattle.reg_office.specs.Shown.{SoundRun, AcceptedRevocation, IsReached, revoked_at, ListedThroughFirstPast, IsShownEverywhere}
+use Rattle.reg_office.proofs.ShownByCrls.{NotPast, ToldOf, listed_through}
+use Rattle.reg_office.proofs.ShownByOcsp.{on_clock, ocsp_tells}
+
+-- a status that is asked for at a moment that is reached is told, or memory was short or the store failed
+pub status_told
+    : (records : Records) (moment serial : ℕ)
+    → IsReached records moment
+    → (outcome : Result Reply Fault)
+    → IsAnswered records moment (AskStatus serial) outcome
+    → (outcome ≡ Ok (StatusIs (status records serial moment))) ⊎ (outcome ≡ Err Memory) ⊎ (outcome ≡ Err Store)
+status_told records moment serial reached outcome answered = go outcome answered
+  where
+    told : answer records moment (AskStatus serial) ≡ Ok (StatusIs (status records serial moment))
+    told = rw (on_clock records moment reached)
+
+    go
+        : (o : Result Reply Fault)
+        → IsAnswered records moment (AskStatus serial) o
+        → (o ≡ Ok (StatusIs (status records serial moment))) ⊎ (o ≡ Err Memory) ⊎ (o ≡ Err Store)
+    go (Ok reply) is =
+        let both : ◌≡◌ {A = Result Reply Refusal} (Ok reply) (Ok (StatusIs (status records serial moment))) = sym is ∙ told in
+        inl (let same : reply ≡ StatusIs (status records serial moment) = cc in ap Ok same)
+    go (Err (Refused refusal)) is = absurd (let bad : ⊥ = cc (sym is ∙ told) in bad)
+    go (Err Memory) is = inr (inl refl)
+    go (Err Store) is = inr (inr refl)
+    go (Err Signer) is = absurd is
+    go (Err Read) is = absurd is
+    go (Err Write) is = absurd is
+
+-- a revocation is shown, by what the headline says of it
+shown_of
+    : (signs : Identity → List ℕ → List ℕ → Type 0) (identity : Identity)
+    → OcspAgrees
+    → (run : SoundRun signs identity)
+    → (its : AcceptedRevocation run)
+    → Sound (signed_by signs identity) run.after
+    → (certificate : CertRow) (revocation : RevocationRow)
+    → certificate_in run.after.certificates revocation.serial ≡ Some certificate
+    → IsRevocationBy its.before its.at (Revoke its.id) revocation
+    → ToldByCrls its.before.crls run.after certificate revocation
+    → ((n : ℕ) → AllByRecursion (IsDueEntry run.after n) (entries run.after n))
+    → IsShownEverywhere its
+shown_of signs identity agree run its sound certificate revocation found by tells due = record {
+  request = by.request;
+  requested = ap (request_in its.before.requests) own ∙ by.recorded;
+  certificate = certificate;
+  registered = ap (certificate_in run.after.certificates) (sym by.of_serial) ∙ found;
+  not_ended = subst (λ n. n ≤ certificate.not_after) by.at_now within;
+  by_status = λ moment reached. is_revoked_at moment;
+  past_its_end = λ seconds. is_revoked_at (certificate.not_after + seconds);
+  when_asked = λ moment reached outcome answered.
+      subst
+      (λ (told : Status). (outcome ≡ Ok (StatusIs told)) ⊎ (outcome ≡ Err Memory) ⊎ (outcome ≡ Err Store))
+      (is_revoked_at moment)
+      (status_told run.after moment by.request.serial reached outcome answered);
+  by_ocsp = λ moment reached.
+      ocsp_tells
+      signs
+      identity
+      run.after
+      moment
+      by.request.serial
+      (λ told. told ≡ revoked_at its.at by.request)
+      agree
+      sound.rows
+      (λ id answer match agrees. agrees.revoked by.request.serial revocation match revoked ∙ told_so)
+      reached;
+  later = tells.later;
+  issued_later = tells.issued;
+  by_crls =
+      subst
+      (λ (entry : Entry). ListedThroughFirstPast run.after entry certificate.not_after tells.later)
+      (λ i. record { serial = by.request.serial; at = by.at_now i; reason = by.with_reason i })
+      (listed_through
+      run.after
+      by.request.serial
+      revocation
+      certificate.not_after
+      its.before.crls
+      tells.later
+      sound.rows.crls.numbered
+      due
+      revoked
+      tells.issued
+      before
+      later);
+  signed_so = sound.signatures;
+}
+  where
+    own : its.id ≡ by.request.id
+    own = let same : Revoke its.id ≡ Revoke by.request.id = by.commanded in cc
+
+    key : certificate.serial ≡ by.request.serial
+    key =
+        key_found (λ row. row.serial) run.after.certificates revocation.serial certificate found ∙ by.of_serial
+
+    revoked : revocation_in run.after.revocations by.request.serial ≡ Some revocation
+    revoked = ap (revocation_in run.after.revocations) (sym key) ∙ tells.stands
+
+    within : revocation.at ≤ certificate.not_after
+    within =
+        some_at
+        (λ row. revocation.at ≤ row.not_after)
+        (certificate_in run.after.certificates revocation.serial)
+        certificate
+        found
+        (all_found
+        (SoundRevocation run.after.last run.after.certificates run.after.requests run.after.crls)
+        (λ row. row.serial == by.request.serial)
+        run.after.revocations
+        revocation
+        revoked
+        sound.rows.revocations.each).within_validity
+
+    told_so : Revoked revocation.at revocation.reason ≡ revoked_at its.at by.request
+    told_so = λ i. Revoked (by.at_now i) (by.with_reason i)
+
+    is_revoked_at : (moment : ℕ) → status run.after by.request.serial moment ≡ revoked_at its.at by.request
+    is_revoked_at moment =
+        ap
+        (λ (row : Option CertRow). status_by moment row (revocation_in run.after.revocations by.request.serial))
+        (ap (certificate_in run.after.certificates) (sym by.of_serial) ∙ found)
+        ∙ ap (status_by moment (Some certificate)) revoked
+        ∙ told_so
+
+    before : AllByRecursion (NotPast revocation.first certificate.not_after) its.before.crls
+    before =
+        all_weaker
+        (λ crl. (crl.number < revocation.first) × IsFalse (lists run.after crl.number certificate.serial))
+        (NotPast revocation.first certificate.not_after)
+        (λ crl told can. let below : crl.number < revocation.first = told.0 in absurd (omega arith))
+        its.before.crls
+        tells.before
+
+    later : AllByRecursion (ToldOf run.after by.request.serial revocation.first certificate.not_after) tells.later
+    later =
+        subst
+        (λ serial. AllByRecursion (ToldOf run.after serial revocation.first certificate.not_after) tells.later)
+        key
+        tells.since
+
+-- each revocation is shown, where the headline stands
+pub shown_everywhere
+    : (signs : Identity → List ℕ → List ℕ → Type 0) (identity : Identity)
+    → KeepsSound (signed_by signs identity)
+    → ListsRevoked (signed_by signs identity)
+    → OcspAgrees
+    → (run : SoundRun signs identity)
+    → (its : AcceptedRevocation run)
+    → IsShownEverywhere its
+shown_everywhere signs identity keeps lists_them agree run its =
+    let told =
+    lists_them
+    run.start
+    its.before
+    its.next
+    run.after
+    its.front
+    its.rest
+    its.early
+    its.late
+    its.at
+    (Revoke its.id)
+    its.is_late
+    run.sound
+    its.ran_before
+    its.accepted
+    its.ran_after in
+    shown_of
+    signs
+    identity
+    agree
+    run
+    its
+    (keeps run.start run.after run.commands run.outcomes run.sound run.ran)
+    told.0.0
+    told.0.1
+    told.0.2
+    told.0.4
+    told.0.5
+    told.1

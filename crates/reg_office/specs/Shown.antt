@@ -1,0 +1,226 @@
+-- A revoked certificate is shown as revoked everywhere, and nothing else is.
+--
+-- A register tells whether a certificate is revoked in three ways: by the status of its serial number, by answers to
+-- OCSP requests (RFC 6960), and by the CRLs that it issues (RFC 5280 5). Here is said what each tells after any run of
+-- commands: so it holds at every moment that is reached while commands are run, for what ran up to it is a run.
+use Rattle.std.specs.Prelude.{◌≡◌, ◌⊎◌, ℕ, Bool, ◌+◌, ◌<◌, ◌≤◌, nat_lt, List, [], ◌∷◌, ◌++◌, find, ◌==◌, Option, Some, None, Result, Ok, Err, MatchBool, IsFalse, IsSome, IsSomeAnd}
+use Rattle.std.specs.List.{AllByRecursion, AllZip}
+use Rattle.reg_core.specs.Checks.{clock_end}
+use Rattle.reg_core.specs.Crls.{CertList, cert_list}
+use Rattle.reg_core.specs.Grounds.{reason_of}
+use Rattle.reg_core.specs.Records.{Records, Crl, certificate_in, request_in, revocation_in}
+use Rattle.reg_core.specs.Sound.{Sound}
+use Rattle.reg_core.specs.Status.{status, is_revoked}
+use Rattle.reg_core.specs.declared.command.Command.{Command}
+use Rattle.reg_core.specs.declared.command.Command.TheVariants.{Revoke}
+use Rattle.reg_core.specs.declared.command.Query.TheVariants.{Status as AskStatus}
+use Rattle.reg_core.specs.declared.command.Reply.{Reply}
+use Rattle.reg_core.specs.declared.command.Reply.TheVariants.{Revoked as IsRevokedNow, Status as StatusIs}
+use Rattle.reg_core.specs.declared.command.Status.{Status}
+use Rattle.reg_core.specs.declared.command.Status.TheVariants.{Revoked}
+use Rattle.reg_core.specs.declared.refusal.Fault.{Fault}
+use Rattle.reg_core.specs.declared.refusal.Fault.TheVariants.{Memory, Store}
+use Rattle.reg_core.specs.declared.rows.CertRow.{CertRow}
+use Rattle.reg_core.specs.declared.rows.Entry.{Entry}
+use Rattle.reg_core.specs.declared.rows.RequestRow.{RequestRow}
+use Rattle.reg_crl.specs.Signing.{Identity, signed_by}
+use Rattle.reg_laws.specs.Run.{Happens, Run}
+use Rattle.reg_ocsp.specs.Matching.{IsMatch}
+use Rattle.reg_ocsp.specs.Request.{Id, IsRequest}
+use Rattle.reg_ocsp.specs.Response.{refusal_response}
+use Rattle.reg_ocsp.specs.declared.response.RefusalStatus.TheVariants.{Malformed, Internal}
+use Rattle.reg_responder.specs.Ocsp.{HasNoReading, IsOcspReply, IsResponse}
+use Rattle.reg_office.specs.Answered.{IsAnswered}
+
+-- A RUN, AND THE REVOCATIONS THAT IT ACCEPTED
+
+-- a run: from sound records commands, each at its moment, came to these outcomes, one for each and in order, and led to
+-- the records after them
+pub record SoundRun (signs : Identity → List ℕ → List ℕ → Type 0) (identity : Identity) : Type 0 where
+  pub start : Records
+  pub commands : List (ℕ × Command)
+  pub outcomes : List (Result Reply Fault)
+  pub after : Records
+  pub sound : Sound (signed_by signs identity) start
+  pub ran : Run (signed_by signs identity) start commands outcomes after
+
+-- a revocation that a run accepted: at some place of the run the command to revoke by the request of this id, handed in
+-- at this moment, was answered `Revoked`
+pub record AcceptedRevocation
+    {signs : Identity → List ℕ → List ℕ → Type 0}
+    {identity : Identity}
+    (run : SoundRun signs identity)
+    : Type 0 where
+  pub id : ℕ
+  pub at : ℕ
+  pub is_late : Bool
+  -- the commands before it, their outcomes, and the records that they led to
+  pub front : List (ℕ × Command)
+  pub early : List (Result Reply Fault)
+  pub before : Records
+  pub ran_before : Run (signed_by signs identity) run.start front early before
+  -- the records that it led to
+  pub next : Records
+  pub accepted : Happens (signed_by signs identity) before at (Revoke id) (Ok (IsRevokedNow is_late)) next
+  -- the commands after it, and their outcomes
+  pub rest : List (ℕ × Command)
+  pub late : List (Result Reply Fault)
+  pub ran_after : Run (signed_by signs identity) next rest late run.after
+  -- together they are the run
+  pub commands_are : run.commands ≡ front ++ (at, Revoke id) ∷ rest
+  pub outcomes_are : run.outcomes ≡ early ++ Ok (IsRevokedNow is_late) ∷ late
+
+-- a moment that is reached after a run: from the last accepted moment on, below the clock's end
+pub record IsReached (records : Records) (moment : ℕ) : Type 0 where
+  pub not_back : records.last ≤ moment
+  pub not_ended : moment < clock_end
+
+-- WHAT OCSP TELLS
+
+-- a response in which each CertID that names the issuer's certificate of the serial number is told so (RFC 6960 4.2.1)
+pub record ResponseTells
+    (signs : Identity → List ℕ → List ℕ → Type 0)
+    (identity : Identity)
+    (records : Records)
+    (moment serial : ℕ)
+    (IsSo : Status → Type 0)
+    (asked reply : List ℕ)
+    : Type 0 where
+  pub ids : List Id
+  pub nonce : Option (List ℕ)
+  pub read : IsRequest asked ids nonce
+  pub response : IsResponse signs identity records moment ids nonce reply
+  pub told :
+      AllZip
+      (λ id answer. IsMatch records.issuer id serial → IsSo answer.status)
+      ids
+      response.of_records.answers
+
+-- what bytes are replied: malformedRequest, to bytes that are no request; or internalError (RFC 6960 2.3); or such a
+-- response, signed
+abbrev pub OcspTells
+    : (Identity → List ℕ → List ℕ → Type 0)
+    → Identity
+    → Records
+    → ℕ
+    → ℕ
+    → (Status → Type 0)
+    → List ℕ
+    → List ℕ
+    → Type 0
+OcspTells signs identity records moment serial IsSo asked reply =
+    (HasNoReading asked × (reply ≡ refusal_response Malformed))
+    ⊎ (reply ≡ refusal_response Internal)
+    ⊎ ResponseTells signs identity records moment serial IsSo asked reply
+
+-- WHAT CRLS TELL
+
+-- what is signed in a recorded CRL (RFC 5280 5.1.2)
+abbrev pub signed_in : Records → Crl → CertList
+signed_in records crl = cert_list records crl.number crl.this_update
+
+-- the entry of a serial number in it, where it has one (RFC 5280 5.1.2.6)
+abbrev pub entry_in : Records → Crl → ℕ → Option Entry
+entry_in records crl serial = find (λ entry. entry.serial == serial) (signed_in records crl).entries
+
+-- CRLs in the order of issue: each has the entry, up to and including the first whose thisUpdate is past notAfter, and
+-- none after that one has an entry of the serial number (RFC 5280 3.3)
+abbrev pub ListedThroughFirstPast : Records → Entry → ℕ → List Crl → Type 0
+ListedThroughFirstPast records entry not_after [] = Unit {0}
+ListedThroughFirstPast records entry not_after (crl ∷ rest) =
+    (entry_in records crl entry.serial ≡ Some entry)
+    × MatchBool
+    (nat_lt not_after crl.this_update)
+    (AllByRecursion (λ later. entry_in records later entry.serial ≡ None) rest)
+    (ListedThroughFirstPast records entry not_after rest)
+
+-- each recorded CRL is signed over its entries, by the one who signs
+abbrev pub AreSignedSo : (Identity → List ℕ → List ℕ → Type 0) → Identity → Records → Type 0
+AreSignedSo signs identity records =
+    AllByRecursion (λ crl. signed_by signs identity (signed_in records crl) crl.bytes) records.crls
+
+-- A REVOKED CERTIFICATE IS SHOWN AS REVOKED EVERYWHERE
+
+-- the status that a certificate revoked at a moment by a request is shown with: that moment, and the reason of the
+-- request's ground
+abbrev pub revoked_at : ℕ → RequestRow → Status
+revoked_at at request = Revoked at (reason_of request.ground)
+
+-- and the entry of a CRL
+abbrev pub entry_at : ℕ → RequestRow → Entry
+entry_at at request = record { serial = request.serial; at = at; reason = reason_of request.ground }
+
+-- from the acceptance of a revocation on, it is shown everywhere
+pub record IsShownEverywhere
+    {signs : Identity → List ℕ → List ℕ → Type 0}
+    {identity : Identity}
+    {run : SoundRun signs identity}
+    (its : AcceptedRevocation run)
+    : Type 0 where
+  -- its request was recorded, of the serial number of a registered certificate, which had not ended
+  pub request : RequestRow
+  pub requested : request_in its.before.requests its.id ≡ Some request
+  pub certificate : CertRow
+  pub registered : certificate_in run.after.certificates request.serial ≡ Some certificate
+  pub not_ended : its.at ≤ certificate.not_after
+  -- at every moment reached, the status of the serial number is revoked, with the moment of the command that revoked it
+  -- and with the reason of its request's ground
+  pub by_status : (moment : ℕ)
+      → IsReached run.after moment
+      → status run.after request.serial moment ≡ revoked_at its.at request
+  -- however long after the certificate's end: it is never expired
+  pub past_its_end : (seconds : ℕ)
+      → status run.after request.serial (certificate.not_after + seconds) ≡ revoked_at its.at request
+  -- whoever asks for the status is told so, or that memory was short or the store failed
+  pub when_asked : (moment : ℕ)
+      → IsReached run.after moment
+      → (outcome : Result Reply Fault)
+      → IsAnswered run.after moment (AskStatus request.serial) outcome
+      → (outcome ≡ Ok (StatusIs (revoked_at its.at request))) ⊎ (outcome ≡ Err Memory) ⊎ (outcome ≡ Err Store)
+  -- each CertID of an OCSP request that names the certificate is told so
+  pub by_ocsp : (moment : ℕ)
+      → IsReached run.after moment
+      → (asked reply : List ℕ)
+      → IsOcspReply signs identity run.after moment asked reply
+      → OcspTells signs identity run.after moment request.serial (λ told. told ≡ revoked_at its.at request) asked reply
+  -- each CRL that was issued later in the run has its entry, up to and including the first one past the certificate's end
+  pub later : List Crl
+  pub issued_later : run.after.crls ≡ its.before.crls ++ later
+  pub by_crls : ListedThroughFirstPast run.after (entry_at its.at request) certificate.not_after later
+  -- and each CRL is signed over just these entries
+  pub signed_so : AreSignedSo signs identity run.after
+
+-- NOTHING ELSE IS SHOWN AS REVOKED
+
+-- a serial number was revoked: it stood so when the run began, or the run accepted a revocation by a request of it
+abbrev pub WasRevoked
+    : {signs : Identity → List ℕ → List ℕ → Type 0} {identity : Identity} → SoundRun signs identity → ℕ → Type 0
+WasRevoked run serial =
+    IsSome (revocation_in run.start.revocations serial)
+    ⊎ ((its : AcceptedRevocation run)
+    × IsSomeAnd (request_in its.before.requests its.id) (λ request. request.serial ≡ serial))
+
+-- a serial number is nowhere shown as revoked
+pub record IsNowhereShown
+    {signs : Identity → List ℕ → List ℕ → Type 0}
+    {identity : Identity}
+    (run : SoundRun signs identity)
+    (serial : ℕ)
+    : Type 0 where
+  -- its status is never revoked
+  pub by_status : (moment : ℕ) → IsFalse (is_revoked (status run.after serial moment))
+  -- whoever asks for its status is told another
+  pub when_asked : (moment : ℕ)
+      → (told : Status)
+      → IsAnswered run.after moment (AskStatus serial) (Ok (StatusIs told))
+      → IsFalse (is_revoked told)
+  -- no CertID of an OCSP request that names it is told that it is revoked
+  pub by_ocsp : (moment : ℕ)
+      → IsReached run.after moment
+      → (asked reply : List ℕ)
+      → IsOcspReply signs identity run.after moment asked reply
+      → OcspTells signs identity run.after moment serial (λ told. IsFalse (is_revoked told)) asked reply
+  -- no CRL has an entry of it
+  pub by_crls : AllByRecursion (λ crl. entry_in run.after crl serial ≡ None) run.after.crls
+  -- and each CRL is signed over just its entries
+  pub signed_so : AreSignedSo signs identity run.after

@@ -1,0 +1,43 @@
+-- Tables of an older version, opened.
+use Rattle.std.proofs.Common.{◌≡◌, ◌≤◌, None, Some, Result, Ok, Err, OnOk, OnErr, sym}
+use Rattle.sqlite_trees.specs.View.{doubt}
+use Rattle.sqlite_trees.specs.declared.store.Store.{Ghosts}
+use Rattle.sqlite.specs.Held.{Held, state}
+use Rattle.sqlite.specs.State.{HasCleanDisk}
+use Rattle.reg_core.specs.Records.{Records}
+use Rattle.reg_core.specs.Schedule.{one_step}
+use Rattle.reg_core.specs.Sound.{SoundRows}
+use Rattle.reg_tables.specs.Kept.{ShowsKept}
+use Rattle.reg_tables.specs.Stays.{Stays}
+use Rattle.reg_tables.proofs.Staying.{stays_holds}
+use Rattle.reg_changes.proofs.Moving.{was_clean}
+use Rattle.reg_migration.specs.Older.{IsShownByOlder, ShowsOlder}
+use Rattle.reg_migration.specs.declared.version.Earlier.{Earlier}
+use Rattle.reg_migration.proofs.Steps.{ok_by}
+use Rattle.reg_migration.proofs.Whole.{kept_while}
+use Rattle.reg_opening.specs.Examined.{IsOlderOf}
+use Rattle.reg_opening.specs.declared.opening.Older.{Older}
+
+pub never_some : {A : Type 0} (x : A) → Some x ≡ None → ⊥
+never_some x e = absurd (cc)
+
+-- an error that leaves what a step before it left
+pub err_then : {A E : Type 0} (P Q : Type 0) (r : Result A E) → (P → Q) → OnErr r P → OnErr r Q
+err_then P Q (Ok x) leads holds = tt
+err_then P Q (Err e) leads holds = leads holds
+
+-- the older tables that were found are made newer
+pub newer_kept
+    : {S A E : Type 0} (g : Ghosts S) (old mid new : Held S) (version : Earlier) (records : Records) (older : Older) (r : Result A E)
+    → doubt (state g old).is_clean ≤ doubt (state g mid).is_clean → doubt (state g mid).is_clean ≤ doubt (state g new).is_clean → Stays (state g old) (state g mid)
+    → ShowsOlder version g old records → SoundRows records → (HasCleanDisk (state g mid) → IsOlderOf version records (Some older))
+    → ((version : Earlier) (records : Records) → ShowsOlder version g mid records → SoundRows records → version ≡ older.version → records.policy.schedule ≡ one_step older.days → records.last ≡ older.last → OnOk r (ShowsKept g new records))
+    → OnOk r (ShowsKept g new records)
+newer_kept g old mid new version records older r first second stays shows sound told migrates = ok_by (ShowsKept g new records) r (λ given.
+    kept_while g new records (λ clean.
+    let was : HasCleanDisk (state g mid) = was_clean (state g mid) (state g new) second clean in
+    let is = told was in
+    given (ShowsKept g new records) (migrates version records (stays_holds g old mid (λ db. IsShownByOlder version db records) first stays shows) sound (sym is.0) is.1 is.2)))
+
+pub same_some : {A : Type 0} (x y : A) → Some x ≡ Some y → x ≡ y
+same_some x y e = cc

@@ -1,0 +1,3 @@
+mod Identifiers
+mod Pairs
+mod Sizes

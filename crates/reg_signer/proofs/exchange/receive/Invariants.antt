@@ -1,0 +1,9 @@
+use Rattle.std.proofs.Common.{◌-◌, length}
+use Rattle.reg_wire.proofs.Buffers.{SoFar}
+use Rattle.reg_signer.proofs.exchange.receive.Given as goal
+
+abbrev pub invariant-loop-count : goal.invariant-loop-count
+invariant-loop-count g l = SoFar (g.R.Read.remaining l.initial.reader) (g.R.Read.remaining l.reader) l.initial.room l.room 0 l.count
+
+abbrev pub decreases-loop-count : goal.decreases-loop-count
+decreases-loop-count g l = length l.initial.room - l.count

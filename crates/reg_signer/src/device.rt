@@ -1,0 +1,35 @@
+//! What holds a key.
+
+/// A device gave no answer: it is not there, it failed or ended early, it took too long, or its answer is too long.
+#[derive(Clone, Copy, Debug, PartialEq, Eq)]
+pub struct DeviceFault;
+
+/// A device that holds a key and signs with it: a security module, a smart card, another process.
+pub trait Device {
+    ghost use Rattle.std.specs.Prelude.{◌≡◌, ℕ, ◌<◌, ◌≤◌, List, IfOk, OnErr, length, take};
+
+    // The bits of its public key.
+    ghost public_key: { Self → List ℕ };
+
+    // Under this key this is the answer to this message.
+    ghost answers: { List ℕ → List ℕ → List ℕ → Type 0 };
+
+    // Asked for the answer to this message, the device failed, and the device after it.
+    ghost fails: { Self → List ℕ → Self → Type 0 };
+
+    /// The bits of the subjectPublicKey that its signatures are verified with (RFC 5280 4.1.2.7). No call changes it.
+    fn public_key(&self) -> &[u8]
+        ensures { result.now ≡ public_key self.now };
+
+    /// One exchange: the whole message goes in, and the answer comes out, up to its end. Gives its length; the answer is
+    /// the front of `room`, and shorter than it. No more than `room` holds is read, and that is at most 4,097 bytes.
+    ///
+    /// # Errors
+    /// [`DeviceFault`] where the device fails, or its answer leaves no room.
+    fn exchange(&mut self, message: &[u8], room: &mut [u8]) -> Result<usize, DeviceFault>
+        requires { length room.old ≤ 4097 }
+        ensures short { IfOk result (λ count. count < length room.new) }
+        ensures answered { IfOk result (λ count. answers (public_key self.old) message.now (take count room.new)) }
+        ensures failed { OnErr result (fails self.old message.now self.new) }
+        ensures same_key { public_key self.new ≡ public_key self.old };
+}

@@ -1,0 +1,134 @@
+//! The signer over a device.
+
+ghost use Rattle.std.specs.Prelude.{◌≡◌, ◌⊎◌, ◌<◌, ◌≤◌, List, ℕ, IfOk, IsErrOf, OnErr, OnOk, length, vec_len};
+ghost use Rattle.std.specs.Bool.{OnFalse, OnTrue};
+ghost use Rattle.reg_signer.specs.Forms.{IsKeyOf, IsSignature};
+
+use crate::algorithm::Algorithm;
+use crate::device::Device;
+use reg_crl::{SignFault, Signer};
+use std::alloc::Global;
+
+/// The most bytes of an answer.
+const LONGEST_ANSWER: usize = 4_096;
+
+/// The device's key is none of the algorithm.
+#[derive(Clone, Copy, Debug, PartialEq, Eq)]
+pub struct BadSigner;
+
+/// Signs with the key of a device under one algorithm, and counts how often the device gave no signature.
+///
+/// A signature is what has the form of one under the device's key, and at most 4,096 bytes. Whether it verifies is not
+/// looked at.
+#[derive(Drop)]
+pub struct DeviceSigner<D: Device> {
+    device: D,
+    algorithm: Algorithm,
+    failures: u64,
+}
+
+impl<D: Device + Drop> DeviceSigner<D> {
+    /// The signer over a device that has not failed yet.
+    ///
+    /// # Errors
+    /// [`BadSigner`] where the device's public key is none of the algorithm by its form.
+    pub fn new(device: D, algorithm: Algorithm) -> Result<DeviceSigner<D>, BadSigner>
+        ensures device { IfOk result (λ signer. signer.device ≡ device) }
+        ensures algorithm { IfOk result (λ signer. signer.algorithm ≡ algorithm) }
+        ensures failures { IfOk result (λ signer. signer.failures ≡ 0) }
+        ensures ok { OnOk result (IsKeyOf algorithm (D.public_key device)) }
+        ensures err { OnErr result (¬ (IsKeyOf algorithm (D.public_key device))) }
+    {
+        if !algorithm.is_key(device.public_key()) {
+            return Err(BadSigner);
+        }
+        Ok(DeviceSigner {
+            device,
+            algorithm,
+            failures: 0,
+        })
+    }
+
+    /// Asks the device for a signature, and whether it gave one, which is then all of `answer`.
+    fn ask(&mut self, message: &[u8], answer: &mut Vec<u8>) -> bool
+        requires { vec_len answer.old ≤ 4097 }
+        ensures signed { OnTrue result (D.answers (D.public_key self.old.device) message.now answer.new.items
+            × IsSignature self.old.algorithm (D.public_key self.old.device) answer.new.items) }
+        ensures short { OnTrue result (vec_len answer.new ≤ 4096) }
+        ensures failed { OnFalse result (D.fails self.old.device message.now self.new.device
+            ⊎ ((other : List ℕ) × D.answers (D.public_key self.old.device) message.now other
+            × ¬ (IsSignature self.old.algorithm (D.public_key self.old.device) other))) }
+        ensures same_key { D.public_key self.new.device ≡ D.public_key self.old.device }
+        ensures same_algorithm { self.new.algorithm ≡ self.old.algorithm }
+        ensures same_failures { self.new.failures ≡ self.old.failures }
+    {
+        match self.device.exchange(message, answer) {
+            Ok(count) => {
+                answer.truncate(count);
+                self.algorithm
+                    .is_signature(self.device.public_key(), answer)
+            }
+            Err(_) => false,
+        }
+    }
+
+    /// Counts a failure, and gives the fault that tells it. A count that can't rise tells no failure any more.
+    fn fail(&mut self) -> SignFault
+        ensures counted { result ≡ SignFault.Device → self.old.failures < self.new.failures }
+        ensures exhausted { self.old.failures ≡ u64.MAX → result ≡ SignFault.Memory }
+        ensures not_counted { result ≡ SignFault.Memory → self.new.failures ≡ self.old.failures }
+        ensures memory { result ≡ SignFault.Memory → self.old.failures ≡ u64.MAX }
+        ensures same_device { self.new.device ≡ self.old.device }
+        ensures same_algorithm { self.new.algorithm ≡ self.old.algorithm }
+    {
+        if self.failures == u64::MAX {
+            return SignFault::Memory;
+        }
+        self.failures += 1;
+        SignFault::Device
+    }
+}
+
+impl<D: Device + Drop> Signer for DeviceSigner<D> {
+    ghost use Rattle.std.specs.Prelude.{◌≡◌, ◌⊎◌, ◌<◌, ◌≤◌, List, ℕ, IfOk, IsErrOf, OnOk, length};
+    ghost use Rattle.reg_signer.specs.Forms.{HasForm, IsSignature, identity_of};
+
+    ghost identity = { λ it. identity_of it.algorithm (D.public_key it.device) };
+
+    // The device answered so, and that has the form of a signature under the identity.
+    ghost signs = { λ identity message signature. D.answers identity.public_key message signature × HasForm identity signature };
+
+    ghost failure_count = { λ it. it.failures };
+
+    fn algorithm(&self) -> &[u8] {
+        self.algorithm.identifier()
+    }
+
+    /// A signature of the message: what the device answered, where that has the form of one.
+    fn sign(&mut self, alloc: Global, message: &[u8]) -> Result<Vec<u8>, SignFault>
+        ensures signed { IfOk result (λ signature. D.answers (D.public_key self.old.device) message.now signature.items
+            × HasForm (identity_of self.old.algorithm (D.public_key self.old.device)) signature.items) }
+        ensures short { IfOk result (λ signature. length signature.items ≤ 4096) }
+        ensures device { IsErrOf result SignFault.Device → self.old.failures < self.new.failures }
+        ensures exhausted { self.old.failures ≡ u64.MAX → ¬ (IsErrOf result SignFault.Device) }
+        ensures memory { IsErrOf result SignFault.Memory → self.new.failures ≡ self.old.failures }
+        ensures ok { OnOk result (self.new.failures ≡ self.old.failures) }
+        ensures same_identity { identity_of self.new.algorithm (D.public_key self.new.device)
+            ≡ identity_of self.old.algorithm (D.public_key self.old.device) }
+
+        // A fault of the device comes only where it failed, or its answer has not the form of a signature.
+        ensures why { IsErrOf result SignFault.Device → D.fails self.old.device message.now self.new.device
+            ⊎ ((answer : List ℕ) × D.answers (D.public_key self.old.device) message.now answer
+            × ¬ (IsSignature self.old.algorithm (D.public_key self.old.device) answer)) }
+    {
+        let mut answer = vec![in alloc; 0; LONGEST_ANSWER + 1]?;
+        if self.ask(message, &mut answer) {
+            return Ok(answer);
+        }
+        Err(self.fail())
+    }
+
+    fn failures(&self) -> u64 {
+        self.failures
+    }
+}

@@ -1,0 +1,683 @@
+//! The tests.
+
+ghost use Rattle.std.specs.Prelude.{◌≡◌, length, IfOk};
+
+use crate::connections::{Journal, Manner, OneProcess, Peer, Slow, Ticking};
+use crate::devices::{Given, Scripted};
+use crate::vectors::{
+    ED25519_KEY, ED25519_SIGNATURE, P256_KEY, P256_SIGNATURE, P384_KEY, RSA_KEY, VECTORS, Vector,
+    bytes_of,
+};
+use reg_crl::{SignFault, Signer};
+use reg_signer::{
+    Algorithm, BadSigner, Device, DeviceFault, DeviceSigner, SocketDevice, read_in_time, time_left,
+    write_in_time,
+};
+use std::alloc::Global;
+use std::cell::{Cell, RefCell};
+use std::fs;
+use std::io::ErrorKind;
+use std::os::unix::net::UnixListener;
+use std::rc::Rc;
+use std::test::Fail;
+use std::time::{Duration, Instant};
+
+/// The most bytes of an answer, and one more.
+const ROOM: usize = 4_097;
+
+/// A long answer that is no signature.
+const LONG: [u8; 4096] = [7; 4096];
+
+#[test]
+fn names_and_identifiers_are_those_of_the_standards(rt: HostRuntime) -> Result<(), Fail> {
+    for vector in VECTORS {
+        let identifier = bytes_of(rt.alloc(), vector.identifier)?;
+        let exact = vector.algorithm.name() == vector.name
+            && Algorithm::read(vector.name) == Some(vector.algorithm)
+            && vector.algorithm.identifier() == identifier.as_slice();
+        assert!(rt; exact, "at {vector:?}");
+    }
+    for name in [
+        "",
+        "ecdsa",
+        "ecdsa-sha25",
+        "ecdsa-sha2566",
+        "ECDSA-SHA256",
+        "ecdsa_sha256",
+        " ed25519",
+        "ed448",
+        "rsa-sha384",
+        "sha1",
+    ] {
+        assert!(rt; Algorithm::read(name).is_none(), "at {name}");
+    }
+    Ok(())
+}
+
+#[test]
+fn keys_and_signatures_of_openssl_have_their_forms(rt: HostRuntime) -> Result<(), Fail> {
+    for vector in VECTORS {
+        let key = bytes_of(rt.alloc(), vector.key)?;
+        let signature = bytes_of(rt.alloc(), vector.signature)?;
+        for other in VECTORS {
+            let same = other.algorithm == vector.algorithm;
+            assert!(rt;
+                other.algorithm.is_key(&key) == same,
+                "at {vector:?} {other:?}"
+            );
+            let own_key = bytes_of(rt.alloc(), other.key)?;
+            // What is below 2^256 is below 2^384.
+            let fits = same
+                || (vector.algorithm == Algorithm::EcdsaSha256
+                    && other.algorithm == Algorithm::EcdsaSha384);
+            let told = other.algorithm.is_signature(&own_key, &signature);
+            assert!(rt; told == fits, "at {vector:?} {other:?}");
+        }
+        for count in 0..signature.len() {
+            let short = vector.algorithm.is_signature(&key, &signature[..count]);
+            assert!(rt; !short, "at {vector:?} {count}");
+        }
+        let mut long = signature;
+        long.push(0)?;
+        assert!(rt;
+            !vector.algorithm.is_signature(&key, &long),
+            "at {vector:?}"
+        );
+    }
+    Ok(())
+}
+
+#[test]
+fn signatures_of_ecdsa_are_two_positive_integers_in_der(rt: HostRuntime) -> Result<(), Fail> {
+    for (text, of_256, of_384) in [
+        // r and s are 1; 127; 128; 2^15.
+        ("3006020101020101", true, true),
+        ("300602017F02017F", true, true),
+        ("30080202008002020080", true, true),
+        ("300A02030080000203008000", true, true),
+        // Neither may be 0 or negative, or have an octet too many.
+        ("3006020100020101", false, false),
+        ("3006020101020100", false, false),
+        ("3006020180020101", false, false),
+        ("30060201010201FF", false, false),
+        ("300702020001020101", false, false),
+        ("300702010102020001", false, false),
+        ("3007020200000201FF", false, false),
+        ("3004020002020101", false, false),
+        // One, three, other tags, lengths in more octets than they need, and bytes behind.
+        ("3003020101", false, false),
+        ("3009020101020101020101", false, false),
+        ("3106020101020101", false, false),
+        ("3006030101020101", false, false),
+        ("3006020101030101", false, false),
+        ("308106020101020101", false, false),
+        ("300702810101020101", false, false),
+        ("300602010102010100", false, false),
+        ("3005020101020101", false, false),
+        ("3007020101020101", false, false),
+        ("", false, false),
+        ("30", false, false),
+        ("3000", false, false),
+        // 2^256 - 1 and 2^256, 2^384 - 1 and 2^384.
+        (
+            "3026022100FFFFFFFFFFFFFFFFFFFFFFFFFFFFFFFFFFFFFFFFFFFFFFFFFFFFFFFFFFFFFFFF020101",
+            true,
+            true,
+        ),
+        (
+            "30260221010000000000000000000000000000000000000000000000000000000000000000020101",
+            false,
+            true,
+        ),
+        (
+            "30260201010221010000000000000000000000000000000000000000000000000000000000000000",
+            false,
+            true,
+        ),
+        (
+            "3036020101023100FFFFFFFFFFFFFFFFFFFFFFFFFFFFFFFFFFFFFFFFFFFFFFFFFFFFFFFFFFFFFFFFFFFFFFFFFFFFFFFFFFFFFFFFFFFFFFFF",
+            false,
+            true,
+        ),
+        (
+            "3066023100FFFFFFFFFFFFFFFFFFFFFFFFFFFFFFFFFFFFFFFFFFFFFFFFFFFFFFFFFFFFFFFFFFFFFFFFFFFFFFFFFFFFFFFFFFFFFFFF023100FFFFFFFFFFFFFFFFFFFFFFFFFFFFFFFFFFFFFFFFFFFFFFFFFFFFFFFFFFFFFFFFFFFFFFFFFFFFFFFFFFFFFFFFFFFFFFFF",
+            false,
+            true,
+        ),
+        (
+            "3036023101000000000000000000000000000000000000000000000000000000000000000000000000000000000000000000000000020101",
+            false,
+            false,
+        ),
+        (
+            "3036020101023101000000000000000000000000000000000000000000000000000000000000000000000000000000000000000000000000",
+            false,
+            false,
+        ),
+    ] {
+        let signature = bytes_of(rt.alloc(), text)?;
+        let told = (
+            Algorithm::EcdsaSha256.is_signature(&[], &signature),
+            Algorithm::EcdsaSha384.is_signature(&[], &signature),
+        );
+        assert!(rt; told == (of_256, of_384), "at {text}");
+    }
+    Ok(())
+}
+
+#[test]
+fn signatures_of_other_algorithms_are_told_by_their_length(rt: HostRuntime) -> Result<(), Fail> {
+    let rsa_key = bytes_of(rt.alloc(), RSA_KEY)?;
+    for (count, of_rsa, of_ed25519) in [
+        (0, false, false),
+        (63, false, false),
+        (64, false, true),
+        (65, false, false),
+        (255, false, false),
+        (256, true, false),
+        (257, false, false),
+        (4_096, false, false),
+    ] {
+        let signature = vec![in rt.alloc(); 0; count]?;
+        let told = (
+            Algorithm::RsaSha256.is_signature(&rsa_key, &signature),
+            Algorithm::Ed25519.is_signature(&rsa_key, &signature),
+        );
+        assert!(rt; told == (of_rsa, of_ed25519), "at {count}");
+    }
+    // A modulus of one octet, of two, and one of two octets that needs a third in DER (RFC 8017 A.1.1).
+    for (key, count) in [
+        ("300602010F020103", 1),
+        ("300702020100020103", 2),
+        ("3008020300FFFF020103", 2),
+        ("3008020301FFFF020103", 3),
+    ] {
+        let key = bytes_of(rt.alloc(), key)?;
+        for size in 0..5 {
+            let signature = vec![in rt.alloc(); 0; size]?;
+            let told = Algorithm::RsaSha256.is_signature(&key, &signature);
+            assert!(rt; told == (size == count), "at {key:?} {size}");
+        }
+    }
+    Ok(())
+}
+
+#[test]
+fn keys_have_the_forms_of_their_algorithms(rt: HostRuntime) -> Result<(), Fail> {
+    for (algorithm, first, count, is_key) in [
+        (Algorithm::EcdsaSha256, 4, 65, true),
+        (Algorithm::EcdsaSha256, 2, 33, true),
+        (Algorithm::EcdsaSha256, 3, 33, true),
+        (Algorithm::EcdsaSha256, 4, 64, false),
+        (Algorithm::EcdsaSha256, 4, 66, false),
+        (Algorithm::EcdsaSha256, 4, 33, false),
+        (Algorithm::EcdsaSha256, 2, 65, false),
+        (Algorithm::EcdsaSha256, 0, 1, false),
+        (Algorithm::EcdsaSha256, 6, 65, false),
+        (Algorithm::EcdsaSha256, 4, 97, false),
+        (Algorithm::EcdsaSha384, 4, 97, true),
+        (Algorithm::EcdsaSha384, 2, 49, true),
+        (Algorithm::EcdsaSha384, 3, 49, true),
+        (Algorithm::EcdsaSha384, 4, 65, false),
+        (Algorithm::EcdsaSha384, 5, 97, false),
+        (Algorithm::Ed25519, 4, 32, true),
+        (Algorithm::Ed25519, 4, 31, false),
+        (Algorithm::Ed25519, 4, 33, false),
+        (Algorithm::RsaSha256, 4, 65, false),
+    ] {
+        let mut key = vec![in rt.alloc(); 0; count]?;
+        match key.first_mut() {
+            Some(place) => *place = first,
+            None => {}
+        }
+        assert!(rt;
+            algorithm.is_key(&key) == is_key,
+            "at {algorithm:?} {first} {count}"
+        );
+    }
+    for (text, is_key) in [
+        ("300602010F020103", true),
+        ("3006020100020103", false),
+        ("300602010F020100", false),
+        ("3003020105", false),
+        ("616263", false),
+        ("", false),
+    ] {
+        let key = bytes_of(rt.alloc(), text)?;
+        assert!(rt; Algorithm::RsaSha256.is_key(&key) == is_key, "at {text}");
+    }
+    Ok(())
+}
+
+/// A signer over a device that gives these in turn.
+fn scripted(
+    alloc: Global,
+    vector: Vector,
+    gives: Vec<Given>,
+) -> Result<DeviceSigner<Scripted>, Fail> {
+    let device = Scripted {
+        key: bytes_of(alloc, vector.key)?,
+        gives,
+        calls: 0,
+    };
+    Ok(DeviceSigner::new(device, vector.algorithm)?)
+}
+
+#[test]
+fn a_signer_wants_a_key_of_its_algorithm(rt: HostRuntime) -> Result<(), Fail> {
+    for vector in VECTORS {
+        for other in VECTORS {
+            let device = Scripted {
+                key: bytes_of(rt.alloc(), vector.key)?,
+                gives: Vec::new(rt.alloc()),
+                calls: 0,
+            };
+            let refused = matches!(&DeviceSigner::new(device, other.algorithm), Err(BadSigner));
+            assert!(rt;
+                refused == (vector.algorithm != other.algorithm),
+                "at {vector:?} {other:?}"
+            );
+        }
+    }
+    Ok(())
+}
+
+/// An answer, made of a signature by a change.
+fn answer(alloc: Global, vector: Vector, change: &str) -> Result<Given, Fail> {
+    let mut bytes = bytes_of(alloc, vector.signature)?;
+    match change {
+        "empty" => bytes.clear(),
+        "short" => bytes.truncate(bytes.len().saturating_sub(1)),
+        "long" => bytes.push(0)?,
+        "longest" => {
+            bytes.clear();
+            bytes.extend_from_slice(&LONG)?;
+        }
+        "failure" => return Ok(Given::Failure),
+        _ => {}
+    }
+    Ok(Given::Answer(bytes))
+}
+
+/// Asks a signer, and whether it gave the signature, with the failures that it has counted then.
+fn ask<S: Signer>(
+    alloc: Global,
+    signer: &mut S,
+    signature: &[u8],
+) -> (Result<bool, SignFault>, u64) {
+    let signed = match signer.sign(alloc, b"the bytes to be signed") {
+        Ok(given) => Ok(given.as_slice() == signature),
+        Err(fault) => Err(fault),
+    };
+    (signed, signer.failures())
+}
+
+#[test]
+fn what_is_no_signature_is_a_failure_that_is_counted(rt: HostRuntime) -> Result<(), Fail> {
+    for vector in VECTORS {
+        let signature = bytes_of(rt.alloc(), vector.signature)?;
+        let mut gives = Vec::new(rt.alloc());
+        for change in [
+            "none", "empty", "short", "none", "long", "longest", "failure", "none",
+        ] {
+            gives.push(answer(rt.alloc(), vector, change)?)?;
+        }
+        let mut signer = scripted(rt.alloc(), vector, gives)?;
+        for (failures, signs) in [
+            (0, true),
+            (1, false),
+            (2, false),
+            (2, true),
+            (3, false),
+            (4, false),
+            (5, false),
+            (5, true),
+            (6, false),
+        ] {
+            let expected = if signs {
+                Ok(true)
+            } else {
+                Err(SignFault::Device)
+            };
+            let told = ask(rt.alloc(), &mut signer, &signature);
+            assert!(rt; told == (expected, failures), "at {vector:?} {failures}");
+            let same = signer.algorithm() == vector.algorithm.identifier();
+            assert!(rt; same, "at {vector:?}");
+        }
+    }
+    Ok(())
+}
+
+/// A journal with nothing in it.
+fn journal(alloc: Global) -> Result<Rc<Journal>, Fail> {
+    Ok(Rc::new(
+        alloc,
+        Journal {
+            written: RefCell::new(Vec::new(alloc)),
+            read: Cell::new(0),
+            made: Cell::new(0),
+            finished: Cell::new(0),
+            calls: Cell::new(0),
+        },
+    )?)
+}
+
+/// A device behind connections of this manner.
+fn peer(alloc: Global, journal: &Rc<Journal>, manner: Manner) -> Result<SocketDevice<Peer>, Fail> {
+    let peer = Peer {
+        manner,
+        journal: journal.clone()?,
+    };
+    Ok(SocketDevice::new(peer, String::from_str(alloc, "ca.sign")?, Vec::new(alloc)))
+}
+
+#[test]
+fn an_exchange_writes_all_and_reads_to_the_end(rt: HostRuntime) -> Result<(), Fail> {
+    let message = vec![in rt.alloc(); 9; 100_000]?;
+    for piece in [1, 7, 64, 4_095, 4_096, 4_097, 200_000] {
+        for (answer, length) in [
+            (0, Ok(0)),
+            (3, Ok(3)),
+            (4_096, Ok(4_096)),
+            (4_097, Err(DeviceFault)),
+            (1_000_000, Err(DeviceFault)),
+        ] {
+            let journal = journal(rt.alloc())?;
+            let manner = Manner {
+                answer,
+                piece,
+                fails_at: 0,
+            };
+            let mut device = peer(rt.alloc(), &journal, manner)?;
+            let mut room = vec![in rt.alloc(); 0; ROOM]?;
+            assert!(rt; room.len() == ROOM);
+            let told = device.exchange(&message, &mut room);
+            assert!(rt; told == length, "at {piece} {answer}");
+            assert!(rt;
+                told.is_err() || room.starts_with(&LONG[..answer.min(4_096)]),
+                "at {piece} {answer}"
+            );
+            let whole = match journal.written.try_borrow() {
+                Ok(written) => written.as_slice() == message.as_slice(),
+                Err(_) => false,
+            };
+            assert!(rt; whole, "at {piece} {answer}");
+            let once = journal.made.get() == 1 && journal.finished.get() == 1;
+            assert!(rt; once && journal.read.get() <= ROOM, "at {piece} {answer}");
+        }
+    }
+    Ok(())
+}
+
+#[test]
+fn an_exchange_that_fails_at_any_call_is_a_failure(rt: HostRuntime) -> Result<(), Fail> {
+    let signature = bytes_of(rt.alloc(), ED25519_SIGNATURE)?;
+    assert!(rt; signature.len() == 64);
+    // One call to connect, three to write 22 bytes, one to tell the end, eight and one to read 64 bytes and their end.
+    for fails_at in 0..16 {
+        let journal = journal(rt.alloc())?;
+        let manner = Manner {
+            answer: 64,
+            piece: 8,
+            fails_at,
+        };
+        let peer = Peer {
+            manner,
+            journal: journal.clone()?,
+        };
+        let key = bytes_of(rt.alloc(), ED25519_KEY)?;
+        let path = String::from_str(rt.alloc(), "ca.sign")?;
+        let device = SocketDevice::new(peer, path, key);
+        let mut signer = DeviceSigner::new(device, Algorithm::Ed25519)?;
+        let fails = 0 < fails_at && fails_at <= 14;
+        let expected = if fails {
+            (Err(SignFault::Device), 1)
+        } else {
+            (Ok(true), 0)
+        };
+        let told = ask(rt.alloc(), &mut signer, &LONG[..64]);
+        assert!(rt; told == expected, "at {fails_at}");
+        // The next one is another exchange.
+        let next = ask(rt.alloc(), &mut signer, &LONG[..64]);
+        assert!(rt;
+            next == (Ok(true), expected.1) || fails_at == 15,
+            "at {fails_at}"
+        );
+    }
+    Ok(())
+}
+
+#[test]
+fn an_exchange_has_ten_seconds_in_all(rt: HostRuntime) -> Result<(), Fail> {
+    let began = Instant::now(&Ticking {
+        millis: Cell::new(1_000),
+        step: 0,
+    })?;
+    for (millis, left) in [
+        (1_000, Some(10_000)),
+        (1_001, Some(9_999)),
+        (10_999, Some(1)),
+        (11_000, None),
+        (11_001, None),
+        (500, Some(10_000)),
+    ] {
+        let now = Instant::now(&Ticking {
+            millis: Cell::new(millis),
+            step: 0,
+        })?;
+        let expected = left.map(|millis: u64| Duration::from_millis(millis));
+        assert!(rt; time_left(began, now) == expected, "at {millis}");
+    }
+    Ok(())
+}
+
+/// A stream that was not asked yet, whose first calls a signal interrupts.
+fn slow(alloc: Global, interrupted: usize) -> Slow {
+    Slow {
+        waits: Vec::new(alloc),
+        interrupted,
+        longest: 0,
+    }
+}
+
+/// A clock that a reading moves on by so many milliseconds.
+fn ticking(step: u64) -> Ticking {
+    Ticking {
+        millis: Cell::new(0),
+        step,
+    }
+}
+
+#[test]
+fn a_peer_that_is_slow_at_each_byte_gets_no_more_time(rt: HostRuntime) -> Result<(), Fail> {
+    let clock = ticking(4_000);
+    let began = Instant::now(&clock)?;
+    let mut stream = slow(rt.alloc(), 0);
+    let mut read: usize = 0;
+    let mut late = false;
+    for _ in 0..10 {
+        match read_in_time(&mut stream, &clock, began, &mut [0; 3]) {
+            Ok(count) => read = read.saturating_add(count),
+            Err(error) => late = late || error.kind() == ErrorKind::TimedOut,
+        }
+    }
+    assert!(rt; read == 2 && late);
+    assert!(rt;
+        stream.waits.as_slice() == [6_000, 2_000].as_slice(),
+        "{:?}",
+        stream.waits
+    );
+
+    let clock = ticking(4_000);
+    let began = Instant::now(&clock)?;
+    let mut stream = slow(rt.alloc(), 0);
+    let mut written: usize = 0;
+    for _ in 0..10 {
+        if write_in_time(&mut stream, &clock, began, b"abc").is_ok() {
+            written = written.saturating_add(1);
+        }
+    }
+    assert!(rt; written == 2);
+    assert!(rt;
+        stream.waits.as_slice() == [6_000, 2_000].as_slice(),
+        "{:?}",
+        stream.waits
+    );
+    Ok(())
+}
+
+#[test]
+fn a_signal_ends_no_exchange_and_gives_no_more_time(rt: HostRuntime) -> Result<(), Fail> {
+    let clock = ticking(1_000);
+    let began = Instant::now(&clock)?;
+    let mut stream = slow(rt.alloc(), 3);
+    let read = read_in_time(&mut stream, &clock, began, &mut [0; 3])?;
+    assert!(rt; read == 1);
+    let waits = [9_000, 8_000, 7_000, 6_000];
+    assert!(rt;
+        stream.waits.as_slice() == waits.as_slice(),
+        "{:?}",
+        stream.waits
+    );
+
+    let clock = ticking(1_000);
+    let began = Instant::now(&clock)?;
+    let mut stream = slow(rt.alloc(), 100);
+    let late = match write_in_time(&mut stream, &clock, began, b"abc") {
+        Ok(_) => false,
+        Err(error) => error.kind() == ErrorKind::TimedOut,
+    };
+    assert!(rt; late && stream.waits.len() == 9, "{:?}", stream.waits);
+    Ok(())
+}
+
+#[test]
+fn a_write_is_handed_no_more_than_a_piece(rt: HostRuntime) -> Result<(), Fail> {
+    for (length, longest) in [
+        (0, 0),
+        (1, 1),
+        (32_768, 32_768),
+        (32_769, 32_768),
+        (1_000_000, 32_768),
+    ] {
+        let clock = ticking(0);
+        let began = Instant::now(&clock)?;
+        let mut stream = slow(rt.alloc(), 0);
+        let message = vec![in rt.alloc(); 0; length]?;
+        let written = write_in_time(&mut stream, &clock, began, &message)?;
+        assert!(rt;
+            written == longest && stream.longest == longest,
+            "at {length}"
+        );
+    }
+    Ok(())
+}
+
+/// A device behind a socket of the machine's, whose peer answers so.
+fn one_process(
+    rt: &HostRuntime,
+    path: &str,
+    key: &str,
+    asked: &Rc<RefCell<Vec<u8>>>,
+    answer: usize,
+) -> Result<SocketDevice<OneProcess>, Fail> {
+    let _ = fs::remove_file(rt, path);
+    let connector = OneProcess {
+        rt: *rt,
+        listener: Rc::new(rt.alloc(), UnixListener::bind(rt, path)?)?,
+        asked: asked.clone()?,
+        answer,
+    };
+    Ok(SocketDevice::new(
+        connector,
+        String::from_str(rt.alloc(), path)?,
+        bytes_of(rt.alloc(), key)?,
+    ))
+}
+
+#[test]
+fn a_socket_of_the_machine_takes_a_message_and_gives_a_signature(
+    rt: HostRuntime,
+) -> Result<(), Fail> {
+    let path = "signer_examples.sign";
+    let asked = Rc::new(rt.alloc(), RefCell::new(Vec::new(rt.alloc())))?;
+    let device = one_process(&rt, path, ED25519_KEY, &asked, 64)?;
+    let mut signer = DeviceSigner::new(device, Algorithm::Ed25519)?;
+    for _ in 0..3 {
+        let told = ask(rt.alloc(), &mut signer, &LONG[..64]);
+        assert!(rt; told == (Ok(true), 0));
+    }
+    let message = match asked.try_borrow() {
+        Ok(asked) => {
+            asked.as_slice()
+                == b"the bytes to be signedthe bytes to be signedthe bytes to be signed".as_slice()
+        }
+        Err(_) => false,
+    };
+    assert!(rt; message);
+    fs::remove_file(&rt, path)?;
+    Ok(())
+}
+
+#[test]
+fn a_peer_that_closes_or_says_too_much_gives_no_signature(rt: HostRuntime) -> Result<(), Fail> {
+    let path = "signer_examples.other";
+    for answer in [0, 1, 63, 65, 4_096, 10_000] {
+        let asked = Rc::new(rt.alloc(), RefCell::new(Vec::new(rt.alloc())))?;
+        let device = one_process(&rt, path, ED25519_KEY, &asked, answer)?;
+        let mut signer = DeviceSigner::new(device, Algorithm::Ed25519)?;
+        let told = ask(rt.alloc(), &mut signer, &LONG[..64]);
+        assert!(rt; told == (Err(SignFault::Device), 1), "at {answer}");
+        fs::remove_file(&rt, path)?;
+    }
+    Ok(())
+}
+
+/// A signer at a path of the machine's.
+fn at_path(rt: &HostRuntime, path: &str) -> Result<DeviceSigner<SocketDevice<HostRuntime>>, Fail> {
+    let device = SocketDevice::new(
+        *rt,
+        String::from_str(rt.alloc(), path)?,
+        bytes_of(rt.alloc(), P256_KEY)?,
+    );
+    Ok(DeviceSigner::new(device, Algorithm::EcdsaSha256)?)
+}
+
+#[test]
+fn a_socket_that_nobody_listens_at_gives_no_signature(rt: HostRuntime) -> Result<(), Fail> {
+    let path = "signer_examples.gone";
+    let _ = fs::remove_file(&rt, path);
+    // No file; a file that is no socket; a socket that nobody listens at any more; no path.
+    let mut signer = at_path(&rt, path)?;
+    assert!(rt; ask(rt.alloc(), &mut signer, b"") == (Err(SignFault::Device), 1));
+    fs::write(&rt, path, "no socket")?;
+    assert!(rt; ask(rt.alloc(), &mut signer, b"") == (Err(SignFault::Device), 2));
+    fs::remove_file(&rt, path)?;
+    drop(UnixListener::bind(&rt, path)?);
+    assert!(rt; ask(rt.alloc(), &mut signer, b"") == (Err(SignFault::Device), 3));
+    fs::remove_file(&rt, path)?;
+    for path in ["", "nul\0", "no_such_folder/ca.sign"] {
+        let mut signer = at_path(&rt, path)?;
+        assert!(rt;
+            ask(rt.alloc(), &mut signer, b"") == (Err(SignFault::Device), 1),
+            "at {path:?}"
+        );
+    }
+    Ok(())
+}
+
+#[test]
+fn a_peer_that_says_nothing_is_waited_for_ten_seconds(rt: HostRuntime) -> Result<(), Fail> {
+    let path = "signer_examples.silent";
+    let _ = fs::remove_file(&rt, path);
+    let _listener = UnixListener::bind(&rt, path)?;
+    let mut signer = at_path(&rt, path)?;
+    let began = Instant::now(&rt)?;
+    let told = ask(rt.alloc(), &mut signer, b"");
+    let passed = began.elapsed(&rt)?;
+    assert!(rt; told == (Err(SignFault::Device), 1));
+    let ten = Duration::from_secs(9) < passed && passed < Duration::from_secs(20);
+    assert!(rt; ten, "{passed:?}");
+    fs::remove_file(&rt, path)?;
+    Ok(())
+}

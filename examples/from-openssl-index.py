@@ -1,0 +1,269 @@
+#!/usr/bin/env python3
+"""Reads the index.txt of `openssl ca`, and writes the script that makes a new register say the same.
+
+    examples/from-openssl-index.py demoCA/index.txt --certs demoCA/newcerts > moved.txt
+    desk init ca.db --name HEX --key HEX
+    desk script ca.db < moved.txt
+
+The script is for a new register: it counts its ids from 1, and tells each event at the moment at which it was, in their order. So a
+revocation of last year stands in the register with last year's moment. What can't be carried over is told on standard error, a line each.
+
+A line of an index has no notBefore. With --certs it is read from the certificates (DIR/SERIAL.pem, as `openssl ca` leaves them; a folder of
+10,000 takes a minute or so), with --days N it is N days before notAfter, which is what `openssl ca -days N` made.
+
+A certificate on hold is neither good nor revoked, and a register has no hold: --hold says what becomes of it. Without it nothing is written
+where the index has one.
+
+Exit status: 0 where all was carried over or told, 1 where nothing was written, 2 where the words can't be read.
+"""
+import argparse
+import datetime
+import os
+import re
+import subprocess
+import sys
+from collections import namedtuple
+
+# The words of openssl's index (apps/ca.c), and the ground that has their reason (docs/RULES.md). None: no ground has it.
+GROUNDS = {
+    "": "asked",
+    "unspecified": "asked",
+    "keycompromise": "key-compromise",
+    "keytime": "key-compromise",
+    "cacompromise": None,
+    "cakeytime": None,
+    "affiliationchanged": "affiliation",
+    "superseded": "superseded",
+    "cessationofoperation": "cessation",
+}
+HOLDS = {"certificatehold", "holdinstruction", "removefromcrl"}
+
+DAY = 86400
+LONGEST_DAYS = 398
+GREATEST_SERIAL = 2**159 - 1
+LAST_MOMENT = 253401436799  # 9999-12-21T23:59:59Z
+MOST_ROWS = 1_000_000
+
+Line = namedtuple("Line", "number state not_after revoked reason serial subject")
+Cert = namedtuple("Cert", "line not_before registered")
+
+
+class Unreadable(Exception):
+    """A line that no `openssl ca` wrote, or a certificate that can't be read."""
+
+
+def seconds(text):
+    """The moment of an ASN.1 time, YYMMDDHHMMSSZ or YYYYMMDDHHMMSSZ (RFC 5280 4.1.2.5), in seconds since 1970."""
+    if not re.fullmatch(r"(\d{2})?\d{12}Z", text):
+        raise Unreadable(f"'{text}' is no time")
+    if len(text) == 13:
+        text = ("19" if text[0] >= "5" else "20") + text
+    try:
+        at = datetime.datetime.strptime(text, "%Y%m%d%H%M%SZ").replace(tzinfo=datetime.timezone.utc)
+    except ValueError as fault:
+        raise Unreadable(f"'{text}' is no time") from fault
+    return int(at.timestamp())
+
+
+def moment(at):
+    """The text of a moment, as a script has it."""
+    return (datetime.datetime(1970, 1, 1) + datetime.timedelta(seconds=at)).strftime("%Y-%m-%dT%H:%M:%SZ")
+
+
+def read_line(number, text):
+    """One line of an index: state, notAfter, moment and reason of revocation, serial number, file, subject, parted by tabs."""
+    fields = text.rstrip("\r\n").split("\t")
+    if len(fields) != 6 or fields[0] not in ("V", "R", "E") or not re.fullmatch(r"[0-9A-Fa-f]+", fields[3]):
+        raise Unreadable("no line of an index")
+    revoked, _, reason = fields[2].partition(",")
+    if (fields[0] == "R") != bool(revoked):
+        raise Unreadable("a revoked line has a moment of revocation, and no other has")
+    return Line(number, fields[0], seconds(fields[1]), seconds(revoked) if revoked else None, reason, fields[3], fields[5])
+
+
+def read_index(path):
+    lines = []
+    with open(path, encoding="utf-8", errors="replace") as file:
+        for number, text in enumerate(file, 1):
+            if text.startswith("#"):
+                continue
+            try:
+                lines.append(read_line(number, text))
+            except Unreadable as fault:
+                raise Unreadable(f"{path}:{number}: {fault}") from fault
+    return lines
+
+
+def started(folder, serial):
+    """notBefore of the certificate that `openssl ca` left in the folder."""
+    path = os.path.join(folder, f"{serial}.pem")
+    got = subprocess.run(["openssl", "x509", "-in", path, "-noout", "-startdate"], capture_output=True, text=True, check=False)
+    if got.returncode != 0 or not got.stdout.startswith("notBefore="):
+        raise Unreadable(f"openssl can't read {path}")
+    at = datetime.datetime.strptime(got.stdout.strip(), "notBefore=%b %d %H:%M:%S %Y GMT")
+    return int(at.replace(tzinfo=datetime.timezone.utc).timestamp())
+
+
+def name_of(subject, taken):
+    """A subscriber's name for a subject: its common name in the bytes that a name may have, with a number where that name is taken."""
+    found = re.search(r"/CN=((?:[^/\\]|\\.)*)", subject)
+    base = re.sub(r"[^A-Za-z0-9._-]+", "-", found.group(1) if found else subject).strip("-")[:64] or "nobody"
+    name = base
+    while name in taken:
+        taken[base] += 1
+        name = f"{base[:63 - len(str(taken[base]))]}.{taken[base]}"
+    taken[name] = 1
+    return name
+
+
+class Mover:
+    """What is carried over, and what is told of it."""
+
+    def __init__(self, words):
+        self.words = words
+        self.told = []
+
+    def tell(self, line, text):
+        self.told.append((line.number, f"line {line.number}, serial number {line.serial}: {text}"))
+
+    def cert_of(self, line, seen):
+        """The certificate of a line, or None, with why it can't be registered told."""
+        serial = int(line.serial, 16)
+        if not 1 <= serial <= GREATEST_SERIAL:
+            return self.tell(line, "left out: serial numbers are 1 to 2^159 - 1")
+        if serial in seen:
+            return self.tell(line, "left out: another line has the serial number")
+        not_before = started(self.words.certs, line.serial) if self.words.certs else line.not_after - self.words.days * DAY
+        days = (line.not_after - not_before) // DAY + 1
+        if not_before > line.not_after:
+            return self.tell(line, "left out: it ends before it begins")
+        if days > LONGEST_DAYS:
+            return self.tell(line, f"left out: valid for {days} days, both ends counted, and no register takes more than {LONGEST_DAYS}")
+        if not_before < 0 or line.not_after > LAST_MOMENT:
+            return self.tell(line, "left out: it begins before 1970, or ends after 9999-12-21")
+        seen.add(serial)
+        # Registered when it began; before that, where it was revoked before that or has not begun yet.
+        at = min(not_before, self.words.now) if line.revoked is None else min(not_before, self.words.now, max(line.revoked, 0))
+        return Cert(line, not_before, at)
+
+    def revocation_of(self, cert):
+        """When a certificate is revoked and on which ground, or None."""
+        line = cert.line
+        if line.state != "R":
+            return None
+        word = line.reason.partition(",")[0].lower()
+        at, ground = max(line.revoked, 0), GROUNDS.get(word)
+        if min(at, self.words.now) > line.not_after:
+            return self.tell(line, "not revoked: it had ended before, and what has ended is revoked no more")
+        if word in HOLDS:
+            if self.words.hold == "good":
+                return self.tell(line, "it was on hold, and is good in the register")
+            self.tell(line, "it was on hold, and is revoked for good in the register, with no reason")
+            ground = "asked"
+        elif ground is None:
+            self.tell(line, f"revoked with reason 1, keyCompromise: no ground has the reason '{line.reason}'")
+            ground = "key-compromise"
+        elif word == "keytime":
+            self.tell(line, "revoked without the time at which its key was compromised: a register has no invalidity dates")
+        if at > self.words.now:
+            self.tell(line, f"revoked at {moment(self.words.now)}: the index has {moment(at)}, which is still to come")
+            at = self.words.now
+        return at, ground
+
+    def events(self, lines):
+        """What happened, in order: the moment, the lines' order, and what."""
+        seen, events = set(), []
+        for line in lines:
+            cert = self.cert_of(line, seen)
+            if cert is None:
+                continue
+            events.append((cert.registered, 0, line.number, cert, None))
+            revoked = self.revocation_of(cert)
+            if revoked is not None:
+                events.append((revoked[0], 1, line.number, cert, revoked[1]))
+        events.sort(key=lambda event: event[:3])
+        return events
+
+
+def script(events, crls, now):
+    """The lines of the script. Ids are counted as the register counts them: no line of these is refused."""
+    subscribers, names, orders, requests = {}, {}, 0, 0
+    for _ in range(crls):
+        yield f"{moment(events[0][0] if events else now)} crl"
+    for at, kind, _, cert, ground in events:
+        line, when = cert.line, moment(at)
+        if kind == 0:
+            if line.subject not in subscribers:
+                subscribers[line.subject] = len(subscribers) + 1
+                yield f"{when} subscriber {name_of(line.subject, names)}"
+            orders += 1
+            days = (line.not_after - cert.not_before) // DAY + 1
+            yield f"{when} order {subscribers[line.subject]} {days}"
+            yield f"{when} register {orders} {line.serial} {moment(cert.not_before)} {moment(line.not_after)}"
+        else:
+            requests += 1
+            yield f"{when} request {line.serial} {ground}"
+            yield f"{when} revoke {requests}"
+
+
+def read_words():
+    parser = argparse.ArgumentParser(description="Writes the script that makes a new register say what an index of openssl ca says.")
+    parser.add_argument("index", help="index.txt of `openssl ca`")
+    start = parser.add_mutually_exclusive_group(required=True)
+    start.add_argument("--certs", metavar="DIR", help="the folder of certificates, SERIAL.pem each, for notBefore")
+    start.add_argument("--days", type=int, metavar="N", help="each certificate was made for N days (1 to 397)")
+    parser.add_argument("--hold", choices=["revoke", "good"], help="what becomes of a certificate on hold")
+    parser.add_argument("--crlnumber", metavar="FILE", help="openssl's file of the next CRL number: the register's next CRL gets that number")
+    parser.add_argument("--now", metavar="MOMENT", help="no line is later than this (the machine's clock)")
+    words = parser.parse_args()
+    if words.days is not None and not 1 <= words.days < LONGEST_DAYS:
+        parser.error("--days is 1 to 397")
+    if words.now is None:
+        words.now = int(datetime.datetime.now(datetime.timezone.utc).timestamp())
+    else:
+        try:
+            words.now = seconds(re.sub("[-:T]", "", words.now))
+        except Unreadable:
+            parser.error("--now is a moment, as 2026-01-01T00:00:00Z")
+    return words
+
+
+def earlier_crls(path):
+    """How many CRLs openssl has issued, by its file of the next number."""
+    with open(path, encoding="ascii") as file:
+        issued = int(file.read().strip(), 16) - 1
+    if not 0 <= issued < MOST_ROWS:
+        raise Unreadable(f"{path}: a register has 1,000,000 CRLs at most")
+    return issued
+
+
+def main():
+    words = read_words()
+    mover = Mover(words)
+    try:
+        lines = read_index(words.index)
+        crls = earlier_crls(words.crlnumber) if words.crlnumber else 0
+        held = [line for line in lines if line.reason.partition(",")[0].lower() in HOLDS]
+        if held and words.hold is None:
+            raise Unreadable(f"{len(held)} certificates are on hold, the first at line {held[0].number}: say --hold revoke or --hold good")
+        odd = [line for line in lines if line.reason.partition(",")[0].lower() not in HOLDS | set(GROUNDS)]
+        if odd:
+            raise Unreadable(f"{words.index}:{odd[0].number}: the reason '{odd[0].reason}' is none of openssl's")
+        if len(lines) > MOST_ROWS:
+            raise Unreadable(f"{words.index}: a register has 1,000,000 certificates at most")
+        events = mover.events(lines)
+    except (OSError, ValueError, Unreadable) as fault:
+        sys.exit(f"from-openssl-index: {fault}; nothing was written")
+    written = 0
+    for text in script(events, crls, words.now):
+        print(text)
+        written += 1
+    for _, text in sorted(mover.told):
+        print(text, file=sys.stderr)
+    carried = sum(1 for event in events if event[1] == 0)
+    print(f"{len(lines)} lines of the index, {carried} certificates, {len(events) - carried} revocations, {written} lines of the script", file=sys.stderr)
+    if written > MOST_ROWS:
+        print("a script has 1,000,000 lines at most: split it, and run its parts one after the other", file=sys.stderr)
+
+
+main()

@@ -1,0 +1,28 @@
+# Completion of the command `desk` in bash. Which commands and options there are is asked of the installed program, by its --help.
+
+_desk() {
+    local cur=${COMP_WORDS[COMP_CWORD]} previous=${COMP_WORDS[COMP_CWORD - 1]} program help value
+    program=$(type -P desk) || return
+    if [ "$COMP_CWORD" -eq 1 ]; then
+        help=$("$program" --help)
+        mapfile -t COMPREPLY < <(compgen -W "$(sed -n '/^Commands:/,/^$/s/^  \([a-z][a-z-]*\).*/\1/p' <<<"$help") --help --version" -- "$cur")
+        return
+    fi
+    help=$("$program" "${COMP_WORDS[1]}" --help 2>/dev/null) || return
+    # What the option before wants: a moment is the machine's, a file or a socket is looked for, a number is the caller's.
+    value=$(sed -n "s/^ *\(-., \)\?$previous <\([A-Z=]*\)>.*/\2/p" <<<"$help")
+    case $previous:$value in
+    --*:MOMENT) mapfile -t COMPREPLY < <(compgen -W "$(date -u +%Y-%m-%dT%H:%M:%SZ)" -- "$cur") ;;
+    --*:FILE | --*:SOCKET) mapfile -t COMPREPLY < <(compgen -f -- "$cur") ;;
+    --*:?*) COMPREPLY=() ;;
+    *)
+        if [[ $cur == -* ]]; then
+            mapfile -t COMPREPLY < <(compgen -W "$(grep -oE -- '^ +(-., )?--[a-z-]+' <<<"$help" | grep -oE -- '--[a-z-]+')" -- "$cur")
+        else
+            mapfile -t COMPREPLY < <(compgen -f -- "$cur")
+        fi
+        ;;
+    esac
+}
+
+complete -o filenames -F _desk desk

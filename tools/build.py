@@ -1,0 +1,202 @@
+#!/usr/bin/env python3
+"""Proves and builds a program of this repository with all the libraries below it, as many side by side as there are processors
+and memory allows, those with the longest chain of others behind them first. Tells on standard error which crate of how many is
+done, and how long it took; a crate that fails ends it with that crate's messages. What is built already and has not changed is
+taken as it is.
+
+Usage: tools/build.py [--times] [CRATE]        (CRATE is reg_desk if left out; --times prints each crate's seconds of
+the processor, and of the clock, at the end)
+"""
+import fcntl
+import os
+import re
+import shutil
+import subprocess
+import sys
+import tempfile
+import time
+from concurrent.futures import FIRST_COMPLETED, ThreadPoolExecutor, wait
+
+TOP = os.path.dirname(os.path.dirname(os.path.abspath(__file__)))
+RT = shutil.which("rt") or "/opt/rattle/bin/rt"
+# What one check may take, by what was seen; a second job of a check takes about half as much again.
+MEMORY_OF_A_CHECK = 3_000_000_000
+MOST_JOBS = 4
+
+
+class Crate:
+    """A line of crates.txt: a crate, and the crates of this repository that it stands on."""
+
+    def __init__(self, line, name, uses):
+        self.line, self.name, self.uses = line, name, uses
+        self.folder = f"{TOP}/crates/{name}"
+        self.lines = sum(text.count(b"\n") for text in sources(self.folder))
+
+    def is_program(self):
+        return os.path.isfile(f"{self.folder}/src/main.rt")
+
+
+def sources(folder):
+    for part in ("src", "specs", "proofs"):
+        for at, _, names in os.walk(f"{folder}/{part}"):
+            for name in names:
+                with open(f"{at}/{name}", "rb") as file:
+                    yield file.read()
+
+
+def read_crates():
+    """Returns the crates by name, each after those that it stands on."""
+    with open(f"{TOP}/crates.txt", encoding="utf-8") as file:
+        rows = [row.partition("#")[0].strip() for row in file]
+    rows = [(row, re.match(r"(\w+)[^:]*:(.*)", row)) for row in rows if row]
+    names = {words[1] for _, words in rows}
+    return {words[1]: Crate(row, words[1], [it for it in words[2].split() if it in names]) for row, words in rows}
+
+
+def below(crates, name):
+    """Returns the names of the crates that this one stands on, each after those that it stands on itself."""
+    found = []
+    for it in crates[name].uses:
+        found += [other for other in [*below(crates, it), it] if other not in found]
+    return found
+
+
+def link_or_copy(source, target):
+    try:
+        os.link(source, target)
+    except OSError:
+        shutil.copy2(source, target)
+
+
+def lend(crate, room, parts):
+    """Puts these parts of a crate's folder into a room, as links where the room lies on the same disk."""
+    for part in parts:
+        if os.path.isdir(f"{crate.folder}/{part}"):
+            shutil.copytree(f"{crate.folder}/{part}", f"{room}/crates/{crate.name}/{part}", copy_function=link_or_copy)
+
+
+class Built:
+    """How a crate's build ended: rt's status, what it said, and the seconds and the processor's seconds that it took."""
+
+    def __init__(self, words, folder):
+        started = time.monotonic()
+        how = {"stdin": subprocess.DEVNULL, "stdout": subprocess.PIPE, "stderr": subprocess.STDOUT, "errors": "replace"}
+        with subprocess.Popen([*words], cwd=folder, **how) as ran:
+            self.said = ran.stdout.read()
+            _, status, used = os.wait4(ran.pid, 0)
+            ran.returncode = self.status = os.waitstatus_to_exitcode(status)
+        self.seconds, self.processor = time.monotonic() - started, used.ru_utime + used.ru_stime
+
+
+def rt_command(jobs, is_first, *words):
+    """Returns the words of a run of rt. What the longest chain does not wait for gives way to it."""
+    return [*([] if is_first else ["nice", "-n", "10"]), RT, words[0], "--jobs", str(jobs), *words[1:]]
+
+
+def build_library(crates, crate, jobs, is_first):
+    """Builds a library in a room of its own, since rt lets only one run at a time into a crate and into those below it, and
+    moves what was built into the crate's folder."""
+    with tempfile.TemporaryDirectory(prefix="desk-build-") as room:
+        for name in below(crates, crate.name):
+            lend(crates[name], room, ["src", "specs", "proofs", "out/rlib"])
+        lend(crate, room, ["src", "specs", "proofs", "out"])
+        with open(f"{room}/crates.txt", "w", encoding="utf-8") as file:
+            file.write("".join(f"{crates[it].line}\n" for it in [*below(crates, crate.name), crate.name]))
+        built = Built(rt_command(jobs, is_first, "lib"), f"{room}/crates/{crate.name}")
+        if not built.status:
+            shutil.rmtree(f"{crate.folder}/out", ignore_errors=True)
+            shutil.move(f"{room}/crates/{crate.name}/out", f"{crate.folder}/out")
+        return built
+
+
+def build_program(crate, jobs, is_first):
+    """Builds a program where it stands, once all below it is built. A run with --help touches no file of the caller's."""
+    return Built(rt_command(jobs, is_first, "run", "--", "--help"), crate.folder)
+
+
+def tell(text):
+    print(f"desk: {text}", file=sys.stderr, flush=True)
+
+
+def in_words(seconds):
+    minutes, rest = divmod(round(seconds), 60)
+    return f"{minutes} min {rest:02} s" if minutes else f"{rest} s"
+
+
+def chains(crates, names):
+    """Returns for each crate how many lines the longest chain has that begins with it and waits for it."""
+    behind = dict.fromkeys(names, 0)
+    for name in reversed(names):
+        behind[name] += crates[name].lines
+        for it in crates[name].uses:
+            behind[it] = max(behind[it], behind[name])
+    return behind
+
+
+def free_memory():
+    with open("/proc/meminfo", encoding="ascii") as file:
+        return 1024 * int(re.search(r"MemAvailable:\s+(\d+)", file.read())[1])
+
+
+def room_for(jobs, running):
+    """Returns whether a check with so many jobs fits beside the running ones, which may not have taken all their memory yet."""
+    if not running:
+        return True
+    wanted = MEMORY_OF_A_CHECK * (1 + 0.5 * (jobs - 1))
+    promised = sum(MEMORY_OF_A_CHECK * (1 + 0.5 * (it - 1)) for _, it in running.values())
+    return wanted + promised <= 0.85 * (free_memory() + promised / 2)
+
+
+def build(crates, names, started):
+    """Builds these crates side by side, and returns how each one's build ended, or None where one failed."""
+    lanes, behind = len(os.sched_getaffinity(0)), chains(crates, names)
+    left, running, took = sorted(names, key=lambda it: -behind[it]), {}, {}
+    with ThreadPoolExecutor(lanes) as pool:
+        while left or running:
+            ready = [it for it in left if all(other in took for other in crates[it].uses)]
+            for at, name in enumerate(ready):
+                idle = lanes - sum(jobs for _, jobs in running.values())
+                # all else waits for the longest chain, so its crate leaves one processor to the others at most
+                jobs = max(1, min(MOST_JOBS, idle - (len(ready) > 1) if at == 0 else idle // (len(ready) - at)))
+                while jobs > 1 and not room_for(jobs, running):
+                    jobs -= 1
+                if idle > 0 and room_for(jobs, running):
+                    left.remove(name)
+                    call = (build_program, crates[name]) if crates[name].is_program() else (build_library, crates, crates[name])
+                    is_first = behind[name] >= max([behind[it] for it, _ in running.values()], default=0)
+                    running[pool.submit(*call, jobs, is_first)] = name, jobs
+            for it in wait(running, return_when=FIRST_COMPLETED).done:
+                (name, _), built = running.pop(it), it.result()
+                if built.status:
+                    tell(f"{name} could not be built:\n{built.said}")
+                    subprocess.run(["pkill", "-TERM", "-P", str(os.getpid())], check=False)
+                    return None
+                took[name] = built
+                if built.seconds > 5:
+                    tell(f"{len(took)} of {len(names)} crates, {in_words(time.monotonic() - started)}: {name} proved and built in {in_words(built.seconds)}")
+    return took
+
+
+def main():
+    words = [it for it in sys.argv[1:] if it != "--times"]
+    crates = read_crates()
+    if len(words) > 1 or any(it not in crates for it in words):
+        raise SystemExit(__doc__)
+    if not os.path.exists(RT):
+        tell("the command rt of the Rattle toolchain is not found, and nothing was built")
+        raise SystemExit(127)
+    name, started = (words or ["reg_desk"])[0], time.monotonic()
+    with open(f"{TOP}/crates.txt", encoding="utf-8") as held:
+        fcntl.flock(held, fcntl.LOCK_EX)
+        took = build(crates, [*below(crates, name), name], started)
+    if took is None:
+        raise SystemExit(126)
+    if "--times" in sys.argv:
+        for it, built in sorted(took.items(), key=lambda it: -it[1].processor):
+            print(f"{built.processor:8.1f} {built.seconds:8.1f} {it}")
+        print(f"{sum(it.processor for it in took.values()):8.1f} {time.monotonic() - started:8.1f} all")
+    tell(f"{len(took)} crates built, {in_words(time.monotonic() - started)}")
+
+
+if __name__ == "__main__":
+    main()

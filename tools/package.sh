@@ -1,0 +1,109 @@
+#!/usr/bin/env bash
+# Makes a Debian package of the program, in the folder that is given (out/package): the program with its launcher, the manual pages desk(1) and
+# desk-script(5), units of systemd that serve a register and issue its CRLs, completion for bash, the board, documents and examples.
+# The program is built first, where it is not built yet (./desk does that). Prints the package's path.
+#
+# Usage, from the repository's root: tools/package.sh [FOLDER]
+set -euo pipefail
+out=${1:-out/package}
+program=crates/reg_desk/out/reg_desk
+kit=${KIT:-/opt/rattle}
+
+./desk --help >/dev/null
+[ -x "$program" ]
+
+# The package of one commit is the same whenever it is made.
+commit=$(git rev-parse --short=7 HEAD)
+[ -z "$(git status --porcelain)" ] || commit=$commit.changed
+SOURCE_DATE_EPOCH=$(git show -s --format=%ct HEAD)
+export SOURCE_DATE_EPOCH
+version=$(tools/version.sh | sed -n 's/^desk \([^ ]*\) .*/\1/p')+$(date -u -d "@$SOURCE_DATE_EPOCH" +%Y%m%d).$commit
+maintainer=$(git show -s --format='%an <%ae>' HEAD)
+architecture=$(dpkg --print-architecture)
+# The newest version of glibc that a function of the program is of.
+glibc=$(grep -aoE 'GLIBC_[0-9]+\.[0-9]+' "$program" | sed 's/GLIBC_//' | sort -uV | tail -n 1)
+
+mkdir -p "$out"
+root=$(mktemp -d)
+trap 'rm -rf "$root"' EXIT
+chmod 0755 "$root"
+put() { install -D -m "$1" "$2" "$root/$3"; }
+zipped() { gzip -9n >"$root/$1"; }
+
+put 0755 "$program" usr/lib/durshavon/desk
+put 0644 tools/large-pages.sh usr/lib/durshavon/large-pages.sh
+put 0755 packaging/desk usr/bin/desk
+tools/version.sh >"$root/usr/lib/durshavon/version"
+chmod 0644 "$root/usr/lib/durshavon/version"
+put 0644 packaging/desk.bash usr/share/bash-completion/completions/desk
+put 0644 examples/board/index.html usr/share/durshavon/board/index.html
+
+# The one place that says how a register is served.
+# shellcheck disable=SC2016 # ${PORT} is for systemd to fill in
+if "$program" open --help >/dev/null 2>&1; then
+    serving='open /var/lib/durshavon/%i.db --port ${PORT} --counter /run/durshavon/%i/counter'
+else
+    serving='serve /var/lib/durshavon/%i.db --port ${PORT} --requests 1000000'
+fi
+mkdir -p "$root/lib/systemd/system" "$root/etc/durshavon"
+sed "s|@SERVING@|$serving|" packaging/desk@.service >"$root/lib/systemd/system/desk@.service"
+# CRLs come by the counter of an open desk: without the script that asks there, no timer.
+if [ -e examples/issue-due-crl.sh ]; then
+    put 0755 examples/issue-due-crl.sh usr/lib/durshavon/issue-due-crl.sh
+    put 0644 packaging/desk-crl@.service lib/systemd/system/desk-crl@.service
+    put 0644 packaging/desk-crl@.timer lib/systemd/system/desk-crl@.timer
+else
+    echo "package: examples/issue-due-crl.sh is not there, so no timer for CRLs is packed" >&2
+fi
+
+manual=$(mktemp -d)
+tools/man.py "$root/usr/lib/durshavon/desk" "$manual"
+mkdir -p "$root/usr/share/man/man1" "$root/usr/share/man/man5"
+zipped usr/share/man/man1/desk.1.gz <"$manual/desk.1"
+zipped usr/share/man/man5/desk-script.5.gz <"$manual/desk-script.5"
+rm -r "$manual"
+
+documents=usr/share/doc/durshavon
+for name in README.md docs/OPERATIONS.md docs/RULES.md docs/MODEL.md docs/PERFORMANCE.md docs/PROOFS.md; do
+    put 0644 "$name" "$documents/$(basename "$name")"
+done
+tools/copyright.py "$kit" >"$root/$documents/copyright"
+printf 'durshavon (%s) unstable; urgency=low\n\n  * Commit %s.\n\n -- %s  %s\n' "$version" "$commit" "$maintainer" \
+    "$(date -u -R -d "@$SOURCE_DATE_EPOCH")" | zipped "$documents/changelog.gz"
+for name in first-day.txt first-day.replies.txt certificates.csv nginx.conf; do
+    put 0644 "examples/$name" "$documents/examples/$name"
+done
+for name in issuer-words.sh from-openssl-index.py; do
+    put 0755 "examples/$name" "$documents/examples/$name"
+done
+
+# The program is packed byte for byte as it was built and run, with its symbols.
+mkdir -p "$root/usr/share/lintian/overrides"
+echo 'durshavon: unstripped-binary-or-object' >"$root/usr/share/lintian/overrides/durshavon"
+
+mkdir "$root/DEBIAN"
+for name in postinst prerm postrm; do
+    put 0755 "packaging/$name" "DEBIAN/$name"
+done
+cat >"$root/DEBIAN/control" <<CONTROL
+Package: durshavon
+Version: $version
+Architecture: $architecture
+Section: admin
+Priority: optional
+Maintainer: $maintainer
+Installed-Size: $(du -sk --exclude=DEBIAN "$root" | cut -f1)
+Depends: libc6 (>= $glibc), passwd
+Suggests: nginx-light | nginx, openssl, python3
+Description: certificate register with CRLs and OCSP
+ The register and status desk of one certification authority: it records the
+ certificates that were issued, takes requests for their revocation with the
+ deadlines of these, issues X.509 CRLs and answers OCSP requests.
+ .
+ Each function of the program is proved to meet its contract.
+CONTROL
+(cd "$root" && find . -type f ! -path './DEBIAN/*' -printf '%P\n' | LC_ALL=C sort | xargs md5sum >DEBIAN/md5sums)
+find "$root" -newermt "@$SOURCE_DATE_EPOCH" -exec touch -h -d "@$SOURCE_DATE_EPOCH" {} +
+package=$out/durshavon_${version}_$architecture.deb
+dpkg-deb --root-owner-group --build "$root" "$package" >/dev/null
+echo "$package"
