@@ -1,16 +1,21 @@
 #!/bin/sh
 # OCSP answers a second over a register of so many certificates (100,000 unless a number is given), one connection each:
 # `desk serve` beside `openssl ocsp -port` with a P-256 issuer, asked the same requests by the same client, in turns.
-# Run it from the repository's root; needs openssl and python3.
+# The desk seals with a digest, which costs next to nothing and is no signature; with --signed as the first word it signs with the same
+# P-256 key as openssl, which examples/signer.py holds.
+# Run it from the repository's root; needs openssl and python3, for --signed also python3's package cryptography.
 set -eu
+signed=
+[ "${1:-}" != --signed ] || { signed=1; shift; }
 certificates=${1:-100000}
 requests=${2:-2000}
 desk="$(pwd)/desk"
 words="$(pwd)/examples/issuer-words.sh"
 client="$(pwd)/bench/ocsp_client.py"
+signer="$(pwd)/examples/signer.py"
 work=$(mktemp -d /tmp/desk-ocsp.XXXXXX)
-trap 'kill "$theirs" "$ours" 2>/dev/null || true; rm -rf "$work"' EXIT
-theirs= ours=
+trap 'kill "$theirs" "$ours" "$holder" 2>/dev/null || true; rm -rf "$work"' EXIT
+theirs='' ours='' holder=''
 cd "$work"
 
 openssl req -x509 -newkey ec -pkeyopt ec_paramgen_curve:P-256 -nodes -keyout ca.key -out ca.pem -subj /CN=T -days 3650 2>/dev/null
@@ -29,7 +34,17 @@ done
 
 openssl ocsp -index index.txt -port 8091 -rsigner ca.pem -rkey ca.key -CA ca.pem -ignore_err >/dev/null 2>&1 &
 theirs=$!
-"$desk" serve ca.db --port 8092 --requests 1000000 >/dev/null &
+set -- serve ca.db --port 8092 --requests 1000000
+if [ -n "$signed" ]; then
+    "$signer" ca.key ca.sign >/dev/null &
+    holder=$!
+    sleep 2
+    set -- "$@" --signer ca.sign --algorithm ecdsa-sha256
+    echo "P-256 signatures on both sides:"
+else
+    echo "the desk seals with a digest, which is no signature; openssl signs with P-256:"
+fi
+"$desk" "$@" >/dev/null &
 ours=$!
 sleep 3
 python3 "$client" ask "$requests" 8091 8092 ./*.der

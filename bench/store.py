@@ -1,7 +1,7 @@
 #!/usr/bin/env python3
 """Times each call of a store over registers in files, and the same statements by C SQLite.
 
-Both sides write to a file with a write-ahead log and synchronise at each commit (synchronous FULL), keep up to 256 MiB in memory,
+Both sides write to a file with a write-ahead log and synchronise at each commit (synchronous FULL), keep up to 512 MiB in memory,
 begin with the same rows, and make the same calls in the same order, in turn, on a fresh copy of the file each time; the least
 time of all rounds counts. A call of python3's sqlite3 costs a microsecond or so beyond one of C, which `SELECT 1` measures: the
 ratios are given beside C as python calls it, and beside what is left once that is taken off for each statement.
@@ -40,7 +40,7 @@ class Beside:
     def of_file(cls, path):
         start = time.perf_counter_ns()
         conn = sqlite3.connect(path, isolation_level=None)
-        for pragma in ("journal_mode = WAL", "synchronous = FULL", "foreign_keys = ON", "cache_size = -262144"):
+        for pragma in ("journal_mode = WAL", "synchronous = FULL", "foreign_keys = ON", "cache_size = -524288"):
             conn.execute(f"PRAGMA {pragma}").fetchall()
         return cls(conn, time.perf_counter_ns() - start)
 

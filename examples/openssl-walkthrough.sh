@@ -1,17 +1,23 @@
 #!/bin/sh
 # A small CA made with openssl, its register kept by the desk: registers and revokes a certificate, issues a CRL that
-# openssl reads, serves OCSP, and asks it with openssl and curl. Run it from the repository's root; it works in a new
-# folder under /tmp and prints what each step shows.
+# openssl verifies, serves OCSP, and asks it with openssl, which verifies the answer, and curl. The CA's key signs behind a
+# socket. Run it from the repository's root; it works in a new folder under /tmp and prints what each step shows.
+# Exit status 1 where openssl does not verify a signature.
 set -eu
 desk="$(pwd)/desk"
 tool="$(pwd)/examples/issuer-words.sh"
+signer="$(pwd)/examples/signer.py"
 work=$(mktemp -d /tmp/desk-walkthrough.XXXXXX)
 cd "$work"
 port=${1:-8085}
 
 step() { printf '\n== %s\n' "$1"; }
 now() { date -u +%Y-%m-%dT%H:%M:%SZ; }
-say() { echo "> $1"; echo "$1" | "$desk" script ca.db; }
+signing="--signer ca.sign --algorithm ecdsa-sha256"
+# shellcheck disable=SC2086 # the words are meant to be split
+say() { echo "> $1"; echo "$1" | "$desk" script ca.db $signing; }
+holder=
+trap '[ -z "$holder" ] || kill "$holder" 2>/dev/null || true' EXIT
 moment() { date -u -d "$1" +%Y-%m-%dT%H:%M:%SZ; }
 
 step "A CA, and a certificate of serial number 05 for acme"
@@ -19,6 +25,15 @@ openssl req -x509 -newkey ec -pkeyopt ec_paramgen_curve:P-256 -nodes -keyout ca.
 openssl req -newkey ec -pkeyopt ec_paramgen_curve:P-256 -nodes -keyout acme.key -out acme.csr -subj /CN=acme 2>/dev/null
 openssl x509 -req -in acme.csr -CA ca.pem -CAkey ca.key -set_serial 5 -days 90 -out acme.pem 2>/dev/null
 openssl x509 -in acme.pem -noout -serial -dates
+
+step "What holds its key signs behind a socket: any tool that signs standard input"
+if command -v socat >/dev/null; then
+    socat UNIX-LISTEN:ca.sign,fork,mode=600 EXEC:'openssl dgst -sha256 -sign ca.key' &
+else
+    "$signer" ca.key ca.sign &
+fi
+holder=$!
+for _ in 1 2 3 4 5 6 7 8 9 10; do [ -S ca.sign ] || sleep 0.3; done
 
 step "The register of that CA"
 # shellcheck disable=SC2046 # the words are meant to be split
@@ -41,13 +56,16 @@ step "A CRL lists it"
 say "$(now) crl"
 "$desk" crl ca.db >latest.crl
 openssl crl -inform DER -in latest.crl -noout -text | sed -n '1,22p'
+openssl crl -inform DER -in latest.crl -noout -verify -CAfile ca.pem 2>&1 | tee verified
+grep -q 'verify OK' verified
 
 step "OCSP and status over HTTP"
-"$desk" serve ca.db --port "$port" --requests 3 &
+# shellcheck disable=SC2086 # the words are meant to be split
+"$desk" serve ca.db --port "$port" --requests 3 $signing &
 server=$!
 sleep 1
-# The register signs with a digest and not with a key, so the signature is not looked at.
-openssl ocsp -issuer ca.pem -cert acme.pem -url "http://127.0.0.1:$port/ocsp" -noverify -no_nonce || true
+openssl ocsp -issuer ca.pem -cert acme.pem -url "http://127.0.0.1:$port/ocsp" -CAfile ca.pem 2>&1 | tee verified
+grep -q 'Response verify OK' verified
 curl -s "http://127.0.0.1:$port/status/05"; echo
 curl -s "http://127.0.0.1:$port/counts"; echo
 wait "$server"

@@ -1,16 +1,22 @@
 #!/usr/bin/env bash
 # Checks `desk serve` from outside, on every route, with openssl and curl: a CA and a revoked, a good and an unknown certificate; and
-# that it ends after as many connections as it was told.
+# that it ends after as many connections as it was told. Then, with keys of P-256, P-384, RSA and Ed25519 behind a socket, that openssl
+# verifies a CRL and OCSP answers by POST and by GET, and that a digest does not follow a key nor a key a digest.
 # Run it from the repository's root; it works in a new folder and prints a line for each check. Exit status 1 where one fails.
 set -euo pipefail
 desk="$(pwd)/desk"
 words="$(pwd)/examples/issuer-words.sh"
+signer="$(pwd)/examples/signer.py"
 for tool in openssl curl; do
     command -v "$tool" >/dev/null || { echo "skipped: there is no $tool"; exit 0; }
 done
 work=$(mktemp -d /tmp/desk-serve.XXXXXX)
 server=
-cleanup() { [ -z "$server" ] || kill "$server" 2>/dev/null || true; rm -rf "$work"; }
+holder=
+cleanup() {
+    for process in $server $holder; do kill "$process" 2>/dev/null || true; done
+    rm -rf "$work"
+}
 trap cleanup EXIT
 cd "$work"
 port=${1:-8087}
@@ -52,10 +58,10 @@ $now revoke 1
 $now crl
 LINES
 
-# Serves so many connections, and waits until the port is told.
+# Serves so many connections, with further words, and waits until the port is told.
 serve() {
     : >out
-    "$desk" serve ca.db --port "$port" --requests "$1" >out &
+    "$desk" serve ca.db --port "$port" --requests "$@" >out &
     server=$!
     for _ in $(seq 50); do
         [ -s out ] && break
@@ -107,4 +113,86 @@ ended=0
 wait "$server" || ended=$?
 server=
 same "it ends after 3 connections" "$ended $(cat out)" "0 listening $port"
+
+# A digest sealed the CRL above: no key follows it.
+told=0; line=$("$desk" script ca.db --signer ca.sign --algorithm ecdsa-sha256 </dev/null 2>&1) || told=$?
+same "a key does not follow a digest" "$line $told" "bad-signer 1"
+if ! python3 -c 'import cryptography' 2>/dev/null; then
+    echo "skipped: real signatures, since python3 has no cryptography"
+    exit "$failed"
+fi
+
+# A CA with a key of this kind, its register, and a CRL that lists 05.
+signed_register() {
+    openssl req -x509 "$@" -nodes -keyout ca.key -out ca.pem -subj /CN=T -days 3650 2>/dev/null
+    name=$("$signer" ca.key)
+    rm -f ca.db ca.db-wal
+    "$signer" ca.key ca.sign >signing &
+    holder=$!
+    for _ in $(seq 50); do
+        [ -s signing ] && break
+        sleep 0.1
+    done
+    # shellcheck disable=SC2046 # the words are meant to be split
+    "$desk" init ca.db $("$words" ca.pem) >/dev/null
+    "$desk" script ca.db --signer ca.sign --algorithm "$name" >replies <<LINES
+$now subscriber acme
+$now order 1 398
+$now order 1 398
+$now register 1 05 $now $end
+$now register 2 06 $now $end
+$now request 05 key-compromise
+$now revoke 1
+$now crl
+LINES
+}
+
+# What openssl says of the answers, which it verifies.
+verified() { openssl ocsp -issuer ca.pem -CAfile ca.pem -serial "$1" "${@:2}" 2>&1; }
+check_signed() {
+    same "$name: a CRL is issued" "$(tail -1 replies)" "crl 1 entries 1"
+    "$desk" crl ca.db >latest.crl
+    has "$name: the CRL verifies" "$(openssl crl -inform DER -in latest.crl -noout -verify -CAfile ca.pem 2>&1)" "verify OK"
+    port=$((port + 1))
+    url="http://127.0.0.1:$port"
+    serve 1000 --signer ca.sign --algorithm "$name"
+    for told in 05:revoked 06:good 07:unknown; do
+        answer=$(verified "0x${told%:*}" -url "$url/ocsp")
+        has "$name: OCSP of ${told%:*} by POST verifies" "$answer" "Response verify OK"
+        has "$name: and tells it" "$answer" "0x${told%:*}: ${told#*:}"
+    done
+    openssl ocsp -issuer ca.pem -serial 0x05 -no_nonce -reqout asked.der >/dev/null 2>&1
+    text=$(openssl base64 -A -in asked.der | sed 's/+/%2B/g; s#/#%2F#g; s/=/%3D/g')
+    same "$name: OCSP by GET" "$(status "$url/ocsp/$text")" 200
+    has "$name: and its answer verifies" "$(verified 0x05 -no_nonce -respin body)" "Response verify OK"
+    same "$name: GET /crl" "$(status "$url/crl")" 200
+    has "$name: and it verifies" "$(openssl crl -inform DER -in body -noout -verify -CAfile ca.pem 2>&1)" "verify OK"
+}
+
+# What comes once nothing holds the key any more: internalError, and one fault a CRL; nothing is recorded.
+check_unsigned() {
+    kill "$holder"
+    wait "$holder" 2>/dev/null || true
+    holder=
+    same "$name: OCSP that nobody signs" "$(status --data-binary @asked.der "$url/ocsp") $(od -An -tx1 body | tr -d ' ')" '200 30030a0102'
+    same "$name: the server goes on" "$(status "$url/status/06")" 200
+    kill "$server"
+    wait "$server" 2>/dev/null || true
+    server=
+    later=$(date -u -d '+1 hour' +%Y-%m-%dT%H:%M:%SZ)
+    same "$name: a CRL that nobody signs" "$(printf '%s\n' "$later crl" "$later status 06" \
+        | "$desk" script ca.db --signer ca.sign --algorithm "$name" | tr '\n' ' ')" "F3 signer good "
+    same "$name: and none is recorded" "$("$desk" crl ca.db --number 2 2>&1)" "E21 no-crl"
+    same "$name: a digest does not follow a key" "$("$desk" script ca.db </dev/null 2>&1)" "bad-signer"
+    same "$name: an import signs nothing" "$(printf 'order,serial,notBefore,notAfter\n1,05,%s,%s\n' "$now" "$end" \
+        | "$desk" import ca.db --now "$later")" same
+    same "$name: nor does a schedule" "$("$desk" schedule ca.db 1970-01-01T00:00:00Z=398)" "schedule set"
+}
+
+for kind in "ec -pkeyopt ec_paramgen_curve:P-256" "ec -pkeyopt ec_paramgen_curve:P-384" "rsa:2048" "ed25519"; do
+    # shellcheck disable=SC2086 # the words are meant to be split
+    signed_register -newkey $kind
+    check_signed
+    check_unsigned
+done
 exit "$failed"

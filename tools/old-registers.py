@@ -39,13 +39,23 @@ CREATE TABLE listed (serial BLOB NOT NULL PRIMARY KEY REFERENCES revocation (ser
 RECORDS = ["subscriber", "orders", "cert", "request", "revocation", "crl"]
 
 
+def tlv(tag, contents):
+    """Returns a value in DER (X.690 8.1) of 128 bytes to 65,535."""
+    return bytes([tag, 0x82]) + len(contents).to_bytes(2, "big") + contents
+
+
+def sealed(contents):
+    """Returns a CertificateList with these bytes as its tbsCertList and a SHA-1 digest in the place of a signature."""
+    return tlv(0x30, tlv(0x30, contents) + bytes.fromhex("300906052b0e03021a0500" "031500") + bytes(20))
+
+
 class Records:
     """Sound records: a CRL a day, certificates that end on some day, and a fifth of them revoked before they do."""
 
     def __init__(self, certificates, crls=40):
         choice = random.Random(certificates)
         self.last = START + crls * DAY + 1
-        self.crls = [(n, START + n * DAY, n.to_bytes(4, "big") * 64) for n in range(1, crls + 1)]
+        self.crls = [(n, START + n * DAY, sealed(n.to_bytes(4, "big") * 64)) for n in range(1, crls + 1)]
         self.certs = []
         for order in range(1, certificates + 1):
             serial = (choice.getrandbits(158) + 1).to_bytes(20, "big")

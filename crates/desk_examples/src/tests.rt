@@ -2,7 +2,8 @@
 
 use reg_core::Moment;
 use reg_program::perform;
-use reg_words::{Job, Steps, Word};
+use reg_signer::Algorithm;
+use reg_words::{Job, KeyHolder, Steps, Word};
 use std::io::Write;
 use std::os::unix::fs::{MetadataExt, symlink};
 use std::test::Fail;
@@ -53,10 +54,15 @@ fn told(done: &Ending, line: &[u8]) -> bool {
 
 /// The job `init` at a path, under the usual policy but for the days.
 fn init<'a>(path: &'a str, name: &'a str, days: u64) -> Job<'a> {
+    init_with_key(path, name, "0102", days)
+}
+
+/// The same of an issuer with this key.
+fn init_with_key<'a>(path: &'a str, name: &'a str, key: &'a str, days: u64) -> Job<'a> {
     Job::Init {
         file: Word::of(path),
         name: Word::of(name),
-        key: Word::of("0102"),
+        key: Word::of(key),
         days,
         crl_life: 691_200,
         ocsp_life: 345_600,
@@ -92,6 +98,7 @@ fn a_schedule_is_looked_at_before_the_file(rt: HostRuntime) -> Result<(), Fail> 
 fn a_file_that_is_not_there_is_not_made(rt: HostRuntime) {
     let job = Job::Script {
         file: Some(Word::of("desk_examples_none.db")),
+        signer: None,
     };
     assert!(rt;
         told(
@@ -176,7 +183,10 @@ fn a_register_is_not_made_twice(rt: HostRuntime) {
 
 #[test]
 fn a_script_without_a_file_runs_in_memory(rt: HostRuntime) {
-    let job = Job::Script { file: None };
+    let job = Job::Script {
+        file: None,
+        signer: None,
+    };
     let ended = done(
         &rt,
         &job,
@@ -189,6 +199,7 @@ fn a_script_without_a_file_runs_in_memory(rt: HostRuntime) {
 fn goes_on(rt: &HostRuntime) -> bool {
     let script = Job::Script {
         file: Some(Word::of(FILE)),
+        signer: None,
     };
     let first = done(
         rt,
@@ -241,6 +252,7 @@ fn a_revoked_certificate_stays_revoked_in_its_file(rt: HostRuntime) {
     drop(fs::remove_file(&rt, file));
     let script = Job::Script {
         file: Some(Word::of(file)),
+        signer: None,
     };
     assert!(rt; wrote(&done(&rt, &init(file, NAME, 398), b""), b"created\n"));
     assert!(rt; wrote(&done(&rt, &script, REVOKED.0), REVOKED.1));
@@ -261,4 +273,79 @@ fn a_register_goes_on_in_its_file(rt: HostRuntime) -> Result<(), Fail> {
     drop(fs::remove_file(&rt, FILE));
     drop(fs::remove_file(&rt, LOG));
     Ok(())
+}
+
+/// What holds the key at a socket.
+fn holder(socket: &str, algorithm: Algorithm) -> Option<KeyHolder<'_>> {
+    Some(KeyHolder {
+        socket: Word::of(socket),
+        algorithm,
+    })
+}
+
+/// The key of an issuer that is 32 bytes, as one of Ed25519 is (RFC 8410 4).
+const ED25519_KEY: &str = "000102030405060708090A0B0C0D0E0F101112131415161718191A1B1C1D1E1F";
+
+/// A CRL that is asked for between two queries, and their replies where nothing signs.
+static UNSIGNED: (&[u8], &[u8]) = (
+    b"2026-01-01T00:00:00Z subscriber acme\n2026-01-01T00:00:00Z crl\n2026-01-01T00:00:00Z counts\n",
+    b"subscriber 1\nF3 signer\ngood 0 revoked 0 expired 0\n",
+);
+
+#[test]
+fn a_signer_that_is_not_there_is_a_fault_and_the_next_line_goes_on(rt: HostRuntime) {
+    let file = "desk_examples_unsigned.db";
+    drop(fs::remove_file(&rt, file));
+    let init = init_with_key(file, NAME, ED25519_KEY, 398);
+    assert!(rt; wrote(&done(&rt, &init, b""), b"created\n"));
+    let script = Job::Script {
+        file: Some(Word::of(file)),
+        signer: holder("no_such_folder/ca.sign", Algorithm::Ed25519),
+    };
+    assert!(rt; wrote(&done(&rt, &script, UNSIGNED.0), UNSIGNED.1));
+    let crl = Job::Crl {
+        file: Word::of(file),
+        number: None,
+    };
+    assert!(rt; told(&done(&rt, &crl, b""), b"E21 no-crl\n"));
+    // The issuer's key is none of P-256.
+    let other = Job::Script {
+        file: Some(Word::of(file)),
+        signer: holder("no_such_folder/ca.sign", Algorithm::EcdsaSha256),
+    };
+    assert!(rt; told(&done(&rt, &other, UNSIGNED.0), b"bad-signer\n"));
+    drop(fs::remove_file(&rt, file));
+    drop(fs::remove_file(&rt, "desk_examples_unsigned.db-wal"));
+}
+
+#[test]
+fn a_key_does_not_follow_a_digest(rt: HostRuntime) {
+    let file = "desk_examples_sealed.db";
+    drop(fs::remove_file(&rt, file));
+    let init = init_with_key(file, NAME, ED25519_KEY, 398);
+    let crl = b"2026-01-01T00:00:00Z crl\n";
+    let sealed = Job::Script {
+        file: Some(Word::of(file)),
+        signer: None,
+    };
+    let signed = Job::Script {
+        file: Some(Word::of(file)),
+        signer: holder("no_such_folder/ca.sign", Algorithm::Ed25519),
+    };
+    assert!(rt; wrote(&done(&rt, &init, b""), b"created\n"));
+    assert!(rt; wrote(&done(&rt, &sealed, crl), b"crl 1 entries 0\n"));
+    assert!(rt; told(&done(&rt, &signed, crl), b"bad-signer\n"));
+    assert!(rt; wrote(&done(&rt, &sealed, crl), b"crl 2 entries 0\n"));
+    drop(fs::remove_file(&rt, file));
+    drop(fs::remove_file(&rt, "desk_examples_sealed.db-wal"));
+}
+
+#[test]
+fn nothing_holds_the_key_of_the_issuer_in_memory(rt: HostRuntime) {
+    let job = Job::Script {
+        file: None,
+        signer: holder("ca.sign", Algorithm::Ed25519),
+    };
+    let ended = done(&rt, &job, b"2026-01-01T00:00:00Z counts\n");
+    assert!(rt; told(&ended, b"bad-signer\n"));
 }

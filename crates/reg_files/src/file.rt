@@ -25,15 +25,16 @@ const PAGE: u64 = 4096;
 /// The fewest pages that are kept in memory: 8 MB.
 const FEWEST_PAGES: usize = 2_000;
 
-/// The most pages that are kept in memory: 256 MiB.
-const MOST_PAGES: usize = 65_536;
+/// The most pages that are kept in memory: 512 MiB.
+const MOST_PAGES: usize = 131_072;
 
 /// The mode of a file that its owner alone may read and write.
 const OWNER_ALONE: u32 = 0o600;
 
 /// Opens the file at a path as a database, or makes it, with its checks for damage; `start` stands for what the file and
-/// its log hold. As many pages are kept in memory as the file has now, 8 MB at least and 256 MiB at most, so that a look-up
-/// in a large register seldom waits for the operating system.
+/// its log hold. There is room in memory for twice the pages that the file has now, 8 MB at least and 512 MiB at most, and for
+/// as many that a transaction changed: so a look-up in a large register seldom waits for the operating system, also once the
+/// register has grown, and a page that changes often is written to the log once.
 ///
 /// # Errors
 /// `Memory`; `Store` where the file can't be opened or is no database.
@@ -75,26 +76,31 @@ fn fault_of(error: &OpenError) -> Fault
     }
 }
 
-/// How a file is opened: with room for its pages, and a random number for the marks in its log.
+/// How a file is opened: with room for its pages, and as much for changed ones before they go to the log; and with a random
+/// number for the marks in its log.
 fn options_for(rt: &HostRuntime, path: &str) -> Result<Options, Fault>
-    ensures { IfErr result (λ fault. fault ≡ Fault.Store) }
+    ensures room { IfOk result (λ options. (2000 ≤ options.cache_pages) × (options.cache_pages ≤ 131072)
+        × (options.spill_pages ≡ options.cache_pages)) }
+    ensures faults { IfErr result (λ fault. fault ≡ Fault.Store) }
 {
     let Ok(state) = RandomState::new(rt) else {
         return Err(Fault::Store);
     };
+    let pages = pages_for(rt, path);
     Ok(Options {
-        cache_pages: pages_for(rt, path),
+        cache_pages: pages,
+        spill_pages: pages,
         ..Options::new(state.hash_one(&0u8))
     })
 }
 
-/// How many pages are kept in memory: those that the file has, within the two bounds; the fewest where there is none yet.
+/// How many pages are kept in memory: twice those that the file has, within the two bounds; the fewest where there is none yet.
 fn pages_for(rt: &HostRuntime, path: &str) -> usize
     ensures fewest { 2000 ≤ result }
-    ensures most { result ≤ 65536 }
+    ensures most { result ≤ 131072 }
 {
     let bytes = fs::metadata(rt, path).map_or(0, |it| it.len());
-    usize::try_from(bytes / PAGE)
+    usize::try_from((bytes / PAGE).saturating_mul(2))
         .unwrap_or(MOST_PAGES)
         .max(FEWEST_PAGES)
         .min(MOST_PAGES)

@@ -15,6 +15,7 @@ failure_line failure.NotARegister = codes "not-a-register"
 failure_line failure.NewVersion = codes "new-version"
 failure_line failure.BadIssuer = codes "bad-issuer"
 failure_line failure.BadPolicy = codes "bad-policy"
+failure_line failure.BadSigner = codes "bad-signer"
 
 -- the exit status: 0 where the job is done, 1 where it is not
 abbrev pub status : {T : Type 0} → Result T Failure → ℕ

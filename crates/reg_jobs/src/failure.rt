@@ -21,6 +21,8 @@ pub enum Failure {
     BadIssuer,
     /// The terms are not those of a policy.
     BadPolicy,
+    /// The latest CRL was signed under another algorithm, or the issuer's key is none of the algorithm.
+    BadSigner,
 }
 
 impl Failure {
@@ -36,6 +38,7 @@ impl Failure {
             Failure::NewVersion => words(b"new-version"),
             Failure::BadIssuer => words(b"bad-issuer"),
             Failure::BadPolicy => words(b"bad-policy"),
+            Failure::BadSigner => words(b"bad-signer"),
         }
     }
 }

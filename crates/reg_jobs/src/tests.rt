@@ -87,7 +87,7 @@ fn takes_a_schedule(rt: HostRuntime) -> Result<(), Fail> {
 
 #[test]
 fn each_failure_has_its_line(rt: HostRuntime) {
-    let lines: [(Failure, &[u8]); 11] = [
+    let lines: [(Failure, &[u8]); 12] = [
         (Failure::Fault(Fault::Memory), b"F1 memory"),
         (Failure::Fault(Fault::Store), b"F2 store"),
         (Failure::Fault(Fault::Signer), b"F3 signer"),
@@ -102,6 +102,7 @@ fn each_failure_has_its_line(rt: HostRuntime) {
         (Failure::NewVersion, b"new-version"),
         (Failure::BadIssuer, b"bad-issuer"),
         (Failure::BadPolicy, b"bad-policy"),
+        (Failure::BadSigner, b"bad-signer"),
     ];
     for (failure, line) in lines {
         assert_eq!(rt; failure.line().as_bytes(), line);

@@ -1,4 +1,5 @@
 pub mod Clean
 pub mod Fates
+pub mod Holding
 pub mod Opened
 pub mod Setting

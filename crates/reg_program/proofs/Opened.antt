@@ -1,7 +1,8 @@
 -- Registers in files, as they were opened and made.
-use Rattle.std.proofs.Common.{◌≡◌, ◌≤◌, Result, Ok, Err, IfOk, IfErr, MatchResult, sym, subst}
+use Rattle.std.proofs.Common.{◌≡◌, ◌≤◌, ℕ, List, Result, Ok, Err, IfOk, IfErr, MatchResult, sym, subst}
 use Rattle.sqlite.specs.Files.{file_state, over_files}
-use Rattle.sqlite.specs.Held.{Held}
+use Rattle.sqlite.specs.Held.{Held, state}
+use Rattle.sqlite.specs.State.{HasCleanDisk}
 use Rattle.sqlite_disk.specs.declared.Disk as disk
 use Rattle.sqlite_store.specs.declared.store.FileStore.{FileStore}
 use Rattle.sqlite_trees.specs.View.{doubt}
@@ -12,22 +13,22 @@ use Rattle.reg_core.specs.Records.{Records, no_records}
 use Rattle.reg_core.specs.Sound.{SoundRows}
 use Rattle.reg_migration.specs.Older.{ShowsOlder}
 use Rattle.reg_migration.specs.declared.version.Earlier.{Earlier}
-use Rattle.reg_crl.specs.Signing.{signed_by}
+use Rattle.reg_crl.specs.Signing.{Identity, signed_by}
 use Rattle.reg_jobs.specs.declared.failure.Failure.{Failure}
 use Rattle.reg_laws.proofs.Runs.{created_sound}
 use Rattle.reg_office.specs.Stands.{Stands}
 use Rattle.reg_tables.specs.Kept.{ShowsKept}
 use Rattle.reg_tables.specs.Schema.{no_schema}
-use Rattle.reg_program.specs.Digest.{digest, digests}
-use Rattle.reg_program.specs.Files.{IsConnection, IsOpenedFrom, IsMadeFrom}
+use Rattle.reg_program.specs.Files.{IsConnection, IsOpenedFrom, IsMadeFrom, Showed}
+use Rattle.reg_program.specs.Signing.{Follows, IsSigning, Signing}
 
 -- the records of one that was made
-pub made_stands : {C : Type 0} (g : Ghosts C) (store register : Held C) (issuer : Issuer) (policy : Terms)
-    → register ≡ store
-    → ShowsKept g store (no_records issuer policy) → Stands g digests register digest (no_records issuer policy)
-made_stands {C} g store register issuer policy is shown =
+pub made_stands : {C : Type 0} (g : Ghosts C) (signs : Identity → List ℕ → List ℕ → Type 0) (identity : Identity) (store register : Held C)
+    (issuer : Issuer) (policy : Terms) → register ≡ store
+    → ShowsKept g store (no_records issuer policy) → Stands g signs register identity (no_records issuer policy)
+made_stands {C} g signs identity store register issuer policy is shown =
     let P : Held C → Type 0 = λ v. ShowsKept g v (no_records issuer policy) in
-    record { shown = subst P (sym is) shown; sound = created_sound (signed_by digests digest) issuer policy }
+    record { shown = subst P (sym is) shown; sound = created_sound (signed_by signs identity) issuer policy }
 
 -- the records of one that was opened
 pub opened_shows : {C : Type 0} (g : Ghosts C) (store register : Held C) (records : Records)
@@ -60,21 +61,46 @@ settled_not {O} {L} P failure (Err left) result holds is =
 module _ {D : Type 0} {g : disk.Ghosts D} {O L : Type 0} (store : O → Held (FileStore D g)) (failure : L → Failure)
     (connection : Held (FileStore D g)) (connects : IsConnection connection) (found : Result O L) (result : Result O Failure)
     (settled : MatchResult found (λ office. result ≡ Ok office) (λ left. result ≡ Err (failure left))) where
+  -- who signs over what was opened, as it was told and over its records
+  abbrev pub Tells : (O → Identity) → Signing → O → Type 0
+  Tells who signing office =
+      (records : Records) → Showed over_files connection records → HasCleanDisk (file_state (store office))
+      → IsSigning signing records.issuer.key (who office)
+
+  -- who signs, under the algorithm of the latest CRL
+  abbrev pub FollowsLatest : (O → Identity) → O → Type 0
+  FollowsLatest who office =
+      (records : Records) → Showed over_files connection records → SoundRows records → HasCleanDisk (file_state (store office))
+      → Follows records (who office).algorithm
+
   -- one that was opened
-  pub settled_opened :
-      IfOk found (λ office. (records : Records) → ShowsKept over_files connection records → ShowsKept over_files (store office) records)
+  pub settled_opened : (who : O → Identity) (signing : Signing)
+      → IfOk found (λ office. (records : Records) → ShowsKept over_files connection records → ShowsKept over_files (store office) records)
       → IfOk found (λ office. (version : Earlier) (records : Records) → ShowsOlder version over_files connection records → SoundRows records → ShowsKept over_files (store office) records)
       → IfOk found (λ office. doubt (file_state connection).is_clean ≤ doubt (file_state (store office)).is_clean)
-      → IfOk result (λ office. IsOpenedFrom (store office))
-  settled_opened kept migrated clean = settled_ok (λ office. IsOpenedFrom (store office)) failure found result (go found kept migrated clean) settled
+      → IfOk found (Tells who signing)
+      → IfOk found (FollowsLatest who)
+      → IfOk result (λ office. IsOpenedFrom signing (store office) (who office))
+  settled_opened who signing kept migrated clean told follows =
+      settled_ok (λ office. IsOpenedFrom signing (store office) (who office)) failure found result (go found kept migrated clean told follows) settled
     where
       go : (r : Result O L)
           → IfOk r (λ office. (records : Records) → ShowsKept over_files connection records → ShowsKept over_files (store office) records)
           → IfOk r (λ office. (version : Earlier) (records : Records) → ShowsOlder version over_files connection records → SoundRows records → ShowsKept over_files (store office) records)
           → IfOk r (λ office. doubt (file_state connection).is_clean ≤ doubt (file_state (store office)).is_clean)
-          → IfOk r (λ office. IsOpenedFrom (store office))
-      go (Ok office) kept migrated clean = record { connection = connection; connects = connects; kept = kept; migrated = migrated; clean = clean }
-      go (Err left) kept migrated clean = tt
+          → IfOk r (Tells who signing)
+          → IfOk r (FollowsLatest who)
+          → IfOk r (λ office. IsOpenedFrom signing (store office) (who office))
+      go (Ok office) kept migrated clean told follows = record {
+        connection = connection;
+        connects = connects;
+        kept = kept;
+        migrated = migrated;
+        clean = clean;
+        told = told;
+        follows = follows;
+      }
+      go (Err left) kept migrated clean told follows = tt
 
   -- one that was made
   pub settled_made :

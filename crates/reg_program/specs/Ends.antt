@@ -21,12 +21,14 @@ use Rattle.reg_tables.specs.Stays.{IsCallFault}
 use Rattle.reg_tables.specs.declared.fault.StoreFault.{StoreFault}
 use Rattle.reg_wire.specs.Put.{AppendsFront}
 use Rattle.reg_words.specs.declared.job.Job.{Job}
+use Rattle.reg_words.specs.declared.job.KeyHolder.{KeyHolder}
 use Rattle.reg_words.specs.declared.job.Job.TheVariants as job
 use Rattle.reg_program.specs.Digest.{digest, digests}
 use Rattle.reg_program.specs.Failing.{IsMaking}
 use Rattle.reg_program.specs.Sample.{sample_records}
 use Rattle.reg_program.specs.Schedules.{Reschedules}
 use Rattle.reg_program.specs.Serving.{Exchanges, Served}
+use Rattle.reg_program.specs.Signing.{Signing}
 use Rattle.reg_program.specs.Visits.{Visits, NotOpened, Makes, NotMade, ending_of}
 use Rattle.reg_program.specs.declared.place.Place.{Ghosts as Place}
 
@@ -59,17 +61,17 @@ module _ {W P K : Type 0} (contents : W → Option (List ℕ)) (writer writer' :
     -- the bytes of a CRL of the register at a path (RFC 5280 5), of which no record changes
     abbrev pub CrlAt : List ℕ → Option ℕ → Result (Unit {0}) Failure → Type 0
     CrlAt path number result =
-        (NotOpened places keeper place place' path result × (writer' ≡ writer))
+        (NotOpened places keeper place place' path None result × (writer' ≡ writer))
         ⊎ ((given : Result (List ℕ) Fault)
-        × Visits places keeper place place' path (λ identity before after. Crls before number given after)
+        × Visits places keeper place place' path None (λ identity before after. Crls before number given after)
         × SaysGiven contents writer writer' given result)
 
     -- another schedule for the register at a path: its steps are looked at before the path is
     abbrev pub ScheduleAt : List ℕ → List (ℕ × ℕ) → Result (Unit {0}) Failure → Type 0
     ScheduleAt path steps result =
         ((why : Failure) × (result ≡ Err why) × IsNoSchedule steps why × (writer' ≡ writer) × (place' ≡ place))
-        ⊎ (IsSchedule steps × ((NotOpened places keeper place place' path result × (writer' ≡ writer))
-        ⊎ ((set : Result (Unit {0}) StoreFault) × Visits places keeper place place' path (λ identity. Reschedules steps set)
+        ⊎ (IsSchedule steps × ((NotOpened places keeper place place' path None result × (writer' ≡ writer))
+        ⊎ ((set : Result (Unit {0}) StoreFault) × Visits places keeper place place' path None (λ identity. Reschedules steps set)
         × TellsSet contents writer writer' set result)))
 
     -- a path at which nothing lay was claimed, and the place after that; or something lay there, and the place is as it was
@@ -92,10 +94,10 @@ module _ {W P K : Type 0} (contents : W → Option (List ℕ)) (writer writer' :
         × ((start between : P) × Claims path start × MakesAt start between path issuer terms result × Leaves path start between result))
 
     -- HTTP requests over the register at a path (RFC 9112), which is opened before the port is bound
-    abbrev pub ServeAt : List ℕ → ℕ → ℕ → Result (Unit {0}) Failure → Type 0
-    ServeAt path port requests result =
-        (NotOpened places keeper place place' path result × (writer' ≡ writer))
-        ⊎ ((count : ℕ) × Visits places keeper place place' path (Exchanges keeper.signs count)
+    abbrev pub ServeAt : List ℕ → Option KeyHolder → ℕ → ℕ → Result (Unit {0}) Failure → Type 0
+    ServeAt path signer port requests result =
+        (NotOpened places keeper place place' path (Some signer) result × (writer' ≡ writer))
+        ⊎ ((count : ℕ) × Visits places keeper place place' path (Some signer) (Exchanges keeper.signs count)
         × Served port requests count (contents writer) (contents writer') result)
 
 -- A job over what is read and what is written: the reader and the writer before it and after it.
@@ -113,30 +115,32 @@ module _ {E W : Type 0} (remaining : E → Option (List ℕ)) (contents : W → 
 
   module _ {P K : Type 0} (places : Place P K) (keeper : Keeper K) (place place' : P) where
     -- a run over the register at a path: it could not be opened, or the run led from its records to those after it
-    abbrev pub RunsAt : List ℕ → (Result (Unit {0}) Fault → Identity → Records → Records → Type 0) → Result (Unit {0}) Failure → Type 0
-    RunsAt path Ran result =
-        (NotOpened places keeper place place' path result × IsSilent)
-        ⊎ ((ran : Result (Unit {0}) Fault) × (result ≡ ending_of ran) × Visits places keeper place place' path (Ran ran))
+    abbrev pub RunsAt : List ℕ → Signing → (Result (Unit {0}) Fault → Identity → Records → Records → Type 0) → Result (Unit {0}) Failure → Type 0
+    RunsAt path signing Ran result =
+        (NotOpened places keeper place place' path signing result × IsSilent)
+        ⊎ ((ran : Result (Unit {0}) Fault) × (result ≡ ending_of ran) × Visits places keeper place place' path signing (Ran ran))
 
     -- a script over the register at a path
-    abbrev pub ScriptAt : List ℕ → Result (Unit {0}) Failure → Type 0
-    ScriptAt path = RunsAt path (λ ran identity before after.
+    abbrev pub ScriptAt : List ℕ → Option KeyHolder → Result (Unit {0}) Failure → Type 0
+    ScriptAt path signer = RunsAt path (Some signer) (λ ran identity before after.
         ScriptEnds (Lines keeper.signs identity) remaining contents before after reader reader' writer writer' ran)
 
     -- an import into the register at a path, at a moment
     abbrev pub ImportAt : List ℕ → ℕ → Result (Unit {0}) Failure → Type 0
-    ImportAt path now = RunsAt path (λ ran identity before after.
+    ImportAt path now = RunsAt path None (λ ran identity before after.
         ImportEnds (Lines keeper.signs identity) remaining contents now before after reader reader' writer writer' ran)
 
-    -- the end of a job: what it read, what it did at its place to the register at its path and nothing else, and what it wrote
+    -- the end of a job: what it read, what it did at its place to the register at its path and nothing else, and what it wrote; nothing
+    -- holds the key of the sample issuer in memory
     abbrev pub Ends : Job → Result (Unit {0}) Failure → Type 0
     Ends (job.Init file name key days crl_life ocsp_life cap) result = (reader' ≡ reader)
         × InitAt contents writer writer' places keeper place place' file name key (terms_of days crl_life ocsp_life cap) result
-    Ends (job.Script (Some file)) result = ScriptAt file result
-    Ends (job.Script None) result = (place' ≡ place) × ScriptInMemory result
+    Ends (job.Script (Some file) signer) result = ScriptAt file signer result
+    Ends (job.Script None None) result = (place' ≡ place) × ScriptInMemory result
+    Ends (job.Script None (Some holder)) result = (place' ≡ place) × IsSilent × (result ≡ Err failure.BadSigner)
     Ends (job.Import file now) result = ImportAt file now result
     Ends (job.Crl file number) result = (reader' ≡ reader) × CrlAt contents writer writer' places keeper place place' file number result
     Ends (job.Schedule file steps) result =
         (reader' ≡ reader) × ScheduleAt contents writer writer' places keeper place place' file steps result
-    Ends (job.Serve file port requests) result =
-        (reader' ≡ reader) × ServeAt contents writer writer' places keeper place place' file port requests result
+    Ends (job.Serve file port requests signer) result =
+        (reader' ≡ reader) × ServeAt contents writer writer' places keeper place place' file signer port requests result

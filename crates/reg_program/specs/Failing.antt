@@ -21,8 +21,9 @@ IsMaking failure.NotARegister = ⊥
 IsMaking failure.NewVersion = ⊥
 IsMaking failure.BadIssuer = ⊥
 IsMaking failure.BadPolicy = ⊥
+IsMaking failure.BadSigner = ⊥
 
--- of one that is opened: such a fault, or a file that holds no register of a version up to this program's
+-- of one that is opened: such a fault, a file that holds no register of a version up to this program's, or `bad-signer`
 abbrev pub IsOpening : Failure → Type 0
 IsOpening (failure.Fault fault) = IsOfStore fault
 IsOpening failure.NotEmpty = ⊥
@@ -30,3 +31,4 @@ IsOpening failure.NotARegister = Unit {0}
 IsOpening failure.NewVersion = Unit {0}
 IsOpening failure.BadIssuer = ⊥
 IsOpening failure.BadPolicy = ⊥
+IsOpening failure.BadSigner = Unit {0}

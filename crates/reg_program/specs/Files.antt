@@ -1,8 +1,9 @@
 -- What is known of a register in a file.
-use Rattle.std.specs.Prelude.{◌≡◌, ◌≤◌}
+use Rattle.std.specs.Prelude.{◌≡◌, ◌≤◌, ◌⊎◌}
 use Rattle.sqlite.specs.Files.{file_state, over_files, IsOpened}
 use Rattle.sqlite.specs.Held.{Held, IsNew}
 use Rattle.sqlite.specs.State.{HasCleanDisk}
+use Rattle.sqlite_trees.specs.declared.store.Store.{Ghosts}
 use Rattle.sqlite_disk.specs.declared.Disk as disk
 use Rattle.sqlite_store.specs.declared.store.FileStore.{FileStore}
 use Rattle.sqlite_trees.specs.View.{doubt}
@@ -12,6 +13,12 @@ use Rattle.reg_migration.specs.Older.{ShowsOlder}
 use Rattle.reg_migration.specs.declared.version.Earlier.{Earlier}
 use Rattle.reg_tables.specs.Kept.{ShowsKept}
 use Rattle.reg_tables.specs.Schema.{no_schema}
+use Rattle.reg_crl.specs.Signing.{Identity}
+use Rattle.reg_program.specs.Signing.{Follows, IsSigning, Signing}
+
+-- tables showed the records of a register, of this program's version or of an older one
+abbrev pub Showed : {C : Type 0} → Ghosts C → Held C → Records → Type 0
+Showed g held records = ShowsKept g held records ⊎ ((version : Earlier) × ShowsOlder version g held records × SoundRows records)
 
 module _ {D : Type 0} {g : disk.Ghosts D} where
   -- a connection that is new and in no transaction, to a database that is whole where the disk returned what was written
@@ -19,14 +26,19 @@ module _ {D : Type 0} {g : disk.Ghosts D} where
     pub fresh : IsNew connection
     pub whole : HasCleanDisk (file_state connection) → IsOpened connection
 
-  -- what a register holds was opened by a connection, and shows the records that the connection showed, also those that its
-  -- tables showed as ones of an older version
-  pub record IsOpenedFrom (register : Held (FileStore D g)) : Type 0 where
+  -- What a register holds was opened by a connection, and shows the records that the connection showed, also those that its
+  -- tables showed as ones of an older version. Who signs is as it was told, or as the latest CRL tells where nothing will be
+  -- signed; over the issuer's key, and under the algorithm of the latest CRL.
+  pub record IsOpenedFrom (signing : Signing) (register : Held (FileStore D g)) (identity : Identity) : Type 0 where
     pub connection : Held (FileStore D g)
     pub connects : IsConnection connection
     pub kept : (records : Records) → ShowsKept over_files connection records → ShowsKept over_files register records
     pub migrated : (version : Earlier) (records : Records) → ShowsOlder version over_files connection records → SoundRows records → ShowsKept over_files register records
     pub clean : doubt (file_state connection).is_clean ≤ doubt (file_state register).is_clean
+    pub told : (records : Records) → Showed over_files connection records → HasCleanDisk (file_state register)
+        → IsSigning signing records.issuer.key identity
+    pub follows : (records : Records) → Showed over_files connection records → SoundRows records → HasCleanDisk (file_state register)
+        → Follows records identity.algorithm
 
   -- what a register holds was made by a connection to a database with no table, index or view
   pub record IsMadeFrom (register : Held (FileStore D g)) : Type 0 where

@@ -5,5 +5,6 @@ pub mod Files
 pub mod Sample
 pub mod Schedules
 pub mod Serving
+pub mod Signing
 pub mod Told
 pub mod Visits

@@ -50,3 +50,4 @@ Served port requests count out out' (Err failure.NotARegister) = ⊥
 Served port requests count out out' (Err failure.NewVersion) = ⊥
 Served port requests count out out' (Err failure.BadIssuer) = ⊥
 Served port requests count out out' (Err failure.BadPolicy) = ⊥
+Served port requests count out out' (Err failure.BadSigner) = ⊥

@@ -8,6 +8,7 @@ use Rattle.reg_faces.specs.declared.keeper.Keeper.{Ghosts as Keeper}
 use Rattle.reg_jobs.specs.declared.failure.Failure.{Failure}
 use Rattle.reg_jobs.specs.declared.failure.Failure.TheVariants as failure
 use Rattle.reg_program.specs.Failing.{IsMaking, IsOpening}
+use Rattle.reg_program.specs.Signing.{Signing}
 use Rattle.reg_program.specs.declared.place.Place.{Ghosts as Place}
 
 -- how a job ends whose run of a register ended so
@@ -17,19 +18,20 @@ ending_of (Err fault) = Err (failure.Fault fault)
 
 -- What calls of a place did: the place before them and after them. No other call that may change it lies between.
 module _ {P K : Type 0} (places : Place P K) (keeper : Keeper K) (place place' : P) where
-  -- The register at a path was opened, and then closed. The step leads from the records that stood in it, whatever they
+  -- The register at a path was opened for these signatures, and then closed. The step leads from the records that stood in it, whatever they
   -- were, to those that stand there afterwards, where the medium has returned all that was written.
-  pub record Visits (path : List ℕ) (step : Identity → Records → Records → Type 0) : Type 0 where
+  pub record Visits (path : List ℕ) (signing : Signing) (step : Identity → Records → Records → Type 0) : Type 0 where
     pub first : K
     pub last : K
     pub between : P
-    pub opened : places.opened place path first between
+    pub opened : places.opened place path signing first between
     pub moves : Moves keeper.is_clean keeper.stands step first last
     pub closed : places.closed between path last place'
 
   -- the register at a path could not be opened, and that is how the job ends
-  abbrev pub NotOpened : List ℕ → Result (Unit {0}) Failure → Type 0
-  NotOpened path result = (why : Failure) × (result ≡ Err why) × places.unopened place path why place' × IsOpening why
+  abbrev pub NotOpened : List ℕ → Signing → Result (Unit {0}) Failure → Type 0
+  NotOpened path signing result =
+      (why : Failure) × (result ≡ Err why) × places.unopened place path signing why place' × IsOpening why
 
   -- a register was made at a path, in which these records stood, and then it was closed
   pub record Makes (path : List ℕ) (records : Records) : Type 0 where

@@ -1,36 +1,40 @@
 //! Registers in files: made, opened and closed.
 
-ghost use Rattle.std.specs.Prelude.{◌≡◌, ◌≤◌, false, IfOk, IfErr, IsFalse, MatchResult};
+ghost use Rattle.std.specs.Prelude.{◌≡◌, ◌≤◌, false, Some, None, IfOk, IfErr, IsFalse, MatchResult};
 ghost use Rattle.sqlite.specs.Files.{over_files};
 ghost use Rattle.sqlite.specs.Held.{state};
+ghost use Rattle.sqlite.specs.State.{HasCleanDisk};
 ghost use Rattle.sqlite_trees.specs.View.{doubt};
 ghost use Rattle.reg_core.specs.Records.{Records, no_records};
 ghost use Rattle.reg_core.specs.Sound.{SoundRows};
 ghost use Rattle.reg_migration.specs.Older.{ShowsOlder};
 ghost use Rattle.reg_migration.specs.declared.version.Earlier.{Earlier};
-ghost use Rattle.reg_program.specs.Digest.{digest, digests};
 ghost use Rattle.reg_program.specs.Failing.{IsMaking, IsOpening};
-ghost use Rattle.reg_program.specs.Files.{IsOpenedFrom, IsMadeFrom};
+ghost use Rattle.reg_program.specs.Files.{IsOpenedFrom, IsMadeFrom, Showed};
+ghost use Rattle.reg_program.specs.Signing.{Follows, IsSigning, identity_told};
 ghost use Rattle.reg_office.specs.Stands.{Stands};
 ghost use Rattle.reg_tables.specs.Kept.{ShowsKept};
 ghost use Rattle.reg_tables.specs.Schema.{no_schema};
 
 use crate::place::{Place, Register};
+use crate::signing::{FileSigner, signer_found, signer_over};
 use reg_core::{Fault, Policy, Schedule};
-use reg_crl::{DigestSeal, Signer};
+use reg_crl::Signer;
 use reg_der::Issuer;
 use reg_faces::Keeper;
 use reg_files::{claim_file, open_file, remove_file};
 use reg_jobs::Failure;
 use reg_office::Office;
+use reg_signer::KeyOrDigest;
 use reg_store::{Store, StoreFault};
+use reg_words::KeyHolder;
 use sqlite::{Alter, Connection, FileFrom, FileStore};
 use sqlite_disk::{Disk, Unknown};
 use std::alloc::Global;
 use std::fs;
 
-/// An office over a register's file, with its checks for damage, and the digest as its signer.
-pub type FileOffice = Office<FileStore<FileFrom<Unknown>>, DigestSeal>;
+/// An office over a register's file, with its checks for damage, and what holds the key or a digest as its signer.
+pub type FileOffice = Office<FileStore<FileFrom<Unknown>>, FileSigner>;
 
 impl<C: Alter, S: Signer> Register for Office<C, S> {
     fn set_schedule(&mut self, alloc: Global, schedule: Schedule) -> Result<(), StoreFault> {
@@ -50,9 +54,10 @@ impl Place for HostRuntime {
 
     ghost removed = { λ files path after. Unit {0} };
 
-    ghost opened = { λ files path register after. IsOpenedFrom register.store };
+    ghost opened = { λ files path signing register after.
+        IsOpenedFrom signing register.store (⟦<FileSigner as Signer>⟧.identity register.signer) };
 
-    ghost unopened = { λ files path why after. Unit {0} };
+    ghost unopened = { λ files path signing why after. Unit {0} };
 
     ghost made = { λ files path register after. IsMadeFrom register.store };
 
@@ -72,6 +77,17 @@ impl Place for HostRuntime {
             return Err(Failure::Fault(Fault::Store));
         }
         open_register(self, path)
+    }
+
+    fn open_to_sign(
+        &mut self,
+        path: &str,
+        signer: &Option<KeyHolder<'_>>,
+    ) -> Result<FileOffice, Failure> {
+        if !fs::exists(self, path).unwrap_or(false) {
+            return Err(Failure::Fault(Fault::Store));
+        }
+        open_register_to_sign(self, path, signer)
     }
 
     fn make(&mut self, path: &str, issuer: Issuer, policy: Policy) -> Result<FileOffice, Failure> {
@@ -103,61 +119,116 @@ fn make_register(
     policy: Policy,
 ) -> Result<FileOffice, Failure>
     ensures ok { IfOk result (λ register. IsMadeFrom register.store) }
-    ensures stands { IfOk result (λ register. Stands over_files digests register.store digest (no_records issuer policy)) }
+    ensures stands { IfOk result (λ register. Stands over_files ⟦<FileSigner as Signer>⟧.signs register.store
+        (⟦<FileSigner as Signer>⟧.identity register.signer) (no_records issuer policy)) }
     ensures err { IfErr result IsMaking }
 {
     let connection = open_file(rt, path, Unknown)?;
-    settled(made_over(connection, issuer, policy))
+    settled(made_over(connection, issuer, policy, KeyOrDigest::digest()))
 }
 
-/// Opens the register of a file.
+/// Opens the register of a file, where nothing will be signed.
 fn open_register(rt: &HostRuntime, path: &str) -> Result<FileOffice, Failure>
-    ensures ok { IfOk result (λ register. IsOpenedFrom register.store) }
+    ensures ok { IfOk result (λ register. IsOpenedFrom None register.store (⟦<FileSigner as Signer>⟧.identity register.signer)) }
     ensures err { IfErr result IsOpening }
 {
     let connection = open_file(rt, path, Unknown)?;
-    settled(opened_over(connection))
+    settled(found_over(rt, connection))
+}
+
+/// Opens the register of a file, with who signs.
+fn open_register_to_sign(
+    rt: &HostRuntime,
+    path: &str,
+    signer: &Option<KeyHolder<'_>>,
+) -> Result<FileOffice, Failure>
+    ensures ok { IfOk result (λ register. IsOpenedFrom (Some signer.now) register.store (⟦<FileSigner as Signer>⟧.identity register.signer)) }
+    ensures err { IfErr result IsOpening }
+{
+    let connection = open_file(rt, path, Unknown)?;
+    settled(signed_over(rt, connection, signer))
 }
 
 /// The office over a register that is made in a database; where it can't be made, why, and the connection back.
-fn made_over<C: Alter>(
+fn made_over<C: Alter, S: Signer + Drop>(
     connection: Connection<C>,
     issuer: Issuer,
     policy: Policy,
-) -> Result<Office<C, DigestSeal>, (Failure, Connection<C>)>
+    signer: S,
+) -> Result<Office<C, S>, (Failure, Connection<C>)>
     requires { connection.in_transaction ≡ false }
-    ensures stands { IfOk result (λ office. Stands C.Store digests office.store digest (no_records issuer policy)) }
+    ensures stands { IfOk result (λ office. Stands C.Store S.signs office.store (S.identity office.signer) (no_records issuer policy)) }
     ensures empty { IfOk result (λ office. connection.schema ≡ no_schema) }
     ensures clean { IfOk result (λ office. doubt (state C.Store connection).is_clean ≤ doubt (state C.Store office.store).is_clean) }
     ensures err { IfErr result (λ left. IsMaking left.0) }
 {
     match Store::create(connection, issuer, policy) {
-        Ok(store) => Ok(Office::new(store, DigestSeal)),
+        Ok(store) => Ok(Office::new(store, signer)),
         Err(unopened) => Err((Failure::from(unopened.fault), unopened.connection)),
     }
 }
 
-/// The office over the register of a database; where there is none, why, and the connection back.
-fn opened_over<C: Alter>(
+/// The office over the register of a database, where nothing will be signed; where there is none, why, and the connection back.
+fn found_over<C: Alter>(
+    rt: &HostRuntime,
     connection: Connection<C>,
-) -> Result<Office<C, DigestSeal>, (Failure, Connection<C>)>
+) -> Result<Office<C, FileSigner>, (Failure, Connection<C>)>
     requires { connection.in_transaction ≡ false }
     ensures kept { IfOk result (λ office. (records : Records) → ShowsKept C.Store connection records → ShowsKept C.Store office.store records) }
     ensures migrated { IfOk result (λ office. (version : Earlier) → (records : Records) → ShowsOlder version C.Store connection records → SoundRows records
         → ShowsKept C.Store office.store records) }
     ensures clean { IfOk result (λ office. doubt (state C.Store connection).is_clean ≤ doubt (state C.Store office.store).is_clean) }
+    ensures told { IfOk result (λ office. (records : Records) → Showed C.Store connection records → HasCleanDisk (state C.Store office.store)
+        → IsSigning None records.issuer.key (⟦<FileSigner as Signer>⟧.identity office.signer)) }
+    ensures follows { IfOk result (λ office. (records : Records) → Showed C.Store connection records → SoundRows records
+        → HasCleanDisk (state C.Store office.store) → Follows records (⟦<FileSigner as Signer>⟧.identity office.signer).algorithm) }
     ensures err { IfErr result (λ left. IsOpening left.0) }
 {
     match Store::open(connection) {
-        Ok(store) => Ok(Office::new(store, DigestSeal)),
+        Ok(store) => {
+            let mut store = store;
+            match signer_found(rt, &mut store) {
+                Ok(signer) => Ok(Office::new(store, signer)),
+                Err(why) => Err((why, store.into_connection())),
+            }
+        }
+        Err(unopened) => Err((Failure::from(unopened.fault), unopened.connection)),
+    }
+}
+
+/// The office over the register of a database, with who signs; where there is none, why, and the connection back.
+fn signed_over<C: Alter>(
+    rt: &HostRuntime,
+    connection: Connection<C>,
+    signer: &Option<KeyHolder<'_>>,
+) -> Result<Office<C, FileSigner>, (Failure, Connection<C>)>
+    requires { connection.in_transaction ≡ false }
+    ensures kept { IfOk result (λ office. (records : Records) → ShowsKept C.Store connection records → ShowsKept C.Store office.store records) }
+    ensures migrated { IfOk result (λ office. (version : Earlier) → (records : Records) → ShowsOlder version C.Store connection records → SoundRows records
+        → ShowsKept C.Store office.store records) }
+    ensures clean { IfOk result (λ office. doubt (state C.Store connection).is_clean ≤ doubt (state C.Store office.store).is_clean) }
+    ensures told { IfOk result (λ office. (records : Records) → Showed C.Store connection records → HasCleanDisk (state C.Store office.store)
+        → ⟦<FileSigner as Signer>⟧.identity office.signer ≡ identity_told signer.now records.issuer.key) }
+    ensures follows { IfOk result (λ office. (records : Records) → Showed C.Store connection records → SoundRows records
+        → HasCleanDisk (state C.Store office.store) → Follows records (⟦<FileSigner as Signer>⟧.identity office.signer).algorithm) }
+    ensures err { IfErr result (λ left. IsOpening left.0) }
+{
+    match Store::open(connection) {
+        Ok(store) => {
+            let mut store = store;
+            match signer_over(rt, &mut store, signer) {
+                Ok(signer) => Ok(Office::new(store, signer)),
+                Err(why) => Err((why, store.into_connection())),
+            }
+        }
         Err(unopened) => Err((Failure::from(unopened.fault), unopened.connection)),
     }
 }
 
 /// What was found, with the connection closed where it is no office.
-fn settled<D: Disk + Drop>(
-    found: Result<Office<FileStore<D>, DigestSeal>, (Failure, Connection<FileStore<D>>)>,
-) -> Result<Office<FileStore<D>, DigestSeal>, Failure>
+fn settled<D: Disk + Drop, S: Signer>(
+    found: Result<Office<FileStore<D>, S>, (Failure, Connection<FileStore<D>>)>,
+) -> Result<Office<FileStore<D>, S>, Failure>
     ensures { MatchResult found (λ office. result ≡ Ok office) (λ left. result ≡ Err left.0) }
 {
     match found {
@@ -170,7 +241,7 @@ fn settled<D: Disk + Drop>(
 }
 
 /// Closes what an office lies in.
-fn close_office<D: Disk + Drop>(office: Office<FileStore<D>, DigestSeal>) {
+fn close_office<D: Disk + Drop, S: Signer + Drop>(office: Office<FileStore<D>, S>) {
     let (store, _signer) = office.into_parts();
     close(store.into_connection());
 }

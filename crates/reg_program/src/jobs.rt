@@ -1,6 +1,6 @@
 //! The jobs but `serve`.
 
-ghost use Rattle.std.specs.Prelude.{◌≡◌, Result, IfOk, IfErr};
+ghost use Rattle.std.specs.Prelude.{◌≡◌, Result, Some, None, IfOk, IfErr};
 ghost use Rattle.sqlite.specs.Steps.{over_memory};
 ghost use Rattle.reg_core.specs.Records.{Records};
 ghost use Rattle.reg_faces.specs.Kept.{Lines};
@@ -23,7 +23,7 @@ use reg_der::Issuer;
 use reg_faces::{Desk, Keeper, import, run_script};
 use reg_jobs::{Failure, office_of, schedule_of};
 use reg_store::StoreFault;
-use reg_words::{Steps, Word};
+use reg_words::{KeyHolder, Steps, Word};
 use std::alloc::Global;
 use std::io::{Read, Write};
 
@@ -48,17 +48,34 @@ fn ended(ran: Result<(), Fault>) -> Result<(), Failure>
     }
 }
 
-/// Opens the register at a path, with its faces.
+/// Opens the register at a path, with its faces, where nothing will be signed.
 pub(crate) fn open_desk<P: Place>(
     alloc: Global,
     place: &mut P,
     path: &str,
 ) -> Result<Desk<P::Opened>, Failure>
-    ensures ok { IfOk result (λ desk. P.opened place.old path.now desk.office place.new) }
-    ensures err { IfErr result (λ why. P.unopened place.old path.now why place.new) }
+    ensures ok { IfOk result (λ desk. P.opened place.old path.now None desk.office place.new) }
+    ensures err { IfErr result (λ why. P.unopened place.old path.now None why place.new) }
     ensures faults { IfErr result IsOpening }
 {
     match place.open(path) {
+        Ok(office) => Ok(Desk { office, alloc }),
+        Err(why) => Err(why),
+    }
+}
+
+/// Opens the register at a path, with its faces and with who signs.
+pub(crate) fn open_desk_to_sign<P: Place>(
+    alloc: Global,
+    place: &mut P,
+    path: &str,
+    signer: &Option<KeyHolder<'_>>,
+) -> Result<Desk<P::Opened>, Failure>
+    ensures ok { IfOk result (λ desk. P.opened place.old path.now (Some signer.now) desk.office place.new) }
+    ensures err { IfErr result (λ why. P.unopened place.old path.now (Some signer.now) why place.new) }
+    ensures faults { IfErr result IsOpening }
+{
+    match place.open_to_sign(path, signer) {
         Ok(office) => Ok(Desk { office, alloc }),
         Err(why) => Err(why),
     }
@@ -121,7 +138,7 @@ fn make_at<P: Place, W: Write>(
     say(writer, b"created\n")
 }
 
-/// Runs the script of standard input over a new register in memory.
+/// Runs the script of standard input over a new register in memory, of a sample issuer whose key nothing holds.
 pub(crate) fn script_in_memory<R: Read, W: Write>(
     alloc: Global,
     reader: &mut R,
@@ -153,13 +170,14 @@ pub(crate) fn script<P: Place, R: Read, W: Write>(
     alloc: Global,
     place: &mut P,
     path: &str,
+    signer: &Option<KeyHolder<'_>>,
     reader: &mut R,
     writer: &mut W,
 ) -> Result<(), Failure>
     ensures { ScriptAt R.remaining W.contents reader.old reader.new writer.old writer.new
-        P.Place P.Opened.Keeper place.old place.new path.now result }
+        P.Place P.Opened.Keeper place.old place.new path.now signer.now result }
 {
-    let mut opened = open_desk(alloc, place, path)?;
+    let mut opened = open_desk_to_sign(alloc, place, path, signer)?;
     let ran = run_script(alloc, reader, writer, &mut opened);
     close_desk(place, path, opened);
     ended(ran)

@@ -9,8 +9,10 @@ mod peer;
 mod performing;
 mod place;
 mod serving;
+mod signing;
 mod telling;
 
 pub use files::FileOffice;
 pub use performing::{perform, perform_at};
 pub use place::{Place, Register};
+pub use signing::FileSigner;

@@ -89,8 +89,18 @@ fn run<P: Place, R: Read, W: Write>(
             };
             init(alloc, place, file.as_str(), &new, writer)
         }
-        Job::Script { file: Some(file) } => script(alloc, place, file.as_str(), reader, writer),
-        Job::Script { file: None } => script_in_memory(alloc, reader, writer),
+        Job::Script {
+            file: Some(file),
+            signer,
+        } => script(alloc, place, file.as_str(), signer, reader, writer),
+        Job::Script {
+            file: None,
+            signer: None,
+        } => script_in_memory(alloc, reader, writer),
+        Job::Script {
+            file: None,
+            signer: Some(_),
+        } => Err(Failure::BadSigner),
         Job::Import { file, now } => {
             import_rows(alloc, place, file.as_str(), *now, reader, writer)
         }
@@ -99,7 +109,8 @@ fn run<P: Place, R: Read, W: Write>(
             file,
             port,
             requests,
-        } => serve(rt, place, file.as_str(), *port, *requests, writer),
+            signer,
+        } => serve(rt, place, file.as_str(), signer, *port, *requests, writer),
         Job::Schedule { file, steps } => schedule(alloc, place, file.as_str(), steps, writer),
     }
 }

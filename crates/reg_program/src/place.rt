@@ -5,6 +5,7 @@ use reg_der::Issuer;
 use reg_faces::Keeper;
 use reg_jobs::Failure;
 use reg_store::StoreFault;
+use reg_words::KeyHolder;
 use std::alloc::Global;
 
 /// A register that was opened: it keeps records, and its schedule can be set.
@@ -28,11 +29,12 @@ pub trait Register: Keeper {
 /// register was opened, made or closed. Each call that may change the place is stated by a relation of the place before and
 /// after it: so a clause that leads from one place to another by such calls says that nothing else was done there.
 pub trait Place {
-    ghost use Rattle.std.specs.Prelude.{◌≡◌, ℕ, List, IsTrue, IsFalse, OnOk, IfOk, IfErr};
+    ghost use Rattle.std.specs.Prelude.{◌≡◌, ℕ, List, Some, None, IsTrue, IsFalse, OnOk, IfOk, IfErr};
     ghost use Rattle.reg_core.specs.Records.{no_records};
     ghost use Rattle.reg_crl.specs.Signing.{Identity};
     ghost use Rattle.reg_jobs.specs.declared.failure.Failure.{Failure as Failing};
     ghost use Rattle.reg_program.specs.Failing.{IsMaking, IsOpening};
+    ghost use Rattle.reg_program.specs.Signing.{Signing};
 
     /// What is opened: a register.
     type Opened: Register + Drop;
@@ -46,11 +48,11 @@ pub trait Place {
     /// What lay at the path was removed, and the place after it.
     ghost removed: { Self → List ℕ → Self → Type 0 };
 
-    /// This register was opened at the path, and the place after it.
-    ghost opened: { Self → List ℕ → Self.Opened → Self → Type 0 };
+    /// This register was opened at the path for these signatures, and the place after it.
+    ghost opened: { Self → List ℕ → Signing → Self.Opened → Self → Type 0 };
 
-    /// For this no register could be opened at the path, and the place after it.
-    ghost unopened: { Self → List ℕ → Failing → Self → Type 0 };
+    /// For this no register could be opened at the path for these signatures, and the place after it.
+    ghost unopened: { Self → List ℕ → Signing → Failing → Self → Type 0 };
 
     /// This register was made at the path, and the place after it.
     ghost made: { Self → List ℕ → Self.Opened → Self → Type 0 };
@@ -69,15 +71,31 @@ pub trait Place {
         ensures lies { IsFalse result → lies self.old path.now }
         ensures same { IsFalse result → self.new ≡ self.old };
 
-    /// Opens the register that lies at a path.
+    /// Opens the register that lies at a path, where nothing will be signed.
     ///
     /// # Errors
     ///
-    /// `NotARegister` and `NewVersion` for other tables; `Fault` of `Memory`, and of `Store` where nothing lies there or it
-    /// can't be opened.
+    /// `NotARegister` and `NewVersion` for other tables; `BadSigner` where the latest CRL was signed under an algorithm that this
+    /// program does not know, or that does not fit the issuer's key; `Fault` of `Memory`, and of `Store` where nothing lies there
+    /// or it can't be opened.
     fn open(&mut self, path: &str) -> Result<Self::Opened, Failure>
-        ensures ok { IfOk result (λ register. opened self.old path.now register self.new) }
-        ensures err { IfErr result (λ why. unopened self.old path.now why self.new) }
+        ensures ok { IfOk result (λ register. opened self.old path.now None register self.new) }
+        ensures err { IfErr result (λ why. unopened self.old path.now None why self.new) }
+        ensures faults { IfErr result IsOpening };
+
+    /// Opens the register that lies at a path, with what holds its issuer's key as who signs, or else with a digest.
+    ///
+    /// # Errors
+    ///
+    /// As [`Place::open`], with `BadSigner` where the latest CRL was signed under another algorithm, or the issuer's key is none
+    /// of the algorithm.
+    fn open_to_sign(
+        &mut self,
+        path: &str,
+        signer: &Option<KeyHolder<'_>>,
+    ) -> Result<Self::Opened, Failure>
+        ensures ok { IfOk result (λ register. opened self.old path.now (Some signer.now) register self.new) }
+        ensures err { IfErr result (λ why. unopened self.old path.now (Some signer.now) why self.new) }
         ensures faults { IfErr result IsOpening };
 
     /// Makes a register with no records in what lies at a path and has no tables. Where that fails, something without a

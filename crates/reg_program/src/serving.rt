@@ -6,13 +6,14 @@ ghost use Rattle.reg_program.specs.Ends.{Says, ServeAt};
 ghost use Rattle.reg_program.specs.Serving.{Exchange, Exchanges, Served, listening};
 
 use crate::clock::moment_of;
-use crate::jobs::{close_desk, open_desk};
+use crate::jobs::{close_desk, open_desk_to_sign};
 use crate::peer::Peer;
 use crate::place::Place;
 use crate::telling::say;
 use reg_core::{Decimal, Fault};
 use reg_faces::{Desk, Keeper, serve_one};
 use reg_jobs::Failure;
+use reg_words::KeyHolder;
 use std::io::Write;
 use std::net::{TcpListener, TcpStream};
 use std::time::Instant;
@@ -22,13 +23,14 @@ pub(crate) fn serve<P: Place, W: Write>(
     rt: &HostRuntime,
     place: &mut P,
     path: &str,
+    signer: &Option<KeyHolder<'_>>,
     port: u16,
     requests: u32,
     writer: &mut W,
 ) -> Result<(), Failure>
-    ensures { ServeAt W.contents writer.old writer.new P.Place P.Opened.Keeper place.old place.new path.now port requests result }
+    ensures { ServeAt W.contents writer.old writer.new P.Place P.Opened.Keeper place.old place.new path.now signer.now port requests result }
 {
-    let mut desk = open_desk(rt.alloc(), place, path)?;
+    let mut desk = open_desk_to_sign(rt.alloc(), place, path, signer)?;
     let served = serve_desk(rt, &mut desk, port, requests, writer);
     close_desk(place, path, desk);
     served

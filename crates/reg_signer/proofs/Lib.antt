@@ -1,3 +1,4 @@
+pub mod Carried
 mod Identifiers
 mod Pairs
 mod Sizes

@@ -1,9 +1,9 @@
 -- How many octets a number has, and the INTEGERs of numbers above 0.
-use Rattle.std.proofs.Common.{◌≡◌, ℕ, zero, suc, ◌+◌, ◌-◌, ◌*◌, ◌^◌, ◌<◌, ◌≤◌, List, [], ◌∷◌, ◌++◌, length, get_or, refl, sym, ap, subst, ◌∙◌, arith, inl, inr}
+use Rattle.std.proofs.Common.{◌≡◌, ℕ, suc, ◌-◌, ◌*◌, ◌^◌, ◌<◌, ◌≤◌, List, [], ◌∷◌, length, get_or, refl, sym, ap, subst, arith, inl, inr}
 use Rattle.std.proofs.Math.Nat.{pow-succ', pow-le-pow_right, one-le-pow, mul-le-mul_right}
 use Rattle.std.proofs.lemmas.Bool.{cases_lt}
 use Rattle.reg_core.specs.Integer.{IsBytes, IsInteger, IsShortest, value}
-use Rattle.reg_core.proofs.Integers.{is_bytes-tail, value-cons, value-lt, one_integer}
+use Rattle.reg_core.proofs.Integers.{is_bytes-tail, value-cons, value-lt}
 use Rattle.reg_signer.specs.Forms.{HasOctets}
 
 -- octets whose first is above 0 are as many as their number has

@@ -1,3 +1,5 @@
 pub mod Algorithms
+pub mod Both
 pub mod Exchange
 pub mod Forms
+pub mod Signed

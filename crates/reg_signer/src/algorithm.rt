@@ -1,6 +1,6 @@
 //! The algorithms of signatures.
 
-ghost use Rattle.std.specs.Prelude.{◌≡◌, ◌≢◌, MatchOption};
+ghost use Rattle.std.specs.Prelude.{◌≡◌, ◌≢◌, ◌↔◌, IsTrue, MatchOption};
 ghost use Rattle.reg_crl.specs.Signing.{IsAlgorithm};
 ghost use Rattle.reg_signer.specs.Algorithms.{algorithm_named, identifier_of, name_of};
 ghost use Rattle.reg_signer.specs.declared.algorithm.Algorithm.{Algorithm};
@@ -50,6 +50,31 @@ impl Algorithm {
             "ed25519" => Some(Algorithm::Ed25519),
             _ => None,
         }
+    }
+
+    /// The algorithm of an AlgorithmIdentifier. `None` for any other bytes.
+    pub fn identified(identifier: &[u8]) -> Option<Algorithm>
+        ensures { MatchOption result ((algorithm : Algorithm) → identifier_of algorithm ≢ identifier.now)
+            (λ algorithm. identifier_of algorithm ≡ identifier.now) }
+    {
+        if Algorithm::EcdsaSha256.is(identifier) {
+            Some(Algorithm::EcdsaSha256)
+        } else if Algorithm::EcdsaSha384.is(identifier) {
+            Some(Algorithm::EcdsaSha384)
+        } else if Algorithm::RsaSha256.is(identifier) {
+            Some(Algorithm::RsaSha256)
+        } else if Algorithm::Ed25519.is(identifier) {
+            Some(Algorithm::Ed25519)
+        } else {
+            None
+        }
+    }
+
+    /// Whether this is its AlgorithmIdentifier.
+    fn is(self, identifier: &[u8]) -> bool
+        ensures { IsTrue result ↔ (identifier_of self ≡ identifier.now) }
+    {
+        self.identifier() == identifier
     }
 
     /// Its name: `ecdsa-sha256`, `ecdsa-sha384`, `rsa-sha256` or `ed25519`.

@@ -2,17 +2,21 @@
 #![tactic(auto)]
 
 mod algorithm;
+mod both;
 mod device;
 mod exchange;
 mod forms;
 mod numbers;
+mod signed;
 mod signer;
 mod timing;
 mod unix;
 
 pub use algorithm::Algorithm;
+pub use both::KeyOrDigest;
 pub use device::{Device, DeviceFault};
 pub use exchange::{Connection, Connector, SocketDevice};
+pub use signed::crl_algorithm;
 pub use signer::{BadSigner, DeviceSigner};
 pub use timing::{TimedStream, read_in_time, time_left, write_in_time};
 pub use unix::UnixLink;

@@ -34,9 +34,9 @@ init_app = with_rules (new_app (codes "init"))
     (must (codes "file") ∷ needs (codes "name") ∷ needs (codes "key") ∷ takes (codes "days")
     ∷ takes (codes "crl-life") ∷ takes (codes "ocsp-life") ∷ takes (codes "cap") ∷ [])
 
--- `script [FILE]`
+-- `script [FILE] [--signer SOCKET --algorithm NAME]`
 abbrev pub script_app : App
-script_app = with_rules (new_app (codes "script")) (may (codes "file") ∷ [])
+script_app = with_rules (new_app (codes "script")) (may (codes "file") ∷ takes (codes "signer") ∷ takes (codes "algorithm") ∷ [])
 
 -- `import FILE --now MOMENT`
 abbrev pub import_app : App
@@ -46,9 +46,10 @@ import_app = with_rules (new_app (codes "import")) (must (codes "file") ∷ need
 abbrev pub crl_app : App
 crl_app = with_rules (new_app (codes "crl")) (must (codes "file") ∷ takes (codes "number") ∷ [])
 
--- `serve FILE --port N --requests N`
+-- `serve FILE --port N --requests N [--signer SOCKET --algorithm NAME]`
 abbrev pub serve_app : App
-serve_app = with_rules (new_app (codes "serve")) (must (codes "file") ∷ needs (codes "port") ∷ needs (codes "requests") ∷ [])
+serve_app = with_rules (new_app (codes "serve"))
+    (must (codes "file") ∷ needs (codes "port") ∷ needs (codes "requests") ∷ takes (codes "signer") ∷ takes (codes "algorithm") ∷ [])
 
 -- `schedule FILE MOMENT=DAYS ..`
 abbrev pub schedule_app : App

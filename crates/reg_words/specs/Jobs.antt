@@ -7,8 +7,10 @@ use Rattle.clap.specs.declared.error.kind.ErrorKind.TheVariants.{DisplayHelp, Ou
 use Rattle.reg_core.specs.Number.{number_of}
 use Rattle.reg_words.specs.Desk.{desk_app}
 use Rattle.reg_words.specs.Values.{moment_of, steps_of, within}
+use Rattle.reg_signer.specs.Algorithms.{algorithm_named}
 use Rattle.reg_words.specs.declared.job.Job.{Job}
 use Rattle.reg_words.specs.declared.job.Job.TheVariants.{Init, Script, Import, Crl, Serve, Schedule}
+use Rattle.reg_words.specs.declared.job.KeyHolder.{KeyHolder}
 use Rattle.reg_words.specs.declared.job.Usage.{Usage}
 use Rattle.reg_words.specs.declared.job.Usage.TheVariants.{Help, Bad, Memory}
 
@@ -29,6 +31,18 @@ given id rows = option_map_or (λ text. option_map (λ n. Some n) (number_of tex
 abbrev pub number_in : ℕ → ℕ → Text → List Row → Option ℕ
 number_in least most id rows = option_and_then (within least most) (option_and_then number_of (first_of id rows))
 
+-- what holds the key, by the words of both options or neither; one alone says nothing, and nor does another name of an algorithm
+abbrev pub holder_told : Option Text → Option Text → Option (Option KeyHolder)
+holder_told (Some socket) (Some name) =
+    option_map (λ algorithm. Some (record { socket = socket; algorithm = algorithm })) (algorithm_named name)
+holder_told (Some socket) None = None
+holder_told None (Some name) = None
+holder_told None None = Some None
+
+-- what holds the key, if it is told
+abbrev pub holder_in : List Row → Option (Option KeyHolder)
+holder_in rows = holder_told (first_of (codes "signer") rows) (first_of (codes "algorithm") rows)
+
 -- each command by its words and options; the days and lives that `init` leaves out are those of the usual policy
 unfoldable pub init_of : List Row → Option Job
 init_of rows = do
@@ -42,7 +56,9 @@ init_of rows = do
   Some (Init file name key days crl_life ocsp_life cap)
 
 unfoldable pub script_of : List Row → Option Job
-script_of rows = Some (Script (first_of (codes "file") rows))
+script_of rows = do
+  signer ← holder_in rows
+  Some (Script (first_of (codes "file") rows) signer)
 
 unfoldable pub import_of : List Row → Option Job
 import_of rows = do
@@ -61,7 +77,8 @@ serve_of rows = do
   file ← first_of (codes "file") rows
   port ← number_in 1 65535 (codes "port") rows
   requests ← number_in 1 1000000 (codes "requests") rows
-  Some (Serve file port requests)
+  signer ← holder_in rows
+  Some (Serve file port requests signer)
 
 unfoldable pub schedule_of : List Row → Option Job
 schedule_of rows = do

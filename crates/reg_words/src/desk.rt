@@ -39,6 +39,12 @@ const PORT: &str = "The TCP port, 1 to 65535";
 
 const REQUESTS: &str = "How many connections to answer before it ends, 1 to 1000000";
 
+const SIGNER: &str =
+    "The Unix socket of what holds the issuer's key [default: none, and a digest seals, which is no signature]";
+
+const ALGORITHM: &str =
+    "The algorithm of its signatures: ecdsa-sha256, ecdsa-sha384, rsa-sha256 or ed25519";
+
 const STEPS: &str =
     "From MOMENT on at most DAYS days, 1 to 398; 1 to 16 steps, the first at 1970-01-01T00:00:00Z, moments ascending";
 
@@ -88,7 +94,7 @@ fn init<'a>(alloc: Global) -> Result<Command<'a>, AllocError>
     with_arg(command, option(alloc, "cap", "N", CAP))
 }
 
-/// `script [FILE]`
+/// `script [FILE] [--signer SOCKET --algorithm NAME]`
 fn script<'a>(alloc: Global) -> Result<Command<'a>, AllocError>
     ensures app { IfOk result (λ made. app_of made ≡ script_app) }
     ensures local { IfOk result (λ made. (fields_of made).has_globals ≡ false) }
@@ -99,7 +105,9 @@ fn script<'a>(alloc: Global) -> Result<Command<'a>, AllocError>
         "Run the lines of standard input, and write one reply line for each.",
         "Example:\n  echo '2026-01-01T00:00:00Z counts' | desk script ca.db",
     ));
-    with_arg(command, word(alloc, "file", "FILE", FILE_OR_MEMORY))
+    let command = with_arg(command, word(alloc, "file", "FILE", FILE_OR_MEMORY));
+    let command = with_arg(command, option(alloc, "signer", "SOCKET", SIGNER));
+    with_arg(command, option(alloc, "algorithm", "NAME", ALGORITHM))
 }
 
 /// `import FILE --now MOMENT`
@@ -132,7 +140,7 @@ fn crl<'a>(alloc: Global) -> Result<Command<'a>, AllocError>
     with_arg(command, option(alloc, "number", "N", NUMBER))
 }
 
-/// `serve FILE --port N --requests N`
+/// `serve FILE --port N --requests N [--signer SOCKET --algorithm NAME]`
 fn serve<'a>(alloc: Global) -> Result<Command<'a>, AllocError>
     ensures app { IfOk result (λ made. app_of made ≡ serve_app) }
     ensures local { IfOk result (λ made. (fields_of made).has_globals ≡ false) }
@@ -145,7 +153,9 @@ fn serve<'a>(alloc: Global) -> Result<Command<'a>, AllocError>
     ));
     let command = with_arg(command, required_word(alloc, "file", "FILE", FILE));
     let command = with_arg(command, required_option(alloc, "port", "N", PORT));
-    with_arg(command, required_option(alloc, "requests", "N", REQUESTS))
+    let command = with_arg(command, required_option(alloc, "requests", "N", REQUESTS));
+    let command = with_arg(command, option(alloc, "signer", "SOCKET", SIGNER));
+    with_arg(command, option(alloc, "algorithm", "NAME", ALGORITHM))
 }
 
 /// `schedule FILE MOMENT=DAYS ..`

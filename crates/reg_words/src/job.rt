@@ -5,6 +5,16 @@ ghost use Rattle.reg_words.specs.Statuses.{usage_status};
 
 use crate::word::{Steps, Word};
 use reg_core::Moment;
+use reg_signer::Algorithm;
+
+/// What holds the issuer's key: what listens at a Unix socket, and the algorithm of its signatures.
+#[derive(Drop)]
+pub struct KeyHolder<'a> {
+    /// The path of the socket.
+    pub socket: Word<'a>,
+    /// The algorithm.
+    pub algorithm: Algorithm,
+}
 
 /// A job of the program, with all that the command line says of it. FILE is the path of a register.
 #[derive(Drop)]
@@ -21,9 +31,11 @@ pub enum Job<'a> {
         ocsp_life: u64,
         cap: u64,
     },
-    /// Runs the script of standard input, without FILE over a register in memory.
+    /// Runs the script of standard input, without FILE over a register in memory. What holds the key signs, or else a digest
+    /// seals.
     Script {
         file: Option<Word<'a>>,
+        signer: Option<KeyHolder<'a>>,
     },
     /// Registers the rows of standard input at a moment.
     Import {
@@ -35,11 +47,12 @@ pub enum Job<'a> {
         file: Word<'a>,
         number: Option<u64>,
     },
-    /// Answers so many requests over HTTP at a port, 1 to 65,535.
+    /// Answers so many requests over HTTP at a port, 1 to 65,535. What holds the key signs, or else a digest seals.
     Serve {
         file: Word<'a>,
         port: u16,
         requests: u32,
+        signer: Option<KeyHolder<'a>>,
     },
     /// Gives the register another schedule of longest validities.
     Schedule {

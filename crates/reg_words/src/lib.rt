@@ -7,6 +7,6 @@ mod reading;
 mod values;
 mod word;
 
-pub use job::{Job, Usage};
+pub use job::{Job, KeyHolder, Usage};
 pub use reading::read_words;
 pub use word::{Steps, Word};

@@ -6,7 +6,9 @@ ghost use Rattle.reg_words.specs.Jobs.{IsJobOf, IsUsageOf, Tells, job_in, init_o
 
 use crate::desk::desk;
 use crate::job::{Job, Usage};
-use crate::values::{moment, number_if_given, number_or, number_within, steps, word_of};
+use crate::values::{
+    key_holder, moment, number_if_given, number_or, number_within, steps, word_of,
+};
 use clap::error::ErrorKind;
 use clap::{ArgMatches, Command, Error};
 use std::alloc::{AllocError, Global};
@@ -30,6 +32,14 @@ const LAST_PORT: u64 = 65_535;
 /// The most connections of one run of the server.
 const MOST_REQUESTS: u64 = 1_000_000;
 
+/// What is said where a value is out of its form or range.
+const VALUE_WANTED: &str =
+    "a number is 1 to 18 digits and within the range that help tells, a moment is written as 2026-01-01T00:00:00Z";
+
+/// What is said where the words don't tell what holds the key.
+const KEY_HOLDER_WANTED: &str =
+    "--signer and --algorithm are given both or neither, and an algorithm is ecdsa-sha256, ecdsa-sha384, rsa-sha256 or ed25519";
+
 /// Reads the words of a command line, of which the first is the program's name.
 ///
 /// A job comes where clap accepts the words and each value is in its form and range, with options left out as in the
@@ -45,7 +55,7 @@ pub fn read_words<'a, S: AsStr>(alloc: Global, words: &'a [S]) -> Result<Job<'a>
     match desk.try_get_matches_from_mut(words) {
         Ok(matches) => match read_job(alloc, &matches) {
             Ok(Some(job)) => Ok(job),
-            Ok(None) => Err(bad_value(alloc, &mut desk)),
+            Ok(None) => Err(bad_value(alloc, &mut desk, what_is_wanted(&matches))),
             Err(_) => Err(Usage::Memory),
         },
         Err(error) => Err(usage_of(alloc, &error)),
@@ -108,6 +118,7 @@ fn read_script<'a>(given: &ArgMatches<'a>) -> Option<Job<'a>>
 {
     Some(Job::Script {
         file: word_of(given, "file"),
+        signer: key_holder(given)?,
     })
 }
 
@@ -139,6 +150,7 @@ fn read_serve<'a>(given: &ArgMatches<'a>) -> Option<Job<'a>>
         file: word_of(given, "file")?,
         port: number_within(given, "port", 1, LAST_PORT)? as u16,
         requests: number_within(given, "requests", 1, MOST_REQUESTS)? as u32,
+        signer: key_holder(given)?,
     })
 }
 
@@ -155,14 +167,19 @@ fn read_schedule<'a>(alloc: Global, given: &ArgMatches<'a>) -> Result<Option<Job
     }
 }
 
+/// What is said of the values that are wanted, where one is out of its form or range.
+fn what_is_wanted(matches: &ArgMatches<'_>) -> &'static str {
+    match matches.subcommand() {
+        Some((_, given)) if key_holder(given).is_none() => KEY_HOLDER_WANTED,
+        _ => VALUE_WANTED,
+    }
+}
+
 /// What is answered where clap took the words, and a value is out of its form or range.
-fn bad_value(alloc: Global, desk: &mut Command<'_>) -> Usage
+fn bad_value(alloc: Global, desk: &mut Command<'_>, wanted: &str) -> Usage
     ensures { Tells ErrorKind.ValueValidation result }
 {
-    match desk.error(
-        ErrorKind::ValueValidation,
-        "a number is 1 to 18 digits and within the range that help tells, a moment is written as 2026-01-01T00:00:00Z",
-    ) {
+    match desk.error(ErrorKind::ValueValidation, wanted) {
         Ok(error) => usage_of(alloc, &error),
         Err(_) => Usage::Memory,
     }

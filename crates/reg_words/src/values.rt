@@ -3,12 +3,14 @@
 ghost use Rattle.std.specs.Prelude.{◌≡◌, ◌≤◌, IfOk, IfSome, List, ℕ, map, option_and_then, option_map};
 ghost use Rattle.reg_core.specs.Number.{number_of};
 ghost use Rattle.clap.specs.Words.{all_of, first_of, found_of, rows_of};
-ghost use Rattle.reg_words.specs.Jobs.{given, given_or, number_in};
+ghost use Rattle.reg_words.specs.Jobs.{given, given_or, holder_in, number_in};
 ghost use Rattle.reg_words.specs.Values.{moment_of, step_of, steps_of, within};
 
+use crate::job::KeyHolder;
 use crate::word::{Steps, Word};
 use clap::ArgMatches;
 use reg_core::{Moment, read_number};
+use reg_signer::Algorithm;
 use std::alloc::{AllocError, Global};
 
 /// The word that was given.
@@ -68,6 +70,20 @@ pub(crate) fn moment(matches: &ArgMatches<'_>, id: &str) -> Option<Moment>
     ensures { result ≡ option_and_then moment_of (first_of id.now (rows_of (found_of matches.now))) }
 {
     read_moment(text_of(matches, id)?.as_bytes())
+}
+
+/// What holds the key, if it is told; `None` where one of its two options is given alone, or no algorithm has the name.
+pub(crate) fn key_holder<'a>(matches: &ArgMatches<'a>) -> Option<Option<KeyHolder<'a>>>
+    ensures { result ≡ holder_in (rows_of (found_of matches.now)) }
+{
+    match (word_of(matches, "signer"), text_of(matches, "algorithm")) {
+        (Some(socket), Some(name)) => {
+            let algorithm = Algorithm::read(name)?;
+            Some(Some(KeyHolder { socket, algorithm }))
+        }
+        (None, None) => Some(None),
+        _ => None,
+    }
 }
 
 /// The steps of a schedule; `None` where there are none, or one has another form than MOMENT=DAYS.

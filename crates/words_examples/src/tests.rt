@@ -1,7 +1,8 @@
 //! Command lines, and what they say.
 
 use reg_core::Moment;
-use reg_words::{Job, Usage, read_words};
+use reg_signer::Algorithm;
+use reg_words::{Job, KeyHolder, Usage, read_words};
 use std::test::Fail;
 
 /// Which of its outcomes a command line has.
@@ -174,13 +175,24 @@ const HELPED: [(&[&str], &[&str]); 8] = [
     ),
     (
         &["desk", "script", "--help"],
-        &["[FILE]", "desk script ca.db"],
+        &[
+            "[FILE]",
+            "--signer <SOCKET>",
+            "--algorithm <NAME>",
+            "desk script ca.db",
+        ],
     ),
     (&["desk", "import", "--help"], &["<FILE>", "--now <MOMENT>"]),
     (&["desk", "crl", "--help"], &["<FILE>", "--number <N>"]),
     (
         &["desk", "serve", "--help"],
-        &["<FILE>", "--port <N>", "--requests <N>"],
+        &[
+            "<FILE>",
+            "--port <N>",
+            "--requests <N>",
+            "--signer <SOCKET>",
+            "--algorithm <NAME>",
+        ],
     ),
     (
         &["desk", "schedule", "F", "--help"],
@@ -314,8 +326,18 @@ fn init_takes_terms_that_are_no_policy(rt: HostRuntime) {
 
 fn is_script(answer: &Result<Job<'_>, Usage>, wanted: Option<&str>) -> bool {
     match answer {
-        Ok(Job::Script { file: Some(file) }) => Some(file.as_str()) == wanted,
-        Ok(Job::Script { file: None }) => wanted.is_none(),
+        Ok(
+            Job::Script {
+                file: Some(file),
+                signer: None,
+            },
+        ) => Some(file.as_str()) == wanted,
+        Ok(
+            Job::Script {
+                file: None,
+                signer: None,
+            },
+        ) => wanted.is_none(),
         _ => false,
     }
 }
@@ -373,6 +395,7 @@ fn is_serve(answer: &Result<Job<'_>, Usage>, path: &str, wanted: (u16, u32)) -> 
                 file,
                 port,
                 requests,
+                signer: None,
             },
         ) => file.as_str() == path && (*port, *requests) == wanted,
         _ => false,
@@ -398,6 +421,126 @@ fn serve_has_its_numbers(rt: HostRuntime) {
         let answer = read_words(rt.alloc(), &words);
         assert!(rt; is_serve(&answer, "ca.db", wanted), "at {port} {requests}");
     }
+}
+
+/// What holds the key, as a script or a server is told it.
+fn holder_of<'a, 'b>(answer: &'b Result<Job<'a>, Usage>) -> Option<&'b KeyHolder<'a>> {
+    match answer {
+        Ok(Job::Script { signer, .. }) => signer.as_ref(),
+        Ok(Job::Serve { signer, .. }) => signer.as_ref(),
+        _ => None,
+    }
+}
+
+fn is_signed_at(answer: &Result<Job<'_>, Usage>, path: &str, algorithm: Algorithm) -> bool {
+    match holder_of(answer) {
+        Some(holder) => holder.socket.as_str() == path && holder.algorithm == algorithm,
+        None => false,
+    }
+}
+
+#[test]
+fn script_and_serve_are_told_what_holds_the_key(rt: HostRuntime) {
+    for (name, algorithm) in [
+        ("ecdsa-sha256", Algorithm::EcdsaSha256),
+        ("ecdsa-sha384", Algorithm::EcdsaSha384),
+        ("rsa-sha256", Algorithm::RsaSha256),
+        ("ed25519", Algorithm::Ed25519),
+    ] {
+        let script = [
+            "desk",
+            "script",
+            "--signer",
+            "ca.sign",
+            "F",
+            "--algorithm",
+            name,
+        ];
+        let serve = [
+            "desk",
+            "serve",
+            "F",
+            "--algorithm",
+            name,
+            "--port=80",
+            "--requests=1",
+            "--signer=ca.sign",
+        ];
+        let script = read_words(rt.alloc(), &script);
+        let serve = read_words(rt.alloc(), &serve);
+        let both = is_signed_at(&script, "ca.sign", algorithm)
+            && is_signed_at(&serve, "ca.sign", algorithm);
+        assert!(rt; both, "at {name}");
+    }
+}
+
+/// Words that don't tell what holds the key.
+const BAD_HOLDERS: [&[&str]; 8] = [
+    &["desk", "script", "F", "--signer", "ca.sign"],
+    &["desk", "script", "F", "--algorithm", "ed25519"],
+    &[
+        "desk",
+        "script",
+        "F",
+        "--signer",
+        "ca.sign",
+        "--algorithm",
+        "ed448",
+    ],
+    &["desk", "script", "--signer=ca.sign", "--algorithm="],
+    &[
+        "desk",
+        "script",
+        "--signer=ca.sign",
+        "--algorithm=ECDSA-SHA256",
+    ],
+    &[
+        "desk",
+        "serve",
+        "F",
+        "--port=80",
+        "--requests=1",
+        "--signer=ca.sign",
+    ],
+    &[
+        "desk",
+        "serve",
+        "F",
+        "--port=80",
+        "--requests=1",
+        "--algorithm=ed25519",
+    ],
+    &[
+        "desk",
+        "serve",
+        "F",
+        "--port=80",
+        "--requests=1",
+        "--signer=ca.sign",
+        "--algorithm=rsa",
+    ],
+];
+
+#[test]
+fn a_socket_and_a_known_algorithm_are_told_both_or_neither(rt: HostRuntime) {
+    for words in BAD_HOLDERS {
+        let answer = read_words(rt.alloc(), words);
+        assert!(rt;
+            is_refused_with(&answer, "given both or neither"),
+            "at {words:?}"
+        );
+    }
+    for words in [
+        ["desk", "import", "F", "--signer=ca.sign"],
+        ["desk", "crl", "F", "--algorithm=ed25519"],
+        ["desk", "schedule", "F", "--signer=ca.sign"],
+    ] {
+        let answer = read_words(rt.alloc(), &words);
+        assert!(rt; is_refused_with(&answer, "unexpected"), "at {words:?}");
+    }
+    let other = ["desk", "crl", "F", "--number=x"];
+    let other = read_words(rt.alloc(), &other);
+    assert!(rt; is_refused_with(&other, "a number is 1 to 18 digits"));
 }
 
 fn is_schedule(answer: &Result<Job<'_>, Usage>, path: &str, wanted: &[(Moment, u64)]) -> bool {

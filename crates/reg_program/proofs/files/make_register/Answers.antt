@@ -1,8 +1,4 @@
-use Rattle.sqlite.specs.Files.{over_files}
-use Rattle.reg_core.specs.Records.{no_records}
-use Rattle.reg_office.specs.Stands.{Stands}
 use Rattle.reg_program.proofs.Opened.{settled_made, settled_not, settled_ok}
-use Rattle.reg_program.specs.Digest.{digest, digests}
 use Rattle.reg_program.specs.Failing.{IsMaking}
 use Rattle.reg_program.proofs.files.make_register.Goals as goal
 
@@ -13,9 +9,7 @@ returns-clause-ok c =
     c.made_over.ensures.empty c.made_over.ensures.clean
 
 pub returns-clause-stands : goal.returns-clause-stands
-returns-clause-stands c =
-    settled_ok (λ office. Stands over_files digests office.store digest (no_records c.args.issuer c.args.policy)) (λ left. left.0)
-    c.made_over.result _ c.made_over.ensures.stands c.settled.ensures
+returns-clause-stands c = settled_ok _ (λ left. left.0) c.made_over.result _ c.made_over.ensures.stands c.settled.ensures
 
 pub returns-clause-err : goal.returns-clause-err
 returns-clause-err c = settled_not IsMaking (λ left. left.0) c.made_over.result _ c.made_over.ensures.err c.settled.ensures

@@ -1,4 +1,3 @@
-use Rattle.std.proofs.Common.{◌≡◌, ◌≢◌, ℕ, arith, rules}
 use Rattle.reg_signer.proofs.Pairs.{not_integer, not_positive}
 use Rattle.reg_signer.proofs.numbers.take_positive.Goals as goal
 

@@ -1,4 +1,7 @@
 use Rattle.reg_words.proofs.desk.script.Goals as goal
 
 pub returns-clause-app : goal.returns-clause-app
-returns-clause-app c = c.with_arg.ensures.app _ _ c.command_named.ensures.app c.word.ensures.rule
+returns-clause-app c =
+    let file = c.with_arg-command.ensures.app _ _ c.command_named.ensures.app c.word.ensures.rule in
+    let signer = c.with_arg-command-2.ensures.app _ _ file c.option.ensures.rule in
+    c.with_arg.ensures.app _ _ signer c.option-2.ensures.rule

@@ -1,4 +1,3 @@
-use Rattle.std.proofs.Common.{sym}
 use Rattle.reg_signer.proofs.Pairs.{rsa_found}
 use Rattle.reg_signer.proofs.algorithm.Algorithm.is_key.Goals as goal
 

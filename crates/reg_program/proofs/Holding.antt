@@ -1,0 +1,46 @@
+-- A register that was opened, over the look-ups that find who signs.
+use Rattle.std.proofs.Common.{◌≡◌, ◌≤◌, ◌⊎◌, ℕ, List, inl, inr, sym, subst, arith}
+use Rattle.sqlite.specs.Held.{Held, state}
+use Rattle.sqlite.specs.State.{HasCleanDisk}
+use Rattle.sqlite_trees.specs.View.{doubt}
+use Rattle.sqlite_trees.specs.declared.store.Store.{Ghosts}
+use Rattle.reg_core.specs.Records.{Records}
+use Rattle.reg_core.specs.Sound.{SoundRows}
+use Rattle.reg_migration.specs.Older.{ShowsOlder}
+use Rattle.reg_migration.specs.declared.version.Earlier.{Earlier}
+use Rattle.reg_office.proofs.Composing.{after_look}
+use Rattle.reg_tables.proofs.Staying.{kept_shows}
+use Rattle.reg_tables.specs.Kept.{ShowsKept}
+use Rattle.reg_tables.specs.Shows.{Shows}
+use Rattle.reg_tables.specs.Stays.{IsRegister, Stays}
+use Rattle.reg_program.specs.Files.{Showed}
+
+-- The connection, the store that was opened, that store after the look-ups, and what the office holds.
+module _ {C : Type 0} (g : Ghosts C) (connection opened after held : Held C) (is : held ≡ after) where
+  -- what was shown is
+  pub holds : (records : Records) → doubt (state g opened).is_clean ≤ doubt (state g after).is_clean
+      → (IsRegister (state g opened) → Stays (state g opened) (state g after))
+      → ShowsKept g opened records → ShowsKept g held records
+  holds records forgets same shown =
+      let P : Held C → Type 0 = λ v. ShowsKept g v records in
+      subst P (sym is) (after_look g opened after records forgets same shown)
+
+  -- the disk was clean after the look-ups where it is for the office
+  pub was_clean : HasCleanDisk (state g held) → HasCleanDisk (state g after)
+  was_clean clean =
+      let P : Held C → Type 0 = λ v. HasCleanDisk (state g v) in
+      subst P is clean
+
+  -- a disk is clean no longer than before
+  pub forgets : doubt (state g connection).is_clean ≤ doubt (state g opened).is_clean
+      → doubt (state g opened).is_clean ≤ doubt (state g after).is_clean → doubt (state g connection).is_clean ≤ doubt (state g held).is_clean
+  forgets first second =
+      let P : Held C → Type 0 = λ v. doubt (state g connection).is_clean ≤ doubt (state g v).is_clean in
+      subst P (sym is) (omega (arith, first, second))
+
+  -- what the connection showed, the store shows
+  pub shown : (records : Records) → (ShowsKept g connection records → ShowsKept g opened records)
+      → ((version : Earlier) → ShowsOlder version g connection records → SoundRows records → ShowsKept g opened records)
+      → Showed g connection records → Shows g opened records
+  shown records kept migrated (inl now) = kept_shows g opened records (kept now)
+  shown records kept migrated (inr (version, older, sound)) = kept_shows g opened records (migrated version older sound)

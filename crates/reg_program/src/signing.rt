@@ -1,0 +1,183 @@
+//! Who signs for a register in a file.
+
+ghost use Rattle.std.specs.Prelude.{◌≡◌, ◌↔◌, ◌≤◌, ◌⊎◌, List, ℕ, Some, None, option_map, IsTrue, IfOk, IfErr};
+ghost use Rattle.sqlite.specs.Held.{state};
+ghost use Rattle.sqlite.specs.State.{HasCleanDisk};
+ghost use Rattle.sqlite_trees.specs.View.{doubt};
+ghost use Rattle.reg_core.specs.Crls.{latest};
+ghost use Rattle.reg_core.specs.Records.{Records};
+ghost use Rattle.reg_core.specs.Sound.{SoundRows};
+ghost use Rattle.reg_program.specs.Failing.{IsOpening};
+ghost use Rattle.reg_program.specs.Signing.{Follows, IsSigning, identity_told};
+ghost use Rattle.reg_signer.specs.Forms.{identity_of};
+ghost use Rattle.reg_signer.specs.Signed.{IsCrlUnder};
+ghost use Rattle.reg_tables.specs.Shows.{Shows};
+ghost use Rattle.reg_tables.specs.Stays.{IsCallFault, IsRegister, Stays};
+
+use reg_core::Fault;
+use reg_crl::Signer;
+use reg_jobs::Failure;
+use reg_signer::{Algorithm, BadSigner, DeviceSigner, KeyOrDigest, SocketDevice, crl_algorithm};
+use reg_store::{Store, StoreFault};
+use reg_words::{KeyHolder, Word};
+use sqlite::Alter;
+
+/// What holds the key signs, behind a socket of the machine, or a digest seals.
+pub type FileSigner = KeyOrDigest<SocketDevice<HostRuntime>>;
+
+/// Who signs for the register of a store, as it is told.
+///
+/// # Errors
+/// `BadSigner` where the latest CRL is signed under another algorithm, or the issuer's key is none of the algorithm; `Memory`,
+/// `Store`.
+pub(crate) fn signer_over<C: Alter>(
+    rt: &HostRuntime,
+    store: &mut Store<C>,
+    told: &Option<KeyHolder<'_>>,
+) -> Result<FileSigner, Failure>
+    ensures told { IfOk result (λ signer. (records : Records) → Shows C.Store store.old records → HasCleanDisk (state C.Store store.new)
+        → ⟦<FileSigner as Signer>⟧.identity signer ≡ identity_told told.now records.issuer.key) }
+    ensures follows { IfOk result (λ signer. (records : Records) → Shows C.Store store.old records → SoundRows records
+        → HasCleanDisk (state C.Store store.new) → Follows records (⟦<FileSigner as Signer>⟧.identity signer).algorithm) }
+    ensures same { IsRegister (state C.Store store.old) → Stays (state C.Store store.old) (state C.Store store.new) }
+    ensures clean { doubt (state C.Store store.old).is_clean ≤ doubt (state C.Store store.new).is_clean }
+    ensures faults { IfErr result IsOpening }
+{
+    let latest = latest_crl(store)?;
+    signer_after(rt, store, &latest, told)
+}
+
+/// Who signs for the register of a store where nothing will be signed: as the latest CRL tells, with nobody who would answer.
+///
+/// # Errors
+/// `BadSigner` where the latest CRL is signed under an algorithm that is not known here, or the issuer's key is none of the
+/// algorithm; `Memory`, `Store`.
+pub(crate) fn signer_found<C: Alter>(
+    rt: &HostRuntime,
+    store: &mut Store<C>,
+) -> Result<FileSigner, Failure>
+    ensures told { IfOk result (λ signer. (records : Records) → Shows C.Store store.old records → HasCleanDisk (state C.Store store.new)
+        → IsSigning None records.issuer.key (⟦<FileSigner as Signer>⟧.identity signer)) }
+    ensures follows { IfOk result (λ signer. (records : Records) → Shows C.Store store.old records → SoundRows records
+        → HasCleanDisk (state C.Store store.new) → Follows records (⟦<FileSigner as Signer>⟧.identity signer).algorithm) }
+    ensures same { IsRegister (state C.Store store.old) → Stays (state C.Store store.old) (state C.Store store.new) }
+    ensures clean { doubt (state C.Store store.old).is_clean ≤ doubt (state C.Store store.new).is_clean }
+    ensures faults { IfErr result IsOpening }
+{
+    let latest = latest_crl(store)?;
+    let told = holder_of(&latest);
+    signer_after(rt, store, &latest, &told)
+}
+
+/// Who would sign as the latest CRL was signed: at a path where no socket can be. `None` where a digest seals, and where the
+/// algorithm is not known.
+fn holder_of(latest: &Option<Vec<u8>>) -> Option<KeyHolder<'static>> {
+    let identifier = crl_algorithm(latest.as_ref()?)?;
+    let algorithm = Algorithm::identified(identifier)?;
+    Some(KeyHolder {
+        socket: Word::of(""),
+        algorithm,
+    })
+}
+
+/// Who signs for the register of a store, as it is told, after its latest CRL.
+fn signer_after<C: Alter>(
+    rt: &HostRuntime,
+    store: &mut Store<C>,
+    latest: &Option<Vec<u8>>,
+    told: &Option<KeyHolder<'_>>,
+) -> Result<FileSigner, Failure>
+    ensures told { IfOk result (λ signer. (records : Records) → Shows C.Store store.old records → HasCleanDisk (state C.Store store.new)
+        → ⟦<FileSigner as Signer>⟧.identity signer ≡ identity_told told.now records.issuer.key) }
+    ensures follows { IfOk result (λ signer. (crl : List ℕ) → option_map (λ bytes. bytes.items) latest.now ≡ Some crl
+        → (other : List ℕ) → IsCrlUnder crl other → other ≡ (⟦<FileSigner as Signer>⟧.identity signer).algorithm) }
+    ensures same { IsRegister (state C.Store store.old) → Stays (state C.Store store.old) (state C.Store store.new) }
+    ensures clean { doubt (state C.Store store.old).is_clean ≤ doubt (state C.Store store.new).is_clean }
+    ensures faults { IfErr result IsOpening }
+{
+    let issuer = store.issuer()?;
+    let signer = signer_told(rt, told, issuer.key())?;
+    if !follows(latest, signer.algorithm()) {
+        return Err(Failure::BadSigner);
+    }
+    Ok(signer)
+}
+
+/// Who signs over an issuer's key, as it is told.
+fn signer_told(
+    rt: &HostRuntime,
+    told: &Option<KeyHolder<'_>>,
+    key: &[u8],
+) -> Result<FileSigner, Failure>
+    ensures ok { IfOk result (λ signer. ⟦<FileSigner as Signer>⟧.identity signer ≡ identity_told told.now key.now) }
+    ensures faults { IfErr result IsOpening }
+{
+    match told {
+        Some(holder) => key_signer(rt, holder.socket.as_str(), holder.algorithm, key),
+        None => Ok(KeyOrDigest::digest()),
+    }
+}
+
+/// What holds a key behind a socket, as who signs.
+fn key_signer(
+    rt: &HostRuntime,
+    socket: &str,
+    algorithm: Algorithm,
+    key: &[u8],
+) -> Result<FileSigner, Failure>
+    ensures ok { IfOk result (λ signer. ⟦<FileSigner as Signer>⟧.identity signer ≡ identity_of algorithm key.now) }
+    ensures faults { IfErr result (λ why. (why ≡ Failure.Fault Fault.Memory) ⊎ (why ≡ Failure.BadSigner)) }
+{
+    let (Ok(path), Ok(key)) = (
+        String::from_str(rt.alloc(), socket),
+        Vec::from_slice(rt.alloc(), key),
+    ) else {
+        return Err(Failure::Fault(Fault::Memory));
+    };
+    match DeviceSigner::new(SocketDevice::new(*rt, path, key), algorithm) {
+        Ok(signer) => Ok(KeyOrDigest::key(signer)),
+        Err(BadSigner) => Err(Failure::BadSigner),
+    }
+}
+
+/// The DER of the CRL that was issued last.
+fn latest_crl<C: Alter>(store: &mut Store<C>) -> Result<Option<Vec<u8>>, StoreFault>
+    ensures found { (records : Records) → Shows C.Store store.old records → SoundRows records → HasCleanDisk (state C.Store store.new)
+        → IfOk result (λ crl. option_map (λ bytes. bytes.items) crl ≡ option_map (λ crl. crl.bytes) (latest records.crls)) }
+    ensures same { IsRegister (state C.Store store.old) → Stays (state C.Store store.old) (state C.Store store.new) }
+    ensures clean { doubt (state C.Store store.old).is_clean ≤ doubt (state C.Store store.new).is_clean }
+    ensures faults { IfErr result IsCallFault }
+{
+    match store.latest_crl()? {
+        Some(row) => store.crl(row.number),
+        None => Ok(None),
+    }
+}
+
+/// Whether the latest CRL, where there is one, is signed under an algorithm.
+fn follows(latest: &Option<Vec<u8>>, algorithm: &[u8]) -> bool
+    ensures { IsTrue result → (crl : List ℕ) → option_map (λ bytes. bytes.items) latest.now ≡ Some crl
+        → (other : List ℕ) → IsCrlUnder crl other → other ≡ algorithm.now }
+{
+    match latest {
+        Some(crl) => is_under(crl, algorithm),
+        None => true,
+    }
+}
+
+/// Whether a CRL is signed under an algorithm.
+fn is_under(crl: &[u8], algorithm: &[u8]) -> bool
+    ensures { IsTrue result → (other : List ℕ) → IsCrlUnder crl.now other → other ≡ algorithm.now }
+{
+    match crl_algorithm(crl) {
+        Some(found) => is_same(found, algorithm),
+        None => false,
+    }
+}
+
+/// Whether the bytes are the same.
+fn is_same(bytes: &[u8], other: &[u8]) -> bool
+    ensures { IsTrue result ↔ (bytes.now ≡ other.now) }
+{
+    bytes == other
+}

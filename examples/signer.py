@@ -1,0 +1,106 @@
+#!/usr/bin/env python3
+"""Signs for `desk` with a key in a file: what `--signer SOCKET --algorithm NAME` wants at the other end.
+
+For each signature the desk connects to the socket, writes the bytes to be signed and says that no more comes; the signature goes
+back, and the connection ends. One line of socat does the same, and starts openssl anew for each signature:
+
+    socat UNIX-LISTEN:ca.sign,fork,mode=600 EXEC:'openssl dgst -sha256 -sign ca.key'
+
+This program keeps the key in memory, and so is for load. Whoever can connect to the socket can have anything signed: it is made
+with mode 600, and belongs into a folder that the desk's user alone can enter.
+
+Usage: examples/signer.py KEY.pem SOCKET
+       examples/signer.py KEY.pem              prints the NAME of the key's algorithm, and ends
+
+The key is one of P-256, P-384, RSA of 2,048 bits or more, or Ed25519, in PEM and without a passphrase.
+It wants the package `cryptography` (Debian: python3-cryptography).
+"""
+import os
+import signal
+import socket
+import sys
+
+from cryptography.hazmat.primitives import hashes
+from cryptography.hazmat.primitives.asymmetric import ec, ed25519, padding, rsa
+from cryptography.hazmat.primitives.serialization import load_pem_private_key
+
+# How many seconds one connection may take, as long as the desk waits.
+PATIENCE = 10
+# The longest message: the desk signs CRLs of 2^27 bytes at most.
+LONGEST = 1 << 27
+
+
+def signer_of(key):
+    """The name of a key's algorithm, and what signs with it."""
+    if isinstance(key, ec.EllipticCurvePrivateKey):
+        pairs = {"secp256r1": ("ecdsa-sha256", hashes.SHA256()), "secp384r1": ("ecdsa-sha384", hashes.SHA384())}
+        if key.curve.name not in pairs:
+            sys.exit(f"no algorithm for the curve {key.curve.name}")
+        name, digest = pairs[key.curve.name]
+        return name, lambda message: key.sign(message, ec.ECDSA(digest))
+    if isinstance(key, rsa.RSAPrivateKey):
+        return "rsa-sha256", lambda message: key.sign(message, padding.PKCS1v15(), hashes.SHA256())
+    if isinstance(key, ed25519.Ed25519PrivateKey):
+        return "ed25519", key.sign
+    sys.exit(f"no algorithm for a key of the kind {type(key).__name__}")
+
+
+def message_of(connection):
+    """All that the peer writes, up to its end; nothing where that is too long."""
+    parts, length = [], 0
+    while part := connection.recv(1 << 20):
+        parts.append(part)
+        length += len(part)
+        if length > LONGEST:
+            return None
+    return b"".join(parts)
+
+
+def answer(connection, sign):
+    """One message, and its signature. A peer that fails costs no more than its own connection."""
+    with connection:
+        connection.settimeout(PATIENCE)
+        try:
+            message = message_of(connection)
+            if message is not None:
+                connection.sendall(sign(message))
+        except OSError as error:
+            print(f"a connection failed: {error}", file=sys.stderr)
+
+
+def listen(path):
+    """A socket at a path that nobody listens at, for its owner alone."""
+    listener = socket.socket(socket.AF_UNIX)
+    if os.path.exists(path):
+        probe = socket.socket(socket.AF_UNIX)
+        if probe.connect_ex(path) == 0:
+            sys.exit(f"something listens at {path} already")
+        os.remove(path)
+    mask = os.umask(0o177)
+    listener.bind(path)
+    os.umask(mask)
+    listener.listen(128)
+    return listener
+
+
+def main():
+    if len(sys.argv) not in (2, 3):
+        sys.exit(__doc__)
+    with open(sys.argv[1], "rb") as file:
+        name, sign = signer_of(load_pem_private_key(file.read(), None))
+    if len(sys.argv) == 2:
+        print(name)
+        return
+    listener = listen(sys.argv[2])
+    for ending in (signal.SIGTERM, signal.SIGINT):
+        signal.signal(ending, lambda *_: sys.exit(0))
+    print(f"{name} at {sys.argv[2]}", flush=True)
+    try:
+        while True:
+            connection, _ = listener.accept()
+            answer(connection, sign)
+    finally:
+        os.remove(sys.argv[2])
+
+
+main()
