@@ -1,7 +1,8 @@
 #!/usr/bin/env bash
 # Checks `desk serve` from outside, on every route, with openssl and curl: a CA and a revoked, a good and an unknown certificate; and
-# that it ends after as many connections as it was told. Then, with keys of P-256, P-384, RSA and Ed25519 behind a socket, that openssl
-# verifies a CRL and OCSP answers by POST and by GET, and that a digest does not follow a key nor a key a digest.
+# that it ends after as many connections as it was told; `desk open` and `desk at` over the same register. Then, with keys of P-256,
+# P-384, RSA and Ed25519 behind a socket, that openssl verifies a CRL and OCSP answers by POST and by GET, and that a digest does not
+# follow a key nor a key a digest.
 # Run it from the repository's root; it works in a new folder and prints a line for each check. Exit status 1 where one fails.
 set -euo pipefail
 desk="$(pwd)/desk"
@@ -113,6 +114,62 @@ ended=0
 wait "$server" || ended=$?
 server=
 same "it ends after 3 connections" "$ended $(cat out)" "0 listening $port"
+
+# Two peers that ask nothing hold nobody; each of K is one of those that are answered.
+port=$((port + 1))
+url="http://127.0.0.1:$port"
+serve 3
+exec 3<>"/dev/tcp/127.0.0.1/$port" 4<>"/dev/tcp/127.0.0.1/$port"
+same "beside two silent peers" "$(status -m 5 "$url/status/06")" 200
+exec 3>&- 4>&-
+ended=0
+wait "$server" || ended=$?
+server=
+same "and it ends once they are gone" "$ended" 0
+
+# An office that is open: commands at its counter, and what they changed in the very next answer.
+port=$((port + 1))
+url="http://127.0.0.1:$port"
+: >out
+"$desk" open ca.db --port "$port" --counter ca.counter >out &
+server=$!
+for _ in $(seq 50); do
+    [ -s out ] && break
+    sleep 0.1
+done
+same "open: the port is told" "$(cat out)" "listening $port"
+same "open: the counter is its owner's alone" "$(stat -c %a ca.counter)" 600
+same "open: GET /status/06" "$(status "$url/status/06") $(cat body)" '200 {"status":"good"}'
+told=0; printf 'revoke 2\ncounts' | "$desk" at ca.counter >replies || told=$?
+same "at: a revocation, and a last line with no LF" "$(tr '\n' ' ' <replies)$told" "revoked good 0 revoked 2 expired 0 0"
+has "open: and OCSP tells it" "$(asked 0x06)" '0x06: revoked'
+told=0; printf 'revoke 2\ncounts\n' | "$desk" at ca.counter >replies 2>said || told=$?
+same "at: a refusal is told, and the lines behind it go on" "$(cut -c1-3 replies | tr '\n' ' ')$(cat said) $told" "E19 goo refused 3"
+told=0; "$desk" open ca.db --port $((port + 1)) --counter other >said 2>&1 || told=$?
+same "open: a file that is open is not opened again" "$(cat said) $told" "F2 store 1"
+# shellcheck disable=SC2046 # the words are meant to be split
+"$desk" init other.db $("$words" ca.pem) >/dev/null
+told=0; "$desk" open other.db --port $((port + 1)) --counter ca.counter >said 2>&1 || told=$?
+same "open: a live counter is not taken over" "$(cat said) $told" "F4 read 1"
+kill "$server"
+wait "$server" 2>/dev/null || true
+server=
+told=0; "$desk" at ca.counter </dev/null >said 2>&1 || told=$?
+same "at: nobody listens any more" "$(cat said) $told" "F4 read 1"
+: >out
+"$desk" open ca.db --port "$port" --counter ca.counter >out &
+server=$!
+for _ in $(seq 50); do
+    [ "$(cat out)" = "listening $port" ] && break
+    sleep 0.1
+done
+same "open: a stale counter is taken over" "$(echo counts | "$desk" at ca.counter)" "good 0 revoked 2 expired 0"
+kill "$server"
+wait "$server" 2>/dev/null || true
+server=
+echo precious >ca.txt
+told=0; "$desk" open ca.db --port "$port" --counter ca.txt >said 2>&1 || told=$?
+same "open: another file is no counter, and stays" "$(cat said) $told $(cat ca.txt)" "F4 read 1 precious"
 
 # A digest sealed the CRL above: no key follows it.
 told=0; line=$("$desk" script ca.db --signer ca.sign --algorithm ecdsa-sha256 </dev/null 2>&1) || told=$?

@@ -16,11 +16,19 @@ failure_line failure.NewVersion = codes "new-version"
 failure_line failure.BadIssuer = codes "bad-issuer"
 failure_line failure.BadPolicy = codes "bad-policy"
 failure_line failure.BadSigner = codes "bad-signer"
+failure_line failure.Refused = codes "refused"
 
--- the exit status: 0 where the job is done, 1 where it is not
+-- the exit status: 0 where the job is done, 3 where a reply at a counter was a refusal or a fault, 1 where the job is not done
 abbrev pub status : {T : Type 0} → Result T Failure → ℕ
 status (Ok done) = 0
-status (Err failure) = 1
+status (Err failure.Refused) = 3
+status (Err (failure.Fault fault)) = 1
+status (Err failure.NotEmpty) = 1
+status (Err failure.NotARegister) = 1
+status (Err failure.NewVersion) = 1
+status (Err failure.BadIssuer) = 1
+status (Err failure.BadPolicy) = 1
+status (Err failure.BadSigner) = 1
 
 -- a register that can't be made, opened or changed, as the end of a job
 abbrev pub store_failure : StoreFault → Failure

@@ -23,6 +23,8 @@ pub enum Failure {
     BadPolicy,
     /// The latest CRL was signed under another algorithm, or the issuer's key is none of the algorithm.
     BadSigner,
+    /// A reply at a counter was a refusal or a fault.
+    Refused,
 }
 
 impl Failure {
@@ -39,6 +41,7 @@ impl Failure {
             Failure::BadIssuer => words(b"bad-issuer"),
             Failure::BadPolicy => words(b"bad-policy"),
             Failure::BadSigner => words(b"bad-signer"),
+            Failure::Refused => words(b"refused"),
         }
     }
 }
@@ -70,12 +73,13 @@ impl From<StoreFault> for Failure {
     }
 }
 
-/// The exit status of a job: 0 where it is done, 1 where it is not.
+/// The exit status of a job: 0 where it is done, 3 where a reply at a counter was a refusal or a fault, 1 where it is not done.
 pub fn status_of(ending: &Result<(), Failure>) -> u8
     ensures { result ≡ status ending.now }
 {
     match ending {
         Ok(()) => 0,
+        Err(Failure::Refused) => 3,
         Err(_) => 1,
     }
 }

@@ -108,6 +108,8 @@ fn each_failure_has_its_line(rt: HostRuntime) {
         assert_eq!(rt; failure.line().as_bytes(), line);
         assert_eq!(rt; status_of(&Err(failure)), 1);
     }
+    assert_eq!(rt; Failure::Refused.line().as_bytes(), b"refused".as_slice());
+    assert_eq!(rt; status_of(&Err(Failure::Refused)), 3);
     assert_eq!(rt; status_of(&Ok(())), 0);
     assert_eq!(rt; Failure::from(Fault::Read), Failure::Fault(Fault::Read));
 }

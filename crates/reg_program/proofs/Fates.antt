@@ -1,5 +1,5 @@
 -- What a register's fault is as the end of a job, and a text that is told in two writes.
-use Rattle.std.proofs.Common.{◌≡◌, ◌≢◌, ◌⊎◌, ℕ, List, [], ◌∷◌, ◌++◌, Option, Result, Ok, Err, refl, sym, subst, inl, inr}
+use Rattle.std.proofs.Common.{◌≡◌, ◌≢◌, ◌⊎◌, ℕ, List, [], ◌∷◌, ◌++◌, Option, Result, Ok, Err, refl, sym, subst, ap, inl, inr}
 use Rattle.std.specs.Io.KnownBytes.{Appends}
 use Rattle.std.proofs.KnownBytes.{Appends-trans}
 use Rattle.reg_heads.proofs.Written.{front_of_first, front_of_second}
@@ -9,7 +9,10 @@ use Rattle.reg_tables.specs.Stays.{IsCallFault}
 use Rattle.reg_tables.specs.declared.fault.StoreFault.{StoreFault}
 use Rattle.reg_tables.specs.declared.fault.StoreFault.TheVariants as stored
 use Rattle.reg_program.specs.Ends.{Says}
+use Rattle.reg_core.specs.declared.refusal.Fault.TheVariants as fault
+use Rattle.reg_jobs.specs.declared.failure.Failure.TheVariants as failure
 use Rattle.reg_program.specs.Failing.{IsMaking, IsOpening}
+use Rattle.reg_program.specs.Serving.{Served, Unbound, listening}
 use Rattle.reg_program.specs.Told.{IsTold, IsWritten}
 
 -- a register that can't be opened
@@ -52,3 +55,15 @@ says_then head body old middle new (Err why) first second = (second.0, front_of_
 pub says_not : (head body : List ℕ) (old new : Option (List ℕ)) (why : Failure) → Says head old new (Err why)
     → Says (head ++ body) old new (Err why)
 says_not head body old new why first = (first.0, front_of_first old new head body first.1)
+
+-- a port that is not told whole
+pub untold : (port requests : ℕ) (old new : Option (List ℕ)) (why : Failure) → Says (listening port) old new (Err why)
+    → Served port requests [] old new (Err why)
+untold port requests old new why said =
+    let P : Failure → Type 0 = λ w. Served port requests [] old new (Err w) in
+    subst P (sym said.0) (refl, said.1)
+
+-- a port that is not bound
+pub unbound : (why : Failure) → (why ≡ failure.Fault fault.Read) ⊎ (why ≡ failure.Fault fault.Memory) → Unbound [] (Err why)
+unbound why (inl read) = (refl, inl (ap (λ (w : Failure). Err w) read))
+unbound why (inr memory) = (refl, inr (ap (λ (w : Failure). Err w) memory))

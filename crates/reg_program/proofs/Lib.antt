@@ -2,4 +2,6 @@ pub mod Clean
 pub mod Fates
 pub mod Holding
 pub mod Opened
+pub mod Peers
 pub mod Setting
+pub mod Talking

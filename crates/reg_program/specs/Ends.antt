@@ -11,6 +11,7 @@ use Rattle.reg_core.specs.declared.refusal.Fault.TheVariants as fault
 use Rattle.reg_crl.specs.Signing.{Identity}
 use Rattle.reg_faces.specs.Kept.{Crls, Lines}
 use Rattle.reg_faces.specs.declared.keeper.Keeper.{Ghosts as Keeper}
+use Rattle.reg_hub.specs.Exchange.{Input}
 use Rattle.reg_jobs.specs.Checks.{WritesIssuer, IsNoOffice, IsNoSchedule, terms_of}
 use Rattle.reg_jobs.specs.Endings.{store_failure}
 use Rattle.reg_jobs.specs.declared.failure.Failure.{Failure}
@@ -23,13 +24,15 @@ use Rattle.reg_wire.specs.Put.{AppendsFront}
 use Rattle.reg_words.specs.declared.job.Job.{Job}
 use Rattle.reg_words.specs.declared.job.KeyHolder.{KeyHolder}
 use Rattle.reg_words.specs.declared.job.Job.TheVariants as job
+use Rattle.reg_program.specs.Asking.{AtCounter}
 use Rattle.reg_program.specs.Digest.{digest, digests}
 use Rattle.reg_program.specs.Failing.{IsMaking}
 use Rattle.reg_program.specs.Sample.{sample_records}
 use Rattle.reg_program.specs.Schedules.{Reschedules}
-use Rattle.reg_program.specs.Serving.{Exchanges, Served}
+use Rattle.reg_program.specs.Serving.{OpenedAt, Opens, Serves, ServedAt}
 use Rattle.reg_program.specs.Signing.{Signing}
 use Rattle.reg_program.specs.Visits.{Visits, NotOpened, Makes, NotMade, ending_of}
+use Rattle.reg_program.specs.declared.front.Front.{Ghosts as Front}
 use Rattle.reg_program.specs.declared.place.Place.{Ghosts as Place}
 
 -- a text is said and the job is done; or a front of it, where the writer fails
@@ -93,12 +96,22 @@ module _ {W P K : Type 0} (contents : W → Option (List ℕ)) (writer writer' :
         ⊎ ((issuer : Issuer) × WritesIssuer name key issuer × IsPolicy terms
         × ((start between : P) × Claims path start × MakesAt start between path issuer terms result × Leaves path start between result))
 
-    -- HTTP requests over the register at a path (RFC 9112), which is opened before the port is bound
-    abbrev pub ServeAt : List ℕ → Option KeyHolder → ℕ → ℕ → Result (Unit {0}) Failure → Type 0
-    ServeAt path signer port requests result =
+    -- HTTP requests over the register at a path (RFC 9112), which is opened before the port is bound: what came of each peer and what
+    -- answered it, in this order
+    abbrev pub ServeAt : {F : Type 0} → Front F → List ℕ → Option KeyHolder → ℕ → ℕ → Result (Unit {0}) Failure → Type 0
+    ServeAt front path signer port requests result =
         (NotOpened places keeper place place' path (Some signer) result × (writer' ≡ writer))
-        ⊎ ((count : ℕ) × Visits places keeper place place' path (Some signer) (Exchanges keeper.signs count)
-        × Served port requests count (contents writer) (contents writer') result)
+        ⊎ ((inputs : List Input) × (texts : List (List ℕ))
+        × Visits places keeper place place' path (Some signer) (Serves keeper.signs front.told inputs texts)
+        × ServedAt contents writer writer' front.bound port requests inputs result)
+
+    -- the same, and lines at a counter, until the program is ended
+    abbrev pub OpenAt : {F : Type 0} → Front F → List ℕ → Option KeyHolder → ℕ → List ℕ → Result (Unit {0}) Failure → Type 0
+    OpenAt front path signer port counter result =
+        (NotOpened places keeper place place' path (Some signer) result × (writer' ≡ writer))
+        ⊎ ((inputs : List Input) × (texts : List (List ℕ))
+        × Visits places keeper place place' path (Some signer) (Opens keeper.signs front.told inputs texts)
+        × OpenedAt contents writer writer' front.bound front.laid port counter inputs result)
 
 -- A job over what is read and what is written: the reader and the writer before it and after it.
 module _ {E W : Type 0} (remaining : E → Option (List ℕ)) (contents : W → Option (List ℕ)) (reader reader' : E) (writer writer' : W) where
@@ -132,15 +145,18 @@ module _ {E W : Type 0} (remaining : E → Option (List ℕ)) (contents : W → 
 
     -- the end of a job: what it read, what it did at its place to the register at its path and nothing else, and what it wrote; nothing
     -- holds the key of the sample issuer in memory
-    abbrev pub Ends : Job → Result (Unit {0}) Failure → Type 0
-    Ends (job.Init file name key days crl_life ocsp_life cap) result = (reader' ≡ reader)
+    abbrev pub Ends : {F : Type 0} → Front F → Job → Result (Unit {0}) Failure → Type 0
+    Ends front (job.Init file name key days crl_life ocsp_life cap) result = (reader' ≡ reader)
         × InitAt contents writer writer' places keeper place place' file name key (terms_of days crl_life ocsp_life cap) result
-    Ends (job.Script (Some file) signer) result = ScriptAt file signer result
-    Ends (job.Script None None) result = (place' ≡ place) × ScriptInMemory result
-    Ends (job.Script None (Some holder)) result = (place' ≡ place) × IsSilent × (result ≡ Err failure.BadSigner)
-    Ends (job.Import file now) result = ImportAt file now result
-    Ends (job.Crl file number) result = (reader' ≡ reader) × CrlAt contents writer writer' places keeper place place' file number result
-    Ends (job.Schedule file steps) result =
+    Ends front (job.Script (Some file) signer) result = ScriptAt file signer result
+    Ends front (job.Script None None) result = (place' ≡ place) × ScriptInMemory result
+    Ends front (job.Script None (Some holder)) result = (place' ≡ place) × IsSilent × (result ≡ Err failure.BadSigner)
+    Ends front (job.Import file now) result = ImportAt file now result
+    Ends front (job.Crl file number) result = (reader' ≡ reader) × CrlAt contents writer writer' places keeper place place' file number result
+    Ends front (job.Schedule file steps) result =
         (reader' ≡ reader) × ScheduleAt contents writer writer' places keeper place place' file steps result
-    Ends (job.Serve file port requests signer) result =
-        (reader' ≡ reader) × ServeAt contents writer writer' places keeper place place' file signer port requests result
+    Ends front (job.Serve file port requests signer) result =
+        (reader' ≡ reader) × ServeAt contents writer writer' places keeper place place' front file signer port requests result
+    Ends front (job.Open file port counter signer) result =
+        (reader' ≡ reader) × OpenAt contents writer writer' places keeper place place' front file signer port counter result
+    Ends front (job.At counter) result = (place' ≡ place) × AtCounter (front.met counter) (contents writer) (contents writer') result

@@ -22,6 +22,7 @@ IsMaking failure.NewVersion = ⊥
 IsMaking failure.BadIssuer = ⊥
 IsMaking failure.BadPolicy = ⊥
 IsMaking failure.BadSigner = ⊥
+IsMaking failure.Refused = ⊥
 
 -- of one that is opened: such a fault, a file that holds no register of a version up to this program's, or `bad-signer`
 abbrev pub IsOpening : Failure → Type 0
@@ -32,3 +33,4 @@ IsOpening failure.NewVersion = Unit {0}
 IsOpening failure.BadIssuer = ⊥
 IsOpening failure.BadPolicy = ⊥
 IsOpening failure.BadSigner = Unit {0}
+IsOpening failure.Refused = ⊥

@@ -1,5 +1,7 @@
+pub mod Asking
 pub mod Digest
 pub mod Ends
+pub mod Exchanges
 pub mod Failing
 pub mod Files
 pub mod Sample

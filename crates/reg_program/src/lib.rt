@@ -1,18 +1,23 @@
 //! The jobs of the program `desk`: each over standard input and output, a register's file, and the loopback interface.
 #![tactic(auto)]
 
-mod clock;
+mod asking;
+mod counter;
 mod files;
+mod front;
+mod handling;
 mod jobs;
 mod memory;
-mod peer;
+mod opening;
 mod performing;
 mod place;
 mod serving;
 mod signing;
 mod telling;
 
+pub use asking::talk;
 pub use files::FileOffice;
+pub use front::Front;
 pub use performing::{perform, perform_at};
 pub use place::{Place, Register};
 pub use signing::FileSigner;

@@ -6,8 +6,11 @@ ghost use Rattle.reg_jobs.specs.declared.failure.Failure.{Failure as Failing};
 ghost use Rattle.reg_program.specs.Ends.{Ends};
 ghost use Rattle.reg_program.specs.Told.{Tells};
 
+use crate::asking::at;
 use crate::files::FileOffice;
+use crate::front::Front;
 use crate::jobs::{NewOffice, crl, import_rows, init, schedule, script, script_in_memory};
+use crate::opening::hold_open;
 use crate::place::Place;
 use crate::serving::serve;
 use crate::telling::tell;
@@ -27,17 +30,18 @@ pub fn perform<R: Read, W: Write, E: Write>(
 ) -> u8
     ensures { (ending : Result (Unit {0}) Failing)
         × Ends R.remaining W.contents reader.old reader.new writer.old writer.new
-        ⟦<HostRuntime as Place>⟧ ⟦<FileOffice as Keeper>⟧ rt.now rt.now job.now ending
+        ⟦<HostRuntime as Place>⟧ ⟦<FileOffice as Keeper>⟧ rt.now rt.now ⟦<HostRuntime as Front>⟧ job.now ending
         × (result ≡ status ending) × Tells ending (E.contents errors.old) (E.contents errors.new) }
 {
     let mut files = *rt;
-    perform_at(rt, &mut files, job, reader, writer, errors)
+    perform_at(rt, rt, &mut files, job, reader, writer, errors)
 }
 
-/// Does a job over standard input and output and the registers of a place, and gives its exit status: 0 where it is done;
-/// else 1, with its one line on standard error.
-pub fn perform_at<P: Place, R: Read, W: Write, E: Write>(
+/// Does a job over standard input and output, the registers of a place, and a front with a clock and ports, and gives its exit
+/// status: 0 where it is done; 3 where a reply at a counter was a refusal or a fault; else 1; with one line on standard error.
+pub fn perform_at<P: Place, F: Front, R: Read, W: Write, E: Write>(
     rt: &HostRuntime,
+    front: &F,
     place: &mut P,
     job: &Job<'_>,
     reader: &mut R,
@@ -46,10 +50,10 @@ pub fn perform_at<P: Place, R: Read, W: Write, E: Write>(
 ) -> u8
     ensures { (ending : Result (Unit {0}) Failing)
         × Ends R.remaining W.contents reader.old reader.new writer.old writer.new
-        P.Place P.Opened.Keeper place.old place.new job.now ending
+        P.Place P.Opened.Keeper place.old place.new F.Front job.now ending
         × (result ≡ status ending) × Tells ending (E.contents errors.old) (E.contents errors.new) }
 {
-    let ending = run(rt, place, job, reader, writer);
+    let ending = run(rt, front, place, job, reader, writer);
     match &ending {
         Ok(()) => {}
         Err(failure) => tell(errors, failure),
@@ -58,15 +62,16 @@ pub fn perform_at<P: Place, R: Read, W: Write, E: Write>(
 }
 
 /// Does a job.
-fn run<P: Place, R: Read, W: Write>(
+fn run<P: Place, F: Front, R: Read, W: Write>(
     rt: &HostRuntime,
+    front: &F,
     place: &mut P,
     job: &Job<'_>,
     reader: &mut R,
     writer: &mut W,
 ) -> Result<(), Failure>
     ensures { Ends R.remaining W.contents reader.old reader.new writer.old writer.new
-        P.Place P.Opened.Keeper place.old place.new job.now result }
+        P.Place P.Opened.Keeper place.old place.new F.Front job.now result }
 {
     let alloc = rt.alloc();
     match job {
@@ -110,7 +115,32 @@ fn run<P: Place, R: Read, W: Write>(
             port,
             requests,
             signer,
-        } => serve(rt, place, file.as_str(), signer, *port, *requests, writer),
+        } => serve(
+            rt,
+            front,
+            place,
+            file.as_str(),
+            signer,
+            *port,
+            *requests,
+            writer,
+        ),
+        Job::Open {
+            file,
+            port,
+            counter,
+            signer,
+        } => hold_open(
+            rt,
+            front,
+            place,
+            file.as_str(),
+            signer,
+            *port,
+            counter.as_str(),
+            writer,
+        ),
+        Job::At { counter } => at(alloc, front, counter.as_str(), reader, writer),
         Job::Schedule { file, steps } => schedule(alloc, place, file.as_str(), steps, writer),
     }
 }

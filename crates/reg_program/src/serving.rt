@@ -1,26 +1,32 @@
-//! The job `serve`: HTTP on the loopback interface, one connection after the other.
+//! The job `serve`: HTTP on the loopback interface, many peers at once.
 
-ghost use Rattle.std.specs.Prelude.{◌≡◌, ◌<◌, ◌++◌, ◌∷◌, [], ℕ, decimal, OnOk, IfErr, MatchResult};
+ghost use Rattle.std.specs.Prelude.{◌≡◌, ◌≢◌, ◌⊎◌, ◌++◌, ◌∷◌, [], ℕ, List, decimal, OnOk, IfErr, MatchResult};
 ghost use Rattle.reg_faces.specs.Moves.{Moves};
+ghost use Rattle.reg_hub.specs.Exchange.{Input, Handles, asked_in};
 ghost use Rattle.reg_program.specs.Ends.{Says, ServeAt};
-ghost use Rattle.reg_program.specs.Serving.{Exchange, Exchanges, Served, listening};
+ghost use Rattle.reg_program.specs.Serving.{Served, ServedAt, Serves, listening, loopback};
+ghost use Rattle.reg_wire.specs.Run.{Answered};
 
-use crate::clock::moment_of;
+use crate::front::Front;
+use crate::handling::ServedDesk;
 use crate::jobs::{close_desk, open_desk_to_sign};
-use crate::peer::Peer;
 use crate::place::Place;
 use crate::telling::say;
+use mio::net::{TcpListener, UnixListener};
 use reg_core::{Decimal, Fault};
-use reg_faces::{Desk, Keeper, serve_one};
+use reg_faces::Keeper;
+use reg_hub::{Handler, Hub, MOST_CALLERS};
 use reg_jobs::Failure;
 use reg_words::KeyHolder;
-use std::io::Write;
-use std::net::{TcpListener, TcpStream};
-use std::time::Instant;
+use std::io::{ErrorKind, Write};
 
-/// Answers so many connections over a register at a path. It is opened before the port is bound.
-pub(crate) fn serve<P: Place, W: Write>(
+/// The address of the loopback interface.
+pub(crate) const LOOPBACK: [u8; 4] = [127, 0, 0, 1];
+
+/// Answers so many peers over a register at a path. It is opened before the port is bound.
+pub(crate) fn serve<P: Place, F: Front, W: Write>(
     rt: &HostRuntime,
+    front: &F,
     place: &mut P,
     path: &str,
     signer: &Option<KeyHolder<'_>>,
@@ -28,30 +34,76 @@ pub(crate) fn serve<P: Place, W: Write>(
     requests: u32,
     writer: &mut W,
 ) -> Result<(), Failure>
-    ensures { ServeAt W.contents writer.old writer.new P.Place P.Opened.Keeper place.old place.new path.now signer.now port requests result }
+    ensures { ServeAt W.contents writer.old writer.new P.Place P.Opened.Keeper place.old place.new F.Front path.now signer.now port requests result }
 {
-    let mut desk = open_desk_to_sign(rt.alloc(), place, path, signer)?;
-    let served = serve_desk(rt, &mut desk, port, requests, writer);
-    close_desk(place, path, desk);
-    served
+    let desk = open_desk_to_sign(rt.alloc(), place, path, signer)?;
+    let mut served = ServedDesk { desk, front };
+    let ending = serve_desk(rt, &mut served, port, requests, writer);
+    close_desk(place, path, served.desk);
+    ending
 }
 
-/// Binds the port, tells it, and answers so many connections.
-fn serve_desk<K: Keeper, W: Write>(
+/// Binds the port, tells it, and answers so many peers.
+fn serve_desk<K: Keeper, F: Front, W: Write>(
     rt: &HostRuntime,
-    desk: &mut Desk<K>,
+    served: &mut ServedDesk<'_, K, F>,
     port: u16,
     requests: u32,
     writer: &mut W,
 ) -> Result<(), Failure>
-    ensures { (count : ℕ) × Moves K.is_clean K.stands (Exchanges K.signs count) desk.old.office desk.new.office
-        × Served port requests count (W.contents writer.old) (W.contents writer.new) result }
+    ensures { (inputs : List Input) × (texts : List (List ℕ))
+        × Moves K.is_clean K.stands (Serves K.signs F.told inputs texts) served.old.desk.office served.new.desk.office
+        × ServedAt W.contents writer.old writer.new F.bound port requests inputs result }
 {
-    let Ok(listener) = TcpListener::bind(rt, ("127.0.0.1", port)) else {
+    let mut hub = match hub_at(rt, served.front, port) {
+        Ok(hub) => hub,
+        Err(why) => return Err(why),
+    };
+    serve_hub(rt, &mut hub, served, port, u64::from(requests), writer)
+}
+
+/// A hub at a port of the loopback interface.
+fn hub_at<F: Front>(rt: &HostRuntime, front: &F, port: u16) -> Result<Hub, Failure>
+    ensures ok { OnOk result (F.bound loopback port) }
+    ensures err { IfErr result (λ why. (why ≡ Failure.Fault Fault.Read) ⊎ (why ≡ Failure.Fault Fault.Memory)) }
+{
+    let Ok(listener) = front.listen(LOOPBACK, port) else {
         return Err(Failure::Fault(Fault::Read));
     };
+    hub_over(rt, listener, None)
+}
+
+/// A hub over a listener for requests, and one for counters.
+pub(crate) fn hub_over(
+    rt: &HostRuntime,
+    listener: TcpListener,
+    counter: Option<UnixListener>,
+) -> Result<Hub, Failure>
+    ensures { IfErr result (λ why. (why ≡ Failure.Fault Fault.Read) ⊎ (why ≡ Failure.Fault Fault.Memory)) }
+{
+    match Hub::new(rt, listener, counter, MOST_CALLERS) {
+        Ok(hub) => Ok(hub),
+        Err(error) if error.kind() == ErrorKind::OutOfMemory => {
+            Err(Failure::Fault(Fault::Memory))
+        }
+        Err(_) => Err(Failure::Fault(Fault::Read)),
+    }
+}
+
+/// Tells the port, and answers so many peers.
+pub(crate) fn serve_hub<H: Handler, W: Write>(
+    rt: &HostRuntime,
+    hub: &mut Hub,
+    handler: &mut H,
+    port: u16,
+    requests: u64,
+    writer: &mut W,
+) -> Result<(), Failure>
+    ensures { (inputs : List Input) × (texts : List (List ℕ)) × Answered (Handles H.answers H.tells) handler.old inputs texts handler.new
+        × Served port requests inputs (W.contents writer.old) (W.contents writer.new) result }
+{
     match tell_port(writer, port) {
-        Ok(()) => serve_all(rt, desk, &listener, requests),
+        Ok(()) => answer_all(rt, hub, handler, requests),
         Err(why) => Err(why),
     }
 }
@@ -77,50 +129,24 @@ fn tell_number<W: Write>(writer: &mut W, number: u16) -> Result<(), Failure>
     }
 }
 
-/// Answers so many connections.
-fn serve_all<K: Keeper>(
+/// Answers so many peers, and sends on what they were answered.
+fn answer_all<H: Handler>(
     rt: &HostRuntime,
-    desk: &mut Desk<K>,
-    listener: &TcpListener,
-    requests: u32,
+    hub: &mut Hub,
+    handler: &mut H,
+    requests: u64,
 ) -> Result<(), Failure>
-    ensures { (count : ℕ) × Moves K.is_clean K.stands (Exchanges K.signs count) desk.old.office desk.new.office
-        × MatchResult result (λ done. count ≡ requests) (λ why. (why ≡ Failure.Fault Fault.Read) × (count < requests)) }
+    ensures { (inputs : List Input) × (texts : List (List ℕ)) × Answered (Handles H.answers H.tells) handler.old inputs texts handler.new
+        × MatchResult result (λ done. asked_in inputs ≡ requests)
+        (λ why. (why ≡ Failure.Fault Fault.Read) × (asked_in inputs ≢ requests)) }
 {
-    for _ in 0..requests {
-        match accept_one(rt, desk, listener) {
-            Ok(()) => {}
-            Err(why) => return Err(why),
-        }
-    }
-    Ok(())
-}
-
-/// Waits for one connection, and answers what it asks, at the moment when it was accepted.
-fn accept_one<K: Keeper>(
-    rt: &HostRuntime,
-    desk: &mut Desk<K>,
-    listener: &TcpListener,
-) -> Result<(), Failure>
-    ensures ok { OnOk result (Moves K.is_clean K.stands (Exchange K.signs) desk.old.office desk.new.office) }
-    ensures err { IfErr result (λ why. (why ≡ Failure.Fault Fault.Read) × (desk.new ≡ desk.old)) }
-{
-    let Ok((stream, _)) = listener.accept() else {
+    let mut made = 0;
+    // It stops early where the clock or the sockets fail.
+    let _ = hub.serve_all(rt, handler, &mut made, requests);
+    if made != requests {
         return Err(Failure::Fault(Fault::Read));
-    };
-    let now = match moment_of(rt) {
-        Ok(now) => now,
-        Err(fault) => return Err(Failure::Fault(fault)),
-    };
-    let Ok(accepted) = Instant::now(rt) else {
-        return Err(Failure::Fault(Fault::Read));
-    };
-    let mut reader = Peer::new(rt, &stream, accepted);
-    let mut writer = Peer::new(rt, &stream, accepted);
-    let served = serve_one(rt.alloc(), &mut reader, &mut writer, now, desk);
-    // A connection that ends by a fault of its own counts like any other.
-    if served.is_ok() {
-        reader.finish();
     }
+    // Who does not take its answer in time is let go.
+    let _ = hub.finish(rt);
     Ok(())
 }

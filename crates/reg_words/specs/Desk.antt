@@ -51,6 +51,15 @@ abbrev pub serve_app : App
 serve_app = with_rules (new_app (codes "serve"))
     (must (codes "file") ∷ needs (codes "port") ∷ needs (codes "requests") ∷ takes (codes "signer") ∷ takes (codes "algorithm") ∷ [])
 
+-- `open FILE --port N --counter SOCKET [--signer SOCKET --algorithm NAME]`
+abbrev pub open_app : App
+open_app = with_rules (new_app (codes "open"))
+    (must (codes "file") ∷ needs (codes "port") ∷ needs (codes "counter") ∷ takes (codes "signer") ∷ takes (codes "algorithm") ∷ [])
+
+-- `at SOCKET`
+abbrev pub at_app : App
+at_app = with_rules (new_app (codes "at")) (must (codes "counter") ∷ [])
+
 -- `schedule FILE MOMENT=DAYS ..`
 abbrev pub schedule_app : App
 schedule_app = with_rules (new_app (codes "schedule")) (must (codes "file") ∷ some (codes "steps") ∷ [])
@@ -63,5 +72,5 @@ bare_app = record (new_app (codes "desk")) {
 
 -- `desk COMMAND ..`
 abbrev pub desk_app : App
-desk_app = with_subcommand (with_subcommand (with_subcommand (with_subcommand (with_subcommand (with_subcommand
-    bare_app init_app.top) script_app.top) import_app.top) crl_app.top) serve_app.top) schedule_app.top
+desk_app = with_subcommand (with_subcommand (with_subcommand (with_subcommand (with_subcommand (with_subcommand (with_subcommand (with_subcommand
+    bare_app init_app.top) script_app.top) import_app.top) crl_app.top) serve_app.top) open_app.top) at_app.top) schedule_app.top

@@ -9,7 +9,7 @@ use Rattle.reg_words.specs.Desk.{desk_app}
 use Rattle.reg_words.specs.Values.{moment_of, steps_of, within}
 use Rattle.reg_signer.specs.Algorithms.{algorithm_named}
 use Rattle.reg_words.specs.declared.job.Job.{Job}
-use Rattle.reg_words.specs.declared.job.Job.TheVariants.{Init, Script, Import, Crl, Serve, Schedule}
+use Rattle.reg_words.specs.declared.job.Job.TheVariants.{Init, Script, Import, Crl, Serve, Open, At, Schedule}
 use Rattle.reg_words.specs.declared.job.KeyHolder.{KeyHolder}
 use Rattle.reg_words.specs.declared.job.Usage.{Usage}
 use Rattle.reg_words.specs.declared.job.Usage.TheVariants.{Help, Bad, Memory}
@@ -80,6 +80,19 @@ serve_of rows = do
   signer ← holder_in rows
   Some (Serve file port requests signer)
 
+unfoldable pub open_of : List Row → Option Job
+open_of rows = do
+  file ← first_of (codes "file") rows
+  port ← number_in 1 65535 (codes "port") rows
+  counter ← first_of (codes "counter") rows
+  signer ← holder_in rows
+  Some (Open file port counter signer)
+
+unfoldable pub at_of : List Row → Option Job
+at_of rows = do
+  counter ← first_of (codes "counter") rows
+  Some (At counter)
+
 unfoldable pub schedule_of : List Row → Option Job
 schedule_of rows = do
   file ← first_of (codes "file") rows
@@ -94,6 +107,8 @@ job_in name rows =
     else if bytes_eq name (codes "import") then import_of rows
     else if bytes_eq name (codes "crl") then crl_of rows
     else if bytes_eq name (codes "serve") then serve_of rows
+    else if bytes_eq name (codes "open") then open_of rows
+    else if bytes_eq name (codes "at") then at_of rows
     else if bytes_eq name (codes "schedule") then schedule_of rows
     else None
 

@@ -3,7 +3,7 @@
 ghost use Rattle.std.specs.Prelude.{◌≡◌, IfOk, false, pos};
 ghost use Rattle.clap.specs.Words.{App, Rule, app_of, new_app, rule_of, with_rule, with_subcommand};
 ghost use Rattle.clap.specs.declared.builder.command.Command.TheViews.{out-Command as fields_of};
-ghost use Rattle.reg_words.specs.Desk.{must, may, needs, takes, some, init_app, script_app, import_app, crl_app, serve_app, schedule_app, bare_app, desk_app};
+ghost use Rattle.reg_words.specs.Desk.{must, may, needs, takes, some, init_app, script_app, import_app, crl_app, serve_app, open_app, at_app, schedule_app, bare_app, desk_app};
 
 use clap::{Arg, Command};
 use std::alloc::{AllocError, Global};
@@ -45,6 +45,10 @@ const SIGNER: &str =
 const ALGORITHM: &str =
     "The algorithm of its signatures: ecdsa-sha256, ecdsa-sha384, rsa-sha256 or ed25519";
 
+const COUNTER: &str = "The Unix socket of the counter, which is made with mode 0600";
+
+const AT_COUNTER: &str = "The Unix socket of an open desk's counter";
+
 const STEPS: &str =
     "From MOMENT on at most DAYS days, 1 to 398; 1 to 16 steps, the first at 1970-01-01T00:00:00Z, moments ascending";
 
@@ -57,6 +61,8 @@ pub(crate) fn desk<'a>(alloc: Global) -> Result<Command<'a>, AllocError>
     let desk = with_command(desk, import(alloc));
     let desk = with_command(desk, crl(alloc));
     let desk = with_command(desk, serve(alloc));
+    let desk = with_command(desk, opening(alloc));
+    let desk = with_command(desk, at(alloc));
     with_command(desk, schedule(alloc))
 }
 
@@ -156,6 +162,44 @@ fn serve<'a>(alloc: Global) -> Result<Command<'a>, AllocError>
     let command = with_arg(command, required_option(alloc, "requests", "N", REQUESTS));
     let command = with_arg(command, option(alloc, "signer", "SOCKET", SIGNER));
     with_arg(command, option(alloc, "algorithm", "NAME", ALGORITHM))
+}
+
+/// `open FILE --port N --counter SOCKET [--signer SOCKET --algorithm NAME]`
+fn opening<'a>(alloc: Global) -> Result<Command<'a>, AllocError>
+    ensures app { IfOk result (λ made. app_of made ≡ open_app) }
+    ensures local { IfOk result (λ made. (fields_of made).has_globals ≡ false) }
+{
+    let command = Ok(command_named(
+        alloc,
+        "open",
+        "Keep a register open until it is ended: HTTP on 127.0.0.1, and commands at a counter, by the machine's clock.",
+        "Example:\n  desk open ca.db --port 8080 --counter ca.counter",
+    ));
+    let command = with_arg(command, required_word(alloc, "file", "FILE", FILE));
+    let command = with_arg(command, required_option(alloc, "port", "N", PORT));
+    let command = with_arg(
+        command,
+        required_option(alloc, "counter", "SOCKET", COUNTER),
+    );
+    let command = with_arg(command, option(alloc, "signer", "SOCKET", SIGNER));
+    with_arg(command, option(alloc, "algorithm", "NAME", ALGORITHM))
+}
+
+/// `at SOCKET`
+fn at<'a>(alloc: Global) -> Result<Command<'a>, AllocError>
+    ensures app { IfOk result (λ made. app_of made ≡ at_app) }
+    ensures local { IfOk result (λ made. (fields_of made).has_globals ≡ false) }
+{
+    let command = Ok(command_named(
+        alloc,
+        "at",
+        "Tell the lines of standard input to an open desk, and write one reply line for each; a line has no moment.",
+        "Example:\n  echo counts | desk at ca.counter\n\nExit status 3 where a reply is a refusal or a fault.",
+    ));
+    with_arg(
+        command,
+        required_word(alloc, "counter", "SOCKET", AT_COUNTER),
+    )
 }
 
 /// `schedule FILE MOMENT=DAYS ..`

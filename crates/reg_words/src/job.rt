@@ -54,6 +54,18 @@ pub enum Job<'a> {
         requests: u32,
         signer: Option<KeyHolder<'a>>,
     },
+    /// Keeps a register open until the program is ended: answers requests over HTTP at a port, 1 to 65,535, and lines at a
+    /// counter, a Unix socket at a path. What holds the key signs, or else a digest seals.
+    Open {
+        file: Word<'a>,
+        port: u16,
+        counter: Word<'a>,
+        signer: Option<KeyHolder<'a>>,
+    },
+    /// Tells the lines of standard input to the counter at a path.
+    At {
+        counter: Word<'a>,
+    },
     /// Gives the register another schedule of longest validities.
     Schedule {
         file: Word<'a>,

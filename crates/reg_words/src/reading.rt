@@ -1,8 +1,8 @@
 //! What the words of a command line say.
 
-ghost use Rattle.std.specs.Prelude.{◌≡◌, IfErr, IfOk, map, option_and_then};
+ghost use Rattle.std.specs.Prelude.{◌≡◌, codes, IfErr, IfOk, map, option_and_then};
 ghost use Rattle.clap.specs.Words.{found_of, rows_of, subcommand_rows_of, kind_of};
-ghost use Rattle.reg_words.specs.Jobs.{IsJobOf, IsUsageOf, Tells, job_in, init_of, script_of, import_of, crl_of, serve_of, schedule_of};
+ghost use Rattle.reg_words.specs.Jobs.{IsJobOf, IsUsageOf, Tells, job_in, init_of, script_of, import_of, crl_of, number_in, serve_of, open_of, at_of, schedule_of};
 
 use crate::desk::desk;
 use crate::job::{Job, Usage};
@@ -90,6 +90,10 @@ fn read_command<'a>(
         Ok(read_crl(given))
     } else if name == "serve" {
         Ok(read_serve(given))
+    } else if name == "open" {
+        Ok(read_open(given))
+    } else if name == "at" {
+        Ok(read_at(given))
     } else if name == "schedule" {
         read_schedule(alloc, given)
     } else {
@@ -142,15 +146,43 @@ fn read_crl<'a>(given: &ArgMatches<'a>) -> Option<Job<'a>>
     })
 }
 
+/// The TCP port that is given.
+fn port_of(given: &ArgMatches<'_>) -> Option<u16>
+    ensures { result ≡ number_in 1 65535 (codes "port") (rows_of (found_of given.now)) }
+{
+    Some(number_within(given, "port", 1, LAST_PORT)? as u16)
+}
+
 #[tactic(auto, unfolding(crate::specs::Jobs::serve_of))]
 fn read_serve<'a>(given: &ArgMatches<'a>) -> Option<Job<'a>>
     ensures { result ≡ serve_of (rows_of (found_of given.now)) }
 {
     Some(Job::Serve {
         file: word_of(given, "file")?,
-        port: number_within(given, "port", 1, LAST_PORT)? as u16,
+        port: port_of(given)?,
         requests: number_within(given, "requests", 1, MOST_REQUESTS)? as u32,
         signer: key_holder(given)?,
+    })
+}
+
+#[tactic(auto, unfolding(crate::specs::Jobs::open_of))]
+fn read_open<'a>(given: &ArgMatches<'a>) -> Option<Job<'a>>
+    ensures { result ≡ open_of (rows_of (found_of given.now)) }
+{
+    Some(Job::Open {
+        file: word_of(given, "file")?,
+        port: port_of(given)?,
+        counter: word_of(given, "counter")?,
+        signer: key_holder(given)?,
+    })
+}
+
+#[tactic(auto, unfolding(crate::specs::Jobs::at_of))]
+fn read_at<'a>(given: &ArgMatches<'a>) -> Option<Job<'a>>
+    ensures { result ≡ at_of (rows_of (found_of given.now)) }
+{
+    Some(Job::At {
+        counter: word_of(given, "counter")?,
     })
 }
 

@@ -24,7 +24,7 @@ fn outcome_of(answer: &Result<Job<'_>, Usage>) -> Outcome {
 }
 
 /// Words that clap refuses.
-const UNKNOWN: [&[&str]; 16] = [
+const UNKNOWN: [&[&str]; 22] = [
     &[],
     &["desk"],
     &["desk", "frobnicate"],
@@ -42,6 +42,22 @@ const UNKNOWN: [&[&str]; 16] = [
     &["desk", "crl", "F", "--number", "-1"],
     &["desk", "serve", "F", "--port", "80"],
     &["desk", "serve", "F", "--requests", "1"],
+    &["desk", "open", "F", "--port", "80"],
+    &["desk", "open", "F", "--counter", "S"],
+    &["desk", "open", "--port", "80", "--counter", "S"],
+    &[
+        "desk",
+        "open",
+        "F",
+        "--port",
+        "80",
+        "--counter",
+        "S",
+        "--requests",
+        "1",
+    ],
+    &["desk", "at"],
+    &["desk", "at", "S", "F"],
     &["desk", "schedule", "F"],
 ];
 
@@ -152,10 +168,12 @@ fn refuses_other_moments_and_numbers(rt: HostRuntime) {
 }
 
 /// What help says at each level.
-const HELPED: [(&[&str], &[&str]); 8] = [
+const HELPED: [(&[&str], &[&str]); 10] = [
     (
         &["desk", "--help"],
-        &["init", "script", "import", "crl", "serve", "schedule"],
+        &[
+            "init", "script", "import", "crl", "serve", "open", "at", "schedule",
+        ],
     ),
     (
         &["desk", "-h"],
@@ -193,6 +211,20 @@ const HELPED: [(&[&str], &[&str]); 8] = [
             "--signer <SOCKET>",
             "--algorithm <NAME>",
         ],
+    ),
+    (
+        &["desk", "open", "--help"],
+        &[
+            "<FILE>",
+            "--port <N>",
+            "--counter <SOCKET>",
+            "--signer <SOCKET>",
+            "--algorithm <NAME>",
+        ],
+    ),
+    (
+        &["desk", "at", "--help"],
+        &["<SOCKET>", "desk at ca.counter"],
     ),
     (
         &["desk", "schedule", "F", "--help"],
@@ -423,11 +455,54 @@ fn serve_has_its_numbers(rt: HostRuntime) {
     }
 }
 
+fn is_open(answer: &Result<Job<'_>, Usage>, wanted: (&str, u16, &str)) -> bool {
+    match answer {
+        Ok(
+            Job::Open {
+                file,
+                port,
+                counter,
+                signer: None,
+            },
+        ) => (file.as_str(), *port, counter.as_str()) == wanted,
+        _ => false,
+    }
+}
+
+#[test]
+fn open_has_its_port_and_counter(rt: HostRuntime) {
+    let words = [
+        "desk",
+        "open",
+        "--counter=ca.counter",
+        "ca.db",
+        "--port",
+        "8080",
+    ];
+    let answer = read_words(rt.alloc(), &words);
+    assert!(rt; is_open(&answer, ("ca.db", 8080, "ca.counter")));
+    for port in ["0", "65536", "http", ""] {
+        let words = ["desk", "open", "F", "--counter", "S", "--port", port];
+        let answer = read_words(rt.alloc(), &words);
+        assert_eq!(rt; outcome_of(&answer), Outcome::Refused, "at {port}");
+    }
+}
+
+#[test]
+fn at_has_its_counter(rt: HostRuntime) {
+    let is_told = match read_words(rt.alloc(), &["desk", "at", "ca.counter"]) {
+        Ok(Job::At { counter }) => counter.as_str() == "ca.counter",
+        _ => false,
+    };
+    assert!(rt; is_told);
+}
+
 /// What holds the key, as a script or a server is told it.
 fn holder_of<'a, 'b>(answer: &'b Result<Job<'a>, Usage>) -> Option<&'b KeyHolder<'a>> {
     match answer {
         Ok(Job::Script { signer, .. }) => signer.as_ref(),
         Ok(Job::Serve { signer, .. }) => signer.as_ref(),
+        Ok(Job::Open { signer, .. }) => signer.as_ref(),
         _ => None,
     }
 }

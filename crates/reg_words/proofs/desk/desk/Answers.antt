@@ -7,4 +7,6 @@ returns c =
     let import = c.with_command-desk-3.ensures.app _ _ script c.import.ensures.app in
     let crl = c.with_command-desk-4.ensures.app _ _ import c.crl.ensures.app in
     let serve = c.with_command-desk-5.ensures.app _ _ crl c.serve.ensures.app in
-    c.with_command.ensures.app _ _ serve c.schedule.ensures.app
+    let opening = c.with_command-desk-6.ensures.app _ _ serve c.opening.ensures.app in
+    let at = c.with_command-desk-7.ensures.app _ _ opening c.at.ensures.app in
+    c.with_command.ensures.app _ _ at c.schedule.ensures.app

@@ -1,0 +1,186 @@
+//! A desk, as it answers who comes: peers, and lines at a counter.
+
+ghost use Rattle.std.specs.Prelude.{◌≡◌, ◌⊎◌, ◌++◌, ◌∷◌, [], ℕ, List, Some, IfOk, OnOk, OnErr};
+ghost use Rattle.reg_core.specs.Lines.{fault_line};
+ghost use Rattle.reg_faces.specs.Kept.{Lines};
+ghost use Rattle.reg_faces.specs.Moves.{Moves};
+ghost use Rattle.reg_lines.specs.Script.{ScriptEnds};
+ghost use Rattle.reg_program.specs.Exchanges.{Entry, EntryAt, Exchange, ExchangeAt, Replied, line_at};
+
+use crate::front::Front;
+use reg_core::{Fault, Moment};
+use reg_faces::{Desk, Keeper, run_script, serve_one};
+use reg_hub::{Handler, Stopped};
+use std::alloc::{AllocError, Global};
+
+/// A desk that answers peers, each at a moment of the clock, and has no counter.
+#[derive(Drop)]
+pub(crate) struct ServedDesk<'a, K: Keeper, F: Front> {
+    pub(crate) desk: Desk<K>,
+    pub(crate) front: &'a F,
+}
+
+/// A desk that answers peers and lines at counters, each at a moment of the clock.
+#[derive(Drop)]
+pub(crate) struct OpenDesk<'a, K: Keeper, F: Front> {
+    pub(crate) desk: Desk<K>,
+    pub(crate) front: &'a F,
+}
+
+impl<'a, K: Keeper, F: Front> Handler for ServedDesk<'a, K, F> {
+    ghost use Rattle.reg_faces.specs.Moves.{Moves};
+    ghost use Rattle.reg_program.specs.Exchanges.{Exchange, NoEntry};
+
+    ghost answers = { λ s request text t. Moves K.is_clean K.stands
+        (λ identity before after. Exchange K.signs F.told identity before request text after) s.desk.office t.desk.office };
+
+    ghost tells = { NoEntry };
+
+    fn answer(&mut self, request: &[u8]) -> Result<Vec<u8>, Stopped> {
+        answer_now(&mut self.desk, self.front, request)
+    }
+
+    fn tell(&mut self, _line: &[u8]) -> Result<Vec<u8>, Stopped> {
+        Err(Stopped)
+    }
+}
+
+impl<'a, K: Keeper, F: Front> Handler for OpenDesk<'a, K, F> {
+    ghost use Rattle.reg_faces.specs.Moves.{Moves};
+    ghost use Rattle.reg_program.specs.Exchanges.{Exchange, Entry};
+
+    ghost answers = { λ s request text t. Moves K.is_clean K.stands
+        (λ identity before after. Exchange K.signs F.told identity before request text after) s.desk.office t.desk.office };
+
+    ghost tells = { λ s line text t. Moves K.is_clean K.stands
+        (λ identity before after. Entry K.signs F.told identity before line text after) s.desk.office t.desk.office };
+
+    fn answer(&mut self, request: &[u8]) -> Result<Vec<u8>, Stopped> {
+        answer_now(&mut self.desk, self.front, request)
+    }
+
+    fn tell(&mut self, line: &[u8]) -> Result<Vec<u8>, Stopped> {
+        tell_now(&mut self.desk, self.front, line)
+    }
+}
+
+/// Answers what came of a peer, at the moment of the clock.
+fn answer_now<K: Keeper, F: Front>(
+    desk: &mut Desk<K>,
+    front: &F,
+    request: &[u8],
+) -> Result<Vec<u8>, Stopped>
+    ensures ok { IfOk result (λ text. Moves K.is_clean K.stands
+        (λ identity before after. Exchange K.signs F.told identity before request.now text.items after)
+        desk.old.office desk.new.office) }
+    ensures err { OnErr result (desk.new ≡ desk.old) }
+{
+    match front.moment() {
+        Ok(now) => Ok(answer_at(desk, now, request)),
+        Err(_) => Err(Stopped),
+    }
+}
+
+/// Answers a line of a counter, at the moment of the clock.
+fn tell_now<K: Keeper, F: Front>(
+    desk: &mut Desk<K>,
+    front: &F,
+    line: &[u8],
+) -> Result<Vec<u8>, Stopped>
+    ensures ok { IfOk result (λ text. Moves K.is_clean K.stands
+        (λ identity before after. Entry K.signs F.told identity before line.now text.items after)
+        desk.old.office desk.new.office) }
+    ensures err { OnErr result (desk.new ≡ desk.old) }
+{
+    match front.moment() {
+        Ok(now) => Ok(tell_at(desk, now, line)),
+        Err(_) => Err(Stopped),
+    }
+}
+
+/// Answers what came of a peer, at a moment.
+fn answer_at<K: Keeper>(desk: &mut Desk<K>, now: Moment, request: &[u8]) -> Vec<u8>
+    ensures { Moves K.is_clean K.stands (λ identity before after. ExchangeAt K.signs now identity before request.now result.items after)
+        desk.old.office desk.new.office }
+{
+    let mut reader = request;
+    let mut text = Vec::new(desk.alloc);
+    // However it ended, what was written is the answer.
+    let _ = serve_one(desk.alloc, &mut reader, &mut text, now, desk);
+    text
+}
+
+/// Answers a line of a counter, at a moment.
+fn tell_at<K: Keeper>(desk: &mut Desk<K>, now: Moment, line: &[u8]) -> Vec<u8>
+    ensures { Moves K.is_clean K.stands (λ identity before after. EntryAt K.signs now identity before line.now result.items after)
+        desk.old.office desk.new.office }
+{
+    let mut reply = Vec::new(desk.alloc);
+    let ran = run_line_at(desk, now, line, &mut reply);
+    reply_of(ran, reply)
+}
+
+/// Runs a line with its moment before it, as a script.
+fn run_line_at<K: Keeper>(
+    desk: &mut Desk<K>,
+    now: Moment,
+    line: &[u8],
+    reply: &mut Vec<u8>,
+) -> Result<(), Fault>
+    ensures { (left : List ℕ) × Moves K.is_clean K.stands
+        (λ identity before after. ScriptEnds (Lines K.signs identity) (λ bytes. Some bytes) (λ bytes. Some bytes) before after
+        (line_at now line.now) left reply.old.items reply.new.items result)
+        desk.old.office desk.new.office }
+{
+    match timed_line(desk.alloc, now, line) {
+        Ok(script) => {
+            let mut reader = script.as_slice();
+            run_script(desk.alloc, &mut reader, reply, desk)
+        }
+        Err(_) => Err(Fault::Memory),
+    }
+}
+
+/// A line with its moment before it.
+fn timed_line(alloc: Global, now: Moment, line: &[u8]) -> Result<Vec<u8>, AllocError>
+    ensures { IfOk result (λ text. text.items ≡ line_at now line.now) }
+{
+    let mut text = Vec::from_slice(alloc, &now.text())?;
+    text.push(b' ')?;
+    text.extend_from_slice(line)?;
+    Ok(text)
+}
+
+/// The reply to a line whose run ended so, over what it wrote.
+fn reply_of(ran: Result<(), Fault>, written: Vec<u8>) -> Vec<u8>
+    ensures { Replied ran written.items result.items }
+{
+    match ran {
+        Ok(()) => written,
+        Err(fault) => fault_reply(fault, written),
+    }
+}
+
+/// The line of a fault in the place of what was written, or nothing where there is no memory for it.
+fn fault_reply(fault: Fault, mut text: Vec<u8>) -> Vec<u8>
+    ensures { (result.items ≡ fault_line fault ++ 10 ∷ []) ⊎ (result.items ≡ []) }
+{
+    text.clear();
+    match put_fault(&mut text, fault) {
+        Ok(()) => text,
+        Err(_) => {
+            text.clear();
+            text
+        }
+    }
+}
+
+/// Puts the line of a fault behind a text.
+fn put_fault(text: &mut Vec<u8>, fault: Fault) -> Result<(), AllocError>
+    ensures { OnOk result (text.new.items ≡ text.old.items ++ (fault_line fault ++ 10 ∷ [])) }
+{
+    let line = fault.line();
+    text.extend_from_slice(line.as_bytes())?;
+    text.push(b'\n')?;
+    Ok(())
+}
