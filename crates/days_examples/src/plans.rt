@@ -25,6 +25,7 @@ pub const USUAL: Plan = Plan {
     leaps: 60,
     leap: 60 * DAY,
     lives: 100,
+    are_revoked: true,
     weights: [8, 20, 22, 14, 6, 14, 6],
     schedules: &[&[(0, 398)], &[(0, 47)]],
     crl_life: 691_200,
@@ -155,12 +156,14 @@ pub const MANY_ENTRIES: Plan = Plan {
     ..USUAL
 };
 
-/// More than a hundred certificates that end between two commands.
+/// More than a hundred good certificates that end between two accepted commands.
 pub const MANY_ENDS: Plan = Plan {
-    steps: 900,
+    steps: 400,
     pace: 60,
-    leaps: 500,
-    lives: 1_000_000,
+    leaps: 100,
+    leap: 365 * DAY,
+    lives: 3,
+    are_revoked: false,
     weights: [1, 40, 40, 2, 1, 1, 4],
     ..USUAL
 };

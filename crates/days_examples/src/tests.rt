@@ -95,7 +95,7 @@ fn more_entries_than_a_thousand(rt: HostRuntime) -> Result<(), Fail> {
 #[test]
 fn more_ends_at_once_than_a_hundred(rt: HostRuntime) -> Result<(), Fail> {
     let it = came(&rt, &plans::MANY_ENDS)?;
-    assert!(rt; it.commands > 1_000 && it.ended > 101);
+    assert!(rt; it.commands > 1_000 && it.ended > 101 && it.expired > 101);
     Ok(())
 }
 

@@ -120,8 +120,11 @@ impl<T: Tested> Days<T> {
     /// What a command must come to.
     fn due(&mut self, command: &Command) -> Outcome {
         self.tally.commands = self.tally.commands.saturating_add(1);
-        self.tally.ended = self.tally.ended.max(self.register.ended(self.now));
+        let ended = self.register.ended(self.now);
         let due = self.register.run(self.now, command);
+        if due.is_ok() {
+            self.tally.ended = self.tally.ended.max(ended);
+        }
         if let Ok(Reply::Crl { number, entries }) = due {
             self.tally.entries = self.tally.entries.max(entries);
             self.tally.crls = number;
@@ -174,7 +177,7 @@ impl<T: Tested> Days<T> {
         self.hand(&batch);
     }
 
-    /// A list that enters a subscriber, and takes up to twelve certificates of 30 days from their orders to their revocations.
+    /// A list that enters a subscriber, and takes up to twelve certificates of at most 30 days from their orders on.
     fn lives(&mut self) {
         let mut batch = Batch {
             commands: Vec::new(self.alloc),
@@ -190,17 +193,29 @@ impl<T: Tested> Days<T> {
         self.hand(&batch);
     }
 
-    /// The commands of one certificate.
+    /// The commands of one certificate, up to its registration or its revocation.
     fn live(&mut self, batch: &mut Batch, serial: Serial) {
         let (subscriber, days) = (1, 30);
         self.give(batch, &Command::Order { subscriber, days });
+        let seconds = if self.plan.are_revoked {
+            30 * DAY - 1
+        } else {
+            self.draws.below(30 * DAY)
+        };
         let row = Certificate {
             serial,
             order: self.register.orders.len() as u64,
             not_before: self.now,
-            not_after: self.now.saturating_add(30 * DAY - 1),
+            not_after: self.now.saturating_add(seconds),
         };
         self.give(batch, &registration(&row));
+        if self.plan.are_revoked {
+            self.revoke(batch, serial);
+        }
+    }
+
+    /// The commands that revoke a certificate.
+    fn revoke(&mut self, batch: &mut Batch, serial: Serial) {
         let ground = Label::joined(b"super", b"seded");
         self.give(batch, &Command::Request { serial, ground });
         let request = self.register.requests.len() as u64;
@@ -233,8 +248,14 @@ impl<T: Tested> Days<T> {
     /// A query.
     fn ask(&mut self, query: &Query) {
         let due = self.register.ask(self.now, query);
-        if let Ok(Reply::Overdue(Some(overdue))) = due {
-            self.tally.overdue = self.tally.overdue.max(overdue.count);
+        match due {
+            Ok(Reply::Overdue(Some(overdue))) => {
+                self.tally.overdue = self.tally.overdue.max(overdue.count);
+            }
+            Ok(Reply::Counts(counts)) => {
+                self.tally.expired = self.tally.expired.max(counts.expired);
+            }
+            _ => (),
         }
         let came = self.office.ask(moment(self.now), query);
         self.same("a query", &due, &came);

@@ -22,8 +22,10 @@ pub struct Plan {
     pub leaps: u64,
     /// The most seconds of a leap.
     pub leap: u64,
-    /// One step in so many takes certificates from their orders to their revocations.
+    /// One step in so many takes certificates from their orders to their revocations, or to their registrations alone.
     pub lives: u64,
+    /// Whether these are revoked; else they end at any moment of 30 days.
+    pub are_revoked: bool,
     /// How often each command comes: `subscriber`, `order`, `register`, `request`, `decline`, `revoke`, `crl`.
     pub weights: [u64; 7],
     /// The longest validities in days, by the moments from which they hold: at first, and then those that are set.

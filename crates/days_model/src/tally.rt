@@ -33,8 +33,10 @@ pub struct Tally {
     pub replies: [u64; 32],
     /// OCSP answers.
     pub answers: u64,
-    /// The most certificates that ended between two commands.
+    /// The most good certificates that ended between two accepted commands: a refused one leaves them as they stand.
     pub ended: u64,
+    /// The most certificates that were counted as expired.
+    pub expired: u64,
     /// The most entries of a CRL.
     pub entries: u64,
     /// The most requests that were overdue.
@@ -58,6 +60,7 @@ impl Tally {
             replies: [0; 32],
             answers: 0,
             ended: 0,
+            expired: 0,
             entries: 0,
             overdue: 0,
             get: 0,
