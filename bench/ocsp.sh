@@ -1,6 +1,7 @@
 #!/bin/sh
 # OCSP answers a second over a register of so many certificates (100,000 unless a number is given), one connection each:
-# `desk serve` beside `openssl ocsp -port` with a P-256 issuer, asked the same requests by the same client, in turns.
+# `desk open` beside `openssl ocsp -port` with a P-256 issuer, asked the same requests by the same client, in turns; by one client, by 32 at once, and
+# beside 200 silent peers, with the latency of the median and of one in a hundred. Then commands a second at the desk's counter, beside `desk script`.
 # The desk seals with a digest, which costs next to nothing and is no signature; with --signed as the first word it signs with the same
 # P-256 key as openssl, which examples/signer.py holds.
 # Run it from the repository's root; needs openssl and python3, for --signed also python3's package cryptography.
@@ -8,7 +9,8 @@ set -eu
 signed=
 [ "${1:-}" != --signed ] || { signed=1; shift; }
 certificates=${1:-100000}
-requests=${2:-2000}
+requests=${2:-10000}
+commands=20000
 desk="$(pwd)/desk"
 words="$(pwd)/examples/issuer-words.sh"
 client="$(pwd)/bench/ocsp_client.py"
@@ -34,7 +36,7 @@ done
 
 openssl ocsp -index index.txt -port 8091 -rsigner ca.pem -rkey ca.key -CA ca.pem -ignore_err >/dev/null 2>&1 &
 theirs=$!
-set -- serve ca.db --port 8092 --requests 1000000
+set -- open ca.db --port 8092 --counter ca.counter
 if [ -n "$signed" ]; then
     "$signer" ca.key ca.sign >/dev/null &
     holder=$!
@@ -48,3 +50,8 @@ fi
 ours=$!
 sleep 3
 python3 "$client" ask "$requests" 8091 8092 ./*.der
+python3 "$client" commands "$commands" counter "$desk" at ca.counter
+kill "$ours"
+wait "$ours" 2>/dev/null || true
+ours=''
+python3 "$client" commands "$commands" script "$desk" script ca.db

@@ -1,12 +1,12 @@
 #!/usr/bin/env python3
-"""Ends `desk script` by SIGKILL and `desk open` by SIGTERM, at moments drawn at random, and opens the register again each time: what was
-answered stands.
+"""Ends `desk script`, and `desk open` with commands at its counter, at moments drawn at random, a script by SIGKILL and an open desk by SIGKILL and SIGTERM in
+turns, and opens the register again each time: what was answered stands.
 
 Usage, from the repository's root: tools/desk-killed.py [TIMES]
 """
 import os
 import random
-import socket
+import signal
 import subprocess
 import sys
 import tempfile
@@ -15,85 +15,67 @@ import time
 
 DESK = os.path.abspath("desk")
 NAME = "300C310A300806035504030C0154"
+PORT = "8127"
+COMMANDS = 20000
+
+
+def now():
+    return time.strftime("%Y-%m-%dT%H:%M:%SZ", time.gmtime())
 
 
 def feed(stdin, lines):
     try:
-        stdin.write(lines)
+        stdin.write("".join(lines).encode())
         stdin.close()
     except OSError:
         # The program was ended while it read.
         pass
 
 
-def answered(folder, run):
-    """The last id that a script answered before it was ended; 0 where it answered none."""
-    lines = "".join(f"2026-01-01T00:00:00Z subscriber n{run}-{i}\n" for i in range(20000)).encode()
-    with open(f"{folder}/replies", "wb") as replies:
-        desk = subprocess.Popen([DESK, "script", f"{folder}/ca.db"], stdin=subprocess.PIPE, stdout=replies)
-        feeder = threading.Thread(target=feed, args=(desk.stdin, lines))
+def fed(words, lines, ended, how):
+    """Feeds lines to a program, ends one by a signal after a while, and returns the last id that was answered; 0 where none was."""
+    with tempfile.TemporaryFile() as replies:
+        program = subprocess.Popen(words, stdin=subprocess.PIPE, stdout=replies, stderr=subprocess.DEVNULL)
+        feeder = threading.Thread(target=feed, args=(program.stdin, lines))
         feeder.start()
         time.sleep(random.uniform(0.05, 1.0))
-        desk.kill()
-        desk.wait()
+        ended = ended or program
+        ended.send_signal(how)
+        ended.wait()
+        # Who asked at the counter ends by itself, since nobody answers any more.
+        program.wait(timeout=20)
         feeder.join()
-    with open(f"{folder}/replies", encoding="ascii") as replies:
-        whole = replies.read().split("\n")[:-1]
+        replies.seek(0)
+        whole = replies.read().decode().split("\n")[:-1]
     return int(whole[-1].split()[1]) if whole else 0
 
 
-def tell(counter, run, replies):
-    """Tells lines to a counter until it ends, and keeps the replies."""
-    with socket.socket(socket.AF_UNIX) as line:
-        line.connect(counter)
-        heard = line.makefile("rb")
-        for i in range(1_000_000):
-            try:
-                line.sendall(f"subscriber o{run}-{i}\n".encode())
-            except OSError:
-                return
-            reply = heard.readline()
-            if not reply.endswith(b"\n"):
-                return
-            replies.append(reply)
+def script_ended(folder, run):
+    lines = [f"{now()} subscriber n{run}-{at}\n" for at in range(COMMANDS)]
+    return fed([DESK, "script", f"{folder}/ca.db"], lines, None, signal.SIGKILL)
 
 
-def told(folder, run):
-    """The last id that an open desk answered before it was ended; 0 where it answered none."""
-    with socket.socket() as free:
-        free.bind(("127.0.0.1", 0))
-        port = free.getsockname()[1]
+def open_ended(folder, run):
     counter = f"{folder}/counter"
-    words = ["open", f"{folder}/ca.db", "--port", str(port), "--counter", counter]
-    with subprocess.Popen([DESK, *words], stdout=subprocess.PIPE) as desk:
-        if desk.stdout.readline() != f"listening {port}\n".encode():
-            sys.exit("the desk is not open")
-        if os.stat(counter).st_mode & 0o777 != 0o600:
-            sys.exit("the counter is not its owner's alone")
-        replies = []
-        teller = threading.Thread(target=tell, args=(counter, run, replies))
-        teller.start()
-        time.sleep(random.uniform(0.05, 1.0))
-        desk.terminate()
-        desk.wait()
-        teller.join()
-    return int(replies[-1].split()[1]) if replies else 0
+    desk = subprocess.Popen([DESK, "open", f"{folder}/ca.db", "--port", PORT, "--counter", counter], stdout=subprocess.PIPE)
+    desk.stdout.readline()
+    lines = [f"subscriber o{run}-{at}\n" for at in range(COMMANDS)]
+    return fed([DESK, "at", counter], lines, desk, signal.SIGTERM if run % 2 else signal.SIGKILL)
 
 
 def main():
     times = int(sys.argv[1]) if len(sys.argv) > 1 else 10
     with tempfile.TemporaryDirectory() as folder:
         subprocess.run([DESK, "init", f"{folder}/ca.db", "--name", NAME, "--key", "0102"], check=True, stdout=subprocess.DEVNULL)
-        # The moments of an open desk are those of the machine's clock, so the scripts' come first.
-        for run in range(2 * times):
-            last = answered(folder, run) if run < times else told(folder, run)
-            now = "2026-01-01T00:00:00Z" if run < times else time.strftime("%Y-%m-%dT%H:%M:%SZ", time.gmtime())
-            line = f"{now} subscriber after{run}\n"
-            again = subprocess.run([DESK, "script", f"{folder}/ca.db"], input=line.encode(), capture_output=True, check=True)
-            following = int(again.stdout.split()[1])
-            print(f"ended after subscriber {last}; opened again, the next is {following}")
-            if following <= last:
-                sys.exit(f"subscriber {last} was answered and is lost")
+        for run in range(times):
+            for kind, ended in [("script", script_ended), ("open", open_ended)]:
+                last = ended(folder, run)
+                line = f"{now()} subscriber after-{kind}{run}\n"
+                again = subprocess.run([DESK, "script", f"{folder}/ca.db"], input=line.encode(), capture_output=True, check=True)
+                following = int(again.stdout.split()[1])
+                print(f"{kind} ended after subscriber {last}; opened again, the next is {following}")
+                if following <= last:
+                    sys.exit(f"subscriber {last} was answered and is lost")
 
 
 main()

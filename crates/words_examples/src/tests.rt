@@ -488,13 +488,18 @@ fn open_has_its_port_and_counter(rt: HostRuntime) {
     }
 }
 
+fn is_at(answer: &Result<Job<'_>, Usage>, path: &str) -> bool {
+    match answer {
+        Ok(Job::At { counter }) => counter.as_str() == path,
+        _ => false,
+    }
+}
+
 #[test]
 fn at_has_its_counter(rt: HostRuntime) {
-    let is_told = match read_words(rt.alloc(), &["desk", "at", "ca.counter"]) {
-        Ok(Job::At { counter }) => counter.as_str() == "ca.counter",
-        _ => false,
-    };
-    assert!(rt; is_told);
+    let words = ["desk", "at", "ca.counter"];
+    let answer = read_words(rt.alloc(), &words);
+    assert!(rt; is_at(&answer, "ca.counter"));
 }
 
 /// What holds the key, as a script or a server is told it.

@@ -1,0 +1,8 @@
+//! The examples.
+
+mod counters;
+mod crowds;
+mod office;
+mod peers;
+mod pieces;
+mod steps;

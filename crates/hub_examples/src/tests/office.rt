@@ -1,0 +1,351 @@
+//! A hub of the tests: who answers, what the clock says, and who comes.
+
+use mio::net::{TcpListener, UnixListener};
+use reg_hub::{Handler, Hub, Stopped};
+use std::alloc::{AllocError, Global};
+use std::fmt::Debug;
+use std::io::{ErrorKind, Read, Write};
+use std::net::{Ipv4Addr, Shutdown, SocketAddr, TcpStream};
+use std::os::unix::net::UnixStream;
+use std::test::Fail;
+use std::time::{Clock, Duration};
+use std::{fs, io};
+
+pub(super) const REQUEST: &[u8] = b"GET /counts HTTP/1.1\r\n\r\n";
+
+pub(super) const ANSWER: &[u8] = b"answer GET /counts HTTP/1.1\r\n\r\n";
+
+/// A request whose answer has as many bytes more as the handler says.
+pub(super) const LARGE: &[u8] = b"GET /large HTTP/1.1\r\n\r\n";
+
+/// What was got is what was wanted, in a row or a step of this number.
+pub(super) fn same<T: PartialEq + Debug>(row: usize, got: &T, wanted: &T) -> Result<(), Fail> {
+    if *got == *wanted {
+        return Ok(());
+    }
+    Err(Fail::new(format_args!("row {row}: got {got:?}, wanted {wanted:?}")))
+}
+
+/// The same of bytes.
+pub(super) fn same_bytes(row: usize, got: &[u8], wanted: &[u8]) -> Result<(), Fail> {
+    if got == wanted {
+        return Ok(());
+    }
+    Err(Fail::new(format_args!("row {row}: got {got:?}, wanted {wanted:?}")))
+}
+
+/// Answers each request by its own bytes behind `answer `, and each line by itself, with so many bytes more where it asks for
+/// them; what is no request by nothing.
+#[derive(Drop)]
+struct Echo {
+    alloc: Global,
+    more: usize,
+    lines: u64,
+    asked: Vec<u8>,
+}
+
+impl Handler for Echo {
+    ghost answers = { λ _ _ _ _. Unit {0} };
+
+    ghost tells = { λ _ _ _ _. Unit {0} };
+
+    fn answer(&mut self, request: &[u8]) -> Result<Vec<u8>, Stopped> {
+        match self.answered(request) {
+            Ok(text) => Ok(text),
+            Err(_) => Ok(Vec::new(self.alloc)),
+        }
+    }
+
+    fn tell(&mut self, line: &[u8]) -> Result<Vec<u8>, Stopped> {
+        self.lines = self.lines.saturating_add(1);
+        match self.told(line) {
+            Ok(text) => Ok(text),
+            Err(_) => Ok(Vec::new(self.alloc)),
+        }
+    }
+}
+
+impl Echo {
+    fn answered(&mut self, request: &[u8]) -> Result<Vec<u8>, AllocError> {
+        self.asked.clear();
+        self.asked.extend_from_slice(request)?;
+        if !request.ends_with(b"\r\n\r\n") {
+            return Ok(Vec::new(self.alloc));
+        }
+        let mut text = Vec::from_slice(self.alloc, b"answer ")?;
+        text.extend_from_slice(request)?;
+        if request.starts_with(b"GET /large") {
+            self.add_more(&mut text)?;
+        }
+        Ok(text)
+    }
+
+    fn told(&self, line: &[u8]) -> Result<Vec<u8>, AllocError> {
+        let mut text = Vec::from_slice(self.alloc, line)?;
+        if line.starts_with(b"large") {
+            self.add_more(&mut text)?;
+        }
+        Ok(text)
+    }
+
+    fn add_more(&self, text: &mut Vec<u8>) -> Result<(), AllocError> {
+        let more = vec![in self.alloc; b'x'; self.more]?;
+        text.extend_from_slice(more.as_slice())
+    }
+}
+
+fn new_echo(alloc: Global) -> Echo {
+    Echo {
+        alloc,
+        more: 0,
+        lines: 0,
+        asked: Vec::new(alloc),
+    }
+}
+
+/// A clock that stands, and does not know the day.
+#[derive(Clone, Copy)]
+struct At(u64);
+
+impl Clock for At {
+    fn monotonic(&self) -> io::Result<Duration> {
+        Ok(Duration::from_millis(self.0))
+    }
+
+    fn since_1970(&self) -> io::Result<Duration> {
+        Err(io::Error::from(ErrorKind::Unsupported))
+    }
+}
+
+/// A hub, who answers, and who came to its port and its counter.
+#[derive(Drop)]
+pub(super) struct Office {
+    hub: Hub,
+    echo: Echo,
+    made: u64,
+    at: SocketAddr,
+    path: &'static str,
+    peers: Vec<TcpStream>,
+    counters: Vec<UnixStream>,
+}
+
+/// A hub with so many places, at a port of the system's choice and at this counter.
+pub(super) fn office_of(
+    rt: &HostRuntime,
+    path: &'static str,
+    places: usize,
+) -> Result<Office, Fail> {
+    let listener = TcpListener::bind(rt, SocketAddr::from((Ipv4Addr::LOCALHOST, 0)))?;
+    let at = listener.local_addr()?;
+    let _ = fs::remove_file(rt, path);
+    let counter = UnixListener::bind(rt, path)?;
+    Ok(Office {
+        hub: Hub::new(rt, listener, Some(counter), places)?,
+        echo: new_echo(rt.alloc()),
+        made: 0,
+        at,
+        path,
+        peers: Vec::new(rt.alloc()),
+        counters: Vec::new(rt.alloc()),
+    })
+}
+
+/// What is to be seen of a hub.
+impl Office {
+    /// How many requests were answered, and how many peers are there.
+    pub(super) fn seen(&self) -> (u64, usize) {
+        (self.made, self.hub.callers())
+    }
+
+    /// How many lines were answered.
+    pub(super) fn lines(&self) -> u64 {
+        self.echo.lines
+    }
+
+    /// The last request.
+    pub(super) fn request(&self) -> &[u8] {
+        self.echo.asked.as_slice()
+    }
+
+    /// From now on a large answer has so many bytes more.
+    pub(super) fn set_more(&mut self, more: usize) -> Result<(), Fail> {
+        self.echo.more = more;
+        Ok(())
+    }
+
+    /// Some turns at a moment.
+    pub(super) fn turns(&mut self, millis: u64, count: usize) -> Result<(), Fail> {
+        for _ in 0..count {
+            // A count that was read is within its type.
+            let _count = self.made;
+            let wait = Duration::from_millis(1);
+            self.hub.turn(&At(millis), &mut self.echo, &mut self.made, u64::MAX, wait)?;
+        }
+        Ok(())
+    }
+
+    /// So many requests are served, by the clock of the machine.
+    pub(super) fn serve(&mut self, rt: &HostRuntime, most: u64) -> Result<(), Fail> {
+        if self.made <= most {
+            self.hub
+                .serve_all(rt, &mut self.echo, &mut self.made, most)?;
+        }
+        Ok(())
+    }
+
+    /// Everybody is let go, and the counter's file goes.
+    pub(super) fn finish(&mut self, rt: &HostRuntime) -> Result<(), Fail> {
+        self.hub.finish(rt)?;
+        fs::remove_file(rt, self.path)?;
+        Ok(())
+    }
+}
+
+/// Who comes to the port.
+impl Office {
+    /// A peer comes and sends this.
+    pub(super) fn come(&mut self, rt: &HostRuntime, bytes: &[u8]) -> Result<(), Fail> {
+        let peer = TcpStream::connect(rt, self.at)?;
+        peer.set_read_timeout(Some(Duration::from_secs(1)))?;
+        let mut stream = &peer;
+        stream.write_all(bytes)?;
+        self.peers.push(peer)?;
+        Ok(())
+    }
+
+    fn peer(&self, at: usize) -> Result<&TcpStream, Fail> {
+        match self.peers.get(at) {
+            Some(peer) => Ok(peer),
+            None => Err(Fail::new("there is no such peer")),
+        }
+    }
+
+    /// A peer sends this.
+    pub(super) fn send(&self, at: usize, bytes: &[u8]) -> Result<(), Fail> {
+        let mut peer = self.peer(at)?;
+        peer.write_all(bytes)?;
+        Ok(())
+    }
+
+    /// A peer sends this one byte at a time, with two turns behind each.
+    pub(super) fn drip(&mut self, at: usize, bytes: &[u8]) -> Result<(), Fail> {
+        for byte in bytes {
+            self.send(at, &[*byte])?;
+            self.turns(0, 2)?;
+        }
+        Ok(())
+    }
+
+    /// A silent peer comes, where the system has descriptors for it; whether it did.
+    pub(super) fn come_silent(&mut self, rt: &HostRuntime) -> Result<bool, Fail> {
+        match TcpStream::connect(rt, self.at) {
+            Ok(peer) => self.peers.push(peer)?,
+            Err(_) => return Ok(false),
+        }
+        Ok(true)
+    }
+
+    /// How many peers came and did not go.
+    pub(super) fn peers(&self) -> usize {
+        self.peers.len()
+    }
+
+    /// The newest peer sends no more.
+    pub(super) fn end(&self) -> Result<(), Fail> {
+        if let Some(peer) = self.peers.last() {
+            peer.shutdown(Shutdown::Write)?;
+        }
+        Ok(())
+    }
+
+    /// The newest peer goes.
+    pub(super) fn go(&mut self) -> Result<(), Fail> {
+        drop(self.peers.pop());
+        Ok(())
+    }
+
+    /// What a peer gets up to its end, which comes within a second.
+    pub(super) fn got(&self, at: usize) -> Result<Vec<u8>, Fail> {
+        let mut got = Vec::new(self.echo.alloc);
+        let mut peer = self.peer(at)?;
+        peer.read_to_end(&mut got)?;
+        Ok(got)
+    }
+
+    /// The first peer goes, once it has so many bytes; how many it got.
+    pub(super) fn take_all(&mut self, wanted: usize) -> Result<usize, Fail> {
+        if self.peers.is_empty() {
+            return Ok(0);
+        }
+        let peer = self.peers.remove(0);
+        self.count_to(peer, wanted)
+    }
+
+    /// How many bytes come to somebody until so many are there, while the hub goes on.
+    fn count_to<R: Read + Drop>(&mut self, mut reader: R, wanted: usize) -> Result<usize, Fail> {
+        let mut room = [0u8; 50_000];
+        let mut all = 0usize;
+        for _ in 0..2_000 {
+            if all >= wanted {
+                break;
+            }
+            if let Ok(count) = reader.read(&mut room) {
+                all = all.saturating_add(count);
+            }
+            self.turns(0, 1)?;
+        }
+        Ok(all)
+    }
+}
+
+/// Who comes to the counter.
+impl Office {
+    /// A counter comes and sends this.
+    pub(super) fn open(&mut self, rt: &HostRuntime, bytes: &[u8]) -> Result<(), Fail> {
+        let mut counter = UnixStream::connect(rt, self.path)?;
+        counter.set_read_timeout(Some(Duration::from_secs(1)))?;
+        counter.write_all(bytes)?;
+        self.counters.push(counter)?;
+        Ok(())
+    }
+
+    fn counter(&self, at: usize) -> Result<&UnixStream, Fail> {
+        match self.counters.get(at) {
+            Some(counter) => Ok(counter),
+            None => Err(Fail::new("there is no such counter")),
+        }
+    }
+
+    /// A counter sends this.
+    pub(super) fn tell(&self, at: usize, bytes: &[u8]) -> Result<(), Fail> {
+        let mut counter = self.counter(at)?;
+        counter.write_all(bytes)?;
+        Ok(())
+    }
+
+    /// What a counter gets next, as many bytes at most; nothing at its end.
+    pub(super) fn heard(&self, at: usize, most: usize) -> Result<Vec<u8>, Fail> {
+        let mut got = vec![in self.echo.alloc; 0u8; most]?;
+        let mut counter = self.counter(at)?;
+        let count = counter.read(got.as_mut_slice())?;
+        got.truncate(count);
+        Ok(got)
+    }
+
+    /// The first counter goes, and those behind it move up.
+    pub(super) fn close(&mut self) -> Result<(), Fail> {
+        if !self.counters.is_empty() {
+            drop(self.counters.remove(0));
+        }
+        Ok(())
+    }
+
+    /// The first counter goes, once it has so many bytes; how many it got.
+    pub(super) fn hear_all(&mut self, wanted: usize) -> Result<usize, Fail> {
+        if self.counters.is_empty() {
+            return Ok(0);
+        }
+        let counter = self.counters.remove(0);
+        self.count_to(counter, wanted)
+    }
+}

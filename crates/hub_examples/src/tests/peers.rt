@@ -1,0 +1,189 @@
+//! Peers at the port.
+
+use crate::tests::office::{ANSWER, LARGE, REQUEST};
+use crate::tests::steps::Step::{
+    self, Comes, Drips, Gets, Large, Opens, Sees, SeesRequest, Sends, Serves, Takes, Turns,
+};
+use crate::tests::steps::play;
+use std::test::Fail;
+
+static OWN_ANSWERS: [Step; 18] = [
+    Comes(b"GET "),
+    Turns(0, 2),
+    Comes(b"GET "),
+    Turns(0, 2),
+    Comes(b"GET "),
+    Turns(0, 2),
+    Sends(0, b"/one"),
+    Sends(1, b"/two"),
+    Sends(2, b"/three"),
+    Sends(2, b" HTTP/1.1\r\n\r\n"),
+    Turns(0, 3),
+    Sends(1, b" HTTP/1.1\r\n\r\n"),
+    Sends(0, b" HTTP/1.1\r\n\r\n"),
+    Turns(0, 3),
+    Sees(3, 0),
+    Gets(0, b"answer GET /one HTTP/1.1\r\n\r\n"),
+    Gets(1, b"answer GET /two HTTP/1.1\r\n\r\n"),
+    Gets(2, b"answer GET /three HTTP/1.1\r\n\r\n"),
+];
+
+#[test]
+fn each_peer_gets_the_answer_to_its_own_request(rt: HostRuntime) -> Result<(), Fail> {
+    play(&rt, "hub_examples.own", 1_000, &OWN_ANSWERS)
+}
+
+static BYTES: [Step; 6] = [
+    Comes(b""),
+    Drips(0, b"GET /counts HTTP/1.1\r\n\r"),
+    Sees(0, 1),
+    Drips(0, b"\n"),
+    Sees(1, 0),
+    Gets(0, ANSWER),
+];
+
+#[test]
+fn one_byte_at_a_time_makes_a_request(rt: HostRuntime) -> Result<(), Fail> {
+    play(&rt, "hub_examples.bytes", 1_000, &BYTES)
+}
+
+static HALF: [Step; 8] = [
+    Comes(b"GET /half"),
+    Turns(1_000, 3),
+    Turns(30_999, 3),
+    Sees(0, 1),
+    Turns(31_249, 3),
+    Sees(1, 0),
+    SeesRequest(b"GET /half"),
+    Gets(0, b""),
+];
+
+#[test]
+fn a_request_has_30_seconds_to_be_whole(rt: HostRuntime) -> Result<(), Fail> {
+    play(&rt, "hub_examples.half", 1_000, &HALF)
+}
+
+static UNREAD: [Step; 7] = [
+    Large(12_000_000),
+    Comes(LARGE),
+    Turns(20_000, 6),
+    Turns(49_999, 6),
+    Sees(1, 1),
+    Turns(50_249, 3),
+    Sees(1, 0),
+];
+
+#[test]
+fn an_answer_has_30_seconds_to_be_taken(rt: HostRuntime) -> Result<(), Fail> {
+    play(&rt, "hub_examples.unread", 1_000, &UNREAD)
+}
+
+static FOLLOWED: [Step; 9] = [
+    Comes(b"GARBAGE\r\n\r\n"),
+    Turns(5_000, 3),
+    Gets(0, b"answer GARBAGE\r\n\r\n"),
+    Sees(1, 1),
+    Sends(0, b"more"),
+    Turns(5_900, 2),
+    Sees(1, 1),
+    Turns(6_250, 2),
+    Sees(1, 0),
+];
+
+#[test]
+fn what_follows_a_request_is_dropped_for_a_second(rt: HostRuntime) -> Result<(), Fail> {
+    play(&rt, "hub_examples.followed", 1_000, &FOLLOWED)
+}
+
+static OLDEST: [Step; 11] = [
+    Comes(b"GET /first"),
+    Turns(0, 2),
+    Comes(b"GET /second"),
+    Turns(0, 2),
+    Comes(REQUEST),
+    Turns(0, 4),
+    Sees(2, 1),
+    Gets(2, ANSWER),
+    Sends(1, b" HTTP/1.1\r\n\r\n"),
+    Turns(0, 3),
+    Gets(1, b"answer GET /second HTTP/1.1\r\n\r\n"),
+];
+
+#[test]
+fn where_all_places_are_taken_the_oldest_is_let_go(rt: HostRuntime) -> Result<(), Fail> {
+    play(&rt, "hub_examples.oldest", 2, &OLDEST)
+}
+
+static ANSWERED_FIRST: [Step; 12] = [
+    Comes(b"GET /first"),
+    Turns(0, 2),
+    Comes(b"GARBAGE\r\n\r\n"),
+    Turns(0, 3),
+    Sees(1, 2),
+    Comes(REQUEST),
+    Turns(0, 4),
+    Sees(2, 1),
+    Gets(2, ANSWER),
+    Sends(0, b" HTTP/1.1\r\n\r\n"),
+    Turns(0, 3),
+    Gets(0, b"answer GET /first HTTP/1.1\r\n\r\n"),
+];
+
+#[test]
+fn who_has_its_answer_is_let_go_before_the_oldest(rt: HostRuntime) -> Result<(), Fail> {
+    play(&rt, "hub_examples.answered", 2, &ANSWERED_FIRST)
+}
+
+static SO_MANY: [Step; 8] = [
+    Comes(REQUEST),
+    Comes(REQUEST),
+    Comes(REQUEST),
+    Opens(b"line\n"),
+    Serves(2),
+    Sees(2, 0),
+    Gets(0, ANSWER),
+    Gets(1, ANSWER),
+];
+
+#[test]
+fn so_many_are_served_and_no_more(rt: HostRuntime) -> Result<(), Fail> {
+    play(&rt, "hub_examples.many", 1_000, &SO_MANY)
+}
+
+static TAKEN: [Step; 9] = [
+    Large(12_000_000),
+    Comes(LARGE),
+    Turns(0, 20),
+    Sees(1, 1),
+    Comes(REQUEST),
+    Turns(0, 3),
+    Gets(1, ANSWER),
+    Takes(12_000_030),
+    Sees(2, 0),
+];
+
+#[test]
+fn a_large_answer_is_sent_as_its_peer_takes_it(rt: HostRuntime) -> Result<(), Fail> {
+    play(&rt, "hub_examples.taken", 1_000, &TAKEN)
+}
+
+/// The second answer fits beside the first; the third, which is too long alone, makes both go.
+static WAITING: [Step; 12] = [
+    Large(5_000_000),
+    Comes(LARGE),
+    Turns(0, 3),
+    Sees(1, 1),
+    Large(40_000_000),
+    Comes(LARGE),
+    Turns(0, 3),
+    Sees(2, 2),
+    Large(70_000_000),
+    Comes(LARGE),
+    Turns(0, 3),
+    Sees(3, 1),
+];
+
+#[test]
+fn answers_that_wait_hold_64_mib_together(rt: HostRuntime) -> Result<(), Fail> {
+    play(&rt, "hub_examples.waiting", 1_000, &WAITING)
+}
