@@ -6,6 +6,8 @@
 #
 # Usage, from the repository's root: tools/desk-open.sh [PORT]. It works in a new folder and prints a line for each check; exit status 1 where one fails.
 set -euo pipefail
+# shellcheck source=tools/checks.sh
+. tools/checks.sh
 desk="$(pwd)/desk"
 words="$(pwd)/examples/issuer-words.sh"
 peers="$(pwd)/tools/desk-peers.py"
@@ -24,25 +26,7 @@ trap cleanup EXIT
 cd "$work"
 port=${1:-8117}
 url="http://127.0.0.1:$port"
-failed=0
 
-same() {
-    if [ "$2" = "$3" ]; then
-        echo "ok: $1"
-    else
-        echo "FAILED: $1: wanted '$3', got '$2'"
-        failed=1
-    fi
-}
-has() {
-    case "$2" in
-    *"$3"*) echo "ok: $1" ;;
-    *)
-        echo "FAILED: $1: '$3' is not in '$2'"
-        failed=1
-        ;;
-    esac
-}
 moment() { date -u -d "$1" +%Y-%m-%dT%H:%M:%SZ; }
 status() { curl -s -o body -w '%{http_code}' "$@"; }
 asked() { openssl ocsp -issuer ca.pem -serial "$1" -url "$url/ocsp" -noverify 2>&1; }

@@ -5,6 +5,8 @@
 # follow a key nor a key a digest.
 # Run it from the repository's root; it works in a new folder and prints a line for each check. Exit status 1 where one fails.
 set -euo pipefail
+# shellcheck source=tools/checks.sh
+. tools/checks.sh
 desk="$(pwd)/desk"
 words="$(pwd)/examples/issuer-words.sh"
 signer="$(pwd)/examples/signer.py"
@@ -22,25 +24,7 @@ trap cleanup EXIT
 cd "$work"
 port=${1:-8087}
 url="http://127.0.0.1:$port"
-failed=0
 
-same() {
-    if [ "$2" = "$3" ]; then
-        echo "ok: $1"
-    else
-        echo "FAILED: $1: wanted '$3', got '$2'"
-        failed=1
-    fi
-}
-has() {
-    case "$2" in
-    *"$3"*) echo "ok: $1" ;;
-    *)
-        echo "FAILED: $1: '$3' is not in '$2'"
-        failed=1
-        ;;
-    esac
-}
 status() { curl -s -o body -w '%{http_code}' "$@"; }
 
 openssl req -x509 -newkey ec -pkeyopt ec_paramgen_curve:P-256 -nodes -keyout ca.key -out ca.pem -subj /CN=T -days 3650 2>/dev/null
@@ -48,7 +32,9 @@ openssl req -x509 -newkey ec -pkeyopt ec_paramgen_curve:P-256 -nodes -keyout ca.
 "$desk" init ca.db $("$words" ca.pem) >/dev/null
 now=$(date -u +%Y-%m-%dT%H:%M:%SZ)
 end=$(date -u -d '+90 days' +%Y-%m-%dT%H:%M:%SZ)
-"$desk" script ca.db >/dev/null <<LINES
+# The first day of each register: 05 is revoked and listed on a CRL, 06 is good.
+first_day() {
+    cat <<LINES
 $now subscriber acme
 $now order 1 398
 $now order 1 398
@@ -58,6 +44,8 @@ $now request 05 key-compromise
 $now revoke 1
 $now crl
 LINES
+}
+first_day | "$desk" script ca.db >/dev/null
 
 # Serves so many connections, with further words, and waits until the port is told.
 serve() {
@@ -192,16 +180,7 @@ signed_register() {
     done
     # shellcheck disable=SC2046 # the words are meant to be split
     "$desk" init ca.db $("$words" ca.pem) >/dev/null
-    "$desk" script ca.db --signer ca.sign --algorithm "$name" >replies <<LINES
-$now subscriber acme
-$now order 1 398
-$now order 1 398
-$now register 1 05 $now $end
-$now register 2 06 $now $end
-$now request 05 key-compromise
-$now revoke 1
-$now crl
-LINES
+    first_day | "$desk" script ca.db --signer ca.sign --algorithm "$name" >replies
 }
 
 # What openssl says of the answers, which it verifies.

@@ -6,6 +6,8 @@
 # Usage, from the repository's root: tools/nginx-check.sh [PORT]   (eight ports from 8101 on). Prints a line for each check; exit status 1
 # where one fails. Debian has what it needs in nginx-light, openssl, curl and wrk.
 set -euo pipefail
+# shellcheck source=tools/checks.sh
+. tools/checks.sh
 PATH=$PATH:/usr/sbin
 for tool in nginx openssl curl; do
     command -v "$tool" >/dev/null || { echo "skipped: there is no $tool"; exit 0; }
@@ -21,22 +23,8 @@ cleanup() {
     rm -rf "$work"
 }
 trap cleanup EXIT
-failed=0
 kept=3
 
-same() {
-    if [ "$2" = "$3" ]; then echo "ok: $1"; else
-        echo "FAILED: $1: wanted '$3', got '$2'"
-        failed=1
-    fi
-}
-has() {
-    case "$2" in *"$3"*) echo "ok: $1" ;; *)
-        echo "FAILED: $1: '$3' is not in '$2'"
-        failed=1
-        ;;
-    esac
-}
 now() { date -u +%Y-%m-%dT%H:%M:%SZ; }
 say() { while read -r line; do echo "$(now) $line"; done | "$desk" script "$work/ca.db"; }
 code() { curl -s -o "$work/body" -w '%{http_code}' "$@"; }

@@ -7,6 +7,8 @@
 # Usage, from the repository's root, as root: tools/package-check.sh [FOLDER]. Prints a line for each check; exit status 1 where one fails. Debian
 # has what it needs in debootstrap, lintian, man-db, bash-completion, systemd, systemd-container, curl, openssl.
 set -euo pipefail
+# shellcheck source=tools/checks.sh
+. tools/checks.sh
 [ "$(id -u)" = 0 ] || { echo "skipped: it makes a root of Debian, and is for root"; exit 0; }
 for tool in debootstrap openssl curl man; do
     command -v "$tool" >/dev/null || { echo "skipped: there is no $tool"; exit 0; }
@@ -23,20 +25,6 @@ cleanup() {
     rm -rf "$work"
 }
 trap cleanup EXIT
-failed=0
-same() {
-    if [ "$2" = "$3" ]; then echo "ok: $1"; else
-        echo "FAILED: $1: wanted '$3', got '$2'"
-        failed=1
-    fi
-}
-has() {
-    case "$2" in *"$3"*) echo "ok: $1" ;; *)
-        echo "FAILED: $1: '$3' is not in '$2'"
-        failed=1
-        ;;
-    esac
-}
 # A program in the root, with a /proc of its own.
 inside() { (exec unshare --mount bash -c 'mount -t proc proc "$0/proc"; exec chroot "$0" "$@"' "$root" "$@"); }
 # The same as the user who owns the registers.
