@@ -1,7 +1,8 @@
 #!/bin/sh
 # OCSP answers a second over a register of so many certificates (100,000 unless a number is given), one connection each:
-# `desk open` beside `openssl ocsp -port` with a P-256 issuer, asked the same requests by the same client, in turns; by one client, by 32 at once, and
-# beside 200 silent peers, with the latency of the median and of one in a hundred. Then commands a second at the desk's counter, beside `desk script`.
+# `desk open` beside `openssl ocsp -port` with a P-256 issuer, asked the same requests by the same client, in turns; by one client and by 32 at once,
+# for eight certificates and for 4,096, and beside 200 silent peers, with the latency of the median and of one in a hundred. Then commands a second at
+# the desk's counter, beside `desk script`.
 # The desk seals with a digest, which costs next to nothing and is no signature; with --signed as the first word it signs with the same
 # P-256 key as openssl, which examples/signer.py holds.
 # Run it from the repository's root; needs openssl and python3, for --signed also python3's package cryptography.

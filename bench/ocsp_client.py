@@ -1,5 +1,6 @@
 #!/usr/bin/env python3
 """The inputs and the client of bench/ocsp.sh: orders, rows and index write them, ask and commands measure."""
+import collections
 import multiprocessing
 import socket
 import subprocess
@@ -9,7 +10,9 @@ import time
 FIRST = 0x1000
 ROUNDS = 5
 AT_ONCE = 32
+PROCESSES = 4
 SILENT = 200
+OTHERS = 4096
 
 
 def orders(count, now):
@@ -29,42 +32,64 @@ def index(count, end):
         print(f"V\t{end}\t\t{FIRST + at:06X}\tunknown\t/CN=c{at}")
 
 
-def asked(port, request):
-    """The answer's bytes after its head, over a connection of its own."""
-    with socket.create_connection(("127.0.0.1", port)) as peer:
-        head = f"POST /ocsp HTTP/1.0\r\nContent-Type: application/ocsp-request\r\nContent-Length: {len(request)}\r\n\r\n"
-        peer.sendall(head.encode() + request)
-        answer = b""
-        while part := peer.recv(65536):
-            answer += part
-    return answer.partition(b"\r\n\r\n")[2]
+def whole(request):
+    """A whole HTTP request that carries an OCSP request (RFC 6960 A.1)."""
+    head = f"POST /ocsp HTTP/1.0\r\nContent-Type: application/ocsp-request\r\nContent-Length: {len(request)}\r\n\r\n"
+    return head.encode() + request
 
 
-def is_answer(answer):
-    """A successful response begins with the status 0 (RFC 6960 4.2.1)."""
-    return b"\x0a\x01\x00" in answer[:12]
+def ask_one(address, request):
+    """Asks over a connection of its own, which the answer will come on."""
+    peer = socket.SocketType(socket.AF_INET, socket.SOCK_STREAM)
+    peer.connect(address)
+    peer.sendall(request)
+    return peer
 
 
-def one_client(port, requests, count, ready, told):
-    """Asks so often, once all clients are there, and tells when it began, when it ended and how long each answer took."""
+def is_answered(peer, room, view):
+    """Reads to the end, and tells whether a successful response came (RFC 6960 4.2.1)."""
+    length = 0
+    while part := peer.recv_into(view[length:]):
+        length += part
+    peer.close()
+    body = room.find(b"\r\n\r\n", 0, length) + 4
+    return room.find(b"\x0a\x01\x00", body, min(body + 12, length)) > 0
+
+
+def one_client(port, requests, count, at_once, ready, told):
+    """Asks so often, so many at once, once all clients are there: who asked first is heard first, and asks again. Tells when it
+    began, when it ended and how long each answer took."""
+    address = ("127.0.0.1", port)
+    room = bytearray(65536)
+    view = memoryview(room)
+    asked = collections.deque()
     took = []
     ready.wait()
-    began = before = time.perf_counter()
-    for at in range(count):
-        if not is_answer(asked(port, requests[at % len(requests)])):
-            raise SystemExit(f"no answer at {port}")
-        now = time.perf_counter()
-        took.append(now - before)
-        before = now
-    told.send((began, before, took))
+    began = now = time.perf_counter()
+    for at in range(count + at_once):
+        if at >= at_once:
+            peer, before = asked.popleft()
+            if not is_answered(peer, room, view):
+                raise SystemExit(f"no answer at {port}")
+            now = time.perf_counter()
+            took.append(now - before)
+        if at < count:
+            asked.append((ask_one(address, requests[at % len(requests)]), now))
+    told.send((began, now, took))
 
 
 def clients(port, requests, count, at_once):
-    """Answers a second, and how long each took, of so many clients at once; each is a process of its own."""
+    """Answers a second, and how long each took, of so many connections at once, spread over a few processes."""
     fork = multiprocessing.get_context("fork")
-    ready = fork.Barrier(at_once)
-    pipes = [fork.Pipe(duplex=False) for _ in range(at_once)]
-    running = [fork.Process(target=one_client, args=(port, requests, count // at_once, ready, there)) for _, there in pipes]
+    processes = min(at_once, PROCESSES)
+    ready = fork.Barrier(processes)
+    pipes = [fork.Pipe(duplex=False) for _ in range(processes)]
+    # Each begins elsewhere, so that no two ask for the same certificate together where there are many.
+    parts = [len(requests) * at // processes for at in range(processes)]
+    running = [
+        fork.Process(target=one_client, args=(port, requests[part:] + requests[:part], count // processes, at_once // processes, ready, there))
+        for part, (_, there) in zip(parts, pipes)
+    ]
     for client in running:
         client.start()
     told = [here.recv() for here, _ in pipes]
@@ -77,14 +102,14 @@ def clients(port, requests, count, at_once):
 class Measure:
     """The best of some rounds, and the latencies of all."""
 
-    def __init__(self, port, at_once, silent):
-        self.port, self.at_once, self.silent = port, at_once, silent
+    def __init__(self, port, requests, at_once, silent):
+        self.port, self.requests, self.at_once, self.silent = port, requests, at_once, silent
         self.best = 0.0
         self.took = []
 
-    def round(self, requests, count):
+    def round(self, count):
         held = [socket.create_connection(("127.0.0.1", self.port)) for _ in range(self.silent)]
-        rate, took = clients(self.port, requests, count, self.at_once)
+        rate, took = clients(self.port, self.requests, count, self.at_once)
         for peer in held:
             peer.close()
         self.best = max(self.best, rate)
@@ -95,19 +120,32 @@ class Measure:
         return f"{self.best:,.0f} | {took[len(took) // 2] * 1e6:,.0f} µs | {took[len(took) * 99 // 100] * 1e6:,.0f} µs"
 
 
+def others(request):
+    """The request for one certificate, for each of so many: it ends with the serial number (RFC 6960 4.1.1)."""
+    return [request[:-2] + (FIRST + at).to_bytes(2, "big") for at in range(OTHERS)]
+
+
 def ask(count, theirs, ours, files):
-    requests = [open(name, "rb").read() for name in files]
+    few = [open(name, "rb").read() for name in files]
+    many = [whole(request) for request in others(few[0])]
+    few = [whole(request) for request in few]
     # Each silent peer would hold openssl for good.
-    rows_of = [(f"{name}{beside}", [Measure(port, at_once, silent) for port in ports])
-               for beside, silent, ports in [("", 0, (theirs, ours)), (f", {SILENT} silent peers", SILENT, (ours,))]
+    kinds = [
+        ("", few, 0, (theirs, ours)),
+        (f", {OTHERS:,} certificates", many, 0, (theirs, ours)),
+        (f", {SILENT} silent peers", few, SILENT, (ours,)),
+    ]
+    rows_of = [(f"{name}{beside}", [Measure(port, requests, at_once, silent) for port in ports])
+               for beside, requests, silent, ports in kinds
                for name, at_once in [("one client in turn", 1), (f"{AT_ONCE} at once", AT_ONCE)]]
     for _ in range(ROUNDS):
         for _, measures in rows_of:
             for measure in measures:
-                measure.round(requests, count)
+                measure.round(count)
     print("| Asked by | Who answers | Answers a second | Median | One in a hundred is slower | Ratio |\n|---|---|---|---|---|---|")
-    base = {measures[0].at_once: measures[0].best for _, measures in rows_of if len(measures) == 2}
+    first = {measures[0].at_once: measures[0].best for name, measures in rows_of[:2]}
     for name, measures in rows_of:
+        base = {measures[0].at_once: measures[0].best} if len(measures) == 2 else first
         for measure in measures:
             who = "`desk open`" if measure.port == ours else "`openssl ocsp -port`"
             print(f"| {name} | {who} | {measure.texts()} | {measure.best / base[measure.at_once]:.2f} |")

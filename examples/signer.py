@@ -18,14 +18,15 @@ It wants the package `cryptography` (Debian: python3-cryptography).
 import os
 import signal
 import socket
+import struct
 import sys
 
 from cryptography.hazmat.primitives import hashes
 from cryptography.hazmat.primitives.asymmetric import ec, ed25519, padding, rsa
 from cryptography.hazmat.primitives.serialization import load_pem_private_key
 
-# How many seconds one connection may take, as long as the desk waits.
-PATIENCE = 10
+# How long a read may wait, as long as the desk waits: a `struct timeval` of ten seconds.
+PATIENCE = struct.pack("ll", 10, 0)
 # The longest message: the desk signs CRLs of 2^27 bytes at most.
 LONGEST = 1 << 27
 
@@ -37,7 +38,8 @@ def signer_of(key):
         if key.curve.name not in pairs:
             sys.exit(f"no algorithm for the curve {key.curve.name}")
         name, digest = pairs[key.curve.name]
-        return name, lambda message: key.sign(message, ec.ECDSA(digest))
+        algorithm = ec.ECDSA(digest)
+        return name, lambda message: key.sign(message, algorithm)
     if isinstance(key, rsa.RSAPrivateKey):
         return "rsa-sha256", lambda message: key.sign(message, padding.PKCS1v15(), hashes.SHA256())
     if isinstance(key, ed25519.Ed25519PrivateKey):
@@ -45,27 +47,29 @@ def signer_of(key):
     sys.exit(f"no algorithm for a key of the kind {type(key).__name__}")
 
 
-def message_of(connection):
-    """All that the peer writes, up to its end; nothing where that is too long."""
-    parts, length = [], 0
-    while part := connection.recv(1 << 20):
+def message_of(connection, room):
+    """All that the peer writes, up to its end; nothing where that is too long. Most messages are taken by one call."""
+    length = connection.recv_into(room, 0, socket.MSG_WAITALL)
+    parts = [room[:length]]
+    while part := connection.recv(len(room)):
         parts.append(part)
         length += len(part)
         if length > LONGEST:
             return None
-    return b"".join(parts)
+    return parts[0] if len(parts) == 1 else b"".join(parts)
 
 
-def answer(connection, sign):
+def answer(connection, sign, room):
     """One message, and its signature. A peer that fails costs no more than its own connection."""
-    with connection:
-        connection.settimeout(PATIENCE)
-        try:
-            message = message_of(connection)
-            if message is not None:
-                connection.sendall(sign(message))
-        except OSError as error:
-            print(f"a connection failed: {error}", file=sys.stderr)
+    try:
+        connection.setsockopt(socket.SOL_SOCKET, socket.SO_RCVTIMEO, PATIENCE)
+        message = message_of(connection, room)
+        if message is not None:
+            connection.sendall(sign(message))
+    except OSError as error:
+        print(f"a connection failed: {error}", file=sys.stderr)
+    finally:
+        connection.close()
 
 
 def listen(path):
@@ -95,10 +99,11 @@ def main():
     for ending in (signal.SIGTERM, signal.SIGINT):
         signal.signal(ending, lambda *_: sys.exit(0))
     print(f"{name} at {sys.argv[2]}", flush=True)
+    room = memoryview(bytearray(65536))
     try:
         while True:
             connection, _ = listener.accept()
-            answer(connection, sign)
+            answer(connection, sign, room)
     finally:
         os.remove(sys.argv[2])
 

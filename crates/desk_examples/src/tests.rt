@@ -1,9 +1,11 @@
 //! Jobs, done one after the other.
 
+mod days;
+
 use reg_core::Moment;
 use reg_program::perform;
 use reg_signer::Algorithm;
-use reg_words::{Job, KeyHolder, Steps, Word};
+use reg_words::{Job, KeyHolder, Steps, Way, Word};
 use std::io::Write;
 use std::os::unix::fs::{MetadataExt, symlink};
 use std::test::Fail;
@@ -272,6 +274,42 @@ fn a_register_goes_on_in_its_file(rt: HostRuntime) -> Result<(), Fail> {
     assert!(rt; has_no_crl_and_sets_a_schedule(&rt, steps));
     drop(fs::remove_file(&rt, FILE));
     drop(fs::remove_file(&rt, LOG));
+    Ok(())
+}
+
+/// A script whose second line is refused, and the replies of one that ends there.
+static STRICT: (&[u8], &[u8]) = (
+    b"2026-01-01T00:00:00Z subscriber acme\n2026-01-01T00:00:00Z order 2 398\n2026-01-01T00:00:00Z subscriber other\n",
+    b"subscriber 1\nE06 no-subscriber\n",
+);
+
+/// A script that goes on where that one ended, with a last line that has no end, and the replies.
+static STRICT_AGAIN: (&[u8], &[u8]) = (
+    b"2026-01-01T00:00:00Z subscriber other\r\n2026-01-01T00:00:00Z counts",
+    b"subscriber 2\ngood 0 revoked 0 expired 0\n",
+);
+
+#[test]
+fn a_strict_script_ends_at_the_first_refusal(rt: HostRuntime) -> Result<(), Fail> {
+    let file = "desk_examples_strict.db";
+    drop(fs::remove_file(&rt, file));
+    assert!(rt; wrote(&done(&rt, &init(file, NAME, 398), b""), b"created\n"));
+    let strict = Job::Lines {
+        file: Word::of(file),
+        signer: None,
+        way: Way {
+            is_clocked: false,
+            is_strict: true,
+        },
+    };
+    let ended = done(&rt, &strict, STRICT.0);
+    assert!(rt; ended.status == 3 && ended.output.as_slice() == STRICT.1);
+    assert!(rt; ended.errors.as_slice() == b"refused\n".as_slice());
+    assert!(rt; wrote(&done(&rt, &strict, STRICT_AGAIN.0), STRICT_AGAIN.1));
+    let long = vec![in rt.alloc(); b'x'; 8_193]?;
+    assert!(rt; told(&done(&rt, &strict, &long), b"F4 read\n"));
+    drop(fs::remove_file(&rt, file));
+    drop(fs::remove_file(&rt, "desk_examples_strict.db-wal"));
     Ok(())
 }
 

@@ -1,5 +1,5 @@
 -- What an UPDATE and an INSERT make of the rows of a table, over any schema.
-use Rattle.std.proofs.Common.{◌≡◌, ◌≢◌, ◌⊎◌, ◌-◌, ◌/◌, ℕ, ℤ, Bool, true, false, cond, List, [], ◌∷◌, map, drop, length, filter, slice_get, unwrap_or, Option, Some, None, Result, Ok, Err, refl, sym, ap, ap₂, subst, ◌∙◌, inl, inr}
+use Rattle.std.proofs.Common.{◌≡◌, ◌≢◌, ◌⊎◌, ◌/◌, ℕ, ℤ, Bool, true, false, cond, List, [], ◌∷◌, map, drop, length, filter, slice_get, unwrap_or, Option, Some, None, Result, Ok, Err, refl, sym, ap, ap₂, subst, ◌∙◌, inl, inr}
 use Rattle.std.specs.List.{AllByRecursion}
 use Rattle.std.specs.Prelude.{MatchBool}
 use Rattle.std.specs.List.Sorted.{IsPermutation}

@@ -1,5 +1,5 @@
 -- What is kept beside the records stands for them after each change.
-use Rattle.std.proofs.Common.{◌≡◌, ◌+◌, ◌-◌, ◌≤◌, ℕ, Bool, true, false, cond, ◌&&◌, ◌==◌, [], ◌∷◌, ◌++◌, map, length, Option, Some, None, option_map, unwrap_or, refl, sym, ap, ap₂, subst, ◌∙◌, inl, inr, arith}
+use Rattle.std.proofs.Common.{◌≡◌, ◌≤◌, ℕ, Bool, true, false, cond, ◌&&◌, ◌==◌, [], ◌∷◌, ◌++◌, map, length, Option, Some, None, option_map, unwrap_or, refl, sym, ap, ap₂, subst, ◌∙◌, inl, inr, arith}
 use Rattle.std.specs.Prelude.{nat_lt, nat_le}
 use Rattle.std.specs.List.{AllByRecursion}
 use Rattle.std.specs.List.Sorted.{IsPermutation}
@@ -9,11 +9,13 @@ use Rattle.std.proofs.lemmas.List.{map-append, length-map}
 use Rattle.std.proofs.lemmas.List.Sorted.{IsPermutation-map, IsPermutation-append, IsPermutation-refl, length_permutation}
 use Rattle.sqlite_trees.proofs.ListLemmas.{map-map, filter-map, IsPermutation-filter}
 use Rattle.reg_laws.proofs.CountFacts.{same_length, one_has}
-use Rattle.reg_core.specs.Changes.{touched, with_subscriber, with_order, with_certificate, with_request, with_declined, with_revocation, with_crl}
+use Rattle.reg_core.specs.Changes.{Fits, changed_by, touched, with_subscriber, with_order, with_certificate, with_request, with_declined, with_revocation, with_crl}
 use Rattle.reg_core.specs.Crls.{last_listing, is_past_end, is_past_on, next_number}
 use Rattle.reg_core.specs.Records.{Records, Crl, certificate_in, revocation_in}
 use Rattle.reg_core.specs.Sound.{SoundRows, SoundRevocation}
 use Rattle.reg_core.specs.Status.{status_by, counts}
+use Rattle.reg_core.specs.declared.change.Change.{Change}
+use Rattle.reg_core.specs.declared.change.Change.TheVariants.{Touch, Subscriber, Order, Certificate, Request, Decline, Revocation, Crl as NewCrl}
 use Rattle.reg_core.specs.declared.command.Counts.{Counts}
 use Rattle.reg_core.specs.declared.command.Status.{Status}
 use Rattle.reg_core.specs.declared.command.Status.TheVariants.{Good, Expired, Revoked}
@@ -24,7 +26,8 @@ use Rattle.reg_tables.specs.Kept.{letter_of, standing_of, not_after_of, listed_o
 use Rattle.reg_laws.proofs.Lists.{all_push, all_weaker, all_join, find_none, find_front, find_back, find_past, some_and_of}
 use Rattle.reg_laws.proofs.Listed.{past_end_is}
 use Rattle.reg_laws.proofs.Listings.{last_stays, last_added, first_by_next, last_new, last_kept}
-use Rattle.reg_changes.specs.Steps.{turned, lettered, swept, ended_by, is_good_at, good_at, revoked_at, has_passed, last_at, with_good, shifted, after_time, after_certificate, after_revocation, after_crl}
+use Rattle.reg_changes.specs.Steps.{turned, lettered, swept, ended_by, is_good_at, good_at, revoked_at, has_passed, last_at, with_good, marked, with_counts, shifted}
+use Rattle.reg_changes.specs.Beside.{after, end_by}
 use Rattle.reg_changes.proofs.Letters.{letter_counts, counts_swept, counts_good, counts_revoked, ended_enough, map_same, found_each, counts_stand}
 
 -- ---- time passes
@@ -81,20 +84,20 @@ module _ (records : Records) (columns : Columns) (now : ℕ) (sound : SoundRows 
   moved_stand : shifted columns.counts (ended_by now columns) 0 0 ≡ counts (touched records now) now
   moved_stand = moved ∙ counts_stand (touched records now) (found_each records sound) (swept now columns).letters passed
 
-  pub kept_touched : Kept (after_time now columns) (touched records now)
-  kept_touched = record { letters = passed; counts = moved_stand; listed = kept.listed }
+  kept_touched : (end : ℕ) → Kept (after now Touch end columns) (touched records now)
+  kept_touched end = record { letters = passed; counts = moved_stand; listed = kept.listed }
 
-  pub kept_subscriber : (row : _) → Kept (after_time now columns) (with_subscriber records now row)
-  kept_subscriber row = record { letters = passed; counts = moved_stand; listed = kept.listed }
+  kept_subscriber : (row : _) (end : ℕ) → Kept (after now (Subscriber row) end columns) (with_subscriber records now row)
+  kept_subscriber row end = record { letters = passed; counts = moved_stand; listed = kept.listed }
 
-  pub kept_order : (row : _) → Kept (after_time now columns) (with_order records now row)
-  kept_order row = record { letters = passed; counts = moved_stand; listed = kept.listed }
+  kept_order : (row : _) (end : ℕ) → Kept (after now (Order row) end columns) (with_order records now row)
+  kept_order row end = record { letters = passed; counts = moved_stand; listed = kept.listed }
 
-  pub kept_request : (row : _) → Kept (after_time now columns) (with_request records now row)
-  kept_request row = record { letters = passed; counts = moved_stand; listed = kept.listed }
+  kept_request : (row : _) (end : ℕ) → Kept (after now (Request row) end columns) (with_request records now row)
+  kept_request row end = record { letters = passed; counts = moved_stand; listed = kept.listed }
 
-  pub kept_declined : (id : ℕ) → Kept (after_time now columns) (with_declined records now id)
-  kept_declined id = record { letters = passed; counts = moved_stand; listed = kept.listed }
+  kept_declined : (id end : ℕ) → Kept (after now (Decline id) end columns) (with_declined records now id)
+  kept_declined id end = record { letters = passed; counts = moved_stand; listed = kept.listed }
 
 -- ---- one certificate more
 
@@ -164,8 +167,8 @@ module _ (records : Records) (columns : Columns) (now : ℕ) (sound : SoundRows 
       λ i. record { serial = r.serial; at = r.at; reason = r.reason; first = r.first; not_after = ends i; last = lasts i })
       records.revocations sound.revocations.each (last_kept records now row sound))
 
-  pub kept_certificate : Kept (after_certificate now row columns) (with_certificate records now row)
-  kept_certificate = record {
+  kept_certificate : (end : ℕ) → Kept (after now (Certificate row) end columns) (with_certificate records now row)
+  kept_certificate end = record {
     letters = letters_grown;
     counts = counts_good (ended_by now columns) row.serial row.not_after columns.counts (swept now columns).letters (moved records columns now sound up kept) (enough records columns now sound up kept)
         ∙ counts_stand later found_all (with_good row.serial row.not_after (swept now columns)).letters letters_grown;
@@ -249,7 +252,7 @@ module _ (records : Records) (columns : Columns) (now : ℕ) (sound : SoundRows 
       (all_weaker (λ (c : CertRow). certificate_in records.certificates c.serial ≡ Some c) (λ (c : CertRow). is_good_at row.serial (standing_of (touched records now) c) ≡ (c.serial == row.serial)) good_here records.certificates (found_each records sound))
       ∙ one_has (λ (c : CertRow). c.serial) row.serial records.certificates certificate sound.certificates.serials_differ found
 
-  pub kept_revocation : row.first ≡ next_number records.crls → Kept (after_revocation now row certificate.not_after columns) (with_revocation records now row)
+  kept_revocation : row.first ≡ next_number records.crls → Kept (after now (Revocation row) certificate.not_after columns) (with_revocation records now row)
   kept_revocation next = record {
     letters = letters_lost;
     counts = counts_revoked (ended_by now columns) row.serial columns.counts (swept now columns).letters (moved records columns now sound up kept) good_once (enough records columns now sound up kept)
@@ -303,10 +306,28 @@ module _ (records : Records) (columns : Columns) (now : ℕ) (sound : SoundRows 
       (all_join (SoundRevocation records.last records.certificates records.requests records.crls) (λ (r : RevocationRow). r.first ≤ next_number records.crls)
       (λ (r : RevocationRow). turned (has_passed crl.this_update) (last_at crl.number) (listed_of records r) ≡ listed_of (with_crl records now crl) r) listed_on records.revocations sound.revocations.each (first_by_next records sound))
 
-  pub kept_crl : Kept (after_crl now (record { number = crl.number; this_update = crl.this_update }) columns) (with_crl records now crl)
+  kept_crl : Kept (with_counts (shifted columns.counts (ended_by now columns) 0 0) (marked crl.number crl.this_update (swept now columns))) (with_crl records now crl)
   kept_crl = record {
     letters = passed records columns now sound up kept;
     counts = moved_stand records columns now sound up kept;
     listed = subst (λ those. IsPermutation those (map (turned (has_passed crl.this_update) (last_at crl.number)) columns.listed)) all_listed_on
         (IsPermutation-map (turned (has_passed crl.this_update) (last_at crl.number)) (map (listed_of records) records.revocations) columns.listed kept.listed);
   }
+
+-- ---- each change
+
+pub kept_change : (records : Records) (columns : Columns) (now : ℕ) → SoundRows records → records.last ≤ now → Kept columns records → (change : Change) → Fits records now change
+    → Kept (after now change (end_by records now change) columns) (changed_by records now change)
+kept_change records columns now sound up kept Touch fits = kept_touched records columns now sound up kept now
+kept_change records columns now sound up kept (Subscriber row) fits = kept_subscriber records columns now sound up kept row now
+kept_change records columns now sound up kept (Order row) fits = kept_order records columns now sound up kept row now
+kept_change records columns now sound up kept (Certificate row) fits = kept_certificate records columns now sound up kept row fits.0 fits.1 now
+kept_change records columns now sound up kept (Request row) fits = kept_request records columns now sound up kept row now
+kept_change records columns now sound up kept (Decline id) fits = kept_declined records columns now sound up kept id now
+kept_change records columns now sound up kept (Revocation row) fits =
+    let known = some_and_of (λ certificate. now ≤ certificate.not_after) (certificate_in records.certificates row.serial) fits.1 in
+    let ends : known.0.not_after ≡ not_after_of records row.serial = ap (λ found. unwrap_or (option_map (λ (c : CertRow). c.not_after) found) 0) (sym known.1) in
+    subst (λ moment. Kept (after now (Revocation row) moment columns) (with_revocation records now row)) ends
+    (kept_revocation records columns now sound up kept row known.0 known.1 known.2 fits.0 fits.2)
+kept_change records columns now sound up kept (NewCrl row der) fits =
+    kept_crl records columns now sound up kept (record { number = row.number; this_update = row.this_update; bytes = der.now }) fits

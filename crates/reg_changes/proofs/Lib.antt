@@ -2,12 +2,14 @@ pub mod Committing
 pub mod Edits
 pub mod Law
 pub mod Letters
+pub mod Making
 pub mod Meaning
 pub mod Moving
 pub mod Params
 pub mod Placing
 pub mod Putting
 pub mod Registers
+pub mod Resting
 pub mod Spared
 pub mod Stages
 pub mod Sweeping

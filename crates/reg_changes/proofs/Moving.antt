@@ -22,6 +22,10 @@ moves_on a b c P Q first second = record {
   tables = second.tables;
 }
 
+-- after steps the transaction is under way
+pub moved_here : (a b : State) (P : Database → Type 0) → Moves a b P → Moves b b P
+moved_here a b P first = record { was_open = first.is_open; is_open = first.is_open; committed = refl; under_way = first.under_way; tables = first.tables }
+
 -- the disk was clean before, if it is after
 pub was_clean : (old new : State) → doubt old.is_clean ≤ doubt new.is_clean → HasCleanDisk new → HasCleanDisk old
 was_clean old new forgets clean = omega arith

@@ -1,5 +1,5 @@
 -- Tables that a statement does not write show what they showed.
-use Rattle.std.proofs.Common.{◌≡◌, ◌+◌, ℕ, false, ◌==◌, List, [], ◌∷◌, ◌++◌, map, refl, ◌∙◌}
+use Rattle.std.proofs.Common.{◌≡◌, ℕ, false, ◌==◌, List, [], ◌∷◌, ◌++◌, map, refl, ◌∙◌}
 use Rattle.sqlite_trees.specs.Tree.{Trees}
 use Rattle.reg_core.specs.Policy.{IsPolicy}
 use Rattle.reg_core.specs.Records.{Records, Crl}

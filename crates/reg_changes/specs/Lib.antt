@@ -1,3 +1,5 @@
+pub mod AtRest
+pub mod Beside
 pub mod Ran
 pub mod Staged
 pub mod Steps

@@ -1,8 +1,6 @@
 -- What the steps of a change make of what is kept beside the records.
 use Rattle.std.specs.Prelude.{ℕ, ◌+◌, ◌-◌, Bool, cond, ◌&&◌, ◌==◌, nat_lt, [], ◌∷◌, ◌++◌, map, filter, length, is_none, Some, None}
 use Rattle.reg_core.specs.declared.command.Counts.{Counts}
-use Rattle.reg_core.specs.declared.rows.CertRow.{CertRow}
-use Rattle.reg_core.specs.declared.rows.CrlRow.{CrlRow}
 use Rattle.reg_core.specs.declared.rows.RevocationRow.{RevocationRow}
 use Rattle.reg_tables.specs.Columns.{Letter, good, revoked, expired, is_good_letter, ends_before, Standing, Listed, Columns}
 
@@ -69,22 +67,3 @@ shifted counts ended lost added = record {
   revoked = counts.revoked + lost;
   expired = counts.expired + ended;
 }
-
--- what is kept once time has passed
-abbrev pub after_time : ℕ → Columns → Columns
-after_time now columns = with_counts (shifted columns.counts (ended_by now columns) 0 0) (swept now columns)
-
--- and one certificate is new
-abbrev pub after_certificate : ℕ → CertRow → Columns → Columns
-after_certificate now row columns =
-    with_counts (shifted columns.counts (ended_by now columns) 0 1) (with_good row.serial row.not_after (swept now columns))
-
--- and one is revoked
-abbrev pub after_revocation : ℕ → RevocationRow → ℕ → Columns → Columns
-after_revocation now row not_after columns =
-    with_counts (shifted columns.counts (ended_by now columns) 1 0) (with_unlisted row not_after (revoked_at row.serial (swept now columns)))
-
--- and one CRL is issued
-abbrev pub after_crl : ℕ → CrlRow → Columns → Columns
-after_crl now row columns =
-    with_counts (shifted columns.counts (ended_by now columns) 0 0) (swept now (marked row.number row.this_update columns))

@@ -1,16 +1,16 @@
 //! The schedule of longest validities, written anew.
 
-ghost use Rattle.std.specs.Prelude.{◌≡◌, ◌≤◌, ◌++◌, ◌∷◌, ℕ, List, [], true, false, IsTrue, OnOk, OnErr, IfErr};
+ghost use Rattle.std.specs.Prelude.{◌≡◌, ◌++◌, ◌∷◌, ℕ, List, [], true, false, IsTrue, OnOk, OnErr, IfErr};
 ghost use Rattle.sqlite.specs.Held.{state};
-ghost use Rattle.sqlite.specs.State.{HasCleanDisk, KeepsCommit};
+ghost use Rattle.sqlite.specs.State.{HasCleanDisk, KeepsCommit, Survives};
 ghost use Rattle.sqlite_trees.specs.Tree.{Trees};
-ghost use Rattle.sqlite_trees.specs.View.{doubt};
 ghost use Rattle.reg_core.specs.Records.{Records};
 ghost use Rattle.reg_core.specs.Changes.{with_schedule};
 ghost use Rattle.reg_core.specs.Schedule.{Ascends, IsSchedule};
 ghost use Rattle.reg_tables.specs.Kept.{ShowsKept};
 ghost use Rattle.reg_tables.specs.Shows.{Shows};
-ghost use Rattle.reg_tables.specs.Stays.{IsCallFault, Stays};
+ghost use Rattle.reg_tables.specs.Stays.{IsCallFault, LeavesNothing, Stays};
+ghost use Rattle.reg_changes.specs.AtRest.{IsScheduled};
 ghost use Rattle.reg_changes.specs.Staged.{IsStaged, AreBefore};
 
 use crate::texts;
@@ -27,7 +27,8 @@ fn clear_steps<S: Alter>(tx: &mut Transaction<'_, S>) -> Result<(), StoreFault>
         → OnOk result (IsStaged base [] (state S.Store tx.new.conn.now).now) }
     ensures kept { HasCleanDisk (state S.Store tx.new.conn.now) → KeepsCommit (state S.Store tx.old.conn.now) (state S.Store tx.new.conn.now) }
     ensures inside { HasCleanDisk (state S.Store tx.new.conn.now) → OnOk result (tx.new.conn.now.in_transaction ≡ true) }
-    ensures clean { doubt (state S.Store tx.old.conn.now).is_clean ≤ doubt (state S.Store tx.new.conn.now).is_clean }
+    ensures live { HasCleanDisk (state S.Store tx.new.conn.now) → OnOk result (IsTrue (state S.Store tx.new.conn.now).is_open) }
+    ensures survives { LeavesNothing (state S.Store tx.old.conn.now) (state S.Store tx.new.conn.now) }
     ensures faults { IfErr result IsCallFault }
 {
     write(tx, texts::CLEAR_STEPS, &[])?;
@@ -46,7 +47,8 @@ fn put_step<S: Alter>(
         → OnOk result (IsStaged base (steps ++ (from, days) ∷ []) (state S.Store tx.new.conn.now).now) }
     ensures kept { HasCleanDisk (state S.Store tx.new.conn.now) → KeepsCommit (state S.Store tx.old.conn.now) (state S.Store tx.new.conn.now) }
     ensures inside { HasCleanDisk (state S.Store tx.new.conn.now) → OnOk result (tx.new.conn.now.in_transaction ≡ true) }
-    ensures clean { doubt (state S.Store tx.old.conn.now).is_clean ≤ doubt (state S.Store tx.new.conn.now).is_clean }
+    ensures live { HasCleanDisk (state S.Store tx.new.conn.now) → OnOk result (IsTrue (state S.Store tx.new.conn.now).is_open) }
+    ensures survives { LeavesNothing (state S.Store tx.old.conn.now) (state S.Store tx.new.conn.now) }
     ensures faults { IfErr result IsCallFault }
 {
     let from = sql_moment(from);
@@ -69,7 +71,8 @@ pub fn put_steps<S: Alter>(
         → OnOk result (IsTrue (state S.Store tx.new.conn.now).is_open → IsStaged base steps.now (state S.Store tx.new.conn.now).now) }
     ensures kept { HasCleanDisk (state S.Store tx.new.conn.now) → KeepsCommit (state S.Store tx.old.conn.now) (state S.Store tx.new.conn.now) }
     ensures inside { HasCleanDisk (state S.Store tx.new.conn.now) → tx.old.conn.now.in_transaction ≡ true → OnOk result (tx.new.conn.now.in_transaction ≡ true) }
-    ensures clean { doubt (state S.Store tx.old.conn.now).is_clean ≤ doubt (state S.Store tx.new.conn.now).is_clean }
+    ensures live { HasCleanDisk (state S.Store tx.new.conn.now) → IsTrue (state S.Store tx.old.conn.now).is_open → OnOk result (IsTrue (state S.Store tx.new.conn.now).is_open) }
+    ensures survives { LeavesNothing (state S.Store tx.old.conn.now) (state S.Store tx.new.conn.now) }
     ensures faults { IfErr result IsCallFault }
 {
     for step in steps {
@@ -90,7 +93,8 @@ fn write_schedule<S: Alter>(
     ensures sound { OnOk result (IsSchedule schedule.now) }
     ensures kept { HasCleanDisk (state S.Store tx.new.conn.now) → KeepsCommit (state S.Store tx.old.conn.now) (state S.Store tx.new.conn.now) }
     ensures inside { HasCleanDisk (state S.Store tx.new.conn.now) → OnOk result (tx.new.conn.now.in_transaction ≡ true) }
-    ensures clean { doubt (state S.Store tx.old.conn.now).is_clean ≤ doubt (state S.Store tx.new.conn.now).is_clean }
+    ensures live { HasCleanDisk (state S.Store tx.new.conn.now) → OnOk result (IsTrue (state S.Store tx.new.conn.now).is_open) }
+    ensures survives { LeavesNothing (state S.Store tx.old.conn.now) (state S.Store tx.new.conn.now) }
     ensures faults { IfErr result IsCallFault }
 {
     clear_steps(tx)?;
@@ -110,7 +114,7 @@ pub fn set_schedule<S: Alter>(
     ensures ok { (records : Records) → ShowsKept S.Store conn.old records → OnOk result (ShowsKept S.Store conn.new (with_schedule records schedule.now)) }
     ensures shown { (records : Records) → Shows S.Store conn.old records → OnOk result (Shows S.Store conn.new (with_schedule records schedule.now)) }
     ensures err { OnErr result (Stays (state S.Store conn.old) (state S.Store conn.new)) }
-    ensures clean { doubt (state S.Store conn.old).is_clean ≤ doubt (state S.Store conn.new).is_clean }
+    ensures survives { Survives (state S.Store conn.old) (state S.Store conn.new) (IsScheduled S.Store conn.old schedule.now) }
     ensures idle { conn.new.in_transaction ≡ false }
     ensures faults { IfErr result IsCallFault }
 {

@@ -1,6 +1,9 @@
 -- What accepted commands change in the records. Each also sets the last accepted moment.
-use Rattle.std.specs.Prelude.{ℕ, true, cond, ◌==◌, List, [], ◌∷◌, ◌++◌, map}
-use Rattle.reg_core.specs.Records.{Records, Crl}
+use Rattle.std.specs.Prelude.{◌≡◌, ◌≤◌, ◌+◌, ℕ, true, cond, ◌==◌, List, [], ◌∷◌, ◌++◌, map, length, None, IsSomeAnd}
+use Rattle.reg_core.specs.Crls.{next_number}
+use Rattle.reg_core.specs.Records.{Records, Crl, certificate_in, revocation_in}
+use Rattle.reg_core.specs.declared.change.Change.{Change}
+use Rattle.reg_core.specs.declared.change.Change.TheVariants.{Touch, Subscriber, Order, Certificate, Request, Decline, Revocation, Crl as NewCrl}
 use Rattle.reg_core.specs.declared.rows.SubscriberRow.{SubscriberRow}
 use Rattle.reg_core.specs.declared.rows.OrderRow.{OrderRow}
 use Rattle.reg_core.specs.declared.rows.CertRow.{CertRow}
@@ -42,6 +45,33 @@ with_revocation records now row = record records { last = now; revocations = rec
 -- one CRL more
 abbrev pub with_crl : Records → ℕ → Crl → Records
 with_crl records now crl = record records { last = now; crls = records.crls ++ crl ∷ [] }
+
+-- the records after a change at a moment
+abbrev pub changed_by : Records → ℕ → Change → Records
+changed_by records now Touch = touched records now
+changed_by records now (Subscriber row) = with_subscriber records now row
+changed_by records now (Order row) = with_order records now row
+changed_by records now (Certificate row) = with_certificate records now row
+changed_by records now (Request row) = with_request records now row
+changed_by records now (Decline id) = with_declined records now id
+changed_by records now (Revocation row) = with_revocation records now row
+changed_by records now (NewCrl row der) =
+    with_crl records now (record { number = row.number; this_update = row.this_update; bytes = der.now })
+
+-- what the decision made sure of before a change at a moment: an id or a number is the next one; a certificate is new and
+-- has not ended; what is revoked is registered, has not ended, and was not revoked
+abbrev pub Fits : Records → ℕ → Change → Type 0
+Fits records now Touch = Unit {0}
+Fits records now (Subscriber row) = row.id ≡ length records.subscribers + 1
+Fits records now (Order row) = row.id ≡ length records.orders + 1
+Fits records now (Certificate row) = (certificate_in records.certificates row.serial ≡ None) × (now ≤ row.not_after)
+Fits records now (Request row) = row.id ≡ length records.requests + 1
+Fits records now (Decline id) = Unit {0}
+Fits records now (Revocation row) =
+    (revocation_in records.revocations row.serial ≡ None)
+    × IsSomeAnd (certificate_in records.certificates row.serial) (λ certificate. now ≤ certificate.not_after)
+    × (row.first ≡ next_number records.crls)
+Fits records now (NewCrl row der) = row.number ≡ next_number records.crls
 
 -- another schedule of longest validities, which is no command: the last accepted moment stays
 abbrev pub with_schedule : Records → List (ℕ × ℕ) → Records

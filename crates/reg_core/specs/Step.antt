@@ -3,10 +3,11 @@ use Rattle.std.specs.Prelude.{◌≡◌, ℕ, Bool, false, cond, ◌==◌, ◌&&
 use Rattle.std.specs.List.{list_any}
 use Rattle.reg_core.specs.Records.{Records, subscriber_in, subscriber_named, order_in, certificate_in, certificate_of_order, request_in, revocation_in}
 use Rattle.reg_core.specs.Checks.{first_of_all, clock_checks, subscriber_checks, order_checks, register_checks, request_checks, settle_checks, crl_checks}
-use Rattle.reg_core.specs.Changes.{touched, with_subscriber, with_order, with_certificate, with_request, with_declined, with_revocation, with_crl}
+use Rattle.reg_core.specs.Changes.{changed_by, with_crl}
 use Rattle.reg_core.specs.Crls.{CertList, cert_list, content, next_number}
 use Rattle.reg_core.specs.Due.{deadline}
 use Rattle.reg_core.specs.Grounds.{reason_of, limit_of, ground_or as ground}
+use Rattle.reg_core.specs.declared.change.Change.TheVariants as change
 use Rattle.reg_core.specs.declared.grounds.Ground.TheVariants.{Asked}
 use Rattle.reg_core.specs.declared.rows.CertRow.{CertRow}
 use Rattle.reg_core.specs.declared.rows.RequestRow.{RequestRow}
@@ -128,24 +129,25 @@ reply records now IssueCrl =
 -- the records after an accepted command; the bytes are those of the CRL where it issues one
 abbrev pub changed : Records → ℕ → Command → List ℕ → Records
 changed records now (Subscriber name) bytes =
-    with_subscriber records now (record { id = length records.subscribers + 1; name = name })
+    changed_by records now (change.Subscriber (record { id = length records.subscribers + 1; name = name }))
 changed records now (Order subscriber days) bytes =
-    with_order records now (record { id = length records.orders + 1; subscriber = subscriber; days = days })
+    changed_by records now (change.Order (record { id = length records.orders + 1; subscriber = subscriber; days = days }))
 changed records now (Register order serial not_before not_after) bytes =
     cond
     (is_repeat records (Register order serial not_before not_after))
-    (touched records now)
-    (with_certificate
+    (changed_by records now change.Touch)
+    (changed_by
     records
     now
-    (record { serial = serial; order = order; not_before = not_before; not_after = not_after }))
-changed records now (Request serial word) bytes = with_request records now (request_row records now serial word)
-changed records now (Decline id) bytes = with_declined records now id
+    (change.Certificate (record { serial = serial; order = order; not_before = not_before; not_after = not_after })))
+changed records now (Request serial word) bytes =
+    changed_by records now (change.Request (request_row records now serial word))
+changed records now (Decline id) bytes = changed_by records now (change.Decline id)
 changed records now (Revoke id) bytes = revoked (request_in records.requests id)
   where
     revoked : Option RequestRow → Records
-    revoked (Some request) = with_revocation records now (revocation_row records now request)
-    revoked None = touched records now
+    revoked (Some request) = changed_by records now (change.Revocation (revocation_row records now request))
+    revoked None = changed_by records now change.Touch
 changed records now IssueCrl bytes =
     with_crl records now (record { number = next_number records.crls; this_update = now; bytes = bytes })
 

@@ -2,6 +2,7 @@
 #![tactic(auto)]
 
 mod calendar;
+mod change;
 mod command;
 mod decide;
 mod grounds;
@@ -18,6 +19,7 @@ mod signed;
 mod status;
 
 pub use calendar::Civil;
+pub use change::Change;
 pub use command::{Command, Counts, Listing, Outcome, Overdue, Query, Reply, Status};
 pub use decide::{
     clock, decide_crl, decide_decline, decide_order, decide_register, decide_request,

@@ -16,6 +16,7 @@ use Rattle.sqlite_resolve.specs.declared.compiled.Compiled.{Compiled}
 use Rattle.sqlite_resolve.specs.declared.error.CompileError.{CompileError}
 use Rattle.sqlite_resolve.specs.Lowering.{Checked, and_then}
 use Rattle.sqlite_resolve.specs.Compile as compile
+use Rattle.sqlite_resolve.specs.Compile.{first}
 use Rattle.sqlite_tied.specs.Compute.{everything}
 use Rattle.std.proofs.lemmas.Bool.{cases_Bool}
 use Rattle.sqlite.specs.Effect.{Database, Reads}
@@ -28,6 +29,7 @@ use Rattle.reg_core.specs.Records.{Records, Crl}
 use Rattle.reg_core.specs.Sound.{NumberedFrom}
 use Rattle.reg_core.specs.declared.rows.RevocationRow.{RevocationRow}
 use Rattle.reg_tables.specs.Schema.{register_schema}
+use Rattle.reg_tables.proofs.Selecting.{select_never}
 use Rattle.reg_tables.specs.Rows.{number, behind_rowids, stored_revocation, stored_crl}
 use Rattle.reg_tables.specs.Shows.{IsShownBy}
 use Rattle.reg_tables.specs.Reading.{Answers, IsReading, command_of, shown_revocation, shown_crl}
@@ -145,8 +147,8 @@ unfolding understood everything register_schema
 revocations_mean = refl
 
 pub reading_revocations : IsReading REVOCATIONS.now
-unfolding understood everything register_schema
-reading_revocations = record { plain = (refl, refl); unlisted = refl }
+unfolding understood everything register_schema first
+reading_revocations = record { plain = (refl, refl); unlisted = refl; never = select_never REVOCATIONS.now _ _ refl refl refl }
 
 abbrev rowid_of : ℕ × RevocationRow → ℕ
 rowid_of row = row.0
@@ -177,8 +179,8 @@ unfolding understood everything register_schema
 crls_mean = refl
 
 pub reading_crls : IsReading CRLS.now
-unfolding understood everything register_schema
-reading_crls = record { plain = (refl, refl); unlisted = refl }
+unfolding understood everything register_schema first
+reading_crls = record { plain = (refl, refl); unlisted = refl; never = select_never CRLS.now _ _ refl refl refl }
 
 abbrev number_of_crl : Crl → ℕ
 number_of_crl crl = crl.number

@@ -2,6 +2,7 @@ pub mod Asking
 pub mod Composing
 pub mod Facts
 pub mod Issuing
+pub mod Resting
 pub mod Standing
 pub mod ShowingNothingElse
 pub mod ShowingRevoked

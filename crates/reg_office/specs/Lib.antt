@@ -1,3 +1,4 @@
+pub mod AtRest
 pub mod Faults
 pub mod Happened
 pub mod Shown

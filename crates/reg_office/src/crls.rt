@@ -2,7 +2,7 @@
 
 ghost use Rattle.std.specs.Prelude.{◌≡◌, ◌≤◌, ◌<◌, ◌+◌, length, IsErrOf, OnErr, IfOk, IfErr};
 ghost use Rattle.sqlite.specs.Held.{state};
-ghost use Rattle.sqlite.specs.State.{HasCleanDisk};
+ghost use Rattle.sqlite.specs.State.{HasCleanDisk, Survives};
 ghost use Rattle.sqlite_trees.specs.View.{doubt};
 ghost use Rattle.reg_core.specs.Calendar.{clock_end};
 ghost use Rattle.reg_core.specs.Records.{Records};
@@ -10,6 +10,7 @@ ghost use Rattle.reg_core.specs.Sound.{SoundRows};
 ghost use Rattle.reg_core.specs.declared.command.Command.TheVariants.{Crl as IssueCrl};
 ghost use Rattle.reg_tables.specs.Kept.{ShowsKept};
 ghost use Rattle.reg_tables.specs.Stays.{IsRegister, Stays};
+ghost use Rattle.reg_office.specs.AtRest.{Steps};
 ghost use Rattle.reg_office.specs.Faults.{IsOfficeFault, IsSigningFault, IsTableFault};
 ghost use Rattle.reg_office.specs.Happened.{Happened};
 ghost use Rattle.reg_core.specs.Crls.{EntriesAscend};
@@ -72,7 +73,7 @@ pub(crate) fn issue_crl<C: Alter, S: Signer>(
     ensures step { (records : Records) → ShowsKept C.Store store.old records → SoundRows records → HasCleanDisk (state C.Store store.new)
         → Happened C.Store store.new (signed_by S.signs (S.identity signer.old)) records now IssueCrl result }
     ensures err { IsRegister (state C.Store store.old) → OnErr result (Stays (state C.Store store.old) (state C.Store store.new)) }
-    ensures clean { doubt (state C.Store store.old).is_clean ≤ doubt (state C.Store store.new).is_clean }
+    ensures survives { Survives (state C.Store store.old) (state C.Store store.new) (Steps C.Store store.old (signed_by S.signs (S.identity signer.old)) now IssueCrl) }
     ensures faults { IfErr result IsOfficeFault }
     ensures same_identity { S.identity signer.new ≡ S.identity signer.old }
     ensures device { IsErrOf result SignerFailed → S.failure_count signer.old < S.failure_count signer.new }

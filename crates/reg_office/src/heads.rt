@@ -1,15 +1,14 @@
 //! What the decisions look at first.
 
-ghost use Rattle.std.specs.Prelude.{◌≡◌, ◌≤◌, ◌<◌, ◌^◌, option_map, IfOk, IfErr, IfSome, IsTrue};
+ghost use Rattle.std.specs.Prelude.{◌≡◌, ◌<◌, ◌^◌, option_map, IfOk, IfErr, IfSome, IsTrue};
 ghost use Rattle.sqlite.specs.Held.{state};
 ghost use Rattle.sqlite.specs.State.{HasCleanDisk};
-ghost use Rattle.sqlite_trees.specs.View.{doubt};
 ghost use Rattle.reg_core.specs.Calendar.{clock_end};
 ghost use Rattle.reg_core.specs.Crls.{latest, row_of};
 ghost use Rattle.reg_core.specs.Decisions.{head_of};
 ghost use Rattle.reg_core.specs.Records.{Records};
 ghost use Rattle.reg_tables.specs.Shows.{Shows};
-ghost use Rattle.reg_tables.specs.Stays.{IsRegister, Stays};
+ghost use Rattle.reg_tables.specs.Stays.{IsRegister, LeavesNothing, Stays};
 ghost use Rattle.reg_tables.specs.Tables.{rows_of};
 ghost use Rattle.reg_office.specs.Faults.{IsStoreFault};
 
@@ -25,7 +24,7 @@ pub(crate) fn head_at<C: Alter>(
 ) -> Result<Head, Fault>
     ensures found { (records : Records) → Shows C.Store store.old records → HasCleanDisk (state C.Store store.new) → IfOk result (λ head. head ≡ head_of records now (rows_of records table)) }
     ensures same { IsRegister (state C.Store store.old) → Stays (state C.Store store.old) (state C.Store store.new) }
-    ensures clean { doubt (state C.Store store.old).is_clean ≤ doubt (state C.Store store.new).is_clean }
+    ensures survives { LeavesNothing (state C.Store store.old) (state C.Store store.new) }
     ensures faults { IfErr result IsStoreFault }
 {
     let last = store.last()?;
@@ -51,7 +50,7 @@ pub(crate) fn latest_crl<C: Alter>(store: &mut Store<C>) -> Result<Option<CrlRow
     ensures found { (records : Records) → Shows C.Store store.old records → HasCleanDisk (state C.Store store.new) → IfOk result (λ row. row ≡ option_map row_of (latest records.crls)) }
     ensures within { IfOk result (λ row. IfSome row (λ crl. (crl.number < 10 ^ 18) × (crl.this_update < clock_end))) }
     ensures same { IsRegister (state C.Store store.old) → Stays (state C.Store store.old) (state C.Store store.new) }
-    ensures clean { doubt (state C.Store store.old).is_clean ≤ doubt (state C.Store store.new).is_clean }
+    ensures survives { LeavesNothing (state C.Store store.old) (state C.Store store.new) }
     ensures faults { IfErr result IsStoreFault }
 {
     let latest = store.latest_crl()?;

@@ -4,10 +4,12 @@ ghost use Rattle.std.specs.Prelude.{ℕ};
 ghost use Rattle.reg_crl.specs.Signing.{signed_by};
 ghost use Rattle.reg_laws.specs.Headline.{CreatedSound, KeepsSound, RunsInParts, StandsInExactlyOne, CountsMoveExactly, ListsRevoked, RefusalsChangeNothing};
 ghost use Rattle.reg_laws.specs.History.{HistoryStands};
+ghost use Rattle.reg_office.specs.AtRest.{StopsBeforeOrAfter};
 ghost use Rattle.reg_office.specs.Shown.{SoundRun, AcceptedRevocation, IsShownEverywhere, WasRevoked, IsNowhereShown};
 ghost use Rattle.reg_responder.specs.Agreement.{OcspAgrees};
 
 use reg_crl::{CrlSigner, Signer};
+use sqlite::Alter;
 
 /// Over every list of commands that an office runs, from a register as it is created or from sound records, whoever
 /// signs: each serial number ever registered stands at any moment reached in exactly one of good, revoked and expired;
@@ -60,3 +62,13 @@ pub fn nothing_else_is_shown_as_revoked<S: Signer>()
     headline::<S>();
     reg_laws::laws::revocations::<CrlSigner<S>>();
 }
+
+/// A stop at any moment of a command leaves the records before it or those after it.
+///
+/// Of a register whose records stand, whatever the command and whoever signs: what may be found in its tables after
+/// [`Office::run_one`](crate::Office::run_one), or after a stop in the middle of it, is the records as they were, or those after
+/// the command's acceptance, whole and with the letters, counts and last listings that follow from them. It rests on what the
+/// crate `sqlite` says that a stop may leave over a disk which can lose what was not synced.
+pub fn a_stop_leaves_the_records_before_or_after<C: Alter, S: Signer>()
+    ensures { StopsBeforeOrAfter C.Store S.signs }
+{}

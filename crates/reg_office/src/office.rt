@@ -2,7 +2,7 @@
 
 ghost use Rattle.std.specs.Prelude.{◌≡◌, ◌≤◌, ◌<◌, ◌↔◌, Err, IsErrOf, OnOk, OnErr, IfOk, IfErr};
 ghost use Rattle.sqlite.specs.Held.{state};
-ghost use Rattle.sqlite.specs.State.{HasCleanDisk};
+ghost use Rattle.sqlite.specs.State.{HasCleanDisk, Survives};
 ghost use Rattle.sqlite_trees.specs.View.{doubt};
 ghost use Rattle.reg_core.specs.Calendar.{clock_end};
 ghost use Rattle.reg_core.specs.Changes.{with_schedule};
@@ -14,6 +14,7 @@ ghost use Rattle.reg_tables.specs.Stays.{IsCallFault, IsRegister, Stays};
 ghost use Rattle.reg_ocsp.specs.Response.{refusal_response};
 ghost use Rattle.reg_ocsp.specs.declared.response.RefusalStatus.TheVariants.{Malformed, Internal};
 ghost use Rattle.reg_responder.specs.Ocsp.{HasNoReading, IsOcspReply};
+ghost use Rattle.reg_office.specs.AtRest.{Does};
 ghost use Rattle.reg_office.specs.Answered.{IsAnswered, IsGiven, items_of};
 ghost use Rattle.reg_office.specs.Faults.{IsOfficeFault, IsTableFault};
 ghost use Rattle.reg_office.specs.Stands.{Stands, CameTo};
@@ -69,7 +70,7 @@ impl<C: Alter, S: Signer> Office<C, S> {
             → CameTo C.Store S.signs self.new.store (S.identity self.new.signer) records now command.now result }
         ensures ended { clock_end ≤ now → (result ≡ Err (Refused ClockEnd)) × (self.new ≡ self.old) }
         ensures err { IsRegister (state C.Store self.old.store) → OnErr result (Stays (state C.Store self.old.store) (state C.Store self.new.store)) }
-        ensures clean { doubt (state C.Store self.old.store).is_clean ≤ doubt (state C.Store self.new.store).is_clean }
+        ensures survives { Survives (state C.Store self.old.store) (state C.Store self.new.store) (Does C.Store S.signs self.old.store (S.identity self.old.signer) now command.now) }
         ensures same_identity { S.identity self.new.signer ≡ S.identity self.old.signer }
         ensures device { IsErrOf result SignerFailed → (command.now ≡ IssueCrl) × (S.failure_count self.old.signer < S.failure_count self.new.signer) }
         ensures faults { IfErr result IsOfficeFault }

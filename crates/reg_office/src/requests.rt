@@ -1,15 +1,15 @@
 //! Requests for revocation.
 
-ghost use Rattle.std.specs.Prelude.{◌≡◌, ◌≤◌, ◌<◌, OnErr, IfOk, IfErr};
+ghost use Rattle.std.specs.Prelude.{◌≡◌, ◌<◌, OnErr, IfOk, IfErr};
 ghost use Rattle.sqlite.specs.Held.{state};
-ghost use Rattle.sqlite.specs.State.{HasCleanDisk};
-ghost use Rattle.sqlite_trees.specs.View.{doubt};
+ghost use Rattle.sqlite.specs.State.{HasCleanDisk, Survives};
 ghost use Rattle.reg_core.specs.Calendar.{clock_end};
 ghost use Rattle.reg_core.specs.Records.{Records};
 ghost use Rattle.reg_core.specs.Sound.{SoundRows};
 ghost use Rattle.reg_core.specs.declared.command.Command.TheVariants.{Request as RequestIt, Decline as DeclineIt, Revoke as RevokeIt};
 ghost use Rattle.reg_tables.specs.Kept.{ShowsKept};
-ghost use Rattle.reg_tables.specs.Stays.{IsRegister, Stays};
+ghost use Rattle.reg_tables.specs.Stays.{IsRegister, LeavesNothing, Stays};
+ghost use Rattle.reg_office.specs.AtRest.{Steps};
 ghost use Rattle.reg_office.specs.Faults.{IsStoreFault, IsTableFault};
 ghost use Rattle.reg_office.specs.Happened.{Happened, unsigned};
 ghost use Rattle.reg_tables.specs.Shows.{Shows};
@@ -45,7 +45,7 @@ pub(crate) fn enter_request<C: Alter>(
     ensures step { (records : Records) → ShowsKept C.Store store.old records → SoundRows records → HasCleanDisk (state C.Store store.new)
         → Happened C.Store store.new unsigned records now (RequestIt serial word) result }
     ensures err { IsRegister (state C.Store store.old) → OnErr result (Stays (state C.Store store.old) (state C.Store store.new)) }
-    ensures clean { doubt (state C.Store store.old).is_clean ≤ doubt (state C.Store store.new).is_clean }
+    ensures survives { Survives (state C.Store store.old) (state C.Store store.new) (Steps C.Store store.old unsigned now (RequestIt serial word)) }
     ensures faults { IfErr result IsTableFault }
 {
     let head = head_at(store, now, Table::Requests)?;
@@ -62,7 +62,7 @@ pub(crate) fn enter_request<C: Alter>(
 fn case_of<C: Alter>(store: &mut Store<C>, id: u64) -> Result<Case, Fault>
     ensures found { (records : Records) → Shows C.Store store.old records → HasCleanDisk (state C.Store store.new) → IfOk result (λ found. IsCase records id found) }
     ensures same { IsRegister (state C.Store store.old) → Stays (state C.Store store.old) (state C.Store store.new) }
-    ensures clean { doubt (state C.Store store.old).is_clean ≤ doubt (state C.Store store.new).is_clean }
+    ensures survives { LeavesNothing (state C.Store store.old) (state C.Store store.new) }
     ensures faults { IfErr result IsStoreFault }
 {
     match store.request(id)? {
@@ -93,7 +93,7 @@ pub(crate) fn decline<C: Alter>(store: &mut Store<C>, now: Moment, id: u64) -> R
     ensures step { (records : Records) → ShowsKept C.Store store.old records → SoundRows records → HasCleanDisk (state C.Store store.new)
         → Happened C.Store store.new unsigned records now (DeclineIt id) result }
     ensures err { IsRegister (state C.Store store.old) → OnErr result (Stays (state C.Store store.old) (state C.Store store.new)) }
-    ensures clean { doubt (state C.Store store.old).is_clean ≤ doubt (state C.Store store.new).is_clean }
+    ensures survives { Survives (state C.Store store.old) (state C.Store store.new) (Steps C.Store store.old unsigned now (DeclineIt id)) }
     ensures faults { IfErr result IsTableFault }
 {
     let head = head_at(store, now, Table::Requests)?;
@@ -112,7 +112,7 @@ pub(crate) fn revoke<C: Alter>(store: &mut Store<C>, now: Moment, id: u64) -> Re
     ensures step { (records : Records) → ShowsKept C.Store store.old records → SoundRows records → HasCleanDisk (state C.Store store.new)
         → Happened C.Store store.new unsigned records now (RevokeIt id) result }
     ensures err { IsRegister (state C.Store store.old) → OnErr result (Stays (state C.Store store.old) (state C.Store store.new)) }
-    ensures clean { doubt (state C.Store store.old).is_clean ≤ doubt (state C.Store store.new).is_clean }
+    ensures survives { Survives (state C.Store store.old) (state C.Store store.new) (Steps C.Store store.old unsigned now (RevokeIt id)) }
     ensures faults { IfErr result IsTableFault }
 {
     let head = head_at(store, now, Table::Requests)?;

@@ -26,32 +26,11 @@ use Rattle.reg_tables.specs.Reading.{command_of}
 use Rattle.reg_tables.specs.Stays.{IsCallFault}
 use Rattle.reg_tables.specs.declared.fault.StoreFault.{StoreFault}
 use Rattle.reg_tables.specs.declared.fault.StoreFault.TheVariants.{NotARegister}
+use Rattle.reg_tables.proofs.Selecting.{select_planned, selected}
 use Rattle.reg_tables.proofs.Staying.{fails_remains}
 use Rattle.reg_opening.specs.Said.{is_call_error, NeverWrites, IsQuery, IsNeverRefused, IsRead, IsRefused}
 
 -- ---- a text that is a SELECT, whatever the tables are
-
-planned_by : (p : Parsed) (k : Checked Command) (c : Compiled) → and_then (and_then (and_then k (λ c. Ok (c, None))) (λ found. Ok ([], found))) (λ plan. Ok (compile.with_command p plan)) ≡ Ok c
-    → (c.returning ≡ None) × (c.formats ≡ []) × (c.names ≡ p.names) × (c.tail ≡ p.tail)
-planned_by p (Ok k) c made = let same : compile.with_command p ([], (k, None)) ≡ c = cc in (
-  ap (λ (x : Compiled). x.returning) (sym same),
-  ap (λ (x : Compiled). x.formats) (sym same),
-  ap (λ (x : Compiled). x.names) (sym same),
-  ap (λ (x : Compiled). x.tail) (sym same),
-)
-planned_by p (Err e) c made = absurd (cc)
-
-select_planned : (schema : Schema) (p : Parsed) (s : written_select.Select) (c : Compiled) → p.statement ≡ written.Select s → p.formats ≡ [] → and_then (compile.planned schema p) (λ plan. Ok (compile.with_command p plan)) ≡ Ok c
-    → (c.returning ≡ None) × (c.formats ≡ []) × (c.names ≡ p.names) × (c.tail ≡ p.tail)
-unfolding compile.planned compile.meaning compile.returning compile.timed
-select_planned schema p s c is none made = planned_by p _ c (rw (is, none) at made)
-
-selected : (r : Result Compiled CompileError) (c : Compiled) → if_select r ≡ Ok c → r ≡ Ok c
-selected (Ok k) c is = elim (cases_Bool (is_select k.command)) [
-  | inl selects ↦ rw selects at is
-  | inr no_select ↦ absurd (let e = rw no_select at is in cc)
-]
-selected (Err e) c is = absurd (cc)
 
 pub query_text : (text : List ℕ) (p : Parsed) (s : written_select.Select) → compile.first text ≡ Ok p → p.statement ≡ written.Select s → p.formats ≡ [] → length p.names ≡ 0 → length text ≤ p.tail → IsQuery text
 unfolding understood compile.compiled

@@ -5,6 +5,7 @@ use Rattle.sqlite_value.specs.declared.keys.Key.{Key}
 use Rattle.sqlite_value.specs.Order.{Row}
 use Rattle.sqlite_sql.specs.Term.{Term, col, eval_all}
 use Rattle.sqlite_sql.specs.Query.{Output}
+use Rattle.sqlite_resolve.specs.Compile.{first}
 use Rattle.sqlite_tied.specs.Compute.{everything}
 use Rattle.sqlite_typing.specs.Types.{accepts_program}
 use Rattle.sqlite.specs.declared.error.Error.{Error}
@@ -13,6 +14,7 @@ use Rattle.sqlite.specs.Listing.{understood, reads_listing, IsSourceOf}
 use Rattle.sqlite.proofs.Callers.{one_permutation}
 use Rattle.reg_core.specs.Records.{Records}
 use Rattle.reg_tables.specs.Reading.{IsReading, command_of, shown_step}
+use Rattle.reg_tables.proofs.Selecting.{select_never}
 use Rattle.reg_tables.specs.Rows.{number, stored_office}
 use Rattle.reg_tables.specs.Schema.{register_schema}
 use Rattle.reg_tables.specs.Shows.{IsShownBy}
@@ -54,8 +56,8 @@ abbrev office_names : List (List ℕ)
 office_names = codes "name" ∷ codes "pubkey" ∷ codes "crl_life" ∷ codes "ocsp_life" ∷ codes "cap" ∷ codes "last_at" ∷ []
 
 reading_office : IsReading OFFICE.now
-unfolding understood everything register_schema
-reading_office = record { plain = (refl, refl); unlisted = refl }
+unfolding understood everything register_schema first
+reading_office = record { plain = (refl, refl); unlisted = refl; never = select_never OFFICE.now _ _ refl refl refl }
 
 office_means : command_of (understood register_schema OFFICE.now) ≡ as_command (selects 0 [] office_columns [] no_limit) office_names
 unfolding understood everything register_schema

@@ -15,7 +15,7 @@ use Rattle.reg_lines.specs.Answer.{Answer}
 use Rattle.reg_lines.specs.Meaning.{Meaning}
 use Rattle.reg_lines.specs.Script.{ScriptEnds}
 use Rattle.reg_wire.specs.Run.{Answered}
-use Rattle.reg_program.specs.Exchanges.{EntryAt, ExchangeAt, Replied, line_at}
+use Rattle.reg_program.specs.Exchanges.{EntryAt, ExchangeAt, LineRuns, Replied, line_at}
 
 -- A script over a reader and a writer that tell their bytes, as one over bytes.
 module _ {S E W : Type 0} (answers : S → Meaning → Answer → S → Type 0) (remaining : E → List ℕ) (contents : W → List ℕ) where
@@ -162,6 +162,37 @@ module _ {S : Type 0} (is_clean : S → Type 0) (stands : Identity → S → Rec
       (contents writer) (contents writer') result
       in
       subst P is (script_bytes (Lines signs identity) remaining contents before after reader reader' writer writer' result ended))
+      s
+      t
+      moved
+
+-- The script of a line alone, from a reader and a writer that tell their bytes.
+module _ {S : Type 0} (is_clean : S → Type 0) (stands : Identity → S → Records → Type 0) (signs : Signs) where
+  pub alone_moves : {E W : Type 0} (remaining : E → List ℕ) (contents : W → List ℕ) (s t : S) (came text : List ℕ) (reader reader' : E) (writer writer' : W)
+      (result : Result (Unit {0}) Fault) → remaining reader ≡ came → contents writer ≡ []
+      → Moves is_clean stands
+      (λ identity before after. ScriptEnds (Lines signs identity) (λ r. Some (remaining r)) (λ w. Some (contents w)) before after
+      reader reader' writer writer' result)
+      s t
+      → Replied result (contents writer') text
+      → Moves is_clean stands (λ identity before after. LineRuns signs identity before came text after) s t
+  alone_moves remaining contents s t came text reader reader' writer writer' result is empty moved replied =
+      follows is_clean stands
+      (λ identity before after. ScriptEnds (Lines signs identity) (λ r. Some (remaining r)) (λ w. Some (contents w)) before after
+      reader reader' writer writer' result)
+      (λ identity before after. LineRuns signs identity before came text after)
+      (λ identity before after ended.
+      let P : List ℕ → List ℕ → Type 0 = λ input start.
+      ScriptEnds (Lines signs identity) (λ bytes. Some bytes) (λ bytes. Some bytes) before after input (remaining reader') start (contents writer') result
+      in
+      record {
+        left = remaining reader';
+        written = contents writer';
+        result = result;
+        ends = subst (λ start. P came start) empty (subst (λ input. P input (contents writer)) is
+            (script_bytes (Lines signs identity) remaining contents before after reader reader' writer writer' result ended));
+        replied = replied;
+      })
       s
       t
       moved

@@ -10,7 +10,7 @@ use Rattle.reg_program.specs.Asking.{IsAccepted, IsOfTalk, Talked, Talks, TalksO
 use Rattle.reg_wire.proofs.Bytes.{concat_push}
 
 -- all replies so far, and one more
-all_push : (replies : List (List ℕ)) (reply : List ℕ)
+pub all_push : (replies : List (List ℕ)) (reply : List ℕ)
     → AllByRecursion IsAccepted (replies ++ reply ∷ []) ↔ (AllByRecursion IsAccepted replies × IsAccepted reply)
 all_push [] reply = ((λ all. (tt, all.0)), (λ both. (both.1, tt)))
 all_push (first ∷ replies) reply =

@@ -21,12 +21,15 @@ use Rattle.reg_lines.specs.Script.{ScriptEnds}
 use Rattle.reg_tables.specs.Stays.{IsCallFault}
 use Rattle.reg_tables.specs.declared.fault.StoreFault.{StoreFault}
 use Rattle.reg_wire.specs.Put.{AppendsFront}
+use Rattle.reg_wire.specs.Run.{Answered}
 use Rattle.reg_words.specs.declared.job.Job.{Job}
 use Rattle.reg_words.specs.declared.job.KeyHolder.{KeyHolder}
 use Rattle.reg_words.specs.declared.job.Job.TheVariants as job
+use Rattle.reg_words.specs.declared.job.Way.{Way}
 use Rattle.reg_program.specs.Asking.{AtCounter}
 use Rattle.reg_program.specs.Digest.{digest, digests}
 use Rattle.reg_program.specs.Failing.{IsMaking}
+use Rattle.reg_program.specs.Lined.{LineBy, LinesEnd}
 use Rattle.reg_program.specs.Sample.{sample_records}
 use Rattle.reg_program.specs.Schedules.{Reschedules}
 use Rattle.reg_program.specs.Serving.{OpenedAt, Opens, Serves, ServedAt}
@@ -138,6 +141,15 @@ module _ {E W : Type 0} (remaining : E → Option (List ℕ)) (contents : W → 
     ScriptAt path signer = RunsAt path (Some signer) (λ ran identity before after.
         ScriptEnds (Lines keeper.signs identity) remaining contents before after reader reader' writer writer' ran)
 
+    -- a script over the register at a path, run line by line
+    abbrev pub LinesAt : {F : Type 0} → Front F → List ℕ → Option KeyHolder → Way → Result (Unit {0}) Failure → Type 0
+    LinesAt front path signer way result =
+        (NotOpened places keeper place place' path (Some signer) result × IsSilent)
+        ⊎ ((lines : List (List ℕ)) × (replies : List (List ℕ))
+        × Visits places keeper place place' path (Some signer)
+        (λ identity before after. Answered (LineBy way.is_clocked keeper.signs front.told identity) before lines replies after)
+        × LinesEnd way.is_strict lines replies (remaining reader) (remaining reader') (contents writer) (contents writer') result)
+
     -- an import into the register at a path, at a moment
     abbrev pub ImportAt : List ℕ → ℕ → Result (Unit {0}) Failure → Type 0
     ImportAt path now = RunsAt path None (λ ran identity before after.
@@ -151,6 +163,7 @@ module _ {E W : Type 0} (remaining : E → Option (List ℕ)) (contents : W → 
     Ends front (job.Script (Some file) signer) result = ScriptAt file signer result
     Ends front (job.Script None None) result = (place' ≡ place) × ScriptInMemory result
     Ends front (job.Script None (Some holder)) result = (place' ≡ place) × IsSilent × (result ≡ Err failure.BadSigner)
+    Ends front (job.Lines file signer way) result = LinesAt front file signer way result
     Ends front (job.Import file now) result = ImportAt file now result
     Ends front (job.Crl file number) result = (reader' ≡ reader) × CrlAt contents writer writer' places keeper place place' file number result
     Ends front (job.Schedule file steps) result =

@@ -27,13 +27,17 @@ abbrev pub Replied : Result (Unit {0}) Fault → List ℕ → List ℕ → Type 
 Replied (Ok done) written text = text ≡ written
 Replied (Err why) written text = (text ≡ fault_line why ++ 10 ∷ []) ⊎ (text ≡ [])
 
--- One line at a counter, at a moment: it ran as the script of that line alone.
-pub record EntryAt (signs : Signs) (now : ℕ) (identity : Identity) (before : Records) (line text : List ℕ) (after : Records) : Type 0 where
+-- One line: it ran as the script of that line alone.
+pub record LineRuns (signs : Signs) (identity : Identity) (before : Records) (line text : List ℕ) (after : Records) : Type 0 where
   pub left : List ℕ
   pub written : List ℕ
   pub result : Result (Unit {0}) Fault
-  pub ends : ScriptEnds (Lines signs identity) (λ bytes. Some bytes) (λ bytes. Some bytes) before after (line_at now line) left [] written result
+  pub ends : ScriptEnds (Lines signs identity) (λ bytes. Some bytes) (λ bytes. Some bytes) before after line left [] written result
   pub replied : Replied result written text
+
+-- one line without a moment, at a moment
+abbrev pub EntryAt : Signs → ℕ → Identity → Records → List ℕ → List ℕ → Records → Type 0
+EntryAt signs now identity before line text after = LineRuns signs identity before (line_at now line) text after
 
 -- the same at a moment that a clock told
 abbrev pub Exchange : Signs → (ℕ → Type 0) → Identity → Records → List ℕ → List ℕ → Records → Type 0

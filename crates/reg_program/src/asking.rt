@@ -133,7 +133,7 @@ fn next_reply<C: BufRead>(alloc: Global, came: &mut C) -> Result<Vec<u8>, Failur
 }
 
 /// Whether a reply tells neither a refusal nor a fault.
-fn is_accepted(reply: &[u8]) -> bool
+pub(crate) fn is_accepted(reply: &[u8]) -> bool
     ensures { IsTrue result ↔ IsAccepted reply.now }
 {
     match reply.first() {

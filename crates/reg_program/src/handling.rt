@@ -5,7 +5,7 @@ ghost use Rattle.reg_core.specs.Lines.{fault_line};
 ghost use Rattle.reg_faces.specs.Kept.{Lines};
 ghost use Rattle.reg_faces.specs.Moves.{Moves};
 ghost use Rattle.reg_lines.specs.Script.{ScriptEnds};
-ghost use Rattle.reg_program.specs.Exchanges.{Entry, EntryAt, Exchange, ExchangeAt, Replied, line_at};
+ghost use Rattle.reg_program.specs.Exchanges.{Entry, EntryAt, Exchange, ExchangeAt, LineRuns, Replied, line_at};
 
 use crate::front::Front;
 use reg_core::{Fault, Moment};
@@ -25,6 +25,12 @@ pub(crate) struct ServedDesk<'a, K: Keeper, F: Front> {
 pub(crate) struct OpenDesk<'a, K: Keeper, F: Front> {
     pub(crate) desk: Desk<K>,
     pub(crate) front: &'a F,
+}
+
+/// A desk that runs lines as they are, and has no peers.
+#[derive(Drop)]
+pub(crate) struct LinedDesk<K: Keeper> {
+    pub(crate) desk: Desk<K>,
 }
 
 impl<'a, K: Keeper, F: Front> Handler for ServedDesk<'a, K, F> {
@@ -61,6 +67,24 @@ impl<'a, K: Keeper, F: Front> Handler for OpenDesk<'a, K, F> {
 
     fn tell(&mut self, line: &[u8]) -> Result<Vec<u8>, Stopped> {
         tell_now(&mut self.desk, self.front, line)
+    }
+}
+
+impl<K: Keeper> Handler for LinedDesk<K> {
+    ghost use Rattle.reg_faces.specs.Moves.{Moves};
+    ghost use Rattle.reg_program.specs.Exchanges.{LineRuns, NoEntry};
+
+    ghost answers = { NoEntry };
+
+    ghost tells = { λ s line text t. Moves K.is_clean K.stands
+        (λ identity before after. LineRuns K.signs identity before line text after) s.desk.office t.desk.office };
+
+    fn answer(&mut self, _request: &[u8]) -> Result<Vec<u8>, Stopped> {
+        Err(Stopped)
+    }
+
+    fn tell(&mut self, line: &[u8]) -> Result<Vec<u8>, Stopped> {
+        Ok(tell_alone(&mut self.desk, line))
     }
 }
 
@@ -117,6 +141,17 @@ fn tell_at<K: Keeper>(desk: &mut Desk<K>, now: Moment, line: &[u8]) -> Vec<u8>
 {
     let mut reply = Vec::new(desk.alloc);
     let ran = run_line_at(desk, now, line, &mut reply);
+    reply_of(ran, reply)
+}
+
+/// Answers a line as it is.
+fn tell_alone<K: Keeper>(desk: &mut Desk<K>, line: &[u8]) -> Vec<u8>
+    ensures { Moves K.is_clean K.stands (λ identity before after. LineRuns K.signs identity before line.now result.items after)
+        desk.old.office desk.new.office }
+{
+    let mut reader = line;
+    let mut reply = Vec::new(desk.alloc);
+    let ran = run_script(desk.alloc, &mut reader, &mut reply, desk);
     reply_of(ran, reply)
 }
 

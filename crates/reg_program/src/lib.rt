@@ -7,6 +7,7 @@ mod files;
 mod front;
 mod handling;
 mod jobs;
+mod lining;
 mod memory;
 mod opening;
 mod performing;

@@ -10,6 +10,7 @@ use crate::asking::at;
 use crate::files::FileOffice;
 use crate::front::Front;
 use crate::jobs::{NewOffice, crl, import_rows, init, schedule, script, script_in_memory};
+use crate::lining::script_by_lines;
 use crate::opening::hold_open;
 use crate::place::Place;
 use crate::serving::serve;
@@ -38,7 +39,8 @@ pub fn perform<R: Read, W: Write, E: Write>(
 }
 
 /// Does a job over standard input and output, the registers of a place, and a front with a clock and ports, and gives its exit
-/// status: 0 where it is done; 3 where a reply at a counter was a refusal or a fault; else 1; with one line on standard error.
+/// status: 0 where it is done; 3 where a reply at a counter, or in a strict script, was a refusal or a fault; else 1; with one line
+/// on standard error.
 pub fn perform_at<P: Place, F: Front, R: Read, W: Write, E: Write>(
     rt: &HostRuntime,
     front: &F,
@@ -106,6 +108,16 @@ fn run<P: Place, F: Front, R: Read, W: Write>(
             file: None,
             signer: Some(_),
         } => Err(Failure::BadSigner),
+        Job::Lines { file, signer, way } => script_by_lines(
+            alloc,
+            front,
+            place,
+            file.as_str(),
+            signer,
+            *way,
+            reader,
+            writer,
+        ),
         Job::Import { file, now } => {
             import_rows(alloc, place, file.as_str(), *now, reader, writer)
         }

@@ -1,10 +1,9 @@
 //! The answer to an OCSP request.
 
-ghost use Rattle.std.specs.Prelude.{◌≡◌, ◌≢◌, ◌≤◌, ◌<◌, ◌^◌, ◌↔◌, ◌⊎◌, length, Some, None, IfOk, IfErr, IsErrOf, IsSome, IsOkAnd, OnOk, option_copied};
+ghost use Rattle.std.specs.Prelude.{◌≡◌, ◌≢◌, ◌+◌, ◌≤◌, ◌<◌, ◌^◌, ◌↔◌, ◌⊎◌, length, Some, None, IfOk, IfErr, IsErrOf, IsSome, IsOkAnd, OnOk, option_copied};
 ghost use Rattle.sqlite.specs.Held.{state};
 ghost use Rattle.sqlite.specs.State.{HasCleanDisk};
 ghost use Rattle.sqlite_trees.specs.View.{doubt};
-ghost use Rattle.reg_core.specs.Calendar.{clock_end};
 ghost use Rattle.reg_core.specs.Checks.{clock_checks, first_of_all};
 ghost use Rattle.reg_core.specs.Records.{Records};
 ghost use Rattle.reg_ocsp.specs.Request.{CanBeAnswered};
@@ -19,6 +18,7 @@ use crate::fault::ResponseFault;
 use crate::statuses::answers;
 use reg_core::{Memory, Moment, clock};
 use reg_crl::{SignFault, Signer};
+use reg_der::Issuer;
 use reg_ocsp::{AskFault, Asked, RefusalStatus, basic, read_request, refusal, response_data};
 use reg_store::Store;
 use sqlite::Alter;
@@ -118,37 +118,40 @@ fn ocsp_data<C: Alter>(
     ensures clean { doubt (state C.Store store.old).is_clean ≤ doubt (state C.Store store.new).is_clean }
     ensures faults { ¬ (IsErrOf result ResponseFault.Signer) }
 {
-    check_clock(store, now)?;
-    data_at(alloc, store, now, asked)
+    let (issuer, next) = responding(store, now)?;
+    data_at(alloc, store, &issuer, now, next, asked)
 }
 
-/// The ResponseData to what a request asks, at a moment that the clock takes.
+/// The ResponseData of an issuer to what a request asks, from a moment that the clock takes to the next update.
 #[tactic(auto, using(reg_ocsp::proofs::Answering::answered_count))]
 fn data_at<C: Alter>(
     alloc: Global,
     store: &mut Store<C>,
+    issuer: &Issuer,
     now: Moment,
+    next: Moment,
     asked: &Asked<'_>,
 ) -> Result<Vec<u8>, ResponseFault>
-    requires asked { CanBeAnswered (ids_seen asked.now.ids.items) (option_copied asked.now.nonce) }
-    requires in_range { now < clock_end }
+    requires { CanBeAnswered (ids_seen asked.now.ids.items) (option_copied asked.now.nonce) }
     ensures found { (records : Records) → Shows C.Store store.old records → HasCleanDisk (state C.Store store.new)
+        → issuer.now ≡ records.issuer → next ≡ now + records.policy.ocsp_life
         → IfOk result (λ bytes. IsOcspData records now (ids_seen asked.now.ids.items) (option_copied asked.now.nonce) bytes.items) }
     ensures bounded { IfOk result (λ bytes. length bytes.items ≤ 2 ^ 27) }
     ensures same { IsRegister (state C.Store store.old) → Stays (state C.Store store.old) (state C.Store store.new) }
     ensures clean { doubt (state C.Store store.old).is_clean ≤ doubt (state C.Store store.new).is_clean }
     ensures faults { IfErr result (λ fault. (fault ≡ ResponseFault.Memory) ⊎ (fault ≡ ResponseFault.Store)) }
 {
-    let issuer = store.issuer()?;
-    let policy = store.policy()?;
-    let answers = answers(alloc, store, &issuer, now, &asked.ids)?;
-    let next = now.plus(policy.ocsp_life());
-    Ok(response_data(alloc, &issuer, now, next, &answers, asked.nonce)?)
+    let answers = answers(alloc, store, issuer, now, &asked.ids)?;
+    Ok(response_data(alloc, issuer, now, next, &answers, asked.nonce)?)
 }
 
-/// The clock takes the moment.
-fn check_clock<C: Alter>(store: &mut Store<C>, now: Moment) -> Result<(), ResponseFault>
-    ensures in_range { OnOk result (now < clock_end) }
+/// The issuer, and the moment up to which an answer of this moment holds, where the clock takes this moment.
+fn responding<C: Alter>(
+    store: &mut Store<C>,
+    now: Moment,
+) -> Result<(Issuer, Moment), ResponseFault>
+    ensures found { (records : Records) → Shows C.Store store.old records → HasCleanDisk (state C.Store store.new)
+        → IfOk result (λ it. (it.0 ≡ records.issuer) × (it.1 ≡ now + records.policy.ocsp_life)) }
     ensures timely { (records : Records) → Shows C.Store store.old records → HasCleanDisk (state C.Store store.new)
         → OnOk result (first_of_all (clock_checks now records.last) ≡ None) }
     ensures untimely { (records : Records) → Shows C.Store store.old records → HasCleanDisk (state C.Store store.new)
@@ -157,9 +160,9 @@ fn check_clock<C: Alter>(store: &mut Store<C>, now: Moment) -> Result<(), Respon
     ensures clean { doubt (state C.Store store.old).is_clean ≤ doubt (state C.Store store.new).is_clean }
     ensures faults { ¬ (IsErrOf result ResponseFault.Signer) }
 {
-    let last = store.last()?;
+    let (last, issuer, life) = store.responding()?;
     clock(now, last)?;
-    Ok(())
+    Ok((issuer, now.plus(life)))
 }
 
 /// The whole response, signed.

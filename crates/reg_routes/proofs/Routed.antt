@@ -171,3 +171,8 @@ finds_at router path found same small is = by (first router path) refl found is
         let key : entry.value ≡ which = cc in
         let P : Which → Type 0 = λ k. IsLed k path (route path) in
         subst P key (found_at router path entry same small e)
+
+-- the path that is found without a router
+pub ocsp_at : (path : List ℕ) → path ≡ codes "/ocsp" → Finds path (Some Ocsp)
+unfolding route
+ocsp_at path same = record { route_is = ap (λ (p : List ℕ). route_in (lines_of keyed) p) same; long = omega arith }

@@ -1,6 +1,6 @@
 //! The routes, and the router that finds them.
 
-ghost use Rattle.std.specs.Prelude.{◌≡◌, ◌≤◌, ◌<◌, All, length, IfOk};
+ghost use Rattle.std.specs.Prelude.{◌≡◌, ◌≤◌, ◌<◌, All, length, codes, IfOk, IsTrue};
 ghost use Rattle.matchit.specs.Router.{map_key, rename};
 ghost use Rattle.matchit.specs.Seek.{first};
 ghost use Rattle.reg_routes.specs.Rows.{rows, Finds, leads, passed};
@@ -71,11 +71,22 @@ fn which_at(router: &Router<Which>, path: &str) -> Option<Which>
     }
 }
 
+/// Whether a path is `/ocsp`.
+fn is_ocsp(path: &str) -> bool
+    ensures { IsTrue result → path.now ≡ codes "/ocsp" }
+{
+    path.as_bytes() == b"/ocsp".as_slice()
+}
+
 /// What the router of all routes keeps of the route of a path.
 fn find_which(alloc: Global, path: &str) -> Result<Option<Which>, NoMemory>
     requires { All (λ byte. byte < 256) path.now }
     ensures { IfOk result (Finds path.now) }
 {
+    // Nearly all ask for this one, and no router is made for it.
+    if is_ocsp(path) {
+        return Ok(Some(Which::Ocsp));
+    }
     match router(alloc) {
         Ok(router) => Ok(which_at(&router, path)),
         Err(_) => Err(NoMemory),

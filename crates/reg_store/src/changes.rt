@@ -1,27 +1,47 @@
 //! Changes.
 
-ghost use Rattle.std.specs.Prelude.{◌≡◌, ◌+◌, ◌≤◌, length, None, IsSomeAnd, OnOk, OnErr, IfErr};
+ghost use Rattle.std.specs.Prelude.{◌≡◌, ◌+◌, ◌≤◌, length, None, IsSomeAnd, OnOk, OnErr, IfErr, IsTrue};
 ghost use Rattle.sqlite.specs.Held.{state};
-ghost use Rattle.sqlite.specs.State.{HasCleanDisk};
-ghost use Rattle.sqlite_trees.specs.View.{doubt};
+ghost use Rattle.sqlite.specs.State.{HasCleanDisk, Survives};
+ghost use Rattle.reg_core.specs.declared.change.Change.TheVariants.{Touch, Subscriber, Order, Certificate, Request, Decline, Revocation};
 ghost use Rattle.reg_core.specs.Records.{Records, certificate_in, revocation_in};
 ghost use Rattle.reg_core.specs.Crls.{next_number};
 ghost use Rattle.reg_core.specs.Sound.{SoundRows};
-ghost use Rattle.reg_core.specs.Changes.{touched, with_subscriber, with_order, with_certificate, with_request, with_declined, with_revocation, with_crl, with_schedule};
+ghost use Rattle.reg_core.specs.Changes.{Fits, changed_by, touched, with_subscriber, with_order, with_certificate, with_request, with_declined, with_revocation, with_crl, with_schedule};
 ghost use Rattle.reg_tables.specs.Columns.{Columns};
 ghost use Rattle.reg_tables.specs.Kept.{ShowsKept};
 ghost use Rattle.reg_tables.specs.Shows.{Shows, ShowsBoth};
 ghost use Rattle.reg_tables.specs.Stays.{IsCallFault, IsRegister, Stays};
+ghost use Rattle.reg_changes.specs.AtRest.{IsChanged, IsIssued, IsScheduled};
+ghost use Rattle.reg_changes.specs.Beside.{TurnsOne};
 ghost use Rattle.reg_changes.specs.Steps.{swept, good_at};
 
 use crate::store::Store;
 use reg_core::{
-    CertRow, CrlRow, Moment, OrderRow, RequestRow, RevocationRow, Schedule, SubscriberRow,
+    CertRow, Change, CrlRow, Moment, OrderRow, RequestRow, RevocationRow, Schedule, SubscriberRow,
 };
 use reg_tables::StoreFault;
 use sqlite::Alter;
 
 impl<S: Alter> Store<S> {
+    /// Makes a change at a moment, in one transaction.
+    ///
+    /// # Errors
+    /// `Memory`; `Store` where the database fails, where a count is missing or less than what is taken from it, and where
+    /// what is revoked has not exactly one good letter. Nothing has changed then.
+    pub fn apply(&mut self, now: Moment, change: &Change<'_>) -> Result<(), StoreFault>
+        ensures ok { (records : Records) → ShowsKept S.Store self.old records → SoundRows records → records.last ≤ now → Fits records now change.now
+            → OnOk result (ShowsKept S.Store self.new (changed_by records now change.now)) }
+        ensures one { HasCleanDisk (state S.Store self.new) → (records : Records) → (columns : Columns) → ShowsBoth S.Store self.old records columns
+            → OnOk result (TurnsOne change.now (swept now columns)) }
+        ensures live { HasCleanDisk (state S.Store self.new) → OnOk result (IsTrue (state S.Store self.new).is_open) }
+        ensures err { IsRegister (state S.Store self.old) → OnErr result (Stays (state S.Store self.old) (state S.Store self.new)) }
+        ensures survives { Survives (state S.Store self.old) (state S.Store self.new) (IsChanged S.Store self.old now change.now) }
+        ensures faults { IfErr result IsCallFault }
+    {
+        reg_changes::apply(&mut self.connection, now, change)
+    }
+
     /// Sets the last accepted moment.
     ///
     /// # Errors
@@ -30,11 +50,12 @@ impl<S: Alter> Store<S> {
     pub fn touch(&mut self, now: Moment) -> Result<(), StoreFault>
         ensures ok { (records : Records) → ShowsKept S.Store self.old records → SoundRows records → records.last ≤ now
             → OnOk result (ShowsKept S.Store self.new (touched records now)) }
+        ensures live { HasCleanDisk (state S.Store self.new) → OnOk result (IsTrue (state S.Store self.new).is_open) }
         ensures err { IsRegister (state S.Store self.old) → OnErr result (Stays (state S.Store self.old) (state S.Store self.new)) }
-        ensures clean { doubt (state S.Store self.old).is_clean ≤ doubt (state S.Store self.new).is_clean }
+        ensures survives { Survives (state S.Store self.old) (state S.Store self.new) (IsChanged S.Store self.old now Touch) }
         ensures faults { IfErr result IsCallFault }
     {
-        reg_changes::touch(&mut self.connection, now)
+        self.apply(now, &Change::Touch)
     }
 
     /// Adds a subscriber.
@@ -45,11 +66,12 @@ impl<S: Alter> Store<S> {
     pub fn add_subscriber(&mut self, now: Moment, row: SubscriberRow) -> Result<(), StoreFault>
         ensures ok { (records : Records) → ShowsKept S.Store self.old records → SoundRows records → records.last ≤ now → row.id ≡ length records.subscribers + 1
             → OnOk result (ShowsKept S.Store self.new (with_subscriber records now row)) }
+        ensures live { HasCleanDisk (state S.Store self.new) → OnOk result (IsTrue (state S.Store self.new).is_open) }
         ensures err { IsRegister (state S.Store self.old) → OnErr result (Stays (state S.Store self.old) (state S.Store self.new)) }
-        ensures clean { doubt (state S.Store self.old).is_clean ≤ doubt (state S.Store self.new).is_clean }
+        ensures survives { Survives (state S.Store self.old) (state S.Store self.new) (IsChanged S.Store self.old now (Subscriber row)) }
         ensures faults { IfErr result IsCallFault }
     {
-        reg_changes::add_subscriber(&mut self.connection, now, row)
+        self.apply(now, &Change::Subscriber(row))
     }
 
     /// Adds an order.
@@ -60,11 +82,12 @@ impl<S: Alter> Store<S> {
     pub fn add_order(&mut self, now: Moment, row: OrderRow) -> Result<(), StoreFault>
         ensures ok { (records : Records) → ShowsKept S.Store self.old records → SoundRows records → records.last ≤ now → row.id ≡ length records.orders + 1
             → OnOk result (ShowsKept S.Store self.new (with_order records now row)) }
+        ensures live { HasCleanDisk (state S.Store self.new) → OnOk result (IsTrue (state S.Store self.new).is_open) }
         ensures err { IsRegister (state S.Store self.old) → OnErr result (Stays (state S.Store self.old) (state S.Store self.new)) }
-        ensures clean { doubt (state S.Store self.old).is_clean ≤ doubt (state S.Store self.new).is_clean }
+        ensures survives { Survives (state S.Store self.old) (state S.Store self.new) (IsChanged S.Store self.old now (Order row)) }
         ensures faults { IfErr result IsCallFault }
     {
-        reg_changes::add_order(&mut self.connection, now, row)
+        self.apply(now, &Change::Order(row))
     }
 
     /// Adds a certificate, one that is good.
@@ -75,11 +98,12 @@ impl<S: Alter> Store<S> {
     pub fn add_cert(&mut self, now: Moment, row: CertRow) -> Result<(), StoreFault>
         ensures ok { (records : Records) → ShowsKept S.Store self.old records → SoundRows records → records.last ≤ now → certificate_in records.certificates row.serial ≡ None → now ≤ row.not_after
             → OnOk result (ShowsKept S.Store self.new (with_certificate records now row)) }
+        ensures live { HasCleanDisk (state S.Store self.new) → OnOk result (IsTrue (state S.Store self.new).is_open) }
         ensures err { IsRegister (state S.Store self.old) → OnErr result (Stays (state S.Store self.old) (state S.Store self.new)) }
-        ensures clean { doubt (state S.Store self.old).is_clean ≤ doubt (state S.Store self.new).is_clean }
+        ensures survives { Survives (state S.Store self.old) (state S.Store self.new) (IsChanged S.Store self.old now (Certificate row)) }
         ensures faults { IfErr result IsCallFault }
     {
-        reg_changes::add_cert(&mut self.connection, now, row)
+        self.apply(now, &Change::Certificate(row))
     }
 
     /// Adds a request for revocation.
@@ -90,11 +114,12 @@ impl<S: Alter> Store<S> {
     pub fn add_request(&mut self, now: Moment, row: RequestRow) -> Result<(), StoreFault>
         ensures ok { (records : Records) → ShowsKept S.Store self.old records → SoundRows records → records.last ≤ now → row.id ≡ length records.requests + 1
             → OnOk result (ShowsKept S.Store self.new (with_request records now row)) }
+        ensures live { HasCleanDisk (state S.Store self.new) → OnOk result (IsTrue (state S.Store self.new).is_open) }
         ensures err { IsRegister (state S.Store self.old) → OnErr result (Stays (state S.Store self.old) (state S.Store self.new)) }
-        ensures clean { doubt (state S.Store self.old).is_clean ≤ doubt (state S.Store self.new).is_clean }
+        ensures survives { Survives (state S.Store self.old) (state S.Store self.new) (IsChanged S.Store self.old now (Request row)) }
         ensures faults { IfErr result IsCallFault }
     {
-        reg_changes::add_request(&mut self.connection, now, row)
+        self.apply(now, &Change::Request(row))
     }
 
     /// Declines the request with an id.
@@ -105,11 +130,12 @@ impl<S: Alter> Store<S> {
     pub fn decline(&mut self, now: Moment, id: u64) -> Result<(), StoreFault>
         ensures ok { (records : Records) → ShowsKept S.Store self.old records → SoundRows records → records.last ≤ now
             → OnOk result (ShowsKept S.Store self.new (with_declined records now id)) }
+        ensures live { HasCleanDisk (state S.Store self.new) → OnOk result (IsTrue (state S.Store self.new).is_open) }
         ensures err { IsRegister (state S.Store self.old) → OnErr result (Stays (state S.Store self.old) (state S.Store self.new)) }
-        ensures clean { doubt (state S.Store self.old).is_clean ≤ doubt (state S.Store self.new).is_clean }
+        ensures survives { Survives (state S.Store self.old) (state S.Store self.new) (IsChanged S.Store self.old now (Decline id)) }
         ensures faults { IfErr result IsCallFault }
     {
-        reg_changes::decline(&mut self.connection, now, id)
+        self.apply(now, &Change::Decline(id))
     }
 
     /// Adds a CRL, with its bytes: it is the last that lists the certificates that ended before it.
@@ -120,11 +146,12 @@ impl<S: Alter> Store<S> {
     pub fn add_crl(&mut self, now: Moment, row: CrlRow, der: &[u8]) -> Result<(), StoreFault>
         ensures ok { (records : Records) → ShowsKept S.Store self.old records → SoundRows records → records.last ≤ now → row.number ≡ next_number records.crls
             → OnOk result (ShowsKept S.Store self.new (with_crl records now (record { number = row.number; this_update = row.this_update; bytes = der.now }))) }
+        ensures live { HasCleanDisk (state S.Store self.new) → OnOk result (IsTrue (state S.Store self.new).is_open) }
         ensures err { IsRegister (state S.Store self.old) → OnErr result (Stays (state S.Store self.old) (state S.Store self.new)) }
-        ensures clean { doubt (state S.Store self.old).is_clean ≤ doubt (state S.Store self.new).is_clean }
+        ensures survives { Survives (state S.Store self.old) (state S.Store self.new) (IsIssued S.Store self.old now row der.now) }
         ensures faults { IfErr result IsCallFault }
     {
-        reg_changes::add_crl(&mut self.connection, now, row, der)
+        self.apply(now, &Change::Crl(row, der))
     }
 
     /// Adds a revocation, of a certificate that is registered and good, which turns its letter.
@@ -139,11 +166,12 @@ impl<S: Alter> Store<S> {
             → OnOk result (ShowsKept S.Store self.new (with_revocation records now row)) }
         ensures one { HasCleanDisk (state S.Store self.new) → (records : Records) → (columns : Columns) → ShowsBoth S.Store self.old records columns
             → OnOk result (good_at row.serial (swept now columns) ≡ 1) }
+        ensures live { HasCleanDisk (state S.Store self.new) → OnOk result (IsTrue (state S.Store self.new).is_open) }
         ensures err { IsRegister (state S.Store self.old) → OnErr result (Stays (state S.Store self.old) (state S.Store self.new)) }
-        ensures clean { doubt (state S.Store self.old).is_clean ≤ doubt (state S.Store self.new).is_clean }
+        ensures survives { Survives (state S.Store self.old) (state S.Store self.new) (IsChanged S.Store self.old now (Revocation row)) }
         ensures faults { IfErr result IsCallFault }
     {
-        reg_changes::add_revocation(&mut self.connection, now, row)
+        self.apply(now, &Change::Revocation(row))
     }
 
     /// Sets the schedule of longest validities. It is no command: no record, nothing that is kept beside them and not the
@@ -155,7 +183,7 @@ impl<S: Alter> Store<S> {
         ensures ok { (records : Records) → ShowsKept S.Store self.old records → OnOk result (ShowsKept S.Store self.new (with_schedule records schedule)) }
         ensures shown { (records : Records) → Shows S.Store self.old records → OnOk result (Shows S.Store self.new (with_schedule records schedule)) }
         ensures err { OnErr result (Stays (state S.Store self.old) (state S.Store self.new)) }
-        ensures clean { doubt (state S.Store self.old).is_clean ≤ doubt (state S.Store self.new).is_clean }
+        ensures survives { Survives (state S.Store self.old) (state S.Store self.new) (IsScheduled S.Store self.old schedule) }
         ensures faults { IfErr result IsCallFault }
     {
         reg_changes::set_schedule(&mut self.connection, &schedule)

@@ -3,7 +3,6 @@
 ghost use Rattle.std.specs.Prelude.{◌≡◌, ◌≤◌, option_map, length, IfOk, IfErr};
 ghost use Rattle.sqlite.specs.Held.{state};
 ghost use Rattle.sqlite.specs.State.{HasCleanDisk};
-ghost use Rattle.sqlite_trees.specs.View.{doubt};
 ghost use Rattle.reg_core.specs.Crls.{EntriesAscend, entries, latest, row_of};
 ghost use Rattle.reg_core.specs.Due.{overdue, overdue_report, earliest, unlisted};
 ghost use Rattle.reg_core.specs.Queries.{listing};
@@ -12,7 +11,7 @@ ghost use Rattle.reg_core.specs.Sound.{SoundRows};
 ghost use Rattle.reg_core.specs.Status as status;
 ghost use Rattle.reg_tables.specs.Kept.{ShowsKept};
 ghost use Rattle.reg_tables.specs.Shows.{Shows};
-ghost use Rattle.reg_tables.specs.Stays.{IsCallFault, IsRegister, Stays};
+ghost use Rattle.reg_tables.specs.Stays.{IsCallFault, IsRegister, LeavesNothing, Stays};
 ghost use Rattle.reg_tables.specs.Tables.{crl_in, rows_of};
 
 use crate::store::Store;
@@ -32,7 +31,7 @@ impl<S: Alter> Store<S> {
     pub fn last(&mut self) -> Result<Moment, StoreFault>
         ensures found { (records : Records) → Shows S.Store self.old records → HasCleanDisk (state S.Store self.new) → IfOk result (λ last. last ≡ records.last) }
         ensures same { IsRegister (state S.Store self.old) → Stays (state S.Store self.old) (state S.Store self.new) }
-        ensures clean { doubt (state S.Store self.old).is_clean ≤ doubt (state S.Store self.new).is_clean }
+        ensures survives { LeavesNothing (state S.Store self.old) (state S.Store self.new) }
         ensures faults { IfErr result IsCallFault }
     {
         reg_tables::last(&mut self.connection)
@@ -45,7 +44,7 @@ impl<S: Alter> Store<S> {
     pub fn issuer(&mut self) -> Result<Issuer, StoreFault>
         ensures found { (records : Records) → Shows S.Store self.old records → HasCleanDisk (state S.Store self.new) → IfOk result (λ issuer. issuer ≡ records.issuer) }
         ensures same { IsRegister (state S.Store self.old) → Stays (state S.Store self.old) (state S.Store self.new) }
-        ensures clean { doubt (state S.Store self.old).is_clean ≤ doubt (state S.Store self.new).is_clean }
+        ensures survives { LeavesNothing (state S.Store self.old) (state S.Store self.new) }
         ensures faults { IfErr result IsCallFault }
     {
         reg_tables::issuer(&mut self.connection)
@@ -58,10 +57,26 @@ impl<S: Alter> Store<S> {
     pub fn policy(&mut self) -> Result<Policy, StoreFault>
         ensures found { (records : Records) → Shows S.Store self.old records → HasCleanDisk (state S.Store self.new) → IfOk result (λ policy. policy ≡ records.policy) }
         ensures same { IsRegister (state S.Store self.old) → Stays (state S.Store self.old) (state S.Store self.new) }
-        ensures clean { doubt (state S.Store self.old).is_clean ≤ doubt (state S.Store self.new).is_clean }
+        ensures survives { LeavesNothing (state S.Store self.old) (state S.Store self.new) }
         ensures faults { IfErr result IsCallFault }
     {
         reg_tables::policy(&mut self.connection)
+    }
+
+    /// What OCSP answers are made from beside the certificates: the last accepted moment, the issuer, and how many seconds an
+    /// answer lives.
+    ///
+    /// # Errors
+    /// `Memory`; `Store` where the database fails, or where its row is one that no register writes.
+    pub fn responding(&mut self) -> Result<(Moment, Issuer, u64), StoreFault>
+        ensures found { (records : Records) → Shows S.Store self.old records → HasCleanDisk (state S.Store self.new)
+            → IfOk result (λ it. (it.0 ≡ records.last) × (it.1 ≡ records.issuer) × (it.2 ≡ records.policy.ocsp_life)) }
+        ensures short { IfOk result (λ it. it.2 ≤ 863999) }
+        ensures same { IsRegister (state S.Store self.old) → Stays (state S.Store self.old) (state S.Store self.new) }
+        ensures survives { LeavesNothing (state S.Store self.old) (state S.Store self.new) }
+        ensures faults { IfErr result IsCallFault }
+    {
+        reg_tables::responding(&mut self.connection)
     }
 
     /// How many rows a table has, which is the last id, or for CRLs the latest number. It finds the last row alone.
@@ -71,7 +86,7 @@ impl<S: Alter> Store<S> {
     pub fn held(&mut self, table: Table) -> Result<u64, StoreFault>
         ensures found { (records : Records) → Shows S.Store self.old records → HasCleanDisk (state S.Store self.new) → IfOk result (λ rows. rows ≡ rows_of records table) }
         ensures same { IsRegister (state S.Store self.old) → Stays (state S.Store self.old) (state S.Store self.new) }
-        ensures clean { doubt (state S.Store self.old).is_clean ≤ doubt (state S.Store self.new).is_clean }
+        ensures survives { LeavesNothing (state S.Store self.old) (state S.Store self.new) }
         ensures faults { IfErr result IsCallFault }
     {
         reg_tables::held(&mut self.connection, table)
@@ -80,11 +95,11 @@ impl<S: Alter> Store<S> {
     /// The subscriber with an id.
     ///
     /// # Errors
-    /// `Memory`; `Store` where the database fails, where its row is one that no register writes, or for a number above 2^63 - 1.
+    /// `Memory`; `Store` where the database fails, or where its row is one that no register writes.
     pub fn subscriber(&mut self, id: u64) -> Result<Option<SubscriberRow>, StoreFault>
         ensures found { (records : Records) → Shows S.Store self.old records → HasCleanDisk (state S.Store self.new) → IfOk result (λ row. row ≡ subscriber_in records.subscribers id) }
         ensures same { IsRegister (state S.Store self.old) → Stays (state S.Store self.old) (state S.Store self.new) }
-        ensures clean { doubt (state S.Store self.old).is_clean ≤ doubt (state S.Store self.new).is_clean }
+        ensures survives { LeavesNothing (state S.Store self.old) (state S.Store self.new) }
         ensures faults { IfErr result IsCallFault }
     {
         reg_tables::subscriber(&mut self.connection, id)
@@ -97,7 +112,7 @@ impl<S: Alter> Store<S> {
     pub fn subscriber_by_name(&mut self, name: &Label) -> Result<Option<SubscriberRow>, StoreFault>
         ensures found { (records : Records) → Shows S.Store self.old records → HasCleanDisk (state S.Store self.new) → IfOk result (λ row. row ≡ subscriber_named records.subscribers name.now) }
         ensures same { IsRegister (state S.Store self.old) → Stays (state S.Store self.old) (state S.Store self.new) }
-        ensures clean { doubt (state S.Store self.old).is_clean ≤ doubt (state S.Store self.new).is_clean }
+        ensures survives { LeavesNothing (state S.Store self.old) (state S.Store self.new) }
         ensures faults { IfErr result IsCallFault }
     {
         reg_tables::subscriber_by_name(&mut self.connection, name)
@@ -106,11 +121,11 @@ impl<S: Alter> Store<S> {
     /// The order with an id.
     ///
     /// # Errors
-    /// `Memory`; `Store` where the database fails, where its row is one that no register writes, or for a number above 2^63 - 1.
+    /// `Memory`; `Store` where the database fails, or where its row is one that no register writes.
     pub fn order(&mut self, id: u64) -> Result<Option<OrderRow>, StoreFault>
         ensures found { (records : Records) → Shows S.Store self.old records → HasCleanDisk (state S.Store self.new) → IfOk result (λ row. row ≡ order_in records.orders id) }
         ensures same { IsRegister (state S.Store self.old) → Stays (state S.Store self.old) (state S.Store self.new) }
-        ensures clean { doubt (state S.Store self.old).is_clean ≤ doubt (state S.Store self.new).is_clean }
+        ensures survives { LeavesNothing (state S.Store self.old) (state S.Store self.new) }
         ensures faults { IfErr result IsCallFault }
     {
         reg_tables::order(&mut self.connection, id)
@@ -123,7 +138,7 @@ impl<S: Alter> Store<S> {
     pub fn cert(&mut self, serial: Serial) -> Result<Option<CertRow>, StoreFault>
         ensures found { (records : Records) → Shows S.Store self.old records → HasCleanDisk (state S.Store self.new) → IfOk result (λ row. row ≡ certificate_in records.certificates serial) }
         ensures same { IsRegister (state S.Store self.old) → Stays (state S.Store self.old) (state S.Store self.new) }
-        ensures clean { doubt (state S.Store self.old).is_clean ≤ doubt (state S.Store self.new).is_clean }
+        ensures survives { LeavesNothing (state S.Store self.old) (state S.Store self.new) }
         ensures faults { IfErr result IsCallFault }
     {
         reg_tables::cert(&mut self.connection, serial)
@@ -136,7 +151,7 @@ impl<S: Alter> Store<S> {
     pub fn cert_of_order(&mut self, order: u64) -> Result<Option<CertRow>, StoreFault>
         ensures found { (records : Records) → Shows S.Store self.old records → HasCleanDisk (state S.Store self.new) → IfOk result (λ row. row ≡ certificate_of_order records.certificates order) }
         ensures same { IsRegister (state S.Store self.old) → Stays (state S.Store self.old) (state S.Store self.new) }
-        ensures clean { doubt (state S.Store self.old).is_clean ≤ doubt (state S.Store self.new).is_clean }
+        ensures survives { LeavesNothing (state S.Store self.old) (state S.Store self.new) }
         ensures faults { IfErr result IsCallFault }
     {
         reg_tables::cert_of_order(&mut self.connection, order)
@@ -145,11 +160,11 @@ impl<S: Alter> Store<S> {
     /// The request with an id.
     ///
     /// # Errors
-    /// `Memory`; `Store` where the database fails, where its row is one that no register writes, or for a number above 2^63 - 1.
+    /// `Memory`; `Store` where the database fails, or where its row is one that no register writes.
     pub fn request(&mut self, id: u64) -> Result<Option<RequestRow>, StoreFault>
         ensures found { (records : Records) → Shows S.Store self.old records → HasCleanDisk (state S.Store self.new) → IfOk result (λ row. row ≡ request_in records.requests id) }
         ensures same { IsRegister (state S.Store self.old) → Stays (state S.Store self.old) (state S.Store self.new) }
-        ensures clean { doubt (state S.Store self.old).is_clean ≤ doubt (state S.Store self.new).is_clean }
+        ensures survives { LeavesNothing (state S.Store self.old) (state S.Store self.new) }
         ensures faults { IfErr result IsCallFault }
     {
         reg_tables::request(&mut self.connection, id)
@@ -162,7 +177,7 @@ impl<S: Alter> Store<S> {
     pub fn revocation(&mut self, serial: Serial) -> Result<Option<RevocationRow>, StoreFault>
         ensures found { (records : Records) → Shows S.Store self.old records → HasCleanDisk (state S.Store self.new) → IfOk result (λ row. row ≡ revocation_in records.revocations serial) }
         ensures same { IsRegister (state S.Store self.old) → Stays (state S.Store self.old) (state S.Store self.new) }
-        ensures clean { doubt (state S.Store self.old).is_clean ≤ doubt (state S.Store self.new).is_clean }
+        ensures survives { LeavesNothing (state S.Store self.old) (state S.Store self.new) }
         ensures faults { IfErr result IsCallFault }
     {
         reg_tables::revocation(&mut self.connection, serial)
@@ -175,7 +190,7 @@ impl<S: Alter> Store<S> {
     pub fn earliest_unlisted(&mut self) -> Result<Option<Moment>, StoreFault>
         ensures found { (records : Records) → Shows S.Store self.old records → HasCleanDisk (state S.Store self.new) → IfOk result (λ at. at ≡ earliest (unlisted records)) }
         ensures same { IsRegister (state S.Store self.old) → Stays (state S.Store self.old) (state S.Store self.new) }
-        ensures clean { doubt (state S.Store self.old).is_clean ≤ doubt (state S.Store self.new).is_clean }
+        ensures survives { LeavesNothing (state S.Store self.old) (state S.Store self.new) }
         ensures faults { IfErr result IsCallFault }
     {
         reg_tables::earliest_unlisted(&mut self.connection)
@@ -188,7 +203,7 @@ impl<S: Alter> Store<S> {
     pub fn latest_crl(&mut self) -> Result<Option<CrlRow>, StoreFault>
         ensures found { (records : Records) → Shows S.Store self.old records → HasCleanDisk (state S.Store self.new) → IfOk result (λ row. row ≡ option_map row_of (latest records.crls)) }
         ensures same { IsRegister (state S.Store self.old) → Stays (state S.Store self.old) (state S.Store self.new) }
-        ensures clean { doubt (state S.Store self.old).is_clean ≤ doubt (state S.Store self.new).is_clean }
+        ensures survives { LeavesNothing (state S.Store self.old) (state S.Store self.new) }
         ensures faults { IfErr result IsCallFault }
     {
         reg_tables::latest_crl(&mut self.connection)
@@ -197,12 +212,12 @@ impl<S: Alter> Store<S> {
     /// The DER of a CRL, by its number.
     ///
     /// # Errors
-    /// `Memory`; `Store` where the database fails, where its row is one that no register writes, or for a number above 2^63 - 1.
+    /// `Memory`; `Store` where the database fails, or where its row is one that no register writes.
     pub fn crl(&mut self, number: u64) -> Result<Option<Vec<u8>>, StoreFault>
         ensures found { (records : Records) → Shows S.Store self.old records → HasCleanDisk (state S.Store self.new)
             → IfOk result (λ der. option_map (λ bytes. bytes.items) der ≡ option_map (λ crl. crl.bytes) (crl_in records.crls number)) }
         ensures same { IsRegister (state S.Store self.old) → Stays (state S.Store self.old) (state S.Store self.new) }
-        ensures clean { doubt (state S.Store self.old).is_clean ≤ doubt (state S.Store self.new).is_clean }
+        ensures survives { LeavesNothing (state S.Store self.old) (state S.Store self.new) }
         ensures faults { IfErr result IsCallFault }
     {
         reg_tables::crl(&mut self.connection, number)
@@ -216,7 +231,7 @@ impl<S: Alter> Store<S> {
     pub fn open_past_due(&mut self, now: Moment) -> Result<Option<Overdue>, StoreFault>
         ensures found { (records : Records) → Shows S.Store self.old records → HasCleanDisk (state S.Store self.new) → IfOk result (λ report. report ≡ overdue_report (overdue records now)) }
         ensures same { IsRegister (state S.Store self.old) → Stays (state S.Store self.old) (state S.Store self.new) }
-        ensures clean { doubt (state S.Store self.old).is_clean ≤ doubt (state S.Store self.new).is_clean }
+        ensures survives { LeavesNothing (state S.Store self.old) (state S.Store self.new) }
         ensures faults { IfErr result IsCallFault }
     {
         reg_tables::open_past_due(&mut self.connection, now)
@@ -233,7 +248,7 @@ impl<S: Alter> Store<S> {
         ensures ascending { IfOk result (λ found. EntriesAscend found.items) }
         ensures at_most { IfOk result (λ found. length found.items ≤ 1000000) }
         ensures same { IsRegister (state S.Store self.old) → Stays (state S.Store self.old) (state S.Store self.new) }
-        ensures clean { doubt (state S.Store self.old).is_clean ≤ doubt (state S.Store self.new).is_clean }
+        ensures survives { LeavesNothing (state S.Store self.old) (state S.Store self.new) }
         ensures faults { IfErr result IsCallFault }
     {
         reg_tables::entries(&mut self.connection, number)
@@ -247,7 +262,7 @@ impl<S: Alter> Store<S> {
     pub fn listing(&mut self, serial: Serial) -> Result<Option<Listing>, StoreFault>
         ensures found { (records : Records) → ShowsKept S.Store self.old records → HasCleanDisk (state S.Store self.new) → IfOk result (λ found. found ≡ listing records serial) }
         ensures same { IsRegister (state S.Store self.old) → Stays (state S.Store self.old) (state S.Store self.new) }
-        ensures clean { doubt (state S.Store self.old).is_clean ≤ doubt (state S.Store self.new).is_clean }
+        ensures survives { LeavesNothing (state S.Store self.old) (state S.Store self.new) }
         ensures faults { IfErr result IsCallFault }
     {
         reg_tables::listing(&mut self.connection, serial)
@@ -260,7 +275,7 @@ impl<S: Alter> Store<S> {
     pub fn counts(&mut self, now: Moment) -> Result<Counts, StoreFault>
         ensures found { (records : Records) → ShowsKept S.Store self.old records → SoundRows records → records.last ≤ now → HasCleanDisk (state S.Store self.new) → IfOk result (λ found. found ≡ status.counts records now) }
         ensures same { IsRegister (state S.Store self.old) → Stays (state S.Store self.old) (state S.Store self.new) }
-        ensures clean { doubt (state S.Store self.old).is_clean ≤ doubt (state S.Store self.new).is_clean }
+        ensures survives { LeavesNothing (state S.Store self.old) (state S.Store self.new) }
         ensures faults { IfErr result IsCallFault }
     {
         reg_tables::counts(&mut self.connection, now)

@@ -6,6 +6,7 @@ use Rattle.sqlite_sql.specs.Term.{Term, col}
 use Rattle.sqlite_sql.specs.Query.{Output}
 use Rattle.sqlite.specs.Effect.{Database, Reads}
 use Rattle.sqlite.specs.Listing.{understood}
+use Rattle.sqlite_resolve.specs.Compile.{first}
 use Rattle.sqlite_tied.specs.Compute.{everything}
 use Rattle.reg_core.specs.Records.{Records, certificate_in, certificate_of_order}
 use Rattle.reg_core.specs.Serial.{IsSerial}
@@ -17,6 +18,7 @@ use Rattle.reg_tables.specs.Reading.{IsReading, command_of, shown_certificate}
 use Rattle.reg_tables.specs.declared.statements.TheConstants.{CERT_BY_SERIAL, CERT_BY_ORDER}
 use Rattle.reg_tables.proofs.Compares.{and_true, eq_number, eq_serial}
 use Rattle.reg_tables.proofs.Queries.{column_is, selects, as_command, no_limit, Given, counted_given, find_none, find_one, Found}
+use Rattle.reg_tables.proofs.Selecting.{select_never}
 
 abbrev columns : List Term
 columns = col 1 1 ∷ col 1 2 ∷ col 1 3 ∷ col 1 4 ∷ []
@@ -32,8 +34,8 @@ unfolding understood everything register_schema
 by_serial_means = refl
 
 pub reading_by_serial : IsReading CERT_BY_SERIAL.now
-unfolding understood everything register_schema
-reading_by_serial = record { plain = (refl, refl); unlisted = refl }
+unfolding understood everything register_schema first
+reading_by_serial = record { plain = (refl, refl); unlisted = refl; never = select_never CERT_BY_SERIAL.now _ _ refl refl refl }
 
 module _ (db : Database) (records : Records) (shown : IsShownBy db records) (serial : ℕ) (is_serial : IsSerial serial) (rows : List Row) (reads : Reads (command_of (understood register_schema CERT_BY_SERIAL.now)) db (serial_value serial ∷ []) rows) where
   by_serial_given : Given (λ row. row.serial == serial) out records.certificates (selects 4 (column_is 1) columns [] no_limit) (serial_value serial ∷ []) rows
@@ -52,8 +54,8 @@ unfolding understood everything register_schema
 by_order_means = refl
 
 pub reading_by_order : IsReading CERT_BY_ORDER.now
-unfolding understood everything register_schema
-reading_by_order = record { plain = (refl, refl); unlisted = refl }
+unfolding understood everything register_schema first
+reading_by_order = record { plain = (refl, refl); unlisted = refl; never = select_never CERT_BY_ORDER.now _ _ refl refl refl }
 
 module _ (db : Database) (records : Records) (shown : IsShownBy db records) (order : ℕ) (rows : List Row) (reads : Reads (command_of (understood register_schema CERT_BY_ORDER.now)) db (number order ∷ []) rows) where
   by_order_given : Given (λ row. row.order == order) out records.certificates (selects 4 (column_is 2) columns [] no_limit) (number order ∷ []) rows

@@ -22,6 +22,7 @@ use Rattle.sqlite_sql.specs.declared.ops.CompareOp.TheVariants.{Eq, Lt}
 use Rattle.sqlite.specs.Effect.{Database, Reads}
 use Rattle.sqlite.specs.Listing.{understood}
 use Rattle.sqlite.proofs.Callers.{one_permutation}
+use Rattle.sqlite_resolve.specs.Compile.{first}
 use Rattle.sqlite_tied.specs.Compute.{everything}
 use Rattle.reg_core.specs.Records.{Records}
 use Rattle.reg_core.specs.declared.command.Counts.{Counts}
@@ -33,6 +34,7 @@ use Rattle.reg_tables.specs.Reading.{IsReading, command_of}
 use Rattle.reg_tables.specs.declared.statements.TheConstants.{COUNTS, ENDED_BEFORE}
 use Rattle.reg_tables.proofs.Compares.{and_true, compares, lt_number, eq_text}
 use Rattle.reg_tables.proofs.Queries.{selects, no_limit, as_command, passes, picked, kept_behind, all_of, Given, keyed_given, find_one}
+use Rattle.reg_tables.proofs.Selecting.{select_never}
 
 -- ---- how many rows pass
 
@@ -98,8 +100,8 @@ unfolding understood everything register_schema
 ended_means = refl
 
 pub reading_ended : IsReading ENDED_BEFORE.now
-unfolding understood everything register_schema
-reading_ended = record { plain = (refl, refl); unlisted = refl }
+unfolding understood everything register_schema first
+reading_ended = record { plain = (refl, refl); unlisted = refl; never = select_never ENDED_BEFORE.now _ _ refl refl refl }
 
 is_g : (letter : Letter) → bytes_eq (letter_text letter) (codes "G") ≡ is_good_letter letter
 is_g good = refl
@@ -151,8 +153,8 @@ unfolding understood everything register_schema
 counts_mean = refl
 
 pub reading_counts : IsReading COUNTS.now
-unfolding understood everything register_schema
-reading_counts = record { plain = (refl, refl); unlisted = refl }
+unfolding understood everything register_schema first
+reading_counts = record { plain = (refl, refl); unlisted = refl; never = select_never COUNTS.now _ _ refl refl refl }
 
 abbrev shown_counts : Counts → Row
 shown_counts counts = number counts.good ∷ number counts.revoked ∷ number counts.expired ∷ []

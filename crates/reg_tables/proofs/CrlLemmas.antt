@@ -8,6 +8,7 @@ use Rattle.sqlite_sql.specs.Term.{col}
 use Rattle.sqlite_sql.specs.Query.{Output}
 use Rattle.sqlite.specs.Effect.{Database, Reads}
 use Rattle.sqlite.specs.Listing.{understood}
+use Rattle.sqlite_resolve.specs.Compile.{first}
 use Rattle.sqlite_tied.specs.Compute.{everything}
 use Rattle.reg_core.specs.Crls.{latest, row_of}
 use Rattle.reg_core.specs.Records.{Records, Crl}
@@ -20,6 +21,7 @@ use Rattle.reg_tables.specs.Reading.{IsReading, command_of, shown_crl}
 use Rattle.reg_tables.specs.declared.statements.TheConstants.{LATEST_CRL, CRL_BYTES}
 use Rattle.reg_tables.proofs.Compares.{and_true, eq_number}
 use Rattle.reg_tables.proofs.Queries.{column_is, selects, as_command, no_limit, Given, keyed_given, all_of, find_none, find_one, Found}
+use Rattle.reg_tables.proofs.Selecting.{select_never}
 use Rattle.reg_tables.proofs.Greatest.{greatest_none, greatest_one, latest_is}
 use Rattle.reg_tables.proofs.HeldLemmas.{crl_given}
 
@@ -50,8 +52,8 @@ unfolding understood everything register_schema
 bytes_mean = refl
 
 pub reading_bytes : IsReading CRL_BYTES.now
-unfolding understood everything register_schema
-reading_bytes = record { plain = (refl, refl); unlisted = refl }
+unfolding understood everything register_schema first
+reading_bytes = record { plain = (refl, refl); unlisted = refl; never = select_never CRL_BYTES.now _ _ refl refl refl }
 
 abbrev out : Crl → Output
 out crl = ([], Blob crl.bytes ∷ [])

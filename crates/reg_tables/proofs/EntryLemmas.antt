@@ -22,6 +22,7 @@ use Rattle.sqlite_sql.specs.declared.ops.BinaryOp.TheVariants.{Compare, Is, Or}
 use Rattle.sqlite_sql.specs.declared.ops.CompareOp.TheVariants.{Le, Ge}
 use Rattle.sqlite.specs.Effect.{Database, Reads}
 use Rattle.sqlite.specs.Listing.{understood}
+use Rattle.sqlite_resolve.specs.Compile.{first}
 use Rattle.sqlite_tied.specs.Compute.{everything}
 use Rattle.reg_core.specs.Crls.{EntriesAscend, is_on, is_past_on, content, entry_of, entries}
 use Rattle.reg_core.specs.Records.{Records, Crl}
@@ -39,6 +40,7 @@ use Rattle.reg_tables.specs.declared.statements.TheConstants.{ENTRIES}
 use Rattle.reg_tables.proofs.AscendLemmas.{serial_of, ascending_same, ascending_sorted}
 use Rattle.reg_tables.proofs.Compares.{and_true, compares, le_number, number_order, is_ge-nat_cmp}
 use Rattle.reg_tables.proofs.Queries.{selects, as_command, no_limit, Given, counted_given, kept_have}
+use Rattle.reg_tables.proofs.Selecting.{select_never}
 use Rattle.reg_tables.proofs.Sorting.{ascending_key, sorted_same}
 
 -- ---- what the statement tests
@@ -74,8 +76,8 @@ unfolding understood everything register_schema
 entries_mean = refl
 
 pub reading_entries : IsReading ENTRIES.now
-unfolding understood everything register_schema
-reading_entries = record { plain = (refl, refl); unlisted = refl }
+unfolding understood everything register_schema first
+reading_entries = record { plain = (refl, refl); unlisted = refl; never = select_never ENTRIES.now _ _ refl refl refl }
 
 or_truth : (a b : Bool) → is_true (from_truth (or3 (truth (from_truth (Some a))) (truth (from_truth (Some b))))) ≡ (a || b)
 or_truth true true = refl

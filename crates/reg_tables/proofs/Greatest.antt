@@ -1,6 +1,8 @@
 -- The last of the rows that are numbered from 1 on, which a statement finds by the greatest number.
-use Rattle.std.proofs.Common.{◌≡◌, ◌≤◌, ◌<◌, ◌+◌, ℕ, pos, true, List, [], ◌∷◌, map, length, Some, refl, sym, subst, ◌∙◌, arith}
-use Rattle.std.specs.List.{filter, AllByRecursion}
+use Rattle.std.proofs.Common.{◌≡◌, ◌≤◌, ◌<◌, ◌+◌, ℕ, pos, true, false, List, [], ◌∷◌, map, length, None, Some, refl, sym, subst, ◌∙◌, arith}
+use Rattle.std.specs.Prelude.{◌==◌}
+use Rattle.std.specs.List.{filter, find, AllByRecursion}
+use Rattle.std.proofs.lemmas.Bool.Decides.{nat_tests}
 use Rattle.std.specs.List.Sorted.{IsPermutation, IsSorted}
 use Rattle.std.proofs.lemmas.List.Sorted.{length_permutation}
 use Rattle.sqlite_value.specs.Order.{Row}
@@ -46,6 +48,13 @@ module _ {A : Type 0} (n : A → ℕ) where
   reaches : (from : ℕ) (x : A) (xs : List A) → NumberedFrom n from (x ∷ xs) → (most : ℕ) → AllByRecursion (λ a. n a ≤ most) (x ∷ xs) → from + length xs ≤ most
   reaches from x [] numbered most all = omega arith
   reaches from x (y ∷ xs) numbered most all = let rest = reaches (from + 1) y xs numbered.1 most all.1 in omega arith
+
+  -- no row has a number past the last one's
+  pub none_past : (from m : ℕ) (xs : List A) → NumberedFrom n from xs → from + length xs ≤ m → None ≡ find (λ a. n a == m) xs
+  none_past from m [] numbered past = refl
+  none_past from m (x ∷ xs) numbered past =
+      let other : (n x == m) ≡ false = grind (arith, nat_tests) in
+      rw other (none_past (from + 1) m xs numbered.1 (omega arith))
 
   -- the greatest number is the count of the rows
   pub greatest_is : (xs : List A) (t : A) (more : List A) → NumberedFrom n 1 xs → IsPermutation xs (t ∷ more) → AllByRecursion (λ a. n a ≤ n t) xs → n t ≡ length xs

@@ -4,6 +4,7 @@ use Rattle.sqlite_value.specs.Order.{Row, column}
 use Rattle.sqlite_sql.specs.Term.{Term, col}
 use Rattle.sqlite.specs.Effect.{Database, Reads}
 use Rattle.sqlite.specs.Listing.{understood}
+use Rattle.sqlite_resolve.specs.Compile.{first}
 use Rattle.sqlite_tied.specs.Compute.{everything}
 use Rattle.reg_core.specs.Records.{Records, Crl}
 use Rattle.reg_core.specs.Sound.{NumberedFrom}
@@ -18,6 +19,7 @@ use Rattle.reg_tables.specs.Tables.{IsNumberShown}
 use Rattle.reg_tables.specs.Reading.{IsReading, command_of}
 use Rattle.reg_tables.specs.declared.statements.TheConstants.{LAST_SUBSCRIBER, LAST_ORDER, LAST_CERT, LAST_REQUEST, LATEST_CRL}
 use Rattle.reg_tables.proofs.Queries.{selects, as_command, Given, keyed_given, all_of}
+use Rattle.reg_tables.proofs.Selecting.{select_never}
 use Rattle.reg_tables.proofs.Sorting.{descending_key}
 use Rattle.reg_tables.proofs.Greatest.{one_row, greatest_none, greatest_one}
 
@@ -39,8 +41,8 @@ unfolding understood everything register_schema
 subscriber_means = refl
 
 pub reading_subscriber : IsReading LAST_SUBSCRIBER.now
-unfolding understood everything register_schema
-reading_subscriber = record { plain = (refl, refl); unlisted = refl }
+unfolding understood everything register_schema first
+reading_subscriber = record { plain = (refl, refl); unlisted = refl; never = select_never LAST_SUBSCRIBER.now _ _ refl refl refl }
 
 module _ (db : Database) (records : Records) (shown : IsShownBy db records) (rows : List Row) (reads : Reads (command_of (understood register_schema LAST_SUBSCRIBER.now)) db [] rows) where
   pub subscriber_given : Given (λ _. true) (λ (row : SubscriberRow). (number row.id ∷ [], number row.id ∷ [])) records.subscribers (selects 1 [] (col 1 0 ∷ []) ((col 1 0, descending_key) ∷ []) one_row) [] rows
@@ -56,8 +58,8 @@ unfolding understood everything register_schema
 order_means = refl
 
 pub reading_order : IsReading LAST_ORDER.now
-unfolding understood everything register_schema
-reading_order = record { plain = (refl, refl); unlisted = refl }
+unfolding understood everything register_schema first
+reading_order = record { plain = (refl, refl); unlisted = refl; never = select_never LAST_ORDER.now _ _ refl refl refl }
 
 module _ (db : Database) (records : Records) (shown : IsShownBy db records) (rows : List Row) (reads : Reads (command_of (understood register_schema LAST_ORDER.now)) db [] rows) where
   pub order_given : Given (λ _. true) (λ (row : OrderRow). (number row.id ∷ [], number row.id ∷ [])) records.orders (selects 3 [] (col 1 0 ∷ []) ((col 1 0, descending_key) ∷ []) one_row) [] rows
@@ -73,8 +75,8 @@ unfolding understood everything register_schema
 request_means = refl
 
 pub reading_request : IsReading LAST_REQUEST.now
-unfolding understood everything register_schema
-reading_request = record { plain = (refl, refl); unlisted = refl }
+unfolding understood everything register_schema first
+reading_request = record { plain = (refl, refl); unlisted = refl; never = select_never LAST_REQUEST.now _ _ refl refl refl }
 
 module _ (db : Database) (records : Records) (shown : IsShownBy db records) (rows : List Row) (reads : Reads (command_of (understood register_schema LAST_REQUEST.now)) db [] rows) where
   pub request_given : Given (λ _. true) (λ (row : RequestRow). (number row.id ∷ [], number row.id ∷ [])) records.requests (selects 7 [] (col 1 0 ∷ []) ((col 1 0, descending_key) ∷ []) one_row) [] rows
@@ -90,8 +92,8 @@ unfolding understood everything register_schema
 crl_means = refl
 
 pub reading_crl : IsReading LATEST_CRL.now
-unfolding understood everything register_schema
-reading_crl = record { plain = (refl, refl); unlisted = refl }
+unfolding understood everything register_schema first
+reading_crl = record { plain = (refl, refl); unlisted = refl; never = select_never LATEST_CRL.now _ _ refl refl refl }
 
 module _ (db : Database) (records : Records) (shown : IsShownBy db records) (rows : List Row) (reads : Reads (command_of (understood register_schema LATEST_CRL.now)) db [] rows) where
   pub crl_given : Given (λ _. true) (λ (row : Crl). (number row.number ∷ [], number row.number ∷ number row.this_update ∷ [])) records.crls (selects 11 [] (col 1 0 ∷ col 1 2 ∷ []) ((col 1 0, descending_key) ∷ []) one_row) [] rows
@@ -127,8 +129,8 @@ unfolding understood everything register_schema
 cert_means = refl
 
 pub reading_cert : IsReading LAST_CERT.now
-unfolding understood everything register_schema
-reading_cert = record { plain = (refl, refl); unlisted = refl }
+unfolding understood everything register_schema first
+reading_cert = record { plain = (refl, refl); unlisted = refl; never = select_never LAST_CERT.now _ _ refl refl refl }
 
 module _ (db : Database) (records : Records) (shown : IsShownBy db records) (rows : List Row) (reads : Reads (command_of (understood register_schema LAST_CERT.now)) db [] rows) where
   abbrev numbered_certificates : List (ℕ × CertRow)

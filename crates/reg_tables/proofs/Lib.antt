@@ -1,6 +1,7 @@
 mod Making
 pub mod Compares
 pub mod Queries
+pub mod Selecting
 pub mod Sorting
 pub mod Greatest
 pub mod UnlistedLemmas

@@ -10,6 +10,7 @@ use Rattle.sqlite_sql.specs.Term.{Term, col}
 use Rattle.sqlite_sql.specs.Query.{Output}
 use Rattle.sqlite.specs.Effect.{Database, Reads}
 use Rattle.sqlite.specs.Listing.{understood}
+use Rattle.sqlite_resolve.specs.Compile.{first}
 use Rattle.sqlite_tied.specs.Compute.{everything}
 use Rattle.reg_core.specs.Queries.{listing}
 use Rattle.reg_core.specs.Records.{Records, revocation_in}
@@ -24,6 +25,7 @@ use Rattle.reg_tables.specs.Reading.{IsReading, command_of}
 use Rattle.reg_tables.specs.declared.statements.TheConstants.{LISTED_BY_SERIAL}
 use Rattle.reg_tables.proofs.Compares.{and_true, eq_serial}
 use Rattle.reg_tables.proofs.Queries.{column_is, selects, as_command, no_limit, Given, counted_given, all_of, find_none, find_one}
+use Rattle.reg_tables.proofs.Selecting.{select_never}
 
 abbrev columns : List Term
 columns = col 1 4 ∷ col 1 6 ∷ []
@@ -36,8 +38,8 @@ unfolding understood everything register_schema
 listed_means = refl
 
 pub reading_listed : IsReading LISTED_BY_SERIAL.now
-unfolding understood everything register_schema
-reading_listed = record { plain = (refl, refl); unlisted = refl }
+unfolding understood everything register_schema first
+reading_listed = record { plain = (refl, refl); unlisted = refl; never = select_never LISTED_BY_SERIAL.now _ _ refl refl refl }
 
 abbrev shown_listed : Listed → Row
 shown_listed row = number row.first ∷ number_or_null row.last ∷ []

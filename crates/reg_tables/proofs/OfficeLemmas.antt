@@ -6,14 +6,16 @@ use Rattle.sqlite_sql.specs.Term.{Term, col, eval_all}
 use Rattle.sqlite_sql.specs.Query.{Output}
 use Rattle.sqlite.specs.Effect.{Database, Reads}
 use Rattle.sqlite.specs.Listing.{understood}
+use Rattle.sqlite_resolve.specs.Compile.{first}
 use Rattle.sqlite_tied.specs.Compute.{everything}
 use Rattle.reg_core.specs.Records.{Records}
 use Rattle.reg_tables.specs.Schema.{register_schema}
 use Rattle.reg_tables.specs.Rows.{number, stored_office}
 use Rattle.reg_tables.specs.Shows.{IsShownBy}
 use Rattle.reg_tables.specs.Reading.{IsReading, command_of}
-use Rattle.reg_tables.specs.declared.statements.TheConstants.{LAST, ISSUER, TERMS}
+use Rattle.reg_tables.specs.declared.statements.TheConstants.{LAST, ISSUER, RESPONDING, TERMS}
 use Rattle.reg_tables.proofs.Queries.{selects, as_command, no_limit, Given, keyed_given, find_one}
+use Rattle.reg_tables.proofs.Selecting.{select_never}
 
 same_some : {A : Type 0} (x y : A) → Some x ≡ Some y → x ≡ y
 same_some x y e = cc
@@ -39,24 +41,32 @@ unfolding understood everything register_schema
 last_means = refl
 
 pub reading_last : IsReading LAST.now
-unfolding understood everything register_schema
-reading_last = record { plain = (refl, refl); unlisted = refl }
+unfolding understood everything register_schema first
+reading_last = record { plain = (refl, refl); unlisted = refl; never = select_never LAST.now _ _ refl refl refl }
 
 issuer_means : command_of (understood register_schema ISSUER.now) ≡ as_command (selects 0 [] (col 1 3 ∷ col 1 4 ∷ []) [] no_limit) (codes "name" ∷ codes "pubkey" ∷ [])
 unfolding understood everything register_schema
 issuer_means = refl
 
 pub reading_issuer : IsReading ISSUER.now
+unfolding understood everything register_schema first
+reading_issuer = record { plain = (refl, refl); unlisted = refl; never = select_never ISSUER.now _ _ refl refl refl }
+
+responding_means : command_of (understood register_schema RESPONDING.now) ≡ as_command (selects 0 [] (col 1 9 ∷ col 1 3 ∷ col 1 4 ∷ col 1 7 ∷ []) [] no_limit) (codes "last_at" ∷ codes "name" ∷ codes "pubkey" ∷ codes "ocsp_life" ∷ [])
 unfolding understood everything register_schema
-reading_issuer = record { plain = (refl, refl); unlisted = refl }
+responding_means = refl
+
+pub reading_responding : IsReading RESPONDING.now
+unfolding understood everything register_schema first
+reading_responding = record { plain = (refl, refl); unlisted = refl; never = select_never RESPONDING.now _ _ refl refl refl }
 
 terms_means : command_of (understood register_schema TERMS.now) ≡ as_command (selects 0 [] (col 1 6 ∷ col 1 7 ∷ col 1 8 ∷ []) [] no_limit) (codes "crl_life" ∷ codes "ocsp_life" ∷ codes "cap" ∷ [])
 unfolding understood everything register_schema
 terms_means = refl
 
 pub reading_terms : IsReading TERMS.now
-unfolding understood everything register_schema
-reading_terms = record { plain = (refl, refl); unlisted = refl }
+unfolding understood everything register_schema first
+reading_terms = record { plain = (refl, refl); unlisted = refl; never = select_never TERMS.now _ _ refl refl refl }
 
 module _ (db : Database) (records : Records) (shown : IsShownBy db records) (rows : List Row) (row : Row) (one : rows ≡ row ∷ []) where
   pub last_one : Reads (command_of (understood register_schema LAST.now)) db [] rows → row ≡ number records.last ∷ []
@@ -67,3 +77,7 @@ module _ (db : Database) (records : Records) (shown : IsShownBy db records) (row
 
   pub terms_one : Reads (command_of (understood register_schema TERMS.now)) db [] rows → row ≡ number records.policy.crl_life ∷ number records.policy.ocsp_life ∷ number records.policy.cap ∷ []
   terms_one reads = office_one (col 1 6 ∷ col 1 7 ∷ col 1 8 ∷ []) TERMS.now (codes "crl_life" ∷ codes "ocsp_life" ∷ codes "cap" ∷ []) terms_means db records shown rows reads row one
+
+  pub responding_one : Reads (command_of (understood register_schema RESPONDING.now)) db [] rows
+      → row ≡ number records.last ∷ Blob records.issuer.name ∷ Blob records.issuer.key ∷ number records.policy.ocsp_life ∷ []
+  responding_one reads = office_one (col 1 9 ∷ col 1 3 ∷ col 1 4 ∷ col 1 7 ∷ []) RESPONDING.now (codes "last_at" ∷ codes "name" ∷ codes "pubkey" ∷ codes "ocsp_life" ∷ []) responding_means db records shown rows reads row one

@@ -6,6 +6,7 @@ use Rattle.sqlite_sql.specs.Term.{Term, col}
 use Rattle.sqlite_sql.specs.Query.{Output}
 use Rattle.sqlite.specs.Effect.{Database, Reads}
 use Rattle.sqlite.specs.Listing.{understood}
+use Rattle.sqlite_resolve.specs.Compile.{first}
 use Rattle.sqlite_tied.specs.Compute.{everything}
 use Rattle.reg_core.specs.Records.{Records, order_in}
 use Rattle.reg_core.specs.declared.rows.OrderRow.{OrderRow}
@@ -16,6 +17,7 @@ use Rattle.reg_tables.specs.Reading.{IsReading, command_of, shown_order}
 use Rattle.reg_tables.specs.declared.statements.TheConstants.{ORDER_BY_ID}
 use Rattle.reg_tables.proofs.Compares.{and_true, eq_number}
 use Rattle.reg_tables.proofs.Queries.{column_is, selects, as_command, no_limit, Given, keyed_given, all_of, find_none, find_one, Found}
+use Rattle.reg_tables.proofs.Selecting.{select_never}
 
 abbrev columns : List Term
 columns = col 1 0 ∷ col 1 2 ∷ col 1 3 ∷ []
@@ -31,8 +33,8 @@ unfolding understood everything register_schema
 by_id_means = refl
 
 pub reading_by_id : IsReading ORDER_BY_ID.now
-unfolding understood everything register_schema
-reading_by_id = record { plain = (refl, refl); unlisted = refl }
+unfolding understood everything register_schema first
+reading_by_id = record { plain = (refl, refl); unlisted = refl; never = select_never ORDER_BY_ID.now _ _ refl refl refl }
 
 module _ (db : Database) (records : Records) (shown : IsShownBy db records) (id : ℕ) (rows : List Row) (reads : Reads (command_of (understood register_schema ORDER_BY_ID.now)) db (number id ∷ []) rows) where
   by_id_given : Given (λ row. row.id == id) out records.orders (selects 3 (column_is 0) columns [] no_limit) (number id ∷ []) rows

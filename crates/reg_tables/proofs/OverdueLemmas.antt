@@ -14,6 +14,7 @@ use Rattle.sqlite_sql.specs.declared.ops.BinaryOp.TheVariants.{Compare}
 use Rattle.sqlite_sql.specs.declared.ops.CompareOp.TheVariants.{Eq}
 use Rattle.sqlite.specs.Effect.{Database, Reads}
 use Rattle.sqlite.specs.Listing.{understood}
+use Rattle.sqlite_resolve.specs.Compile.{first}
 use Rattle.sqlite_tied.specs.Compute.{everything}
 use Rattle.reg_core.specs.Due.{deadline, is_open, overdue}
 use Rattle.reg_core.specs.Records.{Records}
@@ -27,6 +28,7 @@ use Rattle.reg_tables.specs.Reading.{IsReading, command_of, shown_request}
 use Rattle.reg_tables.specs.declared.statements.TheConstants.{UNDECLINED}
 use Rattle.reg_tables.proofs.Compares.{and_true, eq_number}
 use Rattle.reg_tables.proofs.Queries.{selects, as_command, no_limit, Given, keyed_given, kept_have}
+use Rattle.reg_tables.proofs.Selecting.{select_never}
 use Rattle.reg_tables.proofs.Sorting.{ascending_key, ascends, Rises, sorted_same}
 use Rattle.reg_tables.proofs.Greatest.{numbered_rises}
 
@@ -47,8 +49,8 @@ unfolding understood everything register_schema
 undeclined_means = refl
 
 pub reading_undeclined : IsReading UNDECLINED.now
-unfolding understood everything register_schema
-reading_undeclined = record { plain = (refl, refl); unlisted = refl }
+unfolding understood everything register_schema first
+reading_undeclined = record { plain = (refl, refl); unlisted = refl; never = select_never UNDECLINED.now _ _ refl refl refl }
 
 abbrev id_of : RequestRow → ℕ
 id_of row = row.id

@@ -6,6 +6,7 @@ use Rattle.sqlite_sql.specs.Term.{Term, col}
 use Rattle.sqlite_sql.specs.Query.{Output}
 use Rattle.sqlite.specs.Effect.{Database, Reads}
 use Rattle.sqlite.specs.Listing.{understood}
+use Rattle.sqlite_resolve.specs.Compile.{first}
 use Rattle.sqlite_tied.specs.Compute.{everything}
 use Rattle.reg_core.specs.Records.{Records, revocation_in}
 use Rattle.reg_core.specs.Serial.{IsSerial}
@@ -17,6 +18,7 @@ use Rattle.reg_tables.specs.Reading.{IsReading, command_of, shown_revocation}
 use Rattle.reg_tables.specs.declared.statements.TheConstants.{REVOCATION_BY_SERIAL}
 use Rattle.reg_tables.proofs.Compares.{and_true, eq_serial}
 use Rattle.reg_tables.proofs.Queries.{column_is, selects, as_command, no_limit, Given, counted_given, find_none, find_one, Found}
+use Rattle.reg_tables.proofs.Selecting.{select_never}
 
 abbrev columns : List Term
 columns = col 1 1 ∷ col 1 2 ∷ col 1 3 ∷ col 1 4 ∷ col 1 5 ∷ []
@@ -32,8 +34,8 @@ unfolding understood everything register_schema
 by_serial_means = refl
 
 pub reading_by_serial : IsReading REVOCATION_BY_SERIAL.now
-unfolding understood everything register_schema
-reading_by_serial = record { plain = (refl, refl); unlisted = refl }
+unfolding understood everything register_schema first
+reading_by_serial = record { plain = (refl, refl); unlisted = refl; never = select_never REVOCATION_BY_SERIAL.now _ _ refl refl refl }
 
 module _ (db : Database) (records : Records) (shown : IsShownBy db records) (serial : ℕ) (is_serial : IsSerial serial) (rows : List Row) (reads : Reads (command_of (understood register_schema REVOCATION_BY_SERIAL.now)) db (serial_value serial ∷ []) rows) where
   by_serial_given : Given (λ row. row.serial == serial) out records.revocations (selects 8 (column_is 1) columns [] no_limit) (serial_value serial ∷ []) rows

@@ -9,6 +9,7 @@ use Rattle.sqlite_sql.specs.Term.{Term, col}
 use Rattle.sqlite_sql.specs.Query.{Output}
 use Rattle.sqlite.specs.Effect.{Database, Reads}
 use Rattle.sqlite.specs.Listing.{understood}
+use Rattle.sqlite_resolve.specs.Compile.{first}
 use Rattle.sqlite_tied.specs.Compute.{everything}
 use Rattle.reg_core.specs.Records.{Records}
 use Rattle.reg_core.specs.Schedule.{Ascends}
@@ -18,6 +19,7 @@ use Rattle.reg_tables.specs.Shows.{IsShownBy}
 use Rattle.reg_tables.specs.Reading.{IsReading, command_of, shown_step}
 use Rattle.reg_tables.specs.declared.statements.TheConstants.{STEPS}
 use Rattle.reg_tables.proofs.Queries.{selects, as_command, no_limit, Given, keyed_given, all_of}
+use Rattle.reg_tables.proofs.Selecting.{select_never}
 use Rattle.reg_tables.proofs.Sorting.{ascending_key, ascends, Rises, sorted_same}
 
 abbrev moment_of : ℕ × ℕ → ℕ
@@ -42,8 +44,8 @@ unfolding understood everything register_schema
 steps_mean = refl
 
 pub reading_steps : IsReading STEPS.now
-unfolding understood everything register_schema
-reading_steps = record { plain = (refl, refl); unlisted = refl }
+unfolding understood everything register_schema first
+reading_steps = record { plain = (refl, refl); unlisted = refl; never = select_never STEPS.now _ _ refl refl refl }
 
 abbrev out : ℕ × ℕ → Output
 out step = (number (moment_of step) ∷ [], shown_step step)

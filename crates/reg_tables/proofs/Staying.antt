@@ -1,7 +1,9 @@
 -- What a query leaves: nothing has changed, or a failure has undone a transaction.
+use Rattle.std.specs.Prelude.{OnOk, option_map}
 use Rattle.std.specs.Option.{ok_or, IfSome}
 use Rattle.std.proofs.Common.{◌≡◌, ◌≤◌, ◌⊎◌, inl, inr, ℕ, List, Option, None, Some, Ok, Err, IfOk, Result, IsTrue, refl, sym, ap, subst, ◌∙◌, arith}
 use Rattle.sqlite_value.specs.Order.{Row}
+use Rattle.sqlite_trees.specs.Tree.{Trees}
 use Rattle.sqlite_trees.specs.View.{doubt}
 use Rattle.sqlite_trees.specs.declared.store.Store.{Ghosts}
 use Rattle.sqlite_schema.specs.declared.command.Returning.{Returning}
@@ -11,15 +13,16 @@ use Rattle.sqlite.specs.Effect.{Database}
 use Rattle.sqlite.specs.Given.{IsPlain}
 use Rattle.sqlite.specs.Held.{Held, state}
 use Rattle.sqlite.specs.Listing.{understood}
-use Rattle.sqlite.specs.State.{State, HasCleanDisk, IsUnchanged, IsRolledBack, IsNotRun, FailsToQuery, FailsToShow, ShowsRows, Shown, RunsCommand}
+use Rattle.sqlite.specs.State.{State, HasCleanDisk, Survives, CommitsShowing, IsUnchanged, IsRolledBack, IsNotRun, FailsToQuery, FailsToShow, ShowsRows, Shown, RunsCommand}
 use Rattle.sqlite.proofs.Callers.{reads_as}
+use Rattle.sqlite.proofs.StateLemmas.{survives_then, survives_weaker}
 use Rattle.reg_tables.specs.Schema.{register_schema}
-use Rattle.reg_tables.specs.Reading.{Answers, IsReading, command_of}
+use Rattle.reg_tables.specs.Reading.{Answers, IsReading, NeverReturns, command_of}
 use Rattle.reg_core.specs.Records.{Records}
 use Rattle.reg_tables.specs.Columns.{Columns}
 use Rattle.reg_tables.specs.Shows.{Holds, Shows, ShowsBoth, IsShownBy, AreBoth}
 use Rattle.reg_tables.specs.Kept.{ShowsKept}
-use Rattle.reg_tables.specs.Stays.{IsRegister, Stays}
+use Rattle.reg_tables.specs.Stays.{IsRegister, Stays, LeavesNothing}
 
 abbrev Remains : State → State → Type 0
 Remains old new = IsUnchanged old new ⊎ IsRolledBack old new
@@ -184,6 +187,20 @@ pub ok_then : {T E : Type 0} {P Q : T → Type 0} (r : Result T E) → IfOk r P 
 ok_then (Ok x) h more = more x h
 ok_then (Err e) h more = tt
 
+-- what each result gives holds
+pub ok_holds : {T E : Type 0} {P : T → Type 0} {Q : Type 0} (r : Result T E) → IfOk r P → ((x : T) → P x → Q) → OnOk r Q
+ok_holds (Ok x) h more = more x h
+ok_holds (Err e) h more = tt
+
+-- a result that gives none gives what is none
+pub past_then : {T E P : Type 0} (r : Result (Option T) E) (what : Option T) → IfOk r (λ found. found ≡ None) → OnOk r P → (P → None ≡ what) → IfOk r (λ found. found ≡ what)
+past_then (Ok found) what none past more = none ∙ more past
+past_then (Err e) what none past more = tt
+
+pub past_maps : {T U B E P : Type 0} (f : T → B) (g : U → B) (r : Result (Option T) E) (what : Option U) → IfOk r (λ found. found ≡ None) → OnOk r P → (P → None ≡ what) → IfOk r (λ found. option_map f found ≡ option_map g what)
+past_maps f g (Ok found) what none past more = ap (option_map f) none ∙ ap (option_map g) (more past)
+past_maps f g (Err e) what none past more = tt
+
 -- the same of an option whose lack is an error
 pub some_then : {T E : Type 0} {P Q : T → Type 0} (r : Result T E) (o : Option T) (e : E) → r ≡ ok_or o e → IfSome o P → ((x : T) → P x → Q x) → IfOk r Q
 some_then {Q = Q} r (Some x) e is h more = subst (λ r. IfOk r Q) (sym is) (more x h)
@@ -192,3 +209,17 @@ some_then {Q = Q} r None e is h more = subst (λ r. IfOk r Q) (sym is) tt
 pub both_then : {S : Type 0} (g : Ghosts S) (old new : Held S) (records : Records) (columns : Columns) → doubt (state g old).is_clean ≤ doubt (state g new).is_clean → HasCleanDisk (state g new) → IsTrue (state g old).is_open
     → ShowsBoth g old records columns → AreBoth (state g old).now records columns
 both_then g old new records columns forgets clean up both = both.tables (was_clean (state g old) (state g new) forgets clean) up
+
+-- ---- what a stop leaves after what commits nothing
+
+never_shows : (sql : List ℕ) (params : Row) (s : State) (db : Trees) → NeverReturns sql → CommitsShowing sql params s db → ⊥
+unfolding CommitsShowing
+never_shows sql params s db never h = let some = rw (never.none s.now.schema h.0 h.1.is) at h.2 in absurd (cc)
+
+-- a text that returns nothing of a write commits nothing
+pub reads_nothing : (old new : State) (sql : List ℕ) (params : Row) → NeverReturns sql → Survives old new (CommitsShowing sql params old) → LeavesNothing old new
+reads_nothing old new sql params never = survives_weaker old new (CommitsShowing sql params old) (λ _. ⊥) (λ clean db commits. never_shows sql params old db never commits)
+
+-- one such call after another
+pub leaves_then : (a b c : State) → LeavesNothing a b → LeavesNothing b c → LeavesNothing a c
+leaves_then a b c = survives_then a b c (λ _. ⊥) (λ _. ⊥) (λ _. ⊥) (λ clean db none. none) (λ clean db none. none)

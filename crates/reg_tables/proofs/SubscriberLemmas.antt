@@ -7,6 +7,7 @@ use Rattle.sqlite_sql.specs.Term.{Term, col}
 use Rattle.sqlite_sql.specs.Query.{Output}
 use Rattle.sqlite.specs.Effect.{Database, Reads}
 use Rattle.sqlite.specs.Listing.{understood}
+use Rattle.sqlite_resolve.specs.Compile.{first}
 use Rattle.sqlite_tied.specs.Compute.{everything}
 use Rattle.reg_core.specs.Records.{Records, subscriber_in, subscriber_named}
 use Rattle.reg_core.specs.declared.rows.SubscriberRow.{SubscriberRow}
@@ -17,6 +18,7 @@ use Rattle.reg_tables.specs.Reading.{IsReading, command_of, shown_subscriber}
 use Rattle.reg_tables.specs.declared.statements.TheConstants.{SUBSCRIBER_BY_ID, SUBSCRIBER_BY_NAME}
 use Rattle.reg_tables.proofs.Compares.{and_true, eq_number, eq_text}
 use Rattle.reg_tables.proofs.Queries.{column_is, selects, as_command, no_limit, Given, keyed_given, all_of, find_none, find_one, Found}
+use Rattle.reg_tables.proofs.Selecting.{select_never}
 
 abbrev columns : List Term
 columns = col 1 0 ∷ col 1 2 ∷ []
@@ -32,8 +34,8 @@ unfolding understood everything register_schema
 by_id_means = refl
 
 pub reading_by_id : IsReading SUBSCRIBER_BY_ID.now
-unfolding understood everything register_schema
-reading_by_id = record { plain = (refl, refl); unlisted = refl }
+unfolding understood everything register_schema first
+reading_by_id = record { plain = (refl, refl); unlisted = refl; never = select_never SUBSCRIBER_BY_ID.now _ _ refl refl refl }
 
 module _ (db : Database) (records : Records) (shown : IsShownBy db records) (id : ℕ) (rows : List Row) (reads : Reads (command_of (understood register_schema SUBSCRIBER_BY_ID.now)) db (number id ∷ []) rows) where
   by_id_given : Given (λ row. row.id == id) out records.subscribers (selects 1 (column_is 0) columns [] no_limit) (number id ∷ []) rows
@@ -52,8 +54,8 @@ unfolding understood everything register_schema
 by_name_means = refl
 
 pub reading_by_name : IsReading SUBSCRIBER_BY_NAME.now
-unfolding understood everything register_schema
-reading_by_name = record { plain = (refl, refl); unlisted = refl }
+unfolding understood everything register_schema first
+reading_by_name = record { plain = (refl, refl); unlisted = refl; never = select_never SUBSCRIBER_BY_NAME.now _ _ refl refl refl }
 
 module _ (db : Database) (records : Records) (shown : IsShownBy db records) (name : List ℕ) (rows : List Row) (reads : Reads (command_of (understood register_schema SUBSCRIBER_BY_NAME.now)) db (Text name ∷ []) rows) where
   by_name_given : Given (λ row. bytes_eq row.name name) out records.subscribers (selects 1 (column_is 2) columns [] no_limit) (Text name ∷ []) rows

@@ -14,6 +14,7 @@ use Rattle.sqlite_sql.specs.declared.ops.BinaryOp.TheVariants.{Compare}
 use Rattle.sqlite_sql.specs.declared.ops.CompareOp.TheVariants.{Gt}
 use Rattle.sqlite.specs.Effect.{Database, Reads}
 use Rattle.sqlite.specs.Listing.{understood}
+use Rattle.sqlite_resolve.specs.Compile.{first}
 use Rattle.sqlite_tied.specs.Compute.{everything}
 use Rattle.reg_core.specs.Crls.{next_number}
 use Rattle.reg_core.specs.Due.{earliest, unlisted}
@@ -27,6 +28,7 @@ use Rattle.reg_tables.specs.Reading.{IsReading, command_of}
 use Rattle.reg_tables.specs.declared.statements.TheConstants.{EARLIEST_ABOVE}
 use Rattle.reg_tables.proofs.Compares.{and_true, gt_number}
 use Rattle.reg_tables.proofs.Queries.{selects, as_command, Given, counted_given, all_of}
+use Rattle.reg_tables.proofs.Selecting.{select_never}
 use Rattle.reg_tables.proofs.Sorting.{ascending_key, ascends, least_first, first_is_one}
 use Rattle.reg_tables.proofs.Greatest.{one_row}
 
@@ -116,8 +118,8 @@ unfolding understood everything register_schema
 above_means = refl
 
 pub reading_above : IsReading EARLIEST_ABOVE.now
-unfolding understood everything register_schema
-reading_above = record { plain = (refl, refl); unlisted = refl }
+unfolding understood everything register_schema first
+reading_above = record { plain = (refl, refl); unlisted = refl; never = select_never EARLIEST_ABOVE.now _ _ refl refl refl }
 
 abbrev out : RevocationRow → Output
 out row = (number row.at ∷ [], number row.at ∷ [])

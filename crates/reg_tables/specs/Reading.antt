@@ -1,7 +1,8 @@
 -- What a statement that only reads means.
-use Rattle.std.specs.Prelude.{◌≡◌, ℕ, false, cond, IsTrue, List, [], ◌∷◌, Result, Ok, Err}
+use Rattle.std.specs.Prelude.{◌≡◌, ℕ, false, cond, IsTrue, List, [], ◌∷◌, None, Result, Ok, Err}
 use Rattle.sqlite_value.specs.declared.value.Value.TheVariants.{Text}
 use Rattle.sqlite_value.specs.Order.{Row}
+use Rattle.sqlite_schema.specs.declared.schema.Schema.{Schema}
 use Rattle.sqlite_schema.specs.declared.command.Command.{Command}
 use Rattle.sqlite_schema.specs.declared.command.Command.TheVariants.{Nothing}
 use Rattle.sqlite_resolve.specs.declared.compiled.Compiled.{Compiled}
@@ -25,10 +26,16 @@ abbrev pub command_of : Result Compiled CompileError → Command
 command_of (Ok compiled) = compiled.command
 command_of (Err error) = Nothing
 
--- over the tables of a register the text is one statement, which returns nothing of a write, and reads no clock and no list of tables
+-- whatever the tables are, the text is no write that returns rows
+pub record NeverReturns (text : List ℕ) : Type 0 where
+  pub none : (schema : Schema) (compiled : Compiled) → understood schema text ≡ Ok compiled → compiled.returning ≡ None
+
+-- over the tables of a register the text is one statement, which reads no clock and no list of tables; over no tables it returns
+-- anything of a write
 pub record IsReading (text : List ℕ) : Type 0 where
   pub plain : IsPlain (understood register_schema text)
   pub unlisted : reads_listing register_schema text ≡ false
+  pub never : NeverReturns text
 
 -- the rows are what the text reads of the tables of an open connection
 pub record Answers (s : State) (text : List ℕ) (params : Row) (rows : List Row) : Type 0 where

@@ -3,14 +3,13 @@
 ghost use Rattle.std.specs.Prelude.{◌≡◌, ◌≤◌, false, length, filter, IsTrue, IfOk, IfErr};
 ghost use Rattle.sqlite.specs.Held.{state};
 ghost use Rattle.sqlite.specs.State.{HasCleanDisk};
-ghost use Rattle.sqlite_trees.specs.View.{doubt};
 ghost use Rattle.reg_core.specs.Records.{Records};
 ghost use Rattle.reg_core.specs.Sound.{SoundRows};
 ghost use Rattle.reg_core.specs.Status as status;
 ghost use Rattle.reg_tables.specs.Columns.{Columns, ends_before};
 ghost use Rattle.reg_tables.specs.Kept.{ShowsKept};
 ghost use Rattle.reg_tables.specs.Shows.{ShowsBoth};
-ghost use Rattle.reg_tables.specs.Stays.{IsCallFault, IsRegister, Stays};
+ghost use Rattle.reg_tables.specs.Stays.{IsCallFault, IsRegister, LeavesNothing, Stays};
 
 use crate::fault::StoreFault;
 use crate::reading::{only, read};
@@ -27,7 +26,7 @@ use sqlite::{Alter, Connection, params};
 pub fn kept_counts<S: Alter>(conn: &mut Connection<S>) -> Result<Counts, StoreFault>
     ensures found { (records : Records) → (kept : Columns) → ShowsBoth S.Store conn.old records kept → HasCleanDisk (state S.Store conn.new) → IfOk result (λ counts. counts ≡ kept.counts) }
     ensures same { IsRegister (state S.Store conn.old) → Stays (state S.Store conn.old) (state S.Store conn.new) }
-    ensures clean { doubt (state S.Store conn.old).is_clean ≤ doubt (state S.Store conn.new).is_clean }
+    ensures survives { LeavesNothing (state S.Store conn.old) (state S.Store conn.new) }
     ensures idle { conn.old.in_transaction ≡ false → conn.new.in_transaction ≡ false }
     ensures faults { IfErr result IsCallFault }
 {
@@ -46,7 +45,7 @@ fn ended_before<S: Alter>(conn: &mut Connection<S>, now: Moment) -> Result<u64, 
     ensures found { (records : Records) → (kept : Columns) → ShowsBoth S.Store conn.old records kept → HasCleanDisk (state S.Store conn.new)
         → IfOk result (λ ended. IsTrue (state S.Store conn.old).is_open × (length kept.letters ≤ 1000000 → ended ≡ length (filter (ends_before now) kept.letters))) }
     ensures same { IsRegister (state S.Store conn.old) → Stays (state S.Store conn.old) (state S.Store conn.new) }
-    ensures clean { doubt (state S.Store conn.old).is_clean ≤ doubt (state S.Store conn.new).is_clean }
+    ensures survives { LeavesNothing (state S.Store conn.old) (state S.Store conn.new) }
     ensures idle { conn.old.in_transaction ≡ false → conn.new.in_transaction ≡ false }
     ensures faults { IfErr result IsCallFault }
 {
@@ -60,11 +59,11 @@ fn ended_before<S: Alter>(conn: &mut Connection<S>, now: Moment) -> Result<u64, 
 ///
 /// # Errors
 /// `Memory`; `Store` where the database fails, or where its rows are ones that no register writes.
-#[tactic(auto, using(crate::proofs::Staying::stays_register, crate::proofs::Staying::stays_then))]
+#[tactic(auto, using(crate::proofs::Staying::stays_register, crate::proofs::Staying::stays_then, crate::proofs::Staying::leaves_then))]
 pub fn counts<S: Alter>(conn: &mut Connection<S>, now: Moment) -> Result<Counts, StoreFault>
     ensures found { (records : Records) → ShowsKept S.Store conn.old records → SoundRows records → records.last ≤ now → HasCleanDisk (state S.Store conn.new) → IfOk result (λ found. found ≡ status.counts records now) }
     ensures same { IsRegister (state S.Store conn.old) → Stays (state S.Store conn.old) (state S.Store conn.new) }
-    ensures clean { doubt (state S.Store conn.old).is_clean ≤ doubt (state S.Store conn.new).is_clean }
+    ensures survives { LeavesNothing (state S.Store conn.old) (state S.Store conn.new) }
     ensures idle { conn.old.in_transaction ≡ false → conn.new.in_transaction ≡ false }
     ensures faults { IfErr result IsCallFault }
 {

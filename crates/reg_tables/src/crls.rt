@@ -1,20 +1,20 @@
 //! Look-ups of CRLs.
 
-ghost use Rattle.std.specs.Prelude.{◌≡◌, ◌≤◌, false, option_map, IfOk, IfErr};
+ghost use Rattle.std.specs.Prelude.{◌≡◌, false, option_map, IfOk, IfErr};
 ghost use Rattle.sqlite.specs.Held.{state};
 ghost use Rattle.sqlite.specs.State.{HasCleanDisk};
-ghost use Rattle.sqlite_trees.specs.View.{doubt};
 ghost use Rattle.reg_core.specs.Crls.{latest, row_of};
 ghost use Rattle.reg_core.specs.Records.{Records};
 ghost use Rattle.reg_tables.specs.Shows.{Shows};
-ghost use Rattle.reg_tables.specs.Stays.{IsCallFault, IsRegister, Stays};
+ghost use Rattle.reg_tables.specs.Stays.{IsCallFault, IsRegister, LeavesNothing, Stays};
 ghost use Rattle.reg_tables.specs.Tables.{crl_in};
 
 use crate::fault::StoreFault;
 use crate::reading::{at_most_one, read};
 use crate::rows;
+use crate::sizes::{Table, none_past};
 use crate::statements::{CRL_BYTES, LATEST_CRL};
-use crate::values::sql_number;
+use crate::values::sql_key;
 use reg_core::CrlRow;
 use sqlite::{Alter, Connection, params};
 
@@ -26,7 +26,7 @@ use sqlite::{Alter, Connection, params};
 pub fn latest_crl<S: Alter>(conn: &mut Connection<S>) -> Result<Option<CrlRow>, StoreFault>
     ensures found { (records : Records) → Shows S.Store conn.old records → HasCleanDisk (state S.Store conn.new) → IfOk result (λ row. row ≡ option_map row_of (latest records.crls)) }
     ensures same { IsRegister (state S.Store conn.old) → Stays (state S.Store conn.old) (state S.Store conn.new) }
-    ensures clean { doubt (state S.Store conn.old).is_clean ≤ doubt (state S.Store conn.new).is_clean }
+    ensures survives { LeavesNothing (state S.Store conn.old) (state S.Store conn.new) }
     ensures idle { conn.old.in_transaction ≡ false → conn.new.in_transaction ≡ false }
     ensures faults { IfErr result IsCallFault }
 {
@@ -40,17 +40,19 @@ pub fn latest_crl<S: Alter>(conn: &mut Connection<S>) -> Result<Option<CrlRow>, 
 /// The DER of a CRL, by its number.
 ///
 /// # Errors
-/// `Memory`; `Store` where the database fails, where its row is one that no register writes, or for a number above 2^63 - 1.
+/// `Memory`; `Store` where the database fails, or where its row is one that no register writes.
 #[tactic(auto, using(crate::proofs::CrlLemmas::reading_bytes))]
 pub fn crl<S: Alter>(conn: &mut Connection<S>, number: u64) -> Result<Option<Vec<u8>>, StoreFault>
     ensures found { (records : Records) → Shows S.Store conn.old records → HasCleanDisk (state S.Store conn.new)
         → IfOk result (λ der. option_map (λ bytes. bytes.items) der ≡ option_map (λ crl. crl.bytes) (crl_in records.crls number)) }
     ensures same { IsRegister (state S.Store conn.old) → Stays (state S.Store conn.old) (state S.Store conn.new) }
-    ensures clean { doubt (state S.Store conn.old).is_clean ≤ doubt (state S.Store conn.new).is_clean }
+    ensures survives { LeavesNothing (state S.Store conn.old) (state S.Store conn.new) }
     ensures idle { conn.old.in_transaction ≡ false → conn.new.in_transaction ≡ false }
     ensures faults { IfErr result IsCallFault }
 {
-    let value = sql_number(number)?;
+    let Some(value) = sql_key(number) else {
+        return none_past(conn, Table::Crls, number);
+    };
     let found = read(conn, CRL_BYTES, params![&value])?;
     match at_most_one(&found)? {
         None => Ok(None),

@@ -24,7 +24,7 @@ pub use counting::{counts, kept_counts};
 pub use crls::{crl, latest_crl};
 pub use fault::StoreFault;
 pub use listed::{entries, listing};
-pub use office::{issuer, last, policy};
+pub use office::{issuer, last, policy, responding};
 pub use orders::order;
 pub use overdue::open_past_due;
 pub use requests::request;

@@ -3,16 +3,15 @@
 ghost use Rattle.std.specs.Prelude.{◌≡◌, ◌≤◌, false, IfOk, IfErr};
 ghost use Rattle.sqlite.specs.Held.{state};
 ghost use Rattle.sqlite.specs.State.{HasCleanDisk};
-ghost use Rattle.sqlite_trees.specs.View.{doubt};
 ghost use Rattle.reg_core.specs.Records.{Records};
 ghost use Rattle.reg_tables.specs.Shows.{Shows};
-ghost use Rattle.reg_tables.specs.Stays.{IsCallFault, IsRegister, Stays};
+ghost use Rattle.reg_tables.specs.Stays.{IsCallFault, IsRegister, LeavesNothing, Stays};
 
 use crate::fault::StoreFault;
 use crate::reading::{only, read};
 use crate::rows::steps_in;
-use crate::statements::{ISSUER, LAST, STEPS, TERMS};
-use crate::values::{bytes_at, clock_moment_at, number_at};
+use crate::statements::{ISSUER, LAST, RESPONDING, STEPS, TERMS};
+use crate::values::{bytes_at, clock_moment_at, life_at, number_at};
 use reg_core::{Moment, Policy, Schedule};
 use reg_der::{Issuer, IssuerFault};
 use sqlite::{Alter, Connection};
@@ -39,7 +38,7 @@ impl From<IssuerFault> for StoreFault {
 pub fn last<S: Alter>(conn: &mut Connection<S>) -> Result<Moment, StoreFault>
     ensures found { (records : Records) → Shows S.Store conn.old records → HasCleanDisk (state S.Store conn.new) → IfOk result (λ last. last ≡ records.last) }
     ensures same { IsRegister (state S.Store conn.old) → Stays (state S.Store conn.old) (state S.Store conn.new) }
-    ensures clean { doubt (state S.Store conn.old).is_clean ≤ doubt (state S.Store conn.new).is_clean }
+    ensures survives { LeavesNothing (state S.Store conn.old) (state S.Store conn.new) }
     ensures idle { conn.old.in_transaction ≡ false → conn.new.in_transaction ≡ false }
     ensures faults { IfErr result IsCallFault }
 {
@@ -55,7 +54,7 @@ pub fn last<S: Alter>(conn: &mut Connection<S>) -> Result<Moment, StoreFault>
 pub fn issuer<S: Alter>(conn: &mut Connection<S>) -> Result<Issuer, StoreFault>
     ensures found { (records : Records) → Shows S.Store conn.old records → HasCleanDisk (state S.Store conn.new) → IfOk result (λ issuer. issuer ≡ records.issuer) }
     ensures same { IsRegister (state S.Store conn.old) → Stays (state S.Store conn.old) (state S.Store conn.new) }
-    ensures clean { doubt (state S.Store conn.old).is_clean ≤ doubt (state S.Store conn.new).is_clean }
+    ensures survives { LeavesNothing (state S.Store conn.old) (state S.Store conn.new) }
     ensures idle { conn.old.in_transaction ≡ false → conn.new.in_transaction ≡ false }
     ensures faults { IfErr result IsCallFault }
 {
@@ -64,13 +63,36 @@ pub fn issuer<S: Alter>(conn: &mut Connection<S>) -> Result<Issuer, StoreFault>
     Ok(Issuer::new(*found.allocator(), bytes_at(row, 0)?, bytes_at(row, 1)?)?)
 }
 
+/// What OCSP answers are made from beside the certificates, read by one statement: the last accepted moment, the issuer, and
+/// how many seconds an answer lives.
+///
+/// # Errors
+/// `Memory`; `Store` where the database fails, or where its row is one that no register writes.
+#[tactic(auto, using(crate::proofs::OfficeLemmas::reading_responding))]
+pub fn responding<S: Alter>(conn: &mut Connection<S>) -> Result<(Moment, Issuer, u64), StoreFault>
+    ensures found { (records : Records) → Shows S.Store conn.old records → HasCleanDisk (state S.Store conn.new)
+        → IfOk result (λ it. (it.0 ≡ records.last) × (it.1 ≡ records.issuer) × (it.2 ≡ records.policy.ocsp_life)) }
+    ensures short { IfOk result (λ it. it.2 ≤ 863999) }
+    ensures same { IsRegister (state S.Store conn.old) → Stays (state S.Store conn.old) (state S.Store conn.new) }
+    ensures survives { LeavesNothing (state S.Store conn.old) (state S.Store conn.new) }
+    ensures idle { conn.old.in_transaction ≡ false → conn.new.in_transaction ≡ false }
+    ensures faults { IfErr result IsCallFault }
+{
+    let found = read(conn, RESPONDING, &[])?;
+    let row = only(&found)?;
+    let last = clock_moment_at(row, 0)?;
+    let issuer = Issuer::new(*found.allocator(), bytes_at(row, 1)?, bytes_at(row, 2)?)?;
+    let life = life_at(row, 3)?;
+    Ok((last, issuer, life))
+}
+
 /// The lives of CRLs and of OCSP answers, and the cap.
 #[tactic(auto, using(crate::proofs::OfficeLemmas::reading_terms))]
 fn terms<S: Alter>(conn: &mut Connection<S>) -> Result<(u64, u64, u64), StoreFault>
     ensures found { (records : Records) → Shows S.Store conn.old records → HasCleanDisk (state S.Store conn.new)
         → IfOk result (λ terms. (terms.0 ≡ records.policy.crl_life) × (terms.1 ≡ records.policy.ocsp_life) × (terms.2 ≡ records.policy.cap)) }
     ensures same { IsRegister (state S.Store conn.old) → Stays (state S.Store conn.old) (state S.Store conn.new) }
-    ensures clean { doubt (state S.Store conn.old).is_clean ≤ doubt (state S.Store conn.new).is_clean }
+    ensures survives { LeavesNothing (state S.Store conn.old) (state S.Store conn.new) }
     ensures idle { conn.old.in_transaction ≡ false → conn.new.in_transaction ≡ false }
     ensures faults { IfErr result IsCallFault }
 {
@@ -84,7 +106,7 @@ fn terms<S: Alter>(conn: &mut Connection<S>) -> Result<(u64, u64, u64), StoreFau
 fn schedule<S: Alter>(conn: &mut Connection<S>) -> Result<Schedule, StoreFault>
     ensures found { (records : Records) → Shows S.Store conn.old records → HasCleanDisk (state S.Store conn.new) → IfOk result (λ schedule. schedule ≡ records.policy.schedule) }
     ensures same { IsRegister (state S.Store conn.old) → Stays (state S.Store conn.old) (state S.Store conn.new) }
-    ensures clean { doubt (state S.Store conn.old).is_clean ≤ doubt (state S.Store conn.new).is_clean }
+    ensures survives { LeavesNothing (state S.Store conn.old) (state S.Store conn.new) }
     ensures idle { conn.old.in_transaction ≡ false → conn.new.in_transaction ≡ false }
     ensures faults { IfErr result IsCallFault }
 {
@@ -97,11 +119,11 @@ fn schedule<S: Alter>(conn: &mut Connection<S>) -> Result<Schedule, StoreFault>
 ///
 /// # Errors
 /// `Memory`; `Store` where the database fails, or where its rows are ones that no register writes.
-#[tactic(auto, using(crate::proofs::Staying::stays_register, crate::proofs::Staying::stays_then))]
+#[tactic(auto, using(crate::proofs::Staying::stays_register, crate::proofs::Staying::stays_then, crate::proofs::Staying::leaves_then))]
 pub fn policy<S: Alter>(conn: &mut Connection<S>) -> Result<Policy, StoreFault>
     ensures found { (records : Records) → Shows S.Store conn.old records → HasCleanDisk (state S.Store conn.new) → IfOk result (λ policy. policy ≡ records.policy) }
     ensures same { IsRegister (state S.Store conn.old) → Stays (state S.Store conn.old) (state S.Store conn.new) }
-    ensures clean { doubt (state S.Store conn.old).is_clean ≤ doubt (state S.Store conn.new).is_clean }
+    ensures survives { LeavesNothing (state S.Store conn.old) (state S.Store conn.new) }
     ensures idle { conn.old.in_transaction ≡ false → conn.new.in_transaction ≡ false }
     ensures faults { IfErr result IsCallFault }
 {

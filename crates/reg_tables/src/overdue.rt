@@ -1,14 +1,13 @@
 //! The look-up of the requests whose limit has passed.
 
-ghost use Rattle.std.specs.Prelude.{◌≡◌, ◌≤◌, ◌&&◌, ◌++◌, List, [], ◌∷◌, false, not, filter, nat_lt, IfOk, IfErr};
+ghost use Rattle.std.specs.Prelude.{◌≡◌, ◌&&◌, ◌++◌, List, [], ◌∷◌, false, not, filter, nat_lt, IfOk, IfErr};
 ghost use Rattle.sqlite.specs.Held.{state};
 ghost use Rattle.sqlite.specs.State.{HasCleanDisk};
-ghost use Rattle.sqlite_trees.specs.View.{doubt};
 ghost use Rattle.reg_core.specs.Due.{deadline, overdue, overdue_report};
 ghost use Rattle.reg_core.specs.Records.{Records};
 ghost use Rattle.reg_core.specs.Status.{status, is_good};
 ghost use Rattle.reg_tables.specs.Shows.{Shows};
-ghost use Rattle.reg_tables.specs.Stays.{IsCallFault, IsRegister, Stays};
+ghost use Rattle.reg_tables.specs.Stays.{IsCallFault, IsRegister, LeavesNothing, Stays};
 
 use crate::certificates::cert;
 use crate::fault::StoreFault;
@@ -24,7 +23,7 @@ use sqlite::{Alter, Connection};
 fn undeclined<S: Alter>(conn: &mut Connection<S>) -> Result<Vec<RequestRow>, StoreFault>
     ensures found { (records : Records) → Shows S.Store conn.old records → HasCleanDisk (state S.Store conn.new) → IfOk result (λ found. found.items ≡ filter (λ row. not row.declined) records.requests) }
     ensures same { IsRegister (state S.Store conn.old) → Stays (state S.Store conn.old) (state S.Store conn.new) }
-    ensures clean { doubt (state S.Store conn.old).is_clean ≤ doubt (state S.Store conn.new).is_clean }
+    ensures survives { LeavesNothing (state S.Store conn.old) (state S.Store conn.new) }
     ensures idle { conn.old.in_transaction ≡ false → conn.new.in_transaction ≡ false }
     ensures faults { IfErr result IsCallFault }
 {
@@ -33,7 +32,7 @@ fn undeclined<S: Alter>(conn: &mut Connection<S>) -> Result<Vec<RequestRow>, Sto
 }
 
 /// Whether a registered certificate is good at a moment. `Store` where it is not registered.
-#[tactic(auto, using(crate::proofs::Staying::stays_register, crate::proofs::Staying::stays_then))]
+#[tactic(auto, using(crate::proofs::Staying::stays_register, crate::proofs::Staying::stays_then, crate::proofs::Staying::leaves_then))]
 fn is_good_at<S: Alter>(
     conn: &mut Connection<S>,
     serial: Serial,
@@ -41,7 +40,7 @@ fn is_good_at<S: Alter>(
 ) -> Result<bool, StoreFault>
     ensures found { (records : Records) → Shows S.Store conn.old records → HasCleanDisk (state S.Store conn.new) → IfOk result (λ good. good ≡ is_good (status records serial now)) }
     ensures same { IsRegister (state S.Store conn.old) → Stays (state S.Store conn.old) (state S.Store conn.new) }
-    ensures clean { doubt (state S.Store conn.old).is_clean ≤ doubt (state S.Store conn.new).is_clean }
+    ensures survives { LeavesNothing (state S.Store conn.old) (state S.Store conn.new) }
     ensures idle { conn.old.in_transaction ≡ false → conn.new.in_transaction ≡ false }
     ensures faults { IfErr result IsCallFault }
 {
@@ -79,7 +78,7 @@ fn is_late<S: Alter>(
 ) -> Result<bool, StoreFault>
     ensures found { (records : Records) → Shows S.Store conn.old records → HasCleanDisk (state S.Store conn.new) → IfOk result (λ late. late ≡ (is_good (status records request.serial now) && nat_lt (deadline request) now)) }
     ensures same { IsRegister (state S.Store conn.old) → Stays (state S.Store conn.old) (state S.Store conn.new) }
-    ensures clean { doubt (state S.Store conn.old).is_clean ≤ doubt (state S.Store conn.new).is_clean }
+    ensures survives { LeavesNothing (state S.Store conn.old) (state S.Store conn.new) }
     ensures idle { conn.old.in_transaction ≡ false → conn.new.in_transaction ≡ false }
     ensures faults { IfErr result IsCallFault }
 {
@@ -94,14 +93,14 @@ fn is_late<S: Alter>(
 /// # Errors
 /// `Memory`; `Store` where the database fails, or where its rows are ones that no register writes, such as a request
 /// without its certificate.
-#[tactic(auto, using(crate::proofs::Staying::stays_register, crate::proofs::Staying::stays_then))]
+#[tactic(auto, using(crate::proofs::Staying::stays_register, crate::proofs::Staying::stays_then, crate::proofs::Staying::leaves_then))]
 pub fn open_past_due<S: Alter>(
     conn: &mut Connection<S>,
     now: Moment,
 ) -> Result<Option<Overdue>, StoreFault>
     ensures found { (records : Records) → Shows S.Store conn.old records → HasCleanDisk (state S.Store conn.new) → IfOk result (λ report. report ≡ overdue_report (overdue records now)) }
     ensures same { IsRegister (state S.Store conn.old) → Stays (state S.Store conn.old) (state S.Store conn.new) }
-    ensures clean { doubt (state S.Store conn.old).is_clean ≤ doubt (state S.Store conn.new).is_clean }
+    ensures survives { LeavesNothing (state S.Store conn.old) (state S.Store conn.new) }
     ensures idle { conn.old.in_transaction ≡ false → conn.new.in_transaction ≡ false }
     ensures faults { IfErr result IsCallFault }
 {

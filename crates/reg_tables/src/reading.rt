@@ -6,7 +6,7 @@ ghost use Rattle.sqlite.specs.Held.{state};
 ghost use Rattle.sqlite.specs.State.{HasCleanDisk};
 ghost use Rattle.sqlite_trees.specs.View.{doubt};
 ghost use Rattle.reg_tables.specs.Reading.{Answers, IsReading};
-ghost use Rattle.reg_tables.specs.Stays.{IsCallFault, IsRegister, Stays};
+ghost use Rattle.reg_tables.specs.Stays.{IsCallFault, IsRegister, LeavesNothing, Stays};
 
 use crate::fault::StoreFault;
 use sqlite::types::ValueRef;
@@ -22,6 +22,7 @@ pub(crate) fn read<S: Alter>(
         → IfOk result (λ rows. Answers (state S.Store conn.old) sql.now (bound params.now) rows.items) }
     ensures same { IsReading sql.now → IsRegister (state S.Store conn.old) → Stays (state S.Store conn.old) (state S.Store conn.new) }
     ensures clean { doubt (state S.Store conn.old).is_clean ≤ doubt (state S.Store conn.new).is_clean }
+    ensures survives { IsReading sql.now → LeavesNothing (state S.Store conn.old) (state S.Store conn.new) }
     ensures idle { conn.old.in_transaction ≡ false → conn.new.in_transaction ≡ false }
     ensures faults { IfErr result IsCallFault }
 {

@@ -1,25 +1,25 @@
 //! Look-ups of requests.
 
-ghost use Rattle.std.specs.Prelude.{◌≡◌, ◌≤◌, false, IfOk, IfErr};
+ghost use Rattle.std.specs.Prelude.{◌≡◌, false, IfOk, IfErr};
 ghost use Rattle.sqlite.specs.Held.{state};
 ghost use Rattle.sqlite.specs.State.{HasCleanDisk};
-ghost use Rattle.sqlite_trees.specs.View.{doubt};
 ghost use Rattle.reg_core.specs.Records.{Records, request_in};
 ghost use Rattle.reg_tables.specs.Shows.{Shows};
-ghost use Rattle.reg_tables.specs.Stays.{IsCallFault, IsRegister, Stays};
+ghost use Rattle.reg_tables.specs.Stays.{IsCallFault, IsRegister, LeavesNothing, Stays};
 
 use crate::fault::StoreFault;
 use crate::reading::{at_most_one, read};
 use crate::rows;
+use crate::sizes::{Table, none_past};
 use crate::statements::REQUEST_BY_ID;
-use crate::values::sql_number;
+use crate::values::sql_key;
 use reg_core::RequestRow;
 use sqlite::{Alter, Connection, params};
 
 /// The request with an id.
 ///
 /// # Errors
-/// `Memory`; `Store` where the database fails, where its row is one that no register writes, or for a number above 2^63 - 1.
+/// `Memory`; `Store` where the database fails, or where its row is one that no register writes.
 #[tactic(auto, using(crate::proofs::RequestLemmas::reading_by_id))]
 pub fn request<S: Alter>(
     conn: &mut Connection<S>,
@@ -27,11 +27,13 @@ pub fn request<S: Alter>(
 ) -> Result<Option<RequestRow>, StoreFault>
     ensures found { (records : Records) → Shows S.Store conn.old records → HasCleanDisk (state S.Store conn.new) → IfOk result (λ row. row ≡ request_in records.requests id) }
     ensures same { IsRegister (state S.Store conn.old) → Stays (state S.Store conn.old) (state S.Store conn.new) }
-    ensures clean { doubt (state S.Store conn.old).is_clean ≤ doubt (state S.Store conn.new).is_clean }
+    ensures survives { LeavesNothing (state S.Store conn.old) (state S.Store conn.new) }
     ensures idle { conn.old.in_transaction ≡ false → conn.new.in_transaction ≡ false }
     ensures faults { IfErr result IsCallFault }
 {
-    let value = sql_number(id)?;
+    let Some(value) = sql_key(id) else {
+        return none_past(conn, Table::Requests, id);
+    };
     let found = read(conn, REQUEST_BY_ID, params![&value])?;
     match at_most_one(&found)? {
         None => Ok(None),

@@ -1,13 +1,12 @@
 //! Look-ups of revocations.
 
-ghost use Rattle.std.specs.Prelude.{◌≡◌, ◌≤◌, nat_lt, false, filter, IsTrue, IfOk, IfErr};
+ghost use Rattle.std.specs.Prelude.{◌≡◌, nat_lt, false, filter, IsTrue, IfOk, IfErr};
 ghost use Rattle.sqlite.specs.Held.{state};
 ghost use Rattle.sqlite.specs.State.{HasCleanDisk};
-ghost use Rattle.sqlite_trees.specs.View.{doubt};
 ghost use Rattle.reg_core.specs.Due.{earliest, unlisted};
 ghost use Rattle.reg_core.specs.Records.{Records, revocation_in};
 ghost use Rattle.reg_tables.specs.Shows.{Shows};
-ghost use Rattle.reg_tables.specs.Stays.{IsCallFault, IsRegister, Stays};
+ghost use Rattle.reg_tables.specs.Stays.{IsCallFault, IsRegister, LeavesNothing, Stays};
 
 use crate::fault::StoreFault;
 use crate::reading::{at_most_one, read};
@@ -29,7 +28,7 @@ pub fn revocation<S: Alter>(
 ) -> Result<Option<RevocationRow>, StoreFault>
     ensures found { (records : Records) → Shows S.Store conn.old records → HasCleanDisk (state S.Store conn.new) → IfOk result (λ row. row ≡ revocation_in records.revocations serial) }
     ensures same { IsRegister (state S.Store conn.old) → Stays (state S.Store conn.old) (state S.Store conn.new) }
-    ensures clean { doubt (state S.Store conn.old).is_clean ≤ doubt (state S.Store conn.new).is_clean }
+    ensures survives { LeavesNothing (state S.Store conn.old) (state S.Store conn.new) }
     ensures idle { conn.old.in_transaction ≡ false → conn.new.in_transaction ≡ false }
     ensures faults { IfErr result IsCallFault }
 {
@@ -53,7 +52,7 @@ fn earliest_above<S: Alter>(
     ensures found { (records : Records) → Shows S.Store conn.old records → HasCleanDisk (state S.Store conn.new)
         → IfOk result (λ at. IsTrue (state S.Store conn.old).is_open × (at ≡ earliest (filter (λ row. nat_lt number row.first) records.revocations))) }
     ensures same { IsRegister (state S.Store conn.old) → Stays (state S.Store conn.old) (state S.Store conn.new) }
-    ensures clean { doubt (state S.Store conn.old).is_clean ≤ doubt (state S.Store conn.new).is_clean }
+    ensures survives { LeavesNothing (state S.Store conn.old) (state S.Store conn.new) }
     ensures idle { conn.old.in_transaction ≡ false → conn.new.in_transaction ≡ false }
     ensures faults { IfErr result IsCallFault }
 {
@@ -69,11 +68,11 @@ fn earliest_above<S: Alter>(
 ///
 /// # Errors
 /// `Memory`; `Store` where the database fails, or where its row is one that no register writes.
-#[tactic(auto, using(crate::proofs::Staying::stays_register, crate::proofs::Staying::stays_then))]
+#[tactic(auto, using(crate::proofs::Staying::stays_register, crate::proofs::Staying::stays_then, crate::proofs::Staying::leaves_then))]
 pub fn earliest_unlisted<S: Alter>(conn: &mut Connection<S>) -> Result<Option<Moment>, StoreFault>
     ensures found { (records : Records) → Shows S.Store conn.old records → HasCleanDisk (state S.Store conn.new) → IfOk result (λ at. at ≡ earliest (unlisted records)) }
     ensures same { IsRegister (state S.Store conn.old) → Stays (state S.Store conn.old) (state S.Store conn.new) }
-    ensures clean { doubt (state S.Store conn.old).is_clean ≤ doubt (state S.Store conn.new).is_clean }
+    ensures survives { LeavesNothing (state S.Store conn.old) (state S.Store conn.new) }
     ensures idle { conn.old.in_transaction ≡ false → conn.new.in_transaction ≡ false }
     ensures faults { IfErr result IsCallFault }
 {

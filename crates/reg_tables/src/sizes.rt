@@ -1,6 +1,6 @@
 //! How many rows the tables of the records have: the number of the last row, since rows are numbered from 1 on.
 
-ghost use Rattle.std.specs.Prelude.{◌≡◌, ◌≤◌, ℕ, false, List, [], IfOk, IfErr};
+ghost use Rattle.std.specs.Prelude.{◌≡◌, ◌<◌, ◌≤◌, ℕ, false, List, [], None, IsTrue, OnOk, IfOk, IfErr};
 ghost use Rattle.sqlite_value.specs.Order.{Row};
 ghost use Rattle.sqlite.specs.Held.{state};
 ghost use Rattle.sqlite.specs.State.{HasCleanDisk};
@@ -8,7 +8,7 @@ ghost use Rattle.sqlite_trees.specs.View.{doubt};
 ghost use Rattle.reg_core.specs.Records.{Records};
 ghost use Rattle.reg_tables.specs.Reading.{Answers, IsReading};
 ghost use Rattle.reg_tables.specs.Shows.{Shows};
-ghost use Rattle.reg_tables.specs.Stays.{IsCallFault, IsRegister, Stays};
+ghost use Rattle.reg_tables.specs.Stays.{IsCallFault, IsRegister, LeavesNothing, Stays};
 ghost use Rattle.reg_tables.specs.Tables.{IsNumberShown, rows_of};
 
 use crate::fault::StoreFault;
@@ -33,6 +33,7 @@ fn number_shown<S: Alter>(conn: &mut Connection<S>, sql: &str) -> Result<u64, St
         → IfOk result (λ n. (rows : List Row) × Answers (state S.Store conn.old) sql.now [] rows × ((m : ℕ) → IsNumberShown m rows → n ≡ m)) }
     ensures same { IsReading sql.now → IsRegister (state S.Store conn.old) → Stays (state S.Store conn.old) (state S.Store conn.new) }
     ensures clean { doubt (state S.Store conn.old).is_clean ≤ doubt (state S.Store conn.new).is_clean }
+    ensures survives { IsReading sql.now → LeavesNothing (state S.Store conn.old) (state S.Store conn.new) }
     ensures idle { conn.old.in_transaction ≡ false → conn.new.in_transaction ≡ false }
     ensures faults { IfErr result IsCallFault }
 {
@@ -50,8 +51,9 @@ fn number_shown<S: Alter>(conn: &mut Connection<S>, sql: &str) -> Result<u64, St
 #[tactic(auto, using(crate::proofs::HeldLemmas::reading_subscriber, crate::proofs::HeldLemmas::reading_order, crate::proofs::HeldLemmas::reading_cert, crate::proofs::HeldLemmas::reading_request, crate::proofs::HeldLemmas::reading_crl))]
 pub fn held<S: Alter>(conn: &mut Connection<S>, table: Table) -> Result<u64, StoreFault>
     ensures found { (records : Records) → Shows S.Store conn.old records → HasCleanDisk (state S.Store conn.new) → IfOk result (λ rows. rows ≡ rows_of records table) }
+    ensures live { IsRegister (state S.Store conn.old) → HasCleanDisk (state S.Store conn.new) → OnOk result (IsTrue (state S.Store conn.old).is_open) }
     ensures same { IsRegister (state S.Store conn.old) → Stays (state S.Store conn.old) (state S.Store conn.new) }
-    ensures clean { doubt (state S.Store conn.old).is_clean ≤ doubt (state S.Store conn.new).is_clean }
+    ensures survives { LeavesNothing (state S.Store conn.old) (state S.Store conn.new) }
     ensures idle { conn.old.in_transaction ≡ false → conn.new.in_transaction ≡ false }
     ensures faults { IfErr result IsCallFault }
 {
@@ -61,5 +63,26 @@ pub fn held<S: Alter>(conn: &mut Connection<S>, table: Table) -> Result<u64, Sto
         Table::Certs => number_shown(conn, LAST_CERT),
         Table::Requests => number_shown(conn, LAST_REQUEST),
         Table::Crls => number_shown(conn, LATEST_CRL),
+    }
+}
+
+/// What a table has at a number that SQL doesn't have: nothing, since its rows are numbered from 1 on and the last row's number is
+/// below.
+pub(crate) fn none_past<S: Alter, T>(
+    conn: &mut Connection<S>,
+    table: Table,
+    number: u64,
+) -> Result<Option<T>, StoreFault>
+    ensures none { IfOk result (λ found. found ≡ None) }
+    ensures past { (records : Records) → Shows S.Store conn.old records → HasCleanDisk (state S.Store conn.new) → OnOk result (IsTrue (state S.Store conn.old).is_open × (rows_of records table < number)) }
+    ensures same { IsRegister (state S.Store conn.old) → Stays (state S.Store conn.old) (state S.Store conn.new) }
+    ensures survives { LeavesNothing (state S.Store conn.old) (state S.Store conn.new) }
+    ensures idle { conn.old.in_transaction ≡ false → conn.new.in_transaction ≡ false }
+    ensures faults { IfErr result IsCallFault }
+{
+    if held(conn, table)? < number {
+        Ok(None)
+    } else {
+        Err(StoreFault::Store)
     }
 }

@@ -9,6 +9,9 @@ pub(crate) const ISSUER: &str = "SELECT name, pubkey FROM office";
 /// The policy but for its schedule.
 pub(crate) const TERMS: &str = "SELECT crl_life, ocsp_life, cap FROM office";
 
+/// What OCSP answers are made from: the last accepted moment, the issuer, and how long an answer lives.
+pub(crate) const RESPONDING: &str = "SELECT last_at, name, pubkey, ocsp_life FROM office";
+
 /// The steps of the schedule, by their moments.
 pub const STEPS: &str = "SELECT from_at, days FROM longest ORDER BY from_at";
 

@@ -1,18 +1,18 @@
 //! Look-ups of subscribers.
 
-ghost use Rattle.std.specs.Prelude.{◌≡◌, ◌≤◌, false, IfOk, IfErr};
+ghost use Rattle.std.specs.Prelude.{◌≡◌, false, IfOk, IfErr};
 ghost use Rattle.sqlite.specs.Held.{state};
 ghost use Rattle.sqlite.specs.State.{HasCleanDisk};
-ghost use Rattle.sqlite_trees.specs.View.{doubt};
 ghost use Rattle.reg_core.specs.Records.{Records, subscriber_in, subscriber_named};
 ghost use Rattle.reg_tables.specs.Shows.{Shows};
-ghost use Rattle.reg_tables.specs.Stays.{IsCallFault, IsRegister, Stays};
+ghost use Rattle.reg_tables.specs.Stays.{IsCallFault, IsRegister, LeavesNothing, Stays};
 
 use crate::fault::StoreFault;
 use crate::reading::{at_most_one, read};
 use crate::rows;
+use crate::sizes::{Table, none_past};
 use crate::statements::{SUBSCRIBER_BY_ID, SUBSCRIBER_BY_NAME};
-use crate::values::sql_number;
+use crate::values::sql_key;
 use reg_core::{Label, SubscriberRow};
 use sqlite::types::ValueRef;
 use sqlite::{Alter, Connection, params};
@@ -20,7 +20,7 @@ use sqlite::{Alter, Connection, params};
 /// The subscriber with an id.
 ///
 /// # Errors
-/// `Memory`; `Store` where the database fails, where its row is one that no register writes, or for a number above 2^63 - 1.
+/// `Memory`; `Store` where the database fails, or where its row is one that no register writes.
 #[tactic(auto, using(crate::proofs::SubscriberLemmas::reading_by_id))]
 pub fn subscriber<S: Alter>(
     conn: &mut Connection<S>,
@@ -28,11 +28,13 @@ pub fn subscriber<S: Alter>(
 ) -> Result<Option<SubscriberRow>, StoreFault>
     ensures found { (records : Records) → Shows S.Store conn.old records → HasCleanDisk (state S.Store conn.new) → IfOk result (λ row. row ≡ subscriber_in records.subscribers id) }
     ensures same { IsRegister (state S.Store conn.old) → Stays (state S.Store conn.old) (state S.Store conn.new) }
-    ensures clean { doubt (state S.Store conn.old).is_clean ≤ doubt (state S.Store conn.new).is_clean }
+    ensures survives { LeavesNothing (state S.Store conn.old) (state S.Store conn.new) }
     ensures idle { conn.old.in_transaction ≡ false → conn.new.in_transaction ≡ false }
     ensures faults { IfErr result IsCallFault }
 {
-    let value = sql_number(id)?;
+    let Some(value) = sql_key(id) else {
+        return none_past(conn, Table::Subscribers, id);
+    };
     let found = read(conn, SUBSCRIBER_BY_ID, params![&value])?;
     match at_most_one(&found)? {
         None => Ok(None),
@@ -51,7 +53,7 @@ pub fn subscriber_by_name<S: Alter>(
 ) -> Result<Option<SubscriberRow>, StoreFault>
     ensures found { (records : Records) → Shows S.Store conn.old records → HasCleanDisk (state S.Store conn.new) → IfOk result (λ row. row ≡ subscriber_named records.subscribers name.now) }
     ensures same { IsRegister (state S.Store conn.old) → Stays (state S.Store conn.old) (state S.Store conn.new) }
-    ensures clean { doubt (state S.Store conn.old).is_clean ≤ doubt (state S.Store conn.new).is_clean }
+    ensures survives { LeavesNothing (state S.Store conn.old) (state S.Store conn.new) }
     ensures idle { conn.old.in_transaction ≡ false → conn.new.in_transaction ≡ false }
     ensures faults { IfErr result IsCallFault }
 {

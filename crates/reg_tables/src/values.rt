@@ -1,6 +1,6 @@
 //! Values of SQL as values of the register. What no register writes is [`StoreFault::Store`].
 
-ghost use Rattle.std.specs.Prelude.{◌≡◌, ◌<◌, ◌≤◌, ◌^◌, ℕ, Bool, List, Option, cond, OnOk, IfOk, IfErr};
+ghost use Rattle.std.specs.Prelude.{◌≡◌, ◌<◌, ◌≤◌, ◌^◌, ℕ, Bool, List, Option, cond, OnOk, IfOk, IfErr, MatchOption};
 ghost use Rattle.sqlite_value.specs.declared.value.Value.TheVariants.{Text, Blob};
 ghost use Rattle.sqlite_value.specs.Order.{column};
 ghost use Rattle.reg_core.specs.Serial.{IsSerial};
@@ -13,6 +13,19 @@ use reg_core::{Ground, Label, Moment, Serial};
 use sqlite::Row;
 use sqlite::types::{Value, ValueRef};
 
+/// The number as a key of SQL, or none above 2^63 - 1, which SQL doesn't have.
+pub(crate) fn sql_key(n: u64) -> Option<Value>
+    ensures value { MatchOption result (2 ^ 63 ≤ n) (λ value. (n < 2 ^ 63) × (value ≡ number n)) }
+{
+    match i64::try_from(n) {
+        Ok(n) => Some(Value::Int(n)),
+        Err(_) => None,
+    }
+}
+
+/// The longest life of a CRL or an OCSP answer, in seconds: a second less than ten days.
+const LONGEST_LIFE: u64 = 863_999;
+
 /// The number as SQL has it. `Store` above 2^63 - 1, which SQL doesn't have.
 pub(crate) fn sql_number(n: u64) -> Result<Value, StoreFault>
     ensures value { IfOk result (λ value. value ≡ number n) }
@@ -20,10 +33,7 @@ pub(crate) fn sql_number(n: u64) -> Result<Value, StoreFault>
     ensures refused { IfErr result (λ fault. (fault ≡ StoreFault.Store) × (2 ^ 63 ≤ n)) }
     ensures faults { IfErr result IsCallFault }
 {
-    match i64::try_from(n) {
-        Ok(n) => Ok(Value::Int(n)),
-        Err(_) => Err(StoreFault::Store),
-    }
+    sql_key(n).ok_or(StoreFault::Store)
 }
 
 /// The number in a column.
@@ -50,6 +60,20 @@ pub(crate) fn clock_moment_at(row: &Row, at: usize) -> Result<Moment, StoreFault
     let moment = moment_at(row, at)?;
     if moment < Moment::CLOCK_END {
         Ok(moment)
+    } else {
+        Err(StoreFault::Store)
+    }
+}
+
+/// The seconds in a column that an answer lives, fewer than ten days have.
+pub(crate) fn life_at(row: &Row, at: usize) -> Result<u64, StoreFault>
+    ensures read { (n : ℕ) → column row.now at ≡ number n → IfOk result (λ read. read ≡ n) }
+    ensures short { IfOk result (λ read. read ≤ 863999) }
+    ensures faults { IfErr result IsCallFault }
+{
+    let life = number_at(row, at)?;
+    if life <= LONGEST_LIFE {
+        Ok(life)
     } else {
         Err(StoreFault::Store)
     }

@@ -2,6 +2,7 @@
 use Rattle.std.specs.Prelude.{Some, true, List, [], ◌∷◌, codes}
 use Rattle.clap.specs.Lexer.{usize_max}
 use Rattle.clap.specs.Words.{App, Rule, Text, new_app, new_rule, with_rule, with_subcommand}
+use Rattle.clap.specs.declared.builder.action.ArgAction.TheVariants.{SetTrue}
 
 -- a word that must be given
 abbrev pub must : Text → Rule
@@ -19,6 +20,10 @@ needs id = record (new_rule id) { long = Some id; required = true; value_names =
 abbrev pub takes : Text → Rule
 takes id = record (new_rule id) { long = Some id; value_names = 1 }
 
+-- an option `--id` that is given or left out, and takes no value
+abbrev pub flag : Text → Rule
+flag id = record (new_rule id) { long = Some id; action = Some SetTrue }
+
 -- one word or more, all that are left
 abbrev pub some : Text → Rule
 some id = record (new_rule id) { required = true; value_names = 1; range = Some (record { start_inclusive = 1; end_inclusive = usize_max }) }
@@ -34,9 +39,10 @@ init_app = with_rules (new_app (codes "init"))
     (must (codes "file") ∷ needs (codes "name") ∷ needs (codes "key") ∷ takes (codes "days")
     ∷ takes (codes "crl-life") ∷ takes (codes "ocsp-life") ∷ takes (codes "cap") ∷ [])
 
--- `script [FILE] [--signer SOCKET --algorithm NAME]`
+-- `script [FILE] [--signer SOCKET --algorithm NAME] [--clock] [--strict]`
 abbrev pub script_app : App
-script_app = with_rules (new_app (codes "script")) (may (codes "file") ∷ takes (codes "signer") ∷ takes (codes "algorithm") ∷ [])
+script_app = with_rules (new_app (codes "script"))
+    (may (codes "file") ∷ takes (codes "signer") ∷ takes (codes "algorithm") ∷ flag (codes "clock") ∷ flag (codes "strict") ∷ [])
 
 -- `import FILE --now MOMENT`
 abbrev pub import_app : App

@@ -1,5 +1,5 @@
 -- What the words of a command line say.
-use Rattle.std.specs.Prelude.{◌≡◌, ◌≢◌, ◌⊎◌, ℕ, List, [], codes, bytes_eq, if◌then◌else◌, Option, Some, None, option_map, option_and_then}
+use Rattle.std.specs.Prelude.{◌≡◌, ◌≢◌, ◌⊎◌, ◌||◌, ℕ, Bool, false, List, [], codes, bytes_eq, if◌then◌else◌, Option, Some, None, option_map, option_and_then}
 use Rattle.std.specs.Option.{option_map_or}
 use Rattle.clap.specs.Words.{IsAmong, Row, Text, all_of, fault_of, first_of, subcommand_of}
 use Rattle.clap.specs.declared.error.kind.ErrorKind.{ErrorKind}
@@ -9,9 +9,10 @@ use Rattle.reg_words.specs.Desk.{desk_app}
 use Rattle.reg_words.specs.Values.{moment_of, steps_of, within}
 use Rattle.reg_signer.specs.Algorithms.{algorithm_named}
 use Rattle.reg_words.specs.declared.job.Job.{Job}
-use Rattle.reg_words.specs.declared.job.Job.TheVariants.{Init, Script, Import, Crl, Serve, Open, At, Schedule}
+use Rattle.reg_words.specs.declared.job.Job.TheVariants.{Init, Script, Lines, Import, Crl, Serve, Open, At, Schedule}
 use Rattle.reg_words.specs.declared.job.KeyHolder.{KeyHolder}
 use Rattle.reg_words.specs.declared.job.Usage.{Usage}
+use Rattle.reg_words.specs.declared.job.Way.{Way}
 use Rattle.reg_words.specs.declared.job.Usage.TheVariants.{Help, Bad, Memory}
 
 -- the second step, if the first gave a value
@@ -43,6 +44,19 @@ holder_told None None = Some None
 abbrev pub holder_in : List Row → Option (Option KeyHolder)
 holder_in rows = holder_told (first_of (codes "signer") rows) (first_of (codes "algorithm") rows)
 
+-- whether an option is given that takes no value
+abbrev pub is_given : Text → List Row → Bool
+is_given id rows = option_map_or (λ text. bytes_eq text (codes "true")) (first_of id rows) false
+
+-- how the lines of a script are run
+abbrev pub way_in : List Row → Way
+way_in rows = record { is_clocked = is_given (codes "clock") rows; is_strict = is_given (codes "strict") rows }
+
+-- a script by its words; only one over a register at a path is run line by line
+abbrev pub script_by : Option Text → Option KeyHolder → Way → Option Job
+script_by None signer way = if way.is_clocked || way.is_strict then None else Some (Script None signer)
+script_by (Some file) signer way = if way.is_clocked || way.is_strict then Some (Lines file signer way) else Some (Script (Some file) signer)
+
 -- each command by its words and options; the days and lives that `init` leaves out are those of the usual policy
 unfoldable pub init_of : List Row → Option Job
 init_of rows = do
@@ -58,7 +72,7 @@ init_of rows = do
 unfoldable pub script_of : List Row → Option Job
 script_of rows = do
   signer ← holder_in rows
-  Some (Script (first_of (codes "file") rows) signer)
+  script_by (first_of (codes "file") rows) signer (way_in rows)
 
 unfoldable pub import_of : List Row → Option Job
 import_of rows = do

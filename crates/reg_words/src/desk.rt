@@ -3,9 +3,9 @@
 ghost use Rattle.std.specs.Prelude.{◌≡◌, IfOk, false, pos};
 ghost use Rattle.clap.specs.Words.{App, Rule, app_of, new_app, rule_of, with_rule, with_subcommand};
 ghost use Rattle.clap.specs.declared.builder.command.Command.TheViews.{out-Command as fields_of};
-ghost use Rattle.reg_words.specs.Desk.{must, may, needs, takes, some, init_app, script_app, import_app, crl_app, serve_app, open_app, at_app, schedule_app, bare_app, desk_app};
+ghost use Rattle.reg_words.specs.Desk.{must, may, needs, takes, flag, some, init_app, script_app, import_app, crl_app, serve_app, open_app, at_app, schedule_app, bare_app, desk_app};
 
-use clap::{Arg, Command};
+use clap::{Arg, ArgAction, Command};
 use std::alloc::{AllocError, Global};
 
 // What help says of each word and option: what it is, its unit, its range and what stands where it is left out.
@@ -44,6 +44,12 @@ const SIGNER: &str =
 
 const ALGORITHM: &str =
     "The algorithm of its signatures: ecdsa-sha256, ecdsa-sha384, rsa-sha256 or ed25519";
+
+const CLOCK: &str =
+    "Lines have no moment: the machine's clock is theirs; wants FILE [default: a line begins with its moment]";
+
+const STRICT: &str =
+    "End at the first refusal or fault, with status 3; wants FILE [default: run the lines behind it]";
 
 const COUNTER: &str = "The Unix socket of the counter, which is made with mode 0600";
 
@@ -100,7 +106,7 @@ fn init<'a>(alloc: Global) -> Result<Command<'a>, AllocError>
     with_arg(command, option(alloc, "cap", "N", CAP))
 }
 
-/// `script [FILE] [--signer SOCKET --algorithm NAME]`
+/// `script [FILE] [--signer SOCKET --algorithm NAME] [--clock] [--strict]`
 fn script<'a>(alloc: Global) -> Result<Command<'a>, AllocError>
     ensures app { IfOk result (λ made. app_of made ≡ script_app) }
     ensures local { IfOk result (λ made. (fields_of made).has_globals ≡ false) }
@@ -109,11 +115,13 @@ fn script<'a>(alloc: Global) -> Result<Command<'a>, AllocError>
         alloc,
         "script",
         "Run the lines of standard input, and write one reply line for each.",
-        "Example:\n  echo '2026-01-01T00:00:00Z counts' | desk script ca.db",
+        "Examples:\n  echo '2026-01-01T00:00:00Z counts' | desk script ca.db\n  echo counts | desk script ca.db --clock --strict",
     ));
     let command = with_arg(command, word(alloc, "file", "FILE", FILE_OR_MEMORY));
     let command = with_arg(command, option(alloc, "signer", "SOCKET", SIGNER));
-    with_arg(command, option(alloc, "algorithm", "NAME", ALGORITHM))
+    let command = with_arg(command, option(alloc, "algorithm", "NAME", ALGORITHM));
+    let command = with_arg(command, flagged(alloc, "clock", CLOCK));
+    with_arg(command, flagged(alloc, "strict", STRICT))
 }
 
 /// `import FILE --now MOMENT`
@@ -256,6 +264,17 @@ fn option<'a>(alloc: Global, id: &'a str, name: &'a str, help: &'a str) -> Arg<'
     ensures local { result.global ≡ false }
 {
     word(alloc, id, name, help).long(id)
+}
+
+/// An option that may be left out and takes no value.
+fn flagged<'a>(alloc: Global, id: &'a str, help: &'a str) -> Arg<'a>
+    ensures rule { rule_of result ≡ flag id.entry.now }
+    ensures local { result.global ≡ false }
+{
+    Arg::new(alloc, id)
+        .long(id)
+        .action(ArgAction::SetTrue)
+        .help(help)
 }
 
 /// The command with one more word or option, where there is a command.

@@ -16,6 +16,15 @@ pub struct KeyHolder<'a> {
     pub algorithm: Algorithm,
 }
 
+/// How the lines of a script are run that is run line by line.
+#[derive(Clone, Copy, Debug, PartialEq, Eq)]
+pub struct Way {
+    /// A line has no moment: the machine's clock tells it.
+    pub is_clocked: bool,
+    /// The script ends at the first refusal or fault.
+    pub is_strict: bool,
+}
+
 /// A job of the program, with all that the command line says of it. FILE is the path of a register.
 #[derive(Drop)]
 pub enum Job<'a> {
@@ -36,6 +45,12 @@ pub enum Job<'a> {
     Script {
         file: Option<Word<'a>>,
         signer: Option<KeyHolder<'a>>,
+    },
+    /// Runs the script of standard input line by line. What holds the key signs, or else a digest seals.
+    Lines {
+        file: Word<'a>,
+        signer: Option<KeyHolder<'a>>,
+        way: Way,
     },
     /// Registers the rows of standard input at a moment.
     Import {

@@ -6,7 +6,8 @@ mod job;
 mod reading;
 mod values;
 mod word;
+mod wrong;
 
-pub use job::{Job, KeyHolder, Usage};
-pub use reading::read_words;
+pub use job::{Job, KeyHolder, Usage, Way};
+pub use reading::{no_text, read_words};
 pub use word::{Steps, Word};

@@ -2,13 +2,15 @@
 
 ghost use Rattle.std.specs.Prelude.{◌≡◌, codes, IfErr, IfOk, map, option_and_then};
 ghost use Rattle.clap.specs.Words.{found_of, rows_of, subcommand_rows_of, kind_of};
-ghost use Rattle.reg_words.specs.Jobs.{IsJobOf, IsUsageOf, Tells, job_in, init_of, script_of, import_of, crl_of, number_in, serve_of, open_of, at_of, schedule_of};
+ghost use Rattle.reg_words.specs.Jobs.{IsJobOf, IsUsageOf, Tells, job_in, init_of, script_by, script_of, import_of, crl_of, number_in, serve_of, open_of, at_of, schedule_of};
 
 use crate::desk::desk;
-use crate::job::{Job, Usage};
+use crate::job::{Job, KeyHolder, Usage, Way};
 use crate::values::{
-    key_holder, moment, number_if_given, number_or, number_within, steps, word_of,
+    key_holder, moment, number_if_given, number_or, number_within, steps, way_of, word_of,
 };
+use crate::word::Word;
+use crate::wrong::{LAST_PORT, MOST_REQUESTS, wrong_text};
 use clap::error::ErrorKind;
 use clap::{ArgMatches, Command, Error};
 use std::alloc::{AllocError, Global};
@@ -26,19 +28,8 @@ const USUAL_OCSP_LIFE: u64 = 345_600;
 /// The most rows of a table of the usual policy.
 const USUAL_CAP: u64 = 1_000_000;
 
-/// The last TCP port.
-const LAST_PORT: u64 = 65_535;
-
-/// The most connections of one run of the server.
-const MOST_REQUESTS: u64 = 1_000_000;
-
-/// What is said where a value is out of its form or range.
-const VALUE_WANTED: &str =
-    "a number is 1 to 18 digits and within the range that help tells, a moment is written as 2026-01-01T00:00:00Z";
-
-/// What is said where the words don't tell what holds the key.
-const KEY_HOLDER_WANTED: &str =
-    "--signer and --algorithm are given both or neither, and an algorithm is ecdsa-sha256, ecdsa-sha384, rsa-sha256 or ed25519";
+/// What is said where a word of the command line is no text.
+const TEXT_WANTED: &str = "a word is no UTF-8 text: the name of a FILE is to be UTF-8";
 
 /// Reads the words of a command line, of which the first is the program's name.
 ///
@@ -55,7 +46,7 @@ pub fn read_words<'a, S: AsStr>(alloc: Global, words: &'a [S]) -> Result<Job<'a>
     match desk.try_get_matches_from_mut(words) {
         Ok(matches) => match read_job(alloc, &matches) {
             Ok(Some(job)) => Ok(job),
-            Ok(None) => Err(bad_value(alloc, &mut desk, what_is_wanted(&matches))),
+            Ok(None) => Err(bad_value(alloc, &mut desk, &matches)),
             Err(_) => Err(Usage::Memory),
         },
         Err(error) => Err(usage_of(alloc, &error)),
@@ -120,10 +111,24 @@ fn read_init<'a>(given: &ArgMatches<'a>) -> Option<Job<'a>>
 fn read_script<'a>(given: &ArgMatches<'a>) -> Option<Job<'a>>
     ensures { result ≡ script_of (rows_of (found_of given.now)) }
 {
-    Some(Job::Script {
-        file: word_of(given, "file"),
-        signer: key_holder(given)?,
-    })
+    let signer = key_holder(given)?;
+    script_job(word_of(given, "file"), signer, way_of(given))
+}
+
+/// A script by its words; only one over FILE is run line by line.
+fn script_job<'a>(
+    file: Option<Word<'a>>,
+    signer: Option<KeyHolder<'a>>,
+    way: Way,
+) -> Option<Job<'a>>
+    ensures { result ≡ script_by file.entry signer.entry way }
+{
+    let by_lines = way.is_clocked || way.is_strict;
+    match file {
+        Some(file) if by_lines => Some(Job::Lines { file, signer, way }),
+        None if by_lines => None,
+        file => Some(Job::Script { file, signer }),
+    }
 }
 
 #[tactic(auto, unfolding(crate::specs::Jobs::import_of))]
@@ -199,19 +204,31 @@ fn read_schedule<'a>(alloc: Global, given: &ArgMatches<'a>) -> Result<Option<Job
     }
 }
 
-/// What is said of the values that are wanted, where one is out of its form or range.
-fn what_is_wanted(matches: &ArgMatches<'_>) -> &'static str {
-    match matches.subcommand() {
-        Some((_, given)) if key_holder(given).is_none() => KEY_HOLDER_WANTED,
-        _ => VALUE_WANTED,
+/// What is answered where a word of the command line is no text.
+pub fn no_text(alloc: Global) -> Usage
+    ensures { Tells ErrorKind.InvalidValue result }
+{
+    match desk(alloc) {
+        Ok(mut desk) => told(alloc, &mut desk, ErrorKind::InvalidValue, TEXT_WANTED),
+        Err(_) => Usage::Memory,
     }
 }
 
-/// What is answered where clap took the words, and a value is out of its form or range.
-fn bad_value(alloc: Global, desk: &mut Command<'_>, wanted: &str) -> Usage
+/// What is answered where clap took the words, and a value is out of its form or range: the option and its value are named.
+fn bad_value(alloc: Global, desk: &mut Command<'_>, matches: &ArgMatches<'_>) -> Usage
     ensures { Tells ErrorKind.ValueValidation result }
 {
-    match desk.error(ErrorKind::ValueValidation, wanted) {
+    match wrong_text(alloc, matches) {
+        Some(text) => told(alloc, desk, ErrorKind::ValueValidation, &text),
+        None => Usage::Memory,
+    }
+}
+
+/// An error of our own, in the form of clap's.
+fn told(alloc: Global, desk: &mut Command<'_>, kind: ErrorKind, text: &str) -> Usage
+    ensures { Tells kind result }
+{
+    match desk.error(kind, text) {
         Ok(error) => usage_of(alloc, &error),
         Err(_) => Usage::Memory,
     }

@@ -3,10 +3,10 @@
 ghost use Rattle.std.specs.Prelude.{◌≡◌, ◌≤◌, IfOk, IfSome, List, ℕ, map, option_and_then, option_map};
 ghost use Rattle.reg_core.specs.Number.{number_of};
 ghost use Rattle.clap.specs.Words.{all_of, first_of, found_of, rows_of};
-ghost use Rattle.reg_words.specs.Jobs.{given, given_or, holder_in, number_in};
+ghost use Rattle.reg_words.specs.Jobs.{given, given_or, holder_in, is_given, number_in, way_in};
 ghost use Rattle.reg_words.specs.Values.{moment_of, step_of, steps_of, within};
 
-use crate::job::KeyHolder;
+use crate::job::{KeyHolder, Way};
 use crate::word::{Steps, Word};
 use clap::ArgMatches;
 use reg_core::{Moment, read_number};
@@ -21,7 +21,7 @@ pub(crate) fn word_of<'a>(matches: &ArgMatches<'a>, id: &str) -> Option<Word<'a>
 }
 
 /// The text that was given.
-fn text_of<'a>(matches: &ArgMatches<'a>, id: &str) -> Option<&'a str>
+pub(crate) fn text_of<'a>(matches: &ArgMatches<'a>, id: &str) -> Option<&'a str>
     ensures { option_map (λ text. text.now) result ≡ first_of id.now (rows_of (found_of matches.now)) }
 {
     matches.get_str(id)
@@ -86,6 +86,26 @@ pub(crate) fn key_holder<'a>(matches: &ArgMatches<'a>) -> Option<Option<KeyHolde
     }
 }
 
+/// How the lines of a script are run.
+pub(crate) fn way_of(matches: &ArgMatches<'_>) -> Way
+    ensures { result ≡ way_in (rows_of (found_of matches.now)) }
+{
+    Way {
+        is_clocked: is_set(matches, "clock"),
+        is_strict: is_set(matches, "strict"),
+    }
+}
+
+/// Whether an option is given that takes no value.
+fn is_set(matches: &ArgMatches<'_>, id: &str) -> bool
+    ensures { result ≡ is_given id.now (rows_of (found_of matches.now)) }
+{
+    match text_of(matches, id) {
+        Some(text) => text == "true",
+        None => false,
+    }
+}
+
 /// The steps of a schedule; `None` where there are none, or one has another form than MOMENT=DAYS.
 pub(crate) fn steps(
     alloc: Global,
@@ -113,9 +133,9 @@ fn read_steps(alloc: Global, texts: &[&str]) -> Result<Option<Steps>, AllocError
     Ok(Some(Steps::of(steps)))
 }
 
-/// Reads `MOMENT=DAYS`.
+/// Reads `MOMENT=DAYS`; `None` where the text has another form.
 #[tactic(auto, unfolding(crate::specs::Values::step_of))]
-fn read_step(text: &str) -> Option<(Moment, u64)>
+pub(crate) fn read_step(text: &str) -> Option<(Moment, u64)>
     ensures { result ≡ step_of text.now }
 {
     let (from, days) = text.split_once('=')?;

@@ -3,7 +3,7 @@
 use crate::front::Prepared;
 use mio::net::{TcpListener, UnixListener};
 use reg_program::{perform, perform_at};
-use reg_words::{Job, Word};
+use reg_words::{Job, Way, Word};
 use std::alloc::Global;
 use std::cell::Cell;
 use std::fs;
@@ -149,10 +149,10 @@ struct Ending {
     errors: Vec<u8>,
 }
 
-/// Does a job over a front, with nothing to read.
-fn done(rt: &HostRuntime, front: &Prepared, job: &Job<'_>) -> Ending {
+/// Does a job over a front, with this to read.
+fn done(rt: &HostRuntime, front: &Prepared, job: &Job<'_>, input: &[u8]) -> Ending {
     let mut files = *rt;
-    let mut reader: &[u8] = b"";
+    let mut reader = input;
     let mut output = Vec::new(rt.alloc());
     let mut errors = Vec::new(rt.alloc());
     let status = perform_at(
@@ -224,7 +224,7 @@ fn peers_are_answered_what_each_asked_at_the_clocks_moment(rt: HostRuntime) -> R
         requests: 9,
         signer: None,
     };
-    let ending = done(&rt, &*front, &job);
+    let ending = done(&rt, &*front, &job, b"");
     assert!(rt; ending.status == 0 && ending.errors.is_empty());
     assert!(rt; ending.output.as_slice() == b"listening 8080\n".as_slice());
     assert!(rt; front.asked.get() == ([127, 0, 0, 1], 8080));
@@ -249,7 +249,7 @@ fn a_port_that_is_taken_ends_it_with_nothing_written(rt: HostRuntime) -> Result<
         requests: 1,
         signer: None,
     };
-    let ending = done(&rt, &*front, &job);
+    let ending = done(&rt, &*front, &job, b"");
     assert!(rt; ending.status == 1 && ending.output.is_empty());
     assert!(rt; ending.errors.as_slice() == b"F4 read\n".as_slice());
     clear(&rt, path, log);
@@ -279,7 +279,7 @@ fn lines_at_a_counter_run_once_in_order_until_the_clock_fails(rt: HostRuntime) -
         counter: Word::of(socket),
         signer: None,
     };
-    let ending = done(&rt, &*front, &job);
+    let ending = done(&rt, &*front, &job, b"");
     assert!(rt; ending.status == 1 && ending.errors.as_slice() == b"F4 read\n".as_slice());
     assert!(rt; ending.output.as_slice() == b"listening 8080\n".as_slice());
     assert!(rt; front.asked.get() == ([127, 0, 0, 1], 8080));
@@ -289,6 +289,48 @@ fn lines_at_a_counter_run_once_in_order_until_the_clock_fails(rt: HostRuntime) -
     let lines = b"2026-01-02T00:01:00Z status 05\n";
     replies(&rt, path, lines, b"revoked 2026-01-02T00:00:02Z reason 4\n")?;
     drop(fs::remove_file(&rt, socket));
+    clear(&rt, path, log);
+    Ok(())
+}
+
+/// Lines of a script without their moments, and the replies, each at a second later. The third is refused; the last has no end.
+static CLOCKED: (&[u8], &[u8]) = (
+    b"counts\nrequest 05 superseded\nrevoke 2\nrevoke 1\nstatus 05",
+    b"good 1 revoked 0 expired 0\nrequest 1 due 2026-01-03T00:00:01Z\nE17 no-request\nrevoked\nrevoked 2026-01-02T00:00:03Z reason 4\n",
+);
+
+/// What the same lines come to where the script is strict, or the clock fails after the third.
+static CLOCKED_SHORT: &[u8] =
+    b"good 1 revoked 0 expired 0\nrequest 1 due 2026-01-03T00:00:01Z\nE17 no-request\n";
+
+/// A script over the register at a path, whose lines have the clock's moments.
+fn clocked(path: &str, is_strict: bool) -> Job<'_> {
+    Job::Lines {
+        file: Word::of(path),
+        signer: None,
+        way: Way {
+            is_clocked: true,
+            is_strict,
+        },
+    }
+}
+
+#[test]
+fn lines_of_a_clocked_script_run_at_the_clocks_moment(rt: HostRuntime) -> Result<(), Fail> {
+    let (path, log) = ("served_examples_clock.db", "served_examples_clock.db-wal");
+    for (is_strict, looks, status, wanted, errors) in [
+        (false, 5, 0, CLOCKED.1, b"".as_slice()),
+        (true, 5, 3, CLOCKED_SHORT, b"refused\n".as_slice()),
+        (false, 3, 1, CLOCKED_SHORT, b"F4 read\n".as_slice()),
+    ] {
+        make(&rt, path, log)?;
+        let front = prepared(rt.alloc(), None, None, looks)?;
+        let ending = done(&rt, &*front, &clocked(path, is_strict), CLOCKED.0);
+        let is_so = ending.status == status
+            && ending.output.as_slice() == wanted
+            && ending.errors.as_slice() == errors;
+        assert!(rt; is_so, "at {is_strict} {looks}");
+    }
     clear(&rt, path, log);
     Ok(())
 }

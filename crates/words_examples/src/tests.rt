@@ -2,7 +2,7 @@
 
 use reg_core::Moment;
 use reg_signer::Algorithm;
-use reg_words::{Job, KeyHolder, Usage, read_words};
+use reg_words::{Job, KeyHolder, Usage, Way, no_text, read_words};
 use std::test::Fail;
 
 /// Which of its outcomes a command line has.
@@ -197,6 +197,8 @@ const HELPED: [(&[&str], &[&str]); 10] = [
             "[FILE]",
             "--signer <SOCKET>",
             "--algorithm <NAME>",
+            "--clock",
+            "--strict",
             "desk script ca.db",
         ],
     ),
@@ -382,6 +384,53 @@ fn script_may_have_a_file(rt: HostRuntime) {
     assert!(rt; is_script(&with, Some("реестр/центр 1.db")));
 }
 
+fn is_by_lines(answer: &Result<Job<'_>, Usage>, path: &str, wanted: Way) -> bool {
+    match answer {
+        Ok(Job::Lines { file, signer, way }) => {
+            file.as_str() == path && signer.is_none() && *way == wanted
+        }
+        _ => false,
+    }
+}
+
+#[test]
+fn script_may_be_clocked_and_strict(rt: HostRuntime) {
+    for (options, is_clocked, is_strict) in [
+        (["--clock", "--strict"], true, true),
+        (["--strict", "--clock"], true, true),
+        (["--clock", "--"], true, false),
+        (["--strict", "--"], false, true),
+    ] {
+        let [first, second] = options;
+        let words = ["desk", "script", first, second, "ca.db"];
+        let answer = read_words(rt.alloc(), &words);
+        let way = Way {
+            is_clocked,
+            is_strict,
+        };
+        assert!(rt; is_by_lines(&answer, "ca.db", way), "at {words:?}");
+    }
+}
+
+#[test]
+fn a_script_is_clocked_and_strict_over_a_file_alone(rt: HostRuntime) {
+    for option in ["--clock", "--strict"] {
+        let without = ["desk", "script", option];
+        let without = read_words(rt.alloc(), &without);
+        assert!(rt; is_refused_with(&without, "want a FILE"), "at {option}");
+        let words = ["desk", "import", "F", option];
+        let answer = read_words(rt.alloc(), &words);
+        assert!(rt; is_refused_with(&answer, "unexpected"), "at {words:?}");
+    }
+    for words in [
+        ["desk", "script", "F", "--clock=1"],
+        ["desk", "script", "F", "--strict="],
+    ] {
+        let answer = read_words(rt.alloc(), &words);
+        assert_eq!(rt; outcome_of(&answer), Outcome::Refused, "at {words:?}");
+    }
+}
+
 fn is_import(answer: &Result<Job<'_>, Usage>, path: &str, moment: Moment) -> bool {
     match answer {
         Ok(Job::Import { file, now }) => file.as_str() == path && *now == moment,
@@ -506,6 +555,7 @@ fn at_has_its_counter(rt: HostRuntime) {
 fn holder_of<'a, 'b>(answer: &'b Result<Job<'a>, Usage>) -> Option<&'b KeyHolder<'a>> {
     match answer {
         Ok(Job::Script { signer, .. }) => signer.as_ref(),
+        Ok(Job::Lines { signer, .. }) => signer.as_ref(),
         Ok(Job::Serve { signer, .. }) => signer.as_ref(),
         Ok(Job::Open { signer, .. }) => signer.as_ref(),
         _ => None,
@@ -618,9 +668,76 @@ fn a_socket_and_a_known_algorithm_are_told_both_or_neither(rt: HostRuntime) {
         let answer = read_words(rt.alloc(), &words);
         assert!(rt; is_refused_with(&answer, "unexpected"), "at {words:?}");
     }
-    let other = ["desk", "crl", "F", "--number=x"];
-    let other = read_words(rt.alloc(), &other);
-    assert!(rt; is_refused_with(&other, "a number is 1 to 18 digits"));
+}
+
+/// Words with one value that is out of its form or range, and how it is named.
+const NAMED: [(&[&str], &str, &str); 10] = [
+    (
+        &["desk", "crl", "F", "--number=x"],
+        "'x' for '--number'",
+        "a number is 1 to 18 digits",
+    ),
+    (
+        &["desk", "init", "F", "--name=30", "--key=01", "--cap=-"],
+        "'-' for '--cap'",
+        "a number is 1 to 18 digits",
+    ),
+    (
+        &["desk", "init", "F", "--name=30", "--key=01", "--days=1.5"],
+        "'1.5' for '--days'",
+        "a number is 1 to 18 digits",
+    ),
+    (
+        &["desk", "serve", "F", "--port=65536", "--requests=1"],
+        "'65536' for '--port'",
+        "within the range",
+    ),
+    (
+        &["desk", "serve", "F", "--port=80", "--requests=0"],
+        "'0' for '--requests'",
+        "within the range",
+    ),
+    (
+        &["desk", "open", "F", "--port=", "--counter=S"],
+        "'' for '--port'",
+        "within the range",
+    ),
+    (
+        &["desk", "import", "F", "--now=yesterday"],
+        "'yesterday' for '--now'",
+        "a moment is written as",
+    ),
+    (
+        &["desk", "schedule", "F", "1970-01-01T00:00:00Z=398", "now=2"],
+        "'now=2' for 'MOMENT=DAYS'",
+        "a step is written as",
+    ),
+    (
+        &["desk", "script", "F", "--signer=S", "--algorithm=ed448"],
+        "'ed448' for '--algorithm'",
+        "an algorithm is ecdsa-sha256",
+    ),
+    (
+        &["desk", "script", "F", "--signer=ca.sign"],
+        "'ca.sign' for '--signer'",
+        "given both or neither",
+    ),
+];
+
+#[test]
+fn a_bad_value_is_named_with_its_option(rt: HostRuntime) {
+    for (words, named, wanted) in NAMED {
+        let answer = read_words(rt.alloc(), words);
+        let is_named = is_refused_with(&answer, named) && is_refused_with(&answer, wanted);
+        assert!(rt; is_named, "at {words:?}");
+    }
+}
+
+#[test]
+fn words_that_are_no_text_are_refused(rt: HostRuntime) {
+    let usage = no_text(rt.alloc());
+    assert_eq!(rt; usage.status(), 2);
+    assert!(rt; is_refused_with(&Err(usage), "no UTF-8"));
 }
 
 fn is_schedule(answer: &Result<Job<'_>, Usage>, path: &str, wanted: &[(Moment, u64)]) -> bool {

@@ -33,7 +33,7 @@ fn tells_of_none(given: &Result<Vec<u8>, Fault>) -> bool {
 }
 
 /// Whether there is no CRL with this number, or no latest one.
-fn has_no_crl(desk: &mut Desk<Office<MemStore, FailsAt>>, number: Option<u64>) -> bool {
+pub(super) fn has_no_crl(desk: &mut Desk<Office<MemStore, FailsAt>>, number: Option<u64>) -> bool {
     let given = desk.office.crl_bytes(desk.alloc, number);
     tells_of_none(&given)
 }
@@ -41,7 +41,14 @@ fn has_no_crl(desk: &mut Desk<Office<MemStore, FailsAt>>, number: Option<u64>) -
 #[test]
 fn an_empty_register_has_no_crl(rt: HostRuntime) -> Result<(), Fail> {
     let mut desk = new_desk(rt.alloc(), 1_000_000, 0)?;
-    for number in [None, Some(0), Some(1), Some(9_223_372_036_854_775_807)] {
+    for number in [
+        None,
+        Some(0),
+        Some(1),
+        Some(9_223_372_036_854_775_807),
+        Some(9_223_372_036_854_775_808),
+        Some(u64::MAX),
+    ] {
         assert!(rt; has_no_crl(&mut desk, number), "{number:?}");
     }
     Ok(())

@@ -1,16 +1,15 @@
 //! Imports, and an import that comes twice.
 
-use crate::tests::desk::{new_desk, replies};
+use crate::tests::desk::{DAY_1, looked, new_desk, replies, started};
+use crate::tests::faces::{Face, exchange};
 use crate::tests::signer::FailsAt;
+use crate::tests::wires::{reader_of, writer_of};
 use reg_core::{Fault, Moment};
 use reg_faces::{Desk, import};
 use reg_office::Office;
 use sqlite::MemStore;
 use std::alloc::Global;
 use std::test::Fail;
-
-/// 2026-01-01T00:00:00Z.
-const DAY_1: u64 = 1_767_225_600;
 
 /// What the register holds before the imports.
 static BEFORE: &[u8] = b"2026-01-01T00:00:00Z subscriber acme\n2026-01-01T00:00:00Z order 1 398\n";
@@ -57,5 +56,30 @@ fn an_import_that_comes_twice_adds_nothing(rt: HostRuntime) -> Result<(), Fail> 
             Err(fault) => assert!(rt; false, "{fault:?}"),
         }
     }
+    Ok(())
+}
+
+/// A header and a row that is registered.
+static ROW: &[u8] =
+    b"order,serial,notBefore,notAfter\n1,05,2026-01-01T00:00:00Z,2026-01-10T00:00:00Z\n";
+
+/// How an import of this row and then line feeds, of so many bytes in all, ends, what it wrote, and whether the tables stayed.
+fn import_of(alloc: Global, length: usize) -> Result<(Result<(), Fault>, Vec<u8>, bool), Fail> {
+    let desk = started(alloc, 0, BEFORE).ok_or("a register")?;
+    let (mut desk, before) = looked(desk).ok_or("a register")?;
+    let mut reader = reader_of(ROW, 65_536, None);
+    reader.more = length.saturating_sub(ROW.len());
+    let mut writer = writer_of(alloc, 64, None)?;
+    let end = exchange(&mut desk, Face::Import, DAY_1, &mut reader, &mut writer);
+    let (_, after) = looked(desk).ok_or("a register")?;
+    Ok((end, writer.got, before == after))
+}
+
+#[test]
+fn an_import_of_a_byte_too_many_runs_nothing(rt: HostRuntime) -> Result<(), Fail> {
+    let (end, written, stays) = import_of(rt.alloc(), 16_777_216)?;
+    assert!(rt; end == Ok(()) && written.as_slice() == b"registered\n".as_slice() && !stays);
+    let (end, written, stays) = import_of(rt.alloc(), 16_777_217)?;
+    assert!(rt; end == Err(Fault::Read) && written.is_empty() && stays);
     Ok(())
 }

@@ -1,17 +1,27 @@
 //! Two hundred certificates, half of them revoked.
 
-use crate::tests::desk::{new_desk, replies};
+use crate::tests::desk::{DAY_1, moment, new_desk, replies};
+use crate::tests::vectors::OCSP_REQUEST;
 use std::alloc::Global;
 use std::test::Fail;
 
 /// The end of the lines of one certificate: its validity.
 static VALID: &str = "2026-01-01T00:00:00Z 2026-01-10T00:00:00Z";
 
-/// What is asked in the end, and the replies.
-static ASKED: (&[u8], &[u8]) = (
-    b"2026-01-01T00:00:00Z counts\n2026-01-01T00:00:00Z crl\n2026-01-10T00:00:01Z counts\n2026-01-10T00:00:01Z crl\n2026-01-10T00:00:01Z crl\n",
-    b"good 100 revoked 100 expired 0\ncrl 1 entries 100\ngood 0 revoked 100 expired 100\ncrl 2 entries 100\ncrl 3 entries 0\n",
+/// What is asked on the first day, and the replies.
+static EARLY: (&[u8], &[u8]) = (
+    b"2026-01-01T00:00:00Z counts\n2026-01-01T00:00:00Z crl\n",
+    b"good 100 revoked 100 expired 0\ncrl 1 entries 100\n",
 );
+
+/// What is asked in the end, and the replies.
+static LATE: (&[u8], &[u8]) = (
+    b"2026-01-10T00:00:01Z counts\n2026-01-10T00:00:01Z crl\n2026-01-10T00:00:01Z crl\n",
+    b"good 0 revoked 100 expired 100\ncrl 2 entries 100\ncrl 3 entries 0\n",
+);
+
+/// The answer good in a single response, with its moments, on the first day.
+static GOOD: &[u8] = b"\x02\x01\x05\x80\x00\x18\x0F20260101000000Z\xA0\x11\x18\x0F20260105000000Z";
 
 /// The lines and the replies of certificate `i`; each second one is revoked.
 fn lines_of(alloc: Global, i: u32) -> Result<(String, String), Fail> {
@@ -39,9 +49,14 @@ fn two_hundred_certificates_are_counted_and_listed(rt: HostRuntime) -> Result<()
             Err(fault) => assert!(rt; false, "{i}: {fault:?}"),
         }
     }
-    match replies(rt.alloc(), &mut desk, ASKED.0) {
-        Ok(written) => assert_eq!(rt; written.as_slice(), ASKED.1),
-        Err(fault) => assert!(rt; false, "{fault:?}"),
+    let early = replies(rt.alloc(), &mut desk, EARLY.0);
+    assert!(rt; early.is_ok_and(|written| written.as_slice() == EARLY.1));
+    for i in 0..200u32 {
+        let answer = desk.office.ocsp(rt.alloc(), moment(DAY_1), OCSP_REQUEST)?;
+        let is_good = answer.get(134..).is_some_and(|end| end.starts_with(GOOD));
+        assert!(rt; answer.len() == 246 && is_good, "{i}");
     }
+    let late = replies(rt.alloc(), &mut desk, LATE.0);
+    assert!(rt; late.is_ok_and(|written| written.as_slice() == LATE.1));
     Ok(())
 }

@@ -1,6 +1,6 @@
 //! A register that is closed and opened again.
 
-use crate::tests::desk::{new_desk, replies};
+use crate::tests::desk::{looked, new_desk, registered, replies};
 use crate::tests::signer::FailsAt;
 use reg_faces::Desk;
 use reg_office::Office;
@@ -42,6 +42,22 @@ fn a_register_goes_on_where_it_was(rt: HostRuntime) -> Result<(), Fail> {
     match replies(rt.alloc(), &mut desk, AFTER.0) {
         Ok(written) => assert_eq!(rt; written.as_slice(), AFTER.1),
         Err(fault) => assert!(rt; false, "{fault:?}"),
+    }
+    Ok(())
+}
+
+/// The rows that the policy stands in, after the certificate 05 was registered. The days of the
+/// office are those that it was made with, which this version does not read: the schedule has a table of its own.
+static POLICY: [&str; 2] = [
+    "\noffice 3 300D310B300906035504030C024341 616263 398 691200 345600 1000000 1767225600\n",
+    "\nlongest 0 398\n",
+];
+
+#[test]
+fn the_policy_stands_in_the_tables(rt: HostRuntime) -> Result<(), Fail> {
+    let (_, tables) = looked(registered(rt.alloc(), 0)?).ok_or("a register")?;
+    for row in POLICY {
+        assert!(rt; tables.contains(row), "{tables}");
     }
     Ok(())
 }

@@ -11,7 +11,7 @@ use std::alloc::Global;
 use std::test::Fail;
 
 /// The response to a request at a moment.
-fn response(
+pub(super) fn response(
     alloc: Global,
     desk: &mut Desk<Office<MemStore, FailsAt>>,
     now: Moment,

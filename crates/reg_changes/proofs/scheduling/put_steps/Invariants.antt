@@ -2,9 +2,9 @@ use Rattle.std.proofs.Common.{◌≡◌, ◌≤◌, [], take, true, IsTrue}
 use Rattle.sqlite.specs.Held.{state}
 use Rattle.sqlite.specs.State.{HasCleanDisk, KeepsCommit}
 use Rattle.sqlite_trees.specs.Tree.{Trees}
-use Rattle.sqlite_trees.specs.View.{doubt}
 use Rattle.reg_core.specs.Schedule.{Ascends}
 use Rattle.reg_changes.specs.Staged.{IsStaged}
+use Rattle.reg_tables.specs.Stays.{LeavesNothing}
 use Rattle.reg_changes.proofs.scheduling.put_steps.Given as goal
 
 abbrev pub invariant-loop-step : goal.invariant-loop-step
@@ -13,7 +13,8 @@ invariant-loop-step g l =
     let new = state g.S.Store l.tx.conn.now in
     record {
       same_reference : l.tx.conn.ghost_name ≡ l.initial.tx.conn.ghost_name;
-      forgets : doubt old.is_clean ≤ doubt new.is_clean;
+      survives : LeavesNothing old new;
+      live : HasCleanDisk new → IsTrue old.is_open → IsTrue new.is_open;
       kept : HasCleanDisk new → KeepsCommit old new;
       inside : HasCleanDisk new → l.initial.tx.conn.now.in_transaction ≡ true → l.tx.conn.now.in_transaction ≡ true;
       staged : HasCleanDisk new → (base : Trees) → Ascends l.steps → (IsTrue old.is_open → IsStaged base [] old.now) → IsTrue new.is_open → IsStaged base (take l.step-index l.steps) new.now;

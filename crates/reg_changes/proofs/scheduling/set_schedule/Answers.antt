@@ -1,9 +1,14 @@
 use Rattle.std.proofs.Common.{◌≡◌, rules, subst}
 use Rattle.sqlite.specs.Effect.{Database}
+use Rattle.sqlite_trees.specs.Tree.{Trees}
 use Rattle.sqlite.specs.Held.{state}
+use Rattle.sqlite.specs.State.{HasCleanDisk, Survives}
 use Rattle.reg_core.specs.Changes.{with_schedule}
 use Rattle.reg_tables.specs.Shows.{Shows, ShowsBoth, IsShownBy, AreBoth}
-use Rattle.reg_changes.proofs.Moving.{commits_by}
+use Rattle.reg_changes.specs.AtRest.{IsScheduled}
+use Rattle.reg_changes.proofs.Committing.{clean_before}
+use Rattle.reg_changes.proofs.Moving.{begun_before, commits_by, was_clean}
+use Rattle.reg_changes.proofs.Resting.{resting, survives_commit}
 use Rattle.reg_changes.proofs.Stages.{staged_first, staged_shows, staged_both, kept_schedule}
 use Rattle.reg_changes.proofs.scheduling.set_schedule.Goals as goal
 
@@ -15,7 +20,7 @@ returns-clause-shown g c records shows =
     let ended = c.commit.new.self.0 in
     let steps = c.args.schedule.now in
     let done : Shows s ended (with_schedule records steps) =
-    commits_by s c.args.conn.now begun entered ended c.transaction-tx.ensures.begun c.write_schedule.ensures.clean c.commit.ensures.survives.clean
+    commits_by s c.args.conn.now begun entered ended c.transaction-tx.ensures.begun c.write_schedule.ensures.survives.clean c.commit.ensures.survives.clean
     (λ (db : Database). IsShownBy db records) (λ (db : Database). IsShownBy db (with_schedule records steps)) shows
     (λ clean before up.
     let first = before ((c.write_schedule.ensures.kept clean).was_open up) in
@@ -34,7 +39,7 @@ returns-clause-ok g c records kept =
     let steps = c.args.schedule.now in
     let columns = kept.0 in
     let done : ShowsBoth s ended (with_schedule records steps) columns =
-    commits_by s c.args.conn.now begun entered ended c.transaction-tx.ensures.begun c.write_schedule.ensures.clean c.commit.ensures.survives.clean
+    commits_by s c.args.conn.now begun entered ended c.transaction-tx.ensures.begun c.write_schedule.ensures.survives.clean c.commit.ensures.survives.clean
     (λ (db : Database). AreBoth db records columns) (λ (db : Database). AreBoth db (with_schedule records steps) columns) kept.1
     (λ clean before up.
     let first = before ((c.write_schedule.ensures.kept clean).was_open up) in
@@ -43,3 +48,51 @@ returns-clause-ok g c records kept =
     (λ clean. (c.in_ok-commit.ensures.ok clean).1) in
     let same : ended ≡ c.conn-2-1.given.0 = search rules in
     (columns, subst (λ h. ShowsBoth s h (with_schedule records steps) columns) same done, kept_schedule columns records steps kept.2)
+
+pub returns-clause-survives : goal.returns-clause-survives
+returns-clause-survives g c =
+    let s = g.S.Store in
+    let old = c.args.conn.now in
+    let begun = c.transaction-tx.result.conn.now in
+    let entered = c.write_schedule.new.tx.conn.now in
+    let ended = c.commit.new.self.0 in
+    let steps = c.args.schedule.now in
+    let made : Trees → Type 0 = IsScheduled s old steps in
+    let done : Survives (state s old) (state s ended) made =
+    survives_commit s old begun entered ended c.transaction-tx.ensures.begun made c.write_schedule.ensures.survives c.commit.ensures.survives
+    (λ clean trees is records kept.
+    let columns = kept.0 in
+    let mid : HasCleanDisk (state s entered) = was_clean (state s entered) (state s ended) c.commit.ensures.survives.clean clean in
+    let first : HasCleanDisk (state s old) = clean_before s old begun entered c.transaction-tx.ensures.begun c.write_schedule.ensures.survives.clean mid in
+    let before = begun_before s old begun c.transaction-tx.ensures.begun records columns kept.1 first in
+    let up = c.in_ok-write_schedule.ensures.live mid in
+    let both =
+    staged_both (state s begun).now (state s entered).now records columns steps c.in_ok-write_schedule.ensures.sound (before ((c.write_schedule.ensures.kept mid).was_open up))
+    (c.in_ok-write_schedule.ensures.ok mid (state s begun).now.trees records.policy.schedule (λ open_begun. staged_first (state s begun).now records (before open_begun).shown) up) in
+    (columns, resting (state s entered).now trees (with_schedule records steps) columns is both, kept_schedule columns records steps kept.2)) in
+    let same : ended ≡ c.conn-2-1.given.0 = search rules in
+    subst (λ h. Survives (state s old) (state s h) made) same done
+
+pub returns-in_err-commit-clause-survives : goal.returns-in_err-commit-clause-survives
+returns-in_err-commit-clause-survives g c =
+    let s = g.S.Store in
+    let old = c.args.conn.now in
+    let begun = c.transaction-tx.result.conn.now in
+    let entered = c.write_schedule.new.tx.conn.now in
+    let ended = c.commit.new.self.0 in
+    let steps = c.args.schedule.now in
+    let made : Trees → Type 0 = IsScheduled s old steps in
+    let done : Survives (state s old) (state s ended) made =
+    survives_commit s old begun entered ended c.transaction-tx.ensures.begun made c.write_schedule.ensures.survives c.commit.ensures.survives
+    (λ clean trees is records kept.
+    let columns = kept.0 in
+    let mid : HasCleanDisk (state s entered) = was_clean (state s entered) (state s ended) c.commit.ensures.survives.clean clean in
+    let first : HasCleanDisk (state s old) = clean_before s old begun entered c.transaction-tx.ensures.begun c.write_schedule.ensures.survives.clean mid in
+    let before = begun_before s old begun c.transaction-tx.ensures.begun records columns kept.1 first in
+    let up = c.in_ok-write_schedule.ensures.live mid in
+    let both =
+    staged_both (state s begun).now (state s entered).now records columns steps c.in_ok-write_schedule.ensures.sound (before ((c.write_schedule.ensures.kept mid).was_open up))
+    (c.in_ok-write_schedule.ensures.ok mid (state s begun).now.trees records.policy.schedule (λ open_begun. staged_first (state s begun).now records (before open_begun).shown) up) in
+    (columns, resting (state s entered).now trees (with_schedule records steps) columns is both, kept_schedule columns records steps kept.2)) in
+    let same : ended ≡ c.conn-2-1.given.0 = search rules in
+    subst (λ h. Survives (state s old) (state s h) made) same done

@@ -17,7 +17,7 @@ returns-then-branch-eq1-clause-ok g c clean records columns numbered never befor
     let s1 = state g.S.Store c.end_of.new.tx.conn.now in
     let s2 = state g.S.Store c.put_listing.new.tx.conn.now in
     let s3 = state g.S.Store c.mark_revoked.new.tx.conn.now in
-    let clean2 : HasCleanDisk s2 = was_clean s2 s3 c.mark_revoked.ensures.clean clean in
+    let clean2 : HasCleanDisk s2 = was_clean s2 s3 c.mark_revoked.ensures.survives.clean clean in
     let clean1 : HasCleanDisk s1 = was_clean s1 s2 c.put_listing.ensures.clean clean2 in
     let row = c.args.revocation in
     let crls = c.args.crls.now in

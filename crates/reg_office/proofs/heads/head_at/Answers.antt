@@ -9,10 +9,10 @@ returns-clause-found g c records shown clean =
     let first = c.last.new.self in
     let second = c.policy.new.self in
     let third = c.held.new.self in
-    let shown_1 = shown_on s c.args.store.now first records c.last.ensures.clean c.last.ensures.same shown in
-    let shown_2 = shown_on s first second records c.policy.ensures.clean c.policy.ensures.same shown_1 in
-    let clean_2 = was_clean (state s second) (state s third) c.held.ensures.clean clean in
-    let clean_1 = was_clean (state s first) (state s second) c.policy.ensures.clean clean_2 in
+    let shown_1 = shown_on s c.args.store.now first records c.last.ensures.survives.clean c.last.ensures.same shown in
+    let shown_2 = shown_on s first second records c.policy.ensures.survives.clean c.policy.ensures.same shown_1 in
+    let clean_2 = was_clean (state s second) (state s third) c.held.ensures.survives.clean clean in
+    let clean_1 = was_clean (state s first) (state s second) c.policy.ensures.survives.clean clean_2 in
     head_from
     records
     (c.in_ok-last.ensures.found records shown clean_1)

@@ -17,7 +17,7 @@ pub returns-in_err-listing-in-Listing-clause-answer : goal.returns-in_err-listin
 returns-in_err-listing-in-Listing-clause-answer g c records kept sound clean =
     let s = g.C.Store in
     let first = c.last.new.self in
-    let kept_1 = after_look s c.args.store.now first records c.last.ensures.clean c.last.ensures.same kept in
+    let kept_1 = after_look s c.args.store.now first records c.last.ensures.survives.clean c.last.ensures.same kept in
     let shown_1 = kept_shows s first records kept_1 in
     let clean_1 = was_clean (state s first) (state s c.listing.new.store) c.listing.ensures.clean clean in
     let last_is = c.in_ok-last.ensures.found records (kept_shows s c.args.store.now records kept) clean_1 in
@@ -29,7 +29,7 @@ pub returns-in_ok-status-in-Status-clause-answer : goal.returns-in_ok-status-in-
 returns-in_ok-status-in-Status-clause-answer g c records kept sound clean =
     let s = g.C.Store in
     let first = c.last.new.self in
-    let kept_1 = after_look s c.args.store.now first records c.last.ensures.clean c.last.ensures.same kept in
+    let kept_1 = after_look s c.args.store.now first records c.last.ensures.survives.clean c.last.ensures.same kept in
     let shown_1 = kept_shows s first records kept_1 in
     let clean_1 = was_clean (state s first) (state s c.status.new.store) c.status.ensures.clean clean in
     let last_is = c.in_ok-last.ensures.found records (kept_shows s c.args.store.now records kept) clean_1 in
@@ -40,9 +40,9 @@ pub returns-in_ok-counts-in-Counts-clause-answer : goal.returns-in_ok-counts-in-
 returns-in_ok-counts-in-Counts-clause-answer g c records kept sound clean =
     let s = g.C.Store in
     let first = c.last.new.self in
-    let kept_1 = after_look s c.args.store.now first records c.last.ensures.clean c.last.ensures.same kept in
+    let kept_1 = after_look s c.args.store.now first records c.last.ensures.survives.clean c.last.ensures.same kept in
     let shown_1 = kept_shows s first records kept_1 in
-    let clean_1 = was_clean (state s first) (state s c.counts.new.self) c.counts.ensures.clean clean in
+    let clean_1 = was_clean (state s first) (state s c.counts.new.self) c.counts.ensures.survives.clean clean in
     let last_is = c.in_ok-last.ensures.found records (kept_shows s c.args.store.now records kept) clean_1 in
     let clock = passes c.args.now c.in_ok-last.last records.last c.in_ok-clock.field-0 last_is c.in_ok-clock.ensures in
     answered records c.args.now c.args.query.now AskCounts (CountsAre c.in_ok-counts-in-Counts.field-0) c.in-Counts.is clock refl (ap CountsAre (sym (c.in_ok-counts-in-Counts.ensures.found records kept_1 sound (not_back c.args.now records.last clock) clean)))
@@ -51,7 +51,7 @@ pub returns-in_ok-listing-in-Listing-clause-answer : goal.returns-in_ok-listing-
 returns-in_ok-listing-in-Listing-clause-answer g c records kept sound clean =
     let s = g.C.Store in
     let first = c.last.new.self in
-    let kept_1 = after_look s c.args.store.now first records c.last.ensures.clean c.last.ensures.same kept in
+    let kept_1 = after_look s c.args.store.now first records c.last.ensures.survives.clean c.last.ensures.same kept in
     let shown_1 = kept_shows s first records kept_1 in
     let clean_1 = was_clean (state s first) (state s c.listing.new.store) c.listing.ensures.clean clean in
     let last_is = c.in_ok-last.ensures.found records (kept_shows s c.args.store.now records kept) clean_1 in
@@ -63,9 +63,9 @@ pub returns-in_ok-open_past_due-in-Overdue-clause-answer : goal.returns-in_ok-op
 returns-in_ok-open_past_due-in-Overdue-clause-answer g c records kept sound clean =
     let s = g.C.Store in
     let first = c.last.new.self in
-    let kept_1 = after_look s c.args.store.now first records c.last.ensures.clean c.last.ensures.same kept in
+    let kept_1 = after_look s c.args.store.now first records c.last.ensures.survives.clean c.last.ensures.same kept in
     let shown_1 = kept_shows s first records kept_1 in
-    let clean_1 = was_clean (state s first) (state s c.open_past_due.new.self) c.open_past_due.ensures.clean clean in
+    let clean_1 = was_clean (state s first) (state s c.open_past_due.new.self) c.open_past_due.ensures.survives.clean clean in
     let last_is = c.in_ok-last.ensures.found records (kept_shows s c.args.store.now records kept) clean_1 in
     let clock = passes c.args.now c.in_ok-last.last records.last c.in_ok-clock.field-0 last_is c.in_ok-clock.ensures in
     answered records c.args.now c.args.query.now AskOverdue (OverdueAre c.in_ok-open_past_due-in-Overdue.field-0) c.in-Overdue.is clock refl (ap OverdueAre (sym (c.in_ok-open_past_due-in-Overdue.ensures.found records shown_1 clean)))
@@ -74,7 +74,7 @@ pub returns-in_ok-next_crl-in-NextCrl-clause-answer : goal.returns-in_ok-next_cr
 returns-in_ok-next_crl-in-NextCrl-clause-answer g c records kept sound clean =
     let s = g.C.Store in
     let first = c.last.new.self in
-    let kept_1 = after_look s c.args.store.now first records c.last.ensures.clean c.last.ensures.same kept in
+    let kept_1 = after_look s c.args.store.now first records c.last.ensures.survives.clean c.last.ensures.same kept in
     let shown_1 = kept_shows s first records kept_1 in
     let clean_1 = was_clean (state s first) (state s c.next_crl.new.store) c.next_crl.ensures.clean clean in
     let last_is = c.in_ok-last.ensures.found records (kept_shows s c.args.store.now records kept) clean_1 in

@@ -12,8 +12,8 @@ returns-in-Some-clause-found g c records shown sound clean =
     let s = g.C.Store in
     let first = c.latest_crl.new.self in
     let second = c.crl.new.self in
-    let shown_1 = shown_on s c.args.store.now first records c.latest_crl.ensures.clean c.latest_crl.ensures.same shown in
-    let clean_1 = was_clean (state s first) (state s second) c.crl.ensures.clean clean in
+    let shown_1 = shown_on s c.args.store.now first records c.latest_crl.ensures.survives.clean c.latest_crl.ensures.same shown in
+    let clean_1 = was_clean (state s first) (state s second) c.crl.ensures.survives.clean clean in
     let latest_is = sym (c.in_ok-row.ensures.found records shown clean_1) ∙ c.in-Some.is in
     let same = (latest_in 1 records.crls c.in-Some.row sound.crls.numbered latest_is).0 in
     IfOk-weaker c.crl.result _ _ (λ der told. told ∙ ap (option_map (λ (crl : Crl). crl.bytes)) same) (c.crl.ensures.found records shown_1 clean)

@@ -7,8 +7,8 @@ use Rattle.reg_responder.proofs.statuses.status_at.Goals as goal
 
 pub returns-clause-found : goal.returns-clause-found
 returns-clause-found g c records shows clean =
-    let mid_clean : HasCleanDisk (state g.C.Store c.cert.new.self) = omega (arith, c.revocation.ensures.clean) in
-    let mid = shown_on g.C.Store c.args.store.now c.cert.new.self records c.cert.ensures.clean c.cert.ensures.same shows in
+    let mid_clean : HasCleanDisk (state g.C.Store c.cert.new.self) = omega (arith, c.revocation.ensures.survives.clean) in
+    let mid = shown_on g.C.Store c.args.store.now c.cert.new.self records c.cert.ensures.survives.clean c.cert.ensures.same shows in
     let certificate = c.in_ok-certificate.ensures.found records shows mid_clean in
     let revocation = c.in_ok-revocation.ensures.found records mid clean in
     c.status_of.ensures ∙ (λ i. status_by c.args.now (certificate i) (revocation i))

@@ -9,11 +9,11 @@ use Rattle.reg_tables.proofs.counting.counts.Goals as goal
 
 pub returns-clause-found : goal.returns-clause-found
 returns-clause-found g c records kept sound later clean =
-    let mid_clean : HasCleanDisk (state g.S.Store c.kept_counts.new.conn) = omega (arith, c.ended_before.ensures.clean) in
-    let mid = stays_both g.S.Store c.args.conn.now c.kept_counts.new.conn records kept.0 c.kept_counts.ensures.clean (c.kept_counts.ensures.same (shows_register g.S.Store c.args.conn.now records (kept_shows g.S.Store c.args.conn.now records kept))) kept.1 in
+    let mid_clean : HasCleanDisk (state g.S.Store c.kept_counts.new.conn) = omega (arith, c.ended_before.ensures.survives.clean) in
+    let mid = stays_both g.S.Store c.args.conn.now c.kept_counts.new.conn records kept.0 c.kept_counts.ensures.survives.clean (c.kept_counts.ensures.same (shows_register g.S.Store c.args.conn.now records (kept_shows g.S.Store c.args.conn.now records kept))) kept.1 in
     let was = c.in_ok-kept.ensures.found records kept.0 kept.1 mid_clean in
     let known = c.in_ok-ended.ensures.found records kept.0 mid clean in
-    let both = both_then g.S.Store c.kept_counts.new.conn c.ended_before.new.conn records kept.0 c.ended_before.ensures.clean clean known.0 mid in
+    let both = both_then g.S.Store c.kept_counts.new.conn c.ended_before.new.conn records kept.0 c.ended_before.ensures.survives.clean clean known.0 mid in
     let many = letters_as_many records sound.certificates.serials_differ c.args.now later kept.0 kept.2 in
     let cap = both.shown.rows.policy.cap.1 in
     let within = sound.certificates.within_cap in
@@ -36,23 +36,23 @@ returns-in_err-kept-clause-same g c register = c.kept_counts.ensures.same regist
 pub returns-in_err-ended-clause-same : goal.returns-in_err-ended-clause-same
 returns-in_err-ended-clause-same g c register =
     let first = c.kept_counts.ensures.same register in
-    let then = c.ended_before.ensures.same (stays_register (state g.S.Store c.args.conn.now) (state g.S.Store c.kept_counts.new.conn) c.kept_counts.ensures.clean first register) in
-    stays_then (state g.S.Store c.args.conn.now) (state g.S.Store c.kept_counts.new.conn) (state g.S.Store c.ended_before.new.conn) c.ended_before.ensures.clean first then
+    let then = c.ended_before.ensures.same (stays_register (state g.S.Store c.args.conn.now) (state g.S.Store c.kept_counts.new.conn) c.kept_counts.ensures.survives.clean first register) in
+    stays_then (state g.S.Store c.args.conn.now) (state g.S.Store c.kept_counts.new.conn) (state g.S.Store c.ended_before.new.conn) c.ended_before.ensures.survives.clean first then
 
 pub returns-in_err-ok_or-clause-same : goal.returns-in_err-ok_or-clause-same
 returns-in_err-ok_or-clause-same g c register =
     let first = c.kept_counts.ensures.same register in
-    let then = c.ended_before.ensures.same (stays_register (state g.S.Store c.args.conn.now) (state g.S.Store c.kept_counts.new.conn) c.kept_counts.ensures.clean first register) in
-    stays_then (state g.S.Store c.args.conn.now) (state g.S.Store c.kept_counts.new.conn) (state g.S.Store c.ended_before.new.conn) c.ended_before.ensures.clean first then
+    let then = c.ended_before.ensures.same (stays_register (state g.S.Store c.args.conn.now) (state g.S.Store c.kept_counts.new.conn) c.kept_counts.ensures.survives.clean first register) in
+    stays_then (state g.S.Store c.args.conn.now) (state g.S.Store c.kept_counts.new.conn) (state g.S.Store c.ended_before.new.conn) c.ended_before.ensures.survives.clean first then
 
 pub returns-in_err-ok_or-2-clause-same : goal.returns-in_err-ok_or-2-clause-same
 returns-in_err-ok_or-2-clause-same g c register =
     let first = c.kept_counts.ensures.same register in
-    let then = c.ended_before.ensures.same (stays_register (state g.S.Store c.args.conn.now) (state g.S.Store c.kept_counts.new.conn) c.kept_counts.ensures.clean first register) in
-    stays_then (state g.S.Store c.args.conn.now) (state g.S.Store c.kept_counts.new.conn) (state g.S.Store c.ended_before.new.conn) c.ended_before.ensures.clean first then
+    let then = c.ended_before.ensures.same (stays_register (state g.S.Store c.args.conn.now) (state g.S.Store c.kept_counts.new.conn) c.kept_counts.ensures.survives.clean first register) in
+    stays_then (state g.S.Store c.args.conn.now) (state g.S.Store c.kept_counts.new.conn) (state g.S.Store c.ended_before.new.conn) c.ended_before.ensures.survives.clean first then
 
 pub returns-clause-same : goal.returns-clause-same
 returns-clause-same g c register =
     let first = c.kept_counts.ensures.same register in
-    let then = c.ended_before.ensures.same (stays_register (state g.S.Store c.args.conn.now) (state g.S.Store c.kept_counts.new.conn) c.kept_counts.ensures.clean first register) in
-    stays_then (state g.S.Store c.args.conn.now) (state g.S.Store c.kept_counts.new.conn) (state g.S.Store c.ended_before.new.conn) c.ended_before.ensures.clean first then
+    let then = c.ended_before.ensures.same (stays_register (state g.S.Store c.args.conn.now) (state g.S.Store c.kept_counts.new.conn) c.kept_counts.ensures.survives.clean first register) in
+    stays_then (state g.S.Store c.args.conn.now) (state g.S.Store c.kept_counts.new.conn) (state g.S.Store c.ended_before.new.conn) c.ended_before.ensures.survives.clean first then

@@ -1,6 +1,6 @@
 use Rattle.std.proofs.Common.{length}
 use Rattle.sqlite.specs.Held.{state}
-use Rattle.reg_tables.proofs.Staying.{shows_register, shown_then, ok_then}
+use Rattle.reg_tables.proofs.Staying.{shows_register, shown_then, ok_then, ok_holds}
 use Rattle.reg_tables.proofs.HeldLemmas.{reading_subscriber, reading_order, reading_cert, reading_request, reading_crl, subscriber_count, order_count, cert_count, request_count, crl_count}
 use Rattle.reg_tables.proofs.sizes.held.Goals as goal
 
@@ -48,3 +48,18 @@ returns-in-Requests-clause-same g c register = c.number_shown-in-Requests.ensure
 
 pub returns-in-Crls-clause-same : goal.returns-in-Crls-clause-same
 returns-in-Crls-clause-same g c register = c.number_shown-in-Crls.ensures.same reading_crl register
+
+pub returns-in-Subscribers-clause-live : goal.returns-in-Subscribers-clause-live
+returns-in-Subscribers-clause-live g c register clean = ok_holds c.number_shown.result (c.number_shown.ensures.read reading_subscriber register clean) (λ n known. known.1.is_open)
+
+pub returns-in-Orders-clause-live : goal.returns-in-Orders-clause-live
+returns-in-Orders-clause-live g c register clean = ok_holds c.number_shown-in-Orders.result (c.number_shown-in-Orders.ensures.read reading_order register clean) (λ n known. known.1.is_open)
+
+pub returns-in-Certs-clause-live : goal.returns-in-Certs-clause-live
+returns-in-Certs-clause-live g c register clean = ok_holds c.number_shown-in-Certs.result (c.number_shown-in-Certs.ensures.read reading_cert register clean) (λ n known. known.1.is_open)
+
+pub returns-in-Requests-clause-live : goal.returns-in-Requests-clause-live
+returns-in-Requests-clause-live g c register clean = ok_holds c.number_shown-in-Requests.result (c.number_shown-in-Requests.ensures.read reading_request register clean) (λ n known. known.1.is_open)
+
+pub returns-in-Crls-clause-live : goal.returns-in-Crls-clause-live
+returns-in-Crls-clause-live g c register clean = ok_holds c.number_shown-in-Crls.result (c.number_shown-in-Crls.ensures.read reading_crl register clean) (λ n known. known.1.is_open)

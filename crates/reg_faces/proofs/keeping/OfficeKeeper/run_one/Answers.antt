@@ -3,4 +3,4 @@ use Rattle.reg_faces.proofs.keeping.OfficeKeeper.run_one.Goals as goal
 
 pub returns : goal.returns
 returns g c =
-    command_leads g.C.Store g.S.Signer.signs _ _ _ _ c.run_one.ensures.clean c.run_one.ensures.same_identity _ _ _ c.run_one.ensures.step
+    command_leads g.C.Store g.S.Signer.signs _ _ _ _ c.run_one.ensures.survives.clean c.run_one.ensures.same_identity _ _ _ c.run_one.ensures.step

@@ -36,10 +36,10 @@ loop-now-preserved g c =
     take_more commands i timed c.loop-now-test.true ∙ ap (λ (x : ℕ × Command). take i commands ++ x ∷ []) (sym c.loop-now-item.is) in
     record {
       room = omega (arith, c.in-Ok-push.ensures.len, c.in-Ok-push.ensures.capacity, c.loop-now.invariant.room);
-      clean = omega (arith, c.loop-now.invariant.clean, c.run_one-outcome.ensures.clean);
+      clean = omega (arith, c.loop-now.invariant.clean, c.run_one-outcome.ensures.survives.clean);
       same_identity = c.run_one-outcome.ensures.same_identity ∙ c.loop-now.invariant.same_identity;
       ran = λ records stands clean.
-          let before = was_clean (state s old.store) (state s new.store) c.run_one-outcome.ensures.clean clean in
+          let before = was_clean (state s old.store) (state s new.store) c.run_one-outcome.ensures.survives.clean clean in
           let earlier = c.loop-now.invariant.ran records stands before in
           let step = c.run_one-outcome.ensures.step earlier.2.after earlier.2.stands clean in (
             earlier.0 ++ outcome ∷ [],

@@ -1,5 +1,7 @@
-use Rattle.std.proofs.Common.{rules}
 use Rattle.reg_store.proofs.store.Store.add_crl.Goals as goal
 
 pub returns-clause-ok : goal.returns-clause-ok
-returns-clause-ok g c = search rules
+returns-clause-ok g c = c.apply.ensures.ok
+
+pub returns-clause-survives : goal.returns-clause-survives
+returns-clause-survives g c = c.apply.ensures.survives

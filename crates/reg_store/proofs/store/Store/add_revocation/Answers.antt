@@ -1,8 +1,7 @@
-use Rattle.std.proofs.Common.{rules}
 use Rattle.reg_store.proofs.store.Store.add_revocation.Goals as goal
 
 pub returns-clause-ok : goal.returns-clause-ok
-returns-clause-ok g c = search rules
+returns-clause-ok g c records kept sound up none lasting next = c.apply.ensures.ok records kept sound up (none, lasting, next)
 
 pub returns-clause-one : goal.returns-clause-one
-returns-clause-one g c = search rules
+returns-clause-one g c = c.apply.ensures.one

@@ -1,0 +1,42 @@
+-- The entries of what is listed, in the order of their serial numbers.
+use Rattle.std.proofs.Common.{◌≡◌, ℕ, ◌≤◌, Bool, List, [], ◌∷◌, length, map, filter, refl, arith, inl, inr}
+use Rattle.std.specs.List.Sorted.{IsPermutation, IsNonDecreasingBy}
+use Rattle.std.proofs.lemmas.Bool.{cases_Bool}
+use Rattle.std.proofs.lemmas.List.{length-map}
+use Rattle.std.proofs.lemmas.List.Sorted.{length_permutation}
+use Rattle.reg_core.specs.Crls.{EntriesAscend}
+use Rattle.reg_core.specs.Sound.{KeysDiffer}
+use Rattle.reg_core.specs.declared.rows.Entry.{Entry}
+use Rattle.reg_laws.proofs.Lists.{keys_kept}
+use Rattle.reg_tables.proofs.Sorting.{Rises}
+use Rattle.reg_audit.specs.Crls.{lists, entry_in}
+use Rattle.reg_audit.specs.declared.beside.Listed.{Listed}
+use Rattle.reg_audit.proofs.Following.{keys_made}
+use Rattle.reg_audit.proofs.Sorted.{in_strict_order}
+
+abbrev serial_of : Entry → ℕ
+serial_of entry = entry.serial
+
+as_entries : (entries : List Entry) → Rises serial_of entries → EntriesAscend entries
+as_entries [] rises = tt
+as_entries (entry ∷ rest) rises = (rises.0, as_entries rest rises.1)
+
+filter_short : {A : Type 0} (test : A → Bool) (xs : List A) → length (filter test xs) ≤ length xs
+filter_short test [] = omega arith
+filter_short test (x ∷ xs) = let rest = filter_short test xs in elim (cases_Bool (test x)) [
+  | inl passes ↦ rw passes (omega (arith, rest))
+  | inr fails ↦ rw fails (omega (arith, rest))
+]
+
+module _ (number : ℕ) (listed : List Listed) (entries : List Entry) (same : IsPermutation (map entry_in (filter (lists number) listed)) entries) where
+  pub entries_ascend : KeysDiffer (λ (row : Listed). row.serial) listed → IsNonDecreasingBy serial_of entries → EntriesAscend entries
+  entries_ascend differ rises =
+      as_entries entries (in_strict_order serial_of (map entry_in (filter (lists number) listed)) entries
+      (keys_made serial_of entry_in (filter (lists number) listed) (keys_kept (λ (row : Listed). row.serial) (lists number) listed differ)) same rises)
+
+  pub entries_few : length listed ≤ 1000000 → length entries ≤ 1000000
+  entries_few few =
+      let sizes = length_permutation (map entry_in (filter (lists number) listed)) entries same in
+      let mapped : length (map entry_in (filter (lists number) listed)) ≡ length (filter (lists number) listed) = rw length-map refl in
+      let short = filter_short (lists number) listed in
+      omega (arith, few, sizes, mapped, short)

@@ -1,0 +1,4 @@
+pub mod Stops
+pub mod Read
+pub mod Beside
+pub mod Crls

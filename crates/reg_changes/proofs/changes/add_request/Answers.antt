@@ -1,7 +1,0 @@
-use Rattle.reg_changes.proofs.Law.{kept_request}
-use Rattle.reg_changes.proofs.Moving.{ok_kept}
-use Rattle.reg_changes.proofs.changes.add_request.Goals as goal
-
-pub returns-clause-ok : goal.returns-clause-ok
-returns-clause-ok g c records kept sound up next =
-    ok_kept g.S.Store _ _ _ c.commit_request.result (c.commit_request.ensures.ok records kept.0 kept.1 next) (kept_request records kept.0 c.args.now sound up kept.2 c.args.row)

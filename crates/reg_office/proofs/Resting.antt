@@ -1,0 +1,96 @@
+-- What a stop may find after a command.
+use Rattle.std.proofs.Common.{◌≡◌, ◌≤◌, ◌+◌, ℕ, List, length, Ok, IsTrue, refl, sym, ap, subst, ◌∙◌, arith}
+use Rattle.sqlite_trees.specs.Tree.{Trees}
+use Rattle.sqlite_trees.specs.View.{doubt}
+use Rattle.sqlite_trees.specs.declared.store.Store.{Ghosts}
+use Rattle.sqlite.specs.Effect.{Database}
+use Rattle.sqlite.specs.Held.{Held, state}
+use Rattle.sqlite.specs.State.{State, HasCleanDisk}
+use Rattle.reg_core.specs.Crls.{CertList, cert_list, content, entries}
+use Rattle.reg_core.specs.Changes.{with_crl}
+use Rattle.reg_core.specs.Issuer.{Issuer}
+use Rattle.reg_core.specs.Records.{Records}
+use Rattle.reg_core.specs.Sound.{Sound}
+use Rattle.reg_core.specs.declared.command.Command.{Command}
+use Rattle.reg_core.specs.declared.command.Command.TheVariants.{Crl as IssueCrl}
+use Rattle.reg_core.specs.declared.command.Reply.{Reply}
+use Rattle.reg_core.specs.declared.command.Reply.TheVariants.{Crl as CrlIssued}
+use Rattle.reg_core.specs.declared.rows.CrlRow.{CrlRow}
+use Rattle.reg_core.specs.declared.rows.Entry.{Entry}
+use Rattle.reg_laws.specs.Run.{Happens}
+use Rattle.reg_laws.proofs.Decided.{Accepts, AcceptsCrl}
+use Rattle.reg_crl.specs.Signing.{Identity, signed_by}
+use Rattle.reg_tables.specs.Kept.{ShowsKept}
+use Rattle.reg_changes.specs.AtRest.{IsAtRest}
+use Rattle.reg_changes.proofs.Resting.{resting}
+use Rattle.reg_laws.proofs.Runs.{step_keeps_sound}
+use Rattle.reg_office.specs.AtRest.{IsStepped, IsDone}
+use Rattle.reg_office.specs.Happened.{unsigned}
+use Rattle.reg_office.proofs.Composing.{IssuesNone, happens_as}
+
+-- a command that is accepted, and the rows of the records after it
+pub stepped :
+    (signed : CertList → List ℕ → Type 0) (records : Records) (now : ℕ) (command : Command) (answer : Reply) (change : Records) (trees : Trees)
+    → Accepts signed records now command answer change → IsAtRest change trees → IsStepped signed records now command trees
+stepped signed records now command answer change trees accepts rests = record { answer = answer; after = change; happens = accepts.step change refl; rests = rests }
+
+-- the same of a CRL, which is signed over what it lists
+pub issued_rests :
+    (signed : CertList → List ℕ → Type 0) (records : Records) (now : ℕ) (trees : Trees)
+    (row : CrlRow) (issuer : Issuer) (next_update : ℕ) (listed : List Entry) (bytes added : List ℕ)
+    → AcceptsCrl signed records now row
+    → signed (record { issuer = issuer; number = row.number; this_update = row.this_update; next_update = next_update; entries = listed }) bytes
+    → issuer ≡ records.issuer → next_update ≡ row.this_update + records.policy.crl_life
+    → listed ≡ entries records row.number → added ≡ bytes
+    → IsAtRest (with_crl records now (record { number = row.number; this_update = row.this_update; bytes = added })) trees
+    → IsStepped signed records now IssueCrl trees
+issued_rests signed records now trees row issuer next_update listed bytes added says signatures issuer_is next_is listed_is added_is rests =
+    let list : CertList = record { issuer = issuer; number = row.number; this_update = row.this_update; next_update = next_update; entries = listed } in
+    let list_is : list ≡ cert_list records row.number row.this_update = λ i. record {
+      issuer = issuer_is i;
+      number = row.number;
+      this_update = row.this_update;
+      next_update = next_is i;
+      entries = listed_is i;
+    } in
+    let with : List ℕ → Records = λ b. with_crl records now (record { number = row.number; this_update = row.this_update; bytes = b }) in
+    record {
+      answer = CrlIssued row.number (length (content records row.number));
+      after = with bytes;
+      happens = says.step (with bytes) bytes (subst (λ (l : CertList). signed l bytes) list_is signatures) refl;
+      rests = subst (λ (b : List ℕ). IsAtRest (with b) trees) added_is rests;
+    }
+
+-- an office's records hold together after a command
+pub done :
+    (signs : Identity → List ℕ → List ℕ → Type 0) (identity : Identity) (records : Records) (now : ℕ) (command : Command) (trees : Trees)
+    → Sound (signed_by signs identity) records → IsStepped (signed_by signs identity) records now command trees → IsDone signs identity records now command trees
+done signs identity records now command trees sound step = record {
+  stepped = step;
+  sound = step_keeps_sound (signed_by signs identity) records now command (Ok step.answer) step.after sound step.happens;
+}
+
+-- the same of one that issues no CRL
+pub done_unsigned :
+    (signs : Identity → List ℕ → List ℕ → Type 0) (identity : Identity) (records : Records) (now : ℕ) (command : Command) (trees : Trees)
+    → IssuesNone command → Sound (signed_by signs identity) records → IsStepped unsigned records now command trees → IsDone signs identity records now command trees
+done_unsigned signs identity records now command trees none sound step =
+    done signs identity records now command trees sound (record {
+      answer = step.answer;
+      after = step.after;
+      happens = happens_as (signed_by signs identity) records now command (Ok step.answer) step.after none step.happens;
+      rests = step.rests;
+    })
+
+-- ---- what was shown, at rest
+
+pub clean_first : (old new : State) → doubt old.is_clean ≤ doubt new.is_clean → HasCleanDisk new → HasCleanDisk old
+clean_first old new forgets clean = omega arith
+
+-- what is committed of shown records are rows of them
+pub at_rest : {C : Type 0} (g : Ghosts C) (held : Held C) (records : Records) (trees : Trees) → HasCleanDisk (state g held) → IsTrue (state g held).is_open → ShowsKept g held records → trees ≡ (state g held).committed.trees
+    → IsAtRest records trees
+at_rest g held records trees clean up kept is =
+    let db = (state g held).now in
+    let same : trees ≡ db.trees = is ∙ ap (λ (d : Database). d.trees) (sym (kept.1.saved clean up)) in
+    (kept.0, resting db trees records kept.0 same (kept.1.tables clean up), kept.2)

@@ -1,0 +1,37 @@
+use Rattle.std.proofs.Common.{inr}
+use Rattle.reg_program.proofs.LineByLine.{clocked, unclocked}
+use Rattle.reg_program.proofs.lining.script_by_lines.Goals as goal
+
+pub returns-then-way : goal.returns-then-way
+returns-then-way g c =
+    let ran = c.run_clocked-ran.ensures in
+    inr (
+      ran.0,
+      ran.1,
+      record {
+        first = c.in_ok-desk.desk.office;
+        last = c.run_clocked-ran.new.opened.desk.office;
+        between = c.open_desk_to_sign.new.place;
+        opened = c.in_ok-desk.ensures.ok;
+        moves = clocked g.P.Opened.Keeper.is_clean g.P.Opened.Keeper.stands g.P.Opened.Keeper.signs g.F.Front.told _ _ ran.0 ran.1 c.args.way.is_clocked c.if-way.true ran.2;
+        closed = c.close_desk.ensures;
+      },
+      ran.3,
+    )
+
+pub returns : goal.returns
+returns g c =
+    let ran = c.run_unclocked-ran.ensures in
+    inr (
+      ran.0,
+      ran.1,
+      record {
+        first = c.in_ok-desk.desk.office;
+        last = c.run_unclocked-ran.new.lined.desk.office;
+        between = c.open_desk_to_sign.new.place;
+        opened = c.in_ok-desk.ensures.ok;
+        moves = unclocked g.P.Opened.Keeper.is_clean g.P.Opened.Keeper.stands g.P.Opened.Keeper.signs g.F.Front.told _ _ ran.0 ran.1 c.args.way.is_clocked c.if-way.false ran.2;
+        closed = c.close_desk-2.ensures;
+      },
+      ran.3,
+    )

@@ -1,0 +1,127 @@
+//! What is said of a value that is out of its form or range.
+
+use crate::values::{key_holder, moment, number_within, read_step, text_of};
+use clap::ArgMatches;
+use std::alloc::Global;
+
+/// The last TCP port.
+pub(crate) const LAST_PORT: u64 = 65_535;
+
+/// The most connections of one run of the server.
+pub(crate) const MOST_REQUESTS: u64 = 1_000_000;
+
+/// The greatest number of 18 digits.
+const MOST: u64 = 999_999_999_999_999_999;
+
+/// The options whose value is a number: its id, its name, the least and the greatest.
+const NUMBERS: [(&str, &str, u64, u64); 7] = [
+    ("days", "--days", 0, MOST),
+    ("crl-life", "--crl-life", 0, MOST),
+    ("ocsp-life", "--ocsp-life", 0, MOST),
+    ("cap", "--cap", 0, MOST),
+    ("number", "--number", 0, MOST),
+    ("port", "--port", 1, LAST_PORT),
+    ("requests", "--requests", 1, MOST_REQUESTS),
+];
+
+const NUMBER_WANTED: &str = "a number is 1 to 18 digits and within the range that help tells";
+
+const MOMENT_WANTED: &str = "a moment is written as 2026-01-01T00:00:00Z";
+
+const STEP_WANTED: &str = "a step is written as 2026-01-01T00:00:00Z=200";
+
+const KEY_HOLDER_WANTED: &str =
+    "--signer and --algorithm are given both or neither, and an algorithm is ecdsa-sha256, ecdsa-sha384, rsa-sha256 or ed25519";
+
+const FILE_WANTED: &str = "--clock and --strict want a FILE";
+
+/// A value that is out of its form or range, the option that it was given for, and what is wanted in its place.
+#[derive(Clone, Copy)]
+struct Wrong<'a> {
+    option: &'static str,
+    value: &'a str,
+    wanted: &'static str,
+}
+
+/// What is said of the first value that is out of its form or range; `None` for want of memory.
+pub(crate) fn wrong_text(alloc: Global, matches: &ArgMatches<'_>) -> Option<String> {
+    let Some(wrong) = first_wrong(matches) else {
+        return String::from_str(alloc, FILE_WANTED).ok();
+    };
+    let (option, value, wanted) = (wrong.option, wrong.value, wrong.wanted);
+    format!(in alloc; "invalid value '{value}' for '{option}': {wanted}").ok()
+}
+
+/// The first value of the command that was named that is out of its form or range.
+fn first_wrong<'a>(matches: &ArgMatches<'a>) -> Option<Wrong<'a>> {
+    let (_, given) = matches.subcommand()?;
+    if let Some(wrong) = wrong_number(given) {
+        return Some(wrong);
+    }
+    if let Some(wrong) = wrong_moment(given) {
+        return Some(wrong);
+    }
+    if let Some(wrong) = wrong_step(given) {
+        return Some(wrong);
+    }
+    wrong_holder(given)
+}
+
+/// The first number that is none, or out of its range.
+fn wrong_number<'a>(given: &ArgMatches<'a>) -> Option<Wrong<'a>> {
+    for (id, option, least, most) in NUMBERS {
+        if let Some(value) = text_of(given, id) {
+            if number_within(given, id, least, most).is_none() {
+                return Some(Wrong {
+                    option,
+                    value,
+                    wanted: NUMBER_WANTED,
+                });
+            }
+        }
+    }
+    None
+}
+
+/// The moment of an import, where it is none.
+fn wrong_moment<'a>(given: &ArgMatches<'a>) -> Option<Wrong<'a>> {
+    let value = text_of(given, "now")?;
+    match moment(given, "now") {
+        Some(_) => None,
+        None => Some(Wrong {
+            option: "--now",
+            value,
+            wanted: MOMENT_WANTED,
+        }),
+    }
+}
+
+/// The first step of a schedule that is none.
+fn wrong_step<'a>(given: &ArgMatches<'a>) -> Option<Wrong<'a>> {
+    for value in given.get_strs("steps")? {
+        if read_step(value).is_none() {
+            return Some(Wrong {
+                option: "MOMENT=DAYS",
+                value,
+                wanted: STEP_WANTED,
+            });
+        }
+    }
+    None
+}
+
+/// What holds the key, where it is not told whole.
+fn wrong_holder<'a>(given: &ArgMatches<'a>) -> Option<Wrong<'a>> {
+    if key_holder(given).is_some() {
+        return None;
+    }
+    let (option, value) = match text_of(given, "algorithm") {
+        Some(name) => ("--algorithm", name),
+        None => ("--signer", text_of(given, "signer")?),
+    };
+    Some(Wrong {
+        option,
+        value,
+        wanted: KEY_HOLDER_WANTED,
+    })
+}

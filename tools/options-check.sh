@@ -1,0 +1,100 @@
+#!/usr/bin/env bash
+# Tries the words and options of `desk` from outside: a bad value is named with its option, and a FILE that is no UTF-8 is bad words; scripts
+# with --strict and --clock; how far a long script is, on a terminal.
+#
+# Usage, from the repository's root: tools/options-check.sh        (DESK names another program than ./desk)
+set -euo pipefail
+# shellcheck source=tools/checks.sh
+. tools/checks.sh
+desk=$(realpath "${DESK:-./desk}")
+"$desk" --help >/dev/null
+work=$(mktemp -d /tmp/options-check.XXXXXX)
+trap 'rm -rf "$work"' EXIT
+cd "$work"
+
+# The program with these words: what it printed in `out`, what it told in `told`, its exit status in `status`.
+run() {
+    status=0
+    "$desk" "$@" >out 2>told || status=$?
+}
+
+# Bad words by their name: status 2, nothing printed, and what is told begins with this and has the usage.
+bad() {
+    local wanted=$1
+    shift
+    run "$@"
+    same "$* is status 2" "$status:$(cat out)" "2:"
+    has "and tells it" "$(cat told)" "$wanted"
+    has "and the usage" "$(cat told)" "Usage: "
+}
+
+bad "invalid value 'x' for '--number'" crl ca.db --number x
+bad "invalid value '65536' for '--port'" serve ca.db --port 65536 --requests 1
+bad "invalid value '2026-02-29T00:00:00Z' for '--now'" import ca.db --now 2026-02-29T00:00:00Z
+bad "invalid value 'ed448' for '--algorithm'" script ca.db --signer ca.sign --algorithm ed448
+bad "invalid value 'now=200' for 'MOMENT=DAYS'" schedule ca.db now=200
+bad "unexpected argument '--nubmer'" crl ca.db --nubmer 1
+for command in crl script 'import --now 2026-01-01T00:00:00Z'; do
+    # shellcheck disable=SC2086 # the words are meant to be split
+    run $command $'ca\xff.db'
+    same "a FILE that is no UTF-8 is status 2 ($command)" "$status:$(cat out)" "2:"
+    has "and tells it" "$(cat told)" "no UTF-8"
+    has "and the usage" "$(cat told)" "Usage: "
+done
+bad "--clock and --strict want a FILE" script --strict
+bad "--clock and --strict want a FILE" script --clock
+same "no file is made" "$(find . -name '*.db*' | wc -l)" 0
+
+# The words of `desk script` over these lines; it ends with this status, having told and printed this.
+script() {
+    local name=$1 wanted=$2 told=$3 lines=$4
+    shift 4
+    status=0
+    printf '%b' "$lines" | "$desk" script ca.db "$@" >out 2>told || status=$?
+    same "$name" "$status:$(cat told)" "$wanted"
+    same "and its replies" "$(paste -sd, out)" "$told"
+}
+
+"$desk" init ca.db --name 300C310A300806035504030C0154 --key 0102 >out
+moment=2026-01-01T00:00:00Z
+script "a strict script that is accepted" "0:" "subscriber 1,order 1" "$moment subscriber acme\\n$moment order 1 398\\n" --strict
+script "one that is refused" "3:refused" "subscriber 2,E06 no-subscriber" "$moment subscriber b\\n$moment order 7 1\\n$moment subscriber c\\n" --strict
+script "nothing behind it was run" "0:" "subscriber 3" "$moment subscriber c" --strict
+script "without --strict it goes on" "0:" "E06 no-subscriber,subscriber 4" "$moment order 7 1\\n$moment subscriber d\\n"
+script "a line of more than 8,192 bytes" "1:F4 read" "subscriber 5" "$moment subscriber e\\n$(printf '%08193d' 0)\\n" --strict
+script "an end of a line as on Windows" "0:" "subscriber 6" "$moment subscriber f\\r\\n" --strict
+before=$(date -u +%Y-%m-%dT%H:%M:%SZ)
+script "a clocked script" "0:" "subscriber 7,E22 syntax,good 0 revoked 0 expired 0" "subscriber g\\n$moment counts\\ncounts" --clock
+script "a clocked and strict one" "3:refused" "subscriber 8,E22 syntax" "subscriber h\\n$moment counts\\ncounts" --clock --strict
+last=$("$desk" script ca.db <<<"$moment subscriber i" | sed 's/^E01 clock-back //')
+same "its moments were the clock's" "$([[ ! $last < $before && ! $last > $(date -u +%Y-%m-%dT%H:%M:%SZ) ]] && echo yes)" yes
+
+# A job over ca.db, its standard error a terminal: what that gets.
+on_terminal() { python3 -c '
+import os, pty, subprocess, sys
+ours, theirs = pty.openpty()
+with open("rows") as rows, open("out", "wb") as out:
+    job = subprocess.Popen(sys.argv[1:], stdin=rows, stdout=out, stderr=theirs)
+os.close(theirs)
+told = b""
+while True:
+    try:
+        part = os.read(ours, 4096)
+    except OSError:
+        break
+    if not part:
+        break
+    told += part
+print(job.wait(), told.decode().replace("\r\n", ","))' "$@"; }
+
+"$desk" init long.db --name 300C310A300806035504030C0154 --key 0102 >out
+{
+    echo "$moment subscriber acme"
+    for _ in $(seq 10000); do echo "$moment order 1 398"; done
+} >rows
+told=$(on_terminal "$desk" script long.db)
+has "a long script tells on a terminal how far it is" "$told" " lines done, "
+same "and writes all replies" "$(wc -l <out)" 10001
+"$desk" script long.db <rows >out 2>told
+same "it tells nothing where standard error is none" "$(cat told)" ""
+exit "$failed"
