@@ -156,14 +156,15 @@ def build(crates, names, started):
             ready = [it for it in left if all(other in took for other in crates[it].uses)]
             for at, name in enumerate(ready):
                 idle = lanes - sum(jobs for _, jobs in running.values())
-                # all else waits for the longest chain, so its crate leaves one processor to the others at most
-                jobs = max(1, min(MOST_JOBS, idle - (len(ready) > 1) if at == 0 else idle // (len(ready) - at)))
+                # all else waits for the longest chain: its crate leaves one processor to the others at most, who give way to it
+                is_first = at == 0 and behind[name] >= max([behind[it] for it, _ in running.values()], default=0)
+                wanted = lanes - (len(ready) > 1 or len(running) > 0) if is_first else idle // (len(ready) - at)
+                jobs = max(1, min(MOST_JOBS, wanted))
                 while jobs > 1 and not room_for(jobs, running):
                     jobs -= 1
-                if idle > 0 and room_for(jobs, running):
+                if (is_first or idle > 0) and room_for(jobs, running):
                     left.remove(name)
                     call = (build_program, crates[name]) if crates[name].is_program() else (build_library, crates, crates[name])
-                    is_first = behind[name] >= max([behind[it] for it, _ in running.values()], default=0)
                     running[pool.submit(*call, jobs, is_first)] = name, jobs
             for it in wait(running, return_when=FIRST_COMPLETED).done:
                 (name, _), built = running.pop(it), it.result()
