@@ -17,7 +17,8 @@ words="$(pwd)/examples/issuer-words.sh"
 client="$(pwd)/bench/ocsp_client.py"
 signer="$(pwd)/examples/signer.py"
 work=$(mktemp -d /tmp/desk-ocsp.XXXXXX)
-trap 'kill "$theirs" "$ours" "$holder" 2>/dev/null || true; rm -rf "$work"' EXIT
+# shellcheck disable=SC2086 # none of them is named where it does not run
+trap 'kill $theirs $ours $holder 2>/dev/null || true; rm -rf "$work"' EXIT
 theirs='' ours='' holder=''
 cd "$work"
 
