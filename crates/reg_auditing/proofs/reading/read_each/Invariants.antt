@@ -1,0 +1,13 @@
+use Rattle.std.proofs.Common.{◌≡◌, ◌≤◌, false}
+use Rattle.sqlite.specs.Held.{state}
+use Rattle.sqlite_trees.specs.View.{doubt}
+use Rattle.reg_tables.specs.Stays.{IsRegister, LeavesNothing, Stays}
+use Rattle.reg_auditing.proofs.reading.read_each.Given as goal
+
+abbrev pub invariant-loop-what : goal.invariant-loop-what
+invariant-loop-what g l = record {
+  stays : IsRegister (state g.S.Store l.fn.conn) → Stays (state g.S.Store l.fn.conn) (state g.S.Store l.conn);
+  survives : LeavesNothing (state g.S.Store l.fn.conn) (state g.S.Store l.conn);
+  since : doubt (state g.S.Store l.fn.conn).is_clean ≤ doubt (state g.S.Store l.conn).is_clean;
+  idle : l.fn.conn.in_transaction ≡ false → l.conn.in_transaction ≡ false;
+}
