@@ -5,8 +5,12 @@ ghost use Rattle.sqlite.specs.Values.{bound};
 ghost use Rattle.sqlite.specs.Held.{state};
 ghost use Rattle.sqlite.specs.State.{HasCleanDisk};
 ghost use Rattle.sqlite_trees.specs.View.{doubt};
+ghost use Rattle.reg_core.specs.Records.{Records};
+ghost use Rattle.reg_tables.specs.Columns.{Columns};
 ghost use Rattle.reg_tables.specs.Reading.{Answers, IsReading};
+ghost use Rattle.reg_tables.specs.Shows.{ShowsBoth};
 ghost use Rattle.reg_tables.specs.Stays.{IsCallFault, IsRegister, LeavesNothing, Stays};
+ghost use Rattle.reg_auditing.specs.Said.{IsReadOf, AreRead};
 
 use crate::texts::{What, text};
 use reg_tables::StoreFault;
@@ -28,6 +32,7 @@ fn read<S: Alter>(conn: &mut Connection<S>, sql: &str) -> Result<Vec<Row>, Store
 
 /// All rows of a table.
 fn read_whole<S: Alter>(conn: &mut Connection<S>, what: What) -> Result<Vec<Row>, StoreFault>
+    ensures found { (records : Records) → (columns : Columns) → ShowsBoth S.Store conn.old records columns → HasCleanDisk (state S.Store conn.new) → IfOk result (λ rows. IsReadOf records columns what rows.items) }
     ensures same { IsRegister (state S.Store conn.old) → Stays (state S.Store conn.old) (state S.Store conn.new) }
     ensures clean { doubt (state S.Store conn.old).is_clean ≤ doubt (state S.Store conn.new).is_clean }
     ensures survives { LeavesNothing (state S.Store conn.old) (state S.Store conn.new) }
@@ -43,6 +48,8 @@ pub(crate) fn read_each<S: Alter>(
     conn: &mut Connection<S>,
     whats: &[What],
 ) -> Result<Vec<Vec<Row>>, StoreFault>
+    ensures found { (records : Records) → (columns : Columns) → ShowsBoth S.Store conn.old records columns → HasCleanDisk (state S.Store conn.new)
+        → IfOk result (λ all. AreRead records columns whats.now all.items (λ rows. rows.items)) }
     ensures same { IsRegister (state S.Store conn.old) → Stays (state S.Store conn.old) (state S.Store conn.new) }
     ensures clean { doubt (state S.Store conn.old).is_clean ≤ doubt (state S.Store conn.new).is_clean }
     ensures survives { LeavesNothing (state S.Store conn.old) (state S.Store conn.new) }
