@@ -62,6 +62,8 @@ pub enum Why {
     OtherBytes,
     /// The counts are not those of the letters.
     WrongCounts,
+    /// A value in it is none that a register writes.
+    NoValue,
 }
 
 /// A row that breaks a rule: its place in its table, from 1 on, and why.

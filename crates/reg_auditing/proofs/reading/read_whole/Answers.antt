@@ -1,0 +1,26 @@
+use Rattle.std.proofs.Common.{ℕ, List, [], sym, subst}
+use Rattle.sqlite.specs.Effect.{Reads}
+use Rattle.sqlite.specs.Held.{state}
+use Rattle.sqlite.specs.Listing.{understood}
+use Rattle.reg_tables.specs.Reading.{IsReading, command_of}
+use Rattle.reg_tables.specs.Schema.{register_schema}
+use Rattle.reg_tables.proofs.Staying.{both_shows, both_then, ok_then, shows_register}
+use Rattle.reg_auditing.proofs.Statements.{reading}
+use Rattle.reg_auditing.proofs.reading.read_whole.Goals as goal
+
+pub returns-clause-same : goal.returns-clause-same
+returns-clause-same g c = c.read.ensures.same (subst IsReading (sym c.text.ensures) (reading c.args.what))
+
+pub returns-clause-survives : goal.returns-clause-survives
+returns-clause-survives g c = c.read.ensures.survives (subst IsReading (sym c.text.ensures) (reading c.args.what))
+
+pub returns-clause-found : goal.returns-clause-found
+returns-clause-found g c records columns shows clean =
+    let s = state g.S.Store c.args.conn.now in
+    let is_reading = subst IsReading (sym c.text.ensures) (reading c.args.what) in
+    let register = shows_register g.S.Store c.args.conn.now records (both_shows g.S.Store c.args.conn.now records columns shows) in
+    ok_then c.read.result (c.read.ensures.rows is_reading register clean) (λ rows answers. record {
+      db = s.now;
+      both = both_then g.S.Store c.args.conn.now c.read.new.conn records columns c.read.ensures.clean clean answers.is_open shows;
+      reads = subst (λ (text : List ℕ). Reads (command_of (understood register_schema text)) s.now [] rows.items) c.text.ensures answers.reads;
+    })

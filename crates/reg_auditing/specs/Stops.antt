@@ -1,0 +1,20 @@
+-- How an audit ends that finds nothing well.
+use Rattle.reg_audit.specs.declared.stop.Stop.{Stop}
+use Rattle.reg_audit.specs.declared.stop.Stop.TheVariants as found
+use Rattle.reg_tables.specs.declared.fault.StoreFault.{StoreFault}
+use Rattle.reg_tables.specs.declared.fault.StoreFault.TheVariants as fault
+use Rattle.reg_auditing.specs.declared.stop.AuditStop.{AuditStop}
+use Rattle.reg_auditing.specs.declared.stop.AuditStop.TheVariants.{Memory, Store, Broken}
+
+-- want of memory stays so; all else is a failure of the store
+abbrev pub stop_of : StoreFault → AuditStop
+stop_of fault.Memory = Memory
+stop_of fault.Store = Store
+stop_of fault.NotEmpty = Store
+stop_of fault.NotARegister = Store
+stop_of fault.NewVersion = Store
+
+-- what a check of rows tells
+abbrev pub told : Stop → AuditStop
+told found.Memory = Memory
+told (found.Broken broken) = Broken broken

@@ -1,0 +1,54 @@
+//! The audit of an open database.
+
+ghost use Rattle.std.specs.Prelude.{◌≡◌, ◌≤◌, false};
+ghost use Rattle.sqlite.specs.Held.{state};
+ghost use Rattle.sqlite_trees.specs.View.{doubt};
+ghost use Rattle.reg_tables.specs.Stays.{IsRegister, LeavesNothing, Stays};
+
+use crate::judging::judge;
+use crate::reading::read_each;
+use crate::stop::AuditStop;
+use crate::texts::What;
+use sqlite::{Alter, Connection};
+use std::alloc::Global;
+
+/// How many rows an audit found well.
+#[derive(Clone, Copy, Debug, PartialEq, Eq)]
+pub struct Audited {
+    pub certificates: usize,
+    pub revoked: usize,
+    pub crls: usize,
+}
+
+/// What is read, in this order.
+const WHOLE: [What; 10] = [
+    What::Office,
+    What::Subscribers,
+    What::Orders,
+    What::Certificates,
+    What::Requests,
+    What::Revocations,
+    What::Crls,
+    What::Standings,
+    What::Counts,
+    What::Listings,
+];
+
+/// Reads the rows of a register's tables whole, and checks that they are those of sound records, with the letters, counts
+/// and last listings that follow from them ([`reg_audit::check`]).
+///
+/// What is proved of it: it changes nothing of the tables of a register, and commits nothing. That the rows which are checked
+/// are those which the tables show is not yet proved; the bytes of CRLs, the issuer, the policy's schedule and lives, and the
+/// rowids of the tables whose key is a serial number are not looked at. The schema is not looked at either.
+///
+/// # Errors
+/// `Broken` with a row that breaks a rule; `Memory`; `Store` where the database fails.
+pub fn audit<S: Alter>(alloc: Global, conn: &mut Connection<S>) -> Result<Audited, AuditStop>
+    ensures same { IsRegister (state S.Store conn.old) → Stays (state S.Store conn.old) (state S.Store conn.new) }
+    ensures clean { doubt (state S.Store conn.old).is_clean ≤ doubt (state S.Store conn.new).is_clean }
+    ensures survives { LeavesNothing (state S.Store conn.old) (state S.Store conn.new) }
+    ensures idle { conn.old.in_transaction ≡ false → conn.new.in_transaction ≡ false }
+{
+    let all = read_each(alloc, conn, &WHOLE)?;
+    judge(alloc, &all)
+}

@@ -1,0 +1,13 @@
+//! A register's tables, read whole and audited.
+#![tactic(auto)]
+
+mod auditing;
+mod judging;
+mod reading;
+mod stop;
+mod texts;
+mod typed;
+mod values;
+
+pub use auditing::{Audited, audit};
+pub use stop::AuditStop;

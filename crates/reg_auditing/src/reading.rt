@@ -1,0 +1,65 @@
+//! The tables read whole.
+
+ghost use Rattle.std.specs.Prelude.{◌≡◌, ◌≤◌, false, [], IfOk, IfErr};
+ghost use Rattle.sqlite.specs.Values.{bound};
+ghost use Rattle.sqlite.specs.Held.{state};
+ghost use Rattle.sqlite.specs.State.{HasCleanDisk};
+ghost use Rattle.sqlite_trees.specs.View.{doubt};
+ghost use Rattle.reg_core.specs.Records.{Records};
+ghost use Rattle.reg_tables.specs.Columns.{Columns};
+ghost use Rattle.reg_tables.specs.Reading.{Answers, IsReading};
+ghost use Rattle.reg_tables.specs.Shows.{ShowsBoth};
+ghost use Rattle.reg_tables.specs.Stays.{IsCallFault, IsRegister, LeavesNothing, Stays};
+ghost use Rattle.reg_auditing.specs.Said.{IsReadOf, AreRead};
+
+use crate::texts::{What, text};
+use reg_tables::StoreFault;
+use sqlite::{Alter, Connection, Row};
+use std::alloc::Global;
+
+/// The rows that a query answers.
+fn read<S: Alter>(conn: &mut Connection<S>, sql: &str) -> Result<Vec<Row>, StoreFault>
+    ensures rows { IsReading sql.now → IsRegister (state S.Store conn.old) → HasCleanDisk (state S.Store conn.new)
+        → IfOk result (λ rows. Answers (state S.Store conn.old) sql.now [] rows.items) }
+    ensures same { IsReading sql.now → IsRegister (state S.Store conn.old) → Stays (state S.Store conn.old) (state S.Store conn.new) }
+    ensures clean { doubt (state S.Store conn.old).is_clean ≤ doubt (state S.Store conn.new).is_clean }
+    ensures survives { IsReading sql.now → LeavesNothing (state S.Store conn.old) (state S.Store conn.new) }
+    ensures idle { conn.old.in_transaction ≡ false → conn.new.in_transaction ≡ false }
+    ensures faults { IfErr result IsCallFault }
+{
+    Ok(conn.query_all(sql, &[])?)
+}
+
+/// All rows of a table.
+fn read_whole<S: Alter>(conn: &mut Connection<S>, what: What) -> Result<Vec<Row>, StoreFault>
+    ensures found { (records : Records) → (columns : Columns) → ShowsBoth S.Store conn.old records columns → HasCleanDisk (state S.Store conn.new) → IfOk result (λ rows. IsReadOf records columns what rows.items) }
+    ensures same { IsRegister (state S.Store conn.old) → Stays (state S.Store conn.old) (state S.Store conn.new) }
+    ensures clean { doubt (state S.Store conn.old).is_clean ≤ doubt (state S.Store conn.new).is_clean }
+    ensures survives { LeavesNothing (state S.Store conn.old) (state S.Store conn.new) }
+    ensures idle { conn.old.in_transaction ≡ false → conn.new.in_transaction ≡ false }
+    ensures faults { IfErr result IsCallFault }
+{
+    read(conn, text(what))
+}
+
+/// All rows of each of these tables.
+pub(crate) fn read_each<S: Alter>(
+    alloc: Global,
+    conn: &mut Connection<S>,
+    whats: &[What],
+) -> Result<Vec<Vec<Row>>, StoreFault>
+    ensures found { (records : Records) → (columns : Columns) → ShowsBoth S.Store conn.old records columns → HasCleanDisk (state S.Store conn.new)
+        → IfOk result (λ all. AreRead records columns whats.now all.items (λ rows. rows.items)) }
+    ensures same { IsRegister (state S.Store conn.old) → Stays (state S.Store conn.old) (state S.Store conn.new) }
+    ensures clean { doubt (state S.Store conn.old).is_clean ≤ doubt (state S.Store conn.new).is_clean }
+    ensures survives { LeavesNothing (state S.Store conn.old) (state S.Store conn.new) }
+    ensures idle { conn.old.in_transaction ≡ false → conn.new.in_transaction ≡ false }
+    ensures faults { IfErr result IsCallFault }
+{
+    let mut all = Vec::new(alloc);
+    for what in whats {
+        let rows = read_whole(conn, *what)?;
+        all.push(rows)?;
+    }
+    Ok(all)
+}

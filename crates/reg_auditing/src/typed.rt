@@ -1,0 +1,162 @@
+//! Rows of the tables as rows of the register, with the columns in the order in which the statements name them.
+
+use crate::stop::AuditStop;
+use crate::values::{
+    clock_moment_at, flag_at, ground_at, label_at, letter_at, moment_at, number_at,
+    number_or_null_at, reason_at, serial_at,
+};
+use reg_audit::{Broken, Listed, Standing, Table, Why};
+use reg_core::{
+    CertRow, Counts, CrlRow, Moment, OrderRow, RequestRow, RevocationRow, SubscriberRow,
+};
+use sqlite::Row;
+use std::alloc::Global;
+
+/// What one row shows.
+pub(crate) trait OfRow: Copy {
+    /// The row, or none where a value in it is none that a register writes.
+    fn in_row(row: &Row) -> Option<Self>;
+}
+
+/// The cap and the last accepted moment.
+#[derive(Clone, Copy, Debug)]
+pub(crate) struct Office {
+    pub(crate) cap: u64,
+    pub(crate) last: Moment,
+}
+
+impl OfRow for Office {
+    fn in_row(row: &Row) -> Option<Office> {
+        Some(Office {
+            cap: number_at(row, 0)?,
+            last: clock_moment_at(row, 1)?,
+        })
+    }
+}
+
+impl OfRow for SubscriberRow {
+    fn in_row(row: &Row) -> Option<SubscriberRow> {
+        Some(SubscriberRow {
+            id: number_at(row, 0)?,
+            name: label_at(row, 1)?,
+        })
+    }
+}
+
+impl OfRow for OrderRow {
+    fn in_row(row: &Row) -> Option<OrderRow> {
+        Some(OrderRow {
+            id: number_at(row, 0)?,
+            subscriber: number_at(row, 1)?,
+            days: number_at(row, 2)?,
+        })
+    }
+}
+
+impl OfRow for CertRow {
+    fn in_row(row: &Row) -> Option<CertRow> {
+        Some(CertRow {
+            serial: serial_at(row, 0)?,
+            order: number_at(row, 1)?,
+            not_before: moment_at(row, 2)?,
+            not_after: moment_at(row, 3)?,
+        })
+    }
+}
+
+impl OfRow for RequestRow {
+    fn in_row(row: &Row) -> Option<RequestRow> {
+        Some(RequestRow {
+            id: number_at(row, 0)?,
+            serial: serial_at(row, 1)?,
+            ground: ground_at(row, 2)?,
+            received: clock_moment_at(row, 3)?,
+            declined: flag_at(row, 4)?,
+        })
+    }
+}
+
+impl OfRow for RevocationRow {
+    fn in_row(row: &Row) -> Option<RevocationRow> {
+        Some(RevocationRow {
+            serial: serial_at(row, 0)?,
+            at: clock_moment_at(row, 1)?,
+            reason: reason_at(row, 2)?,
+            request: number_at(row, 3)?,
+            first: number_at(row, 4)?,
+        })
+    }
+}
+
+impl OfRow for CrlRow {
+    fn in_row(row: &Row) -> Option<CrlRow> {
+        Some(CrlRow {
+            number: number_at(row, 0)?,
+            this_update: clock_moment_at(row, 1)?,
+        })
+    }
+}
+
+impl OfRow for Standing {
+    fn in_row(row: &Row) -> Option<Standing> {
+        Some(Standing {
+            serial: serial_at(row, 0)?,
+            not_after: moment_at(row, 1)?,
+            letter: letter_at(row, 2)?,
+        })
+    }
+}
+
+impl OfRow for Counts {
+    fn in_row(row: &Row) -> Option<Counts> {
+        Some(Counts {
+            good: number_at(row, 0)?,
+            revoked: number_at(row, 1)?,
+            expired: number_at(row, 2)?,
+        })
+    }
+}
+
+impl OfRow for Listed {
+    fn in_row(row: &Row) -> Option<Listed> {
+        Some(Listed {
+            serial: serial_at(row, 0)?,
+            at: clock_moment_at(row, 1)?,
+            reason: reason_at(row, 2)?,
+            first: number_at(row, 3)?,
+            not_after: moment_at(row, 4)?,
+            last: number_or_null_at(row, 5)?,
+        })
+    }
+}
+
+/// A row of a table, at a place counted from 0, has a value that no register writes.
+fn no_value(table: Table, place: usize) -> AuditStop {
+    let row = (place as u64).saturating_add(1);
+    let why = Why::NoValue;
+    AuditStop::Broken(Broken { table, row, why })
+}
+
+/// What each row of a table shows.
+pub(crate) fn typed<T: OfRow>(
+    alloc: Global,
+    table: Table,
+    rows: &[Row],
+) -> Result<Vec<T>, AuditStop> {
+    let mut found = Vec::new(alloc);
+    for (place, row) in rows.iter().enumerate() {
+        match T::in_row(row) {
+            Some(it) => found.push(it)?,
+            None => return Err(no_value(table, place)),
+        }
+    }
+    Ok(found)
+}
+
+/// What the one row of a table shows.
+pub(crate) fn only<T: OfRow>(table: Table, rows: &[Row]) -> Result<T, AuditStop> {
+    match rows {
+        [row] => T::in_row(row).ok_or(no_value(table, 0)),
+        _ => Err(no_value(table, rows.len())),
+    }
+}

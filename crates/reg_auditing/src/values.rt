@@ -1,0 +1,106 @@
+//! Values of SQL, where they are what a register writes.
+
+use reg_audit::Letter;
+use reg_core::{Ground, Label, Moment, Serial};
+use sqlite::Row;
+use sqlite::types::ValueRef;
+
+/// The number in a column.
+pub(crate) fn number_at(row: &Row, at: usize) -> Option<u64> {
+    match row.get_ref(at) {
+        Ok(ValueRef::Int(n)) => match u64::try_from(n) {
+            Ok(n) => Some(n),
+            Err(_) => None,
+        },
+        Ok(_) => None,
+        Err(_) => None,
+    }
+}
+
+/// The number in a column that may be NULL.
+pub(crate) fn number_or_null_at(row: &Row, at: usize) -> Option<Option<u64>> {
+    match row.get_ref(at) {
+        Ok(ValueRef::Null) => Some(None),
+        Ok(_) => Some(Some(number_at(row, at)?)),
+        Err(_) => None,
+    }
+}
+
+/// The moment in a column.
+pub(crate) fn moment_at(row: &Row, at: usize) -> Option<Moment> {
+    Moment::of_secs(number_at(row, at)?)
+}
+
+/// The moment in a column, one that the register's clock lets pass.
+pub(crate) fn clock_moment_at(row: &Row, at: usize) -> Option<Moment> {
+    let moment = moment_at(row, at)?;
+    if moment < Moment::CLOCK_END {
+        Some(moment)
+    } else {
+        None
+    }
+}
+
+/// The serial number in a column.
+pub(crate) fn serial_at(row: &Row, at: usize) -> Option<Serial> {
+    match row.get_ref(at) {
+        Ok(ValueRef::Blob(bytes)) => Serial::from_bytes20(bytes),
+        Ok(_) => None,
+        Err(_) => None,
+    }
+}
+
+/// The label in a column.
+pub(crate) fn label_at(row: &Row, at: usize) -> Option<Label> {
+    match row.get_ref(at) {
+        Ok(ValueRef::Text(text)) => Label::of(text),
+        Ok(_) => None,
+        Err(_) => None,
+    }
+}
+
+/// The ground in a column, which has its place in the list of grounds.
+pub(crate) fn ground_at(row: &Row, at: usize) -> Option<Ground> {
+    match number_at(row, at)? {
+        1 => Some(Ground::Asked),
+        2 => Some(Ground::Unauthorized),
+        3 => Some(Ground::KeyCompromise),
+        4 => Some(Ground::ControlLost),
+        5 => Some(Ground::Affiliation),
+        6 => Some(Ground::Superseded),
+        7 => Some(Ground::Cessation),
+        8 => Some(Ground::Misuse),
+        9 => Some(Ground::NameNotPermitted),
+        10 => Some(Ground::Nonconforming),
+        11 => Some(Ground::Inaccurate),
+        _ => None,
+    }
+}
+
+/// The flag in a column, 0 or 1.
+pub(crate) fn flag_at(row: &Row, at: usize) -> Option<bool> {
+    match number_at(row, at)? {
+        0 => Some(false),
+        1 => Some(true),
+        _ => None,
+    }
+}
+
+/// The reasonCode in a column (RFC 5280 5.3.1).
+pub(crate) fn reason_at(row: &Row, at: usize) -> Option<u8> {
+    match u8::try_from(number_at(row, at)?) {
+        Ok(reason) => Some(reason),
+        Err(_) => None,
+    }
+}
+
+/// The state letter in a column.
+pub(crate) fn letter_at(row: &Row, at: usize) -> Option<Letter> {
+    match row.get_ref(at) {
+        Ok(ValueRef::Text(b"G")) => Some(Letter::Good),
+        Ok(ValueRef::Text(b"R")) => Some(Letter::Revoked),
+        Ok(ValueRef::Text(b"X")) => Some(Letter::Expired),
+        Ok(_) => None,
+        Err(_) => None,
+    }
+}
