@@ -14,17 +14,26 @@ use std::{env, io};
 /// for; 1 a fault, with its line on standard error; 2 words that can't be read, with the usage on standard error; 3 a reply
 /// that was a refusal or a fault, at a counter or in a strict script.
 fn main(rt: HostRuntime) -> io::Result<ExitCode> {
-    let status = match env::args(&rt) {
-        Ok(args) => {
-            let mut words = Vec::new(rt.alloc());
-            for word in args {
-                words.push(word)?;
-            }
-            run(&rt, words.as_slice())?
-        }
-        Err(error) => tell_usage(&rt, &unread(&rt, &error))?,
+    let status = match words_of(&rt) {
+        Ok(words) => run(&rt, words.as_slice())?,
+        Err(usage) => tell_usage(&rt, &usage)?,
     };
     Ok(ExitCode::from(status))
+}
+
+/// The words that the program was called with.
+fn words_of(rt: &HostRuntime) -> Result<Vec<String>, Usage> {
+    let args = match env::args(rt) {
+        Ok(args) => args,
+        Err(error) => return Err(unread(rt, &error)),
+    };
+    let mut words = Vec::new(rt.alloc());
+    for word in args {
+        let Ok(()) = words.push(word) else {
+            return Err(Usage::Memory);
+        };
+    }
+    Ok(words)
 }
 
 /// Does the job that the words say.
