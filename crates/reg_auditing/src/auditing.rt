@@ -1,8 +1,7 @@
 //! The audit of an open database.
 
-ghost use Rattle.std.specs.Prelude.{◌≡◌, ◌≤◌, false};
+ghost use Rattle.std.specs.Prelude.{◌≡◌, false};
 ghost use Rattle.sqlite.specs.Held.{state};
-ghost use Rattle.sqlite_trees.specs.View.{doubt};
 ghost use Rattle.reg_tables.specs.Stays.{IsRegister, LeavesNothing, Stays};
 
 use crate::judging::judge;
@@ -45,7 +44,6 @@ const WHOLE: [What; 10] = [
 /// `Broken` with a row that breaks a rule; `Memory`; `Store` where the database fails.
 pub fn audit<S: Alter>(alloc: Global, conn: &mut Connection<S>) -> Result<Audited, AuditStop>
     ensures same { IsRegister (state S.Store conn.old) → Stays (state S.Store conn.old) (state S.Store conn.new) }
-    ensures clean { doubt (state S.Store conn.old).is_clean ≤ doubt (state S.Store conn.new).is_clean }
     ensures survives { LeavesNothing (state S.Store conn.old) (state S.Store conn.new) }
     ensures idle { conn.old.in_transaction ≡ false → conn.new.in_transaction ≡ false }
 {

@@ -16,13 +16,12 @@ loop-what-preserved g c =
     record {
       stays = λ register.
           let stays = c.loop-what.invariant.stays register in
-          stays_then first before after c.read_whole.ensures.clean stays (c.read_whole.ensures.same (stays_register first before c.loop-what.invariant.since stays register));
+          stays_then first before after c.read_whole.ensures.survives.clean stays (c.read_whole.ensures.same (stays_register first before c.loop-what.invariant.survives.clean stays register));
       survives = leaves_then first before after c.loop-what.invariant.survives c.read_whole.ensures.survives;
-      since = omega (arith, c.read_whole.ensures.clean, c.loop-what.invariant.since);
       found = λ records columns shows clean.
-          let was_clean : HasCleanDisk before = omega (arith, c.read_whole.ensures.clean) in
+          let was_clean : HasCleanDisk before = omega (arith, c.read_whole.ensures.survives.clean) in
           let register = shows_register g.S.Store c.args.conn.now records (both_shows g.S.Store c.args.conn.now records columns shows) in
-          let mid = stays_both g.S.Store c.args.conn.now c.loop-what.conn records columns c.loop-what.invariant.since (c.loop-what.invariant.stays register) shows in
+          let mid = stays_both g.S.Store c.args.conn.now c.loop-what.conn records columns c.loop-what.invariant.survives.clean (c.loop-what.invariant.stays register) shows in
           are_more records columns (λ rows. rows.items) c.args.whats.now c.loop-what.what-index Office c.loop-what.all.items c.push.new.self.items c.in_ok-rows.rows c.loop-what-test.true
           (c.loop-what.invariant.found records columns shows was_clean) (c.in_ok-rows.ensures.found records columns mid clean) c.in_ok-push.ensures.items;
       idle = λ e. c.read_whole.ensures.idle (c.loop-what.invariant.idle e);
@@ -34,7 +33,7 @@ returns-in_err-rows-clause-same g c register =
     let before = state g.S.Store c.loop-what.conn in
     let after = state g.S.Store c.read_whole.new.conn in
     let stays = c.loop-what.invariant.stays register in
-    stays_then first before after c.read_whole.ensures.clean stays (c.read_whole.ensures.same (stays_register first before c.loop-what.invariant.since stays register))
+    stays_then first before after c.read_whole.ensures.survives.clean stays (c.read_whole.ensures.same (stays_register first before c.loop-what.invariant.survives.clean stays register))
 
 pub returns-in_err-push-clause-same : goal.returns-in_err-push-clause-same
 returns-in_err-push-clause-same g c register =
@@ -42,7 +41,7 @@ returns-in_err-push-clause-same g c register =
     let before = state g.S.Store c.loop-what.conn in
     let after = state g.S.Store c.read_whole.new.conn in
     let stays = c.loop-what.invariant.stays register in
-    stays_then first before after c.read_whole.ensures.clean stays (c.read_whole.ensures.same (stays_register first before c.loop-what.invariant.since stays register))
+    stays_then first before after c.read_whole.ensures.survives.clean stays (c.read_whole.ensures.same (stays_register first before c.loop-what.invariant.survives.clean stays register))
 
 pub returns-clause-found : goal.returns-clause-found
 returns-clause-found g c records columns shows clean =

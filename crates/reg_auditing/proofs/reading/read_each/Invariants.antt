@@ -1,7 +1,6 @@
-use Rattle.std.proofs.Common.{◌≡◌, ◌≤◌, false, take}
+use Rattle.std.proofs.Common.{◌≡◌, false, take}
 use Rattle.sqlite.specs.Held.{state}
 use Rattle.sqlite.specs.State.{HasCleanDisk}
-use Rattle.sqlite_trees.specs.View.{doubt}
 use Rattle.reg_core.specs.Records.{Records}
 use Rattle.reg_tables.specs.Columns.{Columns}
 use Rattle.reg_tables.specs.Shows.{ShowsBoth}
@@ -13,7 +12,6 @@ abbrev pub invariant-loop-what : goal.invariant-loop-what
 invariant-loop-what g l = record {
   stays : IsRegister (state g.S.Store l.fn.conn) → Stays (state g.S.Store l.fn.conn) (state g.S.Store l.conn);
   survives : LeavesNothing (state g.S.Store l.fn.conn) (state g.S.Store l.conn);
-  since : doubt (state g.S.Store l.fn.conn).is_clean ≤ doubt (state g.S.Store l.conn).is_clean;
   found : (records : Records) (columns : Columns) → ShowsBoth g.S.Store l.fn.conn records columns → HasCleanDisk (state g.S.Store l.conn) → AreRead records columns (take l.what-index l.whats) l.all.items (λ rows. rows.items);
   idle : l.fn.conn.in_transaction ≡ false → l.conn.in_transaction ≡ false;
 }
