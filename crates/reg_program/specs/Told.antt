@@ -1,8 +1,11 @@
 -- What the program tells of a job's end.
 use Rattle.std.specs.Prelude.{◌≡◌, ◌⊎◌, ℕ, List, [], ◌∷◌, ◌++◌, Result, Ok, Err}
+use Rattle.std.specs.Prelude.{Bool, IsTrue, Some, None}
 use Rattle.std.specs.declared.option.Option.{Option}
 use Rattle.std.specs.Io.KnownBytes.{Appends}
-use Rattle.reg_jobs.specs.Endings.{failure_line}
+use Rattle.reg_causes.specs.Causes.{cause_line}
+use Rattle.reg_causes.specs.declared.cause.Cause.{Cause}
+use Rattle.reg_jobs.specs.Endings.{failure_line, status}
 use Rattle.reg_jobs.specs.declared.failure.Failure.{Failure}
 use Rattle.reg_wire.specs.Put.{AppendsFront}
 
@@ -18,3 +21,14 @@ IsTold old new line = IsWritten old new (line ++ 10 ∷ [])
 abbrev pub Tells : Result (Unit {0}) Failure → Option (List ℕ) → Option (List ℕ) → Type 0
 Tells (Ok done) old new = new ≡ old
 Tells (Err why) old new = IsTold old new (failure_line why)
+
+-- a cause that is known is told in a line
+abbrev pub Adds : Option Cause → Option (List ℕ) → Option (List ℕ) → Type 0
+Adds None old new = new ≡ old
+Adds (Some cause) old new = IsTold old new (cause_line cause)
+
+-- what standard error gets of an ending, and nothing more; or, where that is asked for and the exit status is 1, then a cause too
+abbrev pub Explains : Bool → Result (Unit {0}) Failure → Option (List ℕ) → Option (List ℕ) → Type 0
+Explains is_asked ending old new =
+    (between : Option (List ℕ)) × Tells ending old between
+    × ((new ≡ between) ⊎ (IsTrue is_asked × (status ending ≡ 1) × ((cause : Option Cause) × Adds cause between new)))
