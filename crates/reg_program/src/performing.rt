@@ -25,10 +25,10 @@ use std::io::{Read, Write};
 
 /// Does a job over standard input and output and the machine, as [`perform_at`] says. Where that is asked for, the line of a fault
 /// is followed by one that tells its cause, where that was noted: by a call of the machine, or by the reader or the writer.
-pub fn perform<R: Read, W: Write, E: Write>(
+pub fn perform<'a, R: Read, W: Write, E: Write>(
     noted: &Cell<Option<Cause>>,
     is_explained: bool,
-    machine: &mut Machine<'_>,
+    machine: &mut Machine<'a>,
     job: &Job<'_>,
     reader: &mut R,
     writer: &mut W,
@@ -36,14 +36,12 @@ pub fn perform<R: Read, W: Write, E: Write>(
 ) -> u8
     ensures { (ending : Result (Unit {0}) Failing)
         × Ends R.remaining W.contents reader.old reader.new writer.old writer.new
-        ⟦<Machine<'_> as Place>⟧ ⟦<FileOffice as Keeper>⟧ machine.old machine.new ⟦<Machine<'_> as Front>⟧ job.now ending
+        ⟦<Machine<'a> as Place>⟧ ⟦<FileOffice as Keeper>⟧ machine.old machine.new ⟦<Machine<'a> as Front>⟧ job.now ending
         × (result ≡ status ending) × Explains is_explained ending (E.contents errors.old) (E.contents errors.new) }
 {
     let front = *machine;
     let status = perform_at(&front.rt, &front, machine, job, reader, writer, errors);
-    if is_explained && status == 1 {
-        explain(errors, noted.get());
-    }
+    explain(errors, is_explained, status, noted.get());
     status
 }
 

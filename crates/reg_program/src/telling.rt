@@ -36,10 +36,13 @@ pub(crate) fn tell<W: Write>(errors: &mut W, failure: &Failure)
     }
 }
 
-/// Tells on standard error the cause of a fault, in one line, where it is known.
-pub(crate) fn explain<W: Write>(errors: &mut W, cause: Option<Cause>)
-    ensures { Adds cause (W.contents errors.old) (W.contents errors.new) }
+/// Tells on standard error the cause of a fault, in one line, where that is asked for, known, and the exit status is that of a fault.
+pub(crate) fn explain<W: Write>(errors: &mut W, is_asked: bool, status: u8, cause: Option<Cause>)
+    ensures { Adds is_asked status (W.contents errors.old) (W.contents errors.new) }
 {
+    if !is_asked || status != 1 {
+        return;
+    }
     match cause {
         Some(cause) => tell_cause(errors, cause),
         None => {}
