@@ -5,7 +5,7 @@ _desk() {
     program=$(type -P desk) || return
     if [ "$COMP_CWORD" -eq 1 ]; then
         help=$("$program" --help)
-        mapfile -t COMPREPLY < <(compgen -W "$(sed -n '/^Commands:/,/^$/s/^  \([a-z][a-z-]*\).*/\1/p' <<<"$help") --help --version" -- "$cur")
+        mapfile -t COMPREPLY < <(compgen -W "$(sed -n '/^Commands:/,/^$/s/^  \([a-z][a-z-]*\).*/\1/p' <<<"$help") --help --version --why" -- "$cur")
         return
     fi
     help=$("$program" "${COMP_WORDS[1]}" --help 2>/dev/null) || return
@@ -17,7 +17,7 @@ _desk() {
     --*:?*) COMPREPLY=() ;;
     *)
         if [[ $cur == -* ]]; then
-            mapfile -t COMPREPLY < <(compgen -W "$(grep -oE -- '^ +(-., )?--[a-z-]+' <<<"$help" | grep -oE -- '--[a-z-]+')" -- "$cur")
+            mapfile -t COMPREPLY < <(compgen -W "$(grep -oE -- '^ +(-., )?--[a-z-]+' <<<"$help" | grep -oE -- '--[a-z-]+') --why" -- "$cur")
         else
             mapfile -t COMPREPLY < <(compgen -f -- "$cur")
         fi

@@ -1,6 +1,6 @@
 #!/usr/bin/env bash
-# Tries the words and options of `desk` from outside: a bad value is named with its option, and a FILE that is no UTF-8 is bad words; scripts
-# with --strict and --clock; how far a long script is, on a terminal.
+# Tries the words and options of `desk` from outside: a bad value is named with its option, and a FILE that is no UTF-8 is bad words; a
+# cause that --why asks for; scripts with --strict and --clock; how far a long script is, on a terminal.
 #
 # Usage, from the repository's root: tools/options-check.sh        (DESK names another program than ./desk)
 set -euo pipefail
@@ -34,6 +34,39 @@ bad "invalid value '2026-02-29T00:00:00Z' for '--now'" import ca.db --now 2026-0
 bad "invalid value 'ed448' for '--algorithm'" script ca.db --signer ca.sign --algorithm ed448
 bad "invalid value 'now=200' for 'MOMENT=DAYS'" schedule ca.db now=200
 bad "unexpected argument '--nubmer'" crl ca.db --nubmer 1
+# A cause is told where it is asked for, before a command or behind it, and else nothing is.
+for words in "--why crl none.db" "crl --why none.db" "crl none.db --why"; do
+    # shellcheck disable=SC2086 # the words are meant to be split
+    run $words
+    same "$words is status 1 with its cause" "$status:$(cat out told)" $'1:F2 store\n  no such file'
+done
+run crl none.db
+same "and without --why the line alone" "$status:$(cat out told)" "1:F2 store"
+run crl -- --why
+same "behind -- it is a FILE" "$status:$(cat out told)" "1:F2 store"
+head -c 300 /dev/urandom >damaged.db
+run crl damaged.db --why
+same "a file that is no database is damaged" "$status:$(cat out told)" $'1:F2 store\n  damaged'
+run at none.counter --why
+same "no counter" "$status:$(cat out told)" $'1:F4 read\n  no such file'
+status=0
+"$desk" script --why <<<'2026-01-01T00:00:00Z counts' >/dev/full 2>told || status=$?
+same "a full disk" "$status:$(cat told)" $'1:F5 write\n  disk full'
+run init ca.db --name 300C310A300806035504030C0154 --key 0102 --days 0 --why
+same "a line without a cause" "$status:$(cat out told)" "1:bad-policy"
+run init inuse.db --name 300C310A300806035504030C0154 --key 0102
+port=$(python3 -c 'import socket; s = socket.socket(); s.bind(("127.0.0.1", 0)); print(s.getsockname()[1])')
+"$desk" serve inuse.db --port "$port" --requests 1 >served 2>&1 &
+peer=$!
+for _ in {1..100}; do grep -q listening served && break || sleep 0.1; done
+run crl inuse.db --why
+same "a register that another has open" "$status:$(cat out told)" $'1:F2 store\n  in use by another program'
+run init other.db --name 300C310A300806035504030C0154 --key 0102
+run serve other.db --port "$port" --requests 1 --why
+same "a port that another has" "$status:$(cat out told)" $'1:F4 read\n  port in use'
+kill "$peer"
+wait "$peer" || true
+
 for command in crl script 'import --now 2026-01-01T00:00:00Z'; do
     # shellcheck disable=SC2086 # the words are meant to be split
     run $command $'ca\xff.db'

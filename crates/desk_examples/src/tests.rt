@@ -3,9 +3,10 @@
 mod days;
 
 use reg_core::Moment;
-use reg_program::perform;
+use reg_program::{Machine, perform};
 use reg_signer::Algorithm;
 use reg_words::{Job, KeyHolder, Steps, Way, Word};
+use std::cell::Cell;
 use std::io::Write;
 use std::os::unix::fs::{MetadataExt, symlink};
 use std::test::Fail;
@@ -33,10 +34,29 @@ struct Ending {
 
 /// Does a job over this input.
 fn done(rt: &HostRuntime, job: &Job<'_>, input: &[u8]) -> Ending {
+    ended(rt, job, input, false)
+}
+
+/// The same where the cause of a fault is asked for.
+fn explained(rt: &HostRuntime, job: &Job<'_>, input: &[u8]) -> Ending {
+    ended(rt, job, input, true)
+}
+
+fn ended(rt: &HostRuntime, job: &Job<'_>, input: &[u8], is_explained: bool) -> Ending {
     let mut reader = input;
     let mut output = Vec::new(rt.alloc());
     let mut errors = Vec::new(rt.alloc());
-    let status = perform(rt, job, &mut reader, &mut output, &mut errors);
+    let noted = Cell::new(None);
+    let mut machine = Machine::of(*rt, &noted);
+    let status = perform(
+        &noted,
+        is_explained,
+        &mut machine,
+        job,
+        &mut reader,
+        &mut output,
+        &mut errors,
+    );
     Ending {
         status,
         output,
@@ -111,6 +131,44 @@ fn a_file_that_is_not_there_is_not_made(rt: HostRuntime) {
     assert!(rt; !fs::exists(&rt, "desk_examples_none.db").unwrap_or(true));
 }
 
+/// The job `crl` at a path.
+fn latest_crl(path: &str) -> Job<'_> {
+    Job::Crl {
+        file: Word::of(path),
+        number: None,
+    }
+}
+
+#[test]
+fn a_cause_is_told_where_it_is_asked_for(rt: HostRuntime) -> Result<(), Fail> {
+    let damaged = "desk_examples_damaged.db";
+    fs::write(
+        &rt,
+        damaged,
+        b"this is no database, and is as long as a head of one must be: a hundred bytes and a few more than that",
+    )?;
+    for (path, line) in [
+        (
+            "desk_examples_none.db",
+            b"F2 store\n  no such file\n".as_slice(),
+        ),
+        (NOWHERE, b"F2 store\n  no such file\n".as_slice()),
+        (damaged, b"F2 store\n  damaged\n".as_slice()),
+    ] {
+        let job = latest_crl(path);
+        assert!(rt; told(&explained(&rt, &job, b""), line), "at {path}");
+        assert!(rt; told(&done(&rt, &job, b""), b"F2 store\n"), "at {path}");
+    }
+    let at = Job::At {
+        counter: Word::of("desk_examples_none.counter"),
+    };
+    assert!(rt; told(&explained(&rt, &at, b""), b"F4 read\n  no such file\n"));
+    let policy = init(NOWHERE, NAME, 0);
+    assert!(rt; told(&explained(&rt, &policy, b""), b"bad-policy\n"));
+    fs::remove_file(&rt, damaged)?;
+    Ok(())
+}
+
 /// A writer that takes no byte.
 #[derive(Drop)]
 struct Full;
@@ -133,7 +191,17 @@ fn a_register_that_can_not_be_told_is_not_left(rt: HostRuntime) {
     let mut output = Full;
     let mut errors = Vec::new(rt.alloc());
     let job = init(file, NAME, 398);
-    let status = perform(&rt, &job, &mut reader, &mut output, &mut errors);
+    let noted = Cell::new(None);
+    let mut machine = Machine::of(rt, &noted);
+    let status = perform(
+        &noted,
+        false,
+        &mut machine,
+        &job,
+        &mut reader,
+        &mut output,
+        &mut errors,
+    );
     assert!(rt; status == 1 && errors.as_slice() == b"F5 write\n".as_slice());
     assert!(rt; !fs::exists(&rt, file).unwrap_or(true));
     assert!(rt; !fs::exists(&rt, "desk_examples_untold.db-wal").unwrap_or(true));

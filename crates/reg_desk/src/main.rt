@@ -4,50 +4,78 @@
 mod progress;
 
 use crate::progress::{Counted, tell_opening};
-use reg_program::perform;
-use reg_words::{Usage, no_text, read_words};
+use reg_program::{Machine, perform};
+use reg_words::{Job, Usage, no_text, read_words};
+use std::cell::Cell;
 use std::io::ErrorKind;
 use std::process::ExitCode;
 use std::{env, io};
 
+/// The word, before a command or behind it, that asks for the cause of a fault.
+const WHY: &str = "--why";
+
 /// Reads the words, does the job that they say, and tells by the exit status how it ended: 0 done, or help was asked
-/// for; 1 a fault, with its line on standard error; 2 words that can't be read, with the usage on standard error; 3 a reply
-/// that was a refusal or a fault, at a counter or in a strict script.
+/// for; 1 a fault, with its line on standard error, and the line of its cause where that is asked for and known; 2 words
+/// that can't be read, with the usage on standard error; 3 a reply that was a refusal or a fault, at a counter or in a
+/// strict script.
 fn main(rt: HostRuntime) -> io::Result<ExitCode> {
     let status = match words_of(&rt) {
-        Ok(words) => run(&rt, words.as_slice())?,
+        Ok((words, is_explained)) => run(&rt, words.as_slice(), is_explained)?,
         Err(usage) => tell_usage(&rt, &usage)?,
     };
     Ok(ExitCode::from(status))
 }
 
-/// The words that the program was called with.
-fn words_of(rt: &HostRuntime) -> Result<Vec<String>, Usage> {
+/// The words that the program was called with but for `--why`, and whether that was among them.
+fn words_of(rt: &HostRuntime) -> Result<(Vec<String>, bool), Usage> {
     let args = match env::args(rt) {
         Ok(args) => args,
         Err(error) => return Err(unread(rt, &error)),
     };
     let mut words = Vec::new(rt.alloc());
+    let mut is_explained = false;
+    // Behind a word `--` none is an option.
+    let mut is_open = true;
     for word in args {
-        let Ok(()) = words.push(word) else {
-            return Err(Usage::Memory);
-        };
+        if is_open && word.as_str() == WHY {
+            is_explained = true;
+        } else {
+            is_open = is_open && word.as_str() != "--";
+            let Ok(()) = words.push(word) else {
+                return Err(Usage::Memory);
+            };
+        }
     }
-    Ok(words)
+    Ok((words, is_explained))
 }
 
 /// Does the job that the words say.
-fn run(rt: &HostRuntime, words: &[String]) -> io::Result<u8> {
+fn run(rt: &HostRuntime, words: &[String], is_explained: bool) -> io::Result<u8> {
     match read_words(rt.alloc(), words) {
         Ok(job) => {
             tell_opening(rt, &job);
-            let mut input = rt.stdin();
-            let mut output = Counted::of(rt, &job);
-            let mut errors = rt.stderr();
-            Ok(perform(rt, &job, &mut input, &mut output, &mut errors))
+            Ok(do_job(rt, &job, is_explained))
         }
         Err(usage) => tell_usage(rt, &usage),
     }
+}
+
+/// Does a job over standard input and output.
+fn do_job(rt: &HostRuntime, job: &Job<'_>, is_explained: bool) -> u8 {
+    let noted = Cell::new(None);
+    let mut machine = Machine::of(*rt, &noted);
+    let mut input = rt.stdin();
+    let mut output = Counted::of(rt, job, &noted);
+    let mut errors = rt.stderr();
+    perform(
+        &noted,
+        is_explained,
+        &mut machine,
+        job,
+        &mut input,
+        &mut output,
+        &mut errors,
+    )
 }
 
 /// What is said where the words could not be had: one is no text, or there is no memory for them.

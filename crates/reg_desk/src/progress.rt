@@ -1,6 +1,8 @@
 //! How far a long job is, told on standard error where that is a terminal.
 
+use reg_causes::{Cause, of_io};
 use reg_words::Job;
+use std::cell::Cell;
 use std::io::{IsTerminal, Stdout, Write};
 use std::time::Clock;
 use std::{fs, io};
@@ -12,11 +14,12 @@ const LARGE: u64 = 67_108_864;
 const MEGABYTE: u64 = 1_000_000;
 
 /// Standard output, to which a script or an import writes a line for each line or row that is done; once a second it tells how many
-/// were.
+/// were. The cause of a write that fails is noted.
 #[derive(Drop)]
 pub(crate) struct Counted<'a> {
     rt: &'a HostRuntime,
     output: Stdout,
+    noted: &'a Cell<Option<Cause>>,
     is_told: bool,
     lines: u64,
     /// The seconds of the clock when it began, and when it told last.
@@ -27,13 +30,18 @@ pub(crate) struct Counted<'a> {
 impl<'a> Counted<'a> {
     /// Standard output for a job. What it writes is counted where standard error is a terminal, and standard output is none: who reads
     /// the replies there sees them.
-    pub(crate) fn of(rt: &'a HostRuntime, job: &Job<'_>) -> Counted<'a> {
+    pub(crate) fn of(
+        rt: &'a HostRuntime,
+        job: &Job<'_>,
+        noted: &'a Cell<Option<Cause>>,
+    ) -> Counted<'a> {
         let output = rt.stdout();
         let is_told = is_long(job) && rt.stderr().is_terminal() && !output.is_terminal();
         let now = seconds(rt);
         Counted {
             rt,
             output,
+            noted,
             is_told,
             lines: 0,
             began: now,
@@ -59,7 +67,13 @@ impl<'a> Counted<'a> {
 
 impl<'a> Write for Counted<'a> {
     fn write(&mut self, buf: &[u8]) -> io::Result<usize> {
-        let count = self.output.write(buf)?;
+        let count = match self.output.write(buf) {
+            Ok(count) => count,
+            Err(error) => {
+                self.noted.set(of_io(error.kind()));
+                return Err(error);
+            }
+        };
         if self.is_told && buf.ends_with(b"\n") {
             self.count();
         }

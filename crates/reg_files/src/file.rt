@@ -1,6 +1,6 @@
 //! Files that hold databases.
 
-ghost use Rattle.std.specs.Prelude.{◌≡◌, ◌⊎◌, ◌≤◌, ◌++◌, codes, false, string_bytes, IfOk, IfErr};
+ghost use Rattle.std.specs.Prelude.{◌≡◌, ◌⊎◌, ◌≤◌, ◌++◌, codes, false, string_bytes, IfOk, IfErr, IfSome};
 ghost use Rattle.sqlite.specs.Files.{file_state, IsOpened};
 ghost use Rattle.sqlite.specs.Held.{IsNew};
 ghost use Rattle.sqlite.specs.Start.{FindsIn};
@@ -8,6 +8,7 @@ ghost use Rattle.sqlite.specs.State.{HasCleanDisk};
 ghost use Rattle.sqlite_std_file.specs.File.{file_is_usable, IsFresh};
 ghost use Rattle.sqlite_wal.specs.Files.{image_at};
 
+use reg_causes::{Cause, of_database, of_io, of_opening};
 use reg_core::Fault;
 use sqlite::{Connection, Error, ErrorCode, FileFrom, FileStore, Options};
 use sqlite_disk::{Start, Unknown};
@@ -31,60 +32,99 @@ const MOST_PAGES: usize = 131_072;
 /// The mode of a file that its owner alone may read and write.
 const OWNER_ALONE: u32 = 0o600;
 
+/// Why a file is not opened: the fault, and its cause where that is known.
+#[derive(Clone, Copy, Debug, PartialEq, Eq)]
+pub struct Unopened {
+    /// The fault.
+    pub fault: Fault,
+    /// The cause that the call told which failed.
+    pub cause: Option<Cause>,
+}
+
 /// Opens the file at a path as a database, or makes it, with its checks for damage; `start` stands for what the file and
 /// its log hold. There is room in memory for twice the pages that the file has now, 8 MB at least and 512 MiB at most, and for
 /// as many that a transaction changed: so a look-up in a large register seldom waits for the operating system, also once the
 /// register has grown, and a page that changes often is written to the log once.
 ///
 /// # Errors
-/// `Memory`; `Store` where the file can't be opened or is no database.
+/// `Memory`; `Store` where the file can't be opened or is no database, with the cause that the failing call told.
 pub fn open_file<S: Start>(
     rt: &HostRuntime,
     path: &str,
     start: S,
-) -> Result<Connection<FileStore<FileFrom<S>>>, Fault>
+) -> Result<Connection<FileStore<FileFrom<S>>>, Unopened>
     ensures opened { IfOk result (λ connection. HasCleanDisk (file_state connection) → IsOpened connection) }
     ensures found { IfOk result (λ connection. HasCleanDisk (file_state connection) → FindsIn (image_at S.Start) (file_state connection)) }
     ensures fresh { IfOk result IsNew }
     ensures idle { IfOk result (λ connection. connection.in_transaction ≡ false) }
-    ensures faults { IfErr result (λ fault. (fault ≡ Fault.Memory) ⊎ (fault ≡ Fault.Store)) }
+    ensures faults { IfErr result (λ why. (why.fault ≡ Fault.Memory) ⊎ (why.fault ≡ Fault.Store)) }
 {
     // A path that SQLite reads as another thing than a file's name is refused.
     if path == ":memory:" || path.starts_with("file:") {
-        return Err(Fault::Store);
+        return Err(with_cause(Fault::Store, None));
     }
     let options = options_for(rt, path)?;
     let files = match sqlite_std_file::open(rt, path, start) {
         Ok(files) => files,
-        Err(error) => return Err(fault_of(&error)),
+        Err(error) => return Err(not_found(&error)),
     };
     match Connection::open_files_with(rt.alloc(), files, options, false) {
         Ok(connection) => Ok(connection),
-        Err((Error::SqliteFailure(ErrorCode::OutOfMemory), _)) => Err(Fault::Memory),
-        Err(_) => Err(Fault::Store),
+        Err((error, _)) => Err(no_database(&error)),
     }
 }
 
-/// Why a file is not opened.
-fn fault_of(error: &OpenError) -> Fault
-    ensures { (result ≡ Fault.Memory) ⊎ (result ≡ Fault.Store) }
+/// A fault with its cause.
+fn with_cause(fault: Fault, cause: Option<Cause>) -> Unopened
+    ensures fault { result.fault ≡ fault }
+    ensures cause { result.cause ≡ cause }
 {
-    match error {
+    Unopened { fault, cause }
+}
+
+/// Why files are not opened.
+fn not_found(error: &OpenError) -> Unopened
+    ensures { (result.fault ≡ Fault.Memory) ⊎ (result.fault ≡ Fault.Store) }
+{
+    let fault = match error {
         OpenError::OutOfMemory => Fault::Memory,
         OpenError::Io(error) if error.kind() == ErrorKind::OutOfMemory => Fault::Memory,
         _ => Fault::Store,
+    };
+    with_cause(fault, of_opening(error))
+}
+
+/// Why files hold no database.
+fn no_database(error: &Error) -> Unopened
+    ensures { (result.fault ≡ Fault.Memory) ⊎ (result.fault ≡ Fault.Store) }
+{
+    let fault = match error {
+        Error::SqliteFailure(ErrorCode::OutOfMemory) => Fault::Memory,
+        _ => Fault::Store,
+    };
+    with_cause(fault, of_database(error))
+}
+
+/// Why nothing is found at a path; `None` where something is.
+pub fn absent(rt: &HostRuntime, path: &str) -> Option<Unopened>
+    ensures { IfSome result (λ why. why.fault ≡ Fault.Store) }
+{
+    match fs::exists(rt, path) {
+        Ok(true) => None,
+        Ok(false) => Some(with_cause(Fault::Store, Some(Cause::NoFile))),
+        Err(error) => Some(with_cause(Fault::Store, of_io(error.kind()))),
     }
 }
 
 /// How a file is opened: with room for its pages, and as much for changed ones before they go to the log; and with a random
 /// number for the marks in its log.
-fn options_for(rt: &HostRuntime, path: &str) -> Result<Options, Fault>
+fn options_for(rt: &HostRuntime, path: &str) -> Result<Options, Unopened>
     ensures room { IfOk result (λ options. (2000 ≤ options.cache_pages) × (options.cache_pages ≤ 131072)
         × (options.spill_pages ≡ options.cache_pages)) }
-    ensures faults { IfErr result (λ fault. fault ≡ Fault.Store) }
+    ensures faults { IfErr result (λ why. why.fault ≡ Fault.Store) }
 {
     let Ok(state) = RandomState::new(rt) else {
-        return Err(Fault::Store);
+        return Err(with_cause(Fault::Store, None));
     };
     let pages = pages_for(rt, path);
     Ok(Options {

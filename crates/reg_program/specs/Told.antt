@@ -1,8 +1,11 @@
 -- What the program tells of a job's end.
 use Rattle.std.specs.Prelude.{◌≡◌, ◌⊎◌, ℕ, List, [], ◌∷◌, ◌++◌, Result, Ok, Err}
+use Rattle.std.specs.Prelude.{Bool, IsTrue}
 use Rattle.std.specs.declared.option.Option.{Option}
 use Rattle.std.specs.Io.KnownBytes.{Appends}
-use Rattle.reg_jobs.specs.Endings.{failure_line}
+use Rattle.reg_causes.specs.Causes.{cause_line}
+use Rattle.reg_causes.specs.declared.cause.Cause.{Cause}
+use Rattle.reg_jobs.specs.Endings.{failure_line, status}
 use Rattle.reg_jobs.specs.declared.failure.Failure.{Failure}
 use Rattle.reg_wire.specs.Put.{AppendsFront}
 
@@ -18,3 +21,12 @@ IsTold old new line = IsWritten old new (line ++ 10 ∷ [])
 abbrev pub Tells : Result (Unit {0}) Failure → Option (List ℕ) → Option (List ℕ) → Type 0
 Tells (Ok done) old new = new ≡ old
 Tells (Err why) old new = IsTold old new (failure_line why)
+
+-- nothing more is told; or, where that is asked for and the exit status is 1, a cause
+abbrev pub Adds : Bool → ℕ → Option (List ℕ) → Option (List ℕ) → Type 0
+Adds is_asked status old new = (new ≡ old) ⊎ (IsTrue is_asked × (status ≡ 1) × ((cause : Cause) × IsTold old new (cause_line cause)))
+
+-- what standard error gets of an ending where causes are asked for or not: what it gets without that, and then perhaps a cause
+abbrev pub Explains : Bool → Result (Unit {0}) Failure → Option (List ℕ) → Option (List ℕ) → Type 0
+Explains is_asked ending old new =
+    (between : Option (List ℕ)) × Tells ending old between × Adds is_asked (status ending) between new

@@ -1,8 +1,8 @@
 //! Registers in files: made, opened and closed.
 
-ghost use Rattle.std.specs.Prelude.{◌≡◌, ◌≤◌, false, Some, None, IfOk, IfErr, IsFalse, MatchResult};
-ghost use Rattle.sqlite.specs.Files.{over_files};
-ghost use Rattle.sqlite.specs.Held.{state};
+ghost use Rattle.std.specs.Prelude.{◌≡◌, ◌≤◌, ◌⊎◌, false, Some, None, IfOk, IfErr, IsFalse, MatchResult};
+ghost use Rattle.sqlite.specs.Files.{file_state, over_files, IsOpened};
+ghost use Rattle.sqlite.specs.Held.{state, IsNew};
 ghost use Rattle.sqlite.specs.State.{HasCleanDisk};
 ghost use Rattle.sqlite_trees.specs.View.{doubt};
 ghost use Rattle.reg_core.specs.Records.{Records, no_records};
@@ -16,13 +16,14 @@ ghost use Rattle.reg_office.specs.Stands.{Stands};
 ghost use Rattle.reg_tables.specs.Kept.{ShowsKept};
 ghost use Rattle.reg_tables.specs.Schema.{no_schema};
 
+use crate::machine::Machine;
 use crate::place::{Place, Register};
 use crate::signing::{FileSigner, signer_found, signer_over};
 use reg_core::{Fault, Policy, Schedule};
 use reg_crl::Signer;
 use reg_der::Issuer;
 use reg_faces::Keeper;
-use reg_files::{claim_file, open_file, remove_file};
+use reg_files::{absent, claim_file, open_file, remove_file};
 use reg_jobs::Failure;
 use reg_office::Office;
 use reg_signer::KeyOrDigest;
@@ -31,7 +32,6 @@ use reg_words::KeyHolder;
 use sqlite::{Alter, Connection, FileFrom, FileStore};
 use sqlite_disk::{Disk, Unknown};
 use std::alloc::Global;
-use std::fs;
 
 /// An office over a register's file, with its checks for damage, and what holds the key or a digest as its signer.
 pub type FileOffice = Office<FileStore<FileFrom<Unknown>>, FileSigner>;
@@ -43,7 +43,7 @@ impl<C: Alter, S: Signer> Register for Office<C, S> {
 }
 
 /// The machine's files, as a place where registers lie. No state of theirs stands in the handle, so its relations read none.
-impl Place for HostRuntime {
+impl<'a> Place for Machine<'a> {
     ghost use Rattle.reg_program.specs.Files.{IsOpenedFrom, IsMadeFrom};
 
     type Opened = FileOffice;
@@ -68,14 +68,12 @@ impl Place for HostRuntime {
     fn claim(&mut self, path: &str) -> bool
         ensures same { IsFalse result → self.new ≡ self.old }
     {
-        claim_file(self, path)
+        claim_file(&self.rt, path)
     }
 
     fn open(&mut self, path: &str) -> Result<FileOffice, Failure> {
         // To open a path where no file is would make one.
-        if !fs::exists(self, path).unwrap_or(false) {
-            return Err(Failure::Fault(Fault::Store));
-        }
+        present(self, path)?;
         open_register(self, path)
     }
 
@@ -84,17 +82,13 @@ impl Place for HostRuntime {
         path: &str,
         signer: &Option<KeyHolder<'_>>,
     ) -> Result<FileOffice, Failure> {
-        if !fs::exists(self, path).unwrap_or(false) {
-            return Err(Failure::Fault(Fault::Store));
-        }
+        present(self, path)?;
         open_register_to_sign(self, path, signer)
     }
 
     fn make(&mut self, path: &str, issuer: Issuer, policy: Policy) -> Result<FileOffice, Failure> {
         // What could not be claimed and is not there can't be made: a link that leads nowhere, a log without its register.
-        if !fs::exists(self, path).unwrap_or(false) {
-            return Err(Failure::Fault(Fault::Store));
-        }
+        present(self, path)?;
         make_register(self, path, issuer, policy)
     }
 
@@ -107,13 +101,42 @@ impl Place for HostRuntime {
     fn remove(&mut self, path: &str)
         ensures { Unit {0} }
     {
-        remove_file(self, path);
+        remove_file(&self.rt, path);
+    }
+}
+
+/// Whether something lies at a path.
+///
+/// # Errors
+/// `Store` where nothing does, or that can't be found out. The cause is noted.
+fn present(machine: &Machine<'_>, path: &str) -> Result<(), Fault>
+    ensures { IfErr result (λ fault. fault ≡ Fault.Store) }
+{
+    match absent(&machine.rt, path) {
+        Some(why) => Err(machine.noted(&why)),
+        None => Ok(()),
+    }
+}
+
+/// The file at a path as a database. Where it is not opened, the cause is noted.
+fn open_noted(
+    machine: &Machine<'_>,
+    path: &str,
+) -> Result<Connection<FileStore<FileFrom<Unknown>>>, Fault>
+    ensures opened { IfOk result (λ connection. HasCleanDisk (file_state connection) → IsOpened connection) }
+    ensures fresh { IfOk result IsNew }
+    ensures idle { IfOk result (λ connection. connection.in_transaction ≡ false) }
+    ensures faults { IfErr result (λ fault. (fault ≡ Fault.Memory) ⊎ (fault ≡ Fault.Store)) }
+{
+    match open_file(&machine.rt, path, Unknown) {
+        Ok(connection) => Ok(connection),
+        Err(why) => Err(machine.noted(&why)),
     }
 }
 
 /// Makes a register in a file.
 fn make_register(
-    rt: &HostRuntime,
+    machine: &Machine<'_>,
     path: &str,
     issuer: Issuer,
     policy: Policy,
@@ -123,30 +146,30 @@ fn make_register(
         (⟦<FileSigner as Signer>⟧.identity register.signer) (no_records issuer policy)) }
     ensures err { IfErr result IsMaking }
 {
-    let connection = open_file(rt, path, Unknown)?;
+    let connection = open_noted(machine, path)?;
     settled(made_over(connection, issuer, policy, KeyOrDigest::digest()))
 }
 
 /// Opens the register of a file, where nothing will be signed.
-fn open_register(rt: &HostRuntime, path: &str) -> Result<FileOffice, Failure>
+fn open_register(machine: &Machine<'_>, path: &str) -> Result<FileOffice, Failure>
     ensures ok { IfOk result (λ register. IsOpenedFrom None register.store (⟦<FileSigner as Signer>⟧.identity register.signer)) }
     ensures err { IfErr result IsOpening }
 {
-    let connection = open_file(rt, path, Unknown)?;
-    settled(found_over(rt, connection))
+    let connection = open_noted(machine, path)?;
+    settled(found_over(&machine.rt, connection))
 }
 
 /// Opens the register of a file, with who signs.
 fn open_register_to_sign(
-    rt: &HostRuntime,
+    machine: &Machine<'_>,
     path: &str,
     signer: &Option<KeyHolder<'_>>,
 ) -> Result<FileOffice, Failure>
     ensures ok { IfOk result (λ register. IsOpenedFrom (Some signer.now) register.store (⟦<FileSigner as Signer>⟧.identity register.signer)) }
     ensures err { IfErr result IsOpening }
 {
-    let connection = open_file(rt, path, Unknown)?;
-    settled(signed_over(rt, connection, signer))
+    let connection = open_noted(machine, path)?;
+    settled(signed_over(&machine.rt, connection, signer))
 }
 
 /// The office over a register that is made in a database; where it can't be made, why, and the connection back.

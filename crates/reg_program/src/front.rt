@@ -3,7 +3,9 @@
 ghost use Rattle.std.specs.Prelude.{◌≡◌, IfErr};
 
 use crate::counter::lay_socket;
+use crate::machine::Machine;
 use mio::net::{TcpListener, UnixListener};
+use reg_causes::{Cause, of_io, of_port};
 use reg_core::{Fault, Moment};
 use std::io;
 use std::io::ErrorKind;
@@ -67,7 +69,7 @@ pub trait Front {
 }
 
 /// The machine. What its clock says and what listens at its ports, no clause can say.
-impl Front for HostRuntime {
+impl<'a> Front for Machine<'a> {
     ghost told = { λ now. Unit {0} };
 
     ghost bound = { λ address port. Unit {0} };
@@ -77,19 +79,43 @@ impl Front for HostRuntime {
     ghost met = { λ path. Unit {0} };
 
     fn moment(&self) -> Result<Moment, Fault> {
-        moment_of(self)
+        match moment_of(&self.rt) {
+            Ok(now) => Ok(now),
+            Err(fault) => {
+                self.note(Some(Cause::Clock));
+                Err(fault)
+            }
+        }
     }
 
     fn listen(&self, address: [u8; 4], port: u16) -> io::Result<TcpListener> {
-        TcpListener::bind(self, SocketAddr::from((address, port)))
+        match TcpListener::bind(&self.rt, SocketAddr::from((address, port))) {
+            Ok(listener) => Ok(listener),
+            Err(error) => {
+                self.note(of_port(error.kind()));
+                Err(error)
+            }
+        }
     }
 
     fn lay(&self, path: &str) -> io::Result<UnixListener> {
-        lay_socket(self, path)
+        match lay_socket(&self.rt, path) {
+            Ok(listener) => Ok(listener),
+            Err(error) => {
+                self.note(of_io(error.kind()));
+                Err(error)
+            }
+        }
     }
 
     fn meet(&self, path: &str) -> io::Result<UnixStream> {
-        UnixStream::connect(self, path)
+        match UnixStream::connect(&self.rt, path) {
+            Ok(stream) => Ok(stream),
+            Err(error) => {
+                self.note(of_io(error.kind()));
+                Err(error)
+            }
+        }
     }
 }
 

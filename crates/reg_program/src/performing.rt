@@ -4,26 +4,31 @@ ghost use Rattle.std.specs.Prelude.{◌≡◌, Result};
 ghost use Rattle.reg_jobs.specs.Endings.{status};
 ghost use Rattle.reg_jobs.specs.declared.failure.Failure.{Failure as Failing};
 ghost use Rattle.reg_program.specs.Ends.{Ends};
-ghost use Rattle.reg_program.specs.Told.{Tells};
+ghost use Rattle.reg_program.specs.Told.{Explains, Tells};
 
 use crate::asking::at;
 use crate::files::FileOffice;
 use crate::front::Front;
 use crate::jobs::{NewOffice, crl, import_rows, init, schedule, script, script_in_memory};
 use crate::lining::script_by_lines;
+use crate::machine::Machine;
 use crate::opening::hold_open;
 use crate::place::Place;
 use crate::serving::serve;
-use crate::telling::tell;
+use crate::telling::{explain, tell};
+use reg_causes::Cause;
 use reg_faces::Keeper;
 use reg_jobs::{Failure, status_of};
 use reg_words::Job;
+use std::cell::Cell;
 use std::io::{Read, Write};
 
-/// Does a job over standard input and output and the machine's files, as [`perform_at`] says. The handle for the files is the
-/// place before the job and after it: no state of theirs stands in it.
-pub fn perform<R: Read, W: Write, E: Write>(
-    rt: &HostRuntime,
+/// Does a job over standard input and output and the machine, as [`perform_at`] says. Where that is asked for, the line of a fault
+/// is followed by one that tells its cause, where that was noted: by a call of the machine, or by the reader or the writer.
+pub fn perform<'a, R: Read, W: Write, E: Write>(
+    noted: &Cell<Option<Cause>>,
+    is_explained: bool,
+    machine: &mut Machine<'a>,
     job: &Job<'_>,
     reader: &mut R,
     writer: &mut W,
@@ -31,11 +36,13 @@ pub fn perform<R: Read, W: Write, E: Write>(
 ) -> u8
     ensures { (ending : Result (Unit {0}) Failing)
         × Ends R.remaining W.contents reader.old reader.new writer.old writer.new
-        ⟦<HostRuntime as Place>⟧ ⟦<FileOffice as Keeper>⟧ rt.now rt.now ⟦<HostRuntime as Front>⟧ job.now ending
-        × (result ≡ status ending) × Tells ending (E.contents errors.old) (E.contents errors.new) }
+        ⟦<Machine<'a> as Place>⟧ ⟦<FileOffice as Keeper>⟧ machine.old machine.new ⟦<Machine<'a> as Front>⟧ job.now ending
+        × (result ≡ status ending) × Explains is_explained ending (E.contents errors.old) (E.contents errors.new) }
 {
-    let mut files = *rt;
-    perform_at(rt, rt, &mut files, job, reader, writer, errors)
+    let front = *machine;
+    let status = perform_at(&front.rt, &front, machine, job, reader, writer, errors);
+    explain(errors, is_explained, status, noted.get());
+    status
 }
 
 /// Does a job over standard input and output, the registers of a place, and a front with a clock and ports, and gives its exit

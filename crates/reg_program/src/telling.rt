@@ -1,10 +1,12 @@
 //! What a job says.
 
 ghost use Rattle.std.specs.Prelude.{◌++◌, ◌∷◌, []};
+ghost use Rattle.reg_causes.specs.Causes.{cause_line};
 ghost use Rattle.reg_jobs.specs.Endings.{failure_line};
 ghost use Rattle.reg_program.specs.Ends.{Says};
-ghost use Rattle.reg_program.specs.Told.{IsTold, IsWritten};
+ghost use Rattle.reg_program.specs.Told.{Adds, IsTold, IsWritten};
 
+use reg_causes::Cause;
 use reg_core::Fault;
 use reg_jobs::Failure;
 use reg_wire::write_whole;
@@ -28,6 +30,30 @@ pub(crate) fn tell<W: Write>(errors: &mut W, failure: &Failure)
     ensures { IsTold (W.contents errors.old) (W.contents errors.new) (failure_line failure.now) }
 {
     let line = failure.line();
+    match write_whole(errors, line.as_bytes()) {
+        Ok(()) => end_line(errors),
+        Err(_) => {}
+    }
+}
+
+/// Tells on standard error the cause of a fault, in one line, where that is asked for, known, and the exit status is that of a fault.
+pub(crate) fn explain<W: Write>(errors: &mut W, is_asked: bool, status: u8, cause: Option<Cause>)
+    ensures { Adds is_asked status (W.contents errors.old) (W.contents errors.new) }
+{
+    if !is_asked || status != 1 {
+        return;
+    }
+    match cause {
+        Some(cause) => tell_cause(errors, cause),
+        None => {}
+    }
+}
+
+/// Tells a cause in one line.
+fn tell_cause<W: Write>(errors: &mut W, cause: Cause)
+    ensures { IsTold (W.contents errors.old) (W.contents errors.new) (cause_line cause) }
+{
+    let line = cause.line();
     match write_whole(errors, line.as_bytes()) {
         Ok(()) => end_line(errors),
         Err(_) => {}

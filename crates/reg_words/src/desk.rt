@@ -80,7 +80,7 @@ fn bare<'a>(alloc: Global) -> Command<'a>
     Command::new(alloc, "desk")
         .about("The register and status desk of one certification authority.")
         .after_help(
-            "A first day, over a register in memory:\n  desk script < examples/first-day.txt\n\n`desk COMMAND --help` tells of one command.",
+            "A first day, over a register in memory:\n  desk script < examples/first-day.txt\n\nWith --why, before a command or behind it, a fault's line is followed by its cause, where that is known.\n\n`desk COMMAND --help` tells of one command.",
         )
         .subcommand_required(true)
         .disable_help_subcommand(true)

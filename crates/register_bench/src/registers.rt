@@ -3,10 +3,10 @@
 ghost use Rattle.std.specs.Prelude.{◌≡◌, false, IfOk};
 
 use crate::tasks::Task;
-use reg_core::{Fault, Policy};
+use reg_core::Policy;
 use reg_crl::DigestSeal;
 use reg_der::Issuer;
-use reg_files::open_file;
+use reg_files::{Unopened, open_file};
 use reg_office::Office;
 use reg_store::{Store, StoreFault};
 use sqlite::{Alter, Connection, MemStore};
@@ -40,7 +40,7 @@ fn measure_from<S: Start + Drop>(
 /// took to open is printed.
 fn measure_database<S: Alter + Drop>(
     rt: HostRuntime,
-    database: Result<Connection<S>, Fault>,
+    database: Result<Connection<S>, Unopened>,
     start: Instant,
     path: &str,
     task: Task,

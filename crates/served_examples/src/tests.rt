@@ -2,7 +2,7 @@
 
 use crate::front::Prepared;
 use mio::net::{TcpListener, UnixListener};
-use reg_program::{perform, perform_at};
+use reg_program::{Machine, perform, perform_at};
 use reg_words::{Job, Way, Word};
 use std::alloc::Global;
 use std::cell::Cell;
@@ -75,7 +75,18 @@ fn output_of(rt: &HostRuntime, job: &Job<'_>, input: &[u8]) -> Result<Vec<u8>, F
     let mut reader = input;
     let mut output = Vec::new(rt.alloc());
     let mut errors = Vec::new(rt.alloc());
-    if perform(rt, job, &mut reader, &mut output, &mut errors) != 0 {
+    let noted = Cell::new(None);
+    let mut machine = Machine::of(*rt, &noted);
+    let status = perform(
+        &noted,
+        false,
+        &mut machine,
+        job,
+        &mut reader,
+        &mut output,
+        &mut errors,
+    );
+    if status != 0 {
         return Err(Fail::new("a job is not done"));
     }
     Ok(output)
@@ -151,7 +162,8 @@ struct Ending {
 
 /// Does a job over a front, with this to read.
 fn done(rt: &HostRuntime, front: &Prepared, job: &Job<'_>, input: &[u8]) -> Ending {
-    let mut files = *rt;
+    let noted = Cell::new(None);
+    let mut files = Machine::of(*rt, &noted);
     let mut reader = input;
     let mut output = Vec::new(rt.alloc());
     let mut errors = Vec::new(rt.alloc());

@@ -1,0 +1,112 @@
+//! The causes, and the errors that tell them.
+
+ghost use Rattle.std.specs.Prelude.{◌≡◌, ◌≤◌, Some, None, length, if◌then◌else◌};
+ghost use Rattle.reg_causes.specs.Causes.{cause_line};
+
+use reg_core::Label;
+use sqlite::{Error, ErrorCode};
+use sqlite_std_file::OpenError;
+use std::io::ErrorKind;
+
+/// Why a call of the machine failed.
+#[derive(Clone, Copy, Debug, PartialEq, Eq)]
+pub enum Cause {
+    /// Nothing lies at the path.
+    NoFile,
+    /// The program may not do so.
+    NoRight,
+    /// Another program has it open.
+    InUse,
+    /// What lies there is not what was written, or no database.
+    Damaged,
+    /// There is no room left.
+    DiskFull,
+    /// Another program listens at the port.
+    PortInUse,
+    /// The machine's clock can't be read.
+    Clock,
+}
+
+impl Cause {
+    /// The line of standard error that tells it, without LF: two spaces and its words.
+    #[tactic(auto, unfolding(crate::specs::Causes::cause_line))]
+    pub fn line(&self) -> Label
+        ensures { result ≡ cause_line self.now }
+    {
+        match *self {
+            Cause::NoFile => words(b"  no such file"),
+            Cause::NoRight => words(b"  no right"),
+            Cause::InUse => words(b"  in use by another program"),
+            Cause::Damaged => words(b"  damaged"),
+            Cause::DiskFull => words(b"  disk full"),
+            Cause::PortInUse => words(b"  port in use"),
+            Cause::Clock => words(b"  clock"),
+        }
+    }
+}
+
+/// A line of words alone.
+fn words(text: &[u8]) -> Label
+    requires not_empty { 1 ≤ length text.now }
+    requires short { length text.now ≤ 64 }
+    ensures { result ≡ text.now }
+{
+    Label::joined(text, b"")
+}
+
+/// The cause that an error of a call of the system tells.
+pub fn of_io(kind: ErrorKind) -> Option<Cause>
+    ensures no_file { kind ≡ ErrorKind.NotFound → result ≡ Some Cause.NoFile }
+    ensures no_right { kind ≡ ErrorKind.PermissionDenied → result ≡ Some Cause.NoRight }
+    ensures in_use { kind ≡ ErrorKind.AddrInUse → result ≡ Some Cause.InUse }
+    ensures disk_full { kind ≡ ErrorKind.StorageFull → result ≡ Some Cause.DiskFull }
+    ensures no_quota { kind ≡ ErrorKind.QuotaExceeded → result ≡ Some Cause.DiskFull }
+{
+    match kind {
+        ErrorKind::NotFound => Some(Cause::NoFile),
+        ErrorKind::PermissionDenied | ErrorKind::ReadOnlyFilesystem => Some(Cause::NoRight),
+        ErrorKind::AddrInUse => Some(Cause::InUse),
+        ErrorKind::StorageFull | ErrorKind::QuotaExceeded => Some(Cause::DiskFull),
+        _ => None,
+    }
+}
+
+/// The cause that an error tells where a port is bound.
+pub fn of_port(kind: ErrorKind) -> Option<Cause>
+    ensures in_use { kind ≡ ErrorKind.AddrInUse → result ≡ Some Cause.PortInUse }
+    ensures no_right { kind ≡ ErrorKind.PermissionDenied → result ≡ Some Cause.NoRight }
+{
+    match kind {
+        ErrorKind::AddrInUse => Some(Cause::PortInUse),
+        other => of_io(other),
+    }
+}
+
+/// The cause that an error tells where a database's files are opened.
+pub fn of_opening(error: &OpenError) -> Option<Cause>
+    ensures busy { error.now ≡ OpenError.Busy → result ≡ Some Cause.InUse }
+    ensures memory { error.now ≡ OpenError.OutOfMemory → result ≡ None }
+{
+    match error {
+        OpenError::Io(error) => of_io(error.kind()),
+        OpenError::Busy => Some(Cause::InUse),
+        OpenError::OutOfMemory | OpenError::HotJournal => None,
+    }
+}
+
+/// The cause that a failure of a database tells.
+pub fn of_database(error: &Error) -> Option<Cause>
+    ensures no_database { error.now ≡ Error.SqliteFailure ErrorCode.NotADatabase → result ≡ Some Cause.Damaged }
+    ensures corrupt { error.now ≡ Error.SqliteFailure ErrorCode.DatabaseCorrupt → result ≡ Some Cause.Damaged }
+    ensures busy { error.now ≡ Error.SqliteFailure ErrorCode.DatabaseBusy → result ≡ Some Cause.InUse }
+    ensures full { error.now ≡ Error.SqliteFailure ErrorCode.DiskFull → result ≡ Some Cause.DiskFull }
+    ensures memory { error.now ≡ Error.SqliteFailure ErrorCode.OutOfMemory → result ≡ None }
+{
+    match error {
+        Error::SqliteFailure(ErrorCode::NotADatabase) => Some(Cause::Damaged),
+        Error::SqliteFailure(ErrorCode::DatabaseCorrupt) => Some(Cause::Damaged),
+        Error::SqliteFailure(ErrorCode::DatabaseBusy) => Some(Cause::InUse),
+        Error::SqliteFailure(ErrorCode::DiskFull) => Some(Cause::DiskFull),
+        _ => None,
+    }
+}

@@ -1,0 +1,9 @@
+//! Why a call of the machine failed, where that is known.
+#![tactic(auto)]
+
+mod cause;
+
+pub use cause::{Cause, of_database, of_io, of_opening, of_port};
+
+#[cfg(test)]
+mod tests;

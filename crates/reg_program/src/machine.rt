@@ -1,0 +1,35 @@
+//! The machine as jobs meet it, which notes why a call of it failed.
+
+ghost use Rattle.std.specs.Prelude.{◌≡◌};
+
+use reg_causes::Cause;
+use reg_core::Fault;
+use reg_files::Unopened;
+use std::cell::Cell;
+
+/// The machine: its files, its clock, its ports and its sockets. The cause of the call that failed last is noted.
+#[derive(Clone, Copy)]
+pub struct Machine<'a> {
+    pub(crate) rt: HostRuntime,
+    noted: &'a Cell<Option<Cause>>,
+}
+
+impl<'a> Machine<'a> {
+    /// The machine of this handle, which notes causes here.
+    pub fn of(rt: HostRuntime, noted: &'a Cell<Option<Cause>>) -> Machine<'a> {
+        Machine { rt, noted }
+    }
+
+    /// Notes a cause.
+    pub(crate) fn note(&self, cause: Option<Cause>) {
+        self.noted.set(cause);
+    }
+
+    /// Notes why a file is not opened, and gives the fault.
+    pub(crate) fn noted(&self, why: &Unopened) -> Fault
+        ensures { result ≡ why.now.fault }
+    {
+        self.noted.set(why.cause);
+        why.fault
+    }
+}
