@@ -76,7 +76,7 @@ for command in crl script 'import --now 2026-01-01T00:00:00Z'; do
 done
 bad "--clock and --strict want a FILE" script --strict
 bad "--clock and --strict want a FILE" script --clock
-same "no file is made" "$(find . -name '*.db*' | wc -l)" 0
+same "no file is made" "$(find . -name 'ca*.db*' -o -name 'none*' | wc -l)" 0
 
 # The words of `desk script` over these lines; it ends with this status, having told and printed this.
 script() {
