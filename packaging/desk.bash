@@ -1,14 +1,16 @@
 # Completion of the command `desk` in bash. Which commands and options there are is asked of the installed program, by its --help.
 
 _desk() {
-    local cur=${COMP_WORDS[COMP_CWORD]} previous=${COMP_WORDS[COMP_CWORD - 1]} program help value
+    local cur=${COMP_WORDS[COMP_CWORD]} previous=${COMP_WORDS[COMP_CWORD - 1]} at=1 program help value
     program=$(type -P desk) || return
-    if [ "$COMP_CWORD" -eq 1 ]; then
+    # The command stands behind --why, where that comes first.
+    [ "${COMP_WORDS[1]}" != --why ] || at=2
+    if [ "$COMP_CWORD" -le "$at" ]; then
         help=$("$program" --help)
         mapfile -t COMPREPLY < <(compgen -W "$(sed -n '/^Commands:/,/^$/s/^  \([a-z][a-z-]*\).*/\1/p' <<<"$help") --help --version --why" -- "$cur")
         return
     fi
-    help=$("$program" "${COMP_WORDS[1]}" --help 2>/dev/null) || return
+    help=$("$program" "${COMP_WORDS[at]}" --help 2>/dev/null) || return
     # What the option before wants: a moment is the machine's, a file or a socket is looked for, a number is the caller's.
     value=$(sed -n "s/^ *\(-., \)\?$previous <\([A-Z=]*\)>.*/\2/p" <<<"$help")
     case $previous:$value in

@@ -113,6 +113,7 @@ completed() {
 }
 same "desk s.." "$(completed desk s | tr ' ' '\n' | sed '/^$/d' | sort | tr '\n' ' ')" "$(tr ' ' '\n' <<<"$each" | grep '^s' | sort | tr '\n' ' ')"
 has "desk init ca.db --.." "$(completed desk init ca.db --)" "--name --key --days --crl-life --ocsp-life --cap"
+has "desk --why script ca.db --.." "$(completed desk --why script ca.db --)" "--signer --algorithm"
 has "desk import ca.db --now .." "$(completed desk import ca.db --now '')" "$(date -u +%Y-%m-%dT%H)"
 has "desk script durs.." "$(completed desk script durs)" "durshavon.deb"
 for unit in "$units"/desk*@.*; do
