@@ -1,6 +1,6 @@
 //! Files that hold databases.
 
-ghost use Rattle.std.specs.Prelude.{◌≡◌, ◌⊎◌, ◌≤◌, ◌++◌, codes, false, string_bytes, IfOk, IfErr, IfSome};
+ghost use Rattle.std.specs.Prelude.{◌≡◌, ◌≢◌, ◌⊎◌, ◌≤◌, ◌++◌, codes, false, string_bytes, IfOk, IfErr, IfSome, IsOk, IsErr};
 ghost use Rattle.sqlite.specs.Files.{file_state, IsOpened};
 ghost use Rattle.sqlite.specs.Held.{IsNew};
 ghost use Rattle.sqlite.specs.Start.{FindsIn};
@@ -9,7 +9,7 @@ ghost use Rattle.sqlite_std_file.specs.File.{file_is_usable, IsFresh};
 ghost use Rattle.sqlite_wal.specs.Files.{image_at};
 
 use reg_causes::{Cause, of_database, of_io, of_opening};
-use reg_core::Fault;
+use reg_core::{Fault, Memory};
 use sqlite::{Connection, Error, ErrorCode, FileFrom, FileStore, Options};
 use sqlite_disk::{Start, Unknown};
 use sqlite_std_file::OpenError;
@@ -149,16 +149,52 @@ fn pages_for(rt: &HostRuntime, path: &str) -> usize
 /// Lays an empty file at a path where nothing lies, in one step, so that of two who do so at once one has it; answers
 /// whether it did. The file's owner alone may read and write it. A link that leads nowhere is something that lies there,
 /// and so is a log that lies beside no register: it may be all that is left of one.
-pub fn claim_file(rt: &HostRuntime, path: &str) -> bool {
+///
+/// # Errors
+/// [`Memory`], and no file was laid.
+pub fn claim_file(rt: &HostRuntime, path: &str) -> Result<bool, Memory> {
     let Ok(log) = log_of(rt, path) else {
-        return false;
+        return Err(Memory);
     };
-    if fs::exists(rt, log.as_str()).unwrap_or(true) {
-        return false;
+    if may_lie(rt, log.as_str())? {
+        return Ok(false);
     }
+    lay(rt, path)
+}
+
+/// Whether something lies at a path, or may.
+fn may_lie(rt: &HostRuntime, path: &str) -> Result<bool, Memory> {
+    match fs::exists(rt, path) {
+        Ok(lies) => Ok(lies),
+        Err(error) => {
+            but_memory(error.kind())?;
+            Ok(true)
+        }
+    }
+}
+
+/// Lays an empty file at a path where nothing lies; answers whether it did.
+fn lay(rt: &HostRuntime, path: &str) -> Result<bool, Memory> {
     let mut options = OpenOptions::new();
     options.write(true).create_new(true).mode(OWNER_ALONE);
-    options.open(rt, path).is_ok()
+    match options.open(rt, path) {
+        Ok(_) => Ok(true),
+        Err(error) => {
+            but_memory(error.kind())?;
+            Ok(false)
+        }
+    }
+}
+
+/// Passes over an error of the system, but for want of memory.
+fn but_memory(kind: ErrorKind) -> Result<(), Memory>
+    ensures memory { kind ≡ ErrorKind.OutOfMemory → IsErr result }
+    ensures others { kind ≢ ErrorKind.OutOfMemory → IsOk result }
+{
+    match kind {
+        ErrorKind::OutOfMemory => Err(Memory),
+        _ => Ok(()),
+    }
 }
 
 /// Removes a database's file and its log. It holds them meanwhile, as who opens them does, so that what another program

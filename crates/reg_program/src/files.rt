@@ -1,6 +1,6 @@
 //! Registers in files: made, opened and closed.
 
-ghost use Rattle.std.specs.Prelude.{◌≡◌, ◌≤◌, ◌⊎◌, false, Some, None, IfOk, IfErr, IsFalse, MatchResult};
+ghost use Rattle.std.specs.Prelude.{◌≡◌, ◌≤◌, ◌⊎◌, false, Some, None, IfOk, IfErr, IsFalse, MatchResult, OnErr};
 ghost use Rattle.sqlite.specs.Files.{file_state, over_files, IsOpened};
 ghost use Rattle.sqlite.specs.Held.{state, IsNew};
 ghost use Rattle.sqlite.specs.State.{HasCleanDisk};
@@ -19,7 +19,7 @@ ghost use Rattle.reg_tables.specs.Schema.{no_schema};
 use crate::machine::Machine;
 use crate::place::{Place, Register};
 use crate::signing::{FileSigner, signer_found, signer_over};
-use reg_core::{Fault, Policy, Schedule};
+use reg_core::{Fault, Memory, Policy, Schedule};
 use reg_crl::Signer;
 use reg_der::Issuer;
 use reg_faces::Keeper;
@@ -65,8 +65,9 @@ impl<'a> Place for Machine<'a> {
 
     ghost closed = { λ files path register after. Unit {0} };
 
-    fn claim(&mut self, path: &str) -> bool
-        ensures same { IsFalse result → self.new ≡ self.old }
+    fn claim(&mut self, path: &str) -> Result<bool, Memory>
+        ensures same { IfOk result (λ is_ours. IsFalse is_ours → self.new ≡ self.old) }
+        ensures memory { OnErr result (self.new ≡ self.old) }
     {
         claim_file(&self.rt, path)
     }

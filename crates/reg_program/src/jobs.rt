@@ -109,7 +109,10 @@ pub(crate) fn init<P: Place, W: Write>(
         new.ocsp_life,
         new.cap,
     )?;
-    let is_ours = place.claim(path);
+    let is_ours = match place.claim(path) {
+        Ok(is_ours) => is_ours,
+        Err(_) => return Err(Failure::Fault(Fault::Memory)),
+    };
     match make_at(place, path, issuer, policy, writer) {
         Ok(()) => Ok(()),
         Err(Failure::NotEmpty) => Err(Failure::NotEmpty),
