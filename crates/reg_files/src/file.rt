@@ -1,6 +1,6 @@
 //! Files that hold databases.
 
-ghost use Rattle.std.specs.Prelude.{◌≡◌, ◌≢◌, ◌⊎◌, ◌≤◌, ◌++◌, codes, false, string_bytes, IfOk, IfErr, IfSome, IsOk, IsErr};
+ghost use Rattle.std.specs.Prelude.{◌≡◌, ◌≢◌, ◌⊎◌, ◌≤◌, ◌++◌, codes, false, string_bytes, IfOk, IfErr, IfSome};
 ghost use Rattle.sqlite.specs.Files.{file_state, IsOpened};
 ghost use Rattle.sqlite.specs.Held.{IsNew};
 ghost use Rattle.sqlite.specs.Start.{FindsIn};
@@ -9,7 +9,7 @@ ghost use Rattle.sqlite_std_file.specs.File.{file_is_usable, IsFresh};
 ghost use Rattle.sqlite_wal.specs.Files.{image_at};
 
 use reg_causes::{Cause, of_database, of_io, of_opening};
-use reg_core::{Fault, Memory};
+use reg_core::Fault;
 use sqlite::{Connection, Error, ErrorCode, FileFrom, FileStore, Options};
 use sqlite_disk::{Start, Unknown};
 use sqlite_std_file::OpenError;
@@ -146,54 +146,50 @@ fn pages_for(rt: &HostRuntime, path: &str) -> usize
         .min(MOST_PAGES)
 }
 
-/// Lays an empty file at a path where nothing lies, in one step, so that of two who do so at once one has it; answers
-/// whether it did. The file's owner alone may read and write it. A link that leads nowhere is something that lies there,
-/// and so is a log that lies beside no register: it may be all that is left of one.
+/// Why no file was laid.
+#[derive(Clone, Copy, Debug, PartialEq, Eq)]
+pub enum Unlaid {
+    /// Memory was wanting.
+    Memory,
+    /// Something lies there, or may, or the system refused it; with the cause where the call that failed told one.
+    Taken(Option<Cause>),
+}
+
+/// Lays an empty file at a path where nothing lies, in one step, so that of two who do so at once one has it. The file's
+/// owner alone may read and write it. A link that leads nowhere is something that lies there, and so is a log that lies
+/// beside no register: it may be all that is left of one.
 ///
 /// # Errors
-/// [`Memory`], and no file was laid.
-pub fn claim_file(rt: &HostRuntime, path: &str) -> Result<bool, Memory> {
+/// No file was laid, and [`Unlaid`] says why.
+pub fn claim_file(rt: &HostRuntime, path: &str) -> Result<(), Unlaid> {
     let Ok(log) = log_of(rt, path) else {
-        return Err(Memory);
+        return Err(Unlaid::Memory);
     };
-    if may_lie(rt, log.as_str())? {
-        return Ok(false);
-    }
-    lay(rt, path)
-}
-
-/// Whether something lies at a path, or may.
-fn may_lie(rt: &HostRuntime, path: &str) -> Result<bool, Memory> {
-    match fs::exists(rt, path) {
-        Ok(lies) => Ok(lies),
-        Err(error) => {
-            but_memory(error.kind())?;
-            Ok(true)
-        }
+    match fs::exists(rt, log.as_str()) {
+        Ok(false) => lay(rt, path),
+        Ok(true) => Err(Unlaid::Taken(None)),
+        Err(error) => Err(unlaid_by(error.kind())),
     }
 }
 
-/// Lays an empty file at a path where nothing lies; answers whether it did.
-fn lay(rt: &HostRuntime, path: &str) -> Result<bool, Memory> {
+/// Lays an empty file at a path where nothing lies.
+fn lay(rt: &HostRuntime, path: &str) -> Result<(), Unlaid> {
     let mut options = OpenOptions::new();
     options.write(true).create_new(true).mode(OWNER_ALONE);
     match options.open(rt, path) {
-        Ok(_) => Ok(true),
-        Err(error) => {
-            but_memory(error.kind())?;
-            Ok(false)
-        }
+        Ok(_) => Ok(()),
+        Err(error) => Err(unlaid_by(error.kind())),
     }
 }
 
-/// Passes over an error of the system, but for want of memory.
-fn but_memory(kind: ErrorKind) -> Result<(), Memory>
-    ensures memory { kind ≡ ErrorKind.OutOfMemory → IsErr result }
-    ensures others { kind ≢ ErrorKind.OutOfMemory → IsOk result }
+/// Why no file was laid where a call of the system failed.
+fn unlaid_by(kind: ErrorKind) -> Unlaid
+    ensures memory { kind ≡ ErrorKind.OutOfMemory → result ≡ Unlaid.Memory }
+    ensures others { kind ≢ ErrorKind.OutOfMemory → result ≢ Unlaid.Memory }
 {
     match kind {
-        ErrorKind::OutOfMemory => Err(Memory),
-        _ => Ok(()),
+        ErrorKind::OutOfMemory => Unlaid::Memory,
+        other => Unlaid::Taken(of_io(other)),
     }
 }
 
