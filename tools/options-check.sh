@@ -66,7 +66,7 @@ run init inuse.db --name 300C310A300806035504030C0154 --key 0102
 port=$(python3 -c 'import socket; s = socket.socket(); s.bind(("127.0.0.1", 0)); print(s.getsockname()[1])')
 "$desk" serve inuse.db --port "$port" --requests 1 >served 2>&1 &
 peer=$!
-for _ in {1..100}; do grep -q listening served && break || sleep 0.1; done
+for _ in {1..100}; do grep -qs listening served && break || sleep 0.1; done
 run crl inuse.db --why
 same "a register that another has open" "$status:$(cat out told)" $'1:F2 store\n  in use by another program'
 run init other.db --name 300C310A300806035504030C0154 --key 0102
