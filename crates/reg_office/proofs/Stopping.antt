@@ -1,5 +1,5 @@
 -- What a stop may find after a run of commands.
-use Rattle.std.proofs.Common.{◌≡◌, ◌≤◌, inl, inr, ℕ, List, [], ◌∷◌, ◌++◌, Result, Ok, Err, IsTrue, refl, sym, ap, subst, ◌∙◌, append_assoc}
+use Rattle.std.proofs.Common.{◌≡◌, inl, inr, ℕ, List, [], ◌∷◌, ◌++◌, Result, Ok, Err, IsTrue, refl, sym, ap, subst, ◌∙◌, append_assoc}
 use Rattle.std.proofs.lemmas.List.{append-nil as append_nil}
 use Rattle.sqlite_trees.specs.Tree.{Trees}
 use Rattle.sqlite_trees.specs.declared.store.Store.{Ghosts}
@@ -11,7 +11,7 @@ use Rattle.reg_core.specs.declared.command.Reply.{Reply}
 use Rattle.reg_core.specs.declared.refusal.Fault.{Fault}
 use Rattle.reg_crl.specs.Signing.{Identity}
 use Rattle.reg_office.specs.AtRest.{HaveNoReply, IsNextDone, IsPartlyRun, IsRunOne, AreRunByOne}
-use Rattle.reg_office.specs.Stands.{Stands, CameTo, Ran}
+use Rattle.reg_office.specs.Stands.{Stands, Ran}
 use Rattle.reg_office.proofs.Composing.{was_clean}
 use Rattle.reg_office.proofs.Resting.{at_rest}
 use Rattle.reg_office.proofs.Standing.{ran_more, ran_none}

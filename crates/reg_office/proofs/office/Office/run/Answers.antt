@@ -2,7 +2,6 @@ use Rattle.std.specs.Prelude.{Result}
 use Rattle.std.proofs.Common.{◌≡◌, ◌+◌, ℕ, List, [], ◌∷◌, ◌++◌, take, refl, sym, ap, subst, ◌∙◌, append_assoc, arith}
 use Rattle.std.proofs.lemmas.List.{append-nil as append_nil, take_all, take_more}
 use Rattle.sqlite.specs.Held.{state}
-use Rattle.sqlite_trees.specs.Tree.{Trees}
 use Rattle.reg_core.specs.declared.command.Command.{Command}
 use Rattle.reg_core.specs.declared.command.Reply.{Reply}
 use Rattle.reg_core.specs.declared.refusal.Fault.{Fault}
@@ -67,17 +66,17 @@ loop-now-preserved g c =
           let settles : Settles s = λ held trees is_open leaves. g.met.C.Store.settled held.store trees is_open leaves in
           let one : IsRunOne s signs who old.store new.store timed.0 timed.1 outcome =
           subst
-              (λ (w : Identity). IsRunOne s signs w old.store new.store timed.0 timed.1 outcome)
-              c.loop-now.invariant.same_identity
-              (record {
-                step = λ stood standing now_clean.
-                    subst
-                    (λ (w : Identity). CameTo s signs new.store w stood timed.0 timed.1 outcome)
-                    c.run_one-outcome.ensures.same_identity
-                    (c.run_one-outcome.ensures.step stood standing now_clean);
-                live = c.run_one-outcome.ensures.live;
-                survives = c.run_one-outcome.ensures.survives;
-              }) in (
+          (λ (w : Identity). IsRunOne s signs w old.store new.store timed.0 timed.1 outcome)
+          c.loop-now.invariant.same_identity
+          (record {
+            step = λ stood standing now_clean.
+                subst
+                (λ (w : Identity). CameTo s signs new.store w stood timed.0 timed.1 outcome)
+                c.run_one-outcome.ensures.same_identity
+                (c.run_one-outcome.ensures.step stood standing now_clean);
+            live = c.run_one-outcome.ensures.live;
+            survives = c.run_one-outcome.ensures.survives;
+          }) in (
             earlier.0 ++ outcome ∷ [],
             c.in-Ok-push.ensures.items
                 ∙ (ap (λ (l : List (Result Reply Fault)). l ++ outcome ∷ []) earlier.1 ∙ append_assoc c.args.outcomes.now.items earlier.0 (outcome ∷ [])),
