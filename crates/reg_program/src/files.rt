@@ -1,6 +1,6 @@
 //! Registers in files: made, opened and closed.
 
-ghost use Rattle.std.specs.Prelude.{◌≡◌, ◌≤◌, ◌⊎◌, false, Some, None, IfOk, IfErr, IsFalse, MatchResult, OnErr};
+ghost use Rattle.std.specs.Prelude.{◌≡◌, ◌≤◌, ◌⊎◌, false, Some, None, IfOk, IfErr, IsTrue, IsFalse, MatchResult, OnErr};
 ghost use Rattle.sqlite.specs.Files.{file_state, over_files, IsOpened};
 ghost use Rattle.sqlite.specs.Held.{state, IsNew};
 ghost use Rattle.sqlite.specs.State.{HasCleanDisk};
@@ -66,6 +66,8 @@ impl<'a> Place for Machine<'a> {
     ghost closed = { λ files path register after. Unit {0} };
 
     fn claim(&mut self, path: &str) -> Result<bool, Memory>
+        ensures ours { IfOk result (λ is_ours. IsTrue is_ours → Unit {0}) }
+        ensures lies { IfOk result (λ is_ours. IsFalse is_ours → Unit {0}) }
         ensures same { IfOk result (λ is_ours. IsFalse is_ours → self.new ≡ self.old) }
         ensures memory { OnErr result (self.new ≡ self.old) }
     {
