@@ -80,10 +80,6 @@ module _ {W P K : Type 0} (contents : W → Option (List ℕ)) (writer writer' :
         ⊎ ((set : Result (Unit {0}) StoreFault) × Visits places keeper place place' path None (λ identity. Reschedules steps set)
         × TellsSet contents writer writer' set result)))
 
-    -- there was no memory to claim a path: that is how the job ends, and nothing was done
-    abbrev pub Unclaimed : Result (Unit {0}) Failure → Type 0
-    Unclaimed result = (result ≡ Err (failure.Fault fault.Memory)) × (writer' ≡ writer) × (place' ≡ place)
-
     -- a path at which nothing lay was claimed, and the place after that; or something lay there, and the place is as it was
     abbrev pub Claims : List ℕ → P → Type 0
     Claims path start = places.claimed place path start ⊎ (places.lies place path × (start ≡ place))
@@ -100,8 +96,8 @@ module _ {W P K : Type 0} (contents : W → Option (List ℕ)) (writer writer' :
     abbrev pub InitAt : List ℕ → List ℕ → List ℕ → Terms → Result (Unit {0}) Failure → Type 0
     InitAt path name key terms result =
         ((why : Failure) × (result ≡ Err why) × IsNoOffice name key terms why × (writer' ≡ writer) × (place' ≡ place))
-        ⊎ ((issuer : Issuer) × WritesIssuer name key issuer × IsPolicy terms × (Unclaimed result
-        ⊎ ((start between : P) × Claims path start × MakesAt start between path issuer terms result × Leaves path start between result)))
+        ⊎ ((issuer : Issuer) × WritesIssuer name key issuer × IsPolicy terms
+        × ((start between : P) × Claims path start × MakesAt start between path issuer terms result × Leaves path start between result))
 
     -- HTTP requests over the register at a path (RFC 9112), which is opened before the port is bound: what came of each peer and what
     -- answered it, in this order

@@ -119,6 +119,7 @@ pub(crate) fn init<P: Place, W: Write>(
         Err(why) => {
             if is_ours {
                 place.remove(path);
+                return Err(why);
             }
             Err(why)
         }
