@@ -42,6 +42,14 @@ for words in "--why crl none.db" "crl --why none.db" "crl none.db --why"; do
 done
 run crl none.db
 same "and without --why the line alone" "$status:$(cat out told)" "1:F2 store"
+# `init` tells why it could lay no file; beside a log alone that has no cause.
+run init none/none.db --name 300C310A300806035504030C0154 --key 0102 --why
+same "init where no folder is" "$status:$(cat out told)" $'1:F2 store\n  no such file'
+run init /sys/none.db --name 300C310A300806035504030C0154 --key 0102 --why
+same "init where it may not" "$status:$(cat out told)" $'1:F2 store\n  no right'
+touch left.db-wal
+run init left.db --name 300C310A300806035504030C0154 --key 0102 --why
+same "init beside a log alone" "$status:$(cat out told)" "1:F2 store"
 run crl -- --why
 same "behind -- it is a FILE" "$status:$(cat out told)" "1:F2 store"
 head -c 300 /dev/urandom >damaged.db

@@ -9,9 +9,9 @@ import, schedule, init, "version 1 opened", "version 2 opened"). It wants cc, an
 """
 import collections
 import concurrent.futures
+import functools
 import importlib.util
 import os
-import re
 import shutil
 import socket
 import sqlite3
@@ -23,8 +23,6 @@ TOP = os.path.abspath(".")
 DESK = f"{TOP}/crates/reg_desk/out/reg_desk"
 ISSUER = ["--name", "300D310B300906035504030C024341", "--key", "616263"]
 FAULT = "F1 memory\n"
-# How a job ends that met want of memory. The second is said where memory was wanted for the name of a register's log.
-TOLD = {FAULT: "told", "F2 store\n": "told as F2 store"}
 STEP = 16  # how many N a worker takes at a time
 ASKED = "30673065303e303c303a300906052b0e03021a05000414711d397671c9facf2242095925979a0698e46b110414a9993e364706816aba3e25717850c26c9cd0d89d020105a2233021301f06092b060105050730010204120410000102030405060708090a0b0c0d0e0f"
 
@@ -87,6 +85,17 @@ def tables(path):
         rows = {name: database.execute(f"SELECT * FROM {name} ORDER BY 1").fetchall() for name in names}
         database.close()
         return rows
+
+
+@functools.lru_cache(maxsize=None)
+def kept_tables(path):
+    """The same of a register that nothing changes."""
+    return tables(path)
+
+
+def contents(path):
+    """Returns the bytes of a register's file and of its log; empty where there is none."""
+    return [open(path + end, "rb").read() if os.path.exists(path + end) else b"" for end in ["", "-wal"]]
 
 
 def copy(base, path):
@@ -154,18 +163,25 @@ class Work:
 
 def job_round(work, kind, at):
     """A job with the Nth allocation refused. Returns whether one was, and how it ended."""
-    base, words, given, wanted = kind
+    base, words, given, wanted, opened = kind
     path = f"{work.folder}/job{at}.db"
     copy(base, path)
-    before = tables(path)
+    before = contents(path)
     status, out, err, refused = work.job(path, words, at, given)
     ended = "done"
     if (status, out) != (0, wanted):
-        if not refused or status == 0 or err not in TOLD:
+        # The end of the job tells it, or the reply to the one line or row that was given.
+        if not refused or (err != FAULT if status else (out, err) != (FAULT.encode(), "")):
             fail(f"{words} at allocation {at}: status {status}, {out[:80]!r}, {err!r}")
-        if (tables(path) or {}) != (before or {}):
-            fail(f"{words} at allocation {at}: the tables are others")
-        ended = TOLD[err]
+        if contents(path) == before:
+            # Not one byte is another: the same again is the run with memory, which came first.
+            copy(None, path)
+            return refused, "told", None
+        left, ended = tables(path) or {}, "told"
+        if left != (kept_tables(base) if base else {}):
+            if left != opened:
+                fail(f"{words} at allocation {at}: the tables are others")
+            ended = "told, once made newer"
         status, out, err, _ = work.job(path, words, 0, given)
         if (status, out) != (0, wanted):
             fail(f"{words} again after allocation {at}: status {status}, {out[:80]!r}, {err!r}")
@@ -197,9 +213,8 @@ def script_round(work, kind, at):
                 fail(f"{asked} at allocation {at}: {reply!r}")
         if reply == "":
             status, _, err = desk.end()
-            if status == 0 or err not in TOLD:
+            if status == 0 or err != FAULT:
                 fail(f"{asked} at allocation {at}: status {status}, {err!r}")
-            ended = TOLD[err]
             desk = Refusing(work.library, ["script", path], 0)
             desk.refused = True
     refused = desk.was_refused()
@@ -237,13 +252,6 @@ def tells(got):
     return got.startswith(b"HTTP/1.1 500 ") or got.endswith(b"0\x03\n\x01\x02")
 
 
-def is_cut(got, status):
-    """Whether an answer has its head and not its body, as the peer sees by its length (RFC 9112 6.3, 8)."""
-    head, end, body = got.partition(b"\r\n\r\n")
-    length = re.search(rb"Content-Length: (\d+)", head)
-    return head.startswith(b"HTTP/1.1 " + status) and end != b"" and length is not None and len(body) < int(length[1])
-
-
 def serve_round(work, kind, at):
     """A register that is served, with the Nth allocation refused."""
     base, routes, port = kind
@@ -252,7 +260,7 @@ def serve_round(work, kind, at):
     port += at % 4000
     desk = Refusing(work.library, ["serve", path, "--port", str(port), "--requests", "1000"], at)
     try:
-        return served(desk, routes, tables(base), path, port, at)
+        return served(desk, routes, kept_tables(base), path, port, at)
     finally:
         if desk.process.poll() is None:
             desk.kill()
@@ -265,20 +273,17 @@ def served(desk, routes, state, path, port, at):
     if desk.process.stdout.readline() != f"listening {port}\n".encode():
         refused = desk.was_refused()
         status, _, err = desk.end()
-        if not refused or err not in TOLD or status == 0 or tables(path) != state:
+        if not refused or err != FAULT or status == 0 or tables(path) != state:
             fail(f"serve at allocation {at}: status {status}, {err!r}")
-        return True, TOLD[err], None
+        return True, "told", None
     for request, status, held in routes:
         got = ask(port, request)
         if is_answer(got, status, held):
             continue
         if ended != "done" or not desk.was_refused() or desk.process.poll() is not None:
             fail(f"{request[:40]!r} at allocation {at}: {got!r}")
-        ended = "told" if tells(got) else "cut" if got == b"" or is_cut(got, status) else fail(f"{request[:40]!r} at allocation {at}: {got!r}")
+        ended = "told" if tells(got) else "unanswered" if got == b"" else fail(f"{request[:40]!r} at allocation {at}: {got!r}")
         if tables(path) != state:
-            # What was done stands, where its answer was cut; where want of memory is told, nothing was done.
-            if ended == "cut" and request.startswith(b"POST /requests"):
-                continue
             fail(f"{request[:40]!r} at allocation {at}: the tables are others")
         got = ask(port, request)
         if not is_answer(got, status, held):
@@ -291,21 +296,24 @@ def served(desk, routes, state, path, port, at):
 
 def each(name, jobs, work, round_of, kind):
     """Goes up through the allocations until a run meets no refusal, and prints how many were refused."""
-    counted, first, wanted = collections.Counter(), 1, round_of(work, kind, 0)[2]
+    counted, rare, first, wanted = collections.Counter(), [], 1, round_of(work, kind, 0)[2]
     with concurrent.futures.ThreadPoolExecutor(jobs) as pool:
         while True:
             whole = False
-            for refused, ended, after in pool.map(lambda at: round_of(work, kind, at), range(first, first + STEP * jobs)):
+            part = range(first, first + STEP * jobs)
+            for at, (refused, ended, after) in zip(part, pool.map(lambda at: round_of(work, kind, at), part)):
                 if after is not None and after != wanted:
                     fail(f"{name}: the tables are others in the end")
                 whole = whole or not refused
                 if refused:
                     counted[ended] += 1
+                    if ended in ("done", "unanswered"):
+                        rare.append(f"{ended} at {at}")
             first += STEP * jobs
             if whole:
                 break
     ends = ", ".join(f"{counted[end]} {end}" for end in sorted(counted))
-    print(f"{name:40} {sum(counted.values()):6} refused: {ends}", flush=True)
+    print(f"{name:40} {sum(counted.values()):6} refused: {ends}" + "".join(f"\n    {one}" for one in rare), flush=True)
 
 
 def older_registers():
@@ -343,22 +351,30 @@ def main():
         kinds = {
             "script": (script_round, (new, LINES, states)),
             "serve": (serve_round, (ordered(work, made, b"2026-01-10T00:00:01Z register 3 0A 2026-01-10T00:00:01Z 2027-01-01T00:00:00Z\n"), ROUTES, 24000)),
-            "crl": (job_round, (made, ["crl", "FILE"], b"", states[-1]["crl"][-1][2])),
-            "import": (job_round, (ordered(work, made, b""), ["import", "FILE", "--now", "2026-01-10T00:00:01Z"], ROW, b"registered\n")),
-            "schedule": (job_round, (new, ["schedule", "FILE", "1970-01-01T00:00:00Z=47"], b"", b"schedule set\n")),
-            "init": (job_round, (None, ["init", "FILE"] + ISSUER, b"", b"created\n")),
+            "crl": (job_round, (made, ["crl", "FILE"], b"", states[-1]["crl"][-1][2], None)),
+            "import": (job_round, (ordered(work, made, b""), ["import", "FILE", "--now", "2026-01-10T00:00:01Z"], ROW, b"registered\n", None)),
+            "schedule": (job_round, (new, ["schedule", "FILE", "1970-01-01T00:00:00Z=47"], b"", b"schedule set\n", None)),
+            "init": (job_round, (None, ["init", "FILE"] + ISSUER, b"", b"created\n", None)),
         }
         for version in (1, 2):
             path = f"{folder}/version{version}.db"
             older.make(path, older.Records(2, 3), version)
             line = f"{older.moment(older.Records(2, 3).last)} next-crl\n".encode()
-            kinds[f"version {version} opened"] = (job_round, (path, ["script", "FILE"], line, NEXT))
+            kinds[f"version {version} opened"] = (job_round, (path, ["script", "FILE"], line, NEXT, newer(work, path)))
         for name in sys.argv[2:] or kinds:
             each(name, jobs, work, *kinds[name])
 
 
 ROW = b"3,07,2026-01-01T00:00:00Z,2026-02-01T00:00:00Z\n"
 NEXT = b"next-crl 2026-01-11T00:00:00Z\n"
+
+
+def newer(work, base):
+    """Returns what the tables of an older register hold once it was opened: what is refused later finds it so."""
+    path = f"{work.folder}/newer.db"
+    copy(base, path)
+    work.job(path, ["script", "FILE"], 0)
+    return tables(path)
 
 
 def ordered(work, base, line):

@@ -2,7 +2,7 @@
 
 ghost use Rattle.std.specs.Prelude.{◌≡◌, ◌<◌, IfOk, length, map};
 
-use reg_core::{Moment, Serial, Status};
+use reg_core::{Memory, Moment, Serial, Status};
 use reg_der::{Issuer, put};
 use reg_ocsp::{
     AskFault, CertId, RefusalStatus, basic, laws, matches, read_request, refusal, response_data,
@@ -62,7 +62,7 @@ const NEXT_SECONDS: u64 = 1_767_657_600;
 const REQUEST: [&str; 4] = ["30673065303E303C", CERT_ID, "A2233021", NONCE_EXTENSION];
 
 /// The bytes that hexadecimal digits write; what is no digit is skipped.
-fn hex(alloc: Global, parts: &[&str]) -> Result<Vec<u8>, Fail> {
+fn hex(alloc: Global, parts: &[&str]) -> Result<Vec<u8>, AskFault> {
     let mut bytes = Vec::new(alloc);
     let mut high = None;
     for part in parts {
@@ -118,14 +118,29 @@ fn answers<'a>(
 }
 
 /// The ResponseData that answers the request.
-#[tactic(auto, using(reg_ocsp::proofs::Answering::answered_sum, reg_ocsp::proofs::Answering::answered_count))]
 fn answer(alloc: Global, request: &[u8], status: Status) -> Result<Vec<u8>, Fail> {
     let issuer = issuer(alloc)?;
     let now = Moment::of_secs(NOW_SECONDS).ok_or("a moment")?;
     let next = Moment::of_secs(NEXT_SECONDS).ok_or("a moment")?;
+    Ok(answer_from(alloc, &issuer, request, status, now, next)?)
+}
+
+/// The ResponseData of an issuer that answers the request at a moment, up to another.
+#[tactic(auto, using(reg_ocsp::proofs::Answering::answered_sum, reg_ocsp::proofs::Answering::answered_count))]
+fn answer_from(
+    alloc: Global,
+    issuer: &Issuer,
+    request: &[u8],
+    status: Status,
+    now: Moment,
+    next: Moment,
+) -> Result<Vec<u8>, AskFault> {
     let asked = read_request(alloc, request)?;
-    let answers = answers(alloc, &issuer, &asked.ids, &status)?;
-    Ok(response_data(alloc, &issuer, now, next, &answers, asked.nonce)?)
+    let answers = answers(alloc, issuer, &asked.ids, &status)?;
+    match response_data(alloc, issuer, now, next, &answers, asked.nonce) {
+        Ok(signed) => Ok(signed),
+        Err(_) => Err(AskFault::Memory),
+    }
 }
 
 fn revoked(reason: u8) -> Result<Status, Fail> {
@@ -152,7 +167,7 @@ fn reads_a_request(rt: HostRuntime) -> Result<(), Fail> {
 }
 
 /// The ResponseData to `REQUEST` in parts, with the heads and the status that change.
-fn data(alloc: Global, head: &str, list: &str, status: &[&str]) -> Result<Vec<u8>, Fail> {
+fn data(alloc: Global, head: &str, list: &str, status: &[&str]) -> Result<Vec<u8>, AskFault> {
     let mut bytes = hex(alloc, &[head, "A2160414", KEY_SHA1, NOW, list, CERT_ID])?;
     bytes.extend_from_slice(&hex(alloc, status)?)?;
     bytes.extend_from_slice(&hex(alloc, &[NOW, "A011", NEXT, "A1233021", NONCE_EXTENSION])?)?;
@@ -206,7 +221,7 @@ fn writes_responses(rt: HostRuntime) -> Result<(), Fail> {
     Ok(())
 }
 
-fn algorithm(rt: &impl Abort, alloc: Global) -> Result<Vec<u8>, Fail>
+fn algorithm(rt: &impl Abort, alloc: Global) -> Result<Vec<u8>, AskFault>
     ensures { IfOk result (λ v. length v.items < 1000) }
 {
     let bytes = hex(alloc, &[ALGORITHM])?;
@@ -714,4 +729,56 @@ fn answers_many_requests(rt: HostRuntime) -> Result<(), Fail> {
 #[test]
 fn has_one_reading(_rt: HostRuntime) {
     laws::one_reading();
+}
+
+/// A request is read, and its answer is made, where memory may be refused: as with ample memory, or want of it is told.
+fn asked_and_answered(rt: &impl Abort, alloc: Global) -> Result<(), AskFault> {
+    let Ok(issuer) = Issuer::new(alloc, &hex(alloc, &[NAME])?, &hex(alloc, &[KEY])?) else {
+        return Err(AskFault::Memory);
+    };
+    let request = hex(alloc, &REQUEST)?;
+    let wanted = data(alloc, "3081B4", "30643062", &["8000"])?;
+    let now = Moment::of_secs(NOW_SECONDS).ok_or(AskFault::Malformed)?;
+    let next = Moment::of_secs(NEXT_SECONDS).ok_or(AskFault::Malformed)?;
+    match read_request(alloc, &request) {
+        Ok(asked) => assert_eq!(rt; asked.ids.len(), 1),
+        Err(fault) => assert_eq!(rt; fault, AskFault::Memory),
+    }
+    match answer_from(alloc, &issuer, &request, Status::Good, now, next) {
+        Ok(signed) => assert_eq!(rt; signed.as_slice(), wanted.as_slice()),
+        Err(fault) => assert_eq!(rt; fault, AskFault::Memory),
+    }
+    Ok(())
+}
+
+/// The whole response is made where memory may be refused: as with ample memory, or want of it is told.
+fn made_whole(rt: &impl Abort, alloc: Global) -> Result<(), AskFault> {
+    let signed = hex(alloc, &["A1B2C3"])?;
+    let algorithm = algorithm(rt, alloc)?;
+    let wanted = hex(
+        alloc,
+        &[
+            "302C 0A0100 A027 3025 06092B0601050507300101 0418 3016 A1B2C3",
+            ALGORITHM,
+            "0306 00 0102030405",
+        ],
+    )?;
+    assert!(rt; signed.len() < 1_000);
+    match basic(alloc, &signed, &algorithm, &[1, 2, 3, 4, 5]) {
+        Ok(whole) => assert_eq!(rt; whole.as_slice(), wanted.as_slice()),
+        Err(fault) => assert_eq!(rt; fault, Memory),
+    }
+    Ok(())
+}
+
+/// Passes with each allocation refused in turn too: `rt try --test --fail-alloc N`.
+#[test]
+fn refused_reading_and_answering(rt: HostRuntime) {
+    let _ = asked_and_answered(&rt, rt.alloc());
+}
+
+/// The same.
+#[test]
+fn refused_whole(rt: HostRuntime) {
+    let _ = made_whole(&rt, rt.alloc());
 }

@@ -36,7 +36,8 @@ const WHOLE: [What; 10] = [
 /// Reads the rows of a register's tables whole, and checks that they are those of sound records, with the letters, counts
 /// and last listings that follow from them ([`reg_audit::check`]).
 ///
-/// What is proved of it: it changes nothing of the tables of a register, and commits nothing. That the rows which are checked
+/// What is proved of it: it changes nothing of the tables of a register, and commits nothing; and of its parts, that each
+/// value in a row is read as the number, moment, serial number, label or letter that it is. That the rows which are checked
 /// are those which the tables show is not yet proved; the bytes of CRLs, the issuer, the policy's schedule and lives, and the
 /// rowids of the tables whose key is a serial number are not looked at. The schema is not looked at either.
 ///

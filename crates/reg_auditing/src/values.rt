@@ -1,12 +1,24 @@
 //! Values of SQL, where they are what a register writes.
 
+ghost use Rattle.std.specs.Prelude.{◌≡◌, ◌<◌, ◌≤◌, ℕ, Bool, List, Option, cond, length, Some, MatchOption};
+ghost use Rattle.sqlite_value.specs.declared.value.Value.TheVariants.{Text};
+ghost use Rattle.sqlite_value.specs.Order.{column};
+ghost use Rattle.reg_core.specs.Calendar.{clock_end};
+ghost use Rattle.reg_core.specs.Label.{IsLabel};
+ghost use Rattle.reg_core.specs.Serial.{IsSerial};
+ghost use Rattle.reg_tables.specs.Columns.{letter_text, number_or_null};
+ghost use Rattle.reg_tables.specs.Rows.{number, serial_value, ground_place};
+ghost use Rattle.reg_audit.specs.Beside.{letter_in};
+
 use reg_audit::Letter;
 use reg_core::{Ground, Label, Moment, Serial};
 use sqlite::Row;
 use sqlite::types::ValueRef;
 
 /// The number in a column.
-pub(crate) fn number_at(row: &Row, at: usize) -> Option<u64> {
+pub(crate) fn number_at(row: &Row, at: usize) -> Option<u64>
+    ensures read { (n : ℕ) → column row.now at ≡ number n → result ≡ Some n }
+{
     match row.get_ref(at) {
         Ok(ValueRef::Int(n)) => match u64::try_from(n) {
             Ok(n) => Some(n),
@@ -18,7 +30,9 @@ pub(crate) fn number_at(row: &Row, at: usize) -> Option<u64> {
 }
 
 /// The number in a column that may be NULL.
-pub(crate) fn number_or_null_at(row: &Row, at: usize) -> Option<Option<u64>> {
+pub(crate) fn number_or_null_at(row: &Row, at: usize) -> Option<Option<u64>>
+    ensures read { (n : Option ℕ) → at < length row.now → column row.now at ≡ number_or_null n → result ≡ Some n }
+{
     match row.get_ref(at) {
         Ok(ValueRef::Null) => Some(None),
         Ok(_) => Some(Some(number_at(row, at)?)),
@@ -27,12 +41,16 @@ pub(crate) fn number_or_null_at(row: &Row, at: usize) -> Option<Option<u64>> {
 }
 
 /// The moment in a column.
-pub(crate) fn moment_at(row: &Row, at: usize) -> Option<Moment> {
+pub(crate) fn moment_at(row: &Row, at: usize) -> Option<Moment>
+    ensures read { (n : ℕ) → column row.now at ≡ number n → MatchOption result (253402300800 ≤ n) (λ read. read ≡ n) }
+{
     Moment::of_secs(number_at(row, at)?)
 }
 
 /// The moment in a column, one that the register's clock lets pass.
-pub(crate) fn clock_moment_at(row: &Row, at: usize) -> Option<Moment> {
+pub(crate) fn clock_moment_at(row: &Row, at: usize) -> Option<Moment>
+    ensures read { (n : ℕ) → column row.now at ≡ number n → MatchOption result (clock_end ≤ n) (λ read. read ≡ n) }
+{
     let moment = moment_at(row, at)?;
     if moment < Moment::CLOCK_END {
         Some(moment)
@@ -42,7 +60,9 @@ pub(crate) fn clock_moment_at(row: &Row, at: usize) -> Option<Moment> {
 }
 
 /// The serial number in a column.
-pub(crate) fn serial_at(row: &Row, at: usize) -> Option<Serial> {
+pub(crate) fn serial_at(row: &Row, at: usize) -> Option<Serial>
+    ensures read { (serial : ℕ) → IsSerial serial → column row.now at ≡ serial_value serial → result ≡ Some serial }
+{
     match row.get_ref(at) {
         Ok(ValueRef::Blob(bytes)) => Serial::from_bytes20(bytes),
         Ok(_) => None,
@@ -51,7 +71,9 @@ pub(crate) fn serial_at(row: &Row, at: usize) -> Option<Serial> {
 }
 
 /// The label in a column.
-pub(crate) fn label_at(row: &Row, at: usize) -> Option<Label> {
+pub(crate) fn label_at(row: &Row, at: usize) -> Option<Label>
+    ensures read { (text : List ℕ) → column row.now at ≡ Text text → MatchOption result (¬ IsLabel text) (λ read. read ≡ text) }
+{
     match row.get_ref(at) {
         Ok(ValueRef::Text(text)) => Label::of(text),
         Ok(_) => None,
@@ -60,7 +82,9 @@ pub(crate) fn label_at(row: &Row, at: usize) -> Option<Label> {
 }
 
 /// The ground in a column, which has its place in the list of grounds.
-pub(crate) fn ground_at(row: &Row, at: usize) -> Option<Ground> {
+pub(crate) fn ground_at(row: &Row, at: usize) -> Option<Ground>
+    ensures read { (cause : Ground) → column row.now at ≡ number (ground_place cause) → result ≡ Some cause }
+{
     match number_at(row, at)? {
         1 => Some(Ground::Asked),
         2 => Some(Ground::Unauthorized),
@@ -78,7 +102,9 @@ pub(crate) fn ground_at(row: &Row, at: usize) -> Option<Ground> {
 }
 
 /// The flag in a column, 0 or 1.
-pub(crate) fn flag_at(row: &Row, at: usize) -> Option<bool> {
+pub(crate) fn flag_at(row: &Row, at: usize) -> Option<bool>
+    ensures read { (flag : Bool) → column row.now at ≡ number (cond flag 1 0) → result ≡ Some flag }
+{
     match number_at(row, at)? {
         0 => Some(false),
         1 => Some(true),
@@ -87,7 +113,9 @@ pub(crate) fn flag_at(row: &Row, at: usize) -> Option<bool> {
 }
 
 /// The reasonCode in a column (RFC 5280 5.3.1).
-pub(crate) fn reason_at(row: &Row, at: usize) -> Option<u8> {
+pub(crate) fn reason_at(row: &Row, at: usize) -> Option<u8>
+    ensures read { (n : ℕ) → column row.now at ≡ number n → MatchOption result (256 ≤ n) (λ read. read ≡ n) }
+{
     match u8::try_from(number_at(row, at)?) {
         Ok(reason) => Some(reason),
         Err(_) => None,
@@ -95,7 +123,9 @@ pub(crate) fn reason_at(row: &Row, at: usize) -> Option<u8> {
 }
 
 /// The state letter in a column.
-pub(crate) fn letter_at(row: &Row, at: usize) -> Option<Letter> {
+pub(crate) fn letter_at(row: &Row, at: usize) -> Option<Letter>
+    ensures read { (letter : Letter) → column row.now at ≡ Text (letter_text (letter_in letter)) → result ≡ Some letter }
+{
     match row.get_ref(at) {
         Ok(ValueRef::Text(b"G")) => Some(Letter::Good),
         Ok(ValueRef::Text(b"R")) => Some(Letter::Revoked),

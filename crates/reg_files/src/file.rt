@@ -1,6 +1,6 @@
 //! Files that hold databases.
 
-ghost use Rattle.std.specs.Prelude.{◌≡◌, ◌⊎◌, ◌≤◌, ◌++◌, codes, false, string_bytes, IfOk, IfErr, IfSome};
+ghost use Rattle.std.specs.Prelude.{◌≡◌, ◌≢◌, ◌⊎◌, ◌≤◌, ◌++◌, codes, false, string_bytes, IfOk, IfErr, IfSome};
 ghost use Rattle.sqlite.specs.Files.{file_state, IsOpened};
 ghost use Rattle.sqlite.specs.Held.{IsNew};
 ghost use Rattle.sqlite.specs.Start.{FindsIn};
@@ -146,19 +146,51 @@ fn pages_for(rt: &HostRuntime, path: &str) -> usize
         .min(MOST_PAGES)
 }
 
-/// Lays an empty file at a path where nothing lies, in one step, so that of two who do so at once one has it; answers
-/// whether it did. The file's owner alone may read and write it. A link that leads nowhere is something that lies there,
-/// and so is a log that lies beside no register: it may be all that is left of one.
-pub fn claim_file(rt: &HostRuntime, path: &str) -> bool {
+/// Why no file was laid.
+#[derive(Clone, Copy, Debug, PartialEq, Eq)]
+pub enum Unlaid {
+    /// Memory was wanting.
+    Memory,
+    /// Something lies there, or may, or the system refused it; with the cause where the call that failed told one.
+    Taken(Option<Cause>),
+}
+
+/// Lays an empty file at a path where nothing lies, in one step, so that of two who do so at once one has it. The file's
+/// owner alone may read and write it. A link that leads nowhere is something that lies there, and so is a log that lies
+/// beside no register: it may be all that is left of one.
+///
+/// # Errors
+/// No file was laid, and [`Unlaid`] says why.
+pub fn claim_file(rt: &HostRuntime, path: &str) -> Result<(), Unlaid> {
     let Ok(log) = log_of(rt, path) else {
-        return false;
+        return Err(Unlaid::Memory);
     };
-    if fs::exists(rt, log.as_str()).unwrap_or(true) {
-        return false;
+    match fs::exists(rt, log.as_str()) {
+        Ok(false) => lay(rt, path),
+        Ok(true) => Err(Unlaid::Taken(None)),
+        Err(error) => Err(unlaid_by(error.kind())),
     }
+}
+
+/// Lays an empty file at a path where nothing lies.
+fn lay(rt: &HostRuntime, path: &str) -> Result<(), Unlaid> {
     let mut options = OpenOptions::new();
     options.write(true).create_new(true).mode(OWNER_ALONE);
-    options.open(rt, path).is_ok()
+    match options.open(rt, path) {
+        Ok(_) => Ok(()),
+        Err(error) => Err(unlaid_by(error.kind())),
+    }
+}
+
+/// Why no file was laid where a call of the system failed.
+fn unlaid_by(kind: ErrorKind) -> Unlaid
+    ensures memory { kind ≡ ErrorKind.OutOfMemory → result ≡ Unlaid.Memory }
+    ensures others { kind ≢ ErrorKind.OutOfMemory → result ≢ Unlaid.Memory }
+{
+    match kind {
+        ErrorKind::OutOfMemory => Unlaid::Memory,
+        other => Unlaid::Taken(of_io(other)),
+    }
 }
 
 /// Removes a database's file and its log. It holds them meanwhile, as who opens them does, so that what another program

@@ -3,4 +3,4 @@
 
 mod file;
 
-pub use file::{Unopened, absent, claim_file, open_file, remove_file};
+pub use file::{Unlaid, Unopened, absent, claim_file, open_file, remove_file};

@@ -4,6 +4,7 @@ pub mod Facts
 pub mod Issuing
 pub mod Resting
 pub mod Standing
+pub mod Stopping
 pub mod ShowingNothingElse
 pub mod ShowingRevoked
 pub mod ShownByCrls

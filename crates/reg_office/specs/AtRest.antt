@@ -1,5 +1,5 @@
 -- What a stop during a command may find.
-use Rattle.std.specs.Prelude.{◌≡◌, ◌⊎◌, ℕ, false, List, Ok, IsTrue}
+use Rattle.std.specs.Prelude.{◌≡◌, ◌⊎◌, ℕ, List, [], ◌∷◌, ◌++◌, Result, Ok, Err, OnOk, IsTrue}
 use Rattle.sqlite_trees.specs.Tree.{Trees}
 use Rattle.sqlite_trees.specs.declared.store.Store.{Ghosts}
 use Rattle.sqlite.specs.Held.{Held, state}
@@ -9,11 +9,12 @@ use Rattle.reg_core.specs.Records.{Records}
 use Rattle.reg_core.specs.Sound.{Sound, SoundRows}
 use Rattle.reg_core.specs.declared.command.Command.{Command}
 use Rattle.reg_core.specs.declared.command.Reply.{Reply}
+use Rattle.reg_core.specs.declared.refusal.Fault.{Fault}
 use Rattle.reg_crl.specs.Signing.{Identity, signed_by}
 use Rattle.reg_tables.specs.Kept.{ShowsKept}
 use Rattle.reg_changes.specs.AtRest.{IsAtRest}
-use Rattle.reg_laws.specs.Run.{Happens}
-use Rattle.reg_office.specs.Stands.{Stands}
+use Rattle.reg_laws.specs.Run.{Happens, Run}
+use Rattle.reg_office.specs.Stands.{Stands, CameTo}
 
 -- the rows show the records after the command, which was accepted over these, and what is kept beside them stands for them
 pub record IsStepped (signed : CertList → List ℕ → Type 0) (records : Records) (now : ℕ) (command : Command) (trees : Trees) : Type 0 where
@@ -40,6 +41,57 @@ Does g signs old identity now command trees = (records : Records) → Stands g s
 abbrev pub StopsBeforeOrAfter : {C : Type 0} → Ghosts C → (Identity → List ℕ → List ℕ → Type 0) → Type 0
 StopsBeforeOrAfter {C = C} g signs =
     (old new : Held C) (identity : Identity) (records : Records) (now : ℕ) (command : Command)
-    → Stands g signs old identity records → IsTrue (state g old).is_open → old.in_transaction ≡ false
+    → Stands g signs old identity records → IsTrue (state g old).is_open
     → Survives (state g old) (state g new) (Does g signs old identity now command) → HasCleanDisk (state g new)
     → (trees : Trees) → (state g new).may_leave trees → IsAtRest records trees ⊎ IsDone signs identity records now command trees
+
+-- ---- over a run
+
+-- no reply is among these outcomes: each is a refusal or a fault
+abbrev pub HaveNoReply : List (Result Reply Fault) → Type 0
+HaveNoReply [] = Unit {0}
+HaveNoReply (Ok reply ∷ outcomes) = ⊥
+HaveNoReply (Err fault ∷ outcomes) = HaveNoReply outcomes
+
+-- the first of these commands is done, and no more of them
+abbrev pub IsNextDone : (Identity → List ℕ → List ℕ → Type 0) → Identity → Records → List (ℕ × Command) → Trees → Type 0
+IsNextDone signs identity records [] trees = ⊥
+IsNextDone signs identity records (timed ∷ commands) trees = IsDone signs identity records timed.0 timed.1 trees
+
+-- the rows show the records after a prefix of the commands, and what is kept beside them stands for them: after those which came to the
+-- first of the outcomes, or after these and the next, whose outcome is a fault that was told; no reply was given to any that is left
+pub record IsPartlyRun (signs : Identity → List ℕ → List ℕ → Type 0) (identity : Identity) (records : Records) (commands : List (ℕ × Command)) (outcomes : List (Result Reply Fault)) (trees : Trees) : Type 0 where
+  pub done : List (ℕ × Command)
+  pub left : List (ℕ × Command)
+  pub commands_are : commands ≡ done ++ left
+  pub came : List (Result Reply Fault)
+  pub others : List (Result Reply Fault)
+  pub outcomes_are : outcomes ≡ came ++ others
+  pub no_reply : HaveNoReply others
+  pub after : Records
+  pub run : Run (signed_by signs identity) records done came after
+  pub sound : Sound (signed_by signs identity) after
+  pub rests : IsAtRest after trees ⊎ IsNextDone signs identity after left trees
+
+-- one command as `run_one` runs it, from one state of an office's tables to the next: what its clauses say
+pub record IsRunOne {C : Type 0} (g : Ghosts C) (signs : Identity → List ℕ → List ℕ → Type 0) (identity : Identity) (old new : Held C) (now : ℕ) (command : Command) (outcome : Result Reply Fault) : Type 0 where
+  pub step : (records : Records) → Stands g signs old identity records → HasCleanDisk (state g new) → CameTo g signs new identity records now command outcome
+  pub live : HasCleanDisk (state g new) → OnOk outcome (IsTrue (state g new).is_open)
+  pub survives : Survives (state g old) (state g new) (Does g signs old identity now command)
+
+-- commands as calls of `run_one` run them, one after another, with an outcome for each
+abbrev pub AreRunByOne : {C : Type 0} → Ghosts C → (Identity → List ℕ → List ℕ → Type 0) → Identity → Held C → List (ℕ × Command) → List (Result Reply Fault) → Held C → Type 0
+AreRunByOne g signs identity old [] [] new = new ≡ old
+AreRunByOne g signs identity old [] (outcome ∷ outcomes) new = ⊥
+AreRunByOne g signs identity old (timed ∷ commands) [] new = ⊥
+AreRunByOne {C = C} g signs identity old (timed ∷ commands) (outcome ∷ outcomes) new =
+    (next : Held C) × IsRunOne g signs identity old next timed.0 timed.1 outcome × AreRunByOne g signs identity next commands outcomes new
+
+-- a stop after such a run, or in the middle of it, leaves rows of the records after a prefix of the commands, which has at least those
+-- whose replies were given, with what is kept beside them: over any disk that may lose what was not synced
+abbrev pub StopsAfterAPrefix : {C : Type 0} → Ghosts C → (Identity → List ℕ → List ℕ → Type 0) → Type 0
+StopsAfterAPrefix {C = C} g signs =
+    (old new : Held C) (identity : Identity) (records : Records) (commands : List (ℕ × Command)) (outcomes : List (Result Reply Fault))
+    → Stands g signs old identity records → IsTrue (state g old).is_open
+    → AreRunByOne g signs identity old commands outcomes new → HasCleanDisk (state g new)
+    → (trees : Trees) → (state g new).may_leave trees → IsPartlyRun signs identity records commands outcomes trees

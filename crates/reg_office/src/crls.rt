@@ -1,6 +1,6 @@
 //! CRLs.
 
-ghost use Rattle.std.specs.Prelude.{◌≡◌, ◌≤◌, ◌<◌, ◌+◌, length, IsErrOf, OnErr, IfOk, IfErr};
+ghost use Rattle.std.specs.Prelude.{◌≡◌, ◌≤◌, ◌<◌, ◌+◌, length, IsErrOf, OnOk, OnErr, IfOk, IfErr, IsTrue};
 ghost use Rattle.sqlite.specs.Held.{state};
 ghost use Rattle.sqlite.specs.State.{HasCleanDisk, Survives};
 ghost use Rattle.sqlite_trees.specs.View.{doubt};
@@ -72,6 +72,7 @@ pub(crate) fn issue_crl<C: Alter, S: Signer>(
     requires { now < clock_end }
     ensures step { (records : Records) → ShowsKept C.Store store.old records → SoundRows records → HasCleanDisk (state C.Store store.new)
         → Happened C.Store store.new (signed_by S.signs (S.identity signer.old)) records now IssueCrl result }
+    ensures live { HasCleanDisk (state C.Store store.new) → OnOk result (IsTrue (state C.Store store.new).is_open) }
     ensures err { IsRegister (state C.Store store.old) → OnErr result (Stays (state C.Store store.old) (state C.Store store.new)) }
     ensures survives { Survives (state C.Store store.old) (state C.Store store.new) (Steps C.Store store.old (signed_by S.signs (S.identity signer.old)) now IssueCrl) }
     ensures faults { IfErr result IsOfficeFault }

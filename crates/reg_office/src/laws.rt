@@ -4,7 +4,7 @@ ghost use Rattle.std.specs.Prelude.{ℕ};
 ghost use Rattle.reg_crl.specs.Signing.{signed_by};
 ghost use Rattle.reg_laws.specs.Headline.{CreatedSound, KeepsSound, RunsInParts, StandsInExactlyOne, CountsMoveExactly, ListsRevoked, RefusalsChangeNothing};
 ghost use Rattle.reg_laws.specs.History.{HistoryStands};
-ghost use Rattle.reg_office.specs.AtRest.{StopsBeforeOrAfter};
+ghost use Rattle.reg_office.specs.AtRest.{StopsBeforeOrAfter, StopsAfterAPrefix};
 ghost use Rattle.reg_office.specs.Shown.{SoundRun, AcceptedRevocation, IsShownEverywhere, WasRevoked, IsNowhereShown};
 ghost use Rattle.reg_responder.specs.Agreement.{OcspAgrees};
 
@@ -71,4 +71,17 @@ pub fn nothing_else_is_shown_as_revoked<S: Signer>()
 /// crate `sqlite` says that a stop may leave over a disk which can lose what was not synced.
 pub fn a_stop_leaves_the_records_before_or_after<C: Alter, S: Signer>()
     ensures { StopsBeforeOrAfter C.Store S.signs }
+{}
+
+/// A stop at any moment of a run leaves the records after a prefix of its commands, which has at least those whose replies
+/// were given.
+///
+/// Of a register whose records stand, over any commands that are run one after another by
+/// [`Office::run_one`](crate::Office::run_one), whoever signs, also after refusals and faults: what may be found in its tables
+/// after them, or after a stop in the middle of one, is the records after the first of them with the outcomes that were
+/// told; or after these and the next one, of which a fault was told. Each command behind them came to a refusal or a fault.
+/// The rows are whole, with the letters, counts and last listings that follow from them, and the records are sound.
+/// [`Office::run`](crate::Office::run) says the same of its list in its clause `survives`.
+pub fn a_stop_leaves_the_records_after_a_prefix<C: Alter, S: Signer>()
+    ensures { StopsAfterAPrefix C.Store S.signs }
 {}

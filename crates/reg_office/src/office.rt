@@ -1,6 +1,6 @@
 //! The office: a register's store, and who signs its CRLs.
 
-ghost use Rattle.std.specs.Prelude.{◌≡◌, ◌≤◌, ◌<◌, ◌↔◌, Err, IsErrOf, OnOk, OnErr, IfOk, IfErr};
+ghost use Rattle.std.specs.Prelude.{◌≡◌, ◌≤◌, ◌<◌, ◌↔◌, Err, IsErrOf, OnOk, OnErr, IfOk, IfErr, IsTrue};
 ghost use Rattle.sqlite.specs.Held.{state};
 ghost use Rattle.sqlite.specs.State.{HasCleanDisk, Survives};
 ghost use Rattle.sqlite_trees.specs.View.{doubt};
@@ -69,6 +69,7 @@ impl<C: Alter, S: Signer> Office<C, S> {
             → HasCleanDisk (state C.Store self.new.store)
             → CameTo C.Store S.signs self.new.store (S.identity self.new.signer) records now command.now result }
         ensures ended { clock_end ≤ now → (result ≡ Err (Refused ClockEnd)) × (self.new ≡ self.old) }
+        ensures live { HasCleanDisk (state C.Store self.new.store) → OnOk result (IsTrue (state C.Store self.new.store).is_open) }
         ensures err { IsRegister (state C.Store self.old.store) → OnErr result (Stays (state C.Store self.old.store) (state C.Store self.new.store)) }
         ensures survives { Survives (state C.Store self.old.store) (state C.Store self.new.store) (Does C.Store S.signs self.old.store (S.identity self.old.signer) now command.now) }
         ensures same_identity { S.identity self.new.signer ≡ S.identity self.old.signer }

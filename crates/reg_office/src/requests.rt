@@ -1,6 +1,6 @@
 //! Requests for revocation.
 
-ghost use Rattle.std.specs.Prelude.{◌≡◌, ◌<◌, OnErr, IfOk, IfErr};
+ghost use Rattle.std.specs.Prelude.{◌≡◌, ◌<◌, OnOk, OnErr, IfOk, IfErr, IsTrue};
 ghost use Rattle.sqlite.specs.Held.{state};
 ghost use Rattle.sqlite.specs.State.{HasCleanDisk, Survives};
 ghost use Rattle.reg_core.specs.Calendar.{clock_end};
@@ -44,6 +44,7 @@ pub(crate) fn enter_request<C: Alter>(
     requires { now < clock_end }
     ensures step { (records : Records) → ShowsKept C.Store store.old records → SoundRows records → HasCleanDisk (state C.Store store.new)
         → Happened C.Store store.new unsigned records now (RequestIt serial word) result }
+    ensures live { HasCleanDisk (state C.Store store.new) → OnOk result (IsTrue (state C.Store store.new).is_open) }
     ensures err { IsRegister (state C.Store store.old) → OnErr result (Stays (state C.Store store.old) (state C.Store store.new)) }
     ensures survives { Survives (state C.Store store.old) (state C.Store store.new) (Steps C.Store store.old unsigned now (RequestIt serial word)) }
     ensures faults { IfErr result IsTableFault }
@@ -92,6 +93,7 @@ pub(crate) fn decline<C: Alter>(store: &mut Store<C>, now: Moment, id: u64) -> R
     requires { now < clock_end }
     ensures step { (records : Records) → ShowsKept C.Store store.old records → SoundRows records → HasCleanDisk (state C.Store store.new)
         → Happened C.Store store.new unsigned records now (DeclineIt id) result }
+    ensures live { HasCleanDisk (state C.Store store.new) → OnOk result (IsTrue (state C.Store store.new).is_open) }
     ensures err { IsRegister (state C.Store store.old) → OnErr result (Stays (state C.Store store.old) (state C.Store store.new)) }
     ensures survives { Survives (state C.Store store.old) (state C.Store store.new) (Steps C.Store store.old unsigned now (DeclineIt id)) }
     ensures faults { IfErr result IsTableFault }
@@ -111,6 +113,7 @@ pub(crate) fn revoke<C: Alter>(store: &mut Store<C>, now: Moment, id: u64) -> Re
     requires { now < clock_end }
     ensures step { (records : Records) → ShowsKept C.Store store.old records → SoundRows records → HasCleanDisk (state C.Store store.new)
         → Happened C.Store store.new unsigned records now (RevokeIt id) result }
+    ensures live { HasCleanDisk (state C.Store store.new) → OnOk result (IsTrue (state C.Store store.new).is_open) }
     ensures err { IsRegister (state C.Store store.old) → OnErr result (Stays (state C.Store store.old) (state C.Store store.new)) }
     ensures survives { Survives (state C.Store store.old) (state C.Store store.new) (Steps C.Store store.old unsigned now (RevokeIt id)) }
     ensures faults { IfErr result IsTableFault }

@@ -1,12 +1,14 @@
 //! Lists of commands.
 
-ghost use Rattle.std.specs.Prelude.{◌≡◌, ◌≤◌, ◌++◌, List, Result, OnOk, OnErr};
+ghost use Rattle.std.specs.Prelude.{◌≡◌, ◌≤◌, ◌++◌, List, Result, OnOk, OnErr, IsTrue};
 ghost use Rattle.sqlite.specs.Held.{state};
 ghost use Rattle.sqlite.specs.State.{HasCleanDisk};
+ghost use Rattle.sqlite_trees.specs.Tree.{Trees};
 ghost use Rattle.sqlite_trees.specs.View.{doubt};
 ghost use Rattle.reg_core.specs.Records.{Records};
 ghost use Rattle.reg_core.specs.declared.command.Reply.{Reply};
 ghost use Rattle.reg_core.specs.declared.refusal.Fault.{Fault};
+ghost use Rattle.reg_office.specs.AtRest.{IsPartlyRun};
 ghost use Rattle.reg_office.specs.Stands.{Stands, Ran};
 
 use crate::office::Office;
@@ -32,6 +34,10 @@ impl<C: Alter, S: Signer> Office<C, S> {
             → OnOk result ((came : List (Result Reply Fault)) × (outcomes.new.items ≡ outcomes.old.items ++ came)
             × Ran C.Store S.signs self.new.store (S.identity self.new.signer) records commands.now came) }
         ensures none_ran { OnErr result ((outcomes.new.items ≡ outcomes.old.items) × (self.new ≡ self.old)) }
+        ensures survives { (records : Records) → Stands C.Store S.signs self.old.store (S.identity self.old.signer) records
+            → IsTrue (state C.Store self.old.store).is_open → HasCleanDisk (state C.Store self.new.store)
+            → OnOk result ((came : List (Result Reply Fault)) × (outcomes.new.items ≡ outcomes.old.items ++ came)
+            × ((trees : Trees) → (state C.Store self.new.store).may_leave trees → IsPartlyRun S.signs (S.identity self.old.signer) records commands.now came trees)) }
         ensures clean { doubt (state C.Store self.old.store).is_clean ≤ doubt (state C.Store self.new.store).is_clean }
         ensures same_identity { S.identity self.new.signer ≡ S.identity self.old.signer }
     {

@@ -1,6 +1,6 @@
 //! Subscribers.
 
-ghost use Rattle.std.specs.Prelude.{◌≡◌, ◌<◌, OnErr, IfErr};
+ghost use Rattle.std.specs.Prelude.{◌≡◌, ◌<◌, OnOk, OnErr, IfErr, IsTrue};
 ghost use Rattle.sqlite.specs.Held.{state};
 ghost use Rattle.sqlite.specs.State.{HasCleanDisk, Survives};
 ghost use Rattle.reg_core.specs.Calendar.{clock_end};
@@ -30,6 +30,7 @@ pub(crate) fn enter_subscriber<C: Alter>(
     requires { now < clock_end }
     ensures step { (records : Records) → ShowsKept C.Store store.old records → SoundRows records → HasCleanDisk (state C.Store store.new)
         → Happened C.Store store.new unsigned records now (EnterSubscriber name) result }
+    ensures live { HasCleanDisk (state C.Store store.new) → OnOk result (IsTrue (state C.Store store.new).is_open) }
     ensures err { IsRegister (state C.Store store.old) → OnErr result (Stays (state C.Store store.old) (state C.Store store.new)) }
     ensures survives { Survives (state C.Store store.old) (state C.Store store.new) (Steps C.Store store.old unsigned now (EnterSubscriber name)) }
     ensures faults { IfErr result IsTableFault }

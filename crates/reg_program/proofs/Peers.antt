@@ -1,5 +1,5 @@
 -- Exchanges and lines over an office that keeps records.
-use Rattle.std.proofs.Common.{◌≡◌, ◌≢◌, ℕ, List, [], ◌∷◌, refl, sym, subst, ap, ◌∙◌}
+use Rattle.std.proofs.Common.{◌≡◌, ◌≢◌, ℕ, List, [], ◌∷◌, arith, inr, refl, sym, subst, ap, ◌∙◌}
 use Rattle.std.specs.Prelude.{Option, Some, Result, Ok, Err, IfErr}
 use Rattle.reg_core.specs.Records.{Records}
 use Rattle.reg_core.specs.declared.refusal.Fault.{Fault}
@@ -15,7 +15,7 @@ use Rattle.reg_lines.specs.Answer.{Answer}
 use Rattle.reg_lines.specs.Meaning.{Meaning}
 use Rattle.reg_lines.specs.Script.{ScriptEnds}
 use Rattle.reg_wire.specs.Run.{Answered}
-use Rattle.reg_program.specs.Exchanges.{EntryAt, ExchangeAt, LineRuns, Replied, line_at}
+use Rattle.reg_program.specs.Exchanges.{EntryAt, ExchangeAt, LineRuns, Replied, Responded, line_at}
 
 -- A script over a reader and a writer that tell their bytes, as one over bytes.
 module _ {S E W : Type 0} (answers : S → Meaning → Answer → S → Type 0) (remaining : E → List ℕ) (contents : W → List ℕ) where
@@ -35,82 +35,121 @@ module _ {S E W : Type 0} (answers : S → Meaning → Answer → S → Type 0) 
 module _ {S : Type 0} (is_clean : S → Type 0) (stands : Identity → S → Records → Type 0) (signs : Signs) (now : ℕ) where
   -- how one request ended whose bytes came, over a text that was empty
   abbrev pub Ended : List ℕ → List ℕ → List ℕ → Result (Unit {0}) Fault → Identity → Records → Records → Type 0
-  Ended came left text result identity before after =
-      Ends (Runs signs identity) Asks (Ocsps signs identity) Crls now before after (Some came) (Some left) (Some []) (Some text) result
+  Ended came left written result identity before after =
+      Ends (Runs signs identity) Asks (Ocsps signs identity) Crls now before after (Some came) (Some left) (Some []) (Some written) result
 
   -- one that ended with its response
-  spoken : (s t : S) (came left text : List ℕ) (result : Result (Unit {0}) Fault) → (IfErr result (λ why. ¬ (why ≢ fault.Write)))
-      → Moves is_clean stands (Ended came left text result) s t
+  spoken : (s t : S) (came left written text : List ℕ) (result : Result (Unit {0}) Fault) → (IfErr result (λ why. ¬ (why ≢ fault.Write)))
+      → Responded result written text
+      → Moves is_clean stands (Ended came left written result) s t
       → Moves is_clean stands (λ identity before after. ExchangeAt signs now identity before came text after) s t
-  spoken s t came left text result wrote moved =
+  spoken s t came left written text result wrote responded moved =
       follows is_clean stands
-      (Ended came left text result)
+      (Ended came left written result)
       (λ identity before after. ExchangeAt signs now identity before came text after)
-      (λ identity before after ended. record { left = left; result = result; ends = ended; silent = go identity before after result wrote })
+      (λ identity before after ended. record {
+        left = left;
+        written = written;
+        result = result;
+        ends = ended;
+        silent = go before after result wrote;
+        responded = responded;
+      })
       s
       t
       moved
     where
-      go : (identity : Identity) (before after : Records) (r : Result (Unit {0}) Fault) → (IfErr r (λ why. ¬ (why ≢ fault.Write)))
-          → IfErr r (λ why. why ≢ fault.Write → (text ≡ []) × (after ≡ before))
-      go identity before after (Ok done) wrote = tt
-      go identity before after (Err why) wrote = λ not. absurd (wrote not)
+      go : (before after : Records) (r : Result (Unit {0}) Fault) → (IfErr r (λ why. ¬ (why ≢ fault.Write)))
+          → IfErr r (λ why. why ≢ fault.Write → after ≡ before)
+      go before after (Ok done) wrote = tt
+      go before after (Err why) wrote = λ not. absurd (wrote not)
 
   -- one that ended before it
-  quiet : (s t : S) (came left text : List ℕ) (why : Fault)
-      → ((identity : Identity) (before after other : Records) → Ended came left text (Err why) identity before after → Ended came left text (Err why) identity before other)
-      → Moves is_clean stands (Ended came left text (Err why)) s t → (text ≡ []) × (t ≡ s)
+  quiet : (s t : S) (came left written text : List ℕ) (why : Fault)
+      → ((identity : Identity) (before after other : Records) → Ended came left written (Err why) identity before after → Ended came left written (Err why) identity before other)
+      → Responded (Err why) written text
+      → Moves is_clean stands (Ended came left written (Err why)) s t → t ≡ s
       → Moves is_clean stands (λ identity before after. ExchangeAt signs now identity before came text after) s t
-  quiet s t came left text why any moved still = (
+  quiet s t came left written text why any responded moved still = (
     moved.0,
     (λ identity before stood clean.
         let (after, ended, stands_now) = moved.1 identity before stood clean in
         let P : S → Type 0 = λ v. stands identity v before in (
           before,
-          record { left = left; result = Err why; ends = any identity before after before ended; silent = λ not. (still.0, refl) },
-          subst P (sym still.1) stood,
+          record {
+            left = left;
+            written = written;
+            result = Err why;
+            ends = any identity before after before ended;
+            silent = λ not. refl;
+            responded = responded;
+          },
+          subst P (sym still) stood,
         )),
   )
 
   -- one exchange
-  pub exchange_moves : (s t : S) (came left text : List ℕ) (result : Result (Unit {0}) Fault)
-      → Moves is_clean stands (Ended came left text result) s t
-      → IfErr result (λ why. why ≢ fault.Write → (text ≡ []) × (t ≡ s))
+  pub exchange_moves : (s t : S) (came left written text : List ℕ) (result : Result (Unit {0}) Fault)
+      → Responded result written text
+      → Moves is_clean stands (Ended came left written result) s t
+      → IfErr result (λ why. why ≢ fault.Write → t ≡ s)
       → Moves is_clean stands (λ identity before after. ExchangeAt signs now identity before came text after) s t
-  exchange_moves s t came left text (Ok done) moved silent = spoken s t came left text (Ok done) tt moved
-  exchange_moves s t came left text (Err fault.Write) moved silent = spoken s t came left text (Err fault.Write) (λ not. not refl) moved
-  exchange_moves s t came left text (Err fault.Read) moved silent =
-      quiet s t came left text fault.Read (λ identity before after other ended. ended) moved (silent read_is_not_write)
-  exchange_moves s t came left text (Err fault.Memory) moved silent =
-      quiet s t came left text fault.Memory (λ identity before after other ended. ended) moved (silent memory_is_not_write)
-  exchange_moves s t came left text (Err fault.Store) moved silent =
-      quiet s t came left text fault.Store (λ identity before after other ended. ended) moved (silent (λ same. cc same))
-  exchange_moves s t came left text (Err fault.Signer) moved silent =
-      quiet s t came left text fault.Signer (λ identity before after other ended. ended) moved (silent (λ same. cc same))
-  exchange_moves s t came left text (Err (fault.Refused why)) moved silent =
-      quiet s t came left text (fault.Refused why) (λ identity before after other ended. ended) moved (silent (λ same. cc same))
+  exchange_moves s t came left written text (Ok done) responded moved silent = spoken s t came left written text (Ok done) tt responded moved
+  exchange_moves s t came left written text (Err fault.Write) responded moved silent =
+      spoken s t came left written text (Err fault.Write) (λ not. not refl) responded moved
+  exchange_moves s t came left written text (Err fault.Read) responded moved silent =
+      quiet s t came left written text fault.Read (λ identity before after other ended. ended) responded moved (silent read_is_not_write)
+  exchange_moves s t came left written text (Err fault.Memory) responded moved silent =
+      quiet s t came left written text fault.Memory (λ identity before after other ended. ended) responded moved (silent memory_is_not_write)
+  exchange_moves s t came left written text (Err fault.Store) responded moved silent =
+      quiet s t came left written text fault.Store (λ identity before after other ended. ended) responded moved (silent (λ same. cc same))
+  exchange_moves s t came left written text (Err fault.Signer) responded moved silent =
+      quiet s t came left written text fault.Signer (λ identity before after other ended. ended) responded moved (silent (λ same. cc same))
+  exchange_moves s t came left written text (Err (fault.Refused why)) responded moved silent =
+      quiet s t came left written text (fault.Refused why) (λ identity before after other ended. ended) responded moved (silent (λ same. cc same))
 
   -- the same, from a writer and a desk
-  pub exchange_over : {V D : Type 0} (items : V → List ℕ) (office : D → S) (old new : V) (d d' : D) (came left : List ℕ) (result : Result (Unit {0}) Fault)
+  pub exchange_over : {V D : Type 0} (items : V → List ℕ) (office : D → S) (old new : V) (d d' : D) (came left text : List ℕ)
+      (result : Result (Unit {0}) Fault)
       → items old ≡ []
       → Moves is_clean stands
       (λ identity before after. Ends (Runs signs identity) Asks (Ocsps signs identity) Crls now before after
       (Some came) (Some left) (Some (items old)) (Some (items new)) result)
       (office d) (office d')
       → IfErr result (λ why. why ≢ fault.Write → (new ≡ old) × (d' ≡ d))
-      → Moves is_clean stands (λ identity before after. ExchangeAt signs now identity before came (items new) after) (office d) (office d')
-  exchange_over {V} {D} items office old new d d' came left result empty moved silent =
+      → Responded result (items new) text
+      → Moves is_clean stands (λ identity before after. ExchangeAt signs now identity before came text after) (office d) (office d')
+  exchange_over {V} {D} items office old new d d' came left text result empty moved silent responded =
       let P : List ℕ → Type 0 = λ start. Moves is_clean stands
       (λ identity before after. Ends (Runs signs identity) Asks (Ocsps signs identity) Crls now before after
       (Some came) (Some left) (Some start) (Some (items new)) result)
       (office d) (office d')
       in
-      exchange_moves (office d) (office d') came left (items new) result (subst P empty moved) (go result silent)
+      exchange_moves (office d) (office d') came left (items new) text result responded (subst P empty moved) (go result silent)
     where
       go : (r : Result (Unit {0}) Fault) → IfErr r (λ why. why ≢ fault.Write → (new ≡ old) × (d' ≡ d))
-          → IfErr r (λ why. why ≢ fault.Write → (items new ≡ []) × (office d' ≡ office d))
+          → IfErr r (λ why. why ≢ fault.Write → office d' ≡ office d)
       go (Ok done) silent = tt
-      go (Err why) silent = λ not. let still = silent not in (ap items still.0 ∙ empty, ap office still.1)
+      go (Err why) silent = λ not. ap office (silent not).1
+
+  -- an exchange for whose answer there was no room
+  pub roomless_moves : (s t : S) (came text : List ℕ) → t ≡ s → text ≡ []
+      → Moves is_clean stands (λ identity before after. ExchangeAt signs now identity before came text after) s t
+  roomless_moves s t came text same empty =
+      follows is_clean stands
+      (λ identity before after. after ≡ before)
+      (λ identity before after. ExchangeAt signs now identity before came text after)
+      (λ identity before after stayed. record {
+        left = came;
+        written = [];
+        result = Err fault.Memory;
+        ends = ([], record { consumed = refl; few = omega (arith) });
+        silent = λ not. stayed;
+        responded = inr empty;
+      })
+      s
+      t
+      (stays is_clean stands s t same)
 
   -- how the script of one line ended, over a text
   abbrev pub Ran : List ℕ → List ℕ → List ℕ → List ℕ → Result (Unit {0}) Fault → Identity → Records → Records → Type 0

@@ -7,16 +7,30 @@ use Rattle.reg_core.specs.declared.refusal.Fault.{Fault}
 use Rattle.reg_core.specs.declared.refusal.Fault.TheVariants as fault
 use Rattle.reg_crl.specs.Signing.{Identity}
 use Rattle.reg_faces.specs.Kept.{Signs, Runs, Asks, Ocsps, Crls, Lines}
+use Rattle.reg_heads.specs.Response.{memory_text}
 use Rattle.reg_http.specs.Served.{Ends}
 use Rattle.reg_lines.specs.Script.{ScriptEnds}
 
+-- the answer to a request: what was written, where that is the whole response; else the constant text of want of memory, or nothing where
+-- there was no memory for that either; nothing where no whole request came. So no answer is cut.
+abbrev pub Responded : Result (Unit {0}) Fault → List ℕ → List ℕ → Type 0
+Responded (Ok done) written text = text ≡ written
+Responded (Err fault.Read) written text = text ≡ []
+Responded (Err fault.Memory) written text = (text ≡ memory_text) ⊎ (text ≡ [])
+Responded (Err fault.Write) written text = (text ≡ memory_text) ⊎ (text ≡ [])
+Responded (Err fault.Store) written text = (text ≡ memory_text) ⊎ (text ≡ [])
+Responded (Err fault.Signer) written text = (text ≡ memory_text) ⊎ (text ≡ [])
+Responded (Err (fault.Refused why)) written text = (text ≡ memory_text) ⊎ (text ≡ [])
+
 -- One HTTP exchange (RFC 9112) at a moment: the bytes that came from the peer, and the text that answers them. Where they were no whole
--- request, or there was no memory for it, nothing is answered, and the records are as they were.
+-- request, or there was no memory for it, the records are as they were.
 pub record ExchangeAt (signs : Signs) (now : ℕ) (identity : Identity) (before : Records) (request text : List ℕ) (after : Records) : Type 0 where
   pub left : List ℕ
+  pub written : List ℕ
   pub result : Result (Unit {0}) Fault
-  pub ends : Ends (Runs signs identity) Asks (Ocsps signs identity) Crls now before after (Some request) (Some left) (Some []) (Some text) result
-  pub silent : IfErr result (λ why. why ≢ fault.Write → (text ≡ []) × (after ≡ before))
+  pub ends : Ends (Runs signs identity) Asks (Ocsps signs identity) Crls now before after (Some request) (Some left) (Some []) (Some written) result
+  pub silent : IfErr result (λ why. why ≢ fault.Write → after ≡ before)
+  pub responded : Responded result written text
 
 -- a line of a script, which is a line at a counter with a moment before it
 abbrev pub line_at : ℕ → List ℕ → List ℕ

@@ -1,6 +1,6 @@
 //! Registers in files: made, opened and closed.
 
-ghost use Rattle.std.specs.Prelude.{◌≡◌, ◌≤◌, ◌⊎◌, false, Some, None, IfOk, IfErr, IsFalse, MatchResult};
+ghost use Rattle.std.specs.Prelude.{◌≡◌, ◌≤◌, ◌⊎◌, false, Some, None, IfOk, IfErr, IsFalse, IsTrue, MatchResult, OnErr};
 ghost use Rattle.sqlite.specs.Files.{file_state, over_files, IsOpened};
 ghost use Rattle.sqlite.specs.Held.{state, IsNew};
 ghost use Rattle.sqlite.specs.State.{HasCleanDisk};
@@ -19,11 +19,11 @@ ghost use Rattle.reg_tables.specs.Schema.{no_schema};
 use crate::machine::Machine;
 use crate::place::{Place, Register};
 use crate::signing::{FileSigner, signer_found, signer_over};
-use reg_core::{Fault, Policy, Schedule};
+use reg_core::{Fault, Memory, Policy, Schedule};
 use reg_crl::Signer;
 use reg_der::Issuer;
 use reg_faces::Keeper;
-use reg_files::{absent, claim_file, open_file, remove_file};
+use reg_files::{Unlaid, absent, claim_file, open_file, remove_file};
 use reg_jobs::Failure;
 use reg_office::Office;
 use reg_signer::KeyOrDigest;
@@ -32,6 +32,7 @@ use reg_words::KeyHolder;
 use sqlite::{Alter, Connection, FileFrom, FileStore};
 use sqlite_disk::{Disk, Unknown};
 use std::alloc::Global;
+use std::fs;
 
 /// An office over a register's file, with its checks for damage, and what holds the key or a digest as its signer.
 pub type FileOffice = Office<FileStore<FileFrom<Unknown>>, FileSigner>;
@@ -65,10 +66,20 @@ impl<'a> Place for Machine<'a> {
 
     ghost closed = { λ files path register after. Unit {0} };
 
-    fn claim(&mut self, path: &str) -> bool
-        ensures same { IsFalse result → self.new ≡ self.old }
+    fn claim(&mut self, path: &str) -> Result<bool, Memory>
+        ensures ours { IfOk result (λ is_ours. IsTrue is_ours → Unit {0}) }
+        ensures lies { IfOk result (λ is_ours. IsFalse is_ours → Unit {0}) }
+        ensures same { IfOk result (λ is_ours. IsFalse is_ours → self.new ≡ self.old) }
+        ensures memory { OnErr result (self.new ≡ self.old) }
     {
-        claim_file(&self.rt, path)
+        match claim_file(&self.rt, path) {
+            Ok(()) => Ok(true),
+            Err(Unlaid::Memory) => Err(Memory),
+            Err(Unlaid::Taken(cause)) => {
+                self.note(cause);
+                Ok(false)
+            }
+        }
     }
 
     fn open(&mut self, path: &str) -> Result<FileOffice, Failure> {
@@ -88,7 +99,10 @@ impl<'a> Place for Machine<'a> {
 
     fn make(&mut self, path: &str, issuer: Issuer, policy: Policy) -> Result<FileOffice, Failure> {
         // What could not be claimed and is not there can't be made: a link that leads nowhere, a log without its register.
-        present(self, path)?;
+        // Why it could not be claimed was noted then.
+        if !fs::exists(&self.rt, path).unwrap_or(false) {
+            return Err(Failure::Fault(Fault::Store));
+        }
         make_register(self, path, issuer, policy)
     }
 

@@ -5,13 +5,19 @@ ghost use Rattle.reg_core.specs.Lines.{fault_line};
 ghost use Rattle.reg_faces.specs.Kept.{Lines};
 ghost use Rattle.reg_faces.specs.Moves.{Moves};
 ghost use Rattle.reg_lines.specs.Script.{ScriptEnds};
-ghost use Rattle.reg_program.specs.Exchanges.{Entry, EntryAt, Exchange, ExchangeAt, LineRuns, Replied, line_at};
+ghost use Rattle.reg_heads.specs.Response.{memory_text};
+ghost use Rattle.reg_program.specs.Exchanges.{Entry, EntryAt, Exchange, ExchangeAt, LineRuns, Replied, Responded, line_at};
 
 use crate::front::Front;
 use reg_core::{Fault, Moment};
 use reg_faces::{Desk, Keeper, run_script, serve_one};
+use reg_heads::write_memory_fault;
 use reg_hub::{Handler, Stopped};
 use std::alloc::{AllocError, Global};
+
+/// The bytes of room that are made for the text of a response before anything is asked. Each response that tells of something entered
+/// fits, and so do most of an OCSP answer: memory can't be wanting for them once the office was asked.
+const TEXT_ROOM: usize = 4_096;
 
 /// A desk that answers peers, each at a moment of the clock, and has no counter.
 #[derive(Drop)]
@@ -122,15 +128,60 @@ fn tell_now<K: Keeper, F: Front>(
     }
 }
 
-/// Answers what came of a peer, at a moment.
+/// Answers what came of a peer, at a moment. Room for the text is made before anything is asked.
 fn answer_at<K: Keeper>(desk: &mut Desk<K>, now: Moment, request: &[u8]) -> Vec<u8>
     ensures { Moves K.is_clean K.stands (λ identity before after. ExchangeAt K.signs now identity before request.now result.items after)
         desk.old.office desk.new.office }
 {
+    match Vec::with_capacity(desk.alloc, TEXT_ROOM) {
+        Ok(text) => answer_in(desk, now, request, text),
+        Err(_) => Vec::new(desk.alloc),
+    }
+}
+
+/// Answers what came of a peer, at a moment, in a room that is empty.
+fn answer_in<K: Keeper>(
+    desk: &mut Desk<K>,
+    now: Moment,
+    request: &[u8],
+    mut text: Vec<u8>,
+) -> Vec<u8>
+    requires { text.items ≡ [] }
+    ensures { Moves K.is_clean K.stands (λ identity before after. ExchangeAt K.signs now identity before request.now result.items after)
+        desk.old.office desk.new.office }
+{
     let mut reader = request;
-    let mut text = Vec::new(desk.alloc);
-    // However it ended, what was written is the answer.
-    let _ = serve_one(desk.alloc, &mut reader, &mut text, now, desk);
+    let served = serve_one(desk.alloc, &mut reader, &mut text, now, desk);
+    response_of(served, text)
+}
+
+/// The answer to a request whose serving ended so, over what it wrote.
+fn response_of(served: Result<(), Fault>, written: Vec<u8>) -> Vec<u8>
+    ensures { Responded served written.items result.items }
+{
+    match served {
+        Ok(()) => written,
+        Err(Fault::Read) => emptied(written),
+        Err(_) => memory_response(written),
+    }
+}
+
+/// The constant text of want of memory in the place of what was written, or nothing where there is no memory for it.
+fn memory_response(written: Vec<u8>) -> Vec<u8>
+    ensures { (result.items ≡ memory_text) ⊎ (result.items ≡ []) }
+{
+    let mut text = emptied(written);
+    match write_memory_fault(&mut text) {
+        Ok(()) => text,
+        Err(_) => emptied(text),
+    }
+}
+
+/// A text without its bytes, and with its room.
+fn emptied(mut text: Vec<u8>) -> Vec<u8>
+    ensures { result.items ≡ [] }
+{
+    text.clear();
     text
 }
 

@@ -109,13 +109,17 @@ pub(crate) fn init<P: Place, W: Write>(
         new.ocsp_life,
         new.cap,
     )?;
-    let is_ours = place.claim(path);
+    let is_ours = match place.claim(path) {
+        Ok(is_ours) => is_ours,
+        Err(_) => return Err(Failure::Fault(Fault::Memory)),
+    };
     match make_at(place, path, issuer, policy, writer) {
         Ok(()) => Ok(()),
         Err(Failure::NotEmpty) => Err(Failure::NotEmpty),
         Err(why) => {
             if is_ours {
                 place.remove(path);
+                return Err(why);
             }
             Err(why)
         }

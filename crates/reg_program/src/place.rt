@@ -1,6 +1,6 @@
 //! A place where registers lie.
 
-use reg_core::{Policy, Schedule};
+use reg_core::{Memory, Policy, Schedule};
 use reg_der::Issuer;
 use reg_faces::Keeper;
 use reg_jobs::Failure;
@@ -29,7 +29,7 @@ pub trait Register: Keeper {
 /// register was opened, made or closed. Each call that may change the place is stated by a relation of the place before and
 /// after it: so a clause that leads from one place to another by such calls says that nothing else was done there.
 pub trait Place {
-    ghost use Rattle.std.specs.Prelude.{◌≡◌, ℕ, List, Some, None, IsTrue, IsFalse, OnOk, IfOk, IfErr};
+    ghost use Rattle.std.specs.Prelude.{◌≡◌, ℕ, List, Some, None, IsTrue, IsFalse, OnOk, OnErr, IfOk, IfErr};
     ghost use Rattle.reg_core.specs.Records.{no_records};
     ghost use Rattle.reg_crl.specs.Signing.{Identity};
     ghost use Rattle.reg_jobs.specs.declared.failure.Failure.{Failure as Failing};
@@ -66,10 +66,15 @@ pub trait Place {
     /// Lays an empty file at a path where nothing lies, and no log either, in one step, so that of two who do so at once one
     /// has it; and answers whether it did. Its owner alone may read and write it. A link that leads nowhere is something that
     /// lies there, and so is what can't be found out.
-    fn claim(&mut self, path: &str) -> bool
-        ensures ours { IsTrue result → claimed self.old path.now self.new }
-        ensures lies { IsFalse result → lies self.old path.now }
-        ensures same { IsFalse result → self.new ≡ self.old };
+    ///
+    /// # Errors
+    ///
+    /// [`Memory`], and the place is as it was.
+    fn claim(&mut self, path: &str) -> Result<bool, Memory>
+        ensures ours { IfOk result (λ is_ours. IsTrue is_ours → claimed self.old path.now self.new) }
+        ensures lies { IfOk result (λ is_ours. IsFalse is_ours → lies self.old path.now) }
+        ensures same { IfOk result (λ is_ours. IsFalse is_ours → self.new ≡ self.old) }
+        ensures memory { OnErr result (self.new ≡ self.old) };
 
     /// Opens the register that lies at a path, where nothing will be signed.
     ///

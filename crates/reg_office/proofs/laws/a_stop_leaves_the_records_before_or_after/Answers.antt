@@ -5,7 +5,7 @@ use Rattle.reg_office.proofs.Resting.{at_rest, clean_first}
 use Rattle.reg_office.proofs.laws.a_stop_leaves_the_records_before_or_after.Goals as goal
 
 pub returns : goal.returns
-returns g c = λ old new identity records now command stands up idle survives clean trees may.
+returns g c = λ old new identity records now command stands up survives clean trees may.
     let s = g.C.Store in
     elim (survives.crash clean trees may) [
       | inl before ↦ inl (at_rest s old records trees (clean_first (state s old) (state s new) survives.clean clean) up stands.shown (g.met.C.Store.settled old.store trees up before))

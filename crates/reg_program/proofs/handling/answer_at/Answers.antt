@@ -1,8 +1,7 @@
-use Rattle.std.proofs.Common.{ℕ, Global, Vec}
-use Rattle.reg_program.proofs.Peers.{exchange_over}
+use Rattle.std.proofs.Common.{refl}
+use Rattle.reg_program.proofs.Peers.{roomless_moves}
 use Rattle.reg_program.proofs.handling.answer_at.Goals as goal
 
-pub returns : goal.returns
-returns g c =
-    exchange_over g.K.Keeper.is_clean g.K.Keeper.stands g.K.Keeper.signs c.args.now (λ (v : Vec ℕ Global). v.items) (λ desk. desk.office) _ _ _ _
-    c.args.request.now _ c.serve_one.result c.new-text.ensures.items c.serve_one.ensures.ends c.serve_one.ensures.silent
+pub returns-in-Err : goal.returns-in-Err
+returns-in-Err g c =
+    roomless_moves g.K.Keeper.is_clean g.K.Keeper.stands g.K.Keeper.signs c.args.now _ _ c.args.request.now _ refl c.new.ensures.items

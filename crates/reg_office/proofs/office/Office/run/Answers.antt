@@ -5,9 +5,12 @@ use Rattle.sqlite.specs.Held.{state}
 use Rattle.reg_core.specs.declared.command.Command.{Command}
 use Rattle.reg_core.specs.declared.command.Reply.{Reply}
 use Rattle.reg_core.specs.declared.refusal.Fault.{Fault}
-use Rattle.reg_office.specs.Stands.{Ran}
+use Rattle.reg_crl.specs.Signing.{Identity}
+use Rattle.reg_office.specs.AtRest.{IsPartlyRun, IsRunOne}
+use Rattle.reg_office.specs.Stands.{CameTo, Ran}
 use Rattle.reg_office.proofs.Composing.{was_clean}
 use Rattle.reg_office.proofs.Standing.{ran_more, ran_none}
+use Rattle.reg_office.proofs.Stopping.{Reached, Settles, reached_more, reached_none}
 use Rattle.reg_office.proofs.office.Office.run.Goals as goal
 
 pub loop-now-init : goal.loop-now-init
@@ -19,6 +22,11 @@ loop-now-init g c = record {
     [],
     c.in-Ok.ensures.items ∙ sym (append_nil c.args.outcomes.now.items),
     ran_none g.C.Store g.S.Signer.signs c.args.self.now.store (g.S.Signer.identity c.args.self.now.signer) records stands,
+  );
+  survives = λ records stands up clean. (
+    [],
+    c.in-Ok.ensures.items ∙ sym (append_nil c.args.outcomes.now.items),
+    reached_none g.C.Store g.S.Signer.signs (g.S.Signer.identity c.args.self.now.signer) c.args.self.now.store records (λ held trees is_open leaves. g.met.C.Store.settled held.store trees is_open leaves) stands up clean,
   );
 }
 
@@ -51,6 +59,32 @@ loop-now-preserved g c =
                 (ran_more s signs old.store new.store (g.S.Signer.identity old.signer) (g.S.Signer.identity new.signer) records (take i commands) earlier.0 timed outcome
                 c.run_one-outcome.ensures.same_identity earlier.2 step),
           );
+      survives = λ records stands up clean.
+          let who = g.S.Signer.identity c.args.self.now.signer in
+          let before = was_clean (state s old.store) (state s new.store) c.run_one-outcome.ensures.survives.clean clean in
+          let earlier = c.loop-now.invariant.survives records stands up before in
+          let settles : Settles s = λ held trees is_open leaves. g.met.C.Store.settled held.store trees is_open leaves in
+          let one : IsRunOne s signs who old.store new.store timed.0 timed.1 outcome =
+          subst
+          (λ (w : Identity). IsRunOne s signs w old.store new.store timed.0 timed.1 outcome)
+          c.loop-now.invariant.same_identity
+          (record {
+            step = λ stood standing now_clean.
+                subst
+                (λ (w : Identity). CameTo s signs new.store w stood timed.0 timed.1 outcome)
+                c.run_one-outcome.ensures.same_identity
+                (c.run_one-outcome.ensures.step stood standing now_clean);
+            live = c.run_one-outcome.ensures.live;
+            survives = c.run_one-outcome.ensures.survives;
+          }) in (
+            earlier.0 ++ outcome ∷ [],
+            c.in-Ok-push.ensures.items
+                ∙ (ap (λ (l : List (Result Reply Fault)). l ++ outcome ∷ []) earlier.1 ∙ append_assoc c.args.outcomes.now.items earlier.0 (outcome ∷ [])),
+            subst
+                (λ (l : List (ℕ × Command)). Reached s signs who new.store records l (earlier.0 ++ outcome ∷ []))
+                (sym all)
+                (reached_more s signs who old.store new.store records (take i commands) earlier.0 timed outcome settles one clean earlier.2),
+          );
     }
 
 pub returns-clause-ran : goal.returns-clause-ran
@@ -64,6 +98,19 @@ returns-clause-ran g c records stands clean =
           (λ (l : List (ℕ × Command)). Ran g.C.Store g.S.Signer.signs done.store (g.S.Signer.identity done.signer) records l ran.0)
           (take_all c.loop-now.now-index commands c.loop-now-test.false)
           ran.2,
+    )
+
+pub returns-clause-survives : goal.returns-clause-survives
+returns-clause-survives g c records stands up clean =
+    let reached = c.loop-now.invariant.survives records stands up clean in
+    let commands = c.args.commands.now in
+    let who = g.S.Signer.identity c.args.self.now.signer in (
+      reached.0,
+      reached.1,
+      λ trees may. subst
+          (λ (l : List (ℕ × Command)). IsPartlyRun g.S.Signer.signs who records l reached.0 trees)
+          (take_all c.loop-now.now-index commands c.loop-now-test.false)
+          (reached.2.found trees may),
     )
 
 pub returns-in_default-push-clause-none_ran : goal.returns-in_default-push-clause-none_ran

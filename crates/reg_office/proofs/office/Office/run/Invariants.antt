@@ -1,5 +1,5 @@
 use Rattle.std.specs.Prelude.{Result}
-use Rattle.std.proofs.Common.{◌≡◌, ◌≤◌, ◌+◌, List, ◌++◌, length, take, vec_len}
+use Rattle.std.proofs.Common.{◌≡◌, ◌≤◌, ◌+◌, List, ◌++◌, length, take, vec_len, IsTrue}
 use Rattle.std.specs.Vec.{vec_capacity}
 use Rattle.sqlite.specs.Held.{state}
 use Rattle.sqlite.specs.State.{HasCleanDisk}
@@ -8,6 +8,7 @@ use Rattle.reg_core.specs.Records.{Records}
 use Rattle.reg_core.specs.declared.command.Reply.{Reply}
 use Rattle.reg_core.specs.declared.refusal.Fault.{Fault}
 use Rattle.reg_office.specs.Stands.{Stands, Ran}
+use Rattle.reg_office.proofs.Stopping.{Reached}
 use Rattle.reg_office.proofs.office.Office.run.Given as goal
 
 abbrev pub invariant-loop-now : goal.invariant-loop-now
@@ -20,4 +21,10 @@ invariant-loop-now g l = record {
       → HasCleanDisk (state g.C.Store l.self.store)
       → (came : List (Result Reply Fault)) × (l.outcomes.items ≡ l.fn.outcomes.items ++ came)
       × Ran g.C.Store g.S.Signer.signs l.self.store (g.S.Signer.identity l.self.signer) records (take l.now-index l.commands) came;
+  survives : (records : Records)
+      → Stands g.C.Store g.S.Signer.signs l.fn.self.store (g.S.Signer.identity l.fn.self.signer) records
+      → IsTrue (state g.C.Store l.fn.self.store).is_open
+      → HasCleanDisk (state g.C.Store l.self.store)
+      → (came : List (Result Reply Fault)) × (l.outcomes.items ≡ l.fn.outcomes.items ++ came)
+      × Reached g.C.Store g.S.Signer.signs (g.S.Signer.identity l.fn.self.signer) l.self.store records (take l.now-index l.commands) came;
 }

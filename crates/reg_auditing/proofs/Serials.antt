@@ -1,0 +1,10 @@
+-- Serial numbers that are read of their bytes.
+use Rattle.std.proofs.Common.{◌≡◌, ◌≢◌, ℕ, List, Option, None, Some, MatchOption, sym, ap, ◌∙◌}
+use Rattle.reg_core.specs.Serial.{IsSerial, serial_bytes}
+use Rattle.reg_tables.proofs.Compares.{serial_injective}
+
+-- the serial number that has these bytes is found
+pub serial_read : (serial : ℕ) (read : Option ℕ) (bytes : List ℕ) → IsSerial serial → bytes ≡ serial_bytes serial
+    → MatchOption read ((n : ℕ) → IsSerial n → bytes ≢ serial_bytes n) (λ n. IsSerial n × (bytes ≡ serial_bytes n)) → read ≡ Some serial
+serial_read serial None bytes in_range is found = absurd (found serial in_range is)
+serial_read serial (Some n) bytes in_range is found = ap Some (serial_injective n serial found.0 in_range (sym found.1 ∙ is))
