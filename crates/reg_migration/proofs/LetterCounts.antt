@@ -1,14 +1,16 @@
 -- How many letters of a kind there are.
-use Rattle.std.proofs.Common.{◌≡◌, ◌≤◌, ◌&&◌, ℕ, Bool, true, List, [], ◌∷◌, map, length, filter, codes, refl, sym, ap, subst, ◌∙◌, arith, inl, inr}
+use Rattle.std.proofs.Common.{◌≡◌, ◌≤◌, ◌&&◌, ℕ, pos, Bool, true, false, Some, List, [], ◌∷◌, map, length, filter, codes, refl, sym, ap, subst, ◌∙◌, arith, inl, inr}
 use Rattle.std.proofs.lemmas.Bool.{cases_Bool}
 use Rattle.std.proofs.lemmas.Bool.Decides.{nat_tests}
 use Rattle.std.specs.Prelude.{min, bytes_eq}
 use Rattle.sqlite_value.specs.Order.{Row}
 use Rattle.sqlite_value.specs.declared.keys.Collation.TheVariants.{Binary}
-use Rattle.sqlite_value.specs.declared.value.Value.TheVariants.{Text}
+use Rattle.sqlite_value.specs.declared.value.Value.TheVariants.{Null, Int, Text}
 use Rattle.sqlite_sql.specs.Aggregate.{count}
-use Rattle.sqlite_sql.specs.Term.{Term, col, op2}
-use Rattle.sqlite_sql.specs.Query.{Output}
+use Rattle.sqlite_sql.specs.Group.{Aggregate, Grouping}
+use Rattle.sqlite_sql.specs.declared.aggregate.AggregateOp.TheVariants.{CountRows}
+use Rattle.sqlite_sql.specs.Term.{Term, lit, col, op2}
+use Rattle.sqlite_sql.specs.Query.{Query, inner, end, Output}
 use Rattle.sqlite_sql.specs.declared.ops.BinaryOp.TheVariants.{Compare}
 use Rattle.sqlite_sql.specs.declared.ops.CompareOp.TheVariants.{Eq}
 use Rattle.sqlite.specs.Effect.{Database, Reads}
@@ -22,13 +24,32 @@ use Rattle.reg_tables.specs.Rows.{number, counted_rows}
 use Rattle.reg_tables.specs.Schema.{register_schema}
 use Rattle.reg_tables.specs.Shows.{AreBoth}
 use Rattle.reg_tables.proofs.Compares.{and_true, compares, eq_text}
-use Rattle.reg_tables.proofs.CountLemmas.{counted, counts_of}
-use Rattle.reg_tables.proofs.Queries.{as_command, passes, kept_behind, all_of}
+use Rattle.reg_tables.proofs.CountLemmas.{counted}
+use Rattle.reg_tables.proofs.Queries.{as_command, no_limit, passes, kept_behind, all_of}
 use Rattle.reg_tables.proofs.Selecting.{select_never}
 use Rattle.reg_migration.specs.Makes.{NeverReturns}
 use Rattle.reg_migration.specs.Refilled.{with_letter}
 use Rattle.reg_migration.specs.declared.texts.TheConstants.{COUNT_LETTER}
 use Rattle.reg_migration.proofs.Questions.{never_returns}
+
+abbrev count_rows : Aggregate
+count_rows = record { op = CountRows; distinct = false; collation = Binary; argument = lit Null }
+
+abbrev in_one : Grouping
+in_one = record { keys = []; collations = []; aggregates = count_rows ∷ []; having = [] }
+
+abbrev counts_of : ℕ → List Term → Query
+counts_of tree terms = record {
+  from = inner tree end;
+  filter = terms;
+  group = Some in_one;
+  project = col 1 0 ∷ [];
+  distinct = false;
+  collations = [];
+  order = [];
+  limit = no_limit;
+  offset = lit (Int (pos 0));
+}
 
 abbrev letter_terms : List Term
 letter_terms = op2 (Compare Eq Binary) (col 1 3) (col 0 0) ∷ []

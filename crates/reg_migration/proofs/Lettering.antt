@@ -283,7 +283,7 @@ module _ (db : Database) (records : Records) (both : IsShownBy db records) where
   abbrev blank_revocation : RevocationRow → Output
   blank_revocation r = ([], [])
 
-  is_its : Row → Row → Bool
+  abbrev is_its : Row → Row → Bool
   is_its r q = list_all (holds (params ∷ r ∷ q ∷ [])) its_revocation
 
   revoked_once : (id : ℕ) (row : CertRow) → IsSerial row.serial → min 1 (revoked_count (number id ∷ stored_certificate row)) ≡ one_if_some (revocation_in records.revocations row.serial)

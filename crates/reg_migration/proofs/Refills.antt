@@ -71,8 +71,8 @@ relisted_more db records at row within is certificate found columns letters list
 
 -- there are no more letters than the cap
 pub few_letters : (records : Records) (columns : Columns) → SoundRows records → records.policy.cap ≤ 1000000 → HasLetters columns records → length columns.letters ≤ 1000000
-few_letters records columns sound cap letters =
-    let many : length columns.letters ≡ length records.certificates = sym (length_permutation (map (standing_of records) records.certificates) columns.letters letters) ∙ rw length-map refl in
+few_letters records columns sound most letters =
+    let many : length columns.letters ≡ length records.certificates = length_permutation (map (standing_of records) records.certificates) columns.letters letters ∙ rw length-map refl in
     let within = sound.certificates.within_cap in
     omega arith
 

@@ -1,6 +1,6 @@
 //! How many certificates have each letter.
 
-ghost use Rattle.std.specs.Prelude.{◌≡◌, ◌≤◌, ℕ, [], ◌∷◌, length, Bool, codes, bytes_eq, IsTrue, IfOk, IfErr};
+ghost use Rattle.std.specs.Prelude.{◌≡◌, ◌≤◌, ℕ, [], ◌∷◌, length, Bool, bytes_eq, IfOk, IfErr};
 ghost use Rattle.sqlite.specs.Held.{state};
 ghost use Rattle.sqlite.specs.State.{HasCleanDisk, KeepsCommit, IsUnchanged};
 ghost use Rattle.sqlite_trees.specs.View.{doubt};
@@ -33,7 +33,7 @@ fn count_in(rows: &[Row]) -> Result<u64, StoreFault>
 }
 
 /// How many certificates have a letter.
-fn count_letter<S: Alter>(tx: &mut Transaction<'_, S>, letter: &str) -> Result<u64, StoreFault>
+fn count_letter<S: Alter>(tx: &mut Transaction<'_, S>, letter: &[u8]) -> Result<u64, StoreFault>
     ensures same_reference { tx.new.conn.ghost_name ≡ tx.old.conn.ghost_name }
     ensures counted { HasCleanDisk (state S.Store tx.new.conn.now) → (records : Records) → (columns : Columns) → length columns.letters ≤ 1000000 → Before (state S.Store tx.old.conn.now) records columns
         → (test : Letter → Bool) → ((of : Letter) → bytes_eq (letter_text of) letter.now ≡ test of) → IfOk result (λ count. count ≡ with_letter test columns.letters) }
@@ -42,7 +42,7 @@ fn count_letter<S: Alter>(tx: &mut Transaction<'_, S>, letter: &str) -> Result<u
     ensures clean { doubt (state S.Store tx.old.conn.now).is_clean ≤ doubt (state S.Store tx.new.conn.now).is_clean }
     ensures faults { IfErr result IsCallFault }
 {
-    let found = ask(tx, texts::COUNT_LETTER, &[ValueRef::Text(letter.as_bytes())])?;
+    let found = ask(tx, texts::COUNT_LETTER, &[ValueRef::Text(letter)])?;
     count_in(&found)
 }
 
@@ -56,9 +56,12 @@ pub(crate) fn counts<S: Alter>(tx: &mut Transaction<'_, S>) -> Result<Counts, St
     ensures clean { doubt (state S.Store tx.old.conn.now).is_clean ≤ doubt (state S.Store tx.new.conn.now).is_clean }
     ensures faults { IfErr result IsCallFault }
 {
+    let good = count_letter(tx, b"G")?;
+    let revoked = count_letter(tx, b"R")?;
+    let expired = count_letter(tx, b"X")?;
     Ok(Counts {
-        good: count_letter(tx, "G")?,
-        revoked: count_letter(tx, "R")?,
-        expired: count_letter(tx, "X")?,
+        good,
+        revoked,
+        expired,
     })
 }

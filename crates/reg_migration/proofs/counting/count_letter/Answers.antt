@@ -12,8 +12,7 @@ returns-clause-counted g c clean records columns few before test is =
     let s0 = state g.S.Store c.args.tx.now.conn.now in
     let answer = c.in_ok-found.ensures.rows clean reading_letter (λ up. (before up).shown.schema) in
     let both = before answer.is_open in
-    let reads = rw c.as_bytes.ensures at answer.reads in
-    let shown = letters_shown c.args.letter.now test is s0.now records columns both c.in_ok-found.found.items reads few in
+    let shown = letters_shown c.args.letter.now test is s0.now records columns both c.in_ok-found.found.items answer.reads few in
     c.count_in.ensures.read (with_letter test columns.letters) (c.deref.ensures.value ∙ shown)
 
 pub returns-clause-same : goal.returns-clause-same

@@ -1,4 +1,4 @@
-use Rattle.std.proofs.Common.{◌≡◌, take, length, map, IsTrue, sym, subst, ap, ◌∙◌, arith}
+use Rattle.std.proofs.Common.{◌≡◌, take, length, map, IsTrue, refl, sym, subst, ap, ◌∙◌, arith}
 use Rattle.std.proofs.lemmas.List.{take_all}
 use Rattle.sqlite.specs.Held.{state}
 use Rattle.sqlite.specs.State.{HasCleanDisk}
@@ -27,11 +27,11 @@ returns-clause-ok g c clean records sound same before =
     let up2 = (c.counts.ensures.kept clean3).was_open up3 in
     let done = listed up2 in
     let columns = done.0 in
-    let whole : columns.listed ≡ map (listed_of records) records.revocations = done.2.1 ∙ ap (map (listed_of records)) (take_all (length records.revocations) records.revocations (omega arith)) in
-    let few = few_letters records columns sound done.1.shown.rows.policy.cap.1 done.2.0 in
+    let whole : columns.listed ≡ map (listed_of records) records.revocations = done.3 ∙ ap (map (listed_of records)) (take_all (length records.revocations) records.revocations (omega arith)) in
+    let few = few_letters records columns sound done.1.shown.rows.policy.cap.1 done.2 in
     let counted = c.in_ok-counts.ensures.counted clean3 records columns few (λ _. done.1) in
     let still = c.in_ok-counts.ensures.same clean3 in
     let there = Rattle.reg_migration.proofs.Steps.unchanged_before s2 s3 (λ db. Rattle.reg_tables.specs.Shows.AreBoth db records columns) still (λ _. done.1) in
     let set = given _ (c.set_counts.ensures.ok clean records columns there) in
     let counts = c.in_ok-counts.counts in
-    (with_counts counts columns, set.tables, subst (λ x. Kept (with_counts x columns) records) (sym counted) (kept_counted records columns sound done.2.0 whole)))
+    (with_counts counts columns, set.tables, subst (λ x. Kept (with_counts x columns) records) (sym counted) (kept_counted records columns sound done.2 whole)))

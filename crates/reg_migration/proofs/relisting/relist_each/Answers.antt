@@ -34,7 +34,7 @@ loop-revocation-preserved g c =
           let never = subst (NeverFalls (λ (crl : CrlRow). crl.this_update)) (sym issued) (rows_rise records.crls sound.crls.updates_never_fall) in
           let one = c.in_ok-relist_one.ensures.ok clean records columns numbered never (λ open_now. had.1) in
           let known = some_and_of (λ (certificate : CertRow). Moved s1 s2 records (with_listed (listed_by crls row certificate.not_after) columns)) (certificate_in records.certificates row.serial) one in
-          relisted_more s2.now records at row (subst (λ l. at < length l) all within) (c.revocation-item.is ∙ ap (λ l. Rattle.std.proofs.Common.get_or l at row) all) known.0 known.1 columns had.2.0 had.2.1
+          relisted_more s2.now records at row (subst (λ l. at < length l) all within) (c.revocation-item.is ∙ ap (λ l. Rattle.std.proofs.Common.get_or l at row) all) known.0 known.1 columns had.2 had.3
           (subst (λ l. Rattle.reg_tables.specs.Shows.AreBoth s2.now records (with_listed (listed_by l row known.0.not_after) columns)) issued known.2.tables);
     }
 
