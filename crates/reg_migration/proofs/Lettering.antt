@@ -1,5 +1,5 @@
 -- The letters of all certificates, put in by one statement.
-use Rattle.std.proofs.Common.{◌≡◌, ◌≢◌, ◌+◌, ◌&&◌, ◌==◌, ℕ, suc, min, pos, Bool, true, false, cond, List, [], ◌∷◌, ◌++◌, map, length, filter, find, flat_map, slice_get, unwrap_or, Option, None, Some, Ok, IsTrue, append_assoc, append-nil, refl, sym, ap, subst, ◌∙◌, inl, inr, arith}
+use Rattle.std.proofs.Common.{◌≡◌, ◌≢◌, ◌+◌, ◌==◌, ℕ, suc, min, pos, Bool, true, false, cond, List, [], ◌∷◌, ◌++◌, map, length, filter, find, flat_map, slice_get, unwrap_or, Option, None, Some, Ok, IsTrue, append_assoc, append-nil, refl, sym, ap, subst, ◌∙◌, inl, inr, arith}
 use Rattle.std.specs.Prelude.{MatchBool, nat_lt}
 use Rattle.std.specs.List.{AllByRecursion, list_all}
 use Rattle.std.specs.List.Sorted.{IsPermutation, IsSorted}

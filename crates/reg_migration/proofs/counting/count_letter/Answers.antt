@@ -1,7 +1,5 @@
-use Rattle.std.proofs.Common.{◌≡◌, sym, ◌∙◌}
+use Rattle.std.proofs.Common.{◌∙◌}
 use Rattle.sqlite.specs.Held.{state}
-use Rattle.reg_tables.specs.Columns.{Columns}
-use Rattle.reg_tables.proofs.Staying.{ok_then}
 use Rattle.reg_migration.specs.Refilled.{with_letter}
 use Rattle.reg_migration.proofs.Steps.{if_ok}
 use Rattle.reg_migration.proofs.LetterCounts.{reading_letter, letter_never, letters_shown}
