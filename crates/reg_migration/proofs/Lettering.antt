@@ -1,12 +1,14 @@
 -- The letters of all certificates, put in by one statement.
-use Rattle.std.proofs.Common.{◌≡◌, ◌≢◌, ◌+◌, ℕ, pos, Bool, true, false, cond, List, [], ◌∷◌, ◌++◌, map, length, filter, slice_get, unwrap_or, Option, None, Some, Ok, IsTrue, codes, append_assoc, append-nil, refl, sym, ap, subst, ◌∙◌, arith}
-use Rattle.std.specs.Prelude.{MatchBool}
-use Rattle.std.specs.List.{AllByRecursion}
+use Rattle.std.proofs.Common.{◌≡◌, ◌≢◌, ◌+◌, ◌==◌, ℕ, suc, min, pos, Bool, true, false, cond, List, [], ◌∷◌, ◌++◌, map, length, filter, find, flat_map, slice_get, unwrap_or, Option, None, Some, Ok, IsTrue, append_assoc, append-nil, refl, sym, ap, subst, ◌∙◌, inl, inr, arith}
+use Rattle.std.specs.Prelude.{MatchBool, nat_lt}
+use Rattle.std.specs.List.{AllByRecursion, list_all}
 use Rattle.std.specs.List.Sorted.{IsPermutation, IsSorted}
 use Rattle.std.specs.declared.cmp.Ordering.{Ordering}
+use Rattle.std.proofs.lemmas.Bool.{cases_Bool}
+use Rattle.std.proofs.lemmas.Bool.Decides.{nat_tests}
 use Rattle.std.proofs.lemmas.List.{length-map, get_or-map}
 use Rattle.std.proofs.lemmas.List.Elements.{All-from_recursion, recursion_from_All}
-use Rattle.std.proofs.lemmas.List.Sorted.{All-permutation, IsPermutation-map, length_permutation}
+use Rattle.std.proofs.lemmas.List.Sorted.{All-permutation, IsPermutation-map}
 use Rattle.sqlite_value.specs.declared.value.Value.TheVariants.{Null, Int, Text}
 use Rattle.sqlite_value.specs.declared.keys.Collation.{Collation}
 use Rattle.sqlite_value.specs.declared.keys.Collation.TheVariants.{Binary}
@@ -14,9 +16,12 @@ use Rattle.sqlite_value.specs.declared.keys.Key.{Key}
 use Rattle.sqlite_value.specs.Order.{Row}
 use Rattle.sqlite_trees.specs.Tree.{Trees, put_row}
 use Rattle.sqlite_trees.proofs.ListLemmas.{map-map, pull_back}
-use Rattle.sqlite_sql.specs.Term.{Term, lit, col}
+use Rattle.sqlite_sql.specs.declared.ops.BinaryOp.TheVariants.{Compare}
+use Rattle.sqlite_sql.specs.declared.ops.CompareOp.TheVariants.{Eq, Lt}
+use Rattle.sqlite_sql.specs.Ops.{is_true}
+use Rattle.sqlite_sql.specs.Term.{Term, Env, lit, col, op2, case, eval, holds}
 use Rattle.sqlite_sql.specs.Program.{overlay}
-use Rattle.sqlite_sql.specs.Query.{Query, inner, end, Output, output, output_cmp, page, IsAnswerAs}
+use Rattle.sqlite_sql.specs.Query.{Query, Join, inner, counted, end, Output, output, output_cmp, page, matches_as, IsAnswerAs}
 use Rattle.sqlite_schema.specs.declared.program.Program.{Program}
 use Rattle.sqlite_schema.specs.declared.command.Command.{Command}
 use Rattle.sqlite_schema.specs.declared.command.Command.TheVariants.{Insert}
@@ -36,23 +41,30 @@ use Rattle.sqlite.specs.declared.run.Mode.{Mode}
 use Rattle.sqlite.specs.Listing.{understood}
 use Rattle.sqlite.specs.State.{State, mode_of, Writes as WritesState}
 use Rattle.sqlite.proofs.Callers.{one_step, runs_as, statement_of}
-use Rattle.reg_core.specs.Records.{Records}
+use Rattle.reg_core.specs.Records.{Records, certificate_in, revocation_in}
 use Rattle.reg_core.specs.Serial.{IsSerial}
+use Rattle.reg_core.specs.Sound.{SoundRows}
+use Rattle.reg_core.specs.Status.{status_by}
+use Rattle.reg_core.specs.declared.command.Status.TheVariants.{Good, Expired}
 use Rattle.reg_core.specs.declared.rows.CertRow.{CertRow}
+use Rattle.reg_core.specs.declared.rows.RevocationRow.{RevocationRow}
 use Rattle.reg_laws.proofs.Lists.{all_map}
-use Rattle.reg_tables.specs.Columns.{Columns, Standing, stored_standing}
+use Rattle.reg_tables.specs.Columns.{Letter, good, revoked, expired, letter_text, Columns, Standing, stored_standing}
+use Rattle.reg_tables.specs.Kept.{letter_of, standing_of}
 use Rattle.reg_tables.specs.Reading.{command_of}
-use Rattle.reg_tables.specs.Rows.{number, serial_value, counted_rows, stored_certificate}
+use Rattle.reg_tables.specs.Rows.{number, serial_value, behind_rowids, counted_rows, stored_certificate, stored_revocation}
 use Rattle.reg_tables.specs.Schema.{register_schema, standing}
-use Rattle.reg_tables.specs.Shows.{AreBoth}
+use Rattle.reg_tables.specs.Shows.{IsShownBy, AreBoth}
 use Rattle.reg_tables.specs.Stays.{Moves}
-use Rattle.reg_tables.proofs.Queries.{Given, picked, passes, shows, kept_behind, no_limit}
+use Rattle.reg_tables.proofs.Compares.{and_true, compares, lt_number, eq_serial}
+use Rattle.reg_tables.proofs.Queries.{Given, picked, kept_behind, no_limit}
 use Rattle.reg_tables.proofs.Sorting.{ascending_key}
 use Rattle.reg_changes.specs.Ran.{Ran}
 use Rattle.reg_changes.proofs.Edits.{went, same_value, cast_int, cast_null}
+use Rattle.reg_changes.proofs.Letters.{found_each}
 use Rattle.reg_changes.proofs.Placing.{counted_put}
 use Rattle.reg_changes.proofs.Spared.{rows_spared, letters_are}
-use Rattle.reg_migration.specs.Refilled.{good_row, with_letters}
+use Rattle.reg_migration.specs.Refilled.{with_letters}
 use Rattle.reg_migration.specs.declared.texts.TheConstants.{FILL_LETTERS}
 use Rattle.reg_migration.proofs.Defining.{moves_to}
 use Rattle.reg_migration.proofs.FirstRows.{spares_others, none_act}
@@ -63,11 +75,19 @@ unmapped : {X Y : Type 0} (cmp : Y → Y → Ordering) (f : X → Y) (xs : List 
 unmapped cmp f xs sorted k d low high =
     rw (← get_or-map f xs (k + 1) d (f d) high, ← get_or-map f xs k d (f d) (omega arith)) (sorted k (f d) low (rw length-map high))
 
-module _ {A : Type 0} (keep : A → Bool) (out : A → Output) (xs : List A) (tree : ℕ) (terms project : List Term) (collations : List Collation) (order : List (Term × Key)) (params : Row) where
+all_kept : {A : Type 0} (xs : List A) → filter (λ _. true) xs ≡ xs
+all_kept [] = refl
+all_kept (x ∷ xs) = ap (λ l. x ∷ l) (all_kept xs)
+
+each_once : {X Y : Type 0} (f : X → List Y) (g : X → Y) → ((x : X) → f x ≡ g x ∷ []) → (xs : List X) → flat_map f xs ≡ map g xs
+each_once f g once [] = refl
+each_once f g once (x ∷ xs) = ap (λ l. l ++ flat_map f xs) (once x) ∙ ap (λ l. g x ∷ l) (each_once f g once xs)
+
+module _ {A : Type 0} (out : A → Output) (xs : List A) (tree : ℕ) (more : Join) (project : List Term) (collations : List Collation) (order : List (Term × Key)) (params : Row) where
   abbrev query : Query
   query = record {
-    from = inner tree end;
-    filter = terms;
+    from = inner tree more;
+    filter = [];
     group = None;
     project = project;
     distinct = false;
@@ -77,14 +97,15 @@ module _ {A : Type 0} (keep : A → Bool) (out : A → Output) (xs : List A) (tr
     offset = lit (Int (pos 0));
   }
 
-  given_by : (db : Database) (rows : List Row) → overlay db.trees [] tree ≡ db.trees tree → map (shows query params) (filter (passes terms params) (db.trees tree)) ≡ map out (filter keep xs)
-      → Answers db (record { lets = []; body = query }) params rows → Given keep out xs query params rows
-  given_by db rows plain kept_are answers =
+  -- where each row of the table is matched once
+  given_by : (db : Database) (rows : List Row) (env_of : Row → Env) → ((r : Row) → matches_as Null (overlay db.trees []) [] more (params ∷ r ∷ []) ≡ env_of r ∷ []) → overlay db.trees [] tree ≡ db.trees tree
+      → map (λ r. output query (env_of r)) (db.trees tree) ≡ map out xs → Answers db (record { lets = []; body = query }) params rows → Given (λ _. true) out xs query params rows
+  given_by db rows env_of once plain shown_are answers =
       let a : IsAnswerAs Null query (overlay db.trees []) params rows = answers.answer Null in
-      let found : a.staged ≡ map (λ r. params ∷ r ∷ []) (filter (passes terms params) (db.trees tree)) =
-      a.grouped ∙ picked (passes terms params) (λ r. params ∷ r ∷ []) (overlay db.trees [] tree) ∙ ap (λ l. map (λ r. params ∷ r ∷ []) (filter (passes terms params) l)) plain in
-      let kept : a.kept ≡ map out (filter keep xs) = a.distinct ∙ ap (map (output query)) found ∙ map-map (output query) (λ r. params ∷ r ∷ []) _ ∙ kept_are in
-      let back = pull_back out a.kept a.ordered a.same (filter keep xs) kept in
+      let found : a.staged ≡ map env_of (db.trees tree) = a.grouped ∙ each_once (λ r. matches_as Null (overlay db.trees []) [] more (params ∷ r ∷ [])) env_of once (overlay db.trees [] tree) ∙ ap (map env_of) plain in
+      let kept : a.kept ≡ map out (filter (λ _. true) xs) =
+      a.distinct ∙ ap (map (output query)) found ∙ map-map (output query) env_of (db.trees tree) ∙ shown_are ∙ ap (map out) (sym (all_kept xs)) in
+      let back = pull_back out a.kept a.ordered a.same (filter (λ _. true) xs) kept in
       record {
         to = back.0;
         same = back.1;
@@ -166,11 +187,21 @@ counted_put_all xs (c ∷ cols) =
 
 -- ---- the statement
 
-abbrev text_good : Term
-text_good = lit (Text (codes "G"))
+abbrev letter_lit : Letter → Term
+letter_lit letter = lit (Text (letter_text letter))
+
+-- the revocation of the certificate's serial number
+abbrev its_revocation : List Term
+its_revocation = op2 (Compare Eq Binary) (col 2 1) (col 1 1) ∷ []
+
+abbrev has_revocation : Join
+has_revocation = counted 1 (inner 8 end) its_revocation end
+
+abbrev letter_term : Term
+letter_term = case (col 2 0) (letter_lit revoked) (case (op2 (Compare Lt Binary) (col 1 4) (col 0 0)) (letter_lit expired) (letter_lit good))
 
 abbrev letter_columns : List Term
-letter_columns = lit Null ∷ col 1 1 ∷ col 1 4 ∷ text_good ∷ []
+letter_columns = lit Null ∷ col 1 1 ∷ col 1 4 ∷ letter_term ∷ []
 
 abbrev by_serial : List (Term × Key)
 by_serial = (col 1 1, ascending_key) ∷ []
@@ -178,11 +209,21 @@ by_serial = (col 1 1, ascending_key) ∷ []
 abbrev binaries : List Collation
 binaries = Binary ∷ Binary ∷ Binary ∷ Binary ∷ []
 
-abbrev letter_out : CertRow → Output
-letter_out row = (serial_value row.serial ∷ [], Null ∷ serial_value row.serial ∷ number row.not_after ∷ Text (codes "G") ∷ [])
+abbrev letter_out : Records → CertRow → Output
+letter_out records row = (serial_value row.serial ∷ [], Null ∷ stored_standing (standing_of records row))
 
 abbrev letters_query : Query
-letters_query = query (λ (row : CertRow). true) letter_out [] 4 [] letter_columns binaries by_serial []
+letters_query = record {
+  from = inner 4 has_revocation;
+  filter = [];
+  group = None;
+  project = letter_columns;
+  distinct = false;
+  collations = binaries;
+  order = by_serial;
+  limit = no_limit;
+  offset = lit (Int (pos 0));
+}
 
 fill_means : command_of (understood register_schema FILL_LETTERS.now) ≡ fills 7 letters_query
 unfolding understood everything register_schema
@@ -192,54 +233,135 @@ fill_plain : IsPlain (understood register_schema FILL_LETTERS.now)
 unfolding understood everything register_schema
 fill_plain = (refl, refl)
 
-all_kept : {A : Type 0} (xs : List A) → filter (λ _. true) xs ≡ xs
-all_kept [] = refl
-all_kept (x ∷ xs) = ap (λ l. x ∷ l) (all_kept xs)
+-- ---- the letter of one certificate
 
-cast_letters : (to : List CertRow) → map (cast_row standing) (map (λ (row : CertRow). (letter_out row).1) to) ≡ map (λ c. Null ∷ c) (map stored_standing (map good_row to))
-cast_letters [] = refl
-cast_letters (row ∷ to) =
-    let made : cast_row standing ((letter_out row).1) ≡ Null ∷ stored_standing (good_row row) = simp (cast_int, cast_null) in
-    let rest : map (cast_row standing) (map (λ (row : CertRow). (letter_out row).1) to) ≡ map (λ c. Null ∷ c) (map stored_standing (map good_row to)) = cast_letters to in
+-- one where there is something, and else none
+abbrev one_if_some : {A : Type 0} → Option A → ℕ
+one_if_some None = 0
+one_if_some (Some x) = 1
+
+min_one : (n : ℕ) → min 1 (suc n) ≡ 1
+min_one n = grind (arith, nat_tests)
+
+found_count : {A : Type 0} (p : A → Bool) (xs : List A) → min 1 (length (filter p xs)) ≡ one_if_some (find p xs)
+found_count p [] = refl
+found_count p (x ∷ xs) = elim (cases_Bool (p x)) [
+  | inl passed ↦ rw passed (min_one (length (filter p xs)))
+  | inr failed ↦ rw failed (found_count p xs)
+]
+
+by_end : (row : CertRow) (last : ℕ) → cond (compares Lt (number row.not_after) (number last)) (Text (letter_text expired)) (Text (letter_text good)) ≡ Text (letter_text (letter_of (status_by last (Some row) None)))
+by_end row last = ap (λ b. cond b (Text (letter_text expired)) (Text (letter_text good))) (lt_number row.not_after last) ∙ ended (nat_lt row.not_after last)
+  where
+    ended : (b : Bool) → cond b (Text (letter_text expired)) (Text (letter_text good)) ≡ Text (letter_text (letter_of (cond b Expired Good)))
+    ended true = refl
+    ended false = refl
+
+letter_is : (row : CertRow) (last : ℕ) (revocation : Option RevocationRow)
+    → cond (is_true (Int (pos (one_if_some revocation)))) (Text (letter_text revoked)) (cond (compares Lt (number row.not_after) (number last)) (Text (letter_text expired)) (Text (letter_text good)))
+    ≡ Text (letter_text (letter_of (status_by last (Some row) revocation)))
+letter_is row last (Some revocation) = refl
+letter_is row last None = by_end row last
+
+-- a certificate that is found by its serial number
+abbrev IsFound : Records → CertRow → Type 0
+IsFound records row = IsSerial row.serial × (certificate_in records.certificates row.serial ≡ Some row)
+
+module _ (db : Database) (records : Records) (both : IsShownBy db records) where
+  abbrev params : Row
+  params = number records.last ∷ []
+
+  abbrev revoked_count : Row → ℕ
+  revoked_count r = length (matches_as Null (overlay db.trees []) its_revocation (inner 8 end) (params ∷ r ∷ []))
+
+  abbrev env_of : Row → Env
+  env_of r = params ∷ r ∷ (Int (pos (min 1 (revoked_count r))) ∷ []) ∷ []
+
+  abbrev blank : Row → Output
+  blank r = ([], [])
+
+  abbrev blank_revocation : RevocationRow → Output
+  blank_revocation r = ([], [])
+
+  abbrev is_its : Row → Row → Bool
+  is_its r q = list_all (holds (params ∷ r ∷ q ∷ [])) its_revocation
+
+  revoked_once : (id : ℕ) (row : CertRow) → IsSerial row.serial → min 1 (revoked_count (number id ∷ stored_certificate row)) ≡ one_if_some (revocation_in records.revocations row.serial)
+  revoked_once id row its =
+      let r = number id ∷ stored_certificate row in
+      let found : matches_as Null (overlay db.trees []) its_revocation (inner 8 end) (params ∷ r ∷ []) ≡ map (λ q. params ∷ r ∷ q ∷ []) (filter (is_its r) (db.trees 8)) = picked (is_its r) (λ q. params ∷ r ∷ q ∷ []) (db.trees 8) in
+      let same : map blank (filter (is_its r) (db.trees 8)) ≡ map blank_revocation (filter (λ (v : RevocationRow). v.serial == row.serial) records.revocations) =
+      ap (λ t. map blank (filter (is_its r) t)) both.rows.revocations
+      ∙ kept_behind (λ (v : RevocationRow). IsSerial v.serial) stored_revocation (is_its r) blank (λ v. v.serial == row.serial) blank_revocation
+      (λ n v good_serial. and_true (compares Eq (serial_value v.serial) (serial_value row.serial)) ∙ eq_serial v.serial row.serial good_serial its) (λ n v. refl) 1 records.revocations both.rows.revocation_serials in
+      let left : length (map blank (filter (is_its r) (db.trees 8))) ≡ length (filter (is_its r) (db.trees 8)) = rw length-map refl in
+      let right : length (map blank_revocation (filter (λ (v : RevocationRow). v.serial == row.serial) records.revocations)) ≡ length (filter (λ (v : RevocationRow). v.serial == row.serial) records.revocations) = rw length-map refl in
+      let shown : length (map (λ q. params ∷ r ∷ q ∷ []) (filter (is_its r) (db.trees 8))) ≡ length (filter (is_its r) (db.trees 8)) = rw length-map refl in
+      ap (min 1) (ap length found ∙ shown ∙ sym left ∙ ap length same ∙ right) ∙ found_count (λ (v : RevocationRow). v.serial == row.serial) records.revocations
+
+  lettered_row : (id : ℕ) (row : CertRow) → IsFound records row → output letters_query (env_of (number id ∷ stored_certificate row)) ≡ letter_out records row
+  lettered_row id row found =
+      let letter : eval letter_term (env_of (number id ∷ stored_certificate row)) ≡ Text (letter_text (standing_of records row).letter) =
+      ap (λ n. cond (is_true (Int (pos n))) (Text (letter_text revoked)) (cond (compares Lt (number row.not_after) (number records.last)) (Text (letter_text expired)) (Text (letter_text good)))) (revoked_once id row found.0)
+      ∙ letter_is row records.last (revocation_in records.revocations row.serial)
+      ∙ ap (λ known. Text (letter_text (letter_of (status_by records.last known (revocation_in records.revocations row.serial))))) (sym found.1) in
+      λ i. (serial_value row.serial ∷ [], Null ∷ serial_value row.serial ∷ number row.not_after ∷ letter i ∷ [])
+
+  lettered_rows : (from : ℕ) (rows : List CertRow) → AllByRecursion (IsFound records) rows → map (λ r. output letters_query (env_of r)) (behind_rowids from (map stored_certificate rows)) ≡ map (letter_out records) rows
+  lettered_rows from [] all = refl
+  lettered_rows from (row ∷ rows) all =
+      let first = lettered_row from row all.0 in
+      let rest = lettered_rows (from + 1) rows all.1 in
+      λ i. first i ∷ rest i
+
+cast_letters : (records : Records) (to : List CertRow) → map (cast_row standing) (map (λ (row : CertRow). (letter_out records row).1) to) ≡ map (λ c. Null ∷ c) (map stored_standing (map (standing_of records) to))
+cast_letters records [] = refl
+cast_letters records (row ∷ to) =
+    let made : cast_row standing ((letter_out records row).1) ≡ Null ∷ stored_standing (standing_of records row) = simp (cast_int, cast_null) in
+    let rest : map (cast_row standing) (map (λ (row : CertRow). (letter_out records row).1) to) ≡ map (λ c. Null ∷ c) (map stored_standing (map (standing_of records) to)) = cast_letters records to in
     λ i. made i ∷ rest i
 
-pub fills_letters : (old new : State) (records : Records) (columns : Columns) (count : ℕ) → Ran FILL_LETTERS.now [] old new count → columns.letters ≡ [] → (IsTrue old.is_open → AreBoth old.now records columns)
-    → (count ≡ length records.certificates) × ((letters : List Standing) × IsPermutation (map good_row records.certificates) letters × Moves old new (λ db. AreBoth db records (with_letters letters columns)))
+both_all : {A : Type 0} (P Q : A → Type 0) (xs : List A) → AllByRecursion P xs → AllByRecursion Q xs → AllByRecursion (λ x. P x × Q x) xs
+both_all P Q [] p q = tt
+both_all P Q (x ∷ xs) p q = ((p.0, q.0), both_all P Q xs p.1 q.1)
+
+pub fills_letters : (old new : State) (records : Records) (columns : Columns) (count : ℕ) → Ran FILL_LETTERS.now (number records.last ∷ []) old new count → SoundRows records → columns.letters ≡ []
+    → (IsTrue old.is_open → AreBoth old.now records columns)
+    → (letters : List Standing) × IsPermutation (map (standing_of records) records.certificates) letters × Moves old new (λ db. AreBoth db records (with_letters letters columns))
 unfolding register_schema
-fills_letters old new records columns count ran none before =
+fills_letters old new records columns count ran sound none before =
     let both = before ran.was_open in
     let schema = both.shown.schema in
     let certificates = records.certificates in
     let text = FILL_LETTERS.now in
-    let w : WritesState old new None (fills 7 letters_query) (statement_of text (understood register_schema text)) [] count = runs_as text [] old new register_schema schema (fills 7 letters_query) fill_means fill_plain count ran.ran in
-    let done = subst (λ s. Does old.step_limit (mode_of old) [] (record old.now { schema = s }) (statement_of text (understood register_schema text)) None (fills 7 letters_query) (Ok (w.tally, new.now))) schema w.changed in
-    let it : Fills register_schema standing letters_query [] old.now.trees new.now (unwrap_or w.tally.rows 0) =
-    does_fill old.step_limit (mode_of old) register_schema standing [] old.now.trees 7 letters_query w.tally new.now refl (statement_of text (understood register_schema text)) done refl refl (none_act 12) in
+    let params : Row = number records.last ∷ [] in
+    let w : WritesState old new None (fills 7 letters_query) (statement_of text (understood register_schema text)) params count = runs_as text params old new register_schema schema (fills 7 letters_query) fill_means fill_plain count ran.ran in
+    let done = subst (λ s. Does old.step_limit (mode_of old) params (record old.now { schema = s }) (statement_of text (understood register_schema text)) None (fills 7 letters_query) (Ok (w.tally, new.now))) schema w.changed in
+    let it : Fills register_schema standing letters_query params old.now.trees new.now (unwrap_or w.tally.rows 0) =
+    does_fill old.step_limit (mode_of old) register_schema standing params old.now.trees 7 letters_query w.tally new.now refl (statement_of text (understood register_schema text)) done refl refl (none_act 12) in
     let at_trees : Database = record { schema = register_schema; trees = old.now.trees } in
-    let given : Given (λ (row : CertRow). true) letter_out certificates letters_query [] it.given =
-    given_by (λ (row : CertRow). true) letter_out certificates 4 [] letter_columns binaries by_serial [] at_trees it.given refl
-    (ap (λ t. map (shows letters_query []) (filter (passes [] []) t)) both.shown.rows.certificates
-    ∙ kept_behind (λ (row : CertRow). IsSerial row.serial) stored_certificate (passes [] []) (shows letters_query []) (λ row. true) letter_out (λ id row its. refl) (λ id row. refl) 1 certificates both.shown.rows.certificate_serials)
+    let shown : IsShownBy at_trees records = record { schema = refl; rows = both.shown.rows } in
+    let found : AllByRecursion (IsFound records) certificates =
+    both_all (λ (row : CertRow). IsSerial row.serial) (λ (row : CertRow). certificate_in certificates row.serial ≡ Some row) certificates both.shown.rows.certificate_serials (found_each records sound) in
+    let given : Given (λ (row : CertRow). true) (letter_out records) certificates letters_query params it.given =
+    given_by (letter_out records) certificates 4 has_revocation letter_columns binaries by_serial params at_trees it.given (env_of at_trees records shown) (λ r. refl) refl
+    (ap (map (λ r. output letters_query (env_of at_trees records shown r))) both.shown.rows.certificates ∙ lettered_rows at_trees records shown 1 certificates found)
     it.answers in
     let same : IsPermutation certificates given.to = subst (λ l. IsPermutation l given.to) (all_kept certificates) given.same in
-    let letters = map good_row given.to in
+    let letters = map (standing_of records) given.to in
     let empty : old.now.trees 12 ≡ counted_rows [] = both.kept.letters ∙ ap (λ l. counted_rows (map stored_standing l)) none in
     let rows : new.now.trees 12 ≡ counted_rows (map stored_standing letters) =
     it.rows ∙ ap (λ l. put_all (old.now.trees 12) (numbered Chosen (old.now.trees 12) (map (cast_row standing) l))) given.shown
-    ∙ ap (λ l. put_all (old.now.trees 12) (numbered Chosen (old.now.trees 12) l)) (cast_letters given.to)
+    ∙ ap (λ l. put_all (old.now.trees 12) (numbered Chosen (old.now.trees 12) l)) (cast_letters records given.to)
     ∙ ap (λ t. put_all t (numbered Chosen t (map (λ c. Null ∷ c) (map stored_standing letters)))) empty ∙ counted_put_all [] (map stored_standing letters) in
     let serials : AllByRecursion (λ (row : CertRow). IsSerial row.serial) given.to =
     recursion_from_All (λ (row : CertRow). IsSerial row.serial) given.to
     (All-permutation (λ (row : CertRow). IsSerial row.serial) certificates given.to same (All-from_recursion (λ (row : CertRow). IsSerial row.serial) certificates both.shown.rows.certificate_serials)) in
-    let spares = spares_others 12 old.now.trees new.now.trees it.others in
-    let size : length it.given ≡ length certificates = ap length given.shown ∙ length-map _ _ ∙ length_permutation certificates given.to same in (
-      w.counted ∙ it.counted ∙ size,
-      (
-        letters,
-        IsPermutation-map good_row certificates given.to same,
-        moves_to text [] old new count _ ran (record {
-          shown = record { schema = it.keeps_schema; rows = rows_spared 12 old.now.trees new.now.trees records spares refl refl refl refl refl refl refl refl both.shown.rows };
-          kept = letters_are old.now.trees new.now.trees columns letters spares both.kept rows (all_map (λ (row : Standing). IsSerial row.serial) good_row given.to serials);
-        }),
-      ),
+    let spares = spares_others 12 old.now.trees new.now.trees it.others in (
+      letters,
+      IsPermutation-map (standing_of records) certificates given.to same,
+      moves_to text params old new count _ ran (record {
+        shown = record { schema = it.keeps_schema; rows = rows_spared 12 old.now.trees new.now.trees records spares refl refl refl refl refl refl refl refl both.shown.rows };
+        kept = letters_are old.now.trees new.now.trees columns letters spares both.kept rows (all_map (λ (row : Standing). IsSerial row.serial) (standing_of records) given.to serials);
+      }),
     )

@@ -2,6 +2,7 @@ pub mod Defining
 pub mod Emptying
 pub mod FirstRows
 pub mod LastListings
+pub mod LetterCounts
 pub mod Lettering
 pub mod Listing
 pub mod Questions

@@ -1,35 +1,43 @@
 -- What is kept beside the records, made anew from them.
-use Rattle.std.specs.Prelude.{ℕ, ◌+◌, ◌-◌, ◌&&◌, nat_le, nat_lt, List, [], ◌∷◌, ◌++◌, length, take, find, Option, option_map}
+use Rattle.std.specs.Prelude.{◌≡◌, ℕ, Bool, true, false, ◌&&◌, nat_le, nat_lt, List, [], ◌∷◌, ◌++◌, map, filter, length, take, find, Option, option_map, IsPermutation}
 use Rattle.sqlite.specs.Effect.{Database}
 use Rattle.reg_core.specs.Records.{Records}
 use Rattle.reg_core.specs.declared.command.Counts.{Counts}
-use Rattle.reg_core.specs.declared.rows.CertRow.{CertRow}
 use Rattle.reg_core.specs.declared.rows.CrlRow.{CrlRow}
 use Rattle.reg_core.specs.declared.rows.RevocationRow.{RevocationRow}
-use Rattle.reg_tables.specs.Columns.{good, Standing, Listed, Columns}
-use Rattle.reg_tables.specs.Kept.{Kept}
+use Rattle.reg_tables.specs.Columns.{Letter, good, revoked, expired, is_good_letter, Standing, Listed, Columns}
+use Rattle.reg_tables.specs.Kept.{Kept, standing_of, listed_of}
 use Rattle.reg_tables.specs.Shows.{AreBoth}
-use Rattle.reg_changes.specs.Steps.{revoked_at, with_counts}
 
 -- nothing is kept yet
 abbrev pub no_columns : Columns
 no_columns = record { letters = []; counts = record { good = 0; revoked = 0; expired = 0 }; listed = [] }
 
--- a certificate's letter before any revocation and any end
-abbrev pub good_row : CertRow → Standing
-good_row certificate = record { serial = certificate.serial; not_after = certificate.not_after; letter = good }
-
 -- these letters
 abbrev pub with_letters : List Standing → Columns → Columns
 with_letters letters columns = record columns { letters = letters }
 
--- how many are good, revoked and expired of the registered ones, once so many are revoked and so many others have ended
-abbrev pub counts_of : ℕ → ℕ → ℕ → Counts
-counts_of registered revoked ended = record { good = registered - (revoked + ended); revoked = revoked; expired = ended }
+-- one letter for each certificate, as at the last accepted moment
+abbrev pub HasLetters : Columns → Records → Type 0
+HasLetters columns records = IsPermutation (map (standing_of records) records.certificates) columns.letters
 
--- the records with these revocations alone, at the first moment, at which no certificate has ended
-abbrev pub at_first : Records → List RevocationRow → Records
-at_first records revocations = record records { last = 0; revocations = revocations }
+abbrev pub is_revoked : Letter → Bool
+is_revoked good = false
+is_revoked revoked = true
+is_revoked expired = false
+
+abbrev pub is_expired : Letter → Bool
+is_expired good = false
+is_expired revoked = false
+is_expired expired = true
+
+-- how many rows have a letter
+abbrev pub with_letter : (Letter → Bool) → List Standing → ℕ
+with_letter test rows = length (filter (λ row. test row.letter) rows)
+
+-- how many rows have each letter
+abbrev pub letter_counts : List Standing → Counts
+letter_counts rows = record { good = with_letter is_good_letter rows; revoked = with_letter is_revoked rows; expired = with_letter is_expired rows }
 
 -- the number of the first CRL from a number on whose thisUpdate is past a moment (RFC 5280 3.3)
 abbrev pub last_in : List CrlRow → ℕ → ℕ → Option ℕ
@@ -50,14 +58,10 @@ listed_by crls revocation not_after = record {
 abbrev pub with_listed : Listed → Columns → Columns
 with_listed row columns = record columns { listed = columns.listed ++ row ∷ [] }
 
--- it is listed, and its certificate's letter turned
-abbrev pub relisted : Listed → Columns → Columns
-relisted row columns = revoked_at row.serial (with_listed row columns)
-
--- the first of the revocations are listed, and turned the letters of their certificates
+-- the letters stand for the records, and the first of the revocations are listed
 abbrev pub HasRelisted : Database → Records → ℕ → Type 0
 HasRelisted db records n =
-    (columns : Columns) × AreBoth db records columns × Kept (with_counts (counts_of (length records.certificates) n 0) columns) (at_first records (take n records.revocations))
+    (columns : Columns) × AreBoth db records columns × HasLetters columns records × (columns.listed ≡ map (listed_of records) (take n records.revocations))
 
 -- the records are shown, and what is kept beside them stands for them
 abbrev pub HasKept : Database → Records → Type 0

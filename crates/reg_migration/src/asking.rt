@@ -24,7 +24,7 @@ use sqlite::types::ValueRef;
 use sqlite::{Alter, Row, Transaction, params};
 
 /// The rows that a query answers, inside the transaction.
-fn ask<S: Alter>(
+pub(crate) fn ask<S: Alter>(
     tx: &mut Transaction<'_, S>,
     sql: &str,
     params: &[ValueRef<'_>],

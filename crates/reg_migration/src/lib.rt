@@ -3,6 +3,7 @@
 
 mod asking;
 mod beginning;
+mod counting;
 pub mod making;
 mod migrating;
 mod refilling;

@@ -12,12 +12,10 @@ ghost use Rattle.reg_core.specs.Sound.{NumberedFrom, NeverFalls, SoundRows};
 ghost use Rattle.reg_tables.specs.Columns.{Columns, number_or_null};
 ghost use Rattle.reg_tables.specs.Stays.{IsCallFault};
 ghost use Rattle.reg_changes.specs.Ran.{Before, Moved};
-ghost use Rattle.reg_changes.specs.Steps.{good_at};
-ghost use Rattle.reg_migration.specs.Refilled.{last_in, listed_by, with_listed, relisted, HasRelisted};
+ghost use Rattle.reg_migration.specs.Refilled.{last_in, listed_by, with_listed, HasRelisted};
 
 use crate::asking::{crls, end_of, revocations};
 use crate::texts;
-use reg_changes::steps::mark_revoked;
 use reg_changes::writing::{sql_moment, sql_number, sql_reason, write};
 use reg_core::{CrlRow, Moment, RevocationRow};
 use reg_tables::StoreFault;
@@ -83,7 +81,7 @@ fn put_listing<S: Alter>(
     Ok(())
 }
 
-/// Lists a revocation, and turns its certificate's letter. `Store` where there is no such letter, or more than one.
+/// Lists a revocation.
 fn relist_one<S: Alter>(
     tx: &mut Transaction<'_, S>,
     revocation: RevocationRow,
@@ -92,22 +90,16 @@ fn relist_one<S: Alter>(
     ensures same_reference { tx.new.conn.ghost_name ≡ tx.old.conn.ghost_name }
     ensures ok { HasCleanDisk (state S.Store tx.new.conn.now) → (records : Records) → (columns : Columns) → NumberedFrom (λ crl. crl.number) 1 crls.now → NeverFalls (λ crl. crl.this_update) crls.now
         → Before (state S.Store tx.old.conn.now) records columns
-        → OnOk result ((good_at revocation.serial columns ≡ 1)
-        × IsSomeAnd (certificate_in records.certificates revocation.serial) (λ certificate. Moved (state S.Store tx.old.conn.now) (state S.Store tx.new.conn.now) records (relisted (listed_by crls.now revocation certificate.not_after) columns))) }
+        → OnOk result (IsSomeAnd (certificate_in records.certificates revocation.serial) (λ certificate. Moved (state S.Store tx.old.conn.now) (state S.Store tx.new.conn.now) records (with_listed (listed_by crls.now revocation certificate.not_after) columns))) }
     ensures kept { HasCleanDisk (state S.Store tx.new.conn.now) → KeepsCommit (state S.Store tx.old.conn.now) (state S.Store tx.new.conn.now) }
     ensures clean { doubt (state S.Store tx.old.conn.now).is_clean ≤ doubt (state S.Store tx.new.conn.now).is_clean }
     ensures faults { IfErr result IsCallFault }
 {
     let not_after = end_of(tx, revocation.serial)?;
-    put_listing(tx, revocation, crls, not_after)?;
-    if mark_revoked(tx, revocation.serial)? == 1 {
-        Ok(())
-    } else {
-        Err(StoreFault::Store)
-    }
+    put_listing(tx, revocation, crls, not_after)
 }
 
-/// Lists each revocation, and turns the letter of its certificate.
+/// Lists each revocation.
 fn relist_each<S: Alter>(
     tx: &mut Transaction<'_, S>,
     revocations: &[RevocationRow],
@@ -127,17 +119,16 @@ fn relist_each<S: Alter>(
     Ok(())
 }
 
-/// Lists each revocation, and turns the letter of its certificate. Answers how many they are.
-pub(crate) fn relist<S: Alter>(tx: &mut Transaction<'_, S>) -> Result<usize, StoreFault>
+/// Lists each revocation.
+pub(crate) fn relist<S: Alter>(tx: &mut Transaction<'_, S>) -> Result<(), StoreFault>
     ensures same_reference { tx.new.conn.ghost_name ≡ tx.old.conn.ghost_name }
     ensures ok { HasCleanDisk (state S.Store tx.new.conn.now) → (records : Records) → SoundRows records → (IsTrue (state S.Store tx.old.conn.now).is_open → HasRelisted (state S.Store tx.old.conn.now).now records 0)
-        → IfOk result (λ revoked. IsTrue (state S.Store tx.new.conn.now).is_open → (revoked ≡ length records.revocations) × HasRelisted (state S.Store tx.new.conn.now).now records revoked) }
+        → OnOk result (IsTrue (state S.Store tx.new.conn.now).is_open → HasRelisted (state S.Store tx.new.conn.now).now records (length records.revocations)) }
     ensures kept { HasCleanDisk (state S.Store tx.new.conn.now) → KeepsCommit (state S.Store tx.old.conn.now) (state S.Store tx.new.conn.now) }
     ensures clean { doubt (state S.Store tx.old.conn.now).is_clean ≤ doubt (state S.Store tx.new.conn.now).is_clean }
     ensures faults { IfErr result IsCallFault }
 {
     let crls = crls(tx)?;
     let revocations = revocations(tx)?;
-    relist_each(tx, &revocations, &crls)?;
-    Ok(revocations.len())
+    relist_each(tx, &revocations, &crls)
 }

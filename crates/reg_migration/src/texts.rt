@@ -16,10 +16,12 @@ pub const SET_VERSION: &str = "UPDATE office SET version = 3";
 pub const PUT_COUNTS: &str =
     "INSERT INTO kept (one, n_good, n_revoked, n_expired) VALUES (1, 0, 0, 0)";
 
-/// The letter of each certificate, as if all were good. By the serial numbers, so that the index of the letters grows
-/// at its end.
+/// The letter of each certificate at a moment. By the serial numbers, so that the index of the letters grows at its end.
 pub const FILL_LETTERS: &str =
-    "INSERT INTO standing (serial, not_after, state) SELECT serial, not_after, 'G' FROM cert ORDER BY serial";
+    "INSERT INTO standing (serial, not_after, state) SELECT serial, not_after, CASE WHEN EXISTS (SELECT 1 FROM revocation WHERE revocation.serial = cert.serial) THEN 'R' WHEN not_after < ?1 THEN 'X' ELSE 'G' END FROM cert ORDER BY serial";
+
+/// How many certificates have a letter.
+pub const COUNT_LETTER: &str = "SELECT count(*) FROM standing WHERE state = ?1";
 
 /// All revocations, in the order of entry.
 pub const REVOCATIONS: &str =

@@ -1,10 +1,16 @@
+use Rattle.std.proofs.Common.{◌≡◌, [], ◌∷◌, ap, sym, subst, ◌∙◌}
+use Rattle.sqlite_value.specs.Order.{Row}
 use Rattle.sqlite.specs.Held.{state}
-use Rattle.reg_changes.proofs.Params.{ok_then}
+use Rattle.reg_tables.specs.Rows.{number}
+use Rattle.reg_changes.specs.Ran.{Ran}
+use Rattle.reg_changes.proofs.Params.{moment_is}
+use Rattle.reg_migration.specs.declared.texts.TheConstants.{FILL_LETTERS}
 use Rattle.reg_migration.proofs.Lettering.{fills_letters}
 use Rattle.reg_migration.proofs.refilling.fill_letters.Goals as goal
 
 pub returns-clause-ok : goal.returns-clause-ok
-returns-clause-ok g c clean records columns none before =
+returns-clause-ok g c clean records columns sound same none before =
     let old = state g.S.Store c.args.tx.now.conn.now in
     let new = state g.S.Store c.write.new.tx.conn.now in
-    ok_then _ _ c.write.result (λ count ran. fills_letters old new records columns count ran none before) (c.write.ensures.ran clean)
+    let last : ◌≡◌ {A = Row} _ (number records.last ∷ []) = ap (λ v. v ∷ []) (moment_is _ _ c.sql_moment.ensures ∙ ap number (sym same)) in
+    fills_letters old new records columns c.in_ok-write.field-0 (subst (λ params. Ran FILL_LETTERS.now params old new c.in_ok-write.field-0) last (c.in_ok-write.ensures.ran clean)) sound none before

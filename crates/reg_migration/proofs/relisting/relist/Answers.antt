@@ -1,14 +1,14 @@
-use Rattle.std.proofs.Common.{◌≡◌, length, sym, ap, subst, ◌∙◌}
+use Rattle.std.proofs.Common.{◌∙◌}
 use Rattle.sqlite.specs.Effect.{Database}
 use Rattle.sqlite.specs.Held.{state}
 use Rattle.sqlite.specs.State.{HasCleanDisk}
 use Rattle.reg_changes.proofs.Moving.{was_clean}
 use Rattle.reg_migration.specs.Refilled.{HasRelisted}
-use Rattle.reg_migration.proofs.Steps.{unchanged_before}
+use Rattle.reg_migration.proofs.Steps.{unchanged_before, ok_by}
 use Rattle.reg_migration.proofs.relisting.relist.Goals as goal
 
 pub returns-clause-ok : goal.returns-clause-ok
-returns-clause-ok g c clean records sound before up =
+returns-clause-ok g c clean records sound before =
     let s0 = state g.S.Store c.args.tx.now.conn.now in
     let s1 = state g.S.Store c.crls.new.tx.conn.now in
     let s2 = state g.S.Store c.revocations.new.tx.conn.now in
@@ -21,6 +21,4 @@ returns-clause-ok g c clean records sound before up =
     let before1 = unchanged_before s0 s1 (λ (db : Database). HasRelisted db records 0) first before in
     let before2 = unchanged_before s1 s2 (λ (db : Database). HasRelisted db records 0) second before1 in
     let all = c.in_ok-revocations.ensures.found clean2 records (λ open_now. (before1 open_now).1.shown) in
-    let done = c.in_ok-relist_each.ensures.ok clean records sound (c.deref.ensures.value ∙ all) (c.deref-2.ensures.value ∙ issued) before2 up in
-    let size : c.len.result ≡ length records.revocations = c.len.ensures ∙ sym c.deref.ensures.len ∙ ap length (c.deref.ensures.value ∙ all) in
-    (size, subst (HasRelisted s3.now records) (sym size) done)
+    ok_by _ c.relist_each.result (λ given up. given _ (c.relist_each.ensures.ok clean records sound (c.deref.ensures.value ∙ all) (c.deref-2.ensures.value ∙ issued) before2) up)

@@ -8,7 +8,7 @@ use Rattle.reg_core.specs.Sound.{NumberedFrom, NeverFalls}
 use Rattle.reg_laws.proofs.Lists.{some_and_of}
 use Rattle.reg_changes.specs.Ran.{Moved}
 use Rattle.reg_changes.proofs.Moving.{keeps_on, was_clean}
-use Rattle.reg_migration.specs.Refilled.{listed_by, relisted, HasRelisted}
+use Rattle.reg_migration.specs.Refilled.{listed_by, with_listed, HasRelisted}
 use Rattle.reg_migration.proofs.Refills.{rows_numbered, rows_rise, relisted_more}
 use Rattle.reg_migration.proofs.relisting.relist_each.Goals as goal
 
@@ -33,9 +33,9 @@ loop-revocation-preserved g c =
           let numbered = subst (NumberedFrom (λ (crl : CrlRow). crl.number) 1) (sym issued) (rows_numbered 1 records.crls sound.crls.numbered) in
           let never = subst (NeverFalls (λ (crl : CrlRow). crl.this_update)) (sym issued) (rows_rise records.crls sound.crls.updates_never_fall) in
           let one = c.in_ok-relist_one.ensures.ok clean records columns numbered never (λ open_now. had.1) in
-          let known = some_and_of (λ (certificate : CertRow). Moved s1 s2 records (relisted (listed_by crls row certificate.not_after) columns)) (certificate_in records.certificates row.serial) one.1 in
-          relisted_more s2.now records sound at row (subst (λ l. at < length l) all within) (c.revocation-item.is ∙ ap (λ l. Rattle.std.proofs.Common.get_or l at row) all) known.0 known.1 columns had.2 one.0
-          (subst (λ l. Rattle.reg_tables.specs.Shows.AreBoth s2.now records (relisted (listed_by l row known.0.not_after) columns)) issued known.2.tables);
+          let known = some_and_of (λ (certificate : CertRow). Moved s1 s2 records (with_listed (listed_by crls row certificate.not_after) columns)) (certificate_in records.certificates row.serial) one in
+          relisted_more s2.now records at row (subst (λ l. at < length l) all within) (c.revocation-item.is ∙ ap (λ l. Rattle.std.proofs.Common.get_or l at row) all) known.0 known.1 columns had.2 had.3
+          (subst (λ l. Rattle.reg_tables.specs.Shows.AreBoth s2.now records (with_listed (listed_by l row known.0.not_after) columns)) issued known.2.tables);
     }
 
 pub returns-clause-ok : goal.returns-clause-ok

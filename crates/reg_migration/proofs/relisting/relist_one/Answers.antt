@@ -1,4 +1,4 @@
-use Rattle.std.proofs.Common.{◌≡◌, sym, subst, ◌∙◌}
+use Rattle.std.proofs.Common.{◌≡◌, sym, subst}
 use Rattle.sqlite.specs.Held.{state}
 use Rattle.sqlite.specs.State.{HasCleanDisk}
 use Rattle.reg_core.specs.Records.{certificate_in}
@@ -6,29 +6,24 @@ use Rattle.reg_core.specs.declared.rows.CertRow.{CertRow}
 use Rattle.reg_laws.proofs.Lists.{some_weaker}
 use Rattle.reg_tables.specs.Shows.{AreBoth}
 use Rattle.reg_changes.specs.Ran.{Before, Moved}
-use Rattle.reg_changes.proofs.Moving.{moves_on, was_clean}
-use Rattle.reg_migration.specs.Refilled.{listed_by, with_listed, relisted}
-use Rattle.reg_migration.proofs.Steps.{unchanged_before, unchanged_moves}
+use Rattle.reg_changes.proofs.Moving.{was_clean}
+use Rattle.reg_migration.specs.Refilled.{listed_by, with_listed}
+use Rattle.reg_migration.proofs.Steps.{unchanged_before, unchanged_moves, ok_by}
 use Rattle.reg_migration.proofs.relisting.relist_one.Goals as goal
 
-pub returns-then-branch-eq1-clause-ok : goal.returns-then-branch-eq1-clause-ok
-returns-then-branch-eq1-clause-ok g c clean records columns numbered never before =
+pub returns-clause-ok : goal.returns-clause-ok
+returns-clause-ok g c clean records columns numbered never before =
     let s0 = state g.S.Store c.args.tx.now.conn.now in
     let s1 = state g.S.Store c.end_of.new.tx.conn.now in
     let s2 = state g.S.Store c.put_listing.new.tx.conn.now in
-    let s3 = state g.S.Store c.mark_revoked.new.tx.conn.now in
-    let clean2 : HasCleanDisk s2 = was_clean s2 s3 c.mark_revoked.ensures.survives.clean clean in
-    let clean1 : HasCleanDisk s1 = was_clean s1 s2 c.put_listing.ensures.clean clean2 in
+    let clean1 : HasCleanDisk s1 = was_clean s1 s2 c.put_listing.ensures.clean clean in
     let row = c.args.revocation in
     let crls = c.args.crls.now in
     let end = c.in_ok-not_after.not_after in
     let same = c.in_ok-not_after.ensures.same clean1 in
     let found = c.in_ok-not_after.ensures.found clean1 records (λ up. (before up).shown) in
     let start : Before s1 records columns = unchanged_before s0 s1 (λ db. AreBoth db records columns) same before in
-    let listed = c.in_ok-put_listing.ensures.ok clean2 records columns numbered never start in
-    let turned = c.in_ok-mark_revoked.ensures.ok clean records (with_listed (listed_by crls row end) columns) (λ up. listed.tables) in
-    let moved : Moved s0 s3 records (relisted (listed_by crls row end) columns) = unchanged_moves s0 s1 s3 _ same (moves_on s1 s2 s3 _ _ listed turned.0) in (
-      sym turned.1 ∙ c.if-branch-eq1.true,
-      some_weaker (λ (certificate : CertRow). certificate.not_after ≡ end) (λ (certificate : CertRow). Moved s0 s3 records (relisted (listed_by crls row certificate.not_after) columns))
-          (λ certificate is. subst (λ n. Moved s0 s3 records (relisted (listed_by crls row n) columns)) (sym is) moved) (certificate_in records.certificates row.serial) found,
-    )
+    ok_by _ c.put_listing.result (λ given.
+    let moved : Moved s0 s2 records (with_listed (listed_by crls row end) columns) = unchanged_moves s0 s1 s2 _ same (given _ (c.put_listing.ensures.ok clean records columns numbered never start)) in
+    some_weaker (λ (certificate : CertRow). certificate.not_after ≡ end) (λ (certificate : CertRow). Moved s0 s2 records (with_listed (listed_by crls row certificate.not_after) columns))
+    (λ certificate is. subst (λ n. Moved s0 s2 records (with_listed (listed_by crls row n) columns)) (sym is) moved) (certificate_in records.certificates row.serial) found)

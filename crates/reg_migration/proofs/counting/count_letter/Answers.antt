@@ -1,0 +1,23 @@
+use Rattle.std.proofs.Common.{◌∙◌}
+use Rattle.sqlite.specs.Held.{state}
+use Rattle.reg_migration.specs.Refilled.{with_letter}
+use Rattle.reg_migration.proofs.Steps.{if_ok}
+use Rattle.reg_migration.proofs.LetterCounts.{reading_letter, letter_never, letters_shown}
+use Rattle.reg_migration.proofs.counting.count_letter.Goals as goal
+
+pub returns-clause-counted : goal.returns-clause-counted
+returns-clause-counted g c clean records columns few before test is =
+    let s0 = state g.S.Store c.args.tx.now.conn.now in
+    let answer = c.in_ok-found.ensures.rows clean reading_letter (λ up. (before up).shown.schema) in
+    let both = before answer.is_open in
+    let shown = letters_shown c.args.letter.now test is s0.now records columns both c.in_ok-found.found.items answer.reads few in
+    c.count_in.ensures.read (with_letter test columns.letters) (c.deref.ensures.value ∙ shown)
+
+pub returns-clause-same : goal.returns-clause-same
+returns-clause-same g c clean = if_ok _ c.count_in.result (c.in_ok-found.ensures.same clean letter_never)
+
+pub returns-clause-kept : goal.returns-clause-kept
+returns-clause-kept g c clean = c.ask.ensures.kept clean letter_never
+
+pub returns-in_err-found-clause-kept : goal.returns-in_err-found-clause-kept
+returns-in_err-found-clause-kept g c clean = c.ask.ensures.kept clean letter_never
