@@ -59,7 +59,7 @@ fn text_of(why: Why) -> &'static str
 
 /// A text with another one behind it.
 fn with(text: Vec<u8>, more: &[u8]) -> Result<Vec<u8>, AllocError>
-    ensures { IfOk result (λ made. made.items ≡ text.entry.items ++ more.now) }
+    ensures { IfOk result (λ made. made.items ≡ text.items ++ more.now) }
 {
     let mut text = text;
     text.extend_from_slice(more)?;
@@ -68,7 +68,7 @@ fn with(text: Vec<u8>, more: &[u8]) -> Result<Vec<u8>, AllocError>
 
 /// A text with a word and a number behind it.
 fn with_number(text: Vec<u8>, word: &[u8], number: u64) -> Result<Vec<u8>, AllocError>
-    ensures { IfOk result (λ made. made.items ≡ text.entry.items ++ word.now ++ decimal number) }
+    ensures { IfOk result (λ made. made.items ≡ text.items ++ word.now ++ decimal number) }
 {
     let text = with(text, word)?;
     with(text, Decimal::of(number).as_bytes())
