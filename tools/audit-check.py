@@ -64,6 +64,11 @@ BROKEN = [
     ("a request after the last moment", "UPDATE request SET received = received + 864000", "request 1"),
     ("a moment below 0", "UPDATE cert SET not_after = -1", "cert 1"),
     ("more rows than the cap", "UPDATE office SET cap = 1", "orders"),
+    ("another table", "CREATE TABLE t (a)", "schema: "),
+    ("a view", "CREATE VIEW v AS SELECT 1", "schema: "),
+    ("an index that is missing", "DROP INDEX standing_due", "schema: "),
+    ("a column besides", "ALTER TABLE crl ADD COLUMN note TEXT", "schema: "),
+    ("a column of another name", "ALTER TABLE subscriber RENAME COLUMN name TO label", "schema: "),
 ]
 
 

@@ -21,6 +21,7 @@ use Rattle.reg_lines.specs.Script.{ScriptEnds}
 use Rattle.reg_tables.specs.Stays.{IsCallFault}
 use Rattle.reg_tables.specs.declared.fault.StoreFault.{StoreFault}
 use Rattle.reg_verdict.specs.Lines.{broken_text, sound_text}
+use Rattle.reg_verdict.specs.declared.lines.TheConstants.{OTHER_SCHEMA}
 use Rattle.reg_verdict.specs.declared.judging.Verdict.{Verdict}
 use Rattle.reg_verdict.specs.declared.judging.Verdict.TheVariants as verdict
 use Rattle.reg_wire.specs.Put.{AppendsFront}
@@ -73,6 +74,7 @@ TellsBroken text contents writer writer' result =
 abbrev pub TellsVerdict : {W : Type 0} → (W → Option (List ℕ)) → W → W → Verdict → Result (Unit {0}) Failure → Type 0
 TellsVerdict contents writer writer' (verdict.Sound found) result = TellsSound (sound_text found) contents writer writer' result
 TellsVerdict contents writer writer' (verdict.Broken broken) result = TellsBroken (broken_text broken) contents writer writer' result
+TellsVerdict contents writer writer' verdict.OtherSchema result = TellsBroken OTHER_SCHEMA.now contents writer writer' result
 TellsVerdict contents writer writer' verdict.Older result = (result ≡ Err failure.OldVersion) × (writer' ≡ writer)
 
 -- A job that reads nothing, over a register at a path: the writer before it and after it.

@@ -13,7 +13,7 @@ use Rattle.reg_migration.specs.Older.{ShowsOlder}
 use Rattle.reg_migration.specs.declared.version.Earlier.{Earlier}
 use Rattle.reg_tables.specs.Kept.{ShowsKept}
 use Rattle.reg_tables.specs.Schema.{no_schema}
-use Rattle.reg_tables.specs.Stays.{IsRegister, Stays}
+use Rattle.reg_tables.specs.Stays.{Stays}
 use Rattle.reg_crl.specs.Signing.{Identity}
 use Rattle.reg_program.specs.Signing.{Follows, IsSigning, Signing}
 
@@ -48,9 +48,9 @@ module _ {D : Type 0} {g : disk.Ghosts D} where
     pub empty : connection.schema ≡ no_schema
     pub clean : doubt (file_state connection).is_clean ≤ doubt (file_state register).is_clean
 
--- a database was audited by a connection: the tables of a register are as they were
+-- a database was audited by a connection: its tables are as they were
 pub record IsAudited {D : Type 0} (g : disk.Ghosts D) : Type 0 where
   pub connection : Held (FileStore D g)
   pub after : Held (FileStore D g)
   pub connects : IsConnection connection
-  pub stays : IsRegister (file_state connection) → Stays (file_state connection) (file_state after)
+  pub stays : Stays (file_state connection) (file_state after)

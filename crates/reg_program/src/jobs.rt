@@ -26,7 +26,7 @@ use reg_der::Issuer;
 use reg_faces::{Desk, Keeper, import, run_script};
 use reg_jobs::{Failure, office_of, schedule_of};
 use reg_store::StoreFault;
-use reg_verdict::{Verdict, broken_line, sound_line};
+use reg_verdict::{OTHER_SCHEMA, Verdict, broken_line, sound_line};
 use reg_words::{KeyHolder, Steps, Word};
 use std::alloc::Global;
 use std::io::{Read, Write};
@@ -279,6 +279,7 @@ fn tell_verdict<W: Write>(alloc: Global, writer: &mut W, verdict: Verdict) -> Re
     match verdict {
         Verdict::Sound(found) => tell_sound(alloc, writer, found),
         Verdict::Broken(broken) => tell_broken(alloc, writer, broken),
+        Verdict::OtherSchema => say_broken(writer, OTHER_SCHEMA.as_bytes()),
         Verdict::Older => Err(Failure::OldVersion),
     }
 }
@@ -297,10 +298,17 @@ fn tell_sound<W: Write>(alloc: Global, writer: &mut W, found: Audited) -> Result
 fn tell_broken<W: Write>(alloc: Global, writer: &mut W, broken: Broken) -> Result<(), Failure>
     ensures { TellsBroken (broken_text broken) W.contents writer.old writer.new result }
 {
-    let Ok(line) = broken_line(alloc, broken) else {
-        return Err(Failure::Fault(Fault::Memory));
-    };
-    match say(writer, &line) {
+    match broken_line(alloc, broken) {
+        Ok(line) => say_broken(writer, &line),
+        Err(_) => Err(Failure::Fault(Fault::Memory)),
+    }
+}
+
+/// Says the line of what is broken: the job is not done.
+fn say_broken<W: Write>(writer: &mut W, line: &[u8]) -> Result<(), Failure>
+    ensures { TellsBroken line.now W.contents writer.old writer.new result }
+{
+    match say(writer, line) {
         Ok(()) => Err(Failure::Broken),
         Err(why) => Err(why),
     }

@@ -1,4 +1,5 @@
 use Rattle.std.proofs.Common.{◌≡◌, [], ◌∷◌, ◌∙◌, false, map, refl, ap, sym}
+use Rattle.std.specs.Fmt.{digits}
 use Rattle.sqlite_schema.specs.declared.schema.Schema.{Schema}
 use Rattle.sqlite_schema.specs.declared.schema.Table.{Table}
 use Rattle.reg_tables.specs.Schema.{register_schema}
@@ -30,7 +31,7 @@ table_is table form a b c d = λ i. record {
 
 -- the schema of a register by its lists
 whole : record { tables = all_tables; indexes = all_indexes; views = [] } ≡ register_schema
-unfolding register_schema
+unfolding register_schema digits
 whole = refl
 
 -- a schema whose parts are those

@@ -1,13 +1,14 @@
 //! The audit of a database whose version is looked at first.
 
-ghost use Rattle.std.specs.Prelude.{◌≡◌, ◌≢◌, false, IfErr, Ok};
+ghost use Rattle.std.specs.Prelude.{◌≡◌, ◌≢◌, false, IfErr};
 ghost use Rattle.sqlite.specs.Held.{state};
-ghost use Rattle.reg_tables.specs.Stays.{IsRegister, Stays};
+ghost use Rattle.reg_tables.specs.Stays.{Stays};
 ghost use Rattle.reg_verdict.specs.Verdicts.{verdict_of};
 
 use reg_audit::Broken;
 use reg_auditing::{AuditStop, Audited, audit};
 use reg_opening::examine;
+use reg_schema::is_register;
 use reg_tables::StoreFault;
 use sqlite::{Alter, Connection};
 use std::alloc::Global;
@@ -21,6 +22,8 @@ pub enum Verdict {
     Broken(Broken),
     /// The register is of version 1 or 2: its rows are not looked at.
     Older,
+    /// The tables, columns or indexes are not those of a register: its rows are not looked at.
+    OtherSchema,
 }
 
 /// What an audit of tables of the program's version says.
@@ -36,22 +39,25 @@ fn said(audited: Result<Audited, AuditStop>) -> Result<Verdict, StoreFault>
     }
 }
 
-/// Looks at the version, the issuer, the policy and the last accepted moment as who opens a register does, and then, where
-/// the version is the program's, at all rows ([`reg_auditing::audit`]). Nothing is changed; a register of version 1 or 2 is
-/// not made newer. The connection is in no transaction, as one that was just opened.
+/// Looks at the version, the issuer, the policy and the last accepted moment as who opens a register does; then, where the
+/// version is the program's, whether the schema is a register's ([`reg_schema::is_register`]), and where it is, at all rows
+/// ([`reg_auditing::audit`]). Nothing is changed; a register of version 1 or 2 is not made newer. The connection is in no
+/// transaction, as one that was just opened.
 ///
 /// # Errors
 /// `NotARegister` and `NewVersion` as [`reg_opening::open`] has them; `Memory`; `Store` where the database fails.
 pub fn judge<S: Alter>(alloc: Global, conn: &mut Connection<S>) -> Result<Verdict, StoreFault>
     requires { conn.old.in_transaction ≡ false }
-    ensures same { IsRegister (state S.Store conn.old) → Stays (state S.Store conn.old) (state S.Store conn.new) }
-    ensures older { result ≡ Ok Verdict.Older → Stays (state S.Store conn.old) (state S.Store conn.new) }
+    ensures same { Stays (state S.Store conn.old) (state S.Store conn.new) }
     ensures idle { conn.new.in_transaction ≡ false }
     ensures faults { IfErr result (λ fault. fault ≢ StoreFault.NotEmpty) }
 {
-    let found = examine(conn)?;
-    match found {
-        Some(_) => Ok(Verdict::Older),
-        None => said(audit(alloc, conn)),
+    let older = examine(conn)?;
+    if older.is_some() {
+        return Ok(Verdict::Older);
     }
+    if !is_register(conn.schema()) {
+        return Ok(Verdict::OtherSchema);
+    }
+    said(audit(alloc, conn))
 }

@@ -5,4 +5,4 @@ mod judging;
 mod lines;
 
 pub use judging::{Verdict, judge};
-pub use lines::{broken_line, sound_line};
+pub use lines::{OTHER_SCHEMA, broken_line, sound_line};

@@ -9,6 +9,10 @@ use reg_auditing::Audited;
 use reg_core::Decimal;
 use std::alloc::{AllocError, Global};
 
+/// The line of a schema that is none of a register's.
+pub const OTHER_SCHEMA: &str =
+    "broken: schema: other tables, columns or indexes than a register has\n";
+
 /// The name of a table.
 #[tactic(auto, unfolding(crate::specs::Lines::table_name))]
 fn name_of(table: Table) -> &'static str

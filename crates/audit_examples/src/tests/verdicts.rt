@@ -95,3 +95,33 @@ fn each_answer_has_its_line(rt: HostRuntime) -> Result<(), Fail> {
     );
     Ok(())
 }
+
+/// Statements that make another schema of a register's.
+const SCHEMAS: [&str; 8] = [
+    "CREATE TABLE t (a) STRICT",
+    "CREATE VIEW v AS SELECT 1",
+    "CREATE INDEX i ON crl (this_update)",
+    "DROP INDEX crl_at",
+    "DROP INDEX standing_due",
+    "DROP TABLE longest; CREATE TABLE longest (from_at INTEGER PRIMARY KEY, days INTEGER) STRICT; INSERT INTO longest VALUES (0, 398)",
+    "DROP TABLE longest; CREATE TABLE longest (from_at INTEGER PRIMARY KEY, days TEXT NOT NULL)",
+    "DROP TABLE kept; CREATE TABLE kept (one INTEGER PRIMARY KEY, n_good INTEGER NOT NULL, n_revoked INTEGER NOT NULL, n_expired INTEGER NOT NULL) STRICT",
+];
+
+#[test]
+fn another_schema_is_told_before_any_row(rt: HostRuntime) -> Result<(), Fail> {
+    let alloc = rt.alloc();
+    for sql in SCHEMAS {
+        let other = said_of(alloc, created(alloc)?, sql)?;
+        assert!(rt;
+            matches!(
+                other,
+                Ok(Verdict::OtherSchema) | Err(StoreFault::NotARegister)
+            ),
+            "at {sql}"
+        );
+    }
+    let extra = said_of(alloc, created(alloc)?, SCHEMAS[0])?;
+    assert_eq!(rt; extra.ok(), Some(Verdict::OtherSchema));
+    Ok(())
+}
