@@ -6,9 +6,9 @@ returns-in-Ok-clause-ok c =
     let found = c.in_ok-connection.ensures in
     record {
       connection = c.in_ok-connection.connection;
-      after = c.judge.new.conn;
+      after = c.judge-told.new.conn;
       connects = record { fresh = found.fresh; whole = found.opened };
-      stays = c.judge.ensures.same;
+      stays = c.judge-told.ensures.same;
     }
 
 pub returns-in-Err-clause-err : goal.returns-in-Err-clause-err
