@@ -1,2 +1,3 @@
 mod register;
 mod told;
+mod verdicts;

@@ -1,5 +1,6 @@
 //! Jobs, done one after the other.
 
+mod audits;
 mod days;
 
 use reg_core::Moment;

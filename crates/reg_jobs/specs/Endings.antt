@@ -13,10 +13,12 @@ failure_line (failure.Fault fault) = fault_line fault
 failure_line failure.NotEmpty = codes "not-empty"
 failure_line failure.NotARegister = codes "not-a-register"
 failure_line failure.NewVersion = codes "new-version"
+failure_line failure.OldVersion = codes "old-version"
 failure_line failure.BadIssuer = codes "bad-issuer"
 failure_line failure.BadPolicy = codes "bad-policy"
 failure_line failure.BadSigner = codes "bad-signer"
 failure_line failure.Refused = codes "refused"
+failure_line failure.Broken = codes "broken"
 
 -- the exit status: 0 where the job is done, 3 where a reply at a counter was a refusal or a fault, 1 where the job is not done
 abbrev pub status : {T : Type 0} → Result T Failure → ℕ
@@ -26,9 +28,11 @@ status (Err (failure.Fault fault)) = 1
 status (Err failure.NotEmpty) = 1
 status (Err failure.NotARegister) = 1
 status (Err failure.NewVersion) = 1
+status (Err failure.OldVersion) = 1
 status (Err failure.BadIssuer) = 1
 status (Err failure.BadPolicy) = 1
 status (Err failure.BadSigner) = 1
+status (Err failure.Broken) = 1
 
 -- a register that can't be made, opened or changed, as the end of a job
 abbrev pub store_failure : StoreFault → Failure

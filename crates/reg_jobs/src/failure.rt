@@ -17,6 +17,8 @@ pub enum Failure {
     NotARegister,
     /// The register is of a newer version.
     NewVersion,
+    /// The register that is to be audited is of an older version.
+    OldVersion,
     /// The Name or the key is not what an issuer has.
     BadIssuer,
     /// The terms are not those of a policy.
@@ -25,6 +27,8 @@ pub enum Failure {
     BadSigner,
     /// A reply at a counter was a refusal or a fault.
     Refused,
+    /// An audit told what is not sound.
+    Broken,
 }
 
 impl Failure {
@@ -38,10 +42,12 @@ impl Failure {
             Failure::NotEmpty => words(b"not-empty"),
             Failure::NotARegister => words(b"not-a-register"),
             Failure::NewVersion => words(b"new-version"),
+            Failure::OldVersion => words(b"old-version"),
             Failure::BadIssuer => words(b"bad-issuer"),
             Failure::BadPolicy => words(b"bad-policy"),
             Failure::BadSigner => words(b"bad-signer"),
             Failure::Refused => words(b"refused"),
+            Failure::Broken => words(b"broken"),
         }
     }
 }

@@ -87,7 +87,7 @@ fn takes_a_schedule(rt: HostRuntime) -> Result<(), Fail> {
 
 #[test]
 fn each_failure_has_its_line(rt: HostRuntime) {
-    let lines: [(Failure, &[u8]); 12] = [
+    let lines: [(Failure, &[u8]); 14] = [
         (Failure::Fault(Fault::Memory), b"F1 memory"),
         (Failure::Fault(Fault::Store), b"F2 store"),
         (Failure::Fault(Fault::Signer), b"F3 signer"),
@@ -100,9 +100,11 @@ fn each_failure_has_its_line(rt: HostRuntime) {
         (Failure::NotEmpty, b"not-empty"),
         (Failure::NotARegister, b"not-a-register"),
         (Failure::NewVersion, b"new-version"),
+        (Failure::OldVersion, b"old-version"),
         (Failure::BadIssuer, b"bad-issuer"),
         (Failure::BadPolicy, b"bad-policy"),
         (Failure::BadSigner, b"bad-signer"),
+        (Failure::Broken, b"broken"),
     ];
     for (failure, line) in lines {
         assert_eq!(rt; failure.line().as_bytes(), line);

@@ -11,4 +11,4 @@ pub mod texts;
 mod values;
 
 pub use creating::create;
-pub use opening::open;
+pub use opening::{Older, examine, open};

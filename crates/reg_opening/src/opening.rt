@@ -25,7 +25,7 @@ use sqlite::{Alter, Connection, Transaction};
 
 /// What the office of an older version says.
 #[derive(Clone, Copy)]
-pub(crate) struct Older {
+pub struct Older {
     /// Its version.
     version: Earlier,
     /// The longest validity, in days.
@@ -112,8 +112,14 @@ fn test_tables<S: Alter>(tx: &mut Transaction<'_, S>) -> Result<Option<Older>, S
     }
 }
 
-/// Tests whether the tables are a register's, and tells what an older office says. Nothing is changed, whatever they are.
-fn examine<S: Alter>(conn: &mut Connection<S>) -> Result<Option<Older>, StoreFault>
+/// Tests whether the tables are a register's, and tells what an older office says; none where they are of the program's
+/// version. Nothing is changed, whatever they are.
+///
+/// # Errors
+/// `NotARegister` where the one row of the office can't be read for another cause than memory or the database, its
+/// version is below 1, or its values or the schedule's are not within their ranges; `NewVersion` above 3; `Memory`;
+/// `Store` where the database fails.
+pub fn examine<S: Alter>(conn: &mut Connection<S>) -> Result<Option<Older>, StoreFault>
     requires { conn.old.in_transaction ≡ false }
     ensures ok { HasCleanDisk (state S.Store conn.new) → IfOk result (λ found. SaysFound (state S.Store conn.old).now found) }
     ensures newer { HasCleanDisk (state S.Store conn.new) → result ≡ Err StoreFault.NewVersion → (n : ℕ) × (3 < n) × HasVersion (state S.Store conn.old).now n }
@@ -123,6 +129,7 @@ fn examine<S: Alter>(conn: &mut Connection<S>) -> Result<Option<Older>, StoreFau
     ensures shown { HasCleanDisk (state S.Store conn.new) → (records : Records) → InRange records → Shows S.Store conn.old records → IfErr result IsCallFault }
     ensures shown_older { HasCleanDisk (state S.Store conn.new) → (version : Earlier) → (records : Records) → InRange records → ShowsOlder version S.Store conn.old records → IfErr result IsCallFault }
     ensures same { Stays (state S.Store conn.old) (state S.Store conn.new) }
+    ensures saved { HasCleanDisk (state S.Store conn.new) → IsTrue (state S.Store conn.new).is_open → (state S.Store conn.new).now ≡ (state S.Store conn.new).committed }
     ensures clean { doubt (state S.Store conn.old).is_clean ≤ doubt (state S.Store conn.new).is_clean }
     ensures idle { conn.new.in_transaction ≡ false }
     ensures faults { IfErr result (λ fault. fault ≢ StoreFault.NotEmpty) }

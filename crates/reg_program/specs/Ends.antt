@@ -20,6 +20,10 @@ use Rattle.reg_lines.specs.Import.{ImportEnds}
 use Rattle.reg_lines.specs.Script.{ScriptEnds}
 use Rattle.reg_tables.specs.Stays.{IsCallFault}
 use Rattle.reg_tables.specs.declared.fault.StoreFault.{StoreFault}
+use Rattle.reg_verdict.specs.Lines.{broken_text, sound_text}
+use Rattle.reg_verdict.specs.declared.lines.TheConstants.{OTHER_SCHEMA}
+use Rattle.reg_verdict.specs.declared.judging.Verdict.{Verdict}
+use Rattle.reg_verdict.specs.declared.judging.Verdict.TheVariants as verdict
 use Rattle.reg_wire.specs.Put.{AppendsFront}
 use Rattle.reg_wire.specs.Run.{Answered}
 use Rattle.reg_words.specs.declared.job.Job.{Job}
@@ -34,7 +38,7 @@ use Rattle.reg_program.specs.Sample.{sample_records}
 use Rattle.reg_program.specs.Schedules.{Reschedules}
 use Rattle.reg_program.specs.Serving.{OpenedAt, Opens, Serves, ServedAt}
 use Rattle.reg_program.specs.Signing.{Signing}
-use Rattle.reg_program.specs.Visits.{Visits, NotOpened, Makes, NotMade, ending_of}
+use Rattle.reg_program.specs.Visits.{Visits, NotAudited, NotOpened, Makes, NotMade, ending_of}
 use Rattle.reg_program.specs.declared.front.Front.{Ghosts as Front}
 use Rattle.reg_program.specs.declared.place.Place.{Ghosts as Place}
 
@@ -52,6 +56,26 @@ SaysGiven contents writer writer' (Err why) result = (result ≡ Err (failure.Fa
 abbrev pub TellsSet : {W : Type 0} → (W → Option (List ℕ)) → W → W → Result (Unit {0}) StoreFault → Result (Unit {0}) Failure → Type 0
 TellsSet contents writer writer' (Ok done) result = Says (codes "schedule set\n") (contents writer) (contents writer') result
 TellsSet contents writer writer' (Err why) result = (result ≡ Err (store_failure why)) × IsCallFault why × (writer' ≡ writer)
+
+-- the text of an audit that found all well is said, or there was no memory for it
+abbrev pub TellsSound : {W : Type 0} → List ℕ → (W → Option (List ℕ)) → W → W → Result (Unit {0}) Failure → Type 0
+TellsSound text contents writer writer' result =
+    Says text (contents writer) (contents writer') result ⊎ ((result ≡ Err (failure.Fault fault.Memory)) × (writer' ≡ writer))
+
+-- the text of an audit that found a broken row is said, and the job is not done; or a front of it, where the writer fails; or there was
+-- no memory for it
+abbrev pub TellsBroken : {W : Type 0} → List ℕ → (W → Option (List ℕ)) → W → W → Result (Unit {0}) Failure → Type 0
+TellsBroken text contents writer writer' result =
+    ((result ≡ Err failure.Broken) × Appends (contents writer) (contents writer') text)
+    ⊎ (((result ≡ Err (failure.Fault fault.Write)) × AppendsFront (contents writer) (contents writer') text)
+    ⊎ ((result ≡ Err (failure.Fault fault.Memory)) × (writer' ≡ writer)))
+
+-- what an audit found, as it is told
+abbrev pub TellsVerdict : {W : Type 0} → (W → Option (List ℕ)) → W → W → Verdict → Result (Unit {0}) Failure → Type 0
+TellsVerdict contents writer writer' (verdict.Sound found) result = TellsSound (sound_text found) contents writer writer' result
+TellsVerdict contents writer writer' (verdict.Broken broken) result = TellsBroken (broken_text broken) contents writer writer' result
+TellsVerdict contents writer writer' verdict.OtherSchema result = TellsBroken OTHER_SCHEMA.now contents writer writer' result
+TellsVerdict contents writer writer' verdict.Older result = (result ≡ Err failure.OldVersion) × (writer' ≡ writer)
 
 -- A job that reads nothing, over a register at a path: the writer before it and after it.
 module _ {W P K : Type 0} (contents : W → Option (List ℕ)) (writer writer' : W) (places : Place P K) (keeper : Keeper K) where
@@ -71,6 +95,12 @@ module _ {W P K : Type 0} (contents : W → Option (List ℕ)) (writer writer' :
         ⊎ ((given : Result (List ℕ) Fault)
         × Visits places keeper place place' path None (λ identity before after. Crls before number given after)
         × SaysGiven contents writer writer' given result)
+
+    -- an audit of the register at a path: it could not be looked at, or what was found is told
+    abbrev pub AuditAt : List ℕ → Result (Unit {0}) Failure → Type 0
+    AuditAt path result =
+        (NotAudited places place place' path result × (writer' ≡ writer))
+        ⊎ ((found : Verdict) × places.audited place path found place' × TellsVerdict contents writer writer' found result)
 
     -- another schedule for the register at a path: its steps are looked at before the path is
     abbrev pub ScheduleAt : List ℕ → List (ℕ × ℕ) → Result (Unit {0}) Failure → Type 0
@@ -172,4 +202,5 @@ module _ {E W : Type 0} (remaining : E → Option (List ℕ)) (contents : W → 
         (reader' ≡ reader) × ServeAt contents writer writer' places keeper place place' front file signer port requests result
     Ends front (job.Open file port counter signer) result =
         (reader' ≡ reader) × OpenAt contents writer writer' places keeper place place' front file signer port counter result
+    Ends front (job.Audit file) result = (reader' ≡ reader) × AuditAt contents writer writer' places keeper place place' file result
     Ends front (job.At counter) result = (place' ≡ place) × AtCounter (front.met counter) (contents writer) (contents writer') result

@@ -19,10 +19,12 @@ IsMaking (failure.Fault fault) = IsOfStore fault
 IsMaking failure.NotEmpty = Unit {0}
 IsMaking failure.NotARegister = ⊥
 IsMaking failure.NewVersion = ⊥
+IsMaking failure.OldVersion = ⊥
 IsMaking failure.BadIssuer = ⊥
 IsMaking failure.BadPolicy = ⊥
 IsMaking failure.BadSigner = ⊥
 IsMaking failure.Refused = ⊥
+IsMaking failure.Broken = ⊥
 
 -- of one that is opened: such a fault, a file that holds no register of a version up to this program's, or `bad-signer`
 abbrev pub IsOpening : Failure → Type 0
@@ -30,7 +32,9 @@ IsOpening (failure.Fault fault) = IsOfStore fault
 IsOpening failure.NotEmpty = ⊥
 IsOpening failure.NotARegister = Unit {0}
 IsOpening failure.NewVersion = Unit {0}
+IsOpening failure.OldVersion = ⊥
 IsOpening failure.BadIssuer = ⊥
 IsOpening failure.BadPolicy = ⊥
 IsOpening failure.BadSigner = Unit {0}
 IsOpening failure.Refused = ⊥
+IsOpening failure.Broken = ⊥

@@ -13,6 +13,7 @@ use Rattle.reg_migration.specs.Older.{ShowsOlder}
 use Rattle.reg_migration.specs.declared.version.Earlier.{Earlier}
 use Rattle.reg_tables.specs.Kept.{ShowsKept}
 use Rattle.reg_tables.specs.Schema.{no_schema}
+use Rattle.reg_tables.specs.Stays.{Stays}
 use Rattle.reg_crl.specs.Signing.{Identity}
 use Rattle.reg_program.specs.Signing.{Follows, IsSigning, Signing}
 
@@ -46,3 +47,10 @@ module _ {D : Type 0} {g : disk.Ghosts D} where
     pub connects : IsConnection connection
     pub empty : connection.schema ≡ no_schema
     pub clean : doubt (file_state connection).is_clean ≤ doubt (file_state register).is_clean
+
+-- a database was audited by a connection: its tables are as they were
+pub record IsAudited {D : Type 0} (g : disk.Ghosts D) : Type 0 where
+  pub connection : Held (FileStore D g)
+  pub after : Held (FileStore D g)
+  pub connects : IsConnection connection
+  pub stays : Stays (file_state connection) (file_state after)

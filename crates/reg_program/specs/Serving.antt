@@ -47,10 +47,12 @@ Served port requests inputs out out' (Err (failure.Fault (fault.Refused why))) =
 Served port requests inputs out out' (Err failure.NotEmpty) = ⊥
 Served port requests inputs out out' (Err failure.NotARegister) = ⊥
 Served port requests inputs out out' (Err failure.NewVersion) = ⊥
+Served port requests inputs out out' (Err failure.OldVersion) = ⊥
 Served port requests inputs out out' (Err failure.BadIssuer) = ⊥
 Served port requests inputs out out' (Err failure.BadPolicy) = ⊥
 Served port requests inputs out out' (Err failure.BadSigner) = ⊥
 Served port requests inputs out out' (Err failure.Refused) = ⊥
+Served port requests inputs out out' (Err failure.Broken) = ⊥
 
 -- the port was not bound and nothing was written; or it was, and that was served there
 abbrev pub ServedAt : {W : Type 0} → (W → Option (List ℕ)) → W → W → (List ℕ → ℕ → Type 0) → ℕ → ℕ → List Input → Result (Unit {0}) Failure → Type 0

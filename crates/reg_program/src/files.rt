@@ -1,6 +1,6 @@
 //! Registers in files: made, opened and closed.
 
-ghost use Rattle.std.specs.Prelude.{◌≡◌, ◌≤◌, ◌⊎◌, false, Some, None, IfOk, IfErr, IsFalse, IsTrue, MatchResult, OnErr};
+ghost use Rattle.std.specs.Prelude.{◌≡◌, ◌≤◌, ◌⊎◌, false, Some, None, OnOk, IfOk, IfErr, IsFalse, IsTrue, MatchResult, OnErr};
 ghost use Rattle.sqlite.specs.Files.{file_state, over_files, IsOpened};
 ghost use Rattle.sqlite.specs.Held.{state, IsNew};
 ghost use Rattle.sqlite.specs.State.{HasCleanDisk};
@@ -10,7 +10,7 @@ ghost use Rattle.reg_core.specs.Sound.{SoundRows};
 ghost use Rattle.reg_migration.specs.Older.{ShowsOlder};
 ghost use Rattle.reg_migration.specs.declared.version.Earlier.{Earlier};
 ghost use Rattle.reg_program.specs.Failing.{IsMaking, IsOpening};
-ghost use Rattle.reg_program.specs.Files.{IsOpenedFrom, IsMadeFrom, Showed};
+ghost use Rattle.reg_program.specs.Files.{IsAudited, IsOpenedFrom, IsMadeFrom, Showed};
 ghost use Rattle.reg_program.specs.Signing.{Follows, IsSigning, identity_told};
 ghost use Rattle.reg_office.specs.Stands.{Stands};
 ghost use Rattle.reg_tables.specs.Kept.{ShowsKept};
@@ -28,6 +28,7 @@ use reg_jobs::Failure;
 use reg_office::Office;
 use reg_signer::KeyOrDigest;
 use reg_store::{Store, StoreFault};
+use reg_verdict::{Verdict, judge};
 use reg_words::KeyHolder;
 use sqlite::{Alter, Connection, FileFrom, FileStore};
 use sqlite_disk::{Disk, Unknown};
@@ -45,7 +46,7 @@ impl<C: Alter, S: Signer> Register for Office<C, S> {
 
 /// The machine's files, as a place where registers lie. No state of theirs stands in the handle, so its relations read none.
 impl<'a> Place for Machine<'a> {
-    ghost use Rattle.reg_program.specs.Files.{IsOpenedFrom, IsMadeFrom};
+    ghost use Rattle.reg_program.specs.Files.{IsAudited, IsOpenedFrom, IsMadeFrom};
 
     type Opened = FileOffice;
 
@@ -63,6 +64,10 @@ impl<'a> Place for Machine<'a> {
     ghost made = { λ files path register after. IsMadeFrom register.store };
 
     ghost unmade = { λ files path why after. Unit {0} };
+
+    ghost audited = { λ files path verdict after. IsAudited ⟦<FileFrom<Unknown> as Disk>⟧ };
+
+    ghost unaudited = { λ files path why after. Unit {0} };
 
     ghost closed = { λ files path register after. Unit {0} };
 
@@ -104,6 +109,11 @@ impl<'a> Place for Machine<'a> {
             return Err(Failure::Fault(Fault::Store));
         }
         make_register(self, path, issuer, policy)
+    }
+
+    fn audit(&mut self, path: &str) -> Result<Verdict, Failure> {
+        present(self, path)?;
+        audit_file(self, path)
     }
 
     fn close(&mut self, path: &str, register: FileOffice)
@@ -184,6 +194,20 @@ fn open_register_to_sign(
 {
     let connection = open_noted(machine, path)?;
     settled(signed_over(&machine.rt, connection, signer))
+}
+
+/// What an audit says of the register in a file.
+fn audit_file(machine: &Machine<'_>, path: &str) -> Result<Verdict, Failure>
+    ensures ok { OnOk result (IsAudited ⟦<FileFrom<Unknown> as Disk>⟧) }
+    ensures err { IfErr result IsOpening }
+{
+    let mut connection = open_noted(machine, path)?;
+    let told = judge(machine.rt.alloc(), &mut connection);
+    close(connection);
+    match told {
+        Ok(verdict) => Ok(verdict),
+        Err(fault) => Err(Failure::from(fault)),
+    }
 }
 
 /// The office over a register that is made in a database; where it can't be made, why, and the connection back.

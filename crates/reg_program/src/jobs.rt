@@ -9,20 +9,24 @@ ghost use Rattle.reg_jobs.specs.Checks.{terms_of};
 ghost use Rattle.reg_lines.specs.Script.{ScriptEnds};
 ghost use Rattle.reg_office.specs.Stands.{Stands};
 ghost use Rattle.reg_program.specs.Digest.{digest, digests};
-ghost use Rattle.reg_program.specs.Ends.{CrlAt, ImportAt, InitAt, MakesAt, SaysGiven, ScheduleAt, ScriptAt, ScriptInMemory, TellsSet};
+ghost use Rattle.reg_program.specs.Ends.{AuditAt, CrlAt, ImportAt, InitAt, MakesAt, SaysGiven, ScheduleAt, ScriptAt, ScriptInMemory, TellsBroken, TellsSet, TellsSound, TellsVerdict};
 ghost use Rattle.reg_program.specs.Failing.{IsOpening};
 ghost use Rattle.reg_program.specs.Sample.{sample_records};
 ghost use Rattle.reg_program.specs.Visits.{ending_of};
 ghost use Rattle.reg_tables.specs.Stays.{IsCallFault};
+ghost use Rattle.reg_verdict.specs.Lines.{broken_text, sound_text};
 
 use crate::memory::{MemoryDesk, desk_in_memory};
 use crate::place::{Place, Register};
 use crate::telling::say;
+use reg_audit::Broken;
+use reg_auditing::Audited;
 use reg_core::{Fault, Moment, Policy};
 use reg_der::Issuer;
 use reg_faces::{Desk, Keeper, import, run_script};
 use reg_jobs::{Failure, office_of, schedule_of};
 use reg_store::StoreFault;
+use reg_verdict::{OTHER_SCHEMA, Verdict, broken_line, sound_line};
 use reg_words::{KeyHolder, Steps, Word};
 use std::alloc::Global;
 use std::io::{Read, Write};
@@ -256,5 +260,60 @@ fn tell_set<W: Write>(writer: &mut W, set: Result<(), StoreFault>) -> Result<(),
     match set {
         Ok(()) => say(writer, b"schedule set\n"),
         Err(fault) => Err(Failure::from(fault)),
+    }
+}
+
+/// Audits the register at a path, and tells what was found.
+pub(crate) fn audit<P: Place, W: Write>(
+    alloc: Global,
+    place: &mut P,
+    path: &str,
+    writer: &mut W,
+) -> Result<(), Failure>
+    ensures { AuditAt W.contents writer.old writer.new P.Place P.Opened.Keeper place.old place.new path.now result }
+{
+    let verdict = place.audit(path)?;
+    tell_verdict(alloc, writer, verdict)
+}
+
+/// Tells what an audit found.
+fn tell_verdict<W: Write>(alloc: Global, writer: &mut W, verdict: Verdict) -> Result<(), Failure>
+    ensures { TellsVerdict W.contents writer.old writer.new verdict result }
+{
+    match verdict {
+        Verdict::Sound(found) => tell_sound(alloc, writer, found),
+        Verdict::Broken(broken) => tell_broken(alloc, writer, broken),
+        Verdict::OtherSchema => say_broken(writer, OTHER_SCHEMA.as_bytes()),
+        Verdict::Older => Err(Failure::OldVersion),
+    }
+}
+
+/// Tells that all rows are sound.
+fn tell_sound<W: Write>(alloc: Global, writer: &mut W, found: Audited) -> Result<(), Failure>
+    ensures { TellsSound (sound_text found) W.contents writer.old writer.new result }
+{
+    match sound_line(alloc, found) {
+        Ok(line) => say(writer, &line),
+        Err(_) => Err(Failure::Fault(Fault::Memory)),
+    }
+}
+
+/// Tells a row that breaks a rule.
+fn tell_broken<W: Write>(alloc: Global, writer: &mut W, broken: Broken) -> Result<(), Failure>
+    ensures { TellsBroken (broken_text broken) W.contents writer.old writer.new result }
+{
+    match broken_line(alloc, broken) {
+        Ok(line) => say_broken(writer, &line),
+        Err(_) => Err(Failure::Fault(Fault::Memory)),
+    }
+}
+
+/// Says the line of what is broken: the job is not done.
+fn say_broken<W: Write>(writer: &mut W, line: &[u8]) -> Result<(), Failure>
+    ensures { TellsBroken line.now W.contents writer.old writer.new result }
+{
+    match say(writer, line) {
+        Ok(()) => Err(Failure::Broken),
+        Err(why) => Err(why),
     }
 }

@@ -9,7 +9,7 @@ ghost use Rattle.reg_program.specs.Told.{Explains, Tells};
 use crate::asking::at;
 use crate::files::FileOffice;
 use crate::front::Front;
-use crate::jobs::{NewOffice, crl, import_rows, init, schedule, script, script_in_memory};
+use crate::jobs::{NewOffice, audit, crl, import_rows, init, schedule, script, script_in_memory};
 use crate::lining::script_by_lines;
 use crate::machine::Machine;
 use crate::opening::hold_open;
@@ -161,5 +161,6 @@ fn run<P: Place, F: Front, R: Read, W: Write>(
         ),
         Job::At { counter } => at(alloc, front, counter.as_str(), reader, writer),
         Job::Schedule { file, steps } => schedule(alloc, place, file.as_str(), steps, writer),
+        Job::Audit { file } => audit(alloc, place, file.as_str(), writer),
     }
 }

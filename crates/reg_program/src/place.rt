@@ -5,6 +5,7 @@ use reg_der::Issuer;
 use reg_faces::Keeper;
 use reg_jobs::Failure;
 use reg_store::StoreFault;
+use reg_verdict::Verdict;
 use reg_words::KeyHolder;
 use std::alloc::Global;
 
@@ -35,6 +36,7 @@ pub trait Place {
     ghost use Rattle.reg_jobs.specs.declared.failure.Failure.{Failure as Failing};
     ghost use Rattle.reg_program.specs.Failing.{IsMaking, IsOpening};
     ghost use Rattle.reg_program.specs.Signing.{Signing};
+    ghost use Rattle.reg_verdict.specs.declared.judging.Verdict.{Verdict as Verdicts};
 
     /// What is opened: a register.
     type Opened: Register + Drop;
@@ -62,6 +64,12 @@ pub trait Place {
 
     /// What was opened at the path was closed, with this register in it, and the place after it.
     ghost closed: { Self → List ℕ → Self.Opened → Self → Type 0 };
+
+    /// An audit of what lies at the path said this, and the place after it.
+    ghost audited: { Self → List ℕ → Verdicts → Self → Type 0 };
+
+    /// For this no audit was had of what lies at the path, and the place after it.
+    ghost unaudited: { Self → List ℕ → Failing → Self → Type 0 };
 
     /// Lays an empty file at a path where nothing lies, and no log either, in one step, so that of two who do so at once one
     /// has it; and answers whether it did. Its owner alone may read and write it. A link that leads nowhere is something that
@@ -115,6 +123,17 @@ pub trait Place {
         ensures stands { IfOk result (λ register. (identity : Identity) × Self.Opened.stands identity register (no_records issuer policy)) }
         ensures err { IfErr result (λ why. unmade self.old path.now why self.new) }
         ensures faults { IfErr result IsMaking };
+
+    /// Audits the register that lies at a path, and changes nothing of it: one of an older version is not made newer.
+    ///
+    /// # Errors
+    ///
+    /// `NotARegister` and `NewVersion` for other tables; `Fault` of `Memory`, and of `Store` where nothing lies there or it
+    /// can't be opened.
+    fn audit(&mut self, path: &str) -> Result<Verdict, Failure>
+        ensures ok { IfOk result (λ verdict. audited self.old path.now verdict self.new) }
+        ensures err { IfErr result (λ why. unaudited self.old path.now why self.new) }
+        ensures faults { IfErr result IsOpening };
 
     /// Closes what was opened at a path.
     fn close(&mut self, path: &str, register: Self::Opened)

@@ -70,6 +70,10 @@ at_app = with_rules (new_app (codes "at")) (must (codes "counter") ∷ [])
 abbrev pub schedule_app : App
 schedule_app = with_rules (new_app (codes "schedule")) (must (codes "file") ∷ some (codes "steps") ∷ [])
 
+-- `audit FILE`
+abbrev pub audit_app : App
+audit_app = with_rules (new_app (codes "audit")) (must (codes "file") ∷ [])
+
 -- one of the commands is wanted, and help is `--help` alone
 abbrev pub bare_app : App
 bare_app = record (new_app (codes "desk")) {
@@ -78,5 +82,5 @@ bare_app = record (new_app (codes "desk")) {
 
 -- `desk COMMAND ..`
 abbrev pub desk_app : App
-desk_app = with_subcommand (with_subcommand (with_subcommand (with_subcommand (with_subcommand (with_subcommand (with_subcommand (with_subcommand
-    bare_app init_app.top) script_app.top) import_app.top) crl_app.top) serve_app.top) open_app.top) at_app.top) schedule_app.top
+desk_app = with_subcommand (with_subcommand (with_subcommand (with_subcommand (with_subcommand (with_subcommand (with_subcommand (with_subcommand (with_subcommand
+    bare_app init_app.top) script_app.top) import_app.top) crl_app.top) serve_app.top) open_app.top) at_app.top) schedule_app.top) audit_app.top

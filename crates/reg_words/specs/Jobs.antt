@@ -9,7 +9,7 @@ use Rattle.reg_words.specs.Desk.{desk_app}
 use Rattle.reg_words.specs.Values.{moment_of, steps_of, within}
 use Rattle.reg_signer.specs.Algorithms.{algorithm_named}
 use Rattle.reg_words.specs.declared.job.Job.{Job}
-use Rattle.reg_words.specs.declared.job.Job.TheVariants.{Init, Script, Lines, Import, Crl, Serve, Open, At, Schedule}
+use Rattle.reg_words.specs.declared.job.Job.TheVariants.{Init, Script, Lines, Import, Crl, Serve, Open, At, Schedule, Audit}
 use Rattle.reg_words.specs.declared.job.KeyHolder.{KeyHolder}
 use Rattle.reg_words.specs.declared.job.Usage.{Usage}
 use Rattle.reg_words.specs.declared.job.Way.{Way}
@@ -113,6 +113,11 @@ schedule_of rows = do
   steps ← option_and_then steps_of (all_of (codes "steps") rows)
   Some (Schedule file steps)
 
+unfoldable pub audit_of : List Row → Option Job
+audit_of rows = do
+  file ← first_of (codes "file") rows
+  Some (Audit file)
+
 -- the job of a command, by its name and what was found for its words and options
 unfoldable pub job_in : Text → List Row → Option Job
 job_in name rows =
@@ -124,6 +129,7 @@ job_in name rows =
     else if bytes_eq name (codes "open") then open_of rows
     else if bytes_eq name (codes "at") then at_of rows
     else if bytes_eq name (codes "schedule") then schedule_of rows
+    else if bytes_eq name (codes "audit") then audit_of rows
     else None
 
 -- the job that words say which clap accepts

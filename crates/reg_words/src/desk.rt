@@ -3,7 +3,7 @@
 ghost use Rattle.std.specs.Prelude.{◌≡◌, IfOk, false, pos};
 ghost use Rattle.clap.specs.Words.{App, Rule, app_of, new_app, rule_of, with_rule, with_subcommand};
 ghost use Rattle.clap.specs.declared.builder.command.Command.TheViews.{out-Command as fields_of};
-ghost use Rattle.reg_words.specs.Desk.{must, may, needs, takes, flag, some, init_app, script_app, import_app, crl_app, serve_app, open_app, at_app, schedule_app, bare_app, desk_app};
+ghost use Rattle.reg_words.specs.Desk.{must, may, needs, takes, flag, some, init_app, script_app, import_app, crl_app, serve_app, open_app, at_app, schedule_app, audit_app, bare_app, desk_app};
 
 use clap::{Arg, ArgAction, Command};
 use std::alloc::{AllocError, Global};
@@ -69,7 +69,8 @@ pub(crate) fn desk<'a>(alloc: Global) -> Result<Command<'a>, AllocError>
     let desk = with_command(desk, serve(alloc));
     let desk = with_command(desk, opening(alloc));
     let desk = with_command(desk, at(alloc));
-    with_command(desk, schedule(alloc))
+    let desk = with_command(desk, schedule(alloc));
+    with_command(desk, audit(alloc))
 }
 
 /// The command line with no command yet.
@@ -224,6 +225,20 @@ fn schedule<'a>(alloc: Global) -> Result<Command<'a>, AllocError>
     let command = with_arg(command, required_word(alloc, "file", "FILE", FILE));
     let steps = required_word(alloc, "steps", "MOMENT=DAYS", STEPS).num_args(1..);
     with_arg(command, steps)
+}
+
+/// `audit FILE`
+fn audit<'a>(alloc: Global) -> Result<Command<'a>, AllocError>
+    ensures app { IfOk result (λ made. app_of made ≡ audit_app) }
+    ensures local { IfOk result (λ made. (fields_of made).has_globals ≡ false) }
+{
+    let command = Ok(command_named(
+        alloc,
+        "audit",
+        "Read all rows of a register, and tell whether they are those of sound records; nothing is changed.",
+        "Example:\n  desk audit ca.db\n\nExit status 1 where a row is not sound, which is named by its table and its place there, from 1 on.",
+    ));
+    with_arg(command, required_word(alloc, "file", "FILE", FILE))
 }
 
 /// A command with no word yet: its name, what it does, and an example of it.

@@ -86,6 +86,10 @@ pub enum Job<'a> {
         file: Word<'a>,
         steps: Steps,
     },
+    /// Looks whether the tables are those of sound records, and changes nothing.
+    Audit {
+        file: Word<'a>,
+    },
 }
 
 /// Why there is no job.

@@ -2,7 +2,7 @@
 
 ghost use Rattle.std.specs.Prelude.{◌≡◌, codes, IfErr, IfOk, map, option_and_then};
 ghost use Rattle.clap.specs.Words.{found_of, rows_of, subcommand_rows_of, kind_of};
-ghost use Rattle.reg_words.specs.Jobs.{IsJobOf, IsUsageOf, Tells, job_in, init_of, script_by, script_of, import_of, crl_of, number_in, serve_of, open_of, at_of, schedule_of};
+ghost use Rattle.reg_words.specs.Jobs.{IsJobOf, IsUsageOf, Tells, job_in, init_of, script_by, script_of, import_of, crl_of, number_in, serve_of, open_of, at_of, schedule_of, audit_of};
 
 use crate::desk::desk;
 use crate::job::{Job, KeyHolder, Usage, Way};
@@ -87,6 +87,8 @@ fn read_command<'a>(
         Ok(read_at(given))
     } else if name == "schedule" {
         read_schedule(alloc, given)
+    } else if name == "audit" {
+        Ok(read_audit(given))
     } else {
         Ok(None)
     }
@@ -202,6 +204,15 @@ fn read_schedule<'a>(alloc: Global, given: &ArgMatches<'a>) -> Result<Option<Job
         Some(steps) => Ok(Some(Job::Schedule { file, steps })),
         None => Ok(None),
     }
+}
+
+#[tactic(auto, unfolding(crate::specs::Jobs::audit_of))]
+fn read_audit<'a>(given: &ArgMatches<'a>) -> Option<Job<'a>>
+    ensures { result ≡ audit_of (rows_of (found_of given.now)) }
+{
+    Some(Job::Audit {
+        file: word_of(given, "file")?,
+    })
 }
 
 /// What is answered where a word of the command line is no text.

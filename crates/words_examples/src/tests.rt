@@ -24,7 +24,7 @@ fn outcome_of(answer: &Result<Job<'_>, Usage>) -> Outcome {
 }
 
 /// Words that clap refuses.
-const UNKNOWN: [&[&str]; 22] = [
+const UNKNOWN: [&[&str]; 24] = [
     &[],
     &["desk"],
     &["desk", "frobnicate"],
@@ -59,6 +59,8 @@ const UNKNOWN: [&[&str]; 22] = [
     &["desk", "at"],
     &["desk", "at", "S", "F"],
     &["desk", "schedule", "F"],
+    &["desk", "audit"],
+    &["desk", "audit", "F", "G"],
 ];
 
 #[test]
@@ -168,7 +170,7 @@ fn refuses_other_moments_and_numbers(rt: HostRuntime) {
 }
 
 /// What help says at each level.
-const HELPED: [(&[&str], &[&str]); 10] = [
+const HELPED: [(&[&str], &[&str]); 11] = [
     (
         &["desk", "--help"],
         &[
@@ -231,6 +233,10 @@ const HELPED: [(&[&str], &[&str]); 10] = [
     (
         &["desk", "schedule", "F", "--help"],
         &["<FILE>", "<MOMENT=DAYS>..."],
+    ),
+    (
+        &["desk", "audit", "--help"],
+        &["<FILE>", "desk audit ca.db"],
     ),
 ];
 
@@ -467,6 +473,16 @@ fn crl_may_have_a_number(rt: HostRuntime) {
         let answer = read_words(rt.alloc(), &words);
         assert!(rt; is_crl(&answer, "ca.db", Some(wanted)), "at {word}");
     }
+}
+
+#[test]
+fn audit_has_a_file(rt: HostRuntime) {
+    let answer = read_words(rt.alloc(), &["desk", "audit", "ca.db"]);
+    let is_audit = match &answer {
+        Ok(Job::Audit { file }) => file.as_str() == "ca.db",
+        _ => false,
+    };
+    assert!(rt; is_audit);
 }
 
 fn is_serve(answer: &Result<Job<'_>, Usage>, path: &str, wanted: (u16, u32)) -> bool {

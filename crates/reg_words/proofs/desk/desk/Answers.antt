@@ -9,4 +9,5 @@ returns c =
     let serve = c.with_command-desk-5.ensures.app _ _ crl c.serve.ensures.app in
     let opening = c.with_command-desk-6.ensures.app _ _ serve c.opening.ensures.app in
     let at = c.with_command-desk-7.ensures.app _ _ opening c.at.ensures.app in
-    c.with_command.ensures.app _ _ at c.schedule.ensures.app
+    let schedule = c.with_command-desk-8.ensures.app _ _ at c.schedule.ensures.app in
+    c.with_command.ensures.app _ _ schedule c.audit.ensures.app

@@ -1,0 +1,15 @@
+use Rattle.reg_program.proofs.Fates.{opened}
+use Rattle.reg_program.proofs.files.audit_file.Goals as goal
+
+pub returns-in-Ok-clause-ok : goal.returns-in-Ok-clause-ok
+returns-in-Ok-clause-ok c =
+    let found = c.in_ok-connection.ensures in
+    record {
+      connection = c.in_ok-connection.connection;
+      after = c.judge-told.new.conn;
+      connects = record { fresh = found.fresh; whole = found.opened };
+      stays = c.judge-told.ensures.same;
+    }
+
+pub returns-in-Err-clause-err : goal.returns-in-Err-clause-err
+returns-in-Err-clause-err c = opened _ _ c.from.ensures c.in-Err.ensures.faults

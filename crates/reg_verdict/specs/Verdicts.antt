@@ -1,0 +1,16 @@
+-- What an audit says of a register.
+use Rattle.std.specs.Prelude.{Result, Ok, Err}
+use Rattle.reg_tables.specs.declared.fault.StoreFault.{StoreFault}
+use Rattle.reg_tables.specs.declared.fault.StoreFault.TheVariants as fault
+use Rattle.reg_auditing.specs.declared.auditing.Audited.{Audited}
+use Rattle.reg_auditing.specs.declared.stop.AuditStop.{AuditStop}
+use Rattle.reg_auditing.specs.declared.stop.AuditStop.TheVariants as stop
+use Rattle.reg_verdict.specs.declared.judging.Verdict.{Verdict}
+use Rattle.reg_verdict.specs.declared.judging.Verdict.TheVariants.{Sound, Broken}
+
+-- rows that were found well, or one that was not; else why there is no verdict
+abbrev pub verdict_of : Result Audited AuditStop → Result Verdict StoreFault
+verdict_of (Ok found) = Ok (Sound found)
+verdict_of (Err (stop.Broken broken)) = Ok (Broken broken)
+verdict_of (Err stop.Memory) = Err fault.Memory
+verdict_of (Err stop.Store) = Err fault.Store

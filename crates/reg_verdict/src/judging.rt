@@ -1,0 +1,63 @@
+//! The audit of a database whose version is looked at first.
+
+ghost use Rattle.std.specs.Prelude.{◌≡◌, ◌≢◌, false, IfErr};
+ghost use Rattle.sqlite.specs.Held.{state};
+ghost use Rattle.reg_tables.specs.Stays.{Stays};
+ghost use Rattle.reg_verdict.specs.Verdicts.{verdict_of};
+
+use reg_audit::Broken;
+use reg_auditing::{AuditStop, Audited, audit};
+use reg_opening::examine;
+use reg_schema::is_register;
+use reg_tables::StoreFault;
+use sqlite::{Alter, Connection};
+use std::alloc::Global;
+
+/// What an audit says of a register.
+#[derive(Clone, Copy, Debug, PartialEq, Eq)]
+pub enum Verdict {
+    /// The rows that are looked at are those of sound records: how many there are.
+    Sound(Audited),
+    /// A row breaks a rule.
+    Broken(Broken),
+    /// The register is of version 1 or 2: its rows are not looked at.
+    Older,
+    /// The tables, columns or indexes are not those of a register: its rows are not looked at.
+    OtherSchema,
+}
+
+/// What an audit of tables of the program's version says.
+fn said(audited: Result<Audited, AuditStop>) -> Result<Verdict, StoreFault>
+    ensures is { result ≡ verdict_of audited }
+    ensures faults { IfErr result (λ fault. fault ≢ StoreFault.NotEmpty) }
+{
+    match audited {
+        Ok(found) => Ok(Verdict::Sound(found)),
+        Err(AuditStop::Broken(broken)) => Ok(Verdict::Broken(broken)),
+        Err(AuditStop::Memory) => Err(StoreFault::Memory),
+        Err(AuditStop::Store) => Err(StoreFault::Store),
+    }
+}
+
+/// Looks at the version, the issuer, the policy and the last accepted moment as who opens a register does; then, where the
+/// version is the program's, whether the schema is a register's ([`reg_schema::is_register`]), and where it is, at all rows
+/// ([`reg_auditing::audit`]). Nothing is changed; a register of version 1 or 2 is not made newer. The connection is in no
+/// transaction, as one that was just opened.
+///
+/// # Errors
+/// `NotARegister` and `NewVersion` as [`reg_opening::open`] has them; `Memory`; `Store` where the database fails.
+pub fn judge<S: Alter>(alloc: Global, conn: &mut Connection<S>) -> Result<Verdict, StoreFault>
+    requires { conn.old.in_transaction ≡ false }
+    ensures same { Stays (state S.Store conn.old) (state S.Store conn.new) }
+    ensures idle { conn.new.in_transaction ≡ false }
+    ensures faults { IfErr result (λ fault. fault ≢ StoreFault.NotEmpty) }
+{
+    let older = examine(conn)?;
+    if older.is_some() {
+        return Ok(Verdict::Older);
+    }
+    if !is_register(conn.schema()) {
+        return Ok(Verdict::OtherSchema);
+    }
+    said(audit(alloc, conn))
+}

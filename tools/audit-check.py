@@ -1,0 +1,182 @@
+#!/usr/bin/env python3
+"""Makes registers by `desk script`, has `desk audit` find them sound, then breaks a copy by one statement of Python's sqlite3 at a time and
+looks that each is told: its table and row, with status 1; that a register of an older version, a newer one and another file are told as
+such; and that no byte of the audited file changed.
+
+Usage, from the repository's root: tools/audit-check.py        (DESK names another program than ./desk)
+"""
+import hashlib
+import importlib.util
+import os
+import shutil
+import sqlite3
+import subprocess
+import sys
+import tempfile
+
+DESK = os.path.abspath(os.environ.get("DESK", "desk"))
+NAME = "300C310A300806035504030C0154"
+
+
+def days():
+    """The lines of a script of three months: certificates that end, and some that are revoked before; some lines are refused."""
+    lines = ["2026-01-01T08:00:00Z subscriber acme", "2026-01-01T08:00:00Z subscriber globex"]
+    for order in range(1, 41):
+        lines.append(f"2026-01-01T09:00:00Z order {1 + order % 2} 90")
+    for order in range(1, 41):
+        lines.append(f"2026-01-02T09:00:00Z register {order} {order:02X} 2026-01-02T00:00:00Z 2026-{1 + order % 3:02}-{5 + order % 20:02}T00:00:00Z")
+    request = 0
+    for month, day in ((1, 3), (1, 4), (1, 20), (2, 2), (2, 20), (3, 1)):
+        for serial in range(day, 41, 9):
+            lines.append(f"2026-{month:02}-{day:02}T10:00:00Z request {serial:02X} key-compromise")
+        lines.append(f"2026-{month:02}-{day:02}T11:00:00Z crl")
+        for request in range(request + 1, request + 4):
+            word = "decline" if request % 7 == 0 else "revoke"
+            lines.append(f"2026-{month:02}-{day:02}T12:00:00Z {word} {request}")
+    lines.append("2026-03-03T11:00:00Z crl")
+    lines.append("2026-03-20T11:00:00Z crl")
+    return "".join(line + "\n" for line in lines)
+
+
+# A register of the first day: one statement each, and what is told of the file.
+BROKEN = [
+    ("a letter", "UPDATE standing SET state = 'G' WHERE rowid = 1", "standing 1"),
+    ("a letter that is none", "UPDATE standing SET state = 'Q' WHERE rowid = 1", "standing 1"),
+    ("a letter that is missing", "DELETE FROM standing", "standing 1"),
+    ("the counts", "UPDATE kept SET n_good = n_good + 1", "kept 1"),
+    ("no counts", "DELETE FROM kept", "kept"),
+    ("a last listing that is not yet", "UPDATE listed SET last_listed = 2", "listed 1"),
+    ("what a CRL lists", "UPDATE listed SET reason = 4", "listed 1"),
+    ("a listing that is missing", "DELETE FROM listed", "listed 1"),
+    ("a revocation before its request", "UPDATE revocation SET at = at - 86400", "revocation 1"),
+    ("a revocation after the last moment", "UPDATE revocation SET at = at + 86400", "revocation 1"),
+    ("a first CRL that is not issued", "UPDATE revocation SET first_crl = 9", "revocation 1"),
+    ("a CRL before the first that lists", "UPDATE revocation SET first_crl = 1", "revocation 1"),
+    ("a CRL number out of order", "UPDATE crl SET number = 7 WHERE number = 2", "crl 2"),
+    ("a CRL before the previous", "UPDATE crl SET this_update = this_update - 86400 WHERE number = 2", "crl 2"),
+    ("a serial number that is none", "UPDATE cert SET serial = x'05'", "cert 1"),
+    ("a certificate whose order is missing", "DELETE FROM orders", "cert 1"),
+    ("an order whose subscriber is missing", "DELETE FROM subscriber", "orders 1"),
+    ("an id that is left out", "UPDATE subscriber SET id = 2", "subscriber 1"),
+    ("a name that is none", "UPDATE subscriber SET name = ''", "subscriber 1"),
+    ("a request for another serial number", "UPDATE request SET serial = zeroblob(19) || x'07'", "request 1"),
+    ("a ground that is none", "UPDATE request SET ground = 12", "request 1"),
+    ("a request after the last moment", "UPDATE request SET received = received + 864000", "request 1"),
+    ("a moment below 0", "UPDATE cert SET not_after = -1", "cert 1"),
+    ("more rows than the cap", "UPDATE office SET cap = 1", "orders"),
+    ("another table", "CREATE TABLE t (a)", "schema: "),
+    ("a view", "CREATE VIEW v AS SELECT 1", "schema: "),
+    ("an index that is missing", "DROP INDEX standing_due", "schema: "),
+    ("a column besides", "ALTER TABLE crl ADD COLUMN note TEXT", "schema: "),
+    ("a column of another name", "ALTER TABLE subscriber RENAME COLUMN name TO label", "schema: "),
+]
+
+
+def digest(path):
+    with open(path, "rb") as file:
+        return hashlib.sha256(file.read()).hexdigest()
+
+
+def alter(path, sql):
+    """One statement, without the tests of foreign keys; the log is copied into the file."""
+    db = sqlite3.connect(path)
+    db.execute("PRAGMA foreign_keys = OFF")
+    db.execute(sql)
+    db.commit()
+    db.close()
+
+
+def audit(path):
+    """The exit status, what was printed and what was told; the file is as it was."""
+    before = digest(path)
+    ran = subprocess.run([DESK, "audit", path], capture_output=True, text=True)
+    wants(f"the bytes of {os.path.basename(path)}", digest(path), before)
+    return ran.returncode, ran.stdout, ran.stderr
+
+
+def wants(name, found, wanted):
+    if found != wanted:
+        sys.exit(f"FAILED: {name}: {found!r:.300} where {wanted!r:.300} was wanted")
+
+
+def made(folder, name, script):
+    path = f"{folder}/{name}.db"
+    subprocess.run([DESK, "init", path, "--name", NAME, "--key", "0102"], check=True, stdout=subprocess.DEVNULL)
+    subprocess.run([DESK, "script", path], input=script, text=True, check=True, stdout=subprocess.DEVNULL)
+    return path
+
+
+def counted(path):
+    """The line of a sound register."""
+    db = sqlite3.connect(path)
+    counts = [db.execute(f"SELECT count(*) FROM {table}").fetchone()[0] for table in ("cert", "revocation", "crl")]
+    db.close()
+    return "sound, {} certificates, {} revoked, {} CRLs\n".format(*counts)
+
+
+def told_broken(folder, sound, statements):
+    """Each statement over a copy of its own."""
+    for what, sql, row in statements:
+        path = f"{folder}/copy.db"
+        shutil.copy(sound, path)
+        alter(path, sql)
+        status, printed, told = audit(path)
+        wants(f"{what}: status and standard error", (status, told), (1, "broken\n"))
+        if not printed.startswith(f"broken: {row}") or printed.count("\n") != 1:
+            sys.exit(f"FAILED: {what}: {printed!r} does not name {row}")
+        print(f"ok: {what}: {printed.strip()}")
+        for end in ("", "-wal", "-shm"):
+            if os.path.exists(path + end):
+                os.remove(path + end)
+
+
+def older(folder):
+    """Registers of versions 1 and 2, as tools/old-registers.py makes them."""
+    spec = importlib.util.spec_from_file_location("old_registers", "tools/old-registers.py")
+    old = importlib.util.module_from_spec(spec)
+    spec.loader.exec_module(old)
+    records = old.Records(50)
+    for version in (1, 2):
+        path = f"{folder}/older-{version}.db"
+        old.make(path, records, version)
+        wants(f"version {version}", audit(path), (1, "", "old-version\n"))
+        subprocess.run([DESK, "script", path], input="", text=True, check=True, stdout=subprocess.DEVNULL)
+        status, printed, told = audit(path)
+        wants(f"version {version}, once opened", (status, printed, told), (0, counted(path), ""))
+        print(f"ok: version {version} is told and not made newer; once opened: {printed.strip()}")
+
+
+def others(folder, sound):
+    path = f"{folder}/newer.db"
+    shutil.copy(sound, path)
+    alter(path, "UPDATE office SET version = 4")
+    wants("a newer version", audit(path), (1, "", "new-version\n"))
+    path = f"{folder}/other.db"
+    alter(path, "CREATE TABLE t (a)")
+    wants("another database", audit(path), (1, "", "not-a-register\n"))
+    path = f"{folder}/text.db"
+    with open(path, "w") as file:
+        file.write("no database\n" * 100)
+    wants("no database", audit(path), (1, "", "F2 store\n"))
+    ran = subprocess.run([DESK, "audit", f"{folder}/none.db", "--why"], capture_output=True, text=True)
+    wants("no file", (ran.returncode, ran.stdout, ran.stderr), (1, "", "F2 store\n  no such file\n"))
+    wants("no file is made", os.path.exists(f"{folder}/none.db"), False)
+    print("ok: a newer version, other files and none")
+
+
+def main():
+    with tempfile.TemporaryDirectory() as folder:
+        with open("examples/first-day.txt") as file:
+            first = made(folder, "first", file.read())
+        many = made(folder, "many", days())
+        for path in (first, many):
+            wants("a sound register", audit(path), (0, counted(path), ""))
+            print(f"ok: {counted(path).strip()}")
+        told_broken(folder, first, BROKEN)
+        older(folder)
+        others(folder, first)
+        wants("the first register still", audit(first), (0, counted(first), ""))
+
+
+if __name__ == "__main__":
+    main()
