@@ -328,9 +328,9 @@ impl Hub {
         }
     }
 
-    /// Lets go a peer that was lifted out of a place. Why is told where its answer is not sent.
+    /// Lets go a peer that was lifted out of a place. Why is told where its answer is not sent, and no fault was told of it before.
     fn let_go(&mut self, place: usize, caller: Caller<TcpStream>, why: Lost) {
-        if caller.unsent() > 0 {
+        if caller.unsent() > 0 && caller.fault.is_none() {
             self.note(Some(caller.peer), why);
         }
         self.unsent = self.unsent.saturating_sub(caller.unsent());
@@ -688,6 +688,7 @@ impl Hub {
         };
         let before = caller.unsent();
         if let Some(why) = caller.fault(now) {
+            caller.fault = Some(why);
             self.note(Some(caller.peer), why);
         }
         let answered = caller.answer(handler, made, now);

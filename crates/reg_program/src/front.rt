@@ -141,7 +141,8 @@ impl<'a> Front for Machine<'a> {
 
     fn log(&self, line: &[u8]) {
         // A log that can't be written disturbs nobody.
-        let _ = write_whole(&mut self.rt.stderr(), line);
+        let mut errors = self.rt.stderr();
+        let _ = write_whole(&mut errors, line);
     }
 }
 
