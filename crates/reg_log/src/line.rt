@@ -64,7 +64,8 @@ fn put_told(line: &mut Vec<u8>, text: &[u8]) -> Result<(), AllocError>
 {
     line.extend_from_slice(b" \"")?;
     put_plainly(line, front_of(first_line(text)))?;
-    line.push(b'"')
+    line.push(b'"')?;
+    Ok(())
 }
 
 /// The first line of a text, or all of it where no line ends.
@@ -103,7 +104,8 @@ fn put_byte(line: &mut Vec<u8>, byte: u8) -> Result<(), AllocError>
     ensures { OnOk result (line.new.items ≡ line.old.items ++ told_byte byte) }
 {
     if is_plain(byte) {
-        return line.push(byte);
+        line.push(byte)?;
+        return Ok(());
     }
     let escape = [b'\\', b'x', digit(byte / 16), digit(byte % 16)];
     line.extend_from_slice(&escape)
