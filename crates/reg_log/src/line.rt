@@ -1,8 +1,8 @@
 //! The line of an exchange, and the line of a connection that ended by a fault.
 
-ghost use Rattle.std.specs.Prelude.{◌≡◌, ◌++◌, ◌∷◌, ◌<◌, [], IfOk, OnOk, decimal, take};
-ghost use Rattle.std.specs.List.{before_first, flat_map};
-ghost use Rattle.reg_log.specs.Log.{digit as hexadecimal, is_plain as plain, ends_line, told, told_byte, exchange_line as exchanged, lost_line as lost};
+ghost use Rattle.std.specs.Prelude.{◌≡◌, ◌++◌, ◌∷◌, ◌<◌, ◌≤◌, [], IfOk, IfSome, OnOk, decimal, length, take};
+ghost use Rattle.std.specs.List.{flat_map, position};
+ghost use Rattle.reg_log.specs.Log.{digit as hexadecimal, is_plain as plain, ends_line, first_line as first_line_of, told, told_byte, exchange_line as exchanged, lost_line as lost};
 
 use reg_core::{Decimal, Moment};
 use std::alloc::{AllocError, Global};
@@ -70,22 +70,32 @@ fn put_told(line: &mut Vec<u8>, text: &[u8]) -> Result<(), AllocError>
 
 /// The first line of a text, or all of it where no line ends.
 fn first_line(text: &[u8]) -> &[u8]
-    ensures { result.now ≡ before_first ends_line text.now }
+    ensures { result.now ≡ first_line_of text.now }
 {
-    match text
-        .iter()
-        .position(|byte| *byte == b'\r' || *byte == b'\n')
-    {
+    match line_end(text) {
         Some(end) => &text[..end],
         None => text,
     }
+}
+
+/// Where the first line of a text ends.
+fn line_end(text: &[u8]) -> Option<usize>
+    ensures place { result ≡ position ends_line text.now }
+    ensures within { IfSome result (λ end. end ≤ length text.now) }
+{
+    text.iter()
+        .position(|byte| *byte == b'\r' || *byte == b'\n')
 }
 
 /// As much of a text as is told.
 fn front_of(text: &[u8]) -> &[u8]
     ensures { result.now ≡ take 256 text.now }
 {
-    &text[..text.len().min(MOST_TOLD)]
+    if text.len() > MOST_TOLD {
+        &text[..MOST_TOLD]
+    } else {
+        text
+    }
 }
 
 /// Puts the bytes of a text behind a line, each as it is told.
