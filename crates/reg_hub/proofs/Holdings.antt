@@ -30,6 +30,7 @@ adds_then x y z first came taken.Whole before after = after ∙ ap (λ (l : List
 adds_then x y z first came taken.Waits before after = after ∙ ap (λ (l : List ℕ). l ++ came) before ∙ append_assoc x first came
 adds_then x y z first came taken.More before after = after ∙ ap (λ (l : List ℕ). l ++ came) before ∙ append_assoc x first came
 adds_then x y z first came taken.Ended before after = after ∙ ap (λ (l : List ℕ). l ++ came) before ∙ append_assoc x first came
+adds_then x y z first came taken.Broken before after = after ∙ ap (λ (l : List ℕ). l ++ came) before ∙ append_assoc x first came
 
 -- nothing was taken in
 pub takes_none : (input : Option (List ℕ)) (held : List ℕ) → TakesIn input input held held taken.More
@@ -50,6 +51,7 @@ kept_of x came z taken.Whole adds = (came, [], sym (append-nil came), adds)
 kept_of x came z taken.Waits adds = (came, [], sym (append-nil came), adds)
 kept_of x came z taken.More adds = (came, [], sym (append-nil came), adds)
 kept_of x came z taken.Ended adds = (came, [], sym (append-nil came), adds)
+kept_of x came z taken.Broken adds = (came, [], sym (append-nil came), adds)
 
 -- nothing was sent
 pub sends_none : (old : Option (List ℕ)) (text : List ℕ) → SendsOn old old text text sent.More

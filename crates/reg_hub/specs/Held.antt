@@ -15,6 +15,7 @@ AddsTo before came after taken.Whole = after ≡ before ++ came
 AddsTo before came after taken.Waits = after ≡ before ++ came
 AddsTo before came after taken.More = after ≡ before ++ came
 AddsTo before came after taken.Ended = after ≡ before ++ came
+AddsTo before came after taken.Broken = after ≡ before ++ came
 
 -- what was taken from the reader is held, in its order and whole
 pub record TakesIn (input left : Option (List ℕ)) (before after : List ℕ) (taken : Taken) : Type 0 where
@@ -28,6 +29,7 @@ IsWholeAt bytes taken.Whole = ∥ IsWhole bytes ∥₁
 IsWholeAt bytes taken.Waits = Unit {0}
 IsWholeAt bytes taken.More = Unit {0}
 IsWholeAt bytes taken.Ended = Unit {0}
+IsWholeAt bytes taken.Broken = Unit {0}
 IsWholeAt bytes taken.Lost = Unit {0}
 
 -- where all was taken nothing is left

@@ -4,7 +4,7 @@ ghost use Rattle.std.specs.Prelude.{◌≡◌, ◌≤◌, ◌+◌, OnOk, OnErr};
 ghost use Rattle.reg_hub.specs.Calls.{Answering, Takes, Sends};
 ghost use Rattle.reg_hub.specs.Exchange.{Exchanged};
 
-use crate::handler::{Handler, Stopped, answer_one};
+use crate::handler::{Handler, Lost, Stopped, answer_one};
 use crate::link::Link;
 use crate::taking::{Taken, take_in};
 use crate::unsent::{Sent, Unsent};
@@ -12,6 +12,7 @@ use mio::Interest;
 use reg_heads::Collected;
 use std::alloc::Global;
 use std::io::{ErrorKind, Read};
+use std::net::SocketAddr;
 
 /// How many milliseconds a peer has for its request to be whole, and as many for its answer to be taken.
 const PATIENCE: u64 = 30_000;
@@ -58,8 +59,17 @@ enum After {
 /// What is to be done where a taking in came to rest so.
 fn after_taking(taken: Taken) -> Next {
     match taken {
-        Taken::Whole | Taken::Ended | Taken::Lost => Next::Due,
+        Taken::Whole | Taken::Ended | Taken::Broken | Taken::Lost => Next::Due,
         Taken::Waits | Taken::More => Next::Waits(Interest::READABLE),
+    }
+}
+
+/// The fault by which a taking in came to rest so, if there is one.
+fn fault_of(taken: Taken) -> Option<Lost> {
+    match taken {
+        Taken::Broken => Some(Lost::Broken),
+        Taken::Lost => Some(Lost::Memory),
+        Taken::Whole | Taken::Ended | Taken::Waits | Taken::More => None,
     }
 }
 
@@ -77,18 +87,23 @@ fn after_sending(sent: Sent, is_last: bool) -> After {
 #[derive(Drop)]
 pub struct Caller<S: Link> {
     pub(crate) link: S,
+    pub(crate) peer: SocketAddr,
     pub(crate) stage: Stage,
+    /// By what fault no more of its request is waited for, if by one.
+    pub(crate) fault: Option<Lost>,
     pub(crate) until: u64,
     pub(crate) number: u64,
     pub(crate) is_registered: bool,
 }
 
 impl<S: Link> Caller<S> {
-    /// A peer that was accepted at this moment, in milliseconds of a clock that never goes back.
-    pub fn new(alloc: Global, link: S, number: u64, now: u64) -> Caller<S> {
+    /// A peer at an address that was accepted at this moment, in milliseconds of a clock that never goes back.
+    pub fn new(alloc: Global, link: S, peer: SocketAddr, number: u64, now: u64) -> Caller<S> {
         Caller {
             link,
+            peer,
             stage: Stage::Asking(Collected::new(alloc)),
+            fault: None,
             until: now.saturating_add(PATIENCE),
             number,
             is_registered: false,
@@ -103,6 +118,17 @@ impl<S: Link> Caller<S> {
     /// Whether its time is over.
     pub fn is_late(&self, now: u64) -> bool {
         self.until <= now
+    }
+
+    /// The fault by which it is answered at this moment before its request is whole, if there is one.
+    pub fn fault(&self, now: u64) -> Option<Lost> {
+        if !self.is_asking() {
+            return None;
+        }
+        match self.fault {
+            None if self.is_late(now) => Some(Lost::Late),
+            fault => fault,
+        }
     }
 
     /// How many bytes of its answer are not sent yet.
@@ -131,7 +157,11 @@ impl<S: Link> Caller<S> {
         ensures { Takes S.Read.remaining self.old.link self.new.link self.old.stage self.new.stage }
     {
         match &mut self.stage {
-            Stage::Asking(collected) => after_taking(take_in(&mut self.link, collected, room)),
+            Stage::Asking(collected) => {
+                let taken = take_in(&mut self.link, collected, room);
+                self.fault = fault_of(taken);
+                after_taking(taken)
+            }
             Stage::Answering(..) => Next::Gone,
             Stage::Leaving => Next::Gone,
         }
@@ -200,7 +230,7 @@ impl<S: Link> Caller<S> {
         ensures err { OnErr result ((self.new ≡ self.old) × (handler.new ≡ handler.old)) }
     {
         let text = match &self.stage {
-            Stage::Asking(collected) => answer_one(handler, made, collected.as_slice())?,
+            Stage::Asking(collected) => answer_one(handler, made, self.peer, collected.as_slice())?,
             Stage::Answering(..) => return Ok(()),
             Stage::Leaving => return Ok(()),
         };

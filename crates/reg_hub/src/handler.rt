@@ -2,9 +2,24 @@
 
 ghost use Rattle.std.specs.Prelude.{◌≡◌, ◌+◌, IfOk, OnOk, OnErr};
 
+use std::net::SocketAddr;
+
 /// No more can be answered: the clock can't be read, or the sockets fail.
 #[derive(Clone, Copy, Debug, PartialEq, Eq)]
 pub struct Stopped;
+
+/// Why a connection ended by a fault.
+#[derive(Clone, Copy, Debug, PartialEq, Eq)]
+pub enum Lost {
+    /// It failed: the peer broke it off, or it can't be watched.
+    Broken,
+    /// Its time was over: its request was not whole, or its answer not taken.
+    Late,
+    /// It was let go for others: its request was not whole, or its answer not taken.
+    Crowded,
+    /// There was no memory for what came on it.
+    Memory,
+}
 
 /// What answers requests and lines, one after the other.
 pub trait Handler {
@@ -16,12 +31,12 @@ pub trait Handler {
     // This line was answered by this text: the handler before and after it.
     ghost tells: { Self → List ℕ → List ℕ → Self → Type 0 };
 
-    /// Answers what came of one peer. Where that is no whole request, the text may be empty.
+    /// Answers what came of the peer at an address. Where that is no whole request, the text may be empty.
     ///
     /// # Errors
     ///
     /// [`Stopped`], and the handler is as it was.
-    fn answer(&mut self, request: &[u8]) -> Result<Vec<u8>, Stopped>
+    fn answer(&mut self, peer: SocketAddr, request: &[u8]) -> Result<Vec<u8>, Stopped>
         ensures ok { IfOk result (λ text. answers self.old request.now text.items self.new) }
         ensures err { OnErr result (self.new ≡ self.old) };
 
@@ -33,12 +48,16 @@ pub trait Handler {
     fn tell(&mut self, line: &[u8]) -> Result<Vec<u8>, Stopped>
         ensures ok { IfOk result (λ text. tells self.old line.now text.items self.new) }
         ensures err { OnErr result (self.new ≡ self.old) };
+
+    /// Is told that the connection of the peer at an address ended by a fault; a counter has no address. Nothing changes by it.
+    fn lose(&self, peer: Option<SocketAddr>, why: Lost);
 }
 
 /// Answers what came of one peer, and counts it.
 pub(crate) fn answer_one<H: Handler>(
     handler: &mut H,
     made: &mut u64,
+    peer: SocketAddr,
     request: &[u8],
 ) -> Result<Vec<u8>, Stopped>
     ensures ok { IfOk result (λ text. H.answers handler.old request.now text.items handler.new) }
@@ -48,7 +67,7 @@ pub(crate) fn answer_one<H: Handler>(
     let Some(count) = made.checked_add(1) else {
         return Err(Stopped);
     };
-    let text = handler.answer(request)?;
+    let text = handler.answer(peer, request)?;
     *made = count;
     Ok(text)
 }

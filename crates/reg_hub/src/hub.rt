@@ -4,7 +4,7 @@ ghost use Rattle.std.specs.Prelude.{◌≡◌, ◌≤◌, ◌+◌, ℕ, OnOk};
 ghost use Rattle.reg_hub.specs.Exchange.{Exchanged};
 
 use crate::caller::{Caller, Next};
-use crate::handler::{Handler, Stopped};
+use crate::handler::{Handler, Lost, Stopped};
 use crate::places::Places;
 use crate::teller::Teller;
 use mio::net::{TcpListener, TcpStream, UnixListener, UnixStream};
@@ -12,7 +12,7 @@ use mio::{Events, Interest, Poll, Token};
 use std::alloc::{AllocGlobal, Global};
 use std::io;
 use std::io::ErrorKind;
-use std::net::Net;
+use std::net::{Net, SocketAddr};
 use std::time::{Clock, Duration};
 
 /// How many peers there may be at once: with what else a program has open, that fits the usual limit of 1,024 descriptors.
@@ -45,6 +45,13 @@ const FIRST_TELLER: usize = 2;
 
 const FIRST_CALLER: usize = 10;
 
+/// A connection that ended by a fault, and was not told yet; a counter has no address.
+#[derive(Clone, Copy)]
+struct Loss {
+    peer: Option<SocketAddr>,
+    why: Lost,
+}
+
 /// The peers of one thread.
 #[derive(Drop)]
 pub struct Hub {
@@ -57,9 +64,11 @@ pub struct Hub {
     callers: Places<Caller<TcpStream>>,
     tellers: Places<Teller<UnixStream>>,
     /// The peer that was accepted and has no place yet.
-    next: Option<TcpStream>,
+    next: Option<(TcpStream, SocketAddr)>,
     /// The places of the peers that are to be answered in this turn.
     due: Vec<usize>,
+    /// The connections that ended by a fault, and were not told yet.
+    lost: Vec<Loss>,
     /// Whether a listener may have one more connection.
     has_callers: bool,
     has_tellers: bool,
@@ -114,6 +123,7 @@ impl Hub {
             tellers: Places::new(alloc, MOST_TELLERS)?,
             next: None,
             due: Vec::with_capacity(alloc, places)?,
+            lost: Vec::with_capacity(alloc, places)?,
             has_callers: true,
             has_tellers: true,
             has_lines: false,
@@ -177,21 +187,24 @@ impl Hub {
         ensures within { made.new ≤ most }
     {
         let now = self.look(clock, most, longest)?;
+        self.tell_lost(handler);
         self.tell_all(handler)?;
         self.answer_all(handler, made, most, now)
     }
 
-    /// Sends on what was answered, and lets everybody go, until nobody is left or the time of each is over.
+    /// Sends on what was answered, and lets everybody go, until nobody is left or the time of each is over. The handler is told of
+    /// those that end by a fault.
     ///
     /// # Errors
     ///
     /// [`Stopped`], where the sockets are.
-    pub fn finish<C: Clock>(&mut self, clock: &C) -> Result<(), Stopped> {
+    pub fn finish<C: Clock, H: Handler>(&mut self, clock: &C, handler: &H) -> Result<(), Stopped> {
         let most = self.accepted;
         for place in 0..self.callers.count() {
             self.leave_asking(place);
         }
         for _ in 0..u64::MAX {
+            self.tell_lost(handler);
             if self.callers.taken() == 0 {
                 return Ok(());
             }
@@ -228,7 +241,7 @@ impl Hub {
         let accepts = self.next.is_some() || (self.has_callers && self.accepted < most);
         let tells = self.has_lines
             || (self.has_tellers && self.tellers.has_room() && self.counter.is_some());
-        if accepts || tells || !self.due.is_empty() {
+        if accepts || tells || !self.due.is_empty() || !self.lost.is_empty() {
             return Duration::ZERO;
         }
         if self.callers.taken() == 0 {
@@ -289,7 +302,7 @@ impl Hub {
                 self.make_due(place);
             }
             Next::Waits(interest) => self.wait_for(place, caller, interest),
-            Next::Gone => self.let_go(place, caller),
+            Next::Gone => self.let_go(place, caller, Lost::Broken),
         }
     }
 
@@ -311,15 +324,39 @@ impl Hub {
         caller.is_registered = true;
         match watched {
             Ok(()) => self.callers.put(place, caller),
-            Err(_) => self.let_go(place, caller),
+            Err(_) => self.let_go(place, caller, Lost::Broken),
         }
     }
 
-    /// Lets go a peer that was lifted out of a place.
-    fn let_go(&mut self, place: usize, caller: Caller<TcpStream>) {
+    /// Lets go a peer that was lifted out of a place. Why is told where its answer is not sent, and no fault was told of it before.
+    fn let_go(&mut self, place: usize, caller: Caller<TcpStream>, why: Lost) {
+        if caller.unsent() > 0 && caller.fault.is_none() {
+            self.note(Some(caller.peer), why);
+        }
         self.unsent = self.unsent.saturating_sub(caller.unsent());
         drop(caller);
         self.callers.free(place);
+    }
+
+    /// Notes that a connection ended by a fault.
+    fn note(&mut self, peer: Option<SocketAddr>, why: Lost) {
+        // Where there is no memory for it, it is not told.
+        let _ = self.lost.push(Loss { peer, why });
+    }
+
+    /// Tells the handler of the connections that ended by a fault.
+    fn tell_lost<H: Handler>(&mut self, handler: &H) {
+        for index in 0..self.lost.len() {
+            if let Some(loss) = self.loss_at(index) {
+                handler.lose(loss.peer, loss.why);
+            }
+        }
+        self.lost.clear();
+    }
+
+    /// A connection that ended by a fault.
+    fn loss_at(&self, index: usize) -> Option<Loss> {
+        self.lost.get(index).copied()
     }
 
     /// Seats peers, as long as there are any.
@@ -328,17 +365,17 @@ impl Hub {
             if self.next.is_none() {
                 self.accept_next(most)?;
             }
-            let Some(link) = self.next.take() else {
+            let Some((link, peer)) = self.next.take() else {
                 return Ok(());
             };
             match self.callers.take() {
                 Some(place) => {
-                    let caller = Caller::new(self.alloc, link, self.accepted, now);
+                    let caller = Caller::new(self.alloc, link, peer, self.accepted, now);
                     // Most requests are whole by now.
                     self.settle(place, caller, now);
                 }
                 None => {
-                    self.next = Some(link);
+                    self.next = Some((link, peer));
                     self.make_room();
                     return Ok(());
                 }
@@ -353,9 +390,9 @@ impl Hub {
             return Ok(());
         }
         match self.listener.accept() {
-            Ok((link, _)) => {
+            Ok((link, peer)) => {
                 self.accepted = self.accepted.saturating_add(1);
-                self.next = Some(link);
+                self.next = Some((link, peer));
                 Ok(())
             }
             Err(error) => self.refused(error.kind()),
@@ -383,10 +420,14 @@ impl Hub {
     fn make_room(&mut self) {
         if let Some(place) = self.oldest(false) {
             if let Some(caller) = self.callers.lift(place) {
-                self.let_go(place, caller);
+                self.let_go(place, caller, Lost::Crowded);
             }
         } else if let Some(place) = self.oldest(true) {
-            self.make_due(place);
+            if let Some(mut caller) = self.callers.lift(place) {
+                caller.fault = Some(Lost::Crowded);
+                self.callers.put(place, caller);
+                self.make_due(place);
+            }
         }
     }
 
@@ -413,7 +454,7 @@ impl Hub {
         self.swept = now;
         for place in 0..self.callers.count() {
             if self.is_late(place, now) {
-                self.end(place);
+                self.end(place, Lost::Late);
             }
         }
     }
@@ -427,13 +468,13 @@ impl Hub {
     }
 
     /// Ends the time of the peer at a place.
-    fn end(&mut self, place: usize) {
+    fn end(&mut self, place: usize, why: Lost) {
         if let Some(caller) = self.callers.lift(place) {
             if caller.is_asking() {
                 self.callers.put(place, caller);
                 self.make_due(place);
             } else {
-                self.let_go(place, caller);
+                self.let_go(place, caller, why);
             }
         }
     }
@@ -442,7 +483,7 @@ impl Hub {
     fn leave_asking(&mut self, place: usize) {
         if let Some(caller) = self.callers.lift(place) {
             if caller.is_asking() {
-                self.let_go(place, caller);
+                self.let_go(place, caller, Lost::Late);
             } else {
                 self.callers.put(place, caller);
             }
@@ -467,7 +508,7 @@ impl Hub {
                 return;
             }
             match self.oldest_unsent(newest) {
-                Some(place) => self.end(place),
+                Some(place) => self.end(place, Lost::Crowded),
                 None => return,
             }
         }
@@ -529,6 +570,9 @@ impl Hub {
             }
             Next::Waits(interest) => self.watch_teller(place, teller, interest),
             Next::Gone => {
+                if teller.unsent.len() > 0 {
+                    self.note(None, Lost::Broken);
+                }
                 drop(teller);
                 self.tellers.free(place);
             }
@@ -643,6 +687,10 @@ impl Hub {
             return Ok(());
         };
         let before = caller.unsent();
+        if let Some(why) = caller.fault(now) {
+            caller.fault = Some(why);
+            self.note(Some(caller.peer), why);
+        }
         let answered = caller.answer(handler, made, now);
         self.unsent = self
             .unsent

@@ -12,7 +12,7 @@ mod teller;
 mod unsent;
 
 pub use caller::{Caller, Next};
-pub use handler::{Handler, Stopped};
+pub use handler::{Handler, Lost, Stopped};
 pub use hub::{Hub, MOST_CALLERS};
 pub use link::Link;
 pub use taking::{Taken, take_in};

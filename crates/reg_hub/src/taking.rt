@@ -19,8 +19,10 @@ pub enum Taken {
     Waits,
     /// More may have come.
     More,
-    /// Nothing more comes, or the reader fails.
+    /// Nothing more comes.
     Ended,
+    /// The reader fails.
+    Broken,
     /// There was no memory for the last bytes that came.
     Lost,
 }
@@ -50,7 +52,7 @@ fn take_once<R: Read>(reader: &mut R, collected: &mut Collected, room: &mut [u8]
         Err(error) => match error.kind() {
             ErrorKind::WouldBlock => Taken::Waits,
             ErrorKind::Interrupted => Taken::More,
-            _ => Taken::Ended,
+            _ => Taken::Broken,
         },
     }
 }

@@ -7,11 +7,12 @@ use crate::machine::Machine;
 use mio::net::{TcpListener, UnixListener};
 use reg_causes::{Cause, of_io, of_port};
 use reg_core::{Fault, Moment};
+use reg_wire::write_whole;
 use std::io;
 use std::io::ErrorKind;
 use std::net::SocketAddr;
 use std::os::unix::net::UnixStream;
-use std::time::Clock;
+use std::time::{Clock, Duration};
 
 /// The last moment, 9999-12-31T23:59:59Z.
 const LAST_SECOND: u64 = 253_402_300_799;
@@ -66,6 +67,15 @@ pub trait Front {
     /// What the system says where nobody listens there.
     fn meet(&self, path: &str) -> io::Result<UnixStream>
         ensures { OnOk result (met path.now) };
+
+    /// Whether exchanges are told in a log.
+    fn has_log(&self) -> bool;
+
+    /// The microseconds of a clock that never goes back; 0 where it can't be read.
+    fn micros(&self) -> u64;
+
+    /// Puts a line with its LF into the log. What can't be put there is left out.
+    fn log(&self, line: &[u8]);
 }
 
 /// The machine. What its clock says and what listens at its ports, no clause can say.
@@ -117,6 +127,31 @@ impl<'a> Front for Machine<'a> {
             }
         }
     }
+
+    fn has_log(&self) -> bool {
+        self.has_log
+    }
+
+    fn micros(&self) -> u64 {
+        match self.rt.monotonic() {
+            Ok(passed) => micros_of(passed),
+            Err(_) => 0,
+        }
+    }
+
+    fn log(&self, line: &[u8]) {
+        // A log that can't be written disturbs nobody.
+        let mut errors = self.rt.stderr();
+        let _ = write_whole(&mut errors, line);
+    }
+}
+
+/// A time in microseconds.
+fn micros_of(passed: Duration) -> u64 {
+    passed
+        .as_secs()
+        .saturating_mul(1_000_000)
+        .saturating_add(u64::from(passed.subsec_micros()))
 }
 
 /// The moment of the machine's clock: moment 0 where it is set before 1970, the last moment where it is past that.

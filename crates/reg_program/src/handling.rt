@@ -9,11 +9,13 @@ ghost use Rattle.reg_heads.specs.Response.{memory_text};
 ghost use Rattle.reg_program.specs.Exchanges.{Entry, EntryAt, Exchange, ExchangeAt, LineRuns, Replied, Responded, line_at};
 
 use crate::front::Front;
+use crate::logging::{began, log_answer, log_line, log_lost};
 use reg_core::{Fault, Moment};
 use reg_faces::{Desk, Keeper, run_script, serve_one};
 use reg_heads::write_memory_fault;
-use reg_hub::{Handler, Stopped};
+use reg_hub::{Handler, Lost, Stopped};
 use std::alloc::{AllocError, Global};
+use std::net::SocketAddr;
 
 /// The bytes of room that are made for the text of a response before anything is asked. Each response that tells of something entered
 /// fits, and so do most of an OCSP answer: memory can't be wanting for them once the office was asked.
@@ -48,12 +50,19 @@ impl<'a, K: Keeper, F: Front> Handler for ServedDesk<'a, K, F> {
 
     ghost tells = { NoEntry };
 
-    fn answer(&mut self, request: &[u8]) -> Result<Vec<u8>, Stopped> {
-        answer_now(&mut self.desk, self.front, request)
+    fn answer(&mut self, peer: SocketAddr, request: &[u8]) -> Result<Vec<u8>, Stopped> {
+        let began = began(self.front);
+        let answered = answer_now(&mut self.desk, self.front, request);
+        log_answer(self.desk.alloc, self.front, began, peer, request, &answered);
+        answered
     }
 
     fn tell(&mut self, _line: &[u8]) -> Result<Vec<u8>, Stopped> {
         Err(Stopped)
+    }
+
+    fn lose(&self, peer: Option<SocketAddr>, why: Lost) {
+        log_lost(self.desk.alloc, self.front, peer, why);
     }
 }
 
@@ -67,12 +76,22 @@ impl<'a, K: Keeper, F: Front> Handler for OpenDesk<'a, K, F> {
     ghost tells = { λ s line text t. Moves K.is_clean K.stands
         (λ identity before after. Entry K.signs F.told identity before line text after) s.desk.office t.desk.office };
 
-    fn answer(&mut self, request: &[u8]) -> Result<Vec<u8>, Stopped> {
-        answer_now(&mut self.desk, self.front, request)
+    fn answer(&mut self, peer: SocketAddr, request: &[u8]) -> Result<Vec<u8>, Stopped> {
+        let began = began(self.front);
+        let answered = answer_now(&mut self.desk, self.front, request);
+        log_answer(self.desk.alloc, self.front, began, peer, request, &answered);
+        answered
     }
 
     fn tell(&mut self, line: &[u8]) -> Result<Vec<u8>, Stopped> {
-        tell_now(&mut self.desk, self.front, line)
+        let began = began(self.front);
+        let told = tell_now(&mut self.desk, self.front, line);
+        log_line(self.desk.alloc, self.front, began, line, &told);
+        told
+    }
+
+    fn lose(&self, peer: Option<SocketAddr>, why: Lost) {
+        log_lost(self.desk.alloc, self.front, peer, why);
     }
 }
 
@@ -85,13 +104,15 @@ impl<K: Keeper> Handler for LinedDesk<K> {
     ghost tells = { λ s line text t. Moves K.is_clean K.stands
         (λ identity before after. LineRuns K.signs identity before line text after) s.desk.office t.desk.office };
 
-    fn answer(&mut self, _request: &[u8]) -> Result<Vec<u8>, Stopped> {
+    fn answer(&mut self, _peer: SocketAddr, _request: &[u8]) -> Result<Vec<u8>, Stopped> {
         Err(Stopped)
     }
 
     fn tell(&mut self, line: &[u8]) -> Result<Vec<u8>, Stopped> {
         Ok(tell_alone(&mut self.desk, line))
     }
+
+    fn lose(&self, _peer: Option<SocketAddr>, _why: Lost) {}
 }
 
 /// Answers what came of a peer, at the moment of the clock.

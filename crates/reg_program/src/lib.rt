@@ -8,6 +8,7 @@ mod front;
 mod handling;
 mod jobs;
 mod lining;
+mod logging;
 mod machine;
 mod memory;
 mod opening;

@@ -12,12 +12,26 @@ use std::cell::Cell;
 pub struct Machine<'a> {
     pub(crate) rt: HostRuntime,
     noted: &'a Cell<Option<Cause>>,
+    pub(crate) has_log: bool,
 }
 
 impl<'a> Machine<'a> {
     /// The machine of this handle, which notes causes here.
     pub fn of(rt: HostRuntime, noted: &'a Cell<Option<Cause>>) -> Machine<'a> {
-        Machine { rt, noted }
+        Machine {
+            rt,
+            noted,
+            has_log: false,
+        }
+    }
+
+    /// The same machine, whose log is standard error where exchanges are to be told.
+    pub fn with_log(self, has_log: bool) -> Machine<'a> {
+        Machine {
+            rt: self.rt,
+            noted: self.noted,
+            has_log,
+        }
     }
 
     /// Notes a cause.

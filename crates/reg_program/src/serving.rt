@@ -147,6 +147,6 @@ fn answer_all<H: Handler>(
         return Err(Failure::Fault(Fault::Read));
     }
     // Who does not take its answer in time is let go.
-    let _ = hub.finish(rt);
+    let _ = hub.finish(rt, handler);
     Ok(())
 }

@@ -164,7 +164,7 @@ fn serve<'a>(alloc: Global) -> Result<Command<'a>, AllocError>
         alloc,
         "serve",
         "Answer OCSP, CRLs and status over HTTP on 127.0.0.1, by the machine's clock.",
-        "Example:\n  desk serve ca.db --port 8080 --requests 1000",
+        "Example:\n  desk serve ca.db --port 8080 --requests 1000\n\nWith --log each exchange is told in a line on standard error.",
     ));
     let command = with_arg(command, required_word(alloc, "file", "FILE", FILE));
     let command = with_arg(command, required_option(alloc, "port", "N", PORT));
@@ -182,7 +182,7 @@ fn opening<'a>(alloc: Global) -> Result<Command<'a>, AllocError>
         alloc,
         "open",
         "Keep a register open until it is ended: HTTP on 127.0.0.1, and commands at a counter, by the machine's clock.",
-        "Example:\n  desk open ca.db --port 8080 --counter ca.counter",
+        "Example:\n  desk open ca.db --port 8080 --counter ca.counter\n\nWith --log each exchange is told in a line on standard error.",
     ));
     let command = with_arg(command, required_word(alloc, "file", "FILE", FILE));
     let command = with_arg(command, required_option(alloc, "port", "N", PORT));

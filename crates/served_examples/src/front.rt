@@ -19,6 +19,11 @@ pub(crate) struct Prepared {
     pub(crate) counter: Cell<Option<UnixListener>>,
     /// The address and the port that were asked for.
     pub(crate) asked: Cell<([u8; 4], u16)>,
+    /// The log, if there is one.
+    pub(crate) log: Cell<Option<Vec<u8>>>,
+    pub(crate) has_log: bool,
+    /// The microseconds of the next look at the other clock; there are five more at each.
+    pub(crate) micros: Cell<u64>,
 }
 
 impl Front for Prepared {
@@ -60,5 +65,22 @@ impl Front for Prepared {
 
     fn meet(&self, _path: &str) -> io::Result<UnixStream> {
         Err(io::Error::from(ErrorKind::NotFound))
+    }
+
+    fn has_log(&self) -> bool {
+        self.has_log
+    }
+
+    fn micros(&self) -> u64 {
+        let now = self.micros.get();
+        self.micros.set(now.saturating_add(5));
+        now
+    }
+
+    fn log(&self, line: &[u8]) {
+        if let Some(mut log) = self.log.take() {
+            let _ = log.extend_from_slice(line);
+            self.log.set(Some(log));
+        }
     }
 }

@@ -139,6 +139,17 @@ fn prepared(
     counter: Option<UnixListener>,
     looks: u64,
 ) -> Result<Rc<Prepared>, Fail> {
+    prepared_to_log(alloc, listener, counter, looks, false)
+}
+
+/// The same, with a log or without one.
+fn prepared_to_log(
+    alloc: Global,
+    listener: Option<TcpListener>,
+    counter: Option<UnixListener>,
+    looks: u64,
+    has_log: bool,
+) -> Result<Rc<Prepared>, Fail> {
     let front = Rc::new(
         alloc,
         Prepared {
@@ -147,6 +158,9 @@ fn prepared(
             port: Cell::new(listener),
             counter: Cell::new(counter),
             asked: Cell::new(([0, 0, 0, 0], 0)),
+            log: Cell::new(if has_log { Some(Vec::new(alloc)) } else { None }),
+            has_log,
+            micros: Cell::new(0),
         },
     )?;
     Ok(front)
@@ -300,6 +314,66 @@ fn lines_at_a_counter_run_once_in_order_until_the_clock_fails(rt: HostRuntime) -
     assert!(rt; came.as_slice() == TOLD.1);
     let lines = b"2026-01-02T00:01:00Z status 05\n";
     replies(&rt, path, lines, b"revoked 2026-01-02T00:00:02Z reason 4\n")?;
+    drop(fs::remove_file(&rt, socket));
+    clear(&rt, path, log);
+    Ok(())
+}
+
+/// What is in the log of a front; nothing where it has none.
+fn log_of(alloc: Global, front: &Prepared) -> Vec<u8> {
+    match front.log.take() {
+        Some(log) => log,
+        None => Vec::new(alloc),
+    }
+}
+
+#[test]
+fn a_peer_and_its_exchange_are_told_in_a_line_of_the_log(rt: HostRuntime) -> Result<(), Fail> {
+    let (path, log) = ("served_examples_log.db", "served_examples_log.db-wal");
+    make(&rt, path, log)?;
+    let listener = port(&rt)?;
+    let peer = come(&rt, listener.local_addr()?, b"GET /counts HTTP/1.1\r\n\r\n")?;
+    let from = peer.local_addr()?.port();
+    let front = prepared_to_log(rt.alloc(), Some(listener), None, 100, true)?;
+    let job = Job::Serve {
+        file: Word::of(path),
+        port: 8080,
+        requests: 1,
+        signer: None,
+    };
+    let ending = done(&rt, &*front, &job, b"");
+    let wanted = format!(in rt.alloc();
+        "2026-01-02T00:00:01Z 127.0.0.1:{from} \"GET /counts HTTP/1.1\" \"HTTP/1.1 200 OK\" 161 5\n"
+    )?;
+    assert!(rt; ending.status == 0 && ending.errors.is_empty());
+    assert!(rt; log_of(rt.alloc(), &front).as_slice() == wanted.as_bytes());
+    clear(&rt, path, log);
+    Ok(())
+}
+
+#[test]
+fn a_line_at_a_counter_is_told_in_a_line_of_the_log(rt: HostRuntime) -> Result<(), Fail> {
+    let (path, log) = ("served_examples_lines.db", "served_examples_lines.db-wal");
+    make(&rt, path, log)?;
+    let socket = "served_examples_lines.counter";
+    drop(fs::remove_file(&rt, socket));
+    let listener = UnixListener::bind(&rt, socket)?;
+    let counter = UnixStream::connect(&rt, socket)?;
+    let mut stream = &counter;
+    stream.write_all(b"counts\nfrom \"\xff\ncounts\n")?;
+    // The clock is looked at twice for a line: for its moment, and for that of its line in the log.
+    let front = prepared_to_log(rt.alloc(), Some(port(&rt)?), Some(listener), 4, true)?;
+    let job = Job::Open {
+        file: Word::of(path),
+        port: 8080,
+        counter: Word::of(socket),
+        signer: None,
+    };
+    let ending = done(&rt, &*front, &job, b"");
+    let wanted =
+        b"2026-01-02T00:00:01Z counter \"counts\" \"good 1 revoked 0 expired 0\" 27 5\n2026-01-02T00:00:03Z counter \"from \\x22\\xff\" \"E22 syntax\" 11 5\n".as_slice();
+    assert!(rt; ending.status == 1);
+    assert!(rt; log_of(rt.alloc(), &front).as_slice() == wanted);
     drop(fs::remove_file(&rt, socket));
     clear(&rt, path, log);
     Ok(())

@@ -1,8 +1,9 @@
 //! A hub of the tests: who answers, what the clock says, and who comes.
 
 use mio::net::{TcpListener, UnixListener};
-use reg_hub::{Handler, Hub, Stopped};
+use reg_hub::{Handler, Hub, Lost, Stopped};
 use std::alloc::{AllocError, Global};
+use std::cell::Cell;
 use std::fmt::Debug;
 use std::io::{ErrorKind, Read, Write};
 use std::net::{Ipv4Addr, Shutdown, SocketAddr, TcpStream};
@@ -42,6 +43,9 @@ struct Echo {
     more: usize,
     lines: u64,
     asked: Vec<u8>,
+    /// The peer that was answered last, and what ended by a fault last.
+    last: Option<SocketAddr>,
+    lost: Cell<Option<(Option<SocketAddr>, Lost)>>,
 }
 
 impl Handler for Echo {
@@ -49,7 +53,8 @@ impl Handler for Echo {
 
     ghost tells = { λ _ _ _ _. Unit {0} };
 
-    fn answer(&mut self, request: &[u8]) -> Result<Vec<u8>, Stopped> {
+    fn answer(&mut self, peer: SocketAddr, request: &[u8]) -> Result<Vec<u8>, Stopped> {
+        self.last = Some(peer);
         match self.answered(request) {
             Ok(text) => Ok(text),
             Err(_) => Ok(Vec::new(self.alloc)),
@@ -62,6 +67,10 @@ impl Handler for Echo {
             Ok(text) => Ok(text),
             Err(_) => Ok(Vec::new(self.alloc)),
         }
+    }
+
+    fn lose(&self, peer: Option<SocketAddr>, why: Lost) {
+        self.lost.set(Some((peer, why)));
     }
 }
 
@@ -100,6 +109,8 @@ fn new_echo(alloc: Global) -> Echo {
         more: 0,
         lines: 0,
         asked: Vec::new(alloc),
+        last: None,
+        lost: Cell::new(None),
     }
 }
 
@@ -167,6 +178,14 @@ impl Office {
         self.echo.asked.as_slice()
     }
 
+    /// What ended by a fault last, and whether that was the peer that was answered last.
+    pub(super) fn lost(&self) -> (bool, Option<Lost>) {
+        match self.echo.lost.get() {
+            Some((peer, why)) => (peer == self.echo.last, Some(why)),
+            None => (false, None),
+        }
+    }
+
     /// From now on a large answer has so many bytes more.
     pub(super) fn set_more(&mut self, more: usize) -> Result<(), Fail> {
         self.echo.more = more;
@@ -195,7 +214,7 @@ impl Office {
 
     /// Everybody is let go, and the counter's file goes.
     pub(super) fn finish(&mut self, rt: &HostRuntime) -> Result<(), Fail> {
-        self.hub.finish(rt)?;
+        self.hub.finish(rt, &self.echo)?;
         fs::remove_file(rt, self.path)?;
         Ok(())
     }

@@ -2,9 +2,11 @@
 
 use crate::tests::office::{ANSWER, LARGE, REQUEST};
 use crate::tests::steps::Step::{
-    self, Comes, Drips, Gets, Large, Opens, Sees, SeesRequest, Sends, Serves, Takes, Turns,
+    self, Comes, Drips, Gets, Large, Opens, Sees, SeesLost, SeesRequest, Sends, Serves, Takes,
+    Turns,
 };
 use crate::tests::steps::play;
+use reg_hub::Lost;
 use std::test::Fail;
 
 static OWN_ANSWERS: [Step; 18] = [
@@ -47,14 +49,16 @@ fn one_byte_at_a_time_makes_a_request(rt: HostRuntime) -> Result<(), Fail> {
     play(&rt, "hub_examples.bytes", 1_000, &BYTES)
 }
 
-static HALF: [Step; 8] = [
+static HALF: [Step; 10] = [
     Comes(b"GET /half"),
     Turns(1_000, 3),
     Turns(30_999, 3),
     Sees(0, 1),
+    SeesLost(None),
     Turns(31_249, 3),
     Sees(1, 0),
     SeesRequest(b"GET /half"),
+    SeesLost(Some(Lost::Late)),
     Gets(0, b""),
 ];
 
@@ -63,7 +67,7 @@ fn a_request_has_30_seconds_to_be_whole(rt: HostRuntime) -> Result<(), Fail> {
     play(&rt, "hub_examples.half", 1_000, &HALF)
 }
 
-static UNREAD: [Step; 7] = [
+static UNREAD: [Step; 8] = [
     Large(12_000_000),
     Comes(LARGE),
     Turns(20_000, 6),
@@ -71,6 +75,7 @@ static UNREAD: [Step; 7] = [
     Sees(1, 1),
     Turns(50_249, 3),
     Sees(1, 0),
+    SeesLost(Some(Lost::Late)),
 ];
 
 #[test]

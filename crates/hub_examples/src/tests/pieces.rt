@@ -75,7 +75,7 @@ fn bytes_are_taken_in_until_they_are_whole(rt: HostRuntime) -> Result<(), Fail> 
         (1, 32, ErrorKind::WouldBlock, Taken::Whole, 24),
         (100, 1, ErrorKind::WouldBlock, Taken::Whole, 24),
         (1, 7, ErrorKind::WouldBlock, Taken::Waits, 7),
-        (1, 7, ErrorKind::ConnectionReset, Taken::Ended, 7),
+        (1, 7, ErrorKind::ConnectionReset, Taken::Broken, 7),
         (1, 7, ErrorKind::Interrupted, Taken::More, 7),
         (0, 7, ErrorKind::WouldBlock, Taken::Ended, 0),
     ];

@@ -1,6 +1,7 @@
 //! Examples as steps.
 
 use crate::tests::office::{Office, office_of, same, same_bytes};
+use reg_hub::Lost;
 use std::test::Fail;
 
 /// What happens at a hub, or what is to be seen of it. Peers and counters go by their places, in the order in which they came.
@@ -41,6 +42,8 @@ pub(super) enum Step {
     SeesLines(u64),
     /// The last request was this.
     SeesRequest(&'static [u8]),
+    /// The peer that was answered last ended so, if by a fault, and no other did after it.
+    SeesLost(Option<Lost>),
 }
 
 /// Goes through the steps of an example, at a hub with so many places and this counter.
@@ -97,6 +100,7 @@ fn look(office: &mut Office, at: usize, step: &Step) -> Result<(), Fail> {
         Step::Sees(made, callers) => same(at, &office.seen(), &(*made, *callers)),
         Step::SeesLines(lines) => same(at, &office.lines(), lines),
         Step::SeesRequest(bytes) => same_bytes(at, office.request(), bytes),
+        Step::SeesLost(why) => same(at, &office.lost(), &(why.is_some(), *why)),
         _ => Ok(()),
     }
 }

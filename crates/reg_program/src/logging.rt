@@ -1,0 +1,140 @@
+//! What is put into the log, where there is one.
+
+use crate::front::Front;
+use reg_core::Decimal;
+use reg_hub::{Lost, Stopped};
+use reg_log::{exchange_line, lost_line};
+use std::alloc::{AllocError, Global};
+use std::net::{IpAddr, SocketAddr};
+
+/// Who speaks at a counter: it has no address.
+const COUNTER: &[u8] = b"counter";
+
+/// When an exchange begins, in microseconds; `None` where there is no log.
+pub(crate) fn began<F: Front>(front: &F) -> Option<u64> {
+    if front.has_log() {
+        Some(front.micros())
+    } else {
+        None
+    }
+}
+
+/// Logs what a peer was answered.
+pub(crate) fn log_answer<F: Front>(
+    alloc: Global,
+    front: &F,
+    began: Option<u64>,
+    peer: SocketAddr,
+    request: &[u8],
+    answered: &Result<Vec<u8>, Stopped>,
+) {
+    let Some(began) = began else {
+        return;
+    };
+    // What there is no memory for is left out.
+    let Ok(who) = address(alloc, peer) else {
+        return;
+    };
+    log_exchange(alloc, front, began, &who, request, answered);
+}
+
+/// Logs what a line of a counter was answered.
+pub(crate) fn log_line<F: Front>(
+    alloc: Global,
+    front: &F,
+    began: Option<u64>,
+    line: &[u8],
+    answered: &Result<Vec<u8>, Stopped>,
+) {
+    if let Some(began) = began {
+        log_exchange(alloc, front, began, COUNTER, line, answered);
+    }
+}
+
+/// Logs an exchange.
+fn log_exchange<F: Front>(
+    alloc: Global,
+    front: &F,
+    began: u64,
+    who: &[u8],
+    asked: &[u8],
+    answered: &Result<Vec<u8>, Stopped>,
+) {
+    let micros = front.micros().saturating_sub(began);
+    let Ok(text) = answered else {
+        return;
+    };
+    let Ok(now) = front.moment() else {
+        return;
+    };
+    put(
+        front,
+        exchange_line(alloc, now, who, asked, text.as_slice(), micros),
+    );
+}
+
+/// Logs that a connection ended by a fault.
+pub(crate) fn log_lost<F: Front>(alloc: Global, front: &F, peer: Option<SocketAddr>, why: Lost) {
+    if !front.has_log() {
+        return;
+    }
+    let Ok(who) = name_of(alloc, peer) else {
+        return;
+    };
+    let Ok(now) = front.moment() else {
+        return;
+    };
+    put(front, lost_line(alloc, now, &who, word_of(why)));
+}
+
+/// Puts a line into the log, where there was memory for it.
+fn put<F: Front>(front: &F, line: Result<Vec<u8>, AllocError>) {
+    let Ok(mut line) = line else {
+        return;
+    };
+    if line.push(b'\n').is_ok() {
+        front.log(&line);
+    }
+}
+
+/// The word that tells why a connection ended.
+fn word_of(why: Lost) -> &'static [u8] {
+    match why {
+        Lost::Broken => b"broken",
+        Lost::Late => b"late",
+        Lost::Crowded => b"crowded",
+        Lost::Memory => b"memory",
+    }
+}
+
+/// The name of a peer, or of a counter.
+fn name_of(alloc: Global, peer: Option<SocketAddr>) -> Result<Vec<u8>, AllocError> {
+    match peer {
+        Some(peer) => address(alloc, peer),
+        None => Vec::from_slice(alloc, COUNTER),
+    }
+}
+
+/// The address of a peer and its port, as `127.0.0.1:50000`.
+fn address(alloc: Global, peer: SocketAddr) -> Result<Vec<u8>, AllocError> {
+    let mut text = Vec::new(alloc);
+    match peer.ip() {
+        IpAddr::V4(ip) => put_octets(&mut text, ip.octets())?,
+        // The loopback interface that is listened at has no such peers.
+        IpAddr::V6(_) => text.extend_from_slice(b"[..]")?,
+    }
+    text.push(b':')?;
+    text.extend_from_slice(Decimal::of(u64::from(peer.port())).as_bytes())?;
+    Ok(text)
+}
+
+/// Puts the four numbers of an address behind a text.
+fn put_octets(text: &mut Vec<u8>, octets: [u8; 4]) -> Result<(), AllocError> {
+    for (index, octet) in octets.into_iter().enumerate() {
+        if index > 0 {
+            text.push(b'.')?;
+        }
+        text.extend_from_slice(Decimal::of(u64::from(octet)).as_bytes())?;
+    }
+    Ok(())
+}
