@@ -96,32 +96,58 @@ fn each_answer_has_its_line(rt: HostRuntime) -> Result<(), Fail> {
     Ok(())
 }
 
-/// Statements that make another schema of a register's.
-const SCHEMAS: [&str; 8] = [
-    "CREATE TABLE t (a) STRICT",
+/// Statements that make the last table and the two indexes behind it anew, as a register has them.
+const AGAIN: [&str; 2] = [
+    "DROP INDEX standing_due; DROP INDEX crl_at; DROP TABLE longest; CREATE TABLE longest (from_at INTEGER PRIMARY KEY, days INTEGER NOT NULL) STRICT; CREATE INDEX crl_at ON crl (number, this_update); CREATE INDEX standing_due ON standing (state, not_after); INSERT INTO longest VALUES (0, 398)",
+    "DROP INDEX standing_due; CREATE INDEX standing_due ON standing (state, not_after)",
+];
+
+/// Statements that make another schema: a thing more, a thing less, or one that is not as a register's.
+const OTHERS: [&str; 13] = [
+    "CREATE TABLE t (a INTEGER) STRICT",
     "CREATE VIEW v AS SELECT 1",
     "CREATE INDEX i ON crl (this_update)",
     "DROP INDEX crl_at",
     "DROP INDEX standing_due",
-    "DROP TABLE longest; CREATE TABLE longest (from_at INTEGER PRIMARY KEY, days INTEGER) STRICT; INSERT INTO longest VALUES (0, 398)",
-    "DROP TABLE longest; CREATE TABLE longest (from_at INTEGER PRIMARY KEY, days TEXT NOT NULL)",
+    "DROP INDEX standing_due; CREATE INDEX standing_due ON standing (not_after, state)",
+    "DROP INDEX standing_due; CREATE UNIQUE INDEX standing_due ON standing (state, not_after)",
+    "DROP INDEX standing_due; CREATE INDEX standing_due ON standing (state, not_after DESC)",
+    "DROP INDEX standing_due; CREATE INDEX due ON standing (state, not_after)",
+    "DROP INDEX standing_due; DROP INDEX crl_at; CREATE INDEX standing_due ON standing (state, not_after); CREATE INDEX crl_at ON crl (number, this_update)",
+    "DROP INDEX standing_due; DROP INDEX crl_at; DROP TABLE longest; CREATE TABLE longest (from_at INTEGER PRIMARY KEY, days INTEGER) STRICT; CREATE INDEX crl_at ON crl (number, this_update); CREATE INDEX standing_due ON standing (state, not_after); INSERT INTO longest VALUES (0, 398)",
+    "DROP INDEX standing_due; DROP INDEX crl_at; DROP TABLE longest; CREATE TABLE longest (from_at INTEGER PRIMARY KEY, days INTEGER NOT NULL); CREATE INDEX crl_at ON crl (number, this_update); CREATE INDEX standing_due ON standing (state, not_after); INSERT INTO longest VALUES (0, 398)",
     "DROP TABLE kept; CREATE TABLE kept (one INTEGER PRIMARY KEY, n_good INTEGER NOT NULL, n_revoked INTEGER NOT NULL, n_expired INTEGER NOT NULL) STRICT",
+];
+
+/// Statements after which no office or no schedule can be read.
+const NONE: [&str; 5] = [
+    "DROP TABLE office",
+    "DROP TABLE longest",
+    "DELETE FROM office",
+    "DELETE FROM longest",
+    "UPDATE office SET version = 0",
 ];
 
 #[test]
 fn another_schema_is_told_before_any_row(rt: HostRuntime) -> Result<(), Fail> {
     let alloc = rt.alloc();
-    for sql in SCHEMAS {
+    for sql in OTHERS {
         let other = said_of(alloc, created(alloc)?, sql)?;
-        assert!(rt;
-            matches!(
-                other,
-                Ok(Verdict::OtherSchema) | Err(StoreFault::NotARegister)
-            ),
-            "at {sql}"
-        );
+        assert_eq!(rt; other.ok(), Some(Verdict::OtherSchema), "at {sql}");
     }
-    let extra = said_of(alloc, created(alloc)?, SCHEMAS[0])?;
-    assert_eq!(rt; extra.ok(), Some(Verdict::OtherSchema));
+    for sql in AGAIN {
+        let same = said_of(alloc, full(alloc)?, sql)?;
+        assert!(rt; matches!(same, Ok(Verdict::Sound(_))), "at {sql}");
+    }
+    Ok(())
+}
+
+#[test]
+fn where_no_office_is_there_is_no_register(rt: HostRuntime) -> Result<(), Fail> {
+    let alloc = rt.alloc();
+    for sql in NONE {
+        let none = said_of(alloc, created(alloc)?, sql)?;
+        assert_eq!(rt; none.err(), Some(StoreFault::NotARegister), "at {sql}");
+    }
     Ok(())
 }
