@@ -1,9 +1,9 @@
 #!/usr/bin/env python3
 """Makes registers by `desk script`, has `desk audit` find them sound, then breaks a copy by one statement of Python's sqlite3 at a time and
 looks that each is told: its table and row, with status 1; that a register of an older version, a newer one and another file are told as
-such; and that no byte of the audited file changed.
+such; and that no byte of the audited file changed. With numbers it times the audit of registers of so many certificates instead.
 
-Usage, from the repository's root: tools/audit-check.py        (DESK names another program than ./desk)
+Usage, from the repository's root: tools/audit-check.py [CERTIFICATES ..]        (DESK names another program than ./desk)
 """
 import hashlib
 import importlib.util
@@ -13,6 +13,7 @@ import sqlite3
 import subprocess
 import sys
 import tempfile
+import time
 
 DESK = os.path.abspath(os.environ.get("DESK", "desk"))
 NAME = "300C310A300806035504030C0154"
@@ -38,7 +39,10 @@ def days():
     return "".join(line + "\n" for line in lines)
 
 
-# A register of the first day: one statement each, and what is told of the file.
+# A serial number of one byte, in each table that has it.
+RENAMED = "; ".join(f"UPDATE {table} SET serial = x'05'" for table in ("cert", "request", "revocation", "standing", "listed"))
+
+# A register of the first day: what is done to it, and what is told of the file.
 BROKEN = [
     ("a letter", "UPDATE standing SET state = 'G' WHERE rowid = 1", "standing 1"),
     ("a letter that is none", "UPDATE standing SET state = 'Q' WHERE rowid = 1", "standing 1"),
@@ -54,21 +58,44 @@ BROKEN = [
     ("a CRL before the first that lists", "UPDATE revocation SET first_crl = 1", "revocation 1"),
     ("a CRL number out of order", "UPDATE crl SET number = 7 WHERE number = 2", "crl 2"),
     ("a CRL before the previous", "UPDATE crl SET this_update = this_update - 86400 WHERE number = 2", "crl 2"),
-    ("a serial number that is none", "UPDATE cert SET serial = x'05'", "cert 1"),
-    ("a certificate whose order is missing", "DELETE FROM orders", "cert 1"),
-    ("an order whose subscriber is missing", "DELETE FROM subscriber", "orders 1"),
-    ("an id that is left out", "UPDATE subscriber SET id = 2", "subscriber 1"),
+    ("a serial number that is none", RENAMED, "cert 1"),
+    ("a subscriber's id that is left out", "UPDATE subscriber SET id = 2; UPDATE orders SET subscriber = 2", "subscriber 1"),
+    ("an order's id that is left out", "UPDATE orders SET id = 2; UPDATE cert SET order_id = 2", "orders 1"),
     ("a name that is none", "UPDATE subscriber SET name = ''", "subscriber 1"),
-    ("a request for another serial number", "UPDATE request SET serial = zeroblob(19) || x'07'", "request 1"),
     ("a ground that is none", "UPDATE request SET ground = 12", "request 1"),
     ("a request after the last moment", "UPDATE request SET received = received + 864000", "request 1"),
     ("a moment below 0", "UPDATE cert SET not_after = -1", "cert 1"),
-    ("more rows than the cap", "UPDATE office SET cap = 1", "orders"),
+    ("more rows than the cap", "UPDATE office SET cap = 1", "crl 2"),
+    ("a request that is half declined", "UPDATE request SET declined = 2", "request 1"),
+    ("a reason that was not listed", "UPDATE revocation SET reason = 2", "listed 1"),
+    ("another end of a certificate", "UPDATE cert SET not_after = not_after + 86400", "standing 1"),
+    ("another end beside a letter", "UPDATE standing SET not_after = not_after + 1", "standing 1"),
+    ("another end of what is listed", "UPDATE listed SET not_after = not_after + 1", "listed 1"),
     ("another table", "CREATE TABLE t (a)", "schema: "),
     ("a view", "CREATE VIEW v AS SELECT 1", "schema: "),
+    ("a trigger", "CREATE TRIGGER t AFTER DELETE ON crl BEGIN DELETE FROM crl; END", "schema: "),
     ("an index that is missing", "DROP INDEX standing_due", "schema: "),
     ("a column besides", "ALTER TABLE crl ADD COLUMN note TEXT", "schema: "),
     ("a column of another name", "ALTER TABLE subscriber RENAME COLUMN name TO label", "schema: "),
+]
+
+# What no command opens: a row that refers to none, or breaks a CHECK.
+DAMAGED = [
+    ("a certificate whose order is missing", "DELETE FROM orders"),
+    ("an order whose subscriber is missing", "DELETE FROM subscriber"),
+    ("a request for another serial number", "UPDATE request SET serial = x'07'"),
+    ("a letter of another serial number", "UPDATE standing SET serial = x'07'"),
+    ("a revocation on another request", "UPDATE revocation SET request = 2"),
+    ("a second row of counts", "PRAGMA ignore_check_constraints = 1; UPDATE kept SET one = 2"),
+]
+
+# What a command that opens a file tells of the office and the schedule.
+NO_OFFICE = [
+    ("a cap of 0", "UPDATE office SET cap = 0"),
+    ("an empty key", "UPDATE office SET pubkey = x''"),
+    ("a Name that is none", "UPDATE office SET name = x'00'"),
+    ("a schedule that begins later", "UPDATE longest SET from_at = 5"),
+    ("no office", "DELETE FROM office"),
 ]
 
 
@@ -78,18 +105,17 @@ def digest(path):
 
 
 def alter(path, sql):
-    """One statement, without the tests of foreign keys; the log is copied into the file."""
+    """Statements, without the tests of foreign keys; the log is copied into the file."""
     db = sqlite3.connect(path)
-    db.execute("PRAGMA foreign_keys = OFF")
-    db.execute(sql)
+    db.executescript("PRAGMA foreign_keys = OFF;" + sql)
     db.commit()
     db.close()
 
 
-def audit(path):
+def audit(path, *words):
     """The exit status, what was printed and what was told; the file is as it was."""
     before = digest(path)
-    ran = subprocess.run([DESK, "audit", path], capture_output=True, text=True)
+    ran = subprocess.run([DESK, "audit", path, *words], capture_output=True, text=True)
     wants(f"the bytes of {os.path.basename(path)}", digest(path), before)
     return ran.returncode, ran.stdout, ran.stderr
 
@@ -114,27 +140,66 @@ def counted(path):
     return "sound, {} certificates, {} revoked, {} CRLs\n".format(*counts)
 
 
-def told_broken(folder, sound, statements):
-    """Each statement over a copy of its own."""
-    for what, sql, row in statements:
-        path = f"{folder}/copy.db"
-        shutil.copy(sound, path)
-        alter(path, sql)
-        status, printed, told = audit(path)
+def altered(folder, sound, sql):
+    """A copy of a sound register after these statements."""
+    path = f"{folder}/copy.db"
+    for end in ("", "-wal", "-shm"):
+        if os.path.exists(path + end):
+            os.remove(path + end)
+    shutil.copy(sound, path)
+    alter(path, sql)
+    return path
+
+
+def told_broken(folder, sound, broken):
+    """Each break over a copy of its own."""
+    for what, sql, row in broken:
+        status, printed, told = audit(altered(folder, sound, sql))
         wants(f"{what}: status and standard error", (status, told), (1, "broken\n"))
         if not printed.startswith(f"broken: {row}") or printed.count("\n") != 1:
             sys.exit(f"FAILED: {what}: {printed!r} does not name {row}")
         print(f"ok: {what}: {printed.strip()}")
-        for end in ("", "-wal", "-shm"):
-            if os.path.exists(path + end):
-                os.remove(path + end)
+
+
+def told_alone(folder, sound, breaks, line):
+    """The same where nothing is printed, and this is told."""
+    for what, sql in breaks:
+        wants(what, audit(altered(folder, sound, sql), "--why"), (1, "", line))
+        print(f"ok: {what}: {line.split()}")
+
+
+def old_registers():
+    """What tools/old-registers.py has."""
+    spec = importlib.util.spec_from_file_location("old_registers", "tools/old-registers.py")
+    old = importlib.util.module_from_spec(spec)
+    spec.loader.exec_module(old)
+    return old
+
+
+def timed(sizes):
+    """Registers of so many certificates, made newer by a first opening: how long an audit takes, and its memory."""
+    old = old_registers()
+    with tempfile.TemporaryDirectory() as folder:
+        for size in sizes:
+            path = f"{folder}/{size}.db"
+            old.make(path, old.Records(size), 1)
+            subprocess.run([DESK, "script", path], input="", text=True, check=True, stdout=subprocess.DEVNULL)
+            took = []
+            for _ in range(3):
+                began = time.monotonic()
+                ran = subprocess.Popen([DESK, "audit", path], stdout=subprocess.PIPE, text=True)
+                printed = ran.stdout.read()
+                _, status, used = os.wait4(ran.pid, 0)
+                ran.returncode = status
+                took.append(time.monotonic() - began)
+                wants("status and what is printed", (status, printed), (0, counted(path)))
+            print(f"{printed.strip()}: {min(took):.2f} s, {used.ru_maxrss // 1024} MB of memory, a file of {os.stat(path).st_size / 1e6:.0f} MB", flush=True)
+            os.remove(path)
 
 
 def older(folder):
     """Registers of versions 1 and 2, as tools/old-registers.py makes them."""
-    spec = importlib.util.spec_from_file_location("old_registers", "tools/old-registers.py")
-    old = importlib.util.module_from_spec(spec)
-    spec.loader.exec_module(old)
+    old = old_registers()
     records = old.Records(50)
     for version in (1, 2):
         path = f"{folder}/older-{version}.db"
@@ -165,6 +230,9 @@ def others(folder, sound):
 
 
 def main():
+    if sys.argv[1:]:
+        timed([int(word) for word in sys.argv[1:]])
+        return
     with tempfile.TemporaryDirectory() as folder:
         with open("examples/first-day.txt") as file:
             first = made(folder, "first", file.read())
@@ -173,6 +241,8 @@ def main():
             wants("a sound register", audit(path), (0, counted(path), ""))
             print(f"ok: {counted(path).strip()}")
         told_broken(folder, first, BROKEN)
+        told_alone(folder, first, DAMAGED, "F2 store\n  damaged\n")
+        told_alone(folder, first, NO_OFFICE, "not-a-register\n")
         older(folder)
         others(folder, first)
         wants("the first register still", audit(first), (0, counted(first), ""))
