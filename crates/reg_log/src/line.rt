@@ -10,8 +10,8 @@ use std::alloc::{AllocError, Global};
 /// How many bytes of a text are told.
 const MOST_TOLD: usize = 256;
 
-/// The line of an exchange, with no LF behind it. No byte of it is a control character or outside ASCII, whatever was asked and answered,
-/// so that nobody can put a line of their own into the log.
+/// The line of an exchange, with no LF behind it. Who asked stands there as it is; what was asked and answered puts no control character and
+/// no byte outside ASCII there, so that no peer can put a line of its own into the log.
 pub fn exchange_line(
     alloc: Global,
     now: Moment,

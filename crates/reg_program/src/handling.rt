@@ -51,10 +51,7 @@ impl<'a, K: Keeper, F: Front> Handler for ServedDesk<'a, K, F> {
     ghost tells = { NoEntry };
 
     fn answer(&mut self, peer: SocketAddr, request: &[u8]) -> Result<Vec<u8>, Stopped> {
-        let began = began(self.front);
-        let answered = answer_now(&mut self.desk, self.front, request);
-        log_answer(self.desk.alloc, self.front, began, peer, request, &answered);
-        answered
+        answer_now(&mut self.desk, self.front, peer, request)
     }
 
     fn tell(&mut self, _line: &[u8]) -> Result<Vec<u8>, Stopped> {
@@ -77,17 +74,11 @@ impl<'a, K: Keeper, F: Front> Handler for OpenDesk<'a, K, F> {
         (λ identity before after. Entry K.signs F.told identity before line text after) s.desk.office t.desk.office };
 
     fn answer(&mut self, peer: SocketAddr, request: &[u8]) -> Result<Vec<u8>, Stopped> {
-        let began = began(self.front);
-        let answered = answer_now(&mut self.desk, self.front, request);
-        log_answer(self.desk.alloc, self.front, began, peer, request, &answered);
-        answered
+        answer_now(&mut self.desk, self.front, peer, request)
     }
 
     fn tell(&mut self, line: &[u8]) -> Result<Vec<u8>, Stopped> {
-        let began = began(self.front);
-        let told = tell_now(&mut self.desk, self.front, line);
-        log_line(self.desk.alloc, self.front, began, line, &told);
-        told
+        tell_now(&mut self.desk, self.front, line)
     }
 
     fn lose(&self, peer: Option<SocketAddr>, why: Lost) {
@@ -119,6 +110,7 @@ impl<K: Keeper> Handler for LinedDesk<K> {
 fn answer_now<K: Keeper, F: Front>(
     desk: &mut Desk<K>,
     front: &F,
+    peer: SocketAddr,
     request: &[u8],
 ) -> Result<Vec<u8>, Stopped>
     ensures ok { IfOk result (λ text. Moves K.is_clean K.stands
@@ -127,7 +119,7 @@ fn answer_now<K: Keeper, F: Front>(
     ensures err { OnErr result (desk.new ≡ desk.old) }
 {
     match front.moment() {
-        Ok(now) => Ok(answer_at(desk, now, request)),
+        Ok(now) => Ok(answer_logged(desk, front, now, peer, request)),
         Err(_) => Err(Stopped),
     }
 }
@@ -144,9 +136,26 @@ fn tell_now<K: Keeper, F: Front>(
     ensures err { OnErr result (desk.new ≡ desk.old) }
 {
     match front.moment() {
-        Ok(now) => Ok(tell_at(desk, now, line)),
+        Ok(now) => Ok(tell_logged(desk, front, now, line)),
         Err(_) => Err(Stopped),
     }
+}
+
+/// Answers what came of a peer, at a moment, and puts that into the log, where there is one.
+fn answer_logged<K: Keeper, F: Front>(
+    desk: &mut Desk<K>,
+    front: &F,
+    now: Moment,
+    peer: SocketAddr,
+    request: &[u8],
+) -> Vec<u8>
+    ensures { Moves K.is_clean K.stands (λ identity before after. ExchangeAt K.signs now identity before request.now result.items after)
+        desk.old.office desk.new.office }
+{
+    let began = began(front);
+    let text = answer_at(desk, now, request);
+    log_answer(desk.alloc, front, began, now, peer, request, &text);
+    text
 }
 
 /// Answers what came of a peer, at a moment. Room for the text is made before anything is asked.
@@ -204,6 +213,22 @@ fn emptied(mut text: Vec<u8>) -> Vec<u8>
 {
     text.clear();
     text
+}
+
+/// Answers a line of a counter, at a moment, and puts that into the log, where there is one.
+fn tell_logged<K: Keeper, F: Front>(
+    desk: &mut Desk<K>,
+    front: &F,
+    now: Moment,
+    line: &[u8],
+) -> Vec<u8>
+    ensures { Moves K.is_clean K.stands (λ identity before after. EntryAt K.signs now identity before line.now result.items after)
+        desk.old.office desk.new.office }
+{
+    let began = began(front);
+    let reply = tell_at(desk, now, line);
+    log_line(desk.alloc, front, began, now, line, &reply);
+    reply
 }
 
 /// Answers a line of a counter, at a moment.

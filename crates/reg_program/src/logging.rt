@@ -1,8 +1,8 @@
 //! What is put into the log, where there is one.
 
 use crate::front::Front;
-use reg_core::Decimal;
-use reg_hub::{Lost, Stopped};
+use reg_core::{Decimal, Moment};
+use reg_hub::Lost;
 use reg_log::{exchange_line, lost_line};
 use std::alloc::{AllocError, Global};
 use std::net::{IpAddr, SocketAddr};
@@ -19,57 +19,46 @@ pub(crate) fn began<F: Front>(front: &F) -> Option<u64> {
     }
 }
 
-/// Logs what a peer was answered.
+/// Logs what a peer was answered at a moment.
 pub(crate) fn log_answer<F: Front>(
     alloc: Global,
     front: &F,
     began: Option<u64>,
+    now: Moment,
     peer: SocketAddr,
     request: &[u8],
-    answered: &Result<Vec<u8>, Stopped>,
+    text: &[u8],
 ) {
     let Some(began) = began else {
         return;
     };
+    let micros = front.micros().saturating_sub(began);
     // What there is no memory for is left out.
     let Ok(who) = address(alloc, peer) else {
         return;
     };
-    log_exchange(alloc, front, began, &who, request, answered);
+    put(
+        front,
+        exchange_line(alloc, now, &who, request, text, micros),
+    );
 }
 
-/// Logs what a line of a counter was answered.
+/// Logs what a line of a counter was answered at a moment.
 pub(crate) fn log_line<F: Front>(
     alloc: Global,
     front: &F,
     began: Option<u64>,
+    now: Moment,
     line: &[u8],
-    answered: &Result<Vec<u8>, Stopped>,
+    reply: &[u8],
 ) {
-    if let Some(began) = began {
-        log_exchange(alloc, front, began, COUNTER, line, answered);
-    }
-}
-
-/// Logs an exchange.
-fn log_exchange<F: Front>(
-    alloc: Global,
-    front: &F,
-    began: u64,
-    who: &[u8],
-    asked: &[u8],
-    answered: &Result<Vec<u8>, Stopped>,
-) {
+    let Some(began) = began else {
+        return;
+    };
     let micros = front.micros().saturating_sub(began);
-    let Ok(text) = answered else {
-        return;
-    };
-    let Ok(now) = front.moment() else {
-        return;
-    };
     put(
         front,
-        exchange_line(alloc, now, who, asked, text.as_slice(), micros),
+        exchange_line(alloc, now, COUNTER, line, reply, micros),
     );
 }
 

@@ -343,7 +343,7 @@ fn a_peer_and_its_exchange_are_told_in_a_line_of_the_log(rt: HostRuntime) -> Res
     };
     let ending = done(&rt, &*front, &job, b"");
     let wanted = format!(in rt.alloc();
-        "2026-01-02T00:00:01Z 127.0.0.1:{from} \"GET /counts HTTP/1.1\" \"HTTP/1.1 200 OK\" 161 5\n"
+        "2026-01-02T00:00:00Z 127.0.0.1:{from} \"GET /counts HTTP/1.1\" \"HTTP/1.1 200 OK\" 161 5\n"
     )?;
     assert!(rt; ending.status == 0 && ending.errors.is_empty());
     assert!(rt; log_of(rt.alloc(), &front).as_slice() == wanted.as_bytes());
@@ -361,8 +361,8 @@ fn a_line_at_a_counter_is_told_in_a_line_of_the_log(rt: HostRuntime) -> Result<(
     let counter = UnixStream::connect(&rt, socket)?;
     let mut stream = &counter;
     stream.write_all(b"counts\nfrom \"\xff\ncounts\n")?;
-    // The clock is looked at twice for a line: for its moment, and for that of its line in the log.
-    let front = prepared_to_log(rt.alloc(), Some(port(&rt)?), Some(listener), 4, true)?;
+    // The clock is looked at once for a line: its moment is that of its line in the log.
+    let front = prepared_to_log(rt.alloc(), Some(port(&rt)?), Some(listener), 2, true)?;
     let job = Job::Open {
         file: Word::of(path),
         port: 8080,
@@ -371,7 +371,7 @@ fn a_line_at_a_counter_is_told_in_a_line_of_the_log(rt: HostRuntime) -> Result<(
     };
     let ending = done(&rt, &*front, &job, b"");
     let wanted =
-        b"2026-01-02T00:00:01Z counter \"counts\" \"good 1 revoked 0 expired 0\" 27 5\n2026-01-02T00:00:03Z counter \"from \\x22\\xff\" \"E22 syntax\" 11 5\n".as_slice();
+        b"2026-01-02T00:00:00Z counter \"counts\" \"good 1 revoked 0 expired 0\" 27 5\n2026-01-02T00:00:01Z counter \"from \\x22\\xff\" \"E22 syntax\" 11 5\n".as_slice();
     assert!(rt; ending.status == 1);
     assert!(rt; log_of(rt.alloc(), &front).as_slice() == wanted);
     drop(fs::remove_file(&rt, socket));

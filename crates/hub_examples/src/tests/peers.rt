@@ -2,8 +2,8 @@
 
 use crate::tests::office::{ANSWER, LARGE, REQUEST};
 use crate::tests::steps::Step::{
-    self, Comes, Drips, Gets, Large, Opens, Sees, SeesLost, SeesRequest, Sends, Serves, Takes,
-    Turns,
+    self, Comes, Drips, Gets, Goes, Large, Opens, Sees, SeesLost, SeesRequest, Sends, Serves,
+    Takes, Turns,
 };
 use crate::tests::steps::play;
 use reg_hub::Lost;
@@ -54,11 +54,11 @@ static HALF: [Step; 10] = [
     Turns(1_000, 3),
     Turns(30_999, 3),
     Sees(0, 1),
-    SeesLost(None),
+    SeesLost(false, None),
     Turns(31_249, 3),
     Sees(1, 0),
     SeesRequest(b"GET /half"),
-    SeesLost(Some(Lost::Late)),
+    SeesLost(true, Some(Lost::Late)),
     Gets(0, b""),
 ];
 
@@ -75,12 +75,28 @@ static UNREAD: [Step; 8] = [
     Sees(1, 1),
     Turns(50_249, 3),
     Sees(1, 0),
-    SeesLost(Some(Lost::Late)),
+    SeesLost(true, Some(Lost::Late)),
 ];
 
 #[test]
 fn an_answer_has_30_seconds_to_be_taken(rt: HostRuntime) -> Result<(), Fail> {
     play(&rt, "hub_examples.unread", 1_000, &UNREAD)
+}
+
+static BROKEN_OFF: [Step; 8] = [
+    Large(12_000_000),
+    Comes(LARGE),
+    Turns(0, 6),
+    Sees(1, 1),
+    Goes,
+    Turns(0, 6),
+    Sees(1, 0),
+    SeesLost(true, Some(Lost::Broken)),
+];
+
+#[test]
+fn an_answer_is_lost_where_its_peer_breaks_off(rt: HostRuntime) -> Result<(), Fail> {
+    play(&rt, "hub_examples.broken", 1_000, &BROKEN_OFF)
 }
 
 static FOLLOWED: [Step; 9] = [
@@ -173,7 +189,7 @@ fn a_large_answer_is_sent_as_its_peer_takes_it(rt: HostRuntime) -> Result<(), Fa
 }
 
 /// The second answer fits beside the first; the third, which is too long alone, makes both go.
-static WAITING: [Step; 12] = [
+static WAITING: [Step; 13] = [
     Large(5_000_000),
     Comes(LARGE),
     Turns(0, 3),
@@ -186,6 +202,7 @@ static WAITING: [Step; 12] = [
     Comes(LARGE),
     Turns(0, 3),
     Sees(3, 1),
+    SeesLost(false, Some(Lost::Crowded)),
 ];
 
 #[test]

@@ -42,8 +42,8 @@ pub(super) enum Step {
     SeesLines(u64),
     /// The last request was this.
     SeesRequest(&'static [u8]),
-    /// The peer that was answered last ended so, if by a fault, and no other did after it.
-    SeesLost(Option<Lost>),
+    /// Whether the connection that ended by a fault last was that of the peer that was answered last, and by which, if there was one.
+    SeesLost(bool, Option<Lost>),
 }
 
 /// Goes through the steps of an example, at a hub with so many places and this counter.
@@ -100,7 +100,7 @@ fn look(office: &mut Office, at: usize, step: &Step) -> Result<(), Fail> {
         Step::Sees(made, callers) => same(at, &office.seen(), &(*made, *callers)),
         Step::SeesLines(lines) => same(at, &office.lines(), lines),
         Step::SeesRequest(bytes) => same_bytes(at, office.request(), bytes),
-        Step::SeesLost(why) => same(at, &office.lost(), &(why.is_some(), *why)),
+        Step::SeesLost(is_last, why) => same(at, &office.lost(), &(*is_last, *why)),
         _ => Ok(()),
     }
 }
