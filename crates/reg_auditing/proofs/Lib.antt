@@ -1,3 +1,4 @@
 pub mod Statements
 pub mod Whole
 pub mod Serials
+pub mod Showing

@@ -1,5 +1,5 @@
 -- Tables that are read one after another.
-use Rattle.std.proofs.Common.{◌≡◌, ◌<◌, ◌+◌, ℕ, List, [], ◌∷◌, ◌++◌, take, length, get_or, sym, subst}
+use Rattle.std.proofs.Common.{◌≡◌, ◌<◌, ◌≤◌, ◌+◌, ℕ, zero, suc, List, [], ◌∷◌, ◌++◌, take, length, get_or, sym, subst, arith}
 use Rattle.std.proofs.lemmas.List.{take_more}
 use Rattle.sqlite_value.specs.Order.{Row}
 use Rattle.reg_core.specs.Records.{Records}
@@ -21,3 +21,17 @@ module _ {Rows : Type 0} (records : Records) (columns : Columns) (items : Rows �
       let what = get_or whats i other in
       let more : take (i + 1) whats ≡ take i whats ++ what ∷ [] = take_more whats i other within in
       subst (λ (ws : List What). AreRead records columns ws new items) (sym more) (subst (λ (vs : List Rows). AreRead records columns (take i whats ++ what ∷ []) vs items) (sym now) (with_last (take i whats) what all rows are is))
+
+  -- the rows that stand at a place are what is read there
+  pub read_at : (whats : List What) (i : ℕ) (other : What) (all : List Rows) (rows : Rows) → AreRead records columns whats all items → i < length whats → i < length all → rows ≡ get_or all i rows → IsReadOf records columns (get_or whats i other) (items rows)
+  read_at [] i other all rows are within there is = absurd (omega arith)
+  read_at (what ∷ whats) i other [] rows are within there is = absurd are
+  read_at (what ∷ whats) zero other (first ∷ all) rows are within there is = subst (λ v. IsReadOf records columns what (items v)) (sym is) are.0
+  read_at (what ∷ whats) (suc i) other (first ∷ all) rows are within there is = read_at whats i other all rows are.1 (omega arith) (omega arith) is
+
+  -- and rows stand there
+  pub there_are : (whats : List What) (i : ℕ) (all : List Rows) → AreRead records columns whats all items → i < length whats → length all ≤ i → ⊥
+  there_are [] i all are within past = omega arith
+  there_are (what ∷ whats) i [] are within past = are
+  there_are (what ∷ whats) zero (first ∷ all) are within past = omega arith
+  there_are (what ∷ whats) (suc i) (first ∷ all) are within past = there_are whats i all are.1 (omega arith) (omega arith)

@@ -37,3 +37,7 @@ AreRead records columns [] [] items = Unit {0}
 AreRead records columns [] (rows ∷ more) items = ⊥
 AreRead records columns (what ∷ whats) [] items = ⊥
 AreRead records columns (what ∷ whats) (rows ∷ more) items = IsReadOf records columns what (items rows) × AreRead records columns whats more items
+
+-- what an audit reads, in this order
+abbrev pub whole : List What
+whole = Office ∷ Subscribers ∷ Orders ∷ Certificates ∷ Requests ∷ Revocations ∷ Crls ∷ Standings ∷ Counts ∷ Listings ∷ []

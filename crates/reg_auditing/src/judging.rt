@@ -1,15 +1,28 @@
 //! Whether what was read of the tables is a register.
 
+ghost use Rattle.std.specs.Prelude.{◌≡◌, ◌<◌, List, get_or, length, IfOk};
+ghost use Rattle.reg_core.specs.Records.{Records};
+ghost use Rattle.reg_core.specs.Sound.{SoundRows};
+ghost use Rattle.reg_tables.specs.Columns.{Columns};
+ghost use Rattle.reg_tables.specs.Kept.{Kept};
+ghost use Rattle.reg_auditing.specs.Said.{IsReadOf, AreRead, whole};
+
 use crate::auditing::Audited;
 use crate::stop::AuditStop;
-use crate::typed::{Office, only, typed};
-use reg_audit::{Beside, Rows, Table, check};
-use reg_core::Counts;
+use crate::tables::{
+    certificates, counts, crls, letters, listings, office, orders, requests, revocations,
+    subscribers,
+};
+use crate::texts::What;
+use reg_audit::{Beside, Rows, check};
 use sqlite::Row;
 use std::alloc::Global;
 
 /// The rows of the table that was read at a place.
-fn rows_at(all: &[Vec<Row>], place: usize) -> &[Row] {
+fn rows_at(all: &[Vec<Row>], place: usize) -> &[Row]
+    ensures read { (records : Records) → (columns : Columns) → (whats : List What) → (other : What) → AreRead records columns whats all.now (λ rows. rows.items)
+        → place < length whats → IsReadOf records columns (get_or whats place other) result.now }
+{
     match all.get(place) {
         Some(rows) => rows.as_slice(),
         None => &[],
@@ -17,17 +30,19 @@ fn rows_at(all: &[Vec<Row>], place: usize) -> &[Row] {
 }
 
 /// Whether the rows are those of a register, in the order of [`crate::auditing::WHOLE`].
-pub(crate) fn judge(alloc: Global, all: &[Vec<Row>]) -> Result<Audited, AuditStop> {
-    let office: Office = only(Table::Office, rows_at(all, 0))?;
-    let subscribers = typed(alloc, Table::Subscriber, rows_at(all, 1))?;
-    let orders = typed(alloc, Table::Orders, rows_at(all, 2))?;
-    let certificates = typed(alloc, Table::Cert, rows_at(all, 3))?;
-    let requests = typed(alloc, Table::Request, rows_at(all, 4))?;
-    let revocations = typed(alloc, Table::Revocation, rows_at(all, 5))?;
-    let crls = typed(alloc, Table::Crl, rows_at(all, 6))?;
-    let letters = typed(alloc, Table::Standing, rows_at(all, 7))?;
-    let counts: Counts = only(Table::Kept, rows_at(all, 8))?;
-    let listed = typed(alloc, Table::Listed, rows_at(all, 9))?;
+pub(crate) fn judge(alloc: Global, all: &[Vec<Row>]) -> Result<Audited, AuditStop>
+    ensures sound { (records : Records) → (columns : Columns) → AreRead records columns whole all.now (λ rows. rows.items) → IfOk result (λ _. SoundRows records × Kept columns records) }
+{
+    let office = office(rows_at(all, 0))?;
+    let subscribers = subscribers(alloc, rows_at(all, 1))?;
+    let orders = orders(alloc, rows_at(all, 2))?;
+    let certificates = certificates(alloc, rows_at(all, 3))?;
+    let requests = requests(alloc, rows_at(all, 4))?;
+    let revocations = revocations(alloc, rows_at(all, 5))?;
+    let crls = crls(alloc, rows_at(all, 6))?;
+    let letters = letters(alloc, rows_at(all, 7))?;
+    let counts = counts(rows_at(all, 8))?;
+    let listed = listings(alloc, rows_at(all, 9))?;
     let rows = Rows {
         cap: office.cap,
         last: office.last,

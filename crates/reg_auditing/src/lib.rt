@@ -5,6 +5,7 @@ mod auditing;
 mod judging;
 mod reading;
 mod stop;
+mod tables;
 mod texts;
 mod typed;
 mod values;

@@ -1,5 +1,8 @@
 //! Rows of the tables as rows of the register, with the columns in the order in which the statements name them.
 
+ghost use Rattle.std.specs.Prelude.{◌≡◌, [], ◌∷◌, List, map, IfOk};
+ghost use Rattle.std.specs.List.{AllByRecursion};
+
 use crate::stop::AuditStop;
 use crate::values::{
     clock_moment_at, flag_at, ground_at, label_at, letter_at, moment_at, number_at,
@@ -14,8 +17,18 @@ use std::alloc::Global;
 
 /// What one row shows.
 pub(crate) trait OfRow: Copy {
+    ghost use Rattle.std.specs.Prelude.{◌≡◌, IfSome};
+    ghost use Rattle.sqlite_value.specs.Order.{Row as Cells};
+
+    /// Its columns, in the order in which the statement names them.
+    ghost shown: { Self → Cells };
+
+    /// Its serial number, where it has one, is one (RFC 5280 4.1.2.2).
+    ghost is_keyed: { Self → Type 0 };
+
     /// The row, or none where a value in it is none that a register writes.
-    fn in_row(row: &Row) -> Option<Self>;
+    fn in_row(row: &Row) -> Option<Self>
+        ensures read { (it : Self) → is_keyed it → row.now ≡ shown it → IfSome result (λ read. read ≡ it) };
 }
 
 /// The cap and the last accepted moment.
@@ -26,6 +39,12 @@ pub(crate) struct Office {
 }
 
 impl OfRow for Office {
+    ghost use Rattle.reg_auditing.specs.Shown.{shown_office};
+
+    ghost shown = { shown_office };
+
+    ghost is_keyed = { λ _. Unit {0} };
+
     fn in_row(row: &Row) -> Option<Office> {
         Some(Office {
             cap: number_at(row, 0)?,
@@ -35,6 +54,12 @@ impl OfRow for Office {
 }
 
 impl OfRow for SubscriberRow {
+    ghost use Rattle.reg_tables.specs.Reading.{shown_subscriber};
+
+    ghost shown = { shown_subscriber };
+
+    ghost is_keyed = { λ _. Unit {0} };
+
     fn in_row(row: &Row) -> Option<SubscriberRow> {
         Some(SubscriberRow {
             id: number_at(row, 0)?,
@@ -44,6 +69,12 @@ impl OfRow for SubscriberRow {
 }
 
 impl OfRow for OrderRow {
+    ghost use Rattle.reg_tables.specs.Reading.{shown_order};
+
+    ghost shown = { shown_order };
+
+    ghost is_keyed = { λ _. Unit {0} };
+
     fn in_row(row: &Row) -> Option<OrderRow> {
         Some(OrderRow {
             id: number_at(row, 0)?,
@@ -54,6 +85,13 @@ impl OfRow for OrderRow {
 }
 
 impl OfRow for CertRow {
+    ghost use Rattle.reg_tables.specs.Reading.{shown_certificate};
+    ghost use Rattle.reg_core.specs.Serial.{IsSerial};
+
+    ghost shown = { shown_certificate };
+
+    ghost is_keyed = { λ it. IsSerial it.serial };
+
     fn in_row(row: &Row) -> Option<CertRow> {
         Some(CertRow {
             serial: serial_at(row, 0)?,
@@ -65,6 +103,13 @@ impl OfRow for CertRow {
 }
 
 impl OfRow for RequestRow {
+    ghost use Rattle.reg_tables.specs.Reading.{shown_request};
+    ghost use Rattle.reg_core.specs.Serial.{IsSerial};
+
+    ghost shown = { shown_request };
+
+    ghost is_keyed = { λ it. IsSerial it.serial };
+
     fn in_row(row: &Row) -> Option<RequestRow> {
         Some(RequestRow {
             id: number_at(row, 0)?,
@@ -77,6 +122,13 @@ impl OfRow for RequestRow {
 }
 
 impl OfRow for RevocationRow {
+    ghost use Rattle.reg_tables.specs.Reading.{shown_revocation};
+    ghost use Rattle.reg_core.specs.Serial.{IsSerial};
+
+    ghost shown = { shown_revocation };
+
+    ghost is_keyed = { λ it. IsSerial it.serial };
+
     fn in_row(row: &Row) -> Option<RevocationRow> {
         Some(RevocationRow {
             serial: serial_at(row, 0)?,
@@ -89,6 +141,12 @@ impl OfRow for RevocationRow {
 }
 
 impl OfRow for CrlRow {
+    ghost use Rattle.reg_tables.specs.Reading.{shown_crl};
+
+    ghost shown = { shown_crl };
+
+    ghost is_keyed = { λ _. Unit {0} };
+
     fn in_row(row: &Row) -> Option<CrlRow> {
         Some(CrlRow {
             number: number_at(row, 0)?,
@@ -98,6 +156,13 @@ impl OfRow for CrlRow {
 }
 
 impl OfRow for Standing {
+    ghost use Rattle.reg_auditing.specs.Shown.{shown_standing};
+    ghost use Rattle.reg_core.specs.Serial.{IsSerial};
+
+    ghost shown = { shown_standing };
+
+    ghost is_keyed = { λ it. IsSerial it.serial };
+
     fn in_row(row: &Row) -> Option<Standing> {
         Some(Standing {
             serial: serial_at(row, 0)?,
@@ -108,6 +173,12 @@ impl OfRow for Standing {
 }
 
 impl OfRow for Counts {
+    ghost use Rattle.reg_auditing.specs.Shown.{shown_counts};
+
+    ghost shown = { shown_counts };
+
+    ghost is_keyed = { λ _. Unit {0} };
+
     fn in_row(row: &Row) -> Option<Counts> {
         Some(Counts {
             good: number_at(row, 0)?,
@@ -118,6 +189,13 @@ impl OfRow for Counts {
 }
 
 impl OfRow for Listed {
+    ghost use Rattle.reg_auditing.specs.Shown.{shown_listed};
+    ghost use Rattle.reg_core.specs.Serial.{IsSerial};
+
+    ghost shown = { shown_listed };
+
+    ghost is_keyed = { λ it. IsSerial it.serial };
+
     fn in_row(row: &Row) -> Option<Listed> {
         Some(Listed {
             serial: serial_at(row, 0)?,
@@ -142,19 +220,23 @@ pub(crate) fn typed<T: OfRow>(
     alloc: Global,
     table: Table,
     rows: &[Row],
-) -> Result<Vec<T>, AuditStop> {
+) -> Result<Vec<T>, AuditStop>
+    ensures read { (shown : List T) → AllByRecursion T.is_keyed shown → rows.now ≡ map T.shown shown → IfOk result (λ read. read.items ≡ shown) }
+{
     let mut found = Vec::new(alloc);
-    for (place, row) in rows.iter().enumerate() {
+    for row in rows {
         match T::in_row(row) {
             Some(it) => found.push(it)?,
-            None => return Err(no_value(table, place)),
+            None => return Err(no_value(table, found.len())),
         }
     }
     Ok(found)
 }
 
 /// What the one row of a table shows.
-pub(crate) fn only<T: OfRow>(table: Table, rows: &[Row]) -> Result<T, AuditStop> {
+pub(crate) fn only<T: OfRow>(table: Table, rows: &[Row]) -> Result<T, AuditStop>
+    ensures read { (it : T) → T.is_keyed it → rows.now ≡ T.shown it ∷ [] → IfOk result (λ read. read ≡ it) }
+{
     match rows {
         [row] => T::in_row(row).ok_or(no_value(table, 0)),
         _ => Err(no_value(table, rows.len())),

@@ -1,0 +1,8 @@
+use Rattle.reg_auditing.proofs.Showing.{certificates_are}
+use Rattle.reg_auditing.proofs.tables.certificates.Goals as goal
+
+pub returns : goal.returns
+returns c = record {
+  read = λ records columns is.
+      c.typed.ensures.read records.certificates is.both.shown.rows.certificate_serials (certificates_are records columns c.args.rows.now is);
+}

@@ -1,0 +1,8 @@
+use Rattle.reg_auditing.proofs.Showing.{counts_is}
+use Rattle.reg_auditing.proofs.tables.counts.Goals as goal
+
+pub returns : goal.returns
+returns c = record {
+  read = λ records columns is.
+      c.only.ensures.read columns.counts tt (counts_is records columns c.args.rows.now is);
+}

@@ -1,0 +1,14 @@
+use Rattle.std.proofs.Common.{map, refl, ap, ◌∙◌}
+use Rattle.reg_tables.proofs.Staying.{ok_then}
+use Rattle.reg_tables.specs.Columns as column
+use Rattle.reg_audit.specs.Beside.{standing_in}
+use Rattle.reg_audit.specs.declared.beside.Standing.{Standing}
+use Rattle.reg_auditing.proofs.Showing.{standing_out, letters_back, letters_are, serials_out}
+use Rattle.reg_auditing.proofs.tables.letters.Goals as goal
+
+pub returns : goal.returns
+returns c = record {
+  read = λ records columns is.
+      let keyed = serials_out (λ (row : column.Standing). row.serial) (λ (row : Standing). row.serial) standing_out (λ row. refl) columns.letters is.both.kept.letter_serials in
+      ok_then c.typed.result (c.typed.ensures.read (map standing_out columns.letters) keyed (letters_are records columns c.args.rows.now is)) (λ found same. ap (map standing_in) same ∙ letters_back columns.letters);
+}

@@ -1,0 +1,14 @@
+use Rattle.std.proofs.Common.{map, refl, ap, ◌∙◌}
+use Rattle.reg_tables.proofs.Staying.{ok_then}
+use Rattle.reg_tables.specs.Columns as column
+use Rattle.reg_audit.specs.Beside.{listed_in}
+use Rattle.reg_audit.specs.declared.beside.Listed.{Listed}
+use Rattle.reg_auditing.proofs.Showing.{listed_out, listings_back, listed_are, serials_out}
+use Rattle.reg_auditing.proofs.tables.listings.Goals as goal
+
+pub returns : goal.returns
+returns c = record {
+  read = λ records columns is.
+      let keyed = serials_out (λ (row : column.Listed). row.serial) (λ (row : Listed). row.serial) listed_out (λ row. refl) columns.listed is.both.kept.listed_serials in
+      ok_then c.typed.result (c.typed.ensures.read (map listed_out columns.listed) keyed (listed_are records columns c.args.rows.now is)) (λ found same. ap (map listed_in) same ∙ listings_back columns.listed);
+}

@@ -1,0 +1,8 @@
+use Rattle.reg_auditing.proofs.Showing.{requests_are}
+use Rattle.reg_auditing.proofs.tables.requests.Goals as goal
+
+pub returns : goal.returns
+returns c = record {
+  read = λ records columns is.
+      c.typed.ensures.read records.requests is.both.shown.rows.request_serials (requests_are records columns c.args.rows.now is);
+}

@@ -1,0 +1,8 @@
+use Rattle.reg_auditing.proofs.Showing.{revocations_are}
+use Rattle.reg_auditing.proofs.tables.revocations.Goals as goal
+
+pub returns : goal.returns
+returns c = record {
+  read = λ records columns is.
+      c.typed.ensures.read records.revocations is.both.shown.rows.revocation_serials (revocations_are records columns c.args.rows.now is);
+}

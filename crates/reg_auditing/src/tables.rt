@@ -1,0 +1,87 @@
+//! The rows of each table, as what the records and what is kept beside them have.
+
+ghost use Rattle.std.specs.Prelude.{◌≡◌, map, IfOk};
+ghost use Rattle.reg_core.specs.Crls.{row_of};
+ghost use Rattle.reg_core.specs.Records.{Records};
+ghost use Rattle.reg_tables.specs.Columns.{Columns};
+ghost use Rattle.reg_audit.specs.Beside.{standing_in, listed_in};
+ghost use Rattle.reg_auditing.specs.Said.{IsReadOf};
+ghost use Rattle.reg_auditing.specs.declared.texts.What.TheVariants.{Office as OfOffice, Subscribers, Orders, Certificates, Requests, Revocations, Crls, Standings, Counts as OfCounts, Listings};
+
+use crate::stop::AuditStop;
+use crate::typed::{Office, only, typed};
+use reg_audit::{Listed, Standing, Table};
+use reg_core::{CertRow, Counts, CrlRow, OrderRow, RequestRow, RevocationRow, SubscriberRow};
+use sqlite::Row;
+use std::alloc::Global;
+
+/// The cap and the last accepted moment.
+pub(crate) fn office(rows: &[Row]) -> Result<Office, AuditStop>
+    ensures read { (records : Records) → (columns : Columns) → IsReadOf records columns OfOffice rows.now
+        → IfOk result (λ found. (found.cap ≡ records.policy.cap) × (found.last ≡ records.last)) }
+{
+    only(Table::Office, rows)
+}
+
+/// The subscribers, in the order of entry.
+pub(crate) fn subscribers(alloc: Global, rows: &[Row]) -> Result<Vec<SubscriberRow>, AuditStop>
+    ensures read { (records : Records) → (columns : Columns) → IsReadOf records columns Subscribers rows.now → IfOk result (λ found. found.items ≡ records.subscribers) }
+{
+    typed(alloc, Table::Subscriber, rows)
+}
+
+/// The orders, in the order of entry.
+pub(crate) fn orders(alloc: Global, rows: &[Row]) -> Result<Vec<OrderRow>, AuditStop>
+    ensures read { (records : Records) → (columns : Columns) → IsReadOf records columns Orders rows.now → IfOk result (λ found. found.items ≡ records.orders) }
+{
+    typed(alloc, Table::Orders, rows)
+}
+
+/// The certificates, in the order of entry.
+pub(crate) fn certificates(alloc: Global, rows: &[Row]) -> Result<Vec<CertRow>, AuditStop>
+    ensures read { (records : Records) → (columns : Columns) → IsReadOf records columns Certificates rows.now → IfOk result (λ found. found.items ≡ records.certificates) }
+{
+    typed(alloc, Table::Cert, rows)
+}
+
+/// The requests, in the order of entry.
+pub(crate) fn requests(alloc: Global, rows: &[Row]) -> Result<Vec<RequestRow>, AuditStop>
+    ensures read { (records : Records) → (columns : Columns) → IsReadOf records columns Requests rows.now → IfOk result (λ found. found.items ≡ records.requests) }
+{
+    typed(alloc, Table::Request, rows)
+}
+
+/// The revocations, in the order of entry.
+pub(crate) fn revocations(alloc: Global, rows: &[Row]) -> Result<Vec<RevocationRow>, AuditStop>
+    ensures read { (records : Records) → (columns : Columns) → IsReadOf records columns Revocations rows.now → IfOk result (λ found. found.items ≡ records.revocations) }
+{
+    typed(alloc, Table::Revocation, rows)
+}
+
+/// The CRLs without their bytes, in the order of their numbers.
+pub(crate) fn crls(alloc: Global, rows: &[Row]) -> Result<Vec<CrlRow>, AuditStop>
+    ensures read { (records : Records) → (columns : Columns) → IsReadOf records columns Crls rows.now → IfOk result (λ found. found.items ≡ map row_of records.crls) }
+{
+    typed(alloc, Table::Crl, rows)
+}
+
+/// The state letters.
+pub(crate) fn letters(alloc: Global, rows: &[Row]) -> Result<Vec<Standing>, AuditStop>
+    ensures read { (records : Records) → (columns : Columns) → IsReadOf records columns Standings rows.now → IfOk result (λ found. map standing_in found.items ≡ columns.letters) }
+{
+    typed(alloc, Table::Standing, rows)
+}
+
+/// The counts of the state letters.
+pub(crate) fn counts(rows: &[Row]) -> Result<Counts, AuditStop>
+    ensures read { (records : Records) → (columns : Columns) → IsReadOf records columns OfCounts rows.now → IfOk result (λ found. found ≡ columns.counts) }
+{
+    only(Table::Kept, rows)
+}
+
+/// What CRLs list of each revocation.
+pub(crate) fn listings(alloc: Global, rows: &[Row]) -> Result<Vec<Listed>, AuditStop>
+    ensures read { (records : Records) → (columns : Columns) → IsReadOf records columns Listings rows.now → IfOk result (λ found. map listed_in found.items ≡ columns.listed) }
+{
+    typed(alloc, Table::Listed, rows)
+}
