@@ -112,7 +112,6 @@ impl<'a> Place for Machine<'a> {
     }
 
     fn audit(&mut self, path: &str) -> Result<Verdict, Failure> {
-        present(self, path)?;
         audit_file(self, path)
     }
 
@@ -201,6 +200,7 @@ fn audit_file(machine: &Machine<'_>, path: &str) -> Result<Verdict, Failure>
     ensures ok { OnOk result (IsAudited ⟦<FileFrom<Unknown> as Disk>⟧) }
     ensures err { IfErr result IsOpening }
 {
+    present(machine, path)?;
     let mut connection = open_noted(machine, path)?;
     let told = judge(machine.rt.alloc(), &mut connection);
     close(connection);
