@@ -18,7 +18,7 @@ use Rattle.reg_audit.specs.Stops as found
 use Rattle.reg_audit.specs.declared.stop.Stop.{Stop}
 use Rattle.reg_audit.specs.declared.stop.Stop.TheVariants.{Memory, Broken}
 use Rattle.reg_auditing.specs.Stops.{IsBroken, told}
-use Rattle.reg_auditing.specs.Values.{IsValidity, IsRevoking, HasValues, AreReadable}
+use Rattle.reg_auditing.specs.Values.{IsValidity, AreMomentAndReason, HasValues, AreReadable}
 
 -- LISTS
 
@@ -70,9 +70,9 @@ module _ (records : Records) (columns : Columns) (values : HasValues records) (s
       found_below (λ (row : CertRow). row.not_after) 253402300800 (λ row. row.serial == serial) records.certificates (omega arith)
       (all_weaker (λ row. IsValidity row.not_before row.not_after) (λ row. IsMoment row.not_after) (λ row both. both.1) records.certificates values.validities)
 
-  revoking : AllByRecursion (λ (row : RevocationRow). IsRevoking row.at row.reason) records.revocations
+  revoking : AllByRecursion (λ (row : RevocationRow). AreMomentAndReason row.at row.reason) records.revocations
   revoking =
-      all_join (SoundRevocation records.last records.certificates records.requests records.crls) (λ row. row.reason < 256) (λ row. IsRevoking row.at row.reason)
+      all_join (SoundRevocation records.last records.certificates records.requests records.crls) (λ row. row.reason < 256) (λ row. AreMomentAndReason row.at row.reason)
       (λ row is byte. (omega (arith, is.at_by_last, sound.before_clock_end), byte)) records.revocations sound.revocations.each values.reasons
 
   pub each_has : AreReadable records columns
@@ -88,7 +88,7 @@ module _ (records : Records) (columns : Columns) (values : HasValues records) (s
         (all_map (λ (row : Standing). IsMoment row.not_after) (standing_of records) records.certificates
         (all_weaker (λ row. IsValidity row.not_before row.not_after) (λ row. IsMoment row.not_after) (λ row both. both.1) records.certificates values.validities));
     listed =
-        all_shuffled (λ (row : Listed). IsRevoking row.at row.reason × IsMoment row.not_after) (map (listed_of records) records.revocations) columns.listed kept.listed
-        (all_map (λ (row : Listed). IsRevoking row.at row.reason × IsMoment row.not_after) (listed_of records) records.revocations
-        (all_weaker (λ (row : RevocationRow). IsRevoking row.at row.reason) (λ row. IsRevoking row.at row.reason × IsMoment (not_after_of records row.serial)) (λ row is. (is, ends row.serial)) records.revocations revoking));
+        all_shuffled (λ (row : Listed). AreMomentAndReason row.at row.reason × IsMoment row.not_after) (map (listed_of records) records.revocations) columns.listed kept.listed
+        (all_map (λ (row : Listed). AreMomentAndReason row.at row.reason × IsMoment row.not_after) (listed_of records) records.revocations
+        (all_weaker (λ (row : RevocationRow). AreMomentAndReason row.at row.reason) (λ row. AreMomentAndReason row.at row.reason × IsMoment (not_after_of records row.serial)) (λ row is. (is, ends row.serial)) records.revocations revoking));
   }

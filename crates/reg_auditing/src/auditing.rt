@@ -46,8 +46,10 @@ const WHOLE: [What; 10] = [
 ///
 /// Each value in a row is read as the number, moment, serial number, label or letter that it is, or as none where the
 /// register's type has no such value. Whatever records the tables show, where all is found well these are sound and what is
-/// kept beside them follows from them; it changes nothing of the tables of a register, and commits nothing. That what is told
-/// as broken is so is not proved. The bytes of CRLs, the issuer, the policy's schedule and lives, and the rowids of the tables
+/// kept beside them follows from them; where a row is told as broken, they are not so, or have a value that no register's
+/// records have (`HasValues`). It changes nothing of the tables of a register, and commits nothing.
+///
+/// The bytes of CRLs, the issuer, the policy's schedule and lives, and the rowids of the tables
 /// whose key is a serial number are not looked at. The schema is not looked at either.
 ///
 /// # Errors

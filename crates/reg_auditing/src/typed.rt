@@ -145,13 +145,13 @@ impl OfRow for RequestRow {
 impl OfRow for RevocationRow {
     ghost use Rattle.reg_tables.specs.Reading.{shown_revocation};
     ghost use Rattle.reg_core.specs.Serial.{IsSerial};
-    ghost use Rattle.reg_auditing.specs.Values.{IsRevoking};
+    ghost use Rattle.reg_auditing.specs.Values.{AreMomentAndReason};
 
     ghost shown = { shown_revocation };
 
     ghost is_keyed = { λ it. IsSerial it.serial };
 
-    ghost has_values = { λ it. IsRevoking it.at it.reason };
+    ghost has_values = { λ it. AreMomentAndReason it.at it.reason };
 
     fn in_row(row: &Row) -> Option<RevocationRow> {
         Some(RevocationRow {
@@ -225,13 +225,13 @@ impl OfRow for Listed {
     ghost use Rattle.reg_auditing.specs.Shown.{shown_listed};
     ghost use Rattle.reg_core.specs.Serial.{IsSerial};
     ghost use Rattle.reg_core.specs.Calendar.{IsMoment};
-    ghost use Rattle.reg_auditing.specs.Values.{IsRevoking};
+    ghost use Rattle.reg_auditing.specs.Values.{AreMomentAndReason};
 
     ghost shown = { shown_listed };
 
     ghost is_keyed = { λ it. IsSerial it.serial };
 
-    ghost has_values = { λ it. IsRevoking it.at it.reason × IsMoment it.not_after };
+    ghost has_values = { λ it. AreMomentAndReason it.at it.reason × IsMoment it.not_after };
 
     fn in_row(row: &Row) -> Option<Listed> {
         Some(Listed {
