@@ -4,6 +4,12 @@ use Rattle.reg_tables.proofs.Staying.{stays_both, stays_register, stays_then}
 use Rattle.reg_verdict.proofs.Said.{always_said, register_by, sound_said}
 use Rattle.reg_verdict.proofs.judging.judge.Goals as goal
 
+pub returns-then-not-is_register-clause-sound : goal.returns-then-not-is_register-clause-sound
+returns-then-not-is_register-clause-sound g c records columns shows clean sound = absurd sound
+
+pub returns-then-not-is_register-clause-register : goal.returns-then-not-is_register-clause-register
+returns-then-not-is_register-clause-register g c sound = absurd sound
+
 pub returns-clause-sound : goal.returns-clause-sound
 returns-clause-sound g c records columns shows clean =
     let shown = stays_both g.S.Store c.args.conn.now c.examine.new.conn records columns c.examine.ensures.clean c.examine.ensures.same shows in
