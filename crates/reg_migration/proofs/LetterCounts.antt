@@ -27,10 +27,8 @@ use Rattle.reg_tables.proofs.Compares.{and_true, compares, eq_text}
 use Rattle.reg_tables.proofs.CountLemmas.{counted}
 use Rattle.reg_tables.proofs.Queries.{as_command, no_limit, passes, kept_behind, all_of}
 use Rattle.reg_tables.proofs.Selecting.{select_never}
-use Rattle.reg_migration.specs.Makes.{NeverReturns}
 use Rattle.reg_migration.specs.Refilled.{with_letter}
 use Rattle.reg_migration.specs.declared.texts.TheConstants.{COUNT_LETTER}
-use Rattle.reg_migration.proofs.Questions.{never_returns}
 
 abbrev count_rows : Aggregate
 count_rows = record { op = CountRows; distinct = false; collation = Binary; argument = lit Null }
@@ -61,10 +59,6 @@ letter_means = refl
 pub reading_letter : IsReading COUNT_LETTER.now
 unfolding understood everything register_schema first
 reading_letter = record { plain = (refl, refl); unlisted = refl; never = select_never COUNT_LETTER.now _ _ refl refl refl }
-
-pub letter_never : NeverReturns COUNT_LETTER.now
-unfolding first everything
-letter_never = never_returns COUNT_LETTER.now _ _ refl refl refl
 
 at_most_all : {A : Type 0} (p : A → Bool) (xs : List A) → length (filter p xs) ≤ length xs
 at_most_all p [] = omega arith

@@ -1,26 +1,17 @@
 -- What is read inside a transaction, and that nothing changes by it.
-use Rattle.std.proofs.Common.{◌≡◌, ◌⊎◌, ◌+◌, ℕ, true, Option, None, Some, List, [], ◌∷◌, map, codes, Result, Ok, Err, IsTrue, refl, sym, ap, subst, ◌∙◌, inl, inr}
+use Rattle.std.proofs.Common.{◌≡◌, ◌⊎◌, ◌+◌, ℕ, true, Option, None, Some, List, [], ◌∷◌, map, codes, IsTrue, refl, sym, ap, subst, ◌∙◌, inl, inr}
 use Rattle.std.specs.List.{AllByRecursion, filter}
 use Rattle.sqlite_value.specs.Order.{Row}
 use Rattle.sqlite_value.specs.declared.keys.Key.{Key}
 use Rattle.sqlite_trees.proofs.ListLemmas.{map-map}
-use Rattle.sqlite_ast.specs.declared.Select as written_select
-use Rattle.sqlite_ast.specs.declared.Statement.TheVariants as written
-use Rattle.sqlite_syntax.specs.declared.statement.Parsed.{Parsed}
 use Rattle.sqlite_sql.specs.Term.{Term, col}
 use Rattle.sqlite_sql.specs.Query.{Output}
-use Rattle.sqlite_schema.specs.declared.command.Command.{Command}
 use Rattle.sqlite_schema.specs.declared.command.Returning.{Returning}
-use Rattle.sqlite_schema.specs.declared.schema.Schema.{Schema}
 use Rattle.sqlite_resolve.specs.declared.compiled.Compiled.{Compiled}
-use Rattle.sqlite_resolve.specs.declared.error.CompileError.{CompileError}
-use Rattle.sqlite_resolve.specs.Lowering.{Checked, and_then}
-use Rattle.sqlite_resolve.specs.Compile as compile
 use Rattle.sqlite_resolve.specs.Compile.{first}
 use Rattle.sqlite_tied.specs.Compute.{everything}
-use Rattle.std.proofs.lemmas.Bool.{cases_Bool}
 use Rattle.sqlite.specs.Effect.{Database, Reads}
-use Rattle.sqlite.specs.Listing.{understood, reads_listing, listing_schema, if_select, is_select}
+use Rattle.sqlite.specs.Listing.{understood}
 use Rattle.sqlite.specs.State.{State, KeepsCommit, IsUnchanged, IsRolledBack, ShowsRows, Shown, FailsToQuery, IsTooLate}
 use Rattle.sqlite.specs.declared.error.Error.{Error}
 use Rattle.sqlite.proofs.Callers.{reads_as}
@@ -33,72 +24,32 @@ use Rattle.reg_tables.proofs.Selecting.{select_never}
 use Rattle.reg_tables.specs.Rows.{number, behind_rowids, stored_revocation, stored_crl}
 use Rattle.reg_tables.specs.Shows.{IsShownBy}
 use Rattle.reg_tables.specs.Reading.{Answers, IsReading, command_of, shown_revocation, shown_crl}
-use Rattle.reg_tables.specs.declared.statements.TheConstants.{CERT_BY_SERIAL}
 use Rattle.reg_tables.proofs.Queries.{selects, as_command, no_limit, Given, keyed_given, all_of}
 use Rattle.reg_tables.proofs.Sorting.{ascending_key, ascends, sorted_same}
 use Rattle.reg_tables.proofs.Greatest.{numbered_rises}
 use Rattle.reg_tables.proofs.Staying.{shown_open, fails_remains}
-use Rattle.reg_migration.specs.Makes.{NeverReturns}
 use Rattle.reg_migration.specs.declared.texts.TheConstants.{REVOCATIONS, CRLS}
 
--- ---- a text that is a SELECT returns nothing of a write, whatever the tables are
-
-planned_by : (p : Parsed) (k : Checked Command) (c : Compiled) → and_then (and_then (and_then k (λ c. Ok (c, None))) (λ found. Ok ([], found))) (λ plan. Ok (compile.with_command p plan)) ≡ Ok c → c.returning ≡ None
-planned_by p (Ok k) c made = let same : compile.with_command p ([], (k, None)) ≡ c = cc in ap (λ (x : Compiled). x.returning) (sym same)
-planned_by p (Err e) c made = absurd (cc)
-
-select_planned : (schema : Schema) (p : Parsed) (s : written_select.Select) (c : Compiled) → p.statement ≡ written.Select s → p.formats ≡ [] → and_then (compile.planned schema p) (λ plan. Ok (compile.with_command p plan)) ≡ Ok c → c.returning ≡ None
-unfolding compile.planned compile.meaning compile.returning compile.timed
-select_planned schema p s c is none made = planned_by p _ c (rw (is, none) at made)
-
-selected : (r : Result Compiled CompileError) (c : Compiled) → if_select r ≡ Ok c → r ≡ Ok c
-selected (Ok k) c is = elim (cases_Bool (is_select k.command)) [
-  | inl selects ↦ rw selects at is
-  | inr no_select ↦ absurd (let e = rw no_select at is in cc)
-]
-selected (Err e) c is = absurd (cc)
-
-pub never_returns : (text : List ℕ) (p : Parsed) (s : written_select.Select) → compile.first text ≡ Ok p → p.statement ≡ written.Select s → p.formats ≡ [] → NeverReturns text
-unfolding understood compile.compiled
-never_returns text p s first is none schema c known =
-    let by : (sch : Schema) → compile.compiled sch text ≡ Ok c → c.returning ≡ None = λ sch made. select_planned sch p s c is none (rw first at made) in
-    elim (cases_Bool (reads_listing schema text)) [
-      | inl listing ↦ by listing_schema (selected (compile.compiled listing_schema text) c (rw listing at known))
-      | inr direct ↦ by schema (rw direct at known)
-    ]
-
-pub revocations_never : NeverReturns REVOCATIONS.now
-unfolding compile.first everything
-revocations_never = never_returns REVOCATIONS.now _ _ refl refl refl
-
-pub crls_never : NeverReturns CRLS.now
-unfolding compile.first everything
-crls_never = never_returns CRLS.now _ _ refl refl refl
-
-pub cert_never : NeverReturns CERT_BY_SERIAL.now
-unfolding compile.first everything
-cert_never = never_returns CERT_BY_SERIAL.now _ _ refl refl refl
-
--- ---- so nothing changes by it
+-- ---- a text that only reads changes nothing
 
 unchanged_by : (old new : State) (sql : List ℕ) (c : Compiled) (params : Row) (rows : List Row) (returning : Option Returning) → returning ≡ None → ShowsRows old new sql c params rows returning → IsUnchanged old new
 unchanged_by old new sql c params rows None none h = h.3
 unchanged_by old new sql c params rows (Some what) none h = absurd (cc)
 
-pub asked_same : (old new : State) (sql : List ℕ) (params : Row) (rows : List Row) → NeverReturns sql → Shown sql params old new rows → IsUnchanged old new
+pub asked_same : (old new : State) (sql : List ℕ) (params : Row) (rows : List Row) → IsReading sql → Shown sql params old new rows → IsUnchanged old new
 unfolding Shown
-asked_same old new sql params rows never h = unchanged_by old new sql h.0 _ rows _ (never old.now.schema h.0 h.1.is) h.2
+asked_same old new sql params rows reading h = unchanged_by old new sql h.0 _ rows _ (reading.never.none old.now.schema h.0 h.1.is) h.2
 
 pub unchanged_keeps : (old new : State) → IsUnchanged old new → KeepsCommit old new
 unchanged_keeps old new same = record { was_open = λ up. same.0.was_open; committed = λ up. same.0.committed_is }
 
-pub failed_keeps : (old new : State) (sql : List ℕ) (params : Row) (e : Error) → NeverReturns sql → FailsToQuery sql params old new e ⊎ IsTooLate sql params old new e → KeepsCommit old new
-failed_keeps old new sql params e never (inl h) = keeps (fails_remains old new sql params e h)
+pub failed_keeps : (old new : State) (sql : List ℕ) (params : Row) (e : Error) → IsReading sql → FailsToQuery sql params old new e ⊎ IsTooLate sql params old new e → KeepsCommit old new
+failed_keeps old new sql params e reading (inl h) = keeps (fails_remains old new sql params e h)
   where
     keeps : IsUnchanged old new ⊎ IsRolledBack old new → KeepsCommit old new
     keeps (inl same) = unchanged_keeps old new same
     keeps (inr back) = record { was_open = back.was_open; committed = λ up. (back.undone up).1 }
-failed_keeps old new sql params e never (inr h) = absurd (let none = never old.now.schema h.0 h.1.is in let some = rw none at h.2 in cc)
+failed_keeps old new sql params e reading (inr h) = absurd (let none = reading.never.none old.now.schema h.0 h.1.is in let some = rw none at h.2 in cc)
 
 pub asked_answers : (old new : State) (sql : List ℕ) (params : Row) (rows : List Row) → IsReading sql → (IsTrue old.is_open → old.now.schema ≡ register_schema) → Shown sql params old new rows → Answers old sql params rows
 asked_answers old new sql params rows reading register shown =

@@ -3,8 +3,10 @@ use Rattle.std.proofs.Common.{◌≡◌, ◌==◌, ℕ, true, false, map, refl, 
 use Rattle.std.proofs.lemmas.Bool.{cases_Bool}
 use Rattle.std.proofs.lemmas.Bool.Decides.{nat_tests}
 use Rattle.std.proofs.lemmas.List.Sorted.{IsPermutation-refl}
+use Rattle.sqlite_trees.specs.Tree.{Trees}
 use Rattle.sqlite_trees.specs.View.{doubt}
 use Rattle.sqlite_trees.specs.declared.store.Store.{Ghosts}
+use Rattle.sqlite.specs.Effect.{Database}
 use Rattle.sqlite.specs.Held.{Held, state}
 use Rattle.sqlite.specs.State.{HasCleanDisk}
 use Rattle.reg_core.specs.Records.{Records}
@@ -12,6 +14,8 @@ use Rattle.reg_core.specs.Status.{counts}
 use Rattle.reg_tables.specs.Columns.{Columns}
 use Rattle.reg_tables.specs.Kept.{Kept, ShowsKept, standing_of, listed_of}
 use Rattle.reg_tables.specs.Shows.{Holds, Shows}
+use Rattle.reg_changes.specs.AtRest.{IsAtRest}
+use Rattle.reg_changes.proofs.Resting.{resting}
 use Rattle.reg_migration.specs.Refilled.{HasKept}
 
 abbrev columns_of : Records → Columns
@@ -50,3 +54,7 @@ kept_while g h records known = kept_whole g h records (record {
   saved = λ clean up. (known clean).1.saved clean up;
   tables = λ clean up. let it = known clean in (it.0, it.1.tables clean up, it.2);
 })
+
+-- what a database shows and keeps its rows show and keep
+pub kept_rests : (db : Database) (trees : Trees) (records : Records) → trees ≡ db.trees → HasKept db records → IsAtRest records trees
+kept_rests db trees records is had = (had.0, resting db trees records had.0 is had.1, had.2)

@@ -1,5 +1,5 @@
--- The texts that make tables and indexes, and texts that never write.
-use Rattle.std.specs.Prelude.{◌≡◌, ℕ, false, List, [], slice_get, Some, None, Result, Ok, Err}
+-- The texts that make tables and indexes.
+use Rattle.std.specs.Prelude.{◌≡◌, ℕ, false, List, [], slice_get, Some, Result, Ok, Err}
 use Rattle.sqlite_schema.specs.declared.command.Command.TheVariants.{CreateTable, CreateIndex}
 use Rattle.sqlite_schema.specs.declared.schema.Schema.{Schema}
 use Rattle.sqlite_schema.specs.declared.schema.Table.{Table}
@@ -34,7 +34,3 @@ pub record DefinesIndex (schema : Schema) (text : List ℕ) (at : ℕ) (table : 
   pub whole : statement_of text (understood schema text) ≡ text
   pub there : slice_get schema.tables at ≡ Some table
   pub defined : index_defined_by table text ≡ Ok index
-
--- whatever the tables are, the text returns nothing of a write
-abbrev pub NeverReturns : List ℕ → Type 0
-NeverReturns text = (schema : Schema) (compiled : Compiled) → understood schema text ≡ Ok compiled → compiled.returning ≡ None

@@ -1,20 +1,18 @@
 //! What is read of the records while what is kept beside them is made anew.
 
-ghost use Rattle.std.specs.Prelude.{◌≡◌, ◌≤◌, List, [], ◌∷◌, map, IsTrue, IsSomeAnd, IfOk, IfErr};
+ghost use Rattle.std.specs.Prelude.{◌≡◌, List, [], ◌∷◌, map, IsTrue, IsSomeAnd, IfOk, IfErr};
 ghost use Rattle.std.specs.List.{AllByRecursion};
 ghost use Rattle.sqlite_value.specs.Order.{Row as Values};
 ghost use Rattle.sqlite.specs.Values.{bound};
 ghost use Rattle.sqlite.specs.Held.{state};
 ghost use Rattle.sqlite.specs.State.{HasCleanDisk, KeepsCommit, IsUnchanged};
-ghost use Rattle.sqlite_trees.specs.View.{doubt};
 ghost use Rattle.reg_core.specs.Crls.{row_of};
 ghost use Rattle.reg_core.specs.Records.{Records, certificate_in};
 ghost use Rattle.reg_core.specs.Serial.{IsSerial};
 ghost use Rattle.reg_tables.specs.Reading.{Answers, IsReading, shown_certificate, shown_revocation, shown_crl};
 ghost use Rattle.reg_tables.specs.Schema.{register_schema};
 ghost use Rattle.reg_tables.specs.Shows.{IsShownBy};
-ghost use Rattle.reg_tables.specs.Stays.{IsCallFault};
-ghost use Rattle.reg_migration.specs.Makes.{NeverReturns};
+ghost use Rattle.reg_tables.specs.Stays.{IsCallFault, LeavesNothing};
 
 use crate::texts;
 use reg_core::{CertRow, CrlRow, Moment, RevocationRow, Serial};
@@ -32,9 +30,9 @@ pub(crate) fn ask<S: Alter>(
     ensures same_reference { tx.new.conn.ghost_name ≡ tx.old.conn.ghost_name }
     ensures rows { HasCleanDisk (state S.Store tx.new.conn.now) → IsReading sql.now → (IsTrue (state S.Store tx.old.conn.now).is_open → (state S.Store tx.old.conn.now).now.schema ≡ register_schema)
         → IfOk result (λ rows. Answers (state S.Store tx.old.conn.now) sql.now (bound params.now) rows.items) }
-    ensures same { HasCleanDisk (state S.Store tx.new.conn.now) → NeverReturns sql.now → IfOk result (λ _. IsUnchanged (state S.Store tx.old.conn.now) (state S.Store tx.new.conn.now)) }
-    ensures kept { HasCleanDisk (state S.Store tx.new.conn.now) → NeverReturns sql.now → KeepsCommit (state S.Store tx.old.conn.now) (state S.Store tx.new.conn.now) }
-    ensures clean { doubt (state S.Store tx.old.conn.now).is_clean ≤ doubt (state S.Store tx.new.conn.now).is_clean }
+    ensures same { HasCleanDisk (state S.Store tx.new.conn.now) → IsReading sql.now → IfOk result (λ _. IsUnchanged (state S.Store tx.old.conn.now) (state S.Store tx.new.conn.now)) }
+    ensures kept { HasCleanDisk (state S.Store tx.new.conn.now) → IsReading sql.now → KeepsCommit (state S.Store tx.old.conn.now) (state S.Store tx.new.conn.now) }
+    ensures survives { LeavesNothing (state S.Store tx.old.conn.now) (state S.Store tx.new.conn.now) }
     ensures faults { IfErr result IsCallFault }
 {
     Ok(tx.query_all(sql, params)?)
@@ -73,7 +71,7 @@ pub(crate) fn revocations<S: Alter>(
         → IfOk result (λ found. found.items ≡ records.revocations) }
     ensures same { HasCleanDisk (state S.Store tx.new.conn.now) → IfOk result (λ _. IsUnchanged (state S.Store tx.old.conn.now) (state S.Store tx.new.conn.now)) }
     ensures kept { HasCleanDisk (state S.Store tx.new.conn.now) → KeepsCommit (state S.Store tx.old.conn.now) (state S.Store tx.new.conn.now) }
-    ensures clean { doubt (state S.Store tx.old.conn.now).is_clean ≤ doubt (state S.Store tx.new.conn.now).is_clean }
+    ensures survives { LeavesNothing (state S.Store tx.old.conn.now) (state S.Store tx.new.conn.now) }
     ensures faults { IfErr result IsCallFault }
 {
     let found = ask(tx, texts::REVOCATIONS, &[])?;
@@ -87,7 +85,7 @@ pub(crate) fn crls<S: Alter>(tx: &mut Transaction<'_, S>) -> Result<Vec<CrlRow>,
         → IfOk result (λ found. found.items ≡ map row_of records.crls) }
     ensures same { HasCleanDisk (state S.Store tx.new.conn.now) → IfOk result (λ _. IsUnchanged (state S.Store tx.old.conn.now) (state S.Store tx.new.conn.now)) }
     ensures kept { HasCleanDisk (state S.Store tx.new.conn.now) → KeepsCommit (state S.Store tx.old.conn.now) (state S.Store tx.new.conn.now) }
-    ensures clean { doubt (state S.Store tx.old.conn.now).is_clean ≤ doubt (state S.Store tx.new.conn.now).is_clean }
+    ensures survives { LeavesNothing (state S.Store tx.old.conn.now) (state S.Store tx.new.conn.now) }
     ensures faults { IfErr result IsCallFault }
 {
     let found = ask(tx, texts::CRLS, &[])?;
@@ -115,7 +113,7 @@ pub(crate) fn end_of<S: Alter>(
         → IfOk result (λ end. IsSomeAnd (certificate_in records.certificates serial) (λ certificate. certificate.not_after ≡ end)) }
     ensures same { HasCleanDisk (state S.Store tx.new.conn.now) → IfOk result (λ _. IsUnchanged (state S.Store tx.old.conn.now) (state S.Store tx.new.conn.now)) }
     ensures kept { HasCleanDisk (state S.Store tx.new.conn.now) → KeepsCommit (state S.Store tx.old.conn.now) (state S.Store tx.new.conn.now) }
-    ensures clean { doubt (state S.Store tx.old.conn.now).is_clean ≤ doubt (state S.Store tx.new.conn.now).is_clean }
+    ensures survives { LeavesNothing (state S.Store tx.old.conn.now) (state S.Store tx.new.conn.now) }
     ensures faults { IfErr result IsCallFault }
 {
     let found = ask(tx, CERT_BY_SERIAL, params![serial.bytes20().as_slice()])?;

@@ -1,10 +1,9 @@
 //! The first rows of the tables that an older version lacks.
 
-ghost use Rattle.std.specs.Prelude.{◌≡◌, ◌≤◌, ℕ, [], ◌∷◌, pos, true, IsTrue, OnOk, IfErr};
+ghost use Rattle.std.specs.Prelude.{◌≡◌, ℕ, [], ◌∷◌, pos, true, IsTrue, OnOk, IfErr};
 ghost use Rattle.sqlite.specs.Held.{state};
 ghost use Rattle.sqlite.specs.State.{HasCleanDisk, KeepsCommit};
 ghost use Rattle.sqlite_trees.specs.Tree.{Trees};
-ghost use Rattle.sqlite_trees.specs.View.{doubt};
 ghost use Rattle.reg_core.specs.Issuer.{Issuer};
 ghost use Rattle.reg_core.specs.Policy.{Terms};
 ghost use Rattle.reg_core.specs.Records.{Records};
@@ -13,7 +12,7 @@ ghost use Rattle.reg_tables.specs.Columns.{stored_counts};
 ghost use Rattle.reg_tables.specs.Rows.{stored_office};
 ghost use Rattle.reg_tables.specs.Schema.{register_schema};
 ghost use Rattle.reg_tables.specs.Shows.{AreBoth};
-ghost use Rattle.reg_tables.specs.Stays.{IsCallFault, Moves};
+ghost use Rattle.reg_tables.specs.Stays.{IsCallFault, LeavesNothing, Moves};
 ghost use Rattle.reg_migration.specs.Older.{stored_older, IsShownByOlder};
 ghost use Rattle.reg_migration.specs.Refilled.{no_columns};
 ghost use Rattle.reg_migration.specs.Rows.{HasRows, HadRows, with_rows};
@@ -34,7 +33,7 @@ fn set_version<S: Alter>(tx: &mut Transaction<'_, S>) -> Result<(), StoreFault>
         → HadRows (state S.Store tx.old.conn.now) register_schema rows
         → OnOk result (Moves (state S.Store tx.old.conn.now) (state S.Store tx.new.conn.now) (HasRows register_schema (with_rows 0 (stored_office (pos days) issuer policy last ∷ []) rows))) }
     ensures kept { HasCleanDisk (state S.Store tx.new.conn.now) → KeepsCommit (state S.Store tx.old.conn.now) (state S.Store tx.new.conn.now) }
-    ensures clean { doubt (state S.Store tx.old.conn.now).is_clean ≤ doubt (state S.Store tx.new.conn.now).is_clean }
+    ensures survives { LeavesNothing (state S.Store tx.old.conn.now) (state S.Store tx.new.conn.now) }
     ensures faults { IfErr result IsCallFault }
 {
     write(tx, texts::SET_VERSION, &[])?;
@@ -48,7 +47,7 @@ fn put_counts<S: Alter>(tx: &mut Transaction<'_, S>) -> Result<(), StoreFault>
         → OnOk result (Moves (state S.Store tx.old.conn.now) (state S.Store tx.new.conn.now) (HasRows register_schema (with_rows 14 (stored_counts no_columns.counts ∷ []) rows))) }
     ensures kept { HasCleanDisk (state S.Store tx.new.conn.now) → KeepsCommit (state S.Store tx.old.conn.now) (state S.Store tx.new.conn.now) }
     ensures inside { HasCleanDisk (state S.Store tx.new.conn.now) → OnOk result (tx.new.conn.now.in_transaction ≡ true) }
-    ensures clean { doubt (state S.Store tx.old.conn.now).is_clean ≤ doubt (state S.Store tx.new.conn.now).is_clean }
+    ensures survives { LeavesNothing (state S.Store tx.old.conn.now) (state S.Store tx.new.conn.now) }
     ensures faults { IfErr result IsCallFault }
 {
     write(tx, texts::PUT_COUNTS, &[])?;
@@ -67,7 +66,7 @@ pub(crate) fn begin<S: Alter>(
         → OnOk result (IsTrue (state S.Store tx.new.conn.now).is_open → AreBoth (state S.Store tx.new.conn.now).now records no_columns) }
     ensures kept { HasCleanDisk (state S.Store tx.new.conn.now) → KeepsCommit (state S.Store tx.old.conn.now) (state S.Store tx.new.conn.now) }
     ensures inside { HasCleanDisk (state S.Store tx.new.conn.now) → OnOk result (tx.new.conn.now.in_transaction ≡ true) }
-    ensures clean { doubt (state S.Store tx.old.conn.now).is_clean ≤ doubt (state S.Store tx.new.conn.now).is_clean }
+    ensures survives { LeavesNothing (state S.Store tx.old.conn.now) (state S.Store tx.new.conn.now) }
     ensures faults { IfErr result IsCallFault }
 {
     make_missing(tx, version)?;

@@ -3,11 +3,10 @@
 ghost use Rattle.std.specs.Prelude.{◌≡◌, ◌≤◌, ℕ, [], ◌∷◌, length, Bool, bytes_eq, IfOk, IfErr};
 ghost use Rattle.sqlite.specs.Held.{state};
 ghost use Rattle.sqlite.specs.State.{HasCleanDisk, KeepsCommit, IsUnchanged};
-ghost use Rattle.sqlite_trees.specs.View.{doubt};
 ghost use Rattle.reg_core.specs.Records.{Records};
 ghost use Rattle.reg_tables.specs.Columns.{Letter, Columns, letter_text};
 ghost use Rattle.reg_tables.specs.Rows.{number};
-ghost use Rattle.reg_tables.specs.Stays.{IsCallFault};
+ghost use Rattle.reg_tables.specs.Stays.{IsCallFault, LeavesNothing};
 ghost use Rattle.reg_changes.specs.Ran.{Before};
 ghost use Rattle.reg_migration.specs.Refilled.{with_letter, letter_counts};
 
@@ -39,7 +38,7 @@ fn count_letter<S: Alter>(tx: &mut Transaction<'_, S>, letter: &[u8]) -> Result<
         → (test : Letter → Bool) → ((of : Letter) → bytes_eq (letter_text of) letter.now ≡ test of) → IfOk result (λ count. count ≡ with_letter test columns.letters) }
     ensures same { HasCleanDisk (state S.Store tx.new.conn.now) → IfOk result (λ _. IsUnchanged (state S.Store tx.old.conn.now) (state S.Store tx.new.conn.now)) }
     ensures kept { HasCleanDisk (state S.Store tx.new.conn.now) → KeepsCommit (state S.Store tx.old.conn.now) (state S.Store tx.new.conn.now) }
-    ensures clean { doubt (state S.Store tx.old.conn.now).is_clean ≤ doubt (state S.Store tx.new.conn.now).is_clean }
+    ensures survives { LeavesNothing (state S.Store tx.old.conn.now) (state S.Store tx.new.conn.now) }
     ensures faults { IfErr result IsCallFault }
 {
     let found = ask(tx, texts::COUNT_LETTER, &[ValueRef::Text(letter)])?;
@@ -53,7 +52,7 @@ pub(crate) fn counts<S: Alter>(tx: &mut Transaction<'_, S>) -> Result<Counts, St
         → IfOk result (λ counts. counts ≡ letter_counts columns.letters) }
     ensures same { HasCleanDisk (state S.Store tx.new.conn.now) → IfOk result (λ _. IsUnchanged (state S.Store tx.old.conn.now) (state S.Store tx.new.conn.now)) }
     ensures kept { HasCleanDisk (state S.Store tx.new.conn.now) → KeepsCommit (state S.Store tx.old.conn.now) (state S.Store tx.new.conn.now) }
-    ensures clean { doubt (state S.Store tx.old.conn.now).is_clean ≤ doubt (state S.Store tx.new.conn.now).is_clean }
+    ensures survives { LeavesNothing (state S.Store tx.old.conn.now) (state S.Store tx.new.conn.now) }
     ensures faults { IfErr result IsCallFault }
 {
     let good = count_letter(tx, b"G")?;

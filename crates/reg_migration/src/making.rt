@@ -1,16 +1,15 @@
 //! The tables and indexes that an older version lacks.
 
-ghost use Rattle.std.specs.Prelude.{◌≡◌, ◌≤◌, ℕ, [], IsTrue, OnOk, IfErr};
+ghost use Rattle.std.specs.Prelude.{◌≡◌, ℕ, [], IsTrue, OnOk, IfErr};
 ghost use Rattle.sqlite.specs.Held.{state};
 ghost use Rattle.sqlite.specs.State.{HasCleanDisk, KeepsCommit};
 ghost use Rattle.sqlite_trees.specs.Tree.{Trees};
-ghost use Rattle.sqlite_trees.specs.View.{doubt};
 ghost use Rattle.sqlite_schema.specs.declared.schema.Schema.{Schema};
 ghost use Rattle.sqlite_schema.specs.declared.schema.Table.{Table};
 ghost use Rattle.sqlite_schema.specs.declared.schema.Index.{Index};
 ghost use Rattle.sqlite_catalog.specs.Change.{next_tree, created, indexed};
 ghost use Rattle.reg_tables.specs.Schema.{record_tables, register_schema};
-ghost use Rattle.reg_tables.specs.Stays.{IsCallFault, Moves};
+ghost use Rattle.reg_tables.specs.Stays.{IsCallFault, LeavesNothing, Moves};
 ghost use Rattle.reg_migration.specs.Makes.{DefinesTable, DefinesIndex};
 ghost use Rattle.reg_migration.specs.Older.{kept_tables, older_schema, HasBeside};
 ghost use Rattle.reg_migration.specs.Rows.{HasRows, HadRows, records_alone};
@@ -32,7 +31,7 @@ pub fn define<S: Alter>(tx: &mut Transaction<'_, S>, sql: &str) -> Result<(), St
     ensures index { HasCleanDisk (state S.Store tx.new.conn.now) → (schema : Schema) → (at : ℕ) → (table : Table) → (index : Index) → (rows : Trees) → DefinesIndex schema sql.now at table index → HadRows (state S.Store tx.old.conn.now) schema rows
         → OnOk result (Moves (state S.Store tx.old.conn.now) (state S.Store tx.new.conn.now) (HasRows (indexed schema table index) rows)) }
     ensures kept { HasCleanDisk (state S.Store tx.new.conn.now) → KeepsCommit (state S.Store tx.old.conn.now) (state S.Store tx.new.conn.now) }
-    ensures clean { doubt (state S.Store tx.old.conn.now).is_clean ≤ doubt (state S.Store tx.new.conn.now).is_clean }
+    ensures survives { LeavesNothing (state S.Store tx.old.conn.now) (state S.Store tx.new.conn.now) }
     ensures faults { IfErr result IsCallFault }
 {
     write(tx, sql, &[])?;
@@ -48,7 +47,7 @@ pub fn make_kept_tables<S: Alter>(tx: &mut Transaction<'_, S>) -> Result<(), Sto
     ensures ok { HasCleanDisk (state S.Store tx.new.conn.now) → (rows : Trees) → HadRows (state S.Store tx.old.conn.now) record_tables rows
         → OnOk result (Moves (state S.Store tx.old.conn.now) (state S.Store tx.new.conn.now) (HasRows kept_tables (records_alone rows))) }
     ensures kept { HasCleanDisk (state S.Store tx.new.conn.now) → KeepsCommit (state S.Store tx.old.conn.now) (state S.Store tx.new.conn.now) }
-    ensures clean { doubt (state S.Store tx.old.conn.now).is_clean ≤ doubt (state S.Store tx.new.conn.now).is_clean }
+    ensures survives { LeavesNothing (state S.Store tx.old.conn.now) (state S.Store tx.new.conn.now) }
     ensures faults { IfErr result IsCallFault }
 {
     define(tx, schema::STANDING)?;
@@ -62,7 +61,7 @@ fn clear_kept_tables<S: Alter>(tx: &mut Transaction<'_, S>) -> Result<(), StoreF
     ensures ok { HasCleanDisk (state S.Store tx.new.conn.now) → (rows : Trees) → (IsTrue (state S.Store tx.old.conn.now).is_open → HasBeside Earlier.Second rows) → HadRows (state S.Store tx.old.conn.now) kept_tables rows
         → OnOk result (Moves (state S.Store tx.old.conn.now) (state S.Store tx.new.conn.now) (HasRows kept_tables (records_alone rows))) }
     ensures kept { HasCleanDisk (state S.Store tx.new.conn.now) → KeepsCommit (state S.Store tx.old.conn.now) (state S.Store tx.new.conn.now) }
-    ensures clean { doubt (state S.Store tx.old.conn.now).is_clean ≤ doubt (state S.Store tx.new.conn.now).is_clean }
+    ensures survives { LeavesNothing (state S.Store tx.old.conn.now) (state S.Store tx.new.conn.now) }
     ensures faults { IfErr result IsCallFault }
 {
     write(tx, texts::CLEAR_LISTED, &[])?;
@@ -77,7 +76,7 @@ fn make_beside<S: Alter>(tx: &mut Transaction<'_, S>, version: Earlier) -> Resul
     ensures ok { HasCleanDisk (state S.Store tx.new.conn.now) → (rows : Trees) → (IsTrue (state S.Store tx.old.conn.now).is_open → HasBeside version rows) → HadRows (state S.Store tx.old.conn.now) (older_schema version) rows
         → OnOk result (Moves (state S.Store tx.old.conn.now) (state S.Store tx.new.conn.now) (HasRows kept_tables (records_alone rows))) }
     ensures kept { HasCleanDisk (state S.Store tx.new.conn.now) → KeepsCommit (state S.Store tx.old.conn.now) (state S.Store tx.new.conn.now) }
-    ensures clean { doubt (state S.Store tx.old.conn.now).is_clean ≤ doubt (state S.Store tx.new.conn.now).is_clean }
+    ensures survives { LeavesNothing (state S.Store tx.old.conn.now) (state S.Store tx.new.conn.now) }
     ensures faults { IfErr result IsCallFault }
 {
     match version {
@@ -95,7 +94,7 @@ pub fn make_schedule_and_indexes<S: Alter>(tx: &mut Transaction<'_, S>) -> Resul
     ensures ok { HasCleanDisk (state S.Store tx.new.conn.now) → (rows : Trees) → HadRows (state S.Store tx.old.conn.now) kept_tables (records_alone rows)
         → OnOk result (Moves (state S.Store tx.old.conn.now) (state S.Store tx.new.conn.now) (HasRows register_schema (records_alone rows))) }
     ensures kept { HasCleanDisk (state S.Store tx.new.conn.now) → KeepsCommit (state S.Store tx.old.conn.now) (state S.Store tx.new.conn.now) }
-    ensures clean { doubt (state S.Store tx.old.conn.now).is_clean ≤ doubt (state S.Store tx.new.conn.now).is_clean }
+    ensures survives { LeavesNothing (state S.Store tx.old.conn.now) (state S.Store tx.new.conn.now) }
     ensures faults { IfErr result IsCallFault }
 {
     define(tx, schema::LONGEST)?;
@@ -112,7 +111,7 @@ pub(crate) fn make_missing<S: Alter>(
     ensures ok { HasCleanDisk (state S.Store tx.new.conn.now) → (rows : Trees) → (IsTrue (state S.Store tx.old.conn.now).is_open → HasBeside version rows) → HadRows (state S.Store tx.old.conn.now) (older_schema version) rows
         → OnOk result (Moves (state S.Store tx.old.conn.now) (state S.Store tx.new.conn.now) (HasRows register_schema (records_alone rows))) }
     ensures kept { HasCleanDisk (state S.Store tx.new.conn.now) → KeepsCommit (state S.Store tx.old.conn.now) (state S.Store tx.new.conn.now) }
-    ensures clean { doubt (state S.Store tx.old.conn.now).is_clean ≤ doubt (state S.Store tx.new.conn.now).is_clean }
+    ensures survives { LeavesNothing (state S.Store tx.old.conn.now) (state S.Store tx.new.conn.now) }
     ensures faults { IfErr result IsCallFault }
 {
     make_beside(tx, version)?;

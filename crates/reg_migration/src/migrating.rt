@@ -1,14 +1,14 @@
 //! A register of an older version, made one of the program's version.
 
-ghost use Rattle.std.specs.Prelude.{◌≡◌, ◌≤◌, true, false, IsTrue, OnOk, OnErr, IfErr};
+ghost use Rattle.std.specs.Prelude.{◌≡◌, true, false, IsTrue, OnOk, OnErr, IfErr};
 ghost use Rattle.sqlite.specs.Held.{state};
-ghost use Rattle.sqlite.specs.State.{HasCleanDisk, KeepsCommit};
-ghost use Rattle.sqlite_trees.specs.View.{doubt};
+ghost use Rattle.sqlite.specs.State.{HasCleanDisk, KeepsCommit, Survives};
 ghost use Rattle.reg_core.specs.Records.{Records};
 ghost use Rattle.reg_core.specs.Schedule.{one_step};
 ghost use Rattle.reg_core.specs.Sound.{SoundRows};
 ghost use Rattle.reg_tables.specs.Kept.{ShowsKept};
-ghost use Rattle.reg_tables.specs.Stays.{IsCallFault, Stays};
+ghost use Rattle.reg_tables.specs.Stays.{IsCallFault, LeavesNothing, Stays};
+ghost use Rattle.reg_migration.specs.AtRest.{IsMigrated};
 ghost use Rattle.reg_migration.specs.Older.{IsShownByOlder, ShowsOlder};
 ghost use Rattle.reg_migration.specs.Refilled.{HasKept};
 
@@ -29,10 +29,10 @@ fn make_newer<S: Alter>(
     ensures same_reference { tx.new.conn.ghost_name ≡ tx.old.conn.ghost_name }
     ensures ok { HasCleanDisk (state S.Store tx.new.conn.now) → (records : Records) → SoundRows records → records.policy.schedule ≡ one_step days → records.last ≡ last
         → (IsTrue (state S.Store tx.old.conn.now).is_open → IsShownByOlder version (state S.Store tx.old.conn.now).now records)
-        → OnOk result (IsTrue (state S.Store tx.new.conn.now).is_open → HasKept (state S.Store tx.new.conn.now).now records) }
+        → OnOk result (IsTrue (state S.Store tx.new.conn.now).is_open × HasKept (state S.Store tx.new.conn.now).now records) }
     ensures kept { HasCleanDisk (state S.Store tx.new.conn.now) → KeepsCommit (state S.Store tx.old.conn.now) (state S.Store tx.new.conn.now) }
     ensures inside { HasCleanDisk (state S.Store tx.new.conn.now) → OnOk result (tx.new.conn.now.in_transaction ≡ true) }
-    ensures clean { doubt (state S.Store tx.old.conn.now).is_clean ≤ doubt (state S.Store tx.new.conn.now).is_clean }
+    ensures survives { LeavesNothing (state S.Store tx.old.conn.now) (state S.Store tx.new.conn.now) }
     ensures faults { IfErr result IsCallFault }
 {
     begin(tx, version, days)?;
@@ -56,7 +56,7 @@ pub fn migrate<S: Alter>(
     ensures ok { (records : Records) → ShowsOlder version S.Store conn.old records → SoundRows records → records.policy.schedule ≡ one_step days → records.last ≡ last
         → OnOk result (ShowsKept S.Store conn.new records) }
     ensures err { OnErr result (Stays (state S.Store conn.old) (state S.Store conn.new)) }
-    ensures clean { doubt (state S.Store conn.old).is_clean ≤ doubt (state S.Store conn.new).is_clean }
+    ensures survives { Survives (state S.Store conn.old) (state S.Store conn.new) (IsMigrated S.Store conn.old version days last) }
     ensures idle { conn.new.in_transaction ≡ false }
     ensures faults { IfErr result IsCallFault }
 {

@@ -1,14 +1,13 @@
 //! What is kept beside the records, made anew from them.
 
-ghost use Rattle.std.specs.Prelude.{◌≡◌, ◌≤◌, List, [], map, true, IsPermutation, IsTrue, OnOk, IfErr};
+ghost use Rattle.std.specs.Prelude.{◌≡◌, List, [], map, true, IsPermutation, IsTrue, OnOk, IfErr};
 ghost use Rattle.sqlite.specs.Held.{state};
 ghost use Rattle.sqlite.specs.State.{HasCleanDisk, KeepsCommit};
-ghost use Rattle.sqlite_trees.specs.View.{doubt};
 ghost use Rattle.reg_core.specs.Records.{Records};
 ghost use Rattle.reg_core.specs.Sound.{SoundRows};
 ghost use Rattle.reg_tables.specs.Columns.{Columns, Standing};
 ghost use Rattle.reg_tables.specs.Kept.{standing_of};
-ghost use Rattle.reg_tables.specs.Stays.{IsCallFault};
+ghost use Rattle.reg_tables.specs.Stays.{IsCallFault, LeavesNothing};
 ghost use Rattle.reg_changes.specs.Ran.{Before, Moved};
 ghost use Rattle.reg_migration.specs.Refilled.{no_columns, with_letters, HasKept};
 
@@ -27,7 +26,7 @@ fn fill_letters<S: Alter>(tx: &mut Transaction<'_, S>, last: Moment) -> Result<(
     ensures ok { HasCleanDisk (state S.Store tx.new.conn.now) → (records : Records) → (columns : Columns) → SoundRows records → records.last ≡ last → columns.letters ≡ [] → Before (state S.Store tx.old.conn.now) records columns
         → OnOk result ((letters : List Standing) × IsPermutation (map (standing_of records) records.certificates) letters × Moved (state S.Store tx.old.conn.now) (state S.Store tx.new.conn.now) records (with_letters letters columns)) }
     ensures kept { HasCleanDisk (state S.Store tx.new.conn.now) → KeepsCommit (state S.Store tx.old.conn.now) (state S.Store tx.new.conn.now) }
-    ensures clean { doubt (state S.Store tx.old.conn.now).is_clean ≤ doubt (state S.Store tx.new.conn.now).is_clean }
+    ensures survives { LeavesNothing (state S.Store tx.old.conn.now) (state S.Store tx.new.conn.now) }
     ensures faults { IfErr result IsCallFault }
 {
     write(tx, texts::FILL_LETTERS, &[sql_moment(last)])?;
@@ -38,10 +37,10 @@ fn fill_letters<S: Alter>(tx: &mut Transaction<'_, S>, last: Moment) -> Result<(
 pub(crate) fn refill<S: Alter>(tx: &mut Transaction<'_, S>, last: Moment) -> Result<(), StoreFault>
     ensures same_reference { tx.new.conn.ghost_name ≡ tx.old.conn.ghost_name }
     ensures ok { HasCleanDisk (state S.Store tx.new.conn.now) → (records : Records) → SoundRows records → records.last ≡ last → Before (state S.Store tx.old.conn.now) records no_columns
-        → OnOk result (IsTrue (state S.Store tx.new.conn.now).is_open → HasKept (state S.Store tx.new.conn.now).now records) }
+        → OnOk result (IsTrue (state S.Store tx.new.conn.now).is_open × HasKept (state S.Store tx.new.conn.now).now records) }
     ensures kept { HasCleanDisk (state S.Store tx.new.conn.now) → KeepsCommit (state S.Store tx.old.conn.now) (state S.Store tx.new.conn.now) }
     ensures inside { HasCleanDisk (state S.Store tx.new.conn.now) → OnOk result (tx.new.conn.now.in_transaction ≡ true) }
-    ensures clean { doubt (state S.Store tx.old.conn.now).is_clean ≤ doubt (state S.Store tx.new.conn.now).is_clean }
+    ensures survives { LeavesNothing (state S.Store tx.old.conn.now) (state S.Store tx.new.conn.now) }
     ensures faults { IfErr result IsCallFault }
 {
     fill_letters(tx, last)?;

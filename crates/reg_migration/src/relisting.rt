@@ -1,16 +1,15 @@
 //! What CRLs list of each revocation, made anew.
 
-ghost use Rattle.std.specs.Prelude.{◌≡◌, ◌≤◌, ◌&&◌, nat_le, nat_lt, length, map, IsTrue, IsSomeAnd, OnOk, IfOk, IfErr};
+ghost use Rattle.std.specs.Prelude.{◌≡◌, ◌&&◌, nat_le, nat_lt, length, map, IsTrue, IsSomeAnd, OnOk, IfOk, IfErr};
 ghost use Rattle.sqlite_value.specs.Value.{owned};
 ghost use Rattle.sqlite.specs.Values.{bound_value};
 ghost use Rattle.sqlite.specs.Held.{state};
 ghost use Rattle.sqlite.specs.State.{HasCleanDisk, KeepsCommit};
-ghost use Rattle.sqlite_trees.specs.View.{doubt};
 ghost use Rattle.reg_core.specs.Crls.{row_of};
 ghost use Rattle.reg_core.specs.Records.{Records, certificate_in};
 ghost use Rattle.reg_core.specs.Sound.{NumberedFrom, NeverFalls, SoundRows};
 ghost use Rattle.reg_tables.specs.Columns.{Columns, number_or_null};
-ghost use Rattle.reg_tables.specs.Stays.{IsCallFault};
+ghost use Rattle.reg_tables.specs.Stays.{IsCallFault, LeavesNothing};
 ghost use Rattle.reg_changes.specs.Ran.{Before, Moved};
 ghost use Rattle.reg_migration.specs.Refilled.{last_in, listed_by, with_listed, HasRelisted};
 
@@ -64,7 +63,7 @@ fn put_listing<S: Alter>(
         → Before (state S.Store tx.old.conn.now) records columns
         → OnOk result (Moved (state S.Store tx.old.conn.now) (state S.Store tx.new.conn.now) records (with_listed (listed_by crls.now row not_after) columns)) }
     ensures kept { HasCleanDisk (state S.Store tx.new.conn.now) → KeepsCommit (state S.Store tx.old.conn.now) (state S.Store tx.new.conn.now) }
-    ensures clean { doubt (state S.Store tx.old.conn.now).is_clean ≤ doubt (state S.Store tx.new.conn.now).is_clean }
+    ensures survives { LeavesNothing (state S.Store tx.old.conn.now) (state S.Store tx.new.conn.now) }
     ensures faults { IfErr result IsCallFault }
 {
     let last = sql_number_or_null(last_listing(crls, row.first, not_after))?;
@@ -92,7 +91,7 @@ fn relist_one<S: Alter>(
         → Before (state S.Store tx.old.conn.now) records columns
         → OnOk result (IsSomeAnd (certificate_in records.certificates revocation.serial) (λ certificate. Moved (state S.Store tx.old.conn.now) (state S.Store tx.new.conn.now) records (with_listed (listed_by crls.now revocation certificate.not_after) columns))) }
     ensures kept { HasCleanDisk (state S.Store tx.new.conn.now) → KeepsCommit (state S.Store tx.old.conn.now) (state S.Store tx.new.conn.now) }
-    ensures clean { doubt (state S.Store tx.old.conn.now).is_clean ≤ doubt (state S.Store tx.new.conn.now).is_clean }
+    ensures survives { LeavesNothing (state S.Store tx.old.conn.now) (state S.Store tx.new.conn.now) }
     ensures faults { IfErr result IsCallFault }
 {
     let not_after = end_of(tx, revocation.serial)?;
@@ -110,7 +109,7 @@ fn relist_each<S: Alter>(
         → (IsTrue (state S.Store tx.old.conn.now).is_open → HasRelisted (state S.Store tx.old.conn.now).now records 0)
         → OnOk result (IsTrue (state S.Store tx.new.conn.now).is_open → HasRelisted (state S.Store tx.new.conn.now).now records (length records.revocations)) }
     ensures kept { HasCleanDisk (state S.Store tx.new.conn.now) → KeepsCommit (state S.Store tx.old.conn.now) (state S.Store tx.new.conn.now) }
-    ensures clean { doubt (state S.Store tx.old.conn.now).is_clean ≤ doubt (state S.Store tx.new.conn.now).is_clean }
+    ensures survives { LeavesNothing (state S.Store tx.old.conn.now) (state S.Store tx.new.conn.now) }
     ensures faults { IfErr result IsCallFault }
 {
     for revocation in revocations {
@@ -125,7 +124,7 @@ pub(crate) fn relist<S: Alter>(tx: &mut Transaction<'_, S>) -> Result<(), StoreF
     ensures ok { HasCleanDisk (state S.Store tx.new.conn.now) → (records : Records) → SoundRows records → (IsTrue (state S.Store tx.old.conn.now).is_open → HasRelisted (state S.Store tx.old.conn.now).now records 0)
         → OnOk result (IsTrue (state S.Store tx.new.conn.now).is_open → HasRelisted (state S.Store tx.new.conn.now).now records (length records.revocations)) }
     ensures kept { HasCleanDisk (state S.Store tx.new.conn.now) → KeepsCommit (state S.Store tx.old.conn.now) (state S.Store tx.new.conn.now) }
-    ensures clean { doubt (state S.Store tx.old.conn.now).is_clean ≤ doubt (state S.Store tx.new.conn.now).is_clean }
+    ensures survives { LeavesNothing (state S.Store tx.old.conn.now) (state S.Store tx.new.conn.now) }
     ensures faults { IfErr result IsCallFault }
 {
     let crls = crls(tx)?;

@@ -1,10 +1,7 @@
 -- What a stop may find after a command.
-use Rattle.std.proofs.Common.{◌≡◌, ◌≤◌, ◌+◌, ℕ, List, length, Ok, IsTrue, refl, sym, ap, subst, ◌∙◌, arith}
+use Rattle.std.proofs.Common.{◌≡◌, ◌≤◌, ◌+◌, ℕ, List, length, Ok, refl, subst, arith}
 use Rattle.sqlite_trees.specs.Tree.{Trees}
 use Rattle.sqlite_trees.specs.View.{doubt}
-use Rattle.sqlite_trees.specs.declared.store.Store.{Ghosts}
-use Rattle.sqlite.specs.Effect.{Database}
-use Rattle.sqlite.specs.Held.{Held, state}
 use Rattle.sqlite.specs.State.{State, HasCleanDisk}
 use Rattle.reg_core.specs.Crls.{CertList, cert_list, content, entries}
 use Rattle.reg_core.specs.Changes.{with_crl}
@@ -17,12 +14,9 @@ use Rattle.reg_core.specs.declared.command.Reply.{Reply}
 use Rattle.reg_core.specs.declared.command.Reply.TheVariants.{Crl as CrlIssued}
 use Rattle.reg_core.specs.declared.rows.CrlRow.{CrlRow}
 use Rattle.reg_core.specs.declared.rows.Entry.{Entry}
-use Rattle.reg_laws.specs.Run.{Happens}
 use Rattle.reg_laws.proofs.Decided.{Accepts, AcceptsCrl}
 use Rattle.reg_crl.specs.Signing.{Identity, signed_by}
-use Rattle.reg_tables.specs.Kept.{ShowsKept}
 use Rattle.reg_changes.specs.AtRest.{IsAtRest}
-use Rattle.reg_changes.proofs.Resting.{resting}
 use Rattle.reg_laws.proofs.Runs.{step_keeps_sound}
 use Rattle.reg_office.specs.AtRest.{IsStepped, IsDone}
 use Rattle.reg_office.specs.Happened.{unsigned}
@@ -82,15 +76,5 @@ done_unsigned signs identity records now command trees none sound step =
       rests = step.rests;
     })
 
--- ---- what was shown, at rest
-
 pub clean_first : (old new : State) → doubt old.is_clean ≤ doubt new.is_clean → HasCleanDisk new → HasCleanDisk old
 clean_first old new forgets clean = omega arith
-
--- what is committed of shown records are rows of them
-pub at_rest : {C : Type 0} (g : Ghosts C) (held : Held C) (records : Records) (trees : Trees) → HasCleanDisk (state g held) → IsTrue (state g held).is_open → ShowsKept g held records → trees ≡ (state g held).committed.trees
-    → IsAtRest records trees
-at_rest g held records trees clean up kept is =
-    let db = (state g held).now in
-    let same : trees ≡ db.trees = is ∙ ap (λ (d : Database). d.trees) (sym (kept.1.saved clean up)) in
-    (kept.0, resting db trees records kept.0 same (kept.1.tables clean up), kept.2)

@@ -13,7 +13,7 @@ use Rattle.reg_crl.specs.Signing.{Identity}
 use Rattle.reg_office.specs.AtRest.{HaveNoReply, IsNextDone, IsPartlyRun, IsRunOne, AreRunByOne}
 use Rattle.reg_office.specs.Stands.{Stands, Ran}
 use Rattle.reg_office.proofs.Composing.{was_clean}
-use Rattle.reg_office.proofs.Resting.{at_rest}
+use Rattle.reg_store.proofs.Resting.{at_rest}
 use Rattle.reg_office.proofs.Standing.{ran_more, ran_none}
 
 -- between calls a stop finds what was committed

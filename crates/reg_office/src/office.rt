@@ -11,6 +11,7 @@ ghost use Rattle.reg_core.specs.declared.command.Command.TheVariants.{Crl as Iss
 ghost use Rattle.reg_core.specs.declared.refusal.Fault.TheVariants.{Refused, Signer as SignerFailed};
 ghost use Rattle.reg_core.specs.declared.refusal.Refusal.TheVariants.{ClockEnd};
 ghost use Rattle.reg_tables.specs.Stays.{IsCallFault, IsRegister, Stays};
+ghost use Rattle.reg_changes.specs.AtRest.{IsScheduled};
 ghost use Rattle.reg_ocsp.specs.Response.{refusal_response};
 ghost use Rattle.reg_ocsp.specs.declared.response.RefusalStatus.TheVariants.{Malformed, Internal};
 ghost use Rattle.reg_responder.specs.Ocsp.{HasNoReading, IsOcspReply};
@@ -176,7 +177,7 @@ impl<C: Alter, S: Signer> Office<C, S> {
         ensures ok { (records : Records) → Stands C.Store S.signs self.old.store (S.identity self.old.signer) records
             → OnOk result (Stands C.Store S.signs self.new.store (S.identity self.new.signer) (with_schedule records schedule)) }
         ensures err { OnErr result (Stays (state C.Store self.old.store) (state C.Store self.new.store)) }
-        ensures clean { doubt (state C.Store self.old.store).is_clean ≤ doubt (state C.Store self.new.store).is_clean }
+        ensures survives { Survives (state C.Store self.old.store) (state C.Store self.new.store) (IsScheduled C.Store self.old.store schedule) }
         ensures same_signer { self.new.signer ≡ self.old.signer }
         ensures faults { IfErr result IsCallFault }
     {

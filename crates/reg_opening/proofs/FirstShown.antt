@@ -1,7 +1,9 @@
 -- A register that is created shows no records.
 use Rattle.std.proofs.Common.{◌≡◌, ◌≤◌, true, false, Result, Ok, Err, OnOk, IsTrue, sym, subst, ◌∙◌, arith}
+use Rattle.sqlite_trees.specs.Tree.{Trees}
 use Rattle.sqlite_trees.specs.View.{doubt}
 use Rattle.sqlite_trees.specs.declared.store.Store.{Ghosts}
+use Rattle.sqlite.specs.Effect.{Database}
 use Rattle.sqlite.specs.Held.{Held, state}
 use Rattle.sqlite.specs.State.{HasCleanDisk, Shows as IsSeen}
 use Rattle.reg_core.specs.Issuer.{Issuer}
@@ -10,6 +12,8 @@ use Rattle.reg_core.specs.Records.{no_records}
 use Rattle.reg_tables.specs.Schema.{no_schema}
 use Rattle.reg_tables.specs.Kept.{ShowsKept}
 use Rattle.reg_tables.specs.Shows.{AreBoth}
+use Rattle.reg_changes.specs.AtRest.{IsAtRest}
+use Rattle.reg_changes.proofs.Resting.{resting}
 use Rattle.reg_opening.specs.Blank.{BlankBefore}
 use Rattle.reg_migration.specs.Refilled.{no_columns}
 use Rattle.reg_opening.proofs.FirstRows.{none_kept}
@@ -38,3 +42,7 @@ created_shows g issuer policy entered ended forgets enters commit = (
   },
   none_kept issuer policy,
 )
+
+-- what its tables show their rows show
+pub created_rests : (issuer : Issuer) (policy : Terms) (db : Database) (trees : Trees) → trees ≡ db.trees → AreBoth db (no_records issuer policy) no_columns → IsAtRest (no_records issuer policy) trees
+created_rests issuer policy db trees is both = (no_columns, resting db trees (no_records issuer policy) no_columns is both, none_kept issuer policy)

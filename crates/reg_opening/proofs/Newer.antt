@@ -1,5 +1,6 @@
 -- Tables of an older version, opened.
-use Rattle.std.proofs.Common.{◌≡◌, ◌≤◌, None, Some, Result, Ok, Err, OnOk, OnErr, sym}
+use Rattle.std.proofs.Common.{◌≡◌, ◌≤◌, None, Some, Result, Ok, Err, OnOk, OnErr, sym, subst}
+use Rattle.sqlite_trees.specs.Tree.{Trees}
 use Rattle.sqlite_trees.specs.View.{doubt}
 use Rattle.sqlite_trees.specs.declared.store.Store.{Ghosts}
 use Rattle.sqlite.specs.Held.{Held, state}
@@ -10,7 +11,9 @@ use Rattle.reg_core.specs.Sound.{SoundRows}
 use Rattle.reg_tables.specs.Kept.{ShowsKept}
 use Rattle.reg_tables.specs.Stays.{Stays}
 use Rattle.reg_tables.proofs.Staying.{stays_holds}
+use Rattle.reg_changes.specs.AtRest.{IsAtRest}
 use Rattle.reg_changes.proofs.Moving.{was_clean}
+use Rattle.reg_migration.specs.AtRest.{IsMigrated}
 use Rattle.reg_migration.specs.Older.{IsShownByOlder, ShowsOlder}
 use Rattle.reg_migration.specs.declared.version.Earlier.{Earlier}
 use Rattle.reg_migration.proofs.Steps.{ok_by}
@@ -38,6 +41,16 @@ newer_kept g old mid new version records older r first second stays shows sound 
     let was : HasCleanDisk (state g mid) = was_clean (state g mid) (state g new) second clean in
     let is = told was in
     given (ShowsKept g new records) (migrates version records (stays_holds g old mid (λ db. IsShownByOlder version db records) first stays shows) sound (sym is.0) is.1 is.2)))
+
+-- and so a stop finds the same records, or the older tables
+pub newer_rests
+    : {S : Type 0} (g : Ghosts S) (old mid : Held S) (version : Earlier) (records : Records) (older : Older) (trees : Trees)
+    → doubt (state g old).is_clean ≤ doubt (state g mid).is_clean → Stays (state g old) (state g mid)
+    → ShowsOlder version g old records → SoundRows records → IsOlderOf version records (Some older)
+    → IsMigrated g mid older.version older.days older.last trees → IsAtRest records trees
+newer_rests g old mid version records older trees forgets stays shows sound is migrated =
+    let there = stays_holds g old mid (λ db. IsShownByOlder version db records) forgets stays shows in
+    migrated records (subst (λ v. ShowsOlder v g mid records) (sym is.0) there) sound is.1 is.2
 
 pub same_some : {A : Type 0} (x y : A) → Some x ≡ Some y → x ≡ y
 same_some x y e = cc

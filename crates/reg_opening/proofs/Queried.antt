@@ -1,5 +1,5 @@
 -- What a query answers, and why it fails.
-use Rattle.std.proofs.Common.{◌≡◌, ◌≤◌, ◌⊎◌, inl, inr, ℕ, false, List, [], length, Option, None, Result, Ok, Err, IsTrue, refl, sym, ap, subst, ◌∙◌}
+use Rattle.std.proofs.Common.{◌≡◌, ◌≤◌, ◌⊎◌, inl, inr, ℕ, false, List, [], length, Option, None, Ok, IsTrue, refl, sym, ap, subst, ◌∙◌}
 use Rattle.std.proofs.lemmas.Bool.{cases_Bool}
 use Rattle.sqlite_value.specs.Order.{Row}
 use Rattle.sqlite_ast.specs.declared.Select as written_select
@@ -11,8 +11,6 @@ use Rattle.sqlite_schema.specs.declared.command.Command.{Command}
 use Rattle.sqlite_schema.specs.declared.command.Command.TheVariants as command
 use Rattle.sqlite_schema.specs.declared.schema.Schema.{Schema}
 use Rattle.sqlite_resolve.specs.declared.compiled.Compiled.{Compiled}
-use Rattle.sqlite_resolve.specs.declared.error.CompileError.{CompileError}
-use Rattle.sqlite_resolve.specs.Lowering.{Checked, and_then}
 use Rattle.sqlite_resolve.specs.Compile as compile
 use Rattle.sqlite.specs.Clock.{timed}
 use Rattle.sqlite.specs.declared.error.Error.{Error}
@@ -20,7 +18,7 @@ use Rattle.sqlite.specs.declared.error.Error.TheVariants.{SqliteFailure}
 use Rattle.sqlite.specs.declared.error.ErrorCode.TheVariants as code
 use Rattle.sqlite.specs.Effect.{Database, Reads, RefusesToRead}
 use Rattle.sqlite.specs.Given.{IsPlain}
-use Rattle.sqlite.specs.Listing.{understood, reads_listing, listing_schema, if_select, is_select, IsSourceOf}
+use Rattle.sqlite.specs.Listing.{understood, reads_listing, listing_schema, IsSourceOf}
 use Rattle.sqlite.specs.State.{State, HasCause, store_error, Fails, IsUnchanged, IsRolledBack, KeepsCommit, IsStatement, IsNoStatement, IsNotRun, FailsToQuery, FailsToShow, ShowsRows, Shown, IsTooLate}
 use Rattle.reg_tables.specs.Reading.{command_of}
 use Rattle.reg_tables.specs.Stays.{IsCallFault}

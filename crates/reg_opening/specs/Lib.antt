@@ -2,3 +2,4 @@ pub mod Blank
 pub mod Filled
 pub mod Said
 pub mod Examined
+pub mod AtRest

@@ -1,14 +1,14 @@
 //! A register's tables, made new.
 
-ghost use Rattle.std.specs.Prelude.{◌≡◌, ◌≢◌, ◌≤◌, ◌⊎◌, ◌↔◌, true, false, IsTrue, OnOk, OnErr, IfErr};
+ghost use Rattle.std.specs.Prelude.{◌≡◌, ◌≢◌, ◌⊎◌, ◌↔◌, true, false, IsTrue, OnOk, OnErr, IfErr};
 ghost use Rattle.sqlite.specs.Held.{state};
-ghost use Rattle.sqlite.specs.State.{HasCleanDisk, KeepsCommit};
-ghost use Rattle.sqlite_trees.specs.View.{doubt};
+ghost use Rattle.sqlite.specs.State.{HasCleanDisk, KeepsCommit, Survives};
 ghost use Rattle.reg_core.specs.Records.{no_records};
 ghost use Rattle.reg_tables.specs.Kept.{ShowsKept};
 ghost use Rattle.reg_tables.specs.Schema.{no_schema};
 ghost use Rattle.reg_tables.specs.Shows.{AreBoth};
-ghost use Rattle.reg_tables.specs.Stays.{IsCallFault, Stays};
+ghost use Rattle.reg_tables.specs.Stays.{IsCallFault, LeavesNothing, Stays};
+ghost use Rattle.reg_opening.specs.AtRest.{IsCreated};
 ghost use Rattle.reg_opening.specs.Blank.{BlankBefore};
 ghost use Rattle.reg_migration.specs.Refilled.{no_columns};
 
@@ -35,10 +35,10 @@ fn make_register<S: Alter>(
 ) -> Result<(), StoreFault>
     ensures same_reference { tx.new.conn.ghost_name ≡ tx.old.conn.ghost_name }
     ensures ok { HasCleanDisk (state S.Store tx.new.conn.now) → BlankBefore (state S.Store tx.old.conn.now) no_schema
-        → OnOk result (IsTrue (state S.Store tx.new.conn.now).is_open → AreBoth (state S.Store tx.new.conn.now).now (no_records issuer.now policy.now) no_columns) }
+        → OnOk result (IsTrue (state S.Store tx.new.conn.now).is_open × AreBoth (state S.Store tx.new.conn.now).now (no_records issuer.now policy.now) no_columns) }
     ensures kept { HasCleanDisk (state S.Store tx.new.conn.now) → KeepsCommit (state S.Store tx.old.conn.now) (state S.Store tx.new.conn.now) }
     ensures inside { HasCleanDisk (state S.Store tx.new.conn.now) → OnOk result (tx.new.conn.now.in_transaction ≡ true) }
-    ensures clean { doubt (state S.Store tx.old.conn.now).is_clean ≤ doubt (state S.Store tx.new.conn.now).is_clean }
+    ensures survives { LeavesNothing (state S.Store tx.old.conn.now) (state S.Store tx.new.conn.now) }
     ensures faults { IfErr result IsCallFault }
 {
     make(tx)?;
@@ -60,7 +60,7 @@ pub fn create<S: Alter>(
     ensures empty { OnOk result (conn.old.schema ≡ no_schema) }
     ensures not_empty { IfErr result (λ fault. fault ≡ StoreFault.NotEmpty ↔ conn.old.schema ≢ no_schema) }
     ensures err { OnErr result (Stays (state S.Store conn.old) (state S.Store conn.new)) }
-    ensures clean { doubt (state S.Store conn.old).is_clean ≤ doubt (state S.Store conn.new).is_clean }
+    ensures survives { Survives (state S.Store conn.old) (state S.Store conn.new) (IsCreated conn.old issuer.now policy.now) }
     ensures idle { conn.new.in_transaction ≡ false }
     ensures faults { IfErr result (λ fault. (fault ≡ StoreFault.NotEmpty) ⊎ IsCallFault fault) }
 {

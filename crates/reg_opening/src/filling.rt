@@ -1,15 +1,14 @@
 //! The first rows of a register's tables.
 
-ghost use Rattle.std.specs.Prelude.{◌≡◌, ◌≤◌, true, IsTrue, OnOk, IfErr};
+ghost use Rattle.std.specs.Prelude.{◌≡◌, true, IsTrue, OnOk, IfErr};
 ghost use Rattle.sqlite.specs.Held.{state};
 ghost use Rattle.sqlite.specs.State.{HasCleanDisk, KeepsCommit};
-ghost use Rattle.sqlite_trees.specs.View.{doubt};
 ghost use Rattle.reg_core.specs.Issuer as core;
 ghost use Rattle.reg_core.specs.Policy.{Terms};
 ghost use Rattle.reg_core.specs.Records.{no_records};
 ghost use Rattle.reg_tables.specs.Schema.{register_schema};
 ghost use Rattle.reg_tables.specs.Shows.{AreBoth};
-ghost use Rattle.reg_tables.specs.Stays.{IsCallFault, Moves};
+ghost use Rattle.reg_tables.specs.Stays.{IsCallFault, LeavesNothing, Moves};
 ghost use Rattle.reg_opening.specs.Blank.{BlankBefore};
 ghost use Rattle.reg_migration.specs.Refilled.{no_columns};
 ghost use Rattle.reg_opening.specs.Filled.{HasOffice, HasCounts};
@@ -34,7 +33,7 @@ fn put_office<S: Alter>(
     ensures ok { HasCleanDisk (state S.Store tx.new.conn.now) → BlankBefore (state S.Store tx.old.conn.now) register_schema
         → OnOk result (Moves (state S.Store tx.old.conn.now) (state S.Store tx.new.conn.now) (HasOffice issuer.now policy.now)) }
     ensures kept { HasCleanDisk (state S.Store tx.new.conn.now) → KeepsCommit (state S.Store tx.old.conn.now) (state S.Store tx.new.conn.now) }
-    ensures clean { doubt (state S.Store tx.old.conn.now).is_clean ≤ doubt (state S.Store tx.new.conn.now).is_clean }
+    ensures survives { LeavesNothing (state S.Store tx.old.conn.now) (state S.Store tx.new.conn.now) }
     ensures faults { IfErr result IsCallFault }
 {
     let days = sql_number(policy.schedule().greatest())?;
@@ -58,7 +57,7 @@ fn put_counts<S: Alter>(tx: &mut Transaction<'_, S>) -> Result<(), StoreFault>
         → OnOk result (Moves (state S.Store tx.old.conn.now) (state S.Store tx.new.conn.now) (HasCounts issuer policy)) }
     ensures kept { HasCleanDisk (state S.Store tx.new.conn.now) → KeepsCommit (state S.Store tx.old.conn.now) (state S.Store tx.new.conn.now) }
     ensures inside { HasCleanDisk (state S.Store tx.new.conn.now) → OnOk result (tx.new.conn.now.in_transaction ≡ true) }
-    ensures clean { doubt (state S.Store tx.old.conn.now).is_clean ≤ doubt (state S.Store tx.new.conn.now).is_clean }
+    ensures survives { LeavesNothing (state S.Store tx.old.conn.now) (state S.Store tx.new.conn.now) }
     ensures faults { IfErr result IsCallFault }
 {
     write(tx, PUT_COUNTS, &[])?;
@@ -73,10 +72,10 @@ pub(crate) fn fill<S: Alter>(
 ) -> Result<(), StoreFault>
     ensures same_reference { tx.new.conn.ghost_name ≡ tx.old.conn.ghost_name }
     ensures ok { HasCleanDisk (state S.Store tx.new.conn.now) → BlankBefore (state S.Store tx.old.conn.now) register_schema
-        → OnOk result (IsTrue (state S.Store tx.new.conn.now).is_open → AreBoth (state S.Store tx.new.conn.now).now (no_records issuer.now policy.now) no_columns) }
+        → OnOk result (IsTrue (state S.Store tx.new.conn.now).is_open × AreBoth (state S.Store tx.new.conn.now).now (no_records issuer.now policy.now) no_columns) }
     ensures kept { HasCleanDisk (state S.Store tx.new.conn.now) → KeepsCommit (state S.Store tx.old.conn.now) (state S.Store tx.new.conn.now) }
     ensures inside { HasCleanDisk (state S.Store tx.new.conn.now) → OnOk result (tx.new.conn.now.in_transaction ≡ true) }
-    ensures clean { doubt (state S.Store tx.old.conn.now).is_clean ≤ doubt (state S.Store tx.new.conn.now).is_clean }
+    ensures survives { LeavesNothing (state S.Store tx.old.conn.now) (state S.Store tx.new.conn.now) }
     ensures faults { IfErr result IsCallFault }
 {
     put_office(tx, issuer, policy)?;

@@ -1,17 +1,17 @@
 //! The tables of an opened database, tested before they are used, and made newer where they are of an older version.
 
-ghost use Rattle.std.specs.Prelude.{◌≡◌, ◌≢◌, ◌≤◌, ◌<◌, ◌⊎◌, ℕ, Option, None, false, IsTrue, MatchResult, OnOk, OnErr, IfOk, IfErr, Err};
+ghost use Rattle.std.specs.Prelude.{◌≡◌, ◌≢◌, ◌<◌, ◌⊎◌, ℕ, Option, None, false, IsTrue, MatchResult, OnOk, OnErr, IfOk, IfErr, Err};
 ghost use Rattle.sqlite.specs.Held.{state};
-ghost use Rattle.sqlite.specs.State.{HasCleanDisk, KeepsCommit, IsUnchanged};
-ghost use Rattle.sqlite_trees.specs.View.{doubt};
+ghost use Rattle.sqlite.specs.State.{HasCleanDisk, KeepsCommit, IsUnchanged, Survives};
 ghost use Rattle.reg_core.specs.Records.{Records};
 ghost use Rattle.reg_core.specs.Schedule.{one_step};
 ghost use Rattle.reg_core.specs.Sound.{SoundRows};
 ghost use Rattle.reg_tables.specs.Kept.{ShowsKept};
 ghost use Rattle.reg_tables.specs.Shows.{IsShownBy, Shows};
-ghost use Rattle.reg_tables.specs.Stays.{IsCallFault, Stays};
+ghost use Rattle.reg_tables.specs.Stays.{IsCallFault, LeavesNothing, Stays};
 ghost use Rattle.reg_migration.specs.Older.{IsShownByOlder, ShowsOlder};
 ghost use Rattle.reg_opening.specs.Said.{version_of, IsOfVersion, HasVersion, SaysOffice, ReadsOlder, IsOlder, SaysNoVersion, SaysNoOffice, SaysNoOlder, SaysNoRegister, HoldsNoRegister, InRange};
+ghost use Rattle.reg_opening.specs.AtRest.{IsOpened};
 ghost use Rattle.reg_opening.specs.Examined.{SaysFound, IsOlderOf};
 
 use crate::judging::{judge_office, judge_older, judge_version};
@@ -43,7 +43,7 @@ fn test_version<S: Alter>(tx: &mut Transaction<'_, S>) -> Result<Option<Earlier>
     ensures none { HasCleanDisk (state S.Store tx.new.conn.now) → result ≡ Err StoreFault.NotARegister → SaysNoVersion (state S.Store tx.old.conn.now).now }
     ensures told { HasCleanDisk (state S.Store tx.new.conn.now) → (version : Option Earlier) → (IsTrue (state S.Store tx.old.conn.now).is_open → IsOfVersion version (state S.Store tx.old.conn.now).now) → MatchResult result (λ found. found ≡ version) IsCallFault }
     ensures kept { HasCleanDisk (state S.Store tx.new.conn.now) → KeepsCommit (state S.Store tx.old.conn.now) (state S.Store tx.new.conn.now) }
-    ensures clean { doubt (state S.Store tx.old.conn.now).is_clean ≤ doubt (state S.Store tx.new.conn.now).is_clean }
+    ensures survives { LeavesNothing (state S.Store tx.old.conn.now) (state S.Store tx.new.conn.now) }
     ensures faults { IfErr result (λ fault. fault ≢ StoreFault.NotEmpty) }
 {
     let rows = peek(tx, texts::VERSION)?;
@@ -57,7 +57,7 @@ fn test_office<S: Alter>(tx: &mut Transaction<'_, S>) -> Result<(), StoreFault>
     ensures none { HasCleanDisk (state S.Store tx.new.conn.now) → result ≡ Err StoreFault.NotARegister → SaysNoOffice (state S.Store tx.old.conn.now).now }
     ensures shown { HasCleanDisk (state S.Store tx.new.conn.now) → (records : Records) → InRange records → (IsTrue (state S.Store tx.old.conn.now).is_open → IsShownBy (state S.Store tx.old.conn.now).now records) → IfErr result IsCallFault }
     ensures kept { HasCleanDisk (state S.Store tx.new.conn.now) → KeepsCommit (state S.Store tx.old.conn.now) (state S.Store tx.new.conn.now) }
-    ensures clean { doubt (state S.Store tx.old.conn.now).is_clean ≤ doubt (state S.Store tx.new.conn.now).is_clean }
+    ensures survives { LeavesNothing (state S.Store tx.old.conn.now) (state S.Store tx.new.conn.now) }
     ensures faults { IfErr result (λ fault. IsCallFault fault ⊎ (fault ≡ StoreFault.NotARegister)) }
 {
     let office = peek(tx, texts::OFFICE)?;
@@ -74,7 +74,7 @@ fn test_older<S: Alter>(tx: &mut Transaction<'_, S>) -> Result<(u64, Moment), St
         → IfOk result (λ found. (records.policy.schedule ≡ one_step found.0) × (records.last ≡ found.1)) }
     ensures shown { HasCleanDisk (state S.Store tx.new.conn.now) → (version : Earlier) → (records : Records) → InRange records → (IsTrue (state S.Store tx.old.conn.now).is_open → IsShownByOlder version (state S.Store tx.old.conn.now).now records) → IfErr result IsCallFault }
     ensures kept { HasCleanDisk (state S.Store tx.new.conn.now) → KeepsCommit (state S.Store tx.old.conn.now) (state S.Store tx.new.conn.now) }
-    ensures clean { doubt (state S.Store tx.old.conn.now).is_clean ≤ doubt (state S.Store tx.new.conn.now).is_clean }
+    ensures survives { LeavesNothing (state S.Store tx.old.conn.now) (state S.Store tx.new.conn.now) }
     ensures faults { IfErr result (λ fault. IsCallFault fault ⊎ (fault ≡ StoreFault.NotARegister)) }
 {
     let rows = peek(tx, texts::OLDER_OFFICE)?;
@@ -92,7 +92,7 @@ fn test_tables<S: Alter>(tx: &mut Transaction<'_, S>) -> Result<Option<Older>, S
     ensures shown { HasCleanDisk (state S.Store tx.new.conn.now) → (records : Records) → InRange records → (IsTrue (state S.Store tx.old.conn.now).is_open → IsShownBy (state S.Store tx.old.conn.now).now records) → IfErr result IsCallFault }
     ensures shown_older { HasCleanDisk (state S.Store tx.new.conn.now) → (version : Earlier) → (records : Records) → InRange records → (IsTrue (state S.Store tx.old.conn.now).is_open → IsShownByOlder version (state S.Store tx.old.conn.now).now records) → IfErr result IsCallFault }
     ensures kept { HasCleanDisk (state S.Store tx.new.conn.now) → KeepsCommit (state S.Store tx.old.conn.now) (state S.Store tx.new.conn.now) }
-    ensures clean { doubt (state S.Store tx.old.conn.now).is_clean ≤ doubt (state S.Store tx.new.conn.now).is_clean }
+    ensures survives { LeavesNothing (state S.Store tx.old.conn.now) (state S.Store tx.new.conn.now) }
     ensures faults { IfErr result (λ fault. fault ≢ StoreFault.NotEmpty) }
 {
     let older = test_version(tx)?;
@@ -130,7 +130,7 @@ pub fn examine<S: Alter>(conn: &mut Connection<S>) -> Result<Option<Older>, Stor
     ensures shown_older { HasCleanDisk (state S.Store conn.new) → (version : Earlier) → (records : Records) → InRange records → ShowsOlder version S.Store conn.old records → IfErr result IsCallFault }
     ensures same { Stays (state S.Store conn.old) (state S.Store conn.new) }
     ensures saved { HasCleanDisk (state S.Store conn.new) → IsTrue (state S.Store conn.new).is_open → (state S.Store conn.new).now ≡ (state S.Store conn.new).committed }
-    ensures clean { doubt (state S.Store conn.old).is_clean ≤ doubt (state S.Store conn.new).is_clean }
+    ensures survives { LeavesNothing (state S.Store conn.old) (state S.Store conn.new) }
     ensures idle { conn.new.in_transaction ≡ false }
     ensures faults { IfErr result (λ fault. fault ≢ StoreFault.NotEmpty) }
 {
@@ -161,7 +161,7 @@ pub fn open<S: Alter>(conn: &mut Connection<S>) -> Result<(), StoreFault>
     ensures shown { HasCleanDisk (state S.Store conn.new) → (records : Records) → InRange records → Shows S.Store conn.old records → IfErr result IsCallFault }
     ensures shown_older { HasCleanDisk (state S.Store conn.new) → (version : Earlier) → (records : Records) → InRange records → ShowsOlder version S.Store conn.old records → IfErr result IsCallFault }
     ensures err { OnErr result (Stays (state S.Store conn.old) (state S.Store conn.new)) }
-    ensures clean { doubt (state S.Store conn.old).is_clean ≤ doubt (state S.Store conn.new).is_clean }
+    ensures survives { Survives (state S.Store conn.old) (state S.Store conn.new) (IsOpened S.Store conn.old) }
     ensures idle { conn.new.in_transaction ≡ false }
     ensures faults { IfErr result (λ fault. fault ≢ StoreFault.NotEmpty) }
 {

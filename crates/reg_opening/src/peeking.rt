@@ -1,11 +1,10 @@
 //! Statements that only read, whatever the tables are.
 
-ghost use Rattle.std.specs.Prelude.{◌≡◌, ◌≤◌, ◌⊎◌, false, IsTrue, IfOk, IfErr, Err};
+ghost use Rattle.std.specs.Prelude.{◌≡◌, ◌⊎◌, false, IsTrue, IfOk, IfErr, Err};
 ghost use Rattle.sqlite.specs.Held.{state};
 ghost use Rattle.sqlite.specs.State.{HasCleanDisk, KeepsCommit, IsUnchanged};
-ghost use Rattle.sqlite_trees.specs.View.{doubt};
 ghost use Rattle.sqlite_schema.specs.declared.schema.Schema.{Schema};
-ghost use Rattle.reg_tables.specs.Stays.{IsCallFault};
+ghost use Rattle.reg_tables.specs.Stays.{IsCallFault, LeavesNothing};
 ghost use Rattle.reg_opening.specs.Said.{is_call_error, IsQuery, IsNeverRefused, IsRead, IsRefused};
 
 use reg_tables::StoreFault;
@@ -37,7 +36,7 @@ pub(crate) fn peek<S: Alter>(tx: &mut Transaction<'_, S>, sql: &str) -> Result<V
         → IfErr result IsCallFault }
     ensures none { HasCleanDisk (state S.Store tx.new.conn.now) → IsQuery sql.now → result ≡ Err StoreFault.NotARegister → IsRefused (state S.Store tx.old.conn.now).now sql.now }
     ensures kept { HasCleanDisk (state S.Store tx.new.conn.now) → IsQuery sql.now → KeepsCommit (state S.Store tx.old.conn.now) (state S.Store tx.new.conn.now) }
-    ensures clean { doubt (state S.Store tx.old.conn.now).is_clean ≤ doubt (state S.Store tx.new.conn.now).is_clean }
+    ensures survives { LeavesNothing (state S.Store tx.old.conn.now) (state S.Store tx.new.conn.now) }
     ensures faults { IfErr result (λ fault. IsCallFault fault ⊎ (fault ≡ StoreFault.NotARegister)) }
 {
     match tx.query_all(sql, &[]) {

@@ -2,6 +2,7 @@
 #![tactic(auto)]
 
 mod changes;
+pub mod laws;
 mod lookups;
 mod opening;
 mod store;

@@ -1,9 +1,8 @@
 //! A register made in an empty database, and one that is there.
 
-ghost use Rattle.std.specs.Prelude.{◌≡◌, ◌≢◌, ◌≤◌, ◌<◌, ◌⊎◌, ◌↔◌, ℕ, false, OnOk, IfOk, IfErr};
+ghost use Rattle.std.specs.Prelude.{◌≡◌, ◌≢◌, ◌<◌, ◌⊎◌, ◌↔◌, ℕ, false, OnOk, IfOk, IfErr};
 ghost use Rattle.sqlite.specs.Held.{state};
-ghost use Rattle.sqlite.specs.State.{HasCleanDisk};
-ghost use Rattle.sqlite_trees.specs.View.{doubt};
+ghost use Rattle.sqlite.specs.State.{HasCleanDisk, Survives};
 ghost use Rattle.reg_core.specs.Records.{Records, no_records};
 ghost use Rattle.reg_tables.specs.Kept.{ShowsKept};
 ghost use Rattle.reg_tables.specs.Schema.{no_schema};
@@ -12,6 +11,7 @@ ghost use Rattle.reg_tables.specs.Stays.{IsCallFault, Stays};
 ghost use Rattle.reg_core.specs.Sound.{SoundRows};
 ghost use Rattle.reg_migration.specs.Older.{ShowsOlder};
 ghost use Rattle.reg_migration.specs.declared.version.Earlier.{Earlier};
+ghost use Rattle.reg_opening.specs.AtRest.{IsCreated, IsOpened};
 ghost use Rattle.reg_opening.specs.Said.{HasVersion, SaysOffice, IsOlder, SaysNoRegister, HoldsNoRegister, InRange};
 
 use crate::store::Store;
@@ -45,8 +45,8 @@ impl<S: Alter> Store<S> {
         ensures empty { OnOk result (connection.schema ≡ no_schema) }
         ensures not_empty { IfErr result (λ unopened. unopened.fault ≡ StoreFault.NotEmpty ↔ connection.schema ≢ no_schema) }
         ensures same { IfErr result (λ unopened. Stays (state S.Store connection) (state S.Store unopened.connection)) }
-        ensures clean { IfOk result (λ store. doubt (state S.Store connection).is_clean ≤ doubt (state S.Store store).is_clean) }
-        ensures clean_after { IfErr result (λ unopened. doubt (state S.Store connection).is_clean ≤ doubt (state S.Store unopened.connection).is_clean) }
+        ensures survives { IfOk result (λ store. Survives (state S.Store connection) (state S.Store store) (IsCreated connection issuer policy)) }
+        ensures survives_err { IfErr result (λ unopened. Survives (state S.Store connection) (state S.Store unopened.connection) (IsCreated connection issuer policy)) }
         ensures idle { IfErr result (λ unopened. unopened.connection.in_transaction ≡ false) }
         ensures faults { IfErr result (λ unopened. (unopened.fault ≡ StoreFault.NotEmpty) ⊎ IsCallFault unopened.fault) }
     {
@@ -78,8 +78,8 @@ impl<S: Alter> Store<S> {
         ensures newer { IfErr result (λ unopened. HasCleanDisk (state S.Store unopened.connection) → unopened.fault ≡ StoreFault.NewVersion → (n : ℕ) × (3 < n) × HasVersion (state S.Store connection).now n) }
         ensures none { IfErr result (λ unopened. HasCleanDisk (state S.Store unopened.connection) → unopened.fault ≡ StoreFault.NotARegister → SaysNoRegister (state S.Store connection).now) }
         ensures alone { IfErr result (λ unopened. HasCleanDisk (state S.Store unopened.connection) → unopened.fault ≡ StoreFault.NotARegister → HoldsNoRegister (state S.Store connection).now) }
-        ensures clean { IfOk result (λ store. doubt (state S.Store connection).is_clean ≤ doubt (state S.Store store).is_clean) }
-        ensures clean_after { IfErr result (λ unopened. doubt (state S.Store connection).is_clean ≤ doubt (state S.Store unopened.connection).is_clean) }
+        ensures survives { IfOk result (λ store. Survives (state S.Store connection) (state S.Store store) (IsOpened S.Store connection)) }
+        ensures survives_err { IfErr result (λ unopened. Survives (state S.Store connection) (state S.Store unopened.connection) (IsOpened S.Store connection)) }
         ensures idle { IfErr result (λ unopened. unopened.connection.in_transaction ≡ false) }
         ensures faults { IfErr result (λ unopened. unopened.fault ≢ StoreFault.NotEmpty) }
     {

@@ -2,17 +2,17 @@ use Rattle.std.proofs.Common.{map}
 use Rattle.sqlite.specs.Held.{state}
 use Rattle.reg_core.specs.Crls.{row_of}
 use Rattle.reg_migration.proofs.Steps.{if_ok}
-use Rattle.reg_migration.proofs.Questions.{crls_never, reading_crls, crls_are}
+use Rattle.reg_migration.proofs.Questions.{reading_crls, crls_are}
 use Rattle.reg_migration.proofs.asking.crls.Goals as goal
 
 pub returns-in_err-found-clause-kept : goal.returns-in_err-found-clause-kept
-returns-in_err-found-clause-kept g c clean = c.ask.ensures.kept clean crls_never
+returns-in_err-found-clause-kept g c clean = c.ask.ensures.kept clean reading_crls
 
 pub returns-clause-kept : goal.returns-clause-kept
-returns-clause-kept g c clean = c.ask.ensures.kept clean crls_never
+returns-clause-kept g c clean = c.ask.ensures.kept clean reading_crls
 
 pub returns-clause-same : goal.returns-clause-same
-returns-clause-same g c clean = if_ok _ c.crls_in.result (c.in_ok-found.ensures.same clean crls_never)
+returns-clause-same g c clean = if_ok _ c.crls_in.result (c.in_ok-found.ensures.same clean reading_crls)
 
 pub returns-clause-found : goal.returns-clause-found
 returns-clause-found g c clean records before =

@@ -6,17 +6,16 @@ use Rattle.reg_laws.proofs.Lists.{some_and_here}
 use Rattle.reg_tables.proofs.Staying.{ok_then}
 use Rattle.reg_tables.proofs.CertificateLemmas.{reading_by_serial, by_serial_one}
 use Rattle.reg_migration.proofs.Steps.{if_ok}
-use Rattle.reg_migration.proofs.Questions.{cert_never}
 use Rattle.reg_migration.proofs.asking.end_of.Goals as goal
 
 pub returns-in_err-found-clause-kept : goal.returns-in_err-found-clause-kept
-returns-in_err-found-clause-kept g c clean = c.ask.ensures.kept clean cert_never
+returns-in_err-found-clause-kept g c clean = c.ask.ensures.kept clean reading_by_serial
 
 pub returns-clause-kept : goal.returns-clause-kept
-returns-clause-kept g c clean = c.ask.ensures.kept clean cert_never
+returns-clause-kept g c clean = c.ask.ensures.kept clean reading_by_serial
 
 pub returns-clause-same : goal.returns-clause-same
-returns-clause-same g c clean = if_ok _ c.end_in.result (c.in_ok-found.ensures.same clean cert_never)
+returns-clause-same g c clean = if_ok _ c.end_in.result (c.in_ok-found.ensures.same clean reading_by_serial)
 
 pub returns-clause-found : goal.returns-clause-found
 returns-clause-found g c clean records before =

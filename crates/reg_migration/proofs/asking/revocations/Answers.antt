@@ -1,16 +1,16 @@
 use Rattle.sqlite.specs.Held.{state}
 use Rattle.reg_migration.proofs.Steps.{if_ok}
-use Rattle.reg_migration.proofs.Questions.{revocations_never, reading_revocations, revocations_are}
+use Rattle.reg_migration.proofs.Questions.{reading_revocations, revocations_are}
 use Rattle.reg_migration.proofs.asking.revocations.Goals as goal
 
 pub returns-in_err-found-clause-kept : goal.returns-in_err-found-clause-kept
-returns-in_err-found-clause-kept g c clean = c.ask.ensures.kept clean revocations_never
+returns-in_err-found-clause-kept g c clean = c.ask.ensures.kept clean reading_revocations
 
 pub returns-clause-kept : goal.returns-clause-kept
-returns-clause-kept g c clean = c.ask.ensures.kept clean revocations_never
+returns-clause-kept g c clean = c.ask.ensures.kept clean reading_revocations
 
 pub returns-clause-same : goal.returns-clause-same
-returns-clause-same g c clean = if_ok _ c.revocations_in.result (c.in_ok-found.ensures.same clean revocations_never)
+returns-clause-same g c clean = if_ok _ c.revocations_in.result (c.in_ok-found.ensures.same clean reading_revocations)
 
 pub returns-clause-found : goal.returns-clause-found
 returns-clause-found g c clean records before =

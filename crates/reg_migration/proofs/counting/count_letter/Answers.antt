@@ -2,7 +2,7 @@ use Rattle.std.proofs.Common.{◌∙◌}
 use Rattle.sqlite.specs.Held.{state}
 use Rattle.reg_migration.specs.Refilled.{with_letter}
 use Rattle.reg_migration.proofs.Steps.{if_ok}
-use Rattle.reg_migration.proofs.LetterCounts.{reading_letter, letter_never, letters_shown}
+use Rattle.reg_migration.proofs.LetterCounts.{reading_letter, letters_shown}
 use Rattle.reg_migration.proofs.counting.count_letter.Goals as goal
 
 pub returns-clause-counted : goal.returns-clause-counted
@@ -14,10 +14,10 @@ returns-clause-counted g c clean records columns few before test is =
     c.count_in.ensures.read (with_letter test columns.letters) (c.deref.ensures.value ∙ shown)
 
 pub returns-clause-same : goal.returns-clause-same
-returns-clause-same g c clean = if_ok _ c.count_in.result (c.in_ok-found.ensures.same clean letter_never)
+returns-clause-same g c clean = if_ok _ c.count_in.result (c.in_ok-found.ensures.same clean reading_letter)
 
 pub returns-clause-kept : goal.returns-clause-kept
-returns-clause-kept g c clean = c.ask.ensures.kept clean letter_never
+returns-clause-kept g c clean = c.ask.ensures.kept clean reading_letter
 
 pub returns-in_err-found-clause-kept : goal.returns-in_err-found-clause-kept
-returns-in_err-found-clause-kept g c clean = c.ask.ensures.kept clean letter_never
+returns-in_err-found-clause-kept g c clean = c.ask.ensures.kept clean reading_letter

@@ -16,8 +16,8 @@ returns-clause-ok g c clean rows before =
     let s1 = state g.S.Store c.define.new.tx.conn.now in
     let s2 = state g.S.Store c.define-2.new.tx.conn.now in
     let s3 = state g.S.Store c.define-3.new.tx.conn.now in
-    let clean2 : HasCleanDisk s2 = was_clean s2 s3 c.define-3.ensures.clean clean in
-    let clean1 : HasCleanDisk s1 = was_clean s1 s2 c.define-2.ensures.clean clean2 in
+    let clean2 : HasCleanDisk s2 = was_clean s2 s3 c.define-3.ensures.survives.clean clean in
+    let clean1 : HasCleanDisk s1 = was_clean s1 s2 c.define-2.ensures.survives.clean clean2 in
     let alone = records_alone rows in
     let step1 = c.in_ok-define.ensures.table clean1 kept_tables (record longest { tree = 0 }) alone longest_defined refl before in
     let step2 = c.in_ok-define-2.ensures.index clean2 all_tables 6 crl crl_at alone crl_at_defined (λ up. step1.tables) in

@@ -17,21 +17,19 @@ returns-clause-ok g c clean records sound same before =
     let s3 = state g.S.Store c.counts.new.tx.conn.now in
     let s4 = state g.S.Store c.set_counts.new.tx.conn.now in
     let clean3 : HasCleanDisk s3 = was_clean s3 s4 c.set_counts.ensures.survives.clean clean in
-    let clean2 : HasCleanDisk s2 = was_clean s2 s3 c.counts.ensures.clean clean3 in
-    let clean1 : HasCleanDisk s1 = was_clean s1 s2 c.relist.ensures.clean clean2 in
+    let clean2 : HasCleanDisk s2 = was_clean s2 s3 c.counts.ensures.survives.clean clean3 in
+    let clean1 : HasCleanDisk s1 = was_clean s1 s2 c.relist.ensures.survives.clean clean2 in
     let filled = c.in_ok-fill_letters.ensures.ok clean1 records no_columns sound same refl before in
     let start : IsTrue s1.is_open → HasRelisted s1.now records 0 = λ up. (with_letters filled.0 no_columns, filled.2.tables, filled.1, refl) in
     let listed = c.in_ok-relist.ensures.ok clean2 records sound start in
-    ok_by (IsTrue s4.is_open → HasKept s4.now records) c.set_counts.result (λ given up4.
-    let up3 = (c.set_counts.ensures.kept clean).was_open up4 in
-    let up2 = (c.counts.ensures.kept clean3).was_open up3 in
-    let done = listed up2 in
+    ok_by (IsTrue s4.is_open × HasKept s4.now records) c.set_counts.result (λ given.
+    let still = c.in_ok-counts.ensures.same clean3 in
+    let done = listed still.0.was_open in
     let columns = done.0 in
     let whole : columns.listed ≡ map (listed_of records) records.revocations = done.3 ∙ ap (map (listed_of records)) (take_all (length records.revocations) records.revocations (omega arith)) in
     let few = few_letters records columns sound done.1.shown.rows.policy.cap.1 done.2 in
     let counted = c.in_ok-counts.ensures.counted clean3 records columns few (λ _. done.1) in
-    let still = c.in_ok-counts.ensures.same clean3 in
     let there = Rattle.reg_migration.proofs.Steps.unchanged_before s2 s3 (λ db. Rattle.reg_tables.specs.Shows.AreBoth db records columns) still (λ _. done.1) in
     let set = given _ (c.set_counts.ensures.ok clean records columns there) in
     let counts = c.in_ok-counts.counts in
-    (with_counts counts columns, set.tables, subst (λ x. Kept (with_counts x columns) records) (sym counted) (kept_counted records columns sound done.2 whole)))
+    (set.is_open, (with_counts counts columns, set.tables, subst (λ x. Kept (with_counts x columns) records) (sym counted) (kept_counted records columns sound done.2 whole))))

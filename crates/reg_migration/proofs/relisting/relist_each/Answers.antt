@@ -6,6 +6,7 @@ use Rattle.reg_core.specs.declared.rows.CertRow.{CertRow}
 use Rattle.reg_core.specs.declared.rows.CrlRow.{CrlRow}
 use Rattle.reg_core.specs.Sound.{NumberedFrom, NeverFalls}
 use Rattle.reg_laws.proofs.Lists.{some_and_of}
+use Rattle.reg_tables.proofs.Staying.{leaves_then}
 use Rattle.reg_changes.specs.Ran.{Moved}
 use Rattle.reg_changes.proofs.Moving.{keeps_on, was_clean}
 use Rattle.reg_migration.specs.Refilled.{listed_by, with_listed, HasRelisted}
@@ -23,10 +24,10 @@ loop-revocation-preserved g c =
     let within : at < length c.args.revocations.now = c.loop-revocation-test.true in
     record {
       same_reference = c.relist_one.ensures.same_reference ∙ c.loop-revocation.invariant.same_reference;
-      forgets = omega (arith, c.relist_one.ensures.clean, c.loop-revocation.invariant.forgets);
-      kept = λ clean. keeps_on s0 s1 s2 (c.loop-revocation.invariant.kept (was_clean s1 s2 c.relist_one.ensures.clean clean)) (c.relist_one.ensures.kept clean);
+      survives = leaves_then s0 s1 s2 c.loop-revocation.invariant.survives c.relist_one.ensures.survives;
+      kept = λ clean. keeps_on s0 s1 s2 (c.loop-revocation.invariant.kept (was_clean s1 s2 c.relist_one.ensures.survives.clean clean)) (c.relist_one.ensures.kept clean);
       relisted = λ clean records sound all issued before up.
-          let clean1 : HasCleanDisk s1 = was_clean s1 s2 c.relist_one.ensures.clean clean in
+          let clean1 : HasCleanDisk s1 = was_clean s1 s2 c.relist_one.ensures.survives.clean clean in
           let up1 = (c.relist_one.ensures.kept clean).was_open up in
           let had = c.loop-revocation.invariant.relisted clean1 records sound all issued before up1 in
           let columns = had.0 in
@@ -44,3 +45,7 @@ returns-clause-ok g c clean records sound all issued before up =
     let whole : c.loop-revocation.revocation-index ≡ length records.revocations =
     (let past : length c.args.revocations.now ≤ c.loop-revocation.revocation-index = c.loop-revocation-test.false in let size = ap length all in omega arith) in
     subst (HasRelisted s1.now records) whole (c.loop-revocation.invariant.relisted clean records sound all issued before up)
+
+pub returns-in_err-relist_one-clause-survives : goal.returns-in_err-relist_one-clause-survives
+returns-in_err-relist_one-clause-survives g c =
+    leaves_then (state g.S.Store c.args.tx.now.conn.now) (state g.S.Store c.loop-revocation.tx.conn.now) (state g.S.Store c.relist_one.new.tx.conn.now) c.loop-revocation.invariant.survives c.relist_one.ensures.survives

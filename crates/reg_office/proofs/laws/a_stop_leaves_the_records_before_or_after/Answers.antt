@@ -1,7 +1,8 @@
 -- What a stop found before the call is what was committed, and so the records that stood; the rest is what the call may commit.
 use Rattle.std.proofs.Common.{inl, inr}
 use Rattle.sqlite.specs.Held.{state}
-use Rattle.reg_office.proofs.Resting.{at_rest, clean_first}
+use Rattle.reg_store.proofs.Resting.{at_rest}
+use Rattle.reg_office.proofs.Resting.{clean_first}
 use Rattle.reg_office.proofs.laws.a_stop_leaves_the_records_before_or_after.Goals as goal
 
 pub returns : goal.returns

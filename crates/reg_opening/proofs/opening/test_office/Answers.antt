@@ -24,7 +24,7 @@ pub returns-in_err-steps-clause-shown : goal.returns-in_err-steps-clause-shown
 returns-in_err-steps-clause-shown g c clean records within before =
     let s1 = state g.S.Store c.peek.new.tx.conn.now in
     let s2 = state g.S.Store c.peek-2.new.tx.conn.now in
-    let clean1 : HasCleanDisk s1 = was_clean s1 s2 c.peek-2.ensures.clean clean in
+    let clean1 : HasCleanDisk s1 = was_clean s1 s2 c.peek-2.ensures.survives.clean clean in
     let same = c.in_ok-office.ensures.same clean1 office_query in
     let shown : IsShownBy s1.now records = subst (λ (d : Database). IsShownBy d records) (sym same.0.now_is) (before same.0.was_open) in
     let refused = c.in_err-steps.ensures.refused clean steps_query register_schema steps_never (λ up. shown.schema) in
@@ -35,21 +35,21 @@ returns-in_err-steps-clause-kept g c clean =
     let s0 = state g.S.Store c.args.tx.now.conn.now in
     let s1 = state g.S.Store c.peek.new.tx.conn.now in
     let s2 = state g.S.Store c.peek-2.new.tx.conn.now in
-    keeps_on s0 s1 s2 (c.peek.ensures.kept (was_clean s1 s2 c.peek-2.ensures.clean clean) office_query) (c.peek-2.ensures.kept clean steps_query)
+    keeps_on s0 s1 s2 (c.peek.ensures.kept (was_clean s1 s2 c.peek-2.ensures.survives.clean clean) office_query) (c.peek-2.ensures.kept clean steps_query)
 
 pub returns-clause-kept : goal.returns-clause-kept
 returns-clause-kept g c clean =
     let s0 = state g.S.Store c.args.tx.now.conn.now in
     let s1 = state g.S.Store c.peek.new.tx.conn.now in
     let s2 = state g.S.Store c.peek-2.new.tx.conn.now in
-    keeps_on s0 s1 s2 (c.peek.ensures.kept (was_clean s1 s2 c.peek-2.ensures.clean clean) office_query) (c.peek-2.ensures.kept clean steps_query)
+    keeps_on s0 s1 s2 (c.peek.ensures.kept (was_clean s1 s2 c.peek-2.ensures.survives.clean clean) office_query) (c.peek-2.ensures.kept clean steps_query)
 
 pub returns-clause-ok : goal.returns-clause-ok
 returns-clause-ok g c clean =
     let s0 = state g.S.Store c.args.tx.now.conn.now in
     let s1 = state g.S.Store c.peek.new.tx.conn.now in
     let s2 = state g.S.Store c.peek-2.new.tx.conn.now in
-    let clean1 : HasCleanDisk s1 = was_clean s1 s2 c.peek-2.ensures.clean clean in
+    let clean1 : HasCleanDisk s1 = was_clean s1 s2 c.peek-2.ensures.survives.clean clean in
     let same = c.in_ok-office.ensures.same clean1 office_query in
     let office = c.in_ok-office.ensures.rows clean1 office_query in
     let steps : IsRead s0.now STEPS.now c.in_ok-steps.steps.items = subst (λ (d : Database). IsRead d STEPS.now c.in_ok-steps.steps.items) same.0.now_is (c.in_ok-steps.ensures.rows clean steps_query) in
@@ -60,7 +60,7 @@ returns-clause-shown g c clean records within before =
     let s0 = state g.S.Store c.args.tx.now.conn.now in
     let s1 = state g.S.Store c.peek.new.tx.conn.now in
     let s2 = state g.S.Store c.peek-2.new.tx.conn.now in
-    let clean1 : HasCleanDisk s1 = was_clean s1 s2 c.peek-2.ensures.clean clean in
+    let clean1 : HasCleanDisk s1 = was_clean s1 s2 c.peek-2.ensures.survives.clean clean in
     let same = c.in_ok-office.ensures.same clean1 office_query in
     let shown = before same.0.was_open in
     let office = office_read s0.now records shown c.in_ok-office.office.items within (c.in_ok-office.ensures.rows clean1 office_query) in
@@ -74,7 +74,7 @@ pub returns-in_err-steps-clause-none : goal.returns-in_err-steps-clause-none
 returns-in_err-steps-clause-none g c clean is =
     let s1 = state g.S.Store c.peek.new.tx.conn.now in
     let s2 = state g.S.Store c.peek-2.new.tx.conn.now in
-    let clean1 : HasCleanDisk s1 = was_clean s1 s2 c.peek-2.ensures.clean clean in
+    let clean1 : HasCleanDisk s1 = was_clean s1 s2 c.peek-2.ensures.survives.clean clean in
     let same = c.in_ok-office.ensures.same clean1 office_query in
     inl (inr (subst (λ (d : Database). IsRefused d STEPS.now) same.0.now_is (c.peek-2.ensures.none clean steps_query (search (rules, is)))))
 
@@ -83,7 +83,7 @@ returns-clause-none g c clean is =
     let s0 = state g.S.Store c.args.tx.now.conn.now in
     let s1 = state g.S.Store c.peek.new.tx.conn.now in
     let s2 = state g.S.Store c.peek-2.new.tx.conn.now in
-    let clean1 : HasCleanDisk s1 = was_clean s1 s2 c.peek-2.ensures.clean clean in
+    let clean1 : HasCleanDisk s1 = was_clean s1 s2 c.peek-2.ensures.survives.clean clean in
     let same = c.in_ok-office.ensures.same clean1 office_query in
     let office = c.in_ok-office.ensures.rows clean1 office_query in
     let steps : IsRead s0.now STEPS.now c.in_ok-steps.steps.items = subst (λ (d : Database). IsRead d STEPS.now c.in_ok-steps.steps.items) same.0.now_is (c.in_ok-steps.ensures.rows clean steps_query) in

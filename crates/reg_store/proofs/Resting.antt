@@ -1,0 +1,65 @@
+-- What was shown, at rest.
+use Rattle.std.proofs.Common.{◌≡◌, ◌⊎◌, inl, inr, None, IsTrue, refl, sym, ap, subst, ◌∙◌, arith}
+use Rattle.sqlite_value.specs.Order.{column}
+use Rattle.sqlite_trees.specs.Tree.{Trees}
+use Rattle.sqlite_trees.specs.declared.store.Store.{Ghosts}
+use Rattle.sqlite.specs.Effect.{Database}
+use Rattle.sqlite.specs.Held.{Held, state}
+use Rattle.sqlite.specs.State.{HasCleanDisk}
+use Rattle.reg_core.specs.Records.{Records}
+use Rattle.reg_core.specs.Sound.{SoundRows}
+use Rattle.reg_tables.specs.Kept.{ShowsKept}
+use Rattle.reg_tables.specs.Shows.{IsShownBy}
+use Rattle.reg_changes.specs.AtRest.{IsAtRest}
+use Rattle.reg_changes.proofs.Resting.{resting}
+use Rattle.reg_migration.specs.Older.{number_of, older_schema, IsShownByOlder, ShowsOlder}
+use Rattle.reg_migration.specs.declared.version.Earlier.{Earlier}
+use Rattle.reg_migration.specs.declared.version.Earlier.TheVariants.{First, Second}
+use Rattle.reg_opening.specs.AtRest.{IsOpened}
+use Rattle.reg_opening.specs.Said.{IsOlder}
+use Rattle.reg_opening.proofs.OlderRead.{register_of, version_read}
+use Rattle.reg_opening.proofs.Registered.{number_one}
+use Rattle.reg_opening.proofs.Steps.{only_row}
+use Rattle.reg_store.specs.AtRest.{IsUntouched, IsOlderAtRest}
+
+-- what is committed of shown records are rows of them
+pub at_rest : {S : Type 0} (g : Ghosts S) (held : Held S) (records : Records) (trees : Trees) → HasCleanDisk (state g held) → IsTrue (state g held).is_open → ShowsKept g held records → IsUntouched g held trees
+    → IsAtRest records trees
+at_rest g held records trees clean up kept is =
+    let db = (state g held).now in
+    let same : trees ≡ db.trees = is ∙ ap (λ (d : Database). d.trees) (sym (kept.1.saved clean up)) in
+    (kept.0, resting db trees records kept.0 same (kept.1.tables clean up), kept.2)
+
+-- the same of the tables of an older version
+pub older_at_rest : {S : Type 0} (g : Ghosts S) (held : Held S) (version : Earlier) (records : Records) (trees : Trees) → HasCleanDisk (state g held) → IsTrue (state g held).is_open → ShowsOlder version g held records → IsUntouched g held trees
+    → IsOlderAtRest version records trees
+older_at_rest g held version records trees clean up shows is =
+    let db = (state g held).now in
+    let same : trees ≡ db.trees = is ∙ ap (λ (d : Database). d.trees) (sym (shows.saved clean up)) in
+    let it = shows.tables clean up in
+    subst (λ (t : Trees). IsShownByOlder version (record { schema = older_schema version; trees = t }) records) (sym same)
+    (record { schema = refl; days = it.days; office = it.office; schedule = it.schedule; policy = it.policy; rows = it.rows; beside = it.beside })
+
+-- ---- tables of the program's version say no older one
+
+never_three : (version : Earlier) → 3 ≡ number_of version → ⊥
+never_three First e = absurd (omega arith)
+never_three Second e = absurd (omega arith)
+
+never_older : (db : Database) (records : Records) → IsShownBy db records → IsOlder db → ⊥
+never_older db records shown (version, has, says) =
+    let three = version_read None db has.0 (register_of db records shown) has.1 in
+    let row : three.0 ≡ has.2.0 = only_row has.0 three.0 has.2.0 three.1 has.2.1 in
+    never_three version (number_one 3 (number_of version) (sym three.2 ∙ ap (λ r. column r 0) row ∙ has.2.2))
+
+-- ---- what an opening may leave
+
+pub opened_rests : {S : Type 0} (g : Ghosts S) (held : Held S) (records : Records) (trees : Trees) → HasCleanDisk (state g held) → IsTrue (state g held).is_open → ShowsKept g held records
+    → IsUntouched g held trees ⊎ IsOpened g held trees → IsAtRest records trees
+opened_rests g held records trees clean up kept (inl is) = at_rest g held records trees clean up kept is
+opened_rests g held records trees clean up kept (inr opened) = absurd (never_older (state g held).now records (kept.1.tables clean up).shown opened.0)
+
+pub older_rests : {S : Type 0} (g : Ghosts S) (held : Held S) (version : Earlier) (records : Records) (trees : Trees) → HasCleanDisk (state g held) → IsTrue (state g held).is_open → ShowsOlder version g held records → SoundRows records
+    → IsUntouched g held trees ⊎ IsOpened g held trees → IsOlderAtRest version records trees ⊎ IsAtRest records trees
+older_rests g held version records trees clean up shows sound (inl is) = inl (older_at_rest g held version records trees clean up shows is)
+older_rests g held version records trees clean up shows sound (inr opened) = inr (opened.1 version records shows sound)
