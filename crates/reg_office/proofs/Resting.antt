@@ -17,7 +17,6 @@ use Rattle.reg_core.specs.declared.command.Reply.{Reply}
 use Rattle.reg_core.specs.declared.command.Reply.TheVariants.{Crl as CrlIssued}
 use Rattle.reg_core.specs.declared.rows.CrlRow.{CrlRow}
 use Rattle.reg_core.specs.declared.rows.Entry.{Entry}
-use Rattle.reg_laws.specs.Run.{Happens}
 use Rattle.reg_laws.proofs.Decided.{Accepts, AcceptsCrl}
 use Rattle.reg_crl.specs.Signing.{Identity, signed_by}
 use Rattle.reg_tables.specs.Kept.{ShowsKept}
