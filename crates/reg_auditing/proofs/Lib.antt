@@ -2,3 +2,4 @@ pub mod Statements
 pub mod Whole
 pub mod Serials
 pub mod Showing
+pub mod Having

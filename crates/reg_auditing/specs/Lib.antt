@@ -1,3 +1,4 @@
 pub mod Stops
 pub mod Said
+pub mod Values
 pub mod Shown

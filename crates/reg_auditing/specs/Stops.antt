@@ -18,3 +18,9 @@ stop_of fault.NewVersion = Store
 abbrev pub told : Stop → AuditStop
 told found.Memory = Memory
 told (found.Broken broken) = Broken broken
+
+-- a row breaks a rule: memory was not lacking, and the database did not fail
+abbrev pub IsBroken : AuditStop → Type 0
+IsBroken Memory = ⊥
+IsBroken Store = ⊥
+IsBroken (Broken broken) = Unit {0}

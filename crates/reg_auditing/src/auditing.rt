@@ -1,6 +1,6 @@
 //! The audit of an open database.
 
-ghost use Rattle.std.specs.Prelude.{◌≡◌, false, IfOk};
+ghost use Rattle.std.specs.Prelude.{◌≡◌, false, IfOk, IfErr};
 ghost use Rattle.sqlite.specs.Held.{state};
 ghost use Rattle.sqlite.specs.State.{HasCleanDisk};
 ghost use Rattle.reg_core.specs.Records.{Records};
@@ -9,6 +9,8 @@ ghost use Rattle.reg_tables.specs.Columns.{Columns};
 ghost use Rattle.reg_tables.specs.Kept.{Kept};
 ghost use Rattle.reg_tables.specs.Shows.{ShowsBoth};
 ghost use Rattle.reg_tables.specs.Stays.{IsRegister, LeavesNothing, Stays};
+ghost use Rattle.reg_auditing.specs.Stops.{IsBroken};
+ghost use Rattle.reg_auditing.specs.Values.{HasValues};
 
 use crate::judging::judge;
 use crate::reading::read_each;
@@ -53,6 +55,8 @@ const WHOLE: [What; 10] = [
 pub fn audit<S: Alter>(alloc: Global, conn: &mut Connection<S>) -> Result<Audited, AuditStop>
     ensures sound { (records : Records) → (columns : Columns) → ShowsBoth S.Store conn.old records columns → HasCleanDisk (state S.Store conn.new)
         → IfOk result (λ _. SoundRows records × Kept columns records) }
+    ensures broken { (records : Records) → (columns : Columns) → ShowsBoth S.Store conn.old records columns → HasCleanDisk (state S.Store conn.new)
+        → IfErr result (λ stop. IsBroken stop → ¬ (HasValues records × SoundRows records × Kept columns records)) }
     ensures same { IsRegister (state S.Store conn.old) → Stays (state S.Store conn.old) (state S.Store conn.new) }
     ensures survives { LeavesNothing (state S.Store conn.old) (state S.Store conn.new) }
     ensures idle { conn.old.in_transaction ≡ false → conn.new.in_transaction ≡ false }

@@ -1,11 +1,13 @@
 //! Whether what was read of the tables is a register.
 
-ghost use Rattle.std.specs.Prelude.{◌≡◌, ◌<◌, List, get_or, length, IfOk};
+ghost use Rattle.std.specs.Prelude.{◌≡◌, ◌<◌, List, get_or, length, IfOk, IfErr};
 ghost use Rattle.reg_core.specs.Records.{Records};
 ghost use Rattle.reg_core.specs.Sound.{SoundRows};
 ghost use Rattle.reg_tables.specs.Columns.{Columns};
 ghost use Rattle.reg_tables.specs.Kept.{Kept};
 ghost use Rattle.reg_auditing.specs.Said.{IsReadOf, AreRead, whole};
+ghost use Rattle.reg_auditing.specs.Stops.{IsBroken};
+ghost use Rattle.reg_auditing.specs.Values.{HasValues};
 
 use crate::auditing::Audited;
 use crate::stop::AuditStop;
@@ -32,6 +34,8 @@ fn rows_at(all: &[Vec<Row>], place: usize) -> &[Row]
 /// Whether the rows are those of a register, in the order of [`crate::auditing::WHOLE`].
 pub(crate) fn judge(alloc: Global, all: &[Vec<Row>]) -> Result<Audited, AuditStop>
     ensures sound { (records : Records) → (columns : Columns) → AreRead records columns whole all.now (λ rows. rows.items) → IfOk result (λ _. SoundRows records × Kept columns records) }
+    ensures broken { (records : Records) → (columns : Columns) → AreRead records columns whole all.now (λ rows. rows.items)
+        → IfErr result (λ stop. IsBroken stop → ¬ (HasValues records × SoundRows records × Kept columns records)) }
 {
     let office = office(rows_at(all, 0))?;
     let subscribers = subscribers(alloc, rows_at(all, 1))?;

@@ -1,11 +1,13 @@
 //! The rows of each table, as what the records and what is kept beside them have.
 
-ghost use Rattle.std.specs.Prelude.{◌≡◌, map, IfOk};
+ghost use Rattle.std.specs.Prelude.{◌≡◌, map, IfOk, IfErr};
 ghost use Rattle.reg_core.specs.Crls.{row_of};
 ghost use Rattle.reg_core.specs.Records.{Records};
 ghost use Rattle.reg_tables.specs.Columns.{Columns};
 ghost use Rattle.reg_audit.specs.Beside.{standing_in, listed_in};
 ghost use Rattle.reg_auditing.specs.Said.{IsReadOf};
+ghost use Rattle.reg_auditing.specs.Stops.{IsBroken};
+ghost use Rattle.reg_auditing.specs.Values.{AreReadable};
 ghost use Rattle.reg_auditing.specs.declared.texts.What.TheVariants.{Office as OfOffice, Subscribers, Orders, Certificates, Requests, Revocations, Crls, Standings, Counts as OfCounts, Listings};
 
 use crate::stop::AuditStop;
@@ -19,6 +21,7 @@ use std::alloc::Global;
 pub(crate) fn office(rows: &[Row]) -> Result<Office, AuditStop>
     ensures read { (records : Records) → (columns : Columns) → IsReadOf records columns OfOffice rows.now
         → IfOk result (λ found. (found.cap ≡ records.policy.cap) × (found.last ≡ records.last)) }
+    ensures has { (records : Records) → (columns : Columns) → IsReadOf records columns OfOffice rows.now → AreReadable records columns → IfErr result (λ stop. ¬ IsBroken stop) }
 {
     only(Table::Office, rows)
 }
@@ -26,6 +29,7 @@ pub(crate) fn office(rows: &[Row]) -> Result<Office, AuditStop>
 /// The subscribers, in the order of entry.
 pub(crate) fn subscribers(alloc: Global, rows: &[Row]) -> Result<Vec<SubscriberRow>, AuditStop>
     ensures read { (records : Records) → (columns : Columns) → IsReadOf records columns Subscribers rows.now → IfOk result (λ found. found.items ≡ records.subscribers) }
+    ensures has { (records : Records) → (columns : Columns) → IsReadOf records columns Subscribers rows.now → AreReadable records columns → IfErr result (λ stop. ¬ IsBroken stop) }
 {
     typed(alloc, Table::Subscriber, rows)
 }
@@ -33,6 +37,7 @@ pub(crate) fn subscribers(alloc: Global, rows: &[Row]) -> Result<Vec<SubscriberR
 /// The orders, in the order of entry.
 pub(crate) fn orders(alloc: Global, rows: &[Row]) -> Result<Vec<OrderRow>, AuditStop>
     ensures read { (records : Records) → (columns : Columns) → IsReadOf records columns Orders rows.now → IfOk result (λ found. found.items ≡ records.orders) }
+    ensures has { (records : Records) → (columns : Columns) → IsReadOf records columns Orders rows.now → AreReadable records columns → IfErr result (λ stop. ¬ IsBroken stop) }
 {
     typed(alloc, Table::Orders, rows)
 }
@@ -40,6 +45,7 @@ pub(crate) fn orders(alloc: Global, rows: &[Row]) -> Result<Vec<OrderRow>, Audit
 /// The certificates, in the order of entry.
 pub(crate) fn certificates(alloc: Global, rows: &[Row]) -> Result<Vec<CertRow>, AuditStop>
     ensures read { (records : Records) → (columns : Columns) → IsReadOf records columns Certificates rows.now → IfOk result (λ found. found.items ≡ records.certificates) }
+    ensures has { (records : Records) → (columns : Columns) → IsReadOf records columns Certificates rows.now → AreReadable records columns → IfErr result (λ stop. ¬ IsBroken stop) }
 {
     typed(alloc, Table::Cert, rows)
 }
@@ -47,6 +53,7 @@ pub(crate) fn certificates(alloc: Global, rows: &[Row]) -> Result<Vec<CertRow>, 
 /// The requests, in the order of entry.
 pub(crate) fn requests(alloc: Global, rows: &[Row]) -> Result<Vec<RequestRow>, AuditStop>
     ensures read { (records : Records) → (columns : Columns) → IsReadOf records columns Requests rows.now → IfOk result (λ found. found.items ≡ records.requests) }
+    ensures has { (records : Records) → (columns : Columns) → IsReadOf records columns Requests rows.now → AreReadable records columns → IfErr result (λ stop. ¬ IsBroken stop) }
 {
     typed(alloc, Table::Request, rows)
 }
@@ -54,6 +61,7 @@ pub(crate) fn requests(alloc: Global, rows: &[Row]) -> Result<Vec<RequestRow>, A
 /// The revocations, in the order of entry.
 pub(crate) fn revocations(alloc: Global, rows: &[Row]) -> Result<Vec<RevocationRow>, AuditStop>
     ensures read { (records : Records) → (columns : Columns) → IsReadOf records columns Revocations rows.now → IfOk result (λ found. found.items ≡ records.revocations) }
+    ensures has { (records : Records) → (columns : Columns) → IsReadOf records columns Revocations rows.now → AreReadable records columns → IfErr result (λ stop. ¬ IsBroken stop) }
 {
     typed(alloc, Table::Revocation, rows)
 }
@@ -61,6 +69,7 @@ pub(crate) fn revocations(alloc: Global, rows: &[Row]) -> Result<Vec<RevocationR
 /// The CRLs without their bytes, in the order of their numbers.
 pub(crate) fn crls(alloc: Global, rows: &[Row]) -> Result<Vec<CrlRow>, AuditStop>
     ensures read { (records : Records) → (columns : Columns) → IsReadOf records columns Crls rows.now → IfOk result (λ found. found.items ≡ map row_of records.crls) }
+    ensures has { (records : Records) → (columns : Columns) → IsReadOf records columns Crls rows.now → AreReadable records columns → IfErr result (λ stop. ¬ IsBroken stop) }
 {
     typed(alloc, Table::Crl, rows)
 }
@@ -68,6 +77,7 @@ pub(crate) fn crls(alloc: Global, rows: &[Row]) -> Result<Vec<CrlRow>, AuditStop
 /// The state letters.
 pub(crate) fn letters(alloc: Global, rows: &[Row]) -> Result<Vec<Standing>, AuditStop>
     ensures read { (records : Records) → (columns : Columns) → IsReadOf records columns Standings rows.now → IfOk result (λ found. map standing_in found.items ≡ columns.letters) }
+    ensures has { (records : Records) → (columns : Columns) → IsReadOf records columns Standings rows.now → AreReadable records columns → IfErr result (λ stop. ¬ IsBroken stop) }
 {
     typed(alloc, Table::Standing, rows)
 }
@@ -75,6 +85,7 @@ pub(crate) fn letters(alloc: Global, rows: &[Row]) -> Result<Vec<Standing>, Audi
 /// The counts of the state letters.
 pub(crate) fn counts(rows: &[Row]) -> Result<Counts, AuditStop>
     ensures read { (records : Records) → (columns : Columns) → IsReadOf records columns OfCounts rows.now → IfOk result (λ found. found ≡ columns.counts) }
+    ensures has { (records : Records) → (columns : Columns) → IsReadOf records columns OfCounts rows.now → AreReadable records columns → IfErr result (λ stop. ¬ IsBroken stop) }
 {
     only(Table::Kept, rows)
 }
@@ -82,6 +93,7 @@ pub(crate) fn counts(rows: &[Row]) -> Result<Counts, AuditStop>
 /// What CRLs list of each revocation.
 pub(crate) fn listings(alloc: Global, rows: &[Row]) -> Result<Vec<Listed>, AuditStop>
     ensures read { (records : Records) → (columns : Columns) → IsReadOf records columns Listings rows.now → IfOk result (λ found. map listed_in found.items ≡ columns.listed) }
+    ensures has { (records : Records) → (columns : Columns) → IsReadOf records columns Listings rows.now → AreReadable records columns → IfErr result (λ stop. ¬ IsBroken stop) }
 {
     typed(alloc, Table::Listed, rows)
 }

@@ -1,7 +1,8 @@
 //! Rows of the tables as rows of the register, with the columns in the order in which the statements name them.
 
-ghost use Rattle.std.specs.Prelude.{◌≡◌, [], ◌∷◌, List, map, IfOk};
+ghost use Rattle.std.specs.Prelude.{◌≡◌, [], ◌∷◌, List, map, IfOk, IfErr};
 ghost use Rattle.std.specs.List.{AllByRecursion};
+ghost use Rattle.reg_auditing.specs.Stops.{IsBroken};
 
 use crate::stop::AuditStop;
 use crate::values::{
@@ -17,7 +18,7 @@ use std::alloc::Global;
 
 /// What one row shows.
 pub(crate) trait OfRow: Copy {
-    ghost use Rattle.std.specs.Prelude.{◌≡◌, IfSome};
+    ghost use Rattle.std.specs.Prelude.{◌≡◌, IfSome, IsSome};
     ghost use Rattle.sqlite_value.specs.Order.{Row as Cells};
 
     /// Its columns, in the order in which the statement names them.
@@ -26,9 +27,13 @@ pub(crate) trait OfRow: Copy {
     /// Its serial number, where it has one, is one (RFC 5280 4.1.2.2).
     ghost is_keyed: { Self → Type 0 };
 
+    /// Its other values are such that the register's types have them.
+    ghost has_values: { Self → Type 0 };
+
     /// The row, or none where a value in it is none that a register writes.
     fn in_row(row: &Row) -> Option<Self>
-        ensures read { (it : Self) → is_keyed it → row.now ≡ shown it → IfSome result (λ read. read ≡ it) };
+        ensures read { (it : Self) → is_keyed it → row.now ≡ shown it → IfSome result (λ read. read ≡ it) }
+        ensures has { (it : Self) → is_keyed it → has_values it → row.now ≡ shown it → IsSome result };
 }
 
 /// The cap and the last accepted moment.
@@ -40,10 +45,14 @@ pub(crate) struct Office {
 
 impl OfRow for Office {
     ghost use Rattle.reg_auditing.specs.Shown.{shown_office};
+    ghost use Rattle.std.specs.Prelude.{◌<◌};
+    ghost use Rattle.reg_core.specs.Calendar.{clock_end};
 
     ghost shown = { shown_office };
 
     ghost is_keyed = { λ _. Unit {0} };
+
+    ghost has_values = { λ it. it.last < clock_end };
 
     fn in_row(row: &Row) -> Option<Office> {
         Some(Office {
@@ -55,10 +64,13 @@ impl OfRow for Office {
 
 impl OfRow for SubscriberRow {
     ghost use Rattle.reg_tables.specs.Reading.{shown_subscriber};
+    ghost use Rattle.reg_core.specs.Label.{IsLabel};
 
     ghost shown = { shown_subscriber };
 
     ghost is_keyed = { λ _. Unit {0} };
+
+    ghost has_values = { λ it. IsLabel it.name };
 
     fn in_row(row: &Row) -> Option<SubscriberRow> {
         Some(SubscriberRow {
@@ -75,6 +87,8 @@ impl OfRow for OrderRow {
 
     ghost is_keyed = { λ _. Unit {0} };
 
+    ghost has_values = { λ _. Unit {0} };
+
     fn in_row(row: &Row) -> Option<OrderRow> {
         Some(OrderRow {
             id: number_at(row, 0)?,
@@ -87,10 +101,13 @@ impl OfRow for OrderRow {
 impl OfRow for CertRow {
     ghost use Rattle.reg_tables.specs.Reading.{shown_certificate};
     ghost use Rattle.reg_core.specs.Serial.{IsSerial};
+    ghost use Rattle.reg_auditing.specs.Values.{IsValidity};
 
     ghost shown = { shown_certificate };
 
     ghost is_keyed = { λ it. IsSerial it.serial };
+
+    ghost has_values = { λ it. IsValidity it.not_before it.not_after };
 
     fn in_row(row: &Row) -> Option<CertRow> {
         Some(CertRow {
@@ -105,10 +122,14 @@ impl OfRow for CertRow {
 impl OfRow for RequestRow {
     ghost use Rattle.reg_tables.specs.Reading.{shown_request};
     ghost use Rattle.reg_core.specs.Serial.{IsSerial};
+    ghost use Rattle.std.specs.Prelude.{◌<◌};
+    ghost use Rattle.reg_core.specs.Calendar.{clock_end};
 
     ghost shown = { shown_request };
 
     ghost is_keyed = { λ it. IsSerial it.serial };
+
+    ghost has_values = { λ it. it.received < clock_end };
 
     fn in_row(row: &Row) -> Option<RequestRow> {
         Some(RequestRow {
@@ -124,10 +145,13 @@ impl OfRow for RequestRow {
 impl OfRow for RevocationRow {
     ghost use Rattle.reg_tables.specs.Reading.{shown_revocation};
     ghost use Rattle.reg_core.specs.Serial.{IsSerial};
+    ghost use Rattle.reg_auditing.specs.Values.{IsRevoking};
 
     ghost shown = { shown_revocation };
 
     ghost is_keyed = { λ it. IsSerial it.serial };
+
+    ghost has_values = { λ it. IsRevoking it.at it.reason };
 
     fn in_row(row: &Row) -> Option<RevocationRow> {
         Some(RevocationRow {
@@ -142,10 +166,14 @@ impl OfRow for RevocationRow {
 
 impl OfRow for CrlRow {
     ghost use Rattle.reg_tables.specs.Reading.{shown_crl};
+    ghost use Rattle.std.specs.Prelude.{◌<◌};
+    ghost use Rattle.reg_core.specs.Calendar.{clock_end};
 
     ghost shown = { shown_crl };
 
     ghost is_keyed = { λ _. Unit {0} };
+
+    ghost has_values = { λ it. it.this_update < clock_end };
 
     fn in_row(row: &Row) -> Option<CrlRow> {
         Some(CrlRow {
@@ -158,10 +186,13 @@ impl OfRow for CrlRow {
 impl OfRow for Standing {
     ghost use Rattle.reg_auditing.specs.Shown.{shown_standing};
     ghost use Rattle.reg_core.specs.Serial.{IsSerial};
+    ghost use Rattle.reg_core.specs.Calendar.{IsMoment};
 
     ghost shown = { shown_standing };
 
     ghost is_keyed = { λ it. IsSerial it.serial };
+
+    ghost has_values = { λ it. IsMoment it.not_after };
 
     fn in_row(row: &Row) -> Option<Standing> {
         Some(Standing {
@@ -179,6 +210,8 @@ impl OfRow for Counts {
 
     ghost is_keyed = { λ _. Unit {0} };
 
+    ghost has_values = { λ _. Unit {0} };
+
     fn in_row(row: &Row) -> Option<Counts> {
         Some(Counts {
             good: number_at(row, 0)?,
@@ -191,10 +224,14 @@ impl OfRow for Counts {
 impl OfRow for Listed {
     ghost use Rattle.reg_auditing.specs.Shown.{shown_listed};
     ghost use Rattle.reg_core.specs.Serial.{IsSerial};
+    ghost use Rattle.reg_core.specs.Calendar.{IsMoment};
+    ghost use Rattle.reg_auditing.specs.Values.{IsRevoking};
 
     ghost shown = { shown_listed };
 
     ghost is_keyed = { λ it. IsSerial it.serial };
+
+    ghost has_values = { λ it. IsRevoking it.at it.reason × IsMoment it.not_after };
 
     fn in_row(row: &Row) -> Option<Listed> {
         Some(Listed {
@@ -222,6 +259,7 @@ pub(crate) fn typed<T: OfRow>(
     rows: &[Row],
 ) -> Result<Vec<T>, AuditStop>
     ensures read { (shown : List T) → AllByRecursion T.is_keyed shown → rows.now ≡ map T.shown shown → IfOk result (λ read. read.items ≡ shown) }
+    ensures has { (shown : List T) → AllByRecursion T.is_keyed shown → AllByRecursion T.has_values shown → rows.now ≡ map T.shown shown → IfErr result (λ stop. ¬ IsBroken stop) }
 {
     let mut found = Vec::new(alloc);
     for row in rows {
@@ -236,6 +274,7 @@ pub(crate) fn typed<T: OfRow>(
 /// What the one row of a table shows.
 pub(crate) fn only<T: OfRow>(table: Table, rows: &[Row]) -> Result<T, AuditStop>
     ensures read { (it : T) → T.is_keyed it → rows.now ≡ T.shown it ∷ [] → IfOk result (λ read. read ≡ it) }
+    ensures has { (it : T) → T.is_keyed it → T.has_values it → rows.now ≡ T.shown it ∷ [] → IfErr result (λ stop. ¬ IsBroken stop) }
 {
     match rows {
         [row] => T::in_row(row).ok_or(no_value(table, 0)),

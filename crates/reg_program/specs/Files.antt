@@ -11,9 +11,13 @@ use Rattle.reg_core.specs.Records.{Records}
 use Rattle.reg_core.specs.Sound.{SoundRows}
 use Rattle.reg_migration.specs.Older.{ShowsOlder}
 use Rattle.reg_migration.specs.declared.version.Earlier.{Earlier}
-use Rattle.reg_tables.specs.Kept.{ShowsKept}
+use Rattle.reg_tables.specs.Columns.{Columns}
+use Rattle.reg_tables.specs.Kept.{Kept, ShowsKept}
 use Rattle.reg_tables.specs.Schema.{no_schema}
-use Rattle.reg_tables.specs.Stays.{Stays}
+use Rattle.reg_tables.specs.Shows.{ShowsBoth}
+use Rattle.reg_tables.specs.Stays.{IsRegister, Stays}
+use Rattle.reg_verdict.specs.Verdicts.{IsSound}
+use Rattle.reg_verdict.specs.declared.judging.Verdict.{Verdict}
 use Rattle.reg_crl.specs.Signing.{Identity}
 use Rattle.reg_program.specs.Signing.{Follows, IsSigning, Signing}
 
@@ -48,9 +52,13 @@ module _ {D : Type 0} {g : disk.Ghosts D} where
     pub empty : connection.schema ≡ no_schema
     pub clean : doubt (file_state connection).is_clean ≤ doubt (file_state register).is_clean
 
--- a database was audited by a connection: its tables are as they were
-pub record IsAudited {D : Type 0} (g : disk.Ghosts D) : Type 0 where
+-- A database was audited by a connection, and its tables are as they were. Where all was said to be sound, they are a register's,
+-- whatever records they showed are sound, and what is kept beside these follows from them.
+pub record IsAudited {D : Type 0} (g : disk.Ghosts D) (verdict : Verdict) : Type 0 where
   pub connection : Held (FileStore D g)
   pub after : Held (FileStore D g)
   pub connects : IsConnection connection
+  pub sound : (records : Records) (columns : Columns) → ShowsBoth over_files connection records columns → HasCleanDisk (file_state after)
+      → IsSound verdict → SoundRows records × Kept columns records
+  pub register : IsSound verdict → IsRegister (file_state after)
   pub stays : Stays (file_state connection) (file_state after)

@@ -1,4 +1,5 @@
 pub mod Asking
+pub mod Audited
 pub mod Digest
 pub mod Ends
 pub mod Exchanges

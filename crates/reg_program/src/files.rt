@@ -1,6 +1,6 @@
 //! Registers in files: made, opened and closed.
 
-ghost use Rattle.std.specs.Prelude.{◌≡◌, ◌≤◌, ◌⊎◌, false, Some, None, OnOk, IfOk, IfErr, IsFalse, IsTrue, MatchResult, OnErr};
+ghost use Rattle.std.specs.Prelude.{◌≡◌, ◌≤◌, ◌⊎◌, false, Some, None, IfOk, IfErr, IsFalse, IsTrue, MatchResult, OnErr};
 ghost use Rattle.sqlite.specs.Files.{file_state, over_files, IsOpened};
 ghost use Rattle.sqlite.specs.Held.{state, IsNew};
 ghost use Rattle.sqlite.specs.State.{HasCleanDisk};
@@ -65,7 +65,7 @@ impl<'a> Place for Machine<'a> {
 
     ghost unmade = { λ files path why after. Unit {0} };
 
-    ghost audited = { λ files path verdict after. IsAudited ⟦<FileFrom<Unknown> as Disk>⟧ };
+    ghost audited = { λ files path verdict after. IsAudited ⟦<FileFrom<Unknown> as Disk>⟧ verdict };
 
     ghost unaudited = { λ files path why after. Unit {0} };
 
@@ -197,7 +197,7 @@ fn open_register_to_sign(
 
 /// What an audit says of the register in a file.
 fn audit_file(machine: &Machine<'_>, path: &str) -> Result<Verdict, Failure>
-    ensures ok { OnOk result (IsAudited ⟦<FileFrom<Unknown> as Disk>⟧) }
+    ensures ok { IfOk result (λ verdict. IsAudited ⟦<FileFrom<Unknown> as Disk>⟧ verdict) }
     ensures err { IfErr result IsOpening }
 {
     present(machine, path)?;

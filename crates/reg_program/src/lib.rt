@@ -7,6 +7,7 @@ mod files;
 mod front;
 mod handling;
 mod jobs;
+pub mod laws;
 mod lining;
 mod logging;
 mod machine;

@@ -14,3 +14,8 @@ verdict_of (Ok found) = Ok (Sound found)
 verdict_of (Err (stop.Broken broken)) = Ok (Broken broken)
 verdict_of (Err stop.Memory) = Err fault.Memory
 verdict_of (Err stop.Store) = Err fault.Store
+
+-- all rows were looked at, and found to be those of sound records
+abbrev pub IsSound : Verdict → Type 0
+IsSound (Sound found) = Unit {0}
+IsSound _ = ⊥

@@ -1,9 +1,15 @@
 //! The audit of a database whose version is looked at first.
 
-ghost use Rattle.std.specs.Prelude.{◌≡◌, ◌≢◌, false, IfErr};
+ghost use Rattle.std.specs.Prelude.{◌≡◌, ◌≢◌, false, IfErr, IfOk};
 ghost use Rattle.sqlite.specs.Held.{state};
-ghost use Rattle.reg_tables.specs.Stays.{Stays};
-ghost use Rattle.reg_verdict.specs.Verdicts.{verdict_of};
+ghost use Rattle.sqlite.specs.State.{HasCleanDisk};
+ghost use Rattle.reg_core.specs.Records.{Records};
+ghost use Rattle.reg_core.specs.Sound.{SoundRows};
+ghost use Rattle.reg_tables.specs.Columns.{Columns};
+ghost use Rattle.reg_tables.specs.Kept.{Kept};
+ghost use Rattle.reg_tables.specs.Shows.{ShowsBoth};
+ghost use Rattle.reg_tables.specs.Stays.{IsRegister, Stays};
+ghost use Rattle.reg_verdict.specs.Verdicts.{IsSound, verdict_of};
 
 use reg_audit::Broken;
 use reg_auditing::{AuditStop, Audited, audit};
@@ -44,10 +50,16 @@ fn said(audited: Result<Audited, AuditStop>) -> Result<Verdict, StoreFault>
 /// ([`reg_auditing::audit`]). Nothing is changed; a register of version 1 or 2 is not made newer. The connection is in no
 /// transaction, as one that was just opened.
 ///
+/// Where the answer is `Sound`, the schema is a register's, whatever records the tables show are sound, and what is kept beside
+/// these follows from them. That what is told as broken is so is not proved.
+///
 /// # Errors
 /// `NotARegister` and `NewVersion` as [`reg_opening::open`] has them; `Memory`; `Store` where the database fails.
 pub fn judge<S: Alter>(alloc: Global, conn: &mut Connection<S>) -> Result<Verdict, StoreFault>
     requires { conn.old.in_transaction ≡ false }
+    ensures sound { (records : Records) → (columns : Columns) → ShowsBoth S.Store conn.old records columns → HasCleanDisk (state S.Store conn.new)
+        → IfOk result (λ verdict. IsSound verdict → SoundRows records × Kept columns records) }
+    ensures register { IfOk result (λ verdict. IsSound verdict → IsRegister (state S.Store conn.new)) }
     ensures same { Stays (state S.Store conn.old) (state S.Store conn.new) }
     ensures idle { conn.new.in_transaction ≡ false }
     ensures faults { IfErr result (λ fault. fault ≢ StoreFault.NotEmpty) }

@@ -1,8 +1,11 @@
 use Rattle.std.proofs.Common.{map, refl, ap, ◌∙◌}
+use Rattle.reg_core.specs.Calendar.{IsMoment}
 use Rattle.reg_tables.proofs.Staying.{ok_then}
 use Rattle.reg_tables.specs.Columns as column
 use Rattle.reg_audit.specs.Beside.{listed_in}
 use Rattle.reg_audit.specs.declared.beside.Listed.{Listed}
+use Rattle.reg_auditing.specs.Values.{IsRevoking}
+use Rattle.reg_auditing.proofs.Having.{all_map}
 use Rattle.reg_auditing.proofs.Showing.{listed_out, listings_back, listed_are, serials_out}
 use Rattle.reg_auditing.proofs.tables.listings.Goals as goal
 
@@ -11,4 +14,8 @@ returns c = record {
   read = λ records columns is.
       let keyed = serials_out (λ (row : column.Listed). row.serial) (λ (row : Listed). row.serial) listed_out (λ row. refl) columns.listed is.both.kept.listed_serials in
       ok_then c.typed.result (c.typed.ensures.read (map listed_out columns.listed) keyed (listed_are records columns c.args.rows.now is)) (λ found same. ap (map listed_in) same ∙ listings_back columns.listed);
+  has = λ records columns is values.
+      let keyed = serials_out (λ (row : column.Listed). row.serial) (λ (row : Listed). row.serial) listed_out (λ row. refl) columns.listed is.both.kept.listed_serials in
+      c.typed.ensures.has (map listed_out columns.listed) keyed (all_map (λ (row : Listed). IsRevoking row.at row.reason × IsMoment row.not_after) listed_out columns.listed values.listed)
+      (listed_are records columns c.args.rows.now is);
 }

@@ -9,4 +9,7 @@ returns c = record {
   read = λ records columns is.
       let wanted : Office = record { cap = records.policy.cap; last = records.last } in
       ok_then c.only.result (c.only.ensures.read wanted tt (office_is records columns c.args.rows.now is)) (λ found same. (ap (λ (o : Office). o.cap) same, ap (λ (o : Office). o.last) same));
+  has = λ records columns is values.
+      let wanted : Office = record { cap = records.policy.cap; last = records.last } in
+      c.only.ensures.has wanted tt values.office (office_is records columns c.args.rows.now is);
 }

@@ -7,4 +7,7 @@ pub returns : goal.returns
 returns c = record {
   read = λ records columns is.
       c.typed.ensures.read records.orders (all_of (λ (_ : OrderRow). Unit {0}) (λ _. tt) records.orders) (orders_are records columns c.args.rows.now is);
+  has = λ records columns is values.
+      let any = all_of (λ (_ : OrderRow). Unit {0}) (λ _. tt) records.orders in
+      c.typed.ensures.has records.orders any any (orders_are records columns c.args.rows.now is);
 }

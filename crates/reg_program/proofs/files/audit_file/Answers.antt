@@ -8,6 +8,8 @@ returns-in-Ok-clause-ok c =
       connection = c.in_ok-connection.connection;
       after = c.judge-told.new.conn;
       connects = record { fresh = found.fresh; whole = found.opened };
+      sound = c.in-Ok.ensures.sound;
+      register = c.in-Ok.ensures.register;
       stays = c.judge-told.ensures.same;
     }
 

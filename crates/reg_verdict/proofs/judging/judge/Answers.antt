@@ -1,20 +1,22 @@
-use Rattle.std.proofs.Common.{◌≡◌, sym, ◌∙◌, ap}
-use Rattle.sqlite.specs.Effect.{Database}
+use Rattle.std.proofs.Common.{sym, ◌∙◌}
 use Rattle.sqlite.specs.Held.{state}
-use Rattle.reg_tables.specs.Schema.{register_schema}
-use Rattle.reg_tables.specs.Stays.{IsRegister}
-use Rattle.reg_tables.proofs.Staying.{stays_then}
+use Rattle.reg_tables.proofs.Staying.{stays_both, stays_register, stays_then}
+use Rattle.reg_verdict.proofs.Said.{always_said, register_by, sound_said}
 use Rattle.reg_verdict.proofs.judging.judge.Goals as goal
+
+pub returns-clause-sound : goal.returns-clause-sound
+returns-clause-sound g c records columns shows clean =
+    let shown = stays_both g.S.Store c.args.conn.now c.examine.new.conn records columns c.examine.ensures.clean c.examine.ensures.same shows in
+    sound_said _ c.audit.result c.said.result c.said.ensures.is (c.audit.ensures.sound records columns shown clean)
+
+pub returns-clause-register : goal.returns-clause-register
+returns-clause-register g c =
+    let mid = state g.S.Store c.examine.new.conn in
+    let register = register_by mid (sym c.schema.ensures.value ∙ c.is_register.ensures.0 c.if-not-is_register.false) c.examine.ensures.saved in
+    always_said _ c.said.result (stays_register mid (state g.S.Store c.audit.new.conn) c.audit.ensures.survives.clean (c.audit.ensures.same register) register)
 
 pub returns-clause-same : goal.returns-clause-same
 returns-clause-same g c =
-    let s = g.S.Store in
-    let old = state s c.args.conn.now in
-    let mid = state s c.examine.new.conn in
-    let new = state s c.audit.new.conn in
-    let is : mid.now.schema ≡ register_schema = sym c.schema.ensures.value ∙ c.is_register.ensures.0 c.if-not-is_register.false in
-    let register : IsRegister mid = record {
-      now = λ clean up. is;
-      committed = λ clean up. ap (λ (db : Database). db.schema) (sym (c.examine.ensures.saved clean up)) ∙ is;
-    } in
-    stays_then old mid new c.audit.ensures.survives.clean c.examine.ensures.same (c.audit.ensures.same register)
+    let mid = state g.S.Store c.examine.new.conn in
+    let register = register_by mid (sym c.schema.ensures.value ∙ c.is_register.ensures.0 c.if-not-is_register.false) c.examine.ensures.saved in
+    stays_then (state g.S.Store c.args.conn.now) mid (state g.S.Store c.audit.new.conn) c.audit.ensures.survives.clean c.examine.ensures.same (c.audit.ensures.same register)

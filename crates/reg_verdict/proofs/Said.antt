@@ -1,0 +1,33 @@
+-- What an audit's answer gives of the verdict that is said of it.
+use Rattle.std.proofs.Common.{◌≡◌, Result, Ok, Err, IfOk, IsTrue, sym, subst, ◌∙◌, ap}
+use Rattle.sqlite.specs.Effect.{Database}
+use Rattle.sqlite.specs.State.{State, HasCleanDisk}
+use Rattle.reg_tables.specs.Schema.{register_schema}
+use Rattle.reg_tables.specs.Stays.{IsRegister}
+use Rattle.reg_tables.specs.declared.fault.StoreFault.{StoreFault}
+use Rattle.reg_auditing.specs.declared.auditing.Audited.{Audited}
+use Rattle.reg_auditing.specs.declared.stop.AuditStop.{AuditStop}
+use Rattle.reg_auditing.specs.declared.stop.AuditStop.TheVariants as stop
+use Rattle.reg_verdict.specs.Verdicts.{IsSound, verdict_of}
+use Rattle.reg_verdict.specs.declared.judging.Verdict.{Verdict}
+
+module _ (P : Type 0) where
+  well_said : (audited : Result Audited AuditStop) → IfOk audited (λ _. P) → IfOk (verdict_of audited) (λ verdict. IsSound verdict → P)
+  well_said (Ok found) holds = λ sound. holds
+  well_said (Err (stop.Broken broken)) holds = λ sound. absurd sound
+  well_said (Err stop.Memory) holds = tt
+  well_said (Err stop.Store) holds = tt
+
+  -- what holds where rows were found well holds where all is said to be sound
+  pub sound_said : (audited : Result Audited AuditStop) (result : Result Verdict StoreFault) → result ≡ verdict_of audited → IfOk audited (λ _. P)
+      → IfOk result (λ verdict. IsSound verdict → P)
+  sound_said audited result is holds = subst (λ (r : Result Verdict StoreFault). IfOk r (λ verdict. IsSound verdict → P)) (sym is) (well_said audited holds)
+
+  -- and what holds whatever an audit answers holds there too
+  pub always_said : (result : Result Verdict StoreFault) → P → IfOk result (λ verdict. IsSound verdict → P)
+  always_said (Ok verdict) holds = λ sound. holds
+  always_said (Err fault) holds = tt
+
+-- a schema that is a register's, where all is committed
+pub register_by : (s : State) → s.now.schema ≡ register_schema → (HasCleanDisk s → IsTrue s.is_open → s.now ≡ s.committed) → IsRegister s
+register_by s is saved = record { now = λ clean up. is; committed = λ clean up. ap (λ (db : Database). db.schema) (sym (saved clean up)) ∙ is }
