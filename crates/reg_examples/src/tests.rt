@@ -9,6 +9,7 @@ mod disks;
 mod exchanges;
 mod faces;
 mod imports;
+mod lists;
 mod many;
 mod numbers;
 mod ocsp;

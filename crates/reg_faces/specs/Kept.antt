@@ -1,5 +1,5 @@
 -- What each call comes to over the records: the steps by which the faces are stated.
-use Rattle.std.specs.Prelude.{◌≡◌, ◌⊎◌, ℕ, List, Option, Result, Ok, Err}
+use Rattle.std.specs.Prelude.{◌≡◌, ◌⊎◌, ℕ, ◌<◌, List, Option, Result, Ok, Err}
 use Rattle.reg_core.specs.Changes.{with_request}
 use Rattle.reg_core.specs.Records.{Records}
 use Rattle.reg_core.specs.Status.{counts}
@@ -8,6 +8,7 @@ use Rattle.reg_core.specs.declared.command.Query.{Query}
 use Rattle.reg_core.specs.declared.command.Reply.{Reply}
 use Rattle.reg_core.specs.declared.memory.Memory.{Memory}
 use Rattle.reg_core.specs.declared.refusal.Fault.{Fault}
+use Rattle.reg_core.specs.declared.refusal.Fault.TheVariants.{Signer}
 use Rattle.reg_core.specs.declared.rows.RequestRow.{RequestRow}
 use Rattle.reg_crl.specs.Signing.{Identity, signed_by}
 use Rattle.reg_laws.specs.Run.{Happens}
@@ -48,6 +49,10 @@ Lines signs identity before (tells now command) lacked_memory after = ⊥
 Lines signs identity before (asks now query) (responded response) after = ⊥
 Lines signs identity before (asks now query) lacked_memory after = ⊥
 Lines signs identity before (asks_ocsp now request) (came_to outcome) after = ⊥
+
+-- a line that is told a fault of the signer is one at which the signer counted a failure: how many it had counted before and after
+abbrev pub CountsFailure : ℕ → Answer → ℕ → Type 0
+CountsFailure before answer after = answer ≡ came_to (Err Signer) → before < after
 
 -- what an HTTP request can change: one request for revocation more at most; how many certificates have each status does not change,
 -- at any moment

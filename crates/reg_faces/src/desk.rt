@@ -1,7 +1,7 @@
 //! A desk: an office as the lines and the routes want it.
 
 ghost use Rattle.reg_faces.specs.Moves.{Moves};
-ghost use Rattle.reg_faces.specs.Kept.{Runs, Asks, Ocsps, Crls, Lines};
+ghost use Rattle.reg_faces.specs.Kept.{Runs, Asks, Ocsps, Crls, Lines, CountsFailure};
 
 use crate::keeper::Keeper;
 use reg_core::{Command, Fault, Memory, Moment, Outcome, Query};
@@ -20,7 +20,8 @@ pub struct Desk<K: Keeper> {
 
 impl<K: Keeper> Answers for Desk<K> {
     ghost answers = { λ s meaning given t. Moves K.is_clean K.stands
-        (λ identity before after. Lines K.signs identity before meaning given after) s.office t.office };
+        (λ identity before after. Lines K.signs identity before meaning given after) s.office t.office
+        × CountsFailure (K.failures s.office) given (K.failures t.office) };
 
     fn run_one(&mut self, now: Moment, command: &Command) -> Outcome {
         self.office.run_one(self.alloc, now, command)

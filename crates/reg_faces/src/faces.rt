@@ -2,7 +2,7 @@
 
 ghost use Rattle.std.specs.Prelude.{◌≡◌, ◌≢◌, IfErr, IfOk, OnErr};
 ghost use Rattle.reg_faces.specs.Moves.{Moves};
-ghost use Rattle.reg_faces.specs.Kept.{Runs, Asks, Ocsps, Crls, Lines, AddsARequestAtMost};
+ghost use Rattle.reg_faces.specs.Kept.{Runs, Asks, Ocsps, Crls, Lines, CountsFailure, AddsARequestAtMost};
 ghost use Rattle.reg_heads.specs.Response.{shown};
 ghost use Rattle.reg_http.specs.Answers.{Answers as AnswersOf};
 ghost use Rattle.reg_http.specs.Asked.{asked};
@@ -18,7 +18,8 @@ use reg_heads::Answer;
 use std::alloc::Global;
 use std::io::{Read, Write};
 
-/// Runs a script over a desk, as [`reg_lines::run_script`] says.
+/// Runs a script over a desk, as [`reg_lines::run_script`] says. `F3 signer` is replied only to a line at which the signer
+/// counted a failure.
 ///
 /// # Errors
 ///
@@ -29,10 +30,12 @@ pub fn run_script<R: Read, W: Write, K: Keeper>(
     writer: &mut W,
     desk: &mut Desk<K>,
 ) -> Result<(), Fault>
-    ensures { Moves K.is_clean K.stands
+    ensures ends { Moves K.is_clean K.stands
         (λ identity before after. ScriptEnds (Lines K.signs identity) R.remaining W.contents before after
         reader.old reader.new writer.old writer.new result)
         desk.old.office desk.new.office }
+    ensures device { ScriptEnds (λ s meaning given t. CountsFailure (K.failures s.office) given (K.failures t.office))
+        R.remaining W.contents desk.old desk.new reader.old reader.new writer.old writer.new result }
 {
     reg_lines::run_script(alloc, reader, writer, desk)
 }

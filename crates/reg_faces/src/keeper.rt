@@ -5,8 +5,9 @@ use std::alloc::Global;
 
 /// An office that keeps records. Each call is stated as a step of the records that stand in the office.
 pub trait Keeper {
-    ghost use Rattle.std.specs.Prelude.{ℕ, List};
+    ghost use Rattle.std.specs.Prelude.{ℕ, ◌<◌, List, IsErrOf};
     ghost use Rattle.reg_core.specs.Records.{Records};
+    ghost use Rattle.reg_core.specs.declared.refusal.Fault.TheVariants.{Signer};
     ghost use Rattle.reg_crl.specs.Signing.{Identity};
     ghost use Rattle.reg_faces.specs.Moves.{Moves};
     ghost use Rattle.reg_faces.specs.Kept.{Runs, Asks, Ocsps, Crls};
@@ -21,14 +22,19 @@ pub trait Keeper {
     /// Which bytes are a signature over which, by whom.
     ghost signs: { Identity → List ℕ → List ℕ → Type 0 };
 
-    /// Runs a command at its moment.
-    fn run_one(&mut self, alloc: Global, now: Moment, command: &Command) -> Outcome
-        ensures { Moves is_clean stands (λ identity before after. Runs signs identity before now command.now result after)
-            self.old self.new };
+    /// How many failures who signs for the office has counted.
+    ghost failures: { Self → ℕ };
 
-    /// Answers a query at its moment.
+    /// Runs a command at its moment. A fault of the signer comes only where it counted a failure.
+    fn run_one(&mut self, alloc: Global, now: Moment, command: &Command) -> Outcome
+        ensures moves { Moves is_clean stands (λ identity before after. Runs signs identity before now command.now result after)
+            self.old self.new }
+        ensures device { IsErrOf result Signer → failures self.old < failures self.new };
+
+    /// Answers a query at its moment. Nothing is signed for it, so no fault of the signer comes.
     fn ask(&mut self, alloc: Global, now: Moment, query: &Query) -> Outcome
-        ensures { Moves is_clean stands (λ identity before after. Asks before now query.now result after) self.old self.new };
+        ensures moves { Moves is_clean stands (λ identity before after. Asks before now query.now result after) self.old self.new }
+        ensures unsigned { ¬ (IsErrOf result Signer) };
 
     /// The OCSP response (RFC 6960 4.2) to the bytes of a request, at its moment.
     ///

@@ -20,6 +20,8 @@ impl<C: Alter, S: Signer> Keeper for Office<C, S> {
 
     ghost signs = { S.signs };
 
+    ghost failures = { λ office. S.failure_count office.signer };
+
     fn run_one(&mut self, alloc: Global, now: Moment, command: &Command) -> Outcome {
         self.run_one(alloc, now, command)
     }

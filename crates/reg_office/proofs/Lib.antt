@@ -1,5 +1,6 @@
 pub mod Asking
 pub mod Composing
+pub mod Deciding
 pub mod Facts
 pub mod Issuing
 pub mod Resting

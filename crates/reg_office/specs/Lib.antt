@@ -5,3 +5,4 @@ pub mod Shown
 pub mod Stands
 pub mod Answered
 pub mod Cases
+pub mod Decisions

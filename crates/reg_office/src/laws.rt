@@ -5,6 +5,7 @@ ghost use Rattle.reg_crl.specs.Signing.{signed_by};
 ghost use Rattle.reg_laws.specs.Headline.{CreatedSound, KeepsSound, RunsInParts, StandsInExactlyOne, CountsMoveExactly, ListsRevoked, RefusalsChangeNothing};
 ghost use Rattle.reg_laws.specs.History.{HistoryStands};
 ghost use Rattle.reg_office.specs.AtRest.{StopsBeforeOrAfter, StopsAfterAPrefix};
+ghost use Rattle.reg_office.specs.Decisions.{SubscribersAreSteps, OrdersAreSteps, RegistrationsAreSteps, RequestsAreSteps, DeclinesAreSteps, RevocationsAreSteps, CrlsAreSteps};
 ghost use Rattle.reg_office.specs.Shown.{SoundRun, AcceptedRevocation, IsShownEverywhere, WasRevoked, IsNowhereShown};
 ghost use Rattle.reg_responder.specs.Agreement.{OcspAgrees};
 
@@ -31,6 +32,21 @@ pub fn headline<S: Signer>()
     reg_laws::laws::history::<CrlSigner<S>>();
     reg_responder::laws::statuses_agree();
 }
+
+/// Each pure decision is the step of its command.
+///
+/// Handed the rows that sound records have for a command, at any moment and whoever signs, what `reg_core` decides is what the
+/// command comes to by the rules. A refusal is what is answered, and the records stay. What was decided is what is replied, and
+/// it is the one change of the records ([`Change`](reg_core::Change)); of a CRL, with any bytes that are signed over what it lists.
+pub fn decisions_are_steps<S: Signer>()
+    ensures subscribers { (signer : S) → SubscribersAreSteps (signed_by S.signs (S.identity signer)) }
+    ensures orders { (signer : S) → OrdersAreSteps (signed_by S.signs (S.identity signer)) }
+    ensures registrations { (signer : S) → RegistrationsAreSteps (signed_by S.signs (S.identity signer)) }
+    ensures requests { (signer : S) → RequestsAreSteps (signed_by S.signs (S.identity signer)) }
+    ensures declines { (signer : S) → DeclinesAreSteps (signed_by S.signs (S.identity signer)) }
+    ensures revocations { (signer : S) → RevocationsAreSteps (signed_by S.signs (S.identity signer)) }
+    ensures crls { (signer : S) → CrlsAreSteps (signed_by S.signs (S.identity signer)) }
+{}
 
 /// A revoked certificate is shown as revoked everywhere.
 ///

@@ -1,6 +1,6 @@
 //! Lists of commands.
 
-ghost use Rattle.std.specs.Prelude.{◌≡◌, ◌≤◌, ◌++◌, List, Result, OnOk, OnErr, IsTrue};
+ghost use Rattle.std.specs.Prelude.{◌≡◌, ◌≤◌, ◌++◌, length, List, Result, OnOk, OnErr, IsTrue};
 ghost use Rattle.sqlite.specs.Held.{state};
 ghost use Rattle.sqlite.specs.State.{HasCleanDisk};
 ghost use Rattle.sqlite_trees.specs.Tree.{Trees};
@@ -29,6 +29,7 @@ impl<C: Alter, S: Signer> Office<C, S> {
         commands: &[(Moment, Command)],
         outcomes: &mut Vec<Outcome>,
     ) -> Result<(), Memory>
+        ensures each { OnOk result ((came : List (Result Reply Fault)) × (outcomes.new.items ≡ outcomes.old.items ++ came) × (length came ≡ length commands.now)) }
         ensures ran { (records : Records) → Stands C.Store S.signs self.old.store (S.identity self.old.signer) records
             → HasCleanDisk (state C.Store self.new.store)
             → OnOk result ((came : List (Result Reply Fault)) × (outcomes.new.items ≡ outcomes.old.items ++ came)

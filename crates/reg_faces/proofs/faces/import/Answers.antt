@@ -9,7 +9,7 @@ returns g c =
     (λ identity desk records. g.K.Keeper.stands identity desk.office records)
     _
     (Lines g.K.Keeper.signs)
-    (λ s meaning answer t moved. moved)
+    (λ s meaning answer t moved. moved.0)
     g.R.Read.remaining
     g.W.Write.contents
     c.args.now

@@ -8,7 +8,7 @@ returns-in-Ok g c = (
   c.run_script.new.reader.now,
   line_moves g.K.Keeper.is_clean g.K.Keeper.stands g.K.Keeper.signs c.args.now (λ (r : Bor (List ℕ)). r.now) (λ (v : Vec ℕ Global). v.items)
       _ _ c.args.line.now c.as_slice-reader.result c.run_script.new.reader c.args.reply.now c.run_script.new.writer c.run_script.result
-      (c.as_slice-reader.ensures.value ∙ c.in-Ok.ensures) c.run_script.ensures,
+      (c.as_slice-reader.ensures.value ∙ c.in-Ok.ensures) c.run_script.ensures.ends,
 )
 
 pub returns-in-Err : goal.returns-in-Err

@@ -1,5 +1,5 @@
 use Rattle.std.specs.Prelude.{Result}
-use Rattle.std.proofs.Common.{◌≡◌, ◌+◌, ℕ, List, [], ◌∷◌, ◌++◌, take, refl, sym, ap, subst, ◌∙◌, append_assoc, arith}
+use Rattle.std.proofs.Common.{◌≡◌, ◌+◌, ℕ, List, [], ◌∷◌, ◌++◌, length, take, refl, sym, ap, subst, ◌∙◌, append_assoc, arith, length-append as length_append}
 use Rattle.std.proofs.lemmas.List.{append-nil as append_nil, take_all, take_more}
 use Rattle.sqlite.specs.Held.{state}
 use Rattle.reg_core.specs.declared.command.Command.{Command}
@@ -18,6 +18,7 @@ loop-now-init g c = record {
   room = omega (arith, c.in-Ok.ensures.ok);
   clean = omega arith;
   same_identity = refl;
+  each = ([], c.in-Ok.ensures.items ∙ sym (append_nil c.args.outcomes.now.items), refl);
   ran = λ records stands clean. (
     [],
     c.in-Ok.ensures.items ∙ sym (append_nil c.args.outcomes.now.items),
@@ -46,6 +47,14 @@ loop-now-preserved g c =
       room = omega (arith, c.in-Ok-push.ensures.len, c.in-Ok-push.ensures.capacity, c.loop-now.invariant.room);
       clean = omega (arith, c.loop-now.invariant.clean, c.run_one-outcome.ensures.survives.clean);
       same_identity = c.run_one-outcome.ensures.same_identity ∙ c.loop-now.invariant.same_identity;
+      each =
+          let earlier = c.loop-now.invariant.each in (
+            earlier.0 ++ outcome ∷ [],
+            c.in-Ok-push.ensures.items
+                ∙ (ap (λ (l : List (Result Reply Fault)). l ++ outcome ∷ []) earlier.1 ∙ append_assoc c.args.outcomes.now.items earlier.0 (outcome ∷ [])),
+            length_append earlier.0 (outcome ∷ [])
+                ∙ (ap (λ n. n + 1) earlier.2 ∙ (sym (length_append (take i commands) (timed ∷ [])) ∙ ap length (sym all))),
+          );
       ran = λ records stands clean.
           let before = was_clean (state s old.store) (state s new.store) c.run_one-outcome.ensures.survives.clean clean in
           let earlier = c.loop-now.invariant.ran records stands before in
@@ -86,6 +95,11 @@ loop-now-preserved g c =
                 (reached_more s signs who old.store new.store records (take i commands) earlier.0 timed outcome settles one clean earlier.2),
           );
     }
+
+pub returns-clause-each : goal.returns-clause-each
+returns-clause-each g c =
+    let each = c.loop-now.invariant.each in
+    (each.0, each.1, each.2 ∙ ap length (take_all c.loop-now.now-index c.args.commands.now c.loop-now-test.false))
 
 pub returns-clause-ran : goal.returns-clause-ran
 returns-clause-ran g c records stands clean =

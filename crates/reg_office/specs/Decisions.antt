@@ -1,0 +1,109 @@
+-- What each pure decision is: the step of its command. Handed the rows that the records have for the command, a refusal is what the
+-- command is answered, and the records stay; what was decided is what is replied, and it is the one change of the records.
+use Rattle.std.specs.Prelude.{ℕ, Bool, List, length, Option, Some, None, Result, Ok, Err, option_map}
+use Rattle.reg_core.specs.Changes.{changed_by, with_crl}
+use Rattle.reg_core.specs.Crls.{CertList, cert_list, content, latest, row_of}
+use Rattle.reg_core.specs.Decisions.{head_of, DecidesSubscriber, DecidesOrder, DecidesRegister, DecidesRequest, DecidesDecline, DecidesRevoke, DecidesCrl}
+use Rattle.reg_core.specs.Due.{deadline}
+use Rattle.reg_core.specs.Records.{Records, subscriber_in, subscriber_named, order_in, certificate_in, certificate_of_order, request_in, revocation_in}
+use Rattle.reg_core.specs.Sound.{SoundRows}
+use Rattle.reg_core.specs.Step.{Step, certificate_of_request, revocation_of_request}
+use Rattle.reg_core.specs.declared.change.Change.{Change}
+use Rattle.reg_core.specs.declared.change.Change.TheVariants as change
+use Rattle.reg_core.specs.declared.command.Command.{Command}
+use Rattle.reg_core.specs.declared.command.Command.TheVariants.{Subscriber, Order, Register, Request, Decline, Revoke, Crl as IssueCrl}
+use Rattle.reg_core.specs.declared.command.Reply.{Reply}
+use Rattle.reg_core.specs.declared.command.Reply.TheVariants.{Subscriber as SubscriberEntered, Order as OrderEntered, Registered, Same, Request as RequestEntered, Declined, Revoked, Crl as CrlIssued}
+use Rattle.reg_core.specs.declared.refusal.Fault.TheVariants.{Refused}
+use Rattle.reg_core.specs.declared.refusal.Refusal.{Refusal}
+use Rattle.reg_core.specs.declared.rows.SubscriberRow.{SubscriberRow}
+use Rattle.reg_core.specs.declared.rows.OrderRow.{OrderRow}
+use Rattle.reg_core.specs.declared.rows.CertRow.{CertRow}
+use Rattle.reg_core.specs.declared.rows.RequestRow.{RequestRow}
+use Rattle.reg_core.specs.declared.rows.RevocationRow.{RevocationRow}
+use Rattle.reg_core.specs.declared.rows.CrlRow.{CrlRow}
+
+-- a refusal is told and the records stay; what was decided is replied so, and changes the records so
+abbrev pub IsStepOf : {Answer : Type 0} → (CertList → List ℕ → Type 0) → Records → ℕ → Command → (Answer → Reply) → (Answer → Change) → Result Answer Refusal → Type 0
+IsStepOf signed records now command replied changes (Err refused) = Step signed records now command (Err (Refused refused)) records
+IsStepOf signed records now command replied changes (Ok answer) = Step signed records now command (Ok (replied answer)) (changed_by records now (changes answer))
+
+-- the decision on a subscriber
+abbrev pub SubscribersAreSteps : (CertList → List ℕ → Type 0) → Type 0
+SubscribersAreSteps signed =
+    (records : Records) (now : ℕ) (name : List ℕ) (result : Result SubscriberRow Refusal)
+    → DecidesSubscriber (head_of records now (length records.subscribers)) name (subscriber_named records.subscribers name) result
+    → IsStepOf signed records now (Subscriber name) (λ row. SubscriberEntered row.id) (λ row. change.Subscriber row) result
+
+-- on an order
+abbrev pub OrdersAreSteps : (CertList → List ℕ → Type 0) → Type 0
+OrdersAreSteps signed =
+    (records : Records) (now subscriber days : ℕ) (result : Result OrderRow Refusal)
+    → DecidesOrder (head_of records now (length records.orders)) (subscriber_in records.subscribers subscriber) days result
+    → IsStepOf signed records now (Order subscriber days) (λ row. OrderEntered row.id) (λ row. change.Order row) result
+
+-- a certificate to enter, or none where it stands registered
+abbrev pub registration_reply : Option CertRow → Reply
+registration_reply None = Same
+registration_reply (Some row) = Registered
+
+abbrev pub registration_change : Option CertRow → Change
+registration_change None = change.Touch
+registration_change (Some row) = change.Certificate row
+
+-- on a registration, over sound records
+abbrev pub RegistrationsAreSteps : (CertList → List ℕ → Type 0) → Type 0
+RegistrationsAreSteps signed =
+    (records : Records) (now : ℕ) (wanted : CertRow) (result : Result (Option CertRow) Refusal)
+    → SoundRows records
+    → DecidesRegister
+    (head_of records now (length records.certificates))
+    wanted
+    (order_in records.orders wanted.order)
+    (certificate_of_order records.certificates wanted.order)
+    (certificate_in records.certificates wanted.serial)
+    result
+    → IsStepOf signed records now (Register wanted.order wanted.serial wanted.not_before wanted.not_after) registration_reply registration_change result
+
+-- on a request for revocation
+abbrev pub RequestsAreSteps : (CertList → List ℕ → Type 0) → Type 0
+RequestsAreSteps signed =
+    (records : Records) (now serial : ℕ) (word : List ℕ) (result : Result RequestRow Refusal)
+    → DecidesRequest (head_of records now (length records.requests)) (certificate_in records.certificates serial) word (revocation_in records.revocations serial) result
+    → IsStepOf signed records now (Request serial word) (λ row. RequestEntered row.id (deadline row)) (λ row. change.Request row) result
+
+-- on a request that is to be declined; no table grows
+abbrev pub DeclinesAreSteps : (CertList → List ℕ → Type 0) → Type 0
+DeclinesAreSteps signed =
+    (records : Records) (now held id : ℕ) (result : Result RequestRow Refusal)
+    → DecidesDecline (head_of records now held) (request_in records.requests id) (certificate_of_request records id) (revocation_of_request records id) result
+    → IsStepOf signed records now (Decline id) (λ row. Declined) (λ row. change.Decline row.id) result
+
+-- on a request by which is revoked: the revocation, and whether it is late
+abbrev pub RevocationsAreSteps : (CertList → List ℕ → Type 0) → Type 0
+RevocationsAreSteps signed =
+    (records : Records) (now held id : ℕ) (result : Result (RevocationRow × Bool) Refusal)
+    → DecidesRevoke
+    (head_of records now held)
+    (request_in records.requests id)
+    (certificate_of_request records id)
+    (revocation_of_request records id)
+    (option_map row_of (latest records.crls))
+    result
+    → IsStepOf signed records now (Revoke id) (λ decided. Revoked decided.1) (λ decided. change.Revocation decided.0) result
+
+-- a refusal is told and the records stay; a CRL is issued with any bytes that are signed over what it lists
+abbrev pub IsIssue : (CertList → List ℕ → Type 0) → Records → ℕ → Result CrlRow Refusal → Type 0
+IsIssue signed records now (Err refused) = Step signed records now IssueCrl (Err (Refused refused)) records
+IsIssue signed records now (Ok row) =
+    (bytes : List ℕ)
+    → signed (cert_list records row.number row.this_update) bytes
+    → Step signed records now IssueCrl (Ok (CrlIssued row.number (length (content records row.number))))
+    (with_crl records now (record { number = row.number; this_update = row.this_update; bytes = bytes }))
+
+-- on a CRL
+abbrev pub CrlsAreSteps : (CertList → List ℕ → Type 0) → Type 0
+CrlsAreSteps signed =
+    (records : Records) (now : ℕ) (result : Result CrlRow Refusal)
+    → DecidesCrl (head_of records now (length records.crls)) (option_map row_of (latest records.crls)) result
+    → IsIssue signed records now result
