@@ -16,7 +16,8 @@ use Rattle.reg_tables.specs.Kept.{Kept, ShowsKept}
 use Rattle.reg_tables.specs.Schema.{no_schema}
 use Rattle.reg_tables.specs.Shows.{ShowsBoth}
 use Rattle.reg_tables.specs.Stays.{IsRegister, Stays}
-use Rattle.reg_verdict.specs.Verdicts.{IsSound}
+use Rattle.reg_auditing.specs.Values.{HasValues}
+use Rattle.reg_verdict.specs.Verdicts.{IsBrokenRow, IsSound}
 use Rattle.reg_verdict.specs.declared.judging.Verdict.{Verdict}
 use Rattle.reg_crl.specs.Signing.{Identity}
 use Rattle.reg_program.specs.Signing.{Follows, IsSigning, Signing}
@@ -53,12 +54,15 @@ module _ {D : Type 0} {g : disk.Ghosts D} where
     pub clean : doubt (file_state connection).is_clean ≤ doubt (file_state register).is_clean
 
 -- A database was audited by a connection, and its tables are as they were. Where all was said to be sound, they are a register's,
--- whatever records they showed are sound, and what is kept beside these follows from them.
+-- whatever records they showed are sound, and what is kept beside these follows from them. Where a row was told, they showed none of which
+-- that holds, and whose values are a register's.
 pub record IsAudited {D : Type 0} (g : disk.Ghosts D) (verdict : Verdict) : Type 0 where
   pub connection : Held (FileStore D g)
   pub after : Held (FileStore D g)
   pub connects : IsConnection connection
   pub sound : (records : Records) (columns : Columns) → ShowsBoth over_files connection records columns → HasCleanDisk (file_state after)
       → IsSound verdict → SoundRows records × Kept columns records
+  pub broken : (records : Records) (columns : Columns) → ShowsBoth over_files connection records columns → HasCleanDisk (file_state after)
+      → IsBrokenRow verdict → HasValues records × SoundRows records × Kept columns records → ⊥
   pub register : IsSound verdict → IsRegister (file_state after)
   pub stays : Stays (file_state connection) (file_state after)

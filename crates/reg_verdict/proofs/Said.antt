@@ -1,5 +1,5 @@
 -- What an audit's answer gives of the verdict that is said of it.
-use Rattle.std.proofs.Common.{◌≡◌, Result, Ok, Err, IfOk, IsTrue, sym, subst, ◌∙◌, ap}
+use Rattle.std.proofs.Common.{◌≡◌, Result, Ok, Err, IfOk, IfErr, IsTrue, sym, subst, ◌∙◌, ap}
 use Rattle.sqlite.specs.Effect.{Database}
 use Rattle.sqlite.specs.State.{State, HasCleanDisk}
 use Rattle.reg_tables.specs.Schema.{register_schema}
@@ -8,7 +8,8 @@ use Rattle.reg_tables.specs.declared.fault.StoreFault.{StoreFault}
 use Rattle.reg_auditing.specs.declared.auditing.Audited.{Audited}
 use Rattle.reg_auditing.specs.declared.stop.AuditStop.{AuditStop}
 use Rattle.reg_auditing.specs.declared.stop.AuditStop.TheVariants as stop
-use Rattle.reg_verdict.specs.Verdicts.{IsSound, verdict_of}
+use Rattle.reg_auditing.specs.Stops as auditing
+use Rattle.reg_verdict.specs.Verdicts.{IsBrokenRow, IsSound, verdict_of}
 use Rattle.reg_verdict.specs.declared.judging.Verdict.{Verdict}
 
 module _ (P : Type 0) where
@@ -22,6 +23,17 @@ module _ (P : Type 0) where
   pub sound_said : (audited : Result Audited AuditStop) (result : Result Verdict StoreFault) → result ≡ verdict_of audited → IfOk audited (λ _. P)
       → IfOk result (λ verdict. IsSound verdict → P)
   sound_said audited result is holds = subst (λ (r : Result Verdict StoreFault). IfOk r (λ verdict. IsSound verdict → P)) (sym is) (well_said audited holds)
+
+  broken_well_said : (audited : Result Audited AuditStop) → IfErr audited (λ reason. auditing.IsBroken reason → P) → IfOk (verdict_of audited) (λ verdict. IsBrokenRow verdict → P)
+  broken_well_said (Ok found) holds = λ broken. absurd broken
+  broken_well_said (Err (stop.Broken broken)) holds = λ is. holds tt
+  broken_well_said (Err stop.Memory) holds = tt
+  broken_well_said (Err stop.Store) holds = tt
+
+  -- what holds where a row was found that breaks a rule holds where one is told
+  pub broken_said : (audited : Result Audited AuditStop) (result : Result Verdict StoreFault) → result ≡ verdict_of audited → IfErr audited (λ reason. auditing.IsBroken reason → P)
+      → IfOk result (λ verdict. IsBrokenRow verdict → P)
+  broken_said audited result is holds = subst (λ (r : Result Verdict StoreFault). IfOk r (λ verdict. IsBrokenRow verdict → P)) (sym is) (broken_well_said audited holds)
 
   -- and what holds whatever an audit answers holds there too
   pub always_said : (result : Result Verdict StoreFault) → P → IfOk result (λ verdict. IsSound verdict → P)

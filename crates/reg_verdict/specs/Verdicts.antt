@@ -19,3 +19,8 @@ verdict_of (Err stop.Store) = Err fault.Store
 abbrev pub IsSound : Verdict → Type 0
 IsSound (Sound found) = Unit {0}
 IsSound _ = ⊥
+
+-- a row was told that breaks a rule
+abbrev pub IsBrokenRow : Verdict → Type 0
+IsBrokenRow (Broken row) = Unit {0}
+IsBrokenRow _ = ⊥

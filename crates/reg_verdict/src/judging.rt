@@ -9,7 +9,8 @@ ghost use Rattle.reg_tables.specs.Columns.{Columns};
 ghost use Rattle.reg_tables.specs.Kept.{Kept};
 ghost use Rattle.reg_tables.specs.Shows.{ShowsBoth};
 ghost use Rattle.reg_tables.specs.Stays.{IsRegister, Stays};
-ghost use Rattle.reg_verdict.specs.Verdicts.{IsSound, verdict_of};
+ghost use Rattle.reg_auditing.specs.Values.{HasValues};
+ghost use Rattle.reg_verdict.specs.Verdicts.{IsBrokenRow, IsSound, verdict_of};
 
 use reg_audit::Broken;
 use reg_auditing::{AuditStop, Audited, audit};
@@ -51,7 +52,8 @@ fn said(audited: Result<Audited, AuditStop>) -> Result<Verdict, StoreFault>
 /// transaction, as one that was just opened.
 ///
 /// Where the answer is `Sound`, the schema is a register's, whatever records the tables show are sound, and what is kept beside
-/// these follows from them. That what is told as broken is so is not proved.
+/// these follows from them. Where it is `Broken`, the tables show no sound records, with what follows from them kept beside them,
+/// whose names, validities and reasonCodes are a register's.
 ///
 /// # Errors
 /// `NotARegister` and `NewVersion` as [`reg_opening::open`] has them; `Memory`; `Store` where the database fails.
@@ -59,6 +61,8 @@ pub fn judge<S: Alter>(alloc: Global, conn: &mut Connection<S>) -> Result<Verdic
     requires { conn.old.in_transaction ≡ false }
     ensures sound { (records : Records) → (columns : Columns) → ShowsBoth S.Store conn.old records columns → HasCleanDisk (state S.Store conn.new)
         → IfOk result (λ verdict. IsSound verdict → SoundRows records × Kept columns records) }
+    ensures broken { (records : Records) → (columns : Columns) → ShowsBoth S.Store conn.old records columns → HasCleanDisk (state S.Store conn.new)
+        → IfOk result (λ verdict. IsBrokenRow verdict → ¬ (HasValues records × SoundRows records × Kept columns records)) }
     ensures register { IfOk result (λ verdict. IsSound verdict → IsRegister (state S.Store conn.new)) }
     ensures same { Stays (state S.Store conn.old) (state S.Store conn.new) }
     ensures idle { conn.new.in_transaction ≡ false }
