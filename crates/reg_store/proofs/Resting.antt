@@ -9,7 +9,7 @@ use Rattle.sqlite.specs.State.{HasCleanDisk}
 use Rattle.reg_core.specs.Records.{Records}
 use Rattle.reg_core.specs.Sound.{SoundRows}
 use Rattle.reg_tables.specs.Kept.{ShowsKept}
-use Rattle.reg_tables.specs.Shows.{IsShownBy}
+use Rattle.reg_tables.specs.Shows.{IsShownBy, Shows}
 use Rattle.reg_changes.specs.AtRest.{IsAtRest}
 use Rattle.reg_changes.proofs.Resting.{resting}
 use Rattle.reg_migration.specs.Older.{number_of, older_schema, IsShownByOlder, ShowsOlder}
@@ -54,10 +54,10 @@ never_older db records shown (version, has, says) =
 
 -- ---- what an opening may leave
 
-pub opened_rests : {S : Type 0} (g : Ghosts S) (held : Held S) (records : Records) (trees : Trees) → HasCleanDisk (state g held) → IsTrue (state g held).is_open → ShowsKept g held records
-    → IsUntouched g held trees ⊎ IsOpened g held trees → IsAtRest records trees
-opened_rests g held records trees clean up kept (inl is) = at_rest g held records trees clean up kept is
-opened_rests g held records trees clean up kept (inr opened) = absurd (never_older (state g held).now records (kept.1.tables clean up).shown opened.0)
+pub opened_rests : {S : Type 0} (g : Ghosts S) (held : Held S) (records : Records) (trees : Trees) → HasCleanDisk (state g held) → IsTrue (state g held).is_open → Shows g held records
+    → IsUntouched g held trees ⊎ IsOpened g held trees → IsUntouched g held trees
+opened_rests g held records trees clean up shows (inl is) = is
+opened_rests g held records trees clean up shows (inr opened) = absurd (never_older (state g held).now records (shows.tables clean up) opened.0)
 
 pub older_rests : {S : Type 0} (g : Ghosts S) (held : Held S) (version : Earlier) (records : Records) (trees : Trees) → HasCleanDisk (state g held) → IsTrue (state g held).is_open → ShowsOlder version g held records → SoundRows records
     → IsUntouched g held trees ⊎ IsOpened g held trees → IsOlderAtRest version records trees ⊎ IsAtRest records trees

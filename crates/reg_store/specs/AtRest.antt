@@ -11,6 +11,7 @@ use Rattle.reg_core.specs.Records.{Records, no_records}
 use Rattle.reg_core.specs.Sound.{SoundRows}
 use Rattle.reg_tables.specs.Kept.{ShowsKept}
 use Rattle.reg_tables.specs.Schema.{no_schema}
+use Rattle.reg_tables.specs.Shows.{Shows}
 use Rattle.reg_changes.specs.AtRest.{IsAtRest, IsScheduled}
 use Rattle.reg_migration.specs.Older.{older_schema, IsShownByOlder, ShowsOlder}
 use Rattle.reg_migration.specs.declared.version.Earlier.{Earlier}
@@ -33,19 +34,19 @@ StopsEmptyOrMade {S = S} g =
     → (trees : Trees) → (state g new).may_leave trees
     → IsUntouched g old trees ⊎ ((old.schema ≡ no_schema) × IsAtRest (no_records issuer policy) trees)
 
--- whatever a call left that may have opened a register, a stop afterwards, or in the middle of it, leaves rows of the same records: those that
--- were there, where the tables are of the program's version; where they are of an older one, those, or tables of the program's version, with
--- what is kept beside the records
+-- whatever a call left that may have opened a register, a stop afterwards, or in the middle of it, leaves the rows that were there, where the
+-- tables are of the program's version; where they are of an older one, rows of the same records, as its tables or as those of the program's
+-- version, with what is kept beside them: over any disk that may lose what was not synced
 abbrev pub StopsWithTheSame : {S : Type 0} → Ghosts S → Type 0
 StopsWithTheSame {S = S} g =
     (old new : Held S)
     → IsTrue (state g old).is_open → Survives (state g old) (state g new) (IsOpened g old) → HasCleanDisk (state g new)
     → (trees : Trees) → (state g new).may_leave trees
-    → ((records : Records) → ShowsKept g old records → IsAtRest records trees)
+    → ((records : Records) → Shows g old records → IsUntouched g old trees)
     × ((version : Earlier) (records : Records) → ShowsOlder version g old records → SoundRows records → IsOlderAtRest version records trees ⊎ IsAtRest records trees)
 
 -- whatever a call left that may have set a schedule, a stop afterwards, or in the middle of it, leaves rows of the records with the schedule
--- before the call, or with the one that was set, with what is kept beside them
+-- before the call, or with the one that was set, with what is kept beside them: over any disk that may lose what was not synced
 abbrev pub StopsWithASchedule : {S : Type 0} → Ghosts S → Type 0
 StopsWithASchedule {S = S} g =
     (old new : Held S) (records : Records) (steps : List (ℕ × ℕ))

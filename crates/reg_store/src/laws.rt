@@ -16,9 +16,9 @@ pub fn a_stop_during_create_leaves_no_register_or_an_empty_one<S: Alter>()
 /// A stop at any moment of a migration leaves the same records.
 ///
 /// What may be found after [`Store::open`](crate::Store::open), or after a stop in the middle of it: of a register of the
-/// program's version what was there, whole and with what is kept beside the records; of a register of version 1 or 2, whose
-/// records are sound, its tables as they were, or tables of the program's version which show the same records, with the
-/// letters, counts and last listings that follow from them.
+/// program's version what was there, untouched; of a register of version 1 or 2, whose records are sound, its tables as they
+/// were, or tables of the program's version which show the same records, whole and with the letters, counts and last listings
+/// that follow from them.
 pub fn a_stop_during_a_migration_leaves_the_same_records<S: Alter>()
     ensures { StopsWithTheSame S.Store }
 {}

@@ -1,4 +1,4 @@
--- What a stop found before the call is what was committed, and so rows of the records that were shown; the rest is what the call may commit.
+-- What a stop found before the call is what was committed; the rest is what the call may commit, and that only of older tables.
 use Rattle.std.proofs.Common.{◌⊎◌, inl, inr}
 use Rattle.sqlite.specs.Held.{state}
 use Rattle.sqlite.specs.State.{HasCleanDisk}
@@ -16,6 +16,6 @@ returns g c = λ old new up survives clean trees may.
       | inl before ↦ inl (g.met.S.Store.settled old.store trees up before)
       | inr opened ↦ inr opened
     ] in (
-      λ records kept. opened_rests s old records trees first up kept found,
+      λ records shows. opened_rests s old records trees first up shows found,
       λ version records shows sound. older_rests s old version records trees first up shows sound found,
     )
