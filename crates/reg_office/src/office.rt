@@ -3,15 +3,14 @@
 ghost use Rattle.std.specs.Prelude.{◌≡◌, ◌≤◌, ◌<◌, ◌↔◌, Err, IsErrOf, OnOk, OnErr, IfOk, IfErr, IsTrue};
 ghost use Rattle.sqlite.specs.Held.{state};
 ghost use Rattle.sqlite.specs.State.{HasCleanDisk, Survives};
-ghost use Rattle.sqlite_trees.specs.View.{doubt};
 ghost use Rattle.reg_core.specs.Calendar.{clock_end};
 ghost use Rattle.reg_core.specs.Changes.{with_schedule};
 ghost use Rattle.reg_core.specs.Records.{Records};
 ghost use Rattle.reg_core.specs.declared.command.Command.TheVariants.{Crl as IssueCrl};
 ghost use Rattle.reg_core.specs.declared.refusal.Fault.TheVariants.{Refused, Signer as SignerFailed};
 ghost use Rattle.reg_core.specs.declared.refusal.Refusal.TheVariants.{ClockEnd};
-ghost use Rattle.reg_tables.specs.Stays.{IsCallFault, IsRegister, Stays};
 ghost use Rattle.reg_changes.specs.AtRest.{IsScheduled};
+ghost use Rattle.reg_tables.specs.Stays.{IsCallFault, IsRegister, LeavesNothing, Stays};
 ghost use Rattle.reg_ocsp.specs.Response.{refusal_response};
 ghost use Rattle.reg_ocsp.specs.declared.response.RefusalStatus.TheVariants.{Malformed, Internal};
 ghost use Rattle.reg_responder.specs.Ocsp.{HasNoReading, IsOcspReply};
@@ -119,7 +118,7 @@ impl<C: Alter, S: Signer> Office<C, S> {
             → IsAnswered records now query.now result × Stands C.Store S.signs self.new.store (S.identity self.new.signer) records }
         ensures ended { clock_end ≤ now → (result ≡ Err (Refused ClockEnd)) × (self.new ≡ self.old) }
         ensures same { IsRegister (state C.Store self.old.store) → Stays (state C.Store self.old.store) (state C.Store self.new.store) }
-        ensures clean { doubt (state C.Store self.old.store).is_clean ≤ doubt (state C.Store self.new.store).is_clean }
+        ensures survives { LeavesNothing (state C.Store self.old.store) (state C.Store self.new.store) }
         ensures same_signer { self.new.signer ≡ self.old.signer }
         ensures faults { IfErr result IsTableFault }
     {
@@ -138,7 +137,7 @@ impl<C: Alter, S: Signer> Office<C, S> {
             → HasCleanDisk (state C.Store self.new.store)
             → IsGiven records number (items_of result) × Stands C.Store S.signs self.new.store (S.identity self.new.signer) records }
         ensures same { IsRegister (state C.Store self.old.store) → Stays (state C.Store self.old.store) (state C.Store self.new.store) }
-        ensures clean { doubt (state C.Store self.old.store).is_clean ≤ doubt (state C.Store self.new.store).is_clean }
+        ensures survives { LeavesNothing (state C.Store self.old.store) (state C.Store self.new.store) }
         ensures same_signer { self.new.signer ≡ self.old.signer }
         ensures faults { IfErr result IsTableFault }
     {
@@ -161,7 +160,7 @@ impl<C: Alter, S: Signer> Office<C, S> {
         ensures stands { (records : Records) → Stands C.Store S.signs self.old.store (S.identity self.old.signer) records
             → Stands C.Store S.signs self.new.store (S.identity self.new.signer) records }
         ensures same { IsRegister (state C.Store self.old.store) → Stays (state C.Store self.old.store) (state C.Store self.new.store) }
-        ensures clean { doubt (state C.Store self.old.store).is_clean ≤ doubt (state C.Store self.new.store).is_clean }
+        ensures survives { LeavesNothing (state C.Store self.old.store) (state C.Store self.new.store) }
         ensures same_identity { S.identity self.new.signer ≡ S.identity self.old.signer }
         ensures failed { S.failure_count self.old.signer < S.failure_count self.new.signer → IfOk result (λ answer. answer.items ≡ refusal_response Internal) }
     {

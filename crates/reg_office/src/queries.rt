@@ -3,7 +3,6 @@
 ghost use Rattle.std.specs.Prelude.{◌≡◌, ◌≤◌, ◌<◌, IfOk, IfErr, IfSome};
 ghost use Rattle.sqlite.specs.Held.{state};
 ghost use Rattle.sqlite.specs.State.{HasCleanDisk};
-ghost use Rattle.sqlite_trees.specs.View.{doubt};
 ghost use Rattle.reg_core.specs.Calendar.{clock_end};
 ghost use Rattle.reg_core.specs.Due.{due, earliest, unlisted};
 ghost use Rattle.reg_core.specs.Records.{Records};
@@ -11,7 +10,7 @@ ghost use Rattle.reg_core.specs.Sound.{SoundRows};
 ghost use Rattle.reg_core.specs.Status as status;
 ghost use Rattle.reg_tables.specs.Kept.{ShowsKept};
 ghost use Rattle.reg_tables.specs.Shows.{Shows};
-ghost use Rattle.reg_tables.specs.Stays.{IsRegister, Stays};
+ghost use Rattle.reg_tables.specs.Stays.{IsRegister, LeavesNothing, Stays};
 ghost use Rattle.reg_office.specs.Answered.{IsAnswered, IsListed};
 ghost use Rattle.reg_office.specs.Faults.{IsStoreFault, IsTableFault};
 
@@ -35,7 +34,7 @@ pub(crate) fn answer<C: Alter>(
     requires { now < clock_end }
     ensures answer { (records : Records) → ShowsKept C.Store store.old records → SoundRows records → HasCleanDisk (state C.Store store.new) → IsAnswered records now query.now result }
     ensures same { IsRegister (state C.Store store.old) → Stays (state C.Store store.old) (state C.Store store.new) }
-    ensures clean { doubt (state C.Store store.old).is_clean ≤ doubt (state C.Store store.new).is_clean }
+    ensures survives { LeavesNothing (state C.Store store.old) (state C.Store store.new) }
     ensures faults { IfErr result IsTableFault }
 {
     let last = store.last()?;
@@ -53,7 +52,7 @@ pub(crate) fn answer<C: Alter>(
 fn status<C: Alter>(store: &mut Store<C>, now: Moment, serial: Serial) -> Result<Status, Fault>
     ensures found { (records : Records) → Shows C.Store store.old records → HasCleanDisk (state C.Store store.new) → IfOk result (λ found. found ≡ status.status records serial now) }
     ensures same { IsRegister (state C.Store store.old) → Stays (state C.Store store.old) (state C.Store store.new) }
-    ensures clean { doubt (state C.Store store.old).is_clean ≤ doubt (state C.Store store.new).is_clean }
+    ensures survives { LeavesNothing (state C.Store store.old) (state C.Store store.new) }
     ensures faults { IfErr result IsStoreFault }
 {
     let certificate = store.cert(serial)?;
@@ -65,7 +64,7 @@ fn status<C: Alter>(store: &mut Store<C>, now: Moment, serial: Serial) -> Result
 fn listing<C: Alter>(store: &mut Store<C>, serial: Serial) -> Result<Option<Listing>, Fault>
     ensures found { (records : Records) → ShowsKept C.Store store.old records → HasCleanDisk (state C.Store store.new) → IsListed records serial result }
     ensures same { IsRegister (state C.Store store.old) → Stays (state C.Store store.old) (state C.Store store.new) }
-    ensures clean { doubt (state C.Store store.old).is_clean ≤ doubt (state C.Store store.new).is_clean }
+    ensures survives { LeavesNothing (state C.Store store.old) (state C.Store store.new) }
     ensures faults { IfErr result IsTableFault }
 {
     if store.cert(serial)?.is_none() {
@@ -79,7 +78,7 @@ fn earliest_unlisted<C: Alter>(store: &mut Store<C>) -> Result<Option<Moment>, F
     ensures found { (records : Records) → Shows C.Store store.old records → HasCleanDisk (state C.Store store.new) → IfOk result (λ at. at ≡ earliest (unlisted records)) }
     ensures within { IfOk result (λ found. IfSome found (λ at. at < clock_end)) }
     ensures same { IsRegister (state C.Store store.old) → Stays (state C.Store store.old) (state C.Store store.new) }
-    ensures clean { doubt (state C.Store store.old).is_clean ≤ doubt (state C.Store store.new).is_clean }
+    ensures survives { LeavesNothing (state C.Store store.old) (state C.Store store.new) }
     ensures faults { IfErr result IsStoreFault }
 {
     let earliest = store.earliest_unlisted()?;
@@ -93,7 +92,7 @@ fn earliest_unlisted<C: Alter>(store: &mut Store<C>) -> Result<Option<Moment>, F
 fn next_crl<C: Alter>(store: &mut Store<C>) -> Result<Option<Moment>, Fault>
     ensures found { (records : Records) → Shows C.Store store.old records → HasCleanDisk (state C.Store store.new) → IfOk result (λ at. at ≡ due records) }
     ensures same { IsRegister (state C.Store store.old) → Stays (state C.Store store.old) (state C.Store store.new) }
-    ensures clean { doubt (state C.Store store.old).is_clean ≤ doubt (state C.Store store.new).is_clean }
+    ensures survives { LeavesNothing (state C.Store store.old) (state C.Store store.new) }
     ensures faults { IfErr result IsStoreFault }
 {
     let policy = store.policy()?;

@@ -3,7 +3,6 @@
 ghost use Rattle.std.specs.Prelude.{◌≡◌, ◌≢◌, ◌+◌, ◌≤◌, ◌<◌, ◌^◌, ◌↔◌, ◌⊎◌, length, Some, None, IfOk, IfErr, IsErrOf, IsSome, IsOkAnd, OnOk, option_copied};
 ghost use Rattle.sqlite.specs.Held.{state};
 ghost use Rattle.sqlite.specs.State.{HasCleanDisk};
-ghost use Rattle.sqlite_trees.specs.View.{doubt};
 ghost use Rattle.reg_core.specs.Checks.{clock_checks, first_of_all};
 ghost use Rattle.reg_core.specs.Records.{Records};
 ghost use Rattle.reg_ocsp.specs.Request.{CanBeAnswered};
@@ -11,7 +10,7 @@ ghost use Rattle.reg_ocsp.specs.Response.{refusal_response};
 ghost use Rattle.reg_ocsp.specs.declared.response.RefusalStatus.TheVariants.{Malformed, Internal};
 ghost use Rattle.reg_ocsp.specs.Views.{ids_seen};
 ghost use Rattle.reg_tables.specs.Shows.{Shows};
-ghost use Rattle.reg_tables.specs.Stays.{IsRegister, Stays};
+ghost use Rattle.reg_tables.specs.Stays.{IsRegister, LeavesNothing, Stays};
 ghost use Rattle.reg_responder.specs.Ocsp.{HasNoReading, IsOcspData, IsOcspReply, IsResponse, response_signed_by};
 
 use crate::fault::ResponseFault;
@@ -46,7 +45,7 @@ pub fn ocsp<C: Alter, S: Signer>(
     ensures answered { (records : Records) → Shows C.Store store.old records → HasCleanDisk (state C.Store store.new)
         → IfOk result (λ answer. IsOcspReply S.signs (S.identity signer.old) records now request.now answer.items) }
     ensures same { IsRegister (state C.Store store.old) → Stays (state C.Store store.old) (state C.Store store.new) }
-    ensures clean { doubt (state C.Store store.old).is_clean ≤ doubt (state C.Store store.new).is_clean }
+    ensures survives { LeavesNothing (state C.Store store.old) (state C.Store store.new) }
     ensures same_identity { S.identity signer.new ≡ S.identity signer.old }
     ensures failures { S.failure_count signer.old ≤ S.failure_count signer.new }
     ensures failed { S.failure_count signer.old < S.failure_count signer.new → IfOk result (λ answer. answer.items ≡ refusal_response Internal) }
@@ -89,7 +88,7 @@ fn response<C: Alter, S: Signer>(
     ensures untimely { (records : Records) → Shows C.Store store.old records → HasCleanDisk (state C.Store store.new)
         → IsErrOf result ResponseFault.Clock → IsSome (first_of_all (clock_checks now records.last)) }
     ensures same { IsRegister (state C.Store store.old) → Stays (state C.Store store.old) (state C.Store store.new) }
-    ensures clean { doubt (state C.Store store.old).is_clean ≤ doubt (state C.Store store.new).is_clean }
+    ensures survives { LeavesNothing (state C.Store store.old) (state C.Store store.new) }
     ensures same_identity { S.identity signer.new ≡ S.identity signer.old }
     ensures device { IsErrOf result ResponseFault.Signer → S.failure_count signer.old < S.failure_count signer.new }
     ensures steady { ¬ (IsErrOf result ResponseFault.Signer) → S.failure_count signer.new ≡ S.failure_count signer.old }
@@ -115,7 +114,7 @@ fn ocsp_data<C: Alter>(
     ensures untimely { (records : Records) → Shows C.Store store.old records → HasCleanDisk (state C.Store store.new)
         → IsErrOf result ResponseFault.Clock → IsSome (first_of_all (clock_checks now records.last)) }
     ensures same { IsRegister (state C.Store store.old) → Stays (state C.Store store.old) (state C.Store store.new) }
-    ensures clean { doubt (state C.Store store.old).is_clean ≤ doubt (state C.Store store.new).is_clean }
+    ensures survives { LeavesNothing (state C.Store store.old) (state C.Store store.new) }
     ensures faults { ¬ (IsErrOf result ResponseFault.Signer) }
 {
     let (issuer, next) = responding(store, now)?;
@@ -138,7 +137,7 @@ fn data_at<C: Alter>(
         → IfOk result (λ bytes. IsOcspData records now (ids_seen asked.now.ids.items) (option_copied asked.now.nonce) bytes.items) }
     ensures bounded { IfOk result (λ bytes. length bytes.items ≤ 2 ^ 27) }
     ensures same { IsRegister (state C.Store store.old) → Stays (state C.Store store.old) (state C.Store store.new) }
-    ensures clean { doubt (state C.Store store.old).is_clean ≤ doubt (state C.Store store.new).is_clean }
+    ensures survives { LeavesNothing (state C.Store store.old) (state C.Store store.new) }
     ensures faults { IfErr result (λ fault. (fault ≡ ResponseFault.Memory) ⊎ (fault ≡ ResponseFault.Store)) }
 {
     let answers = answers(alloc, store, issuer, now, &asked.ids)?;
@@ -157,7 +156,7 @@ fn responding<C: Alter>(
     ensures untimely { (records : Records) → Shows C.Store store.old records → HasCleanDisk (state C.Store store.new)
         → IsErrOf result ResponseFault.Clock → IsSome (first_of_all (clock_checks now records.last)) }
     ensures same { IsRegister (state C.Store store.old) → Stays (state C.Store store.old) (state C.Store store.new) }
-    ensures clean { doubt (state C.Store store.old).is_clean ≤ doubt (state C.Store store.new).is_clean }
+    ensures survives { LeavesNothing (state C.Store store.old) (state C.Store store.new) }
     ensures faults { ¬ (IsErrOf result ResponseFault.Signer) }
 {
     let (last, issuer, life) = store.responding()?;

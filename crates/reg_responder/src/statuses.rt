@@ -4,12 +4,11 @@ ghost use Rattle.std.specs.Prelude.{◌≡◌, ◌≤◌, ◌⊎◌, map, IfOk, 
 ghost use Rattle.std.specs.List.{AllByRecursion};
 ghost use Rattle.sqlite.specs.Held.{state};
 ghost use Rattle.sqlite.specs.State.{HasCleanDisk};
-ghost use Rattle.sqlite_trees.specs.View.{doubt};
 ghost use Rattle.reg_core.specs.Records.{Records};
 ghost use Rattle.reg_core.specs.Status as spec;
 ghost use Rattle.reg_ocsp.specs.Views.{id_seen};
 ghost use Rattle.reg_tables.specs.Shows.{Shows};
-ghost use Rattle.reg_tables.specs.Stays.{IsRegister, Stays};
+ghost use Rattle.reg_tables.specs.Stays.{IsRegister, LeavesNothing, Stays};
 ghost use Rattle.reg_responder.specs.Ocsp.{IsTold};
 
 use crate::fault::ResponseFault;
@@ -33,7 +32,7 @@ pub(crate) fn answers<'a, C: Alter>(
     ensures found { (records : Records) → Shows C.Store store.old records → HasCleanDisk (state C.Store store.new) → issuer.now ≡ records.issuer
         → IfOk result (λ answers. AllByRecursion (λ answer. IsTold records now (id_seen answer.0) answer.1) answers.items) }
     ensures same { IsRegister (state C.Store store.old) → Stays (state C.Store store.old) (state C.Store store.new) }
-    ensures clean { doubt (state C.Store store.old).is_clean ≤ doubt (state C.Store store.new).is_clean }
+    ensures survives { LeavesNothing (state C.Store store.old) (state C.Store store.new) }
     ensures faults { IfErr result (λ fault. (fault ≡ ResponseFault.Memory) ⊎ (fault ≡ ResponseFault.Store)) }
 {
     let mut answers = Vec::new(alloc);
@@ -55,7 +54,7 @@ fn told<C: Alter>(
     ensures found { (records : Records) → Shows C.Store store.old records → HasCleanDisk (state C.Store store.new) → issuer.now ≡ records.issuer
         → IfOk result (λ told. IsTold records now (id_seen id.now) told) }
     ensures same { IsRegister (state C.Store store.old) → Stays (state C.Store store.old) (state C.Store store.new) }
-    ensures clean { doubt (state C.Store store.old).is_clean ≤ doubt (state C.Store store.new).is_clean }
+    ensures survives { LeavesNothing (state C.Store store.old) (state C.Store store.new) }
     ensures faults { IfErr result (λ fault. (fault ≡ ResponseFault.Memory) ⊎ (fault ≡ ResponseFault.Store)) }
 {
     match matches(issuer, id) {
@@ -73,7 +72,7 @@ fn status_at<C: Alter>(
 ) -> Result<Status, ResponseFault>
     ensures found { (records : Records) → Shows C.Store store.old records → HasCleanDisk (state C.Store store.new) → IfOk result (λ status. status ≡ spec.status records serial now) }
     ensures same { IsRegister (state C.Store store.old) → Stays (state C.Store store.old) (state C.Store store.new) }
-    ensures clean { doubt (state C.Store store.old).is_clean ≤ doubt (state C.Store store.new).is_clean }
+    ensures survives { LeavesNothing (state C.Store store.old) (state C.Store store.new) }
     ensures faults { IfErr result (λ fault. (fault ≡ ResponseFault.Memory) ⊎ (fault ≡ ResponseFault.Store)) }
 {
     let certificate = store.cert(serial)?;

@@ -11,7 +11,7 @@ returns-in-Some-clause-found g c records shown sound clean =
     let first = c.latest_crl.new.self in
     let second = c.numbered.new.store in
     let shown_1 = shown_on s c.args.store.now first records c.latest_crl.ensures.survives.clean c.latest_crl.ensures.same shown in
-    let clean_1 = was_clean (state s first) (state s second) c.numbered.ensures.clean clean in
+    let clean_1 = was_clean (state s first) (state s second) c.numbered.ensures.survives.clean clean in
     let latest_is = sym (c.in_ok-latest.ensures.found records shown clean_1) ∙ c.in-Some.is in
     let same = (latest_in 1 records.crls c.in-Some.latest sound.crls.numbered latest_is).0 in
     given_latest records c.in-Some.latest.number (items_of c.numbered.result) same (c.numbered.ensures.found records shown_1 clean)

@@ -19,7 +19,7 @@ returns-in_err-listing-in-Listing-clause-answer g c records kept sound clean =
     let first = c.last.new.self in
     let kept_1 = after_look s c.args.store.now first records c.last.ensures.survives.clean c.last.ensures.same kept in
     let shown_1 = kept_shows s first records kept_1 in
-    let clean_1 = was_clean (state s first) (state s c.listing.new.store) c.listing.ensures.clean clean in
+    let clean_1 = was_clean (state s first) (state s c.listing.new.store) c.listing.ensures.survives.clean clean in
     let last_is = c.in_ok-last.ensures.found records (kept_shows s c.args.store.now records kept) clean_1 in
     let clock = passes c.args.now c.in_ok-last.last records.last c.in_ok-clock.field-0 last_is c.in_ok-clock.ensures in
     listing_fails records c.args.now c.args.query.now c.in-Listing.serial _ c.in_err-listing-in-Listing.field-0.0 c.requires c.in-Listing.is clock
@@ -31,7 +31,7 @@ returns-in_ok-status-in-Status-clause-answer g c records kept sound clean =
     let first = c.last.new.self in
     let kept_1 = after_look s c.args.store.now first records c.last.ensures.survives.clean c.last.ensures.same kept in
     let shown_1 = kept_shows s first records kept_1 in
-    let clean_1 = was_clean (state s first) (state s c.status.new.store) c.status.ensures.clean clean in
+    let clean_1 = was_clean (state s first) (state s c.status.new.store) c.status.ensures.survives.clean clean in
     let last_is = c.in_ok-last.ensures.found records (kept_shows s c.args.store.now records kept) clean_1 in
     let clock = passes c.args.now c.in_ok-last.last records.last c.in_ok-clock.field-0 last_is c.in_ok-clock.ensures in
     answered records c.args.now c.args.query.now (AskStatus c.in-Status.serial) (StatusIs c.in_ok-status-in-Status.field-0) c.in-Status.is clock refl (ap StatusIs (sym (c.in_ok-status-in-Status.ensures.found records shown_1 clean)))
@@ -53,7 +53,7 @@ returns-in_ok-listing-in-Listing-clause-answer g c records kept sound clean =
     let first = c.last.new.self in
     let kept_1 = after_look s c.args.store.now first records c.last.ensures.survives.clean c.last.ensures.same kept in
     let shown_1 = kept_shows s first records kept_1 in
-    let clean_1 = was_clean (state s first) (state s c.listing.new.store) c.listing.ensures.clean clean in
+    let clean_1 = was_clean (state s first) (state s c.listing.new.store) c.listing.ensures.survives.clean clean in
     let last_is = c.in_ok-last.ensures.found records (kept_shows s c.args.store.now records kept) clean_1 in
     let clock = passes c.args.now c.in_ok-last.last records.last c.in_ok-clock.field-0 last_is c.in_ok-clock.ensures in
     let listed = c.in_ok-listing-in-Listing.ensures.found records kept_1 clean in
@@ -76,7 +76,7 @@ returns-in_ok-next_crl-in-NextCrl-clause-answer g c records kept sound clean =
     let first = c.last.new.self in
     let kept_1 = after_look s c.args.store.now first records c.last.ensures.survives.clean c.last.ensures.same kept in
     let shown_1 = kept_shows s first records kept_1 in
-    let clean_1 = was_clean (state s first) (state s c.next_crl.new.store) c.next_crl.ensures.clean clean in
+    let clean_1 = was_clean (state s first) (state s c.next_crl.new.store) c.next_crl.ensures.survives.clean clean in
     let last_is = c.in_ok-last.ensures.found records (kept_shows s c.args.store.now records kept) clean_1 in
     let clock = passes c.args.now c.in_ok-last.last records.last c.in_ok-clock.field-0 last_is c.in_ok-clock.ensures in
     answered records c.args.now c.args.query.now AskNextCrl (NextCrlIs c.in_ok-next_crl-in-NextCrl.field-0) c.in-NextCrl.is clock refl (ap NextCrlIs (sym (c.in_ok-next_crl-in-NextCrl.ensures.found records shown_1 clean)))

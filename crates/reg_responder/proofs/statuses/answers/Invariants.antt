@@ -1,11 +1,10 @@
-use Rattle.std.proofs.Common.{◌≡◌, ◌≤◌, take}
+use Rattle.std.proofs.Common.{◌≡◌, take}
 use Rattle.sqlite.specs.Held.{state}
 use Rattle.sqlite.specs.State.{HasCleanDisk}
-use Rattle.sqlite_trees.specs.View.{doubt}
 use Rattle.reg_core.specs.Records.{Records}
 use Rattle.reg_ocsp.proofs.Answering.{answered}
 use Rattle.reg_tables.specs.Shows.{Shows}
-use Rattle.reg_tables.specs.Stays.{IsRegister, Stays}
+use Rattle.reg_tables.specs.Stays.{IsRegister, LeavesNothing, Stays}
 use Rattle.reg_responder.proofs.Answered.{AreTold}
 use Rattle.reg_responder.proofs.statuses.answers.Given as goal
 
@@ -15,7 +14,7 @@ invariant-loop-id g l =
     let new = state g.C.Store l.store in
     record {
       ids : answered l.answers.items ≡ take l.id-index l.ids;
-      forgets : doubt old.is_clean ≤ doubt new.is_clean;
+      leaves : LeavesNothing old new;
       same : IsRegister old → Stays old new;
       told : (records : Records) → Shows g.C.Store l.initial.store records → HasCleanDisk new → l.issuer ≡ records.issuer → AreTold records l.now l.answers.items;
     }

@@ -6,7 +6,7 @@ use Rattle.reg_faces.proofs.keeping.OfficeKeeper.ask.Goals as goal
 
 pub returns-clause-moves : goal.returns-clause-moves
 returns-clause-moves g c =
-    answer_leads g.C.Store g.S.Signer.signs _ _ _ _ c.ask.ensures.clean (ap g.S.Signer.identity c.ask.ensures.same_signer)
+    answer_leads g.C.Store g.S.Signer.signs _ _ _ _ c.ask.ensures.survives.clean (ap g.S.Signer.identity c.ask.ensures.same_signer)
     (λ records. IsAnswered records c.args.now c.args.query.now c.ask.result)
     c.ask.ensures.answer
 

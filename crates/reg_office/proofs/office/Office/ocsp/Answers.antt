@@ -14,7 +14,7 @@ returns-clause-stands g c records stands =
     subst
     (λ (who : Identity). Stands s signs held who records)
     (sym c.ocsp.ensures.same_identity)
-    (stands_on s signs old.store held (g.S.Signer.identity old.signer) records c.ocsp.ensures.clean c.ocsp.ensures.same stands)
+    (stands_on s signs old.store held (g.S.Signer.identity old.signer) records c.ocsp.ensures.survives.clean c.ocsp.ensures.same stands)
 
 pub returns-clause-answered : goal.returns-clause-answered
 returns-clause-answered g c records stands clean =
