@@ -1,6 +1,6 @@
 #!/usr/bin/env python3
 """Makes registers by `desk script`, has `desk audit` find them sound, then breaks a copy by one statement of Python's sqlite3 at a time and
-looks that each is told: its table and row, with status 1; that a register of an older version, a newer one and another file are told as
+looks that each is told: its table and row, with status 1; the same with one bit in each part of a CRL; that a register of an older version, a newer one and another file are told as
 such; and that no byte of the audited file changed. With numbers it times the audit of registers of so many certificates instead.
 
 Usage, from the repository's root: tools/audit-check.py [CERTIFICATES ..]        (DESK names another program than ./desk)
@@ -71,6 +71,9 @@ BROKEN = [
     ("another end of a certificate", "UPDATE cert SET not_after = not_after + 86400", "standing 1"),
     ("another end beside a letter", "UPDATE standing SET not_after = not_after + 1", "standing 1"),
     ("another end of what is listed", "UPDATE listed SET not_after = not_after + 1", "listed 1"),
+    ("another issuer", f"UPDATE office SET name = x'{NAME[:-2]}55'", "crl 1"),
+    ("another key of the issuer", "UPDATE office SET pubkey = x'0103'", "crl 1"),
+    ("another life of CRLs", "UPDATE office SET crl_life = crl_life - 1", "crl 1"),
     ("another table", "CREATE TABLE t (a)", "schema: "),
     ("a view", "CREATE VIEW v AS SELECT 1", "schema: "),
     ("a trigger", "CREATE TRIGGER t AFTER DELETE ON crl BEGIN DELETE FROM crl; END", "schema: "),
@@ -161,6 +164,70 @@ def told_broken(folder, sound, broken):
         print(f"ok: {what}: {printed.strip()}")
 
 
+def values(der, start, end):
+    """Where the values in DER stand (X.690 8.1): the tag's place, that of the contents, and the end of each."""
+    while start < end:
+        size, contents = der[start + 1], start + 2
+        if size >= 128:
+            contents += size - 128
+            size = int.from_bytes(der[start + 2 : contents], "big")
+        yield start, contents, contents + size
+        start = contents + size
+
+
+def parts(der):
+    """The parts of a CRL with an entry, each with the place of an octet in it; the signature is the last."""
+    ((_, list_at, list_end),) = values(der, 0, len(der))
+    (_, tbs_at, tbs_end), (_, _, algorithm), (bits, _, signature) = values(der, list_at, list_end)
+    (_, _, version), (_, _, signed), (_, _, name), (_, _, this_update), (_, _, next_update), revoked, (_, _, number) = values(der, tbs_at, tbs_end)
+    _, entry_at, entry_end = next(values(der, revoked[1], revoked[2]))
+    (_, _, serial), (_, _, date), (_, _, reason) = values(der, entry_at, entry_end)
+    return [
+        ("list's length", list_at - 1),
+        ("tbsCertList's length", tbs_at - 1),
+        ("version", version - 1),
+        ("algorithm that is signed", signed - 1),
+        ("issuer's name", name - 1),
+        ("thisUpdate", this_update - 2),
+        ("nextUpdate", next_update - 2),
+        ("first serial number", serial - 1),
+        ("first revocationDate", date - 2),
+        ("first reason code", reason - 1),
+        ("key identifier", der.index(b"\x55\x1d\x23") + 12),
+        ("CRL number", number - 1),
+        ("signatureAlgorithm", algorithm - 1),
+        ("count of unused bits", bits + 2),
+        ("signature", signature - 1),
+    ]
+
+
+def der_of(path, number):
+    """The stored bytes of a CRL."""
+    db = sqlite3.connect(path)
+    der = db.execute("SELECT der FROM crl WHERE number = ?", (number,)).fetchone()[0]
+    db.close()
+    return der
+
+
+def told_bytes(folder, sound, number):
+    """One bit is turned in each part of the bytes of a CRL, or they are those of another; another signature is as good."""
+    der = der_of(sound, number)
+    breaks = [("no bytes", b""), ("bytes of the CRL before", der_of(sound, number - 1)), ("bytes that end before", der[:-1]), ("a byte more", der + b"\0")]
+    for what, place in parts(der):
+        other = bytearray(der)
+        other[place] ^= 1
+        breaks.append((f"a bit of the {what}", bytes(other)))
+    _, signed = breaks.pop()
+    for what, other in breaks:
+        status, printed, told = audit(altered(folder, sound, f"UPDATE crl SET der = x'{other.hex()}' WHERE number = {number}"))
+        line = f"broken: crl {number}: its bytes are not those of what the records list\n"
+        wants(f"{what}: status and what is told", (status, printed, told), (1, line, "broken\n"))
+        print(f"ok: CRL {number}, {what}")
+    status, printed, told = audit(altered(folder, sound, f"UPDATE crl SET der = x'{signed.hex()}' WHERE number = {number}"))
+    wants("another signature", (status, printed, told), (0, counted(sound), ""))
+    print(f"ok: CRL {number}, another signature: {printed.strip()}")
+
+
 def told_alone(folder, sound, breaks, line):
     """The same where nothing is printed, and this is told."""
     for what, sql in breaks:
@@ -241,6 +308,8 @@ def main():
             wants("a sound register", audit(path), (0, counted(path), ""))
             print(f"ok: {counted(path).strip()}")
         told_broken(folder, first, BROKEN)
+        told_bytes(folder, first, 2)
+        told_bytes(folder, many, 5)
         told_alone(folder, first, DAMAGED, "F2 store\n  damaged\n")
         told_alone(folder, first, NO_OFFICE, "not-a-register\n")
         older(folder)

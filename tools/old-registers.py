@@ -5,6 +5,7 @@ long the first opening took, its memory, and how large its log grew, beside a se
 
 Usage, from the repository's root: tools/old-registers.py [CERTIFICATES ..]   (1000 where none is given)
 """
+import hashlib
 import os
 import random
 import resource
@@ -17,6 +18,8 @@ import time
 
 DESK = os.path.abspath("desk")
 NAME = "300D310B300906035504030C024341"
+KEY = b"abc"
+CRL_LIFE = 691200
 DAY = 86400
 START = 1767225600  # 2026-01-01T00:00:00Z
 
@@ -39,14 +42,49 @@ CREATE TABLE listed (serial BLOB NOT NULL PRIMARY KEY REFERENCES revocation (ser
 RECORDS = ["subscriber", "orders", "cert", "request", "revocation", "crl"]
 
 
-def tlv(tag, contents):
-    """Returns a value in DER (X.690 8.1) of 128 bytes to 65,535."""
-    return bytes([tag, 0x82]) + len(contents).to_bytes(2, "big") + contents
+def tlv(tag, *parts):
+    """Returns a value in DER (X.690 8.1)."""
+    contents = b"".join(parts)
+    size = len(contents)
+    octets = size.to_bytes((size.bit_length() + 7) // 8, "big")
+    return bytes([tag]) + (bytes([size]) if size < 128 else bytes([128 + len(octets)]) + octets) + contents
 
 
-def sealed(contents):
-    """Returns a CertificateList with these bytes as its tbsCertList and a SHA-1 digest in the place of a signature."""
-    return tlv(0x30, tlv(0x30, contents) + bytes.fromhex("300906052b0e03021a0500" "031500") + bytes(20))
+def utc(seconds):
+    """Returns a UTCTime (RFC 5280 5.1.2.4)."""
+    return tlv(0x17, time.strftime("%y%m%d%H%M%SZ", time.gmtime(seconds)).encode())
+
+
+def extension(identifier, value):
+    return tlv(0x30, tlv(6, identifier), tlv(4, value))
+
+
+def integer(octets):
+    """Returns the INTEGER that octets spell, the highest first."""
+    digits = octets.lstrip(b"\0")
+    return tlv(2, b"\0" + digits if digits[0] >= 128 else digits)
+
+
+def entry(serial, at, reason):
+    """Returns one of the revokedCertificates (RFC 5280 5.1.2.6)."""
+    return tlv(0x30, integer(serial), utc(at), tlv(0x30, extension(b"\x55\x1d\x15", tlv(10, bytes([reason])))))
+
+
+def sealed(number, this_update, entries):
+    """Returns a CertificateList (RFC 5280 5.1) of these entries, with the SHA-1 digest of its tbsCertList in the place of a signature."""
+    algorithm = bytes.fromhex("300906052b0e03021a0500")
+    revoked = tlv(0x30, *(entry(*row) for row in sorted(entries))) if entries else b""
+    identifier = tlv(0x30, tlv(0x80, hashlib.sha1(KEY).digest()))
+    counted = integer(number.to_bytes(8, "big"))
+    extensions = tlv(0xA0, tlv(0x30, extension(b"\x55\x1d\x23", identifier), extension(b"\x55\x1d\x14", counted)))
+    name = bytes.fromhex(NAME)
+    tbs = tlv(0x30, tlv(2, b"\1"), algorithm, name, utc(this_update), utc(this_update + CRL_LIFE), revoked, extensions)
+    return tlv(0x30, tbs, algorithm, tlv(3, b"\0", hashlib.sha1(tbs).digest()))
+
+
+def on_crl(listed, number):
+    """What CRL `number` lists of these rows: serial number, moment and reason."""
+    return [(serial, row[0], row[1]) for serial, row in listed.items() if row[2] <= number and (row[4] is None or number <= row[4])]
 
 
 class Records:
@@ -55,7 +93,7 @@ class Records:
     def __init__(self, certificates, crls=40):
         choice = random.Random(certificates)
         self.last = START + crls * DAY + 1
-        self.crls = [(n, START + n * DAY, sealed(n.to_bytes(4, "big") * 64)) for n in range(1, crls + 1)]
+        self.updates = [(n, START + n * DAY) for n in range(1, crls + 1)]
         self.certs = []
         for order in range(1, certificates + 1):
             serial = (choice.getrandbits(158) + 1).to_bytes(20, "big")
@@ -66,9 +104,11 @@ class Records:
         self.requests = [(id, serial, 6, at, 0) for id, (at, serial) in enumerate(moments, 1)]
         self.revocations = []
         for id, (at, serial) in enumerate(moments, 1):
-            first = 1 + sum(1 for crl in self.crls if crl[1] <= at)
+            first = 1 + sum(1 for _, update in self.updates if update <= at)
             self.revocations.append((serial, at, 4, id, first))
         self.ends = ends
+        listed = self.listed()
+        self.crls = [(n, update, sealed(n, update, on_crl(listed, n))) for n, update in self.updates]
 
     def standing(self):
         revoked = {row[0] for row in self.revocations}
@@ -81,7 +121,7 @@ class Records:
         rows = {}
         for serial, at, reason, _, first in self.revocations:
             not_after = self.ends[serial]
-            last = next((n for n, update, _ in self.crls if n >= first and update > not_after), None)
+            last = next((n for n, update in self.updates if n >= first and update > not_after), None)
             rows[serial] = (at, reason, first, not_after, last)
         return rows
 

@@ -1,3 +1,4 @@
+mod bytes;
 mod register;
 mod told;
 mod verdicts;

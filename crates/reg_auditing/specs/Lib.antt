@@ -2,3 +2,4 @@ pub mod Stops
 pub mod Said
 pub mod Values
 pub mod Shown
+pub mod Stored

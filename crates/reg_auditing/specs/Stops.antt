@@ -1,6 +1,8 @@
 -- How an audit ends that finds nothing well.
+use Rattle.std.specs.Prelude.{◌≢◌}
 use Rattle.reg_audit.specs.declared.stop.Stop.{Stop}
 use Rattle.reg_audit.specs.declared.stop.Stop.TheVariants as found
+use Rattle.reg_audit.specs.declared.stop.Why.TheVariants.{OtherBytes}
 use Rattle.reg_tables.specs.declared.fault.StoreFault.{StoreFault}
 use Rattle.reg_tables.specs.declared.fault.StoreFault.TheVariants as fault
 use Rattle.reg_auditing.specs.declared.stop.AuditStop.{AuditStop}
@@ -24,3 +26,9 @@ abbrev pub IsBroken : AuditStop → Type 0
 IsBroken Memory = ⊥
 IsBroken Store = ⊥
 IsBroken (Broken broken) = Unit {0}
+
+-- the row breaks a rule of the records, or of what is kept beside them: it is not told for its bytes
+abbrev pub IsBrokenRow : AuditStop → Type 0
+IsBrokenRow Memory = ⊥
+IsBrokenRow Store = ⊥
+IsBrokenRow (Broken broken) = broken.why ≢ OtherBytes

@@ -4,17 +4,19 @@ ghost use Rattle.std.specs.Prelude.{◌≡◌, false, IfOk, IfErr};
 ghost use Rattle.sqlite.specs.Held.{state};
 ghost use Rattle.sqlite.specs.State.{HasCleanDisk};
 ghost use Rattle.reg_core.specs.Records.{Records};
-ghost use Rattle.reg_core.specs.Sound.{SoundRows};
+ghost use Rattle.reg_core.specs.Sound.{Sound, SoundRows};
 ghost use Rattle.reg_tables.specs.Columns.{Columns};
 ghost use Rattle.reg_tables.specs.Kept.{Kept};
 ghost use Rattle.reg_tables.specs.Shows.{ShowsBoth};
 ghost use Rattle.reg_tables.specs.Stays.{IsRegister, LeavesNothing, Stays};
-ghost use Rattle.reg_auditing.specs.Stops.{IsBroken};
+ghost use Rattle.reg_auditing.specs.Stored.{IsSomeCrl};
+ghost use Rattle.reg_auditing.specs.Stops.{IsBrokenRow};
 ghost use Rattle.reg_auditing.specs.Values.{HasValues};
 
 use crate::judging::judge;
 use crate::reading::read_each;
 use crate::stop::AuditStop;
+use crate::stored::check_crls;
 use crate::texts::What;
 use sqlite::{Alter, Connection};
 use std::alloc::Global;
@@ -42,27 +44,34 @@ const WHOLE: [What; 10] = [
 ];
 
 /// Reads the rows of a register's tables whole, and checks that they are those of sound records, with the letters, counts
-/// and last listings that follow from them ([`reg_audit::check`]).
+/// and last listings that follow from them ([`reg_audit::check`]); then reads the bytes of each CRL, one after the other, and
+/// checks that they are those of what the records list in it (RFC 5280 5.1), under the algorithm that stands in them and
+/// whatever signature ([`reg_audit::check_crl`]).
 ///
 /// Each value in a row is read as the number, moment, serial number, label or letter that it is, or as none where the
-/// register's type has no such value. Whatever records the tables show, where all is found well these are sound and what is
-/// kept beside them follows from them; where a row is told as broken, they are not so, or have a value that no register's
-/// records have (`HasValues`). It changes nothing of the tables of a register, and commits nothing.
+/// register's type has no such value. Whatever records the tables show, where all is found well these are sound, each CRL's
+/// bytes are those of what it lists, and what is kept beside the records follows from them; where a row is told as broken, the
+/// records are not sound, or what is kept does not follow, or they have a value that no register's records have
+/// (`HasValues`). That the bytes of a CRL are others where that is told is not proved. It changes nothing of the tables of a
+/// register, and commits nothing.
 ///
-/// The bytes of CRLs, the issuer, the policy's schedule and lives, and the rowids of the tables
-/// whose key is a serial number are not looked at. The schema is not looked at either.
+/// Whether a signature verifies, the policy's schedule and the life of OCSP answers, and the rowids of the tables whose key is
+/// a serial number are not looked at. The schema is not looked at either.
 ///
 /// # Errors
-/// `Broken` with a row that breaks a rule; `Memory`; `Store` where the database fails.
+/// `Broken` with a row that breaks a rule; `Memory`; `Store` where the database fails, or where the issuer or the policy is
+/// one that no register writes.
 pub fn audit<S: Alter>(alloc: Global, conn: &mut Connection<S>) -> Result<Audited, AuditStop>
     ensures sound { (records : Records) → (columns : Columns) → ShowsBoth S.Store conn.old records columns → HasCleanDisk (state S.Store conn.new)
-        → IfOk result (λ _. SoundRows records × Kept columns records) }
+        → IfOk result (λ _. Sound IsSomeCrl records × Kept columns records) }
     ensures broken { (records : Records) → (columns : Columns) → ShowsBoth S.Store conn.old records columns → HasCleanDisk (state S.Store conn.new)
-        → IfErr result (λ stop. IsBroken stop → ¬ (HasValues records × SoundRows records × Kept columns records)) }
+        → IfErr result (λ stop. IsBrokenRow stop → ¬ (HasValues records × SoundRows records × Kept columns records)) }
     ensures same { IsRegister (state S.Store conn.old) → Stays (state S.Store conn.old) (state S.Store conn.new) }
     ensures survives { LeavesNothing (state S.Store conn.old) (state S.Store conn.new) }
     ensures idle { conn.old.in_transaction ≡ false → conn.new.in_transaction ≡ false }
 {
     let all = read_each(alloc, conn, &WHOLE)?;
-    judge(alloc, &all)
+    let audited = judge(alloc, &all)?;
+    check_crls(alloc, conn, &all)?;
+    Ok(audited)
 }

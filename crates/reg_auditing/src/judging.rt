@@ -21,7 +21,7 @@ use sqlite::Row;
 use std::alloc::Global;
 
 /// The rows of the table that was read at a place.
-fn rows_at(all: &[Vec<Row>], place: usize) -> &[Row]
+pub(crate) fn rows_at(all: &[Vec<Row>], place: usize) -> &[Row]
     ensures read { (records : Records) → (columns : Columns) → (whats : List What) → (other : What) → AreRead records columns whats all.now (λ rows. rows.items)
         → place < length whats → IsReadOf records columns (get_or whats place other) result.now }
 {

@@ -5,6 +5,7 @@ mod auditing;
 mod judging;
 mod reading;
 mod stop;
+mod stored;
 mod tables;
 mod texts;
 mod typed;

@@ -30,7 +30,7 @@ pub record OpensSame {D : Type 0} {g : disk.Ghosts D} (found : FoundSound g) (re
   pub same : (file_state opened.connection).now ≡ (file_state found.audited.connection).now
 
 -- Whatever records and columns the audited tables show, they stand in a register that is opened over these tables: they are shown
--- and sound, and what is kept beside them follows from them. That each stored CRL is signed is what an audit does not tell.
+-- and sound, and what is kept beside them follows from them. That each stored CRL has the signer's signature is what an audit does not tell.
 abbrev pub StandsOnceAudited : {D : Type 0} → disk.Ghosts D → (Identity → List ℕ → List ℕ → Type 0) → Type 0
 StandsOnceAudited {D} g signs =
     (found : FoundSound g) (register : Held (FileStore D g)) (identity : Identity) → OpensSame found register identity

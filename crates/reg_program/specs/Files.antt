@@ -8,7 +8,7 @@ use Rattle.sqlite_disk.specs.declared.Disk as disk
 use Rattle.sqlite_store.specs.declared.store.FileStore.{FileStore}
 use Rattle.sqlite_trees.specs.View.{doubt}
 use Rattle.reg_core.specs.Records.{Records}
-use Rattle.reg_core.specs.Sound.{SoundRows}
+use Rattle.reg_core.specs.Sound.{Sound, SoundRows}
 use Rattle.reg_migration.specs.Older.{ShowsOlder}
 use Rattle.reg_migration.specs.declared.version.Earlier.{Earlier}
 use Rattle.reg_tables.specs.Columns.{Columns}
@@ -16,6 +16,7 @@ use Rattle.reg_tables.specs.Kept.{Kept, ShowsKept}
 use Rattle.reg_tables.specs.Schema.{no_schema}
 use Rattle.reg_tables.specs.Shows.{ShowsBoth}
 use Rattle.reg_tables.specs.Stays.{IsRegister, Stays}
+use Rattle.reg_auditing.specs.Stored.{IsSomeCrl}
 use Rattle.reg_auditing.specs.Values.{HasValues}
 use Rattle.reg_verdict.specs.Verdicts.{IsBrokenRow, IsSound}
 use Rattle.reg_verdict.specs.declared.judging.Verdict.{Verdict}
@@ -54,14 +55,15 @@ module _ {D : Type 0} {g : disk.Ghosts D} where
     pub clean : doubt (file_state connection).is_clean ≤ doubt (file_state register).is_clean
 
 -- A database was audited by a connection, and its tables are as they were. Where all was said to be sound, they are a register's,
--- whatever records they showed are sound, and what is kept beside these follows from them. Where a row was told, they showed none of which
--- that holds, and whose values are a register's.
+-- whatever records they showed are sound, each CRL's bytes are those of what it lists, whatever its signature, and what is kept beside the
+-- records follows from them. Where a row was told, and not for the bytes of a CRL, they showed no sound records with what follows from
+-- them kept beside them, whose values are a register's.
 pub record IsAudited {D : Type 0} (g : disk.Ghosts D) (verdict : Verdict) : Type 0 where
   pub connection : Held (FileStore D g)
   pub after : Held (FileStore D g)
   pub connects : IsConnection connection
   pub sound : (records : Records) (columns : Columns) → ShowsBoth over_files connection records columns → HasCleanDisk (file_state after)
-      → IsSound verdict → SoundRows records × Kept columns records
+      → IsSound verdict → Sound IsSomeCrl records × Kept columns records
   pub broken : (records : Records) (columns : Columns) → ShowsBoth over_files connection records columns → HasCleanDisk (file_state after)
       → IsBrokenRow verdict → HasValues records × SoundRows records × Kept columns records → ⊥
   pub register : IsSound verdict → IsRegister (file_state after)

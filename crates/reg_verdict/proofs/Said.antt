@@ -24,14 +24,14 @@ module _ (P : Type 0) where
       → IfOk result (λ verdict. IsSound verdict → P)
   sound_said audited result is holds = subst (λ (r : Result Verdict StoreFault). IfOk r (λ verdict. IsSound verdict → P)) (sym is) (well_said audited holds)
 
-  broken_well_said : (audited : Result Audited AuditStop) → IfErr audited (λ reason. auditing.IsBroken reason → P) → IfOk (verdict_of audited) (λ verdict. IsBrokenRow verdict → P)
+  broken_well_said : (audited : Result Audited AuditStop) → IfErr audited (λ reason. auditing.IsBrokenRow reason → P) → IfOk (verdict_of audited) (λ verdict. IsBrokenRow verdict → P)
   broken_well_said (Ok found) holds = λ broken. absurd broken
-  broken_well_said (Err (stop.Broken broken)) holds = λ is. holds tt
+  broken_well_said (Err (stop.Broken broken)) holds = λ is. holds is
   broken_well_said (Err stop.Memory) holds = tt
   broken_well_said (Err stop.Store) holds = tt
 
   -- what holds where a row was found that breaks a rule holds where one is told
-  pub broken_said : (audited : Result Audited AuditStop) (result : Result Verdict StoreFault) → result ≡ verdict_of audited → IfErr audited (λ reason. auditing.IsBroken reason → P)
+  pub broken_said : (audited : Result Audited AuditStop) (result : Result Verdict StoreFault) → result ≡ verdict_of audited → IfErr audited (λ reason. auditing.IsBrokenRow reason → P)
       → IfOk result (λ verdict. IsBrokenRow verdict → P)
   broken_said audited result is holds = subst (λ (r : Result Verdict StoreFault). IfOk r (λ verdict. IsBrokenRow verdict → P)) (sym is) (broken_well_said audited holds)
 

@@ -1,7 +1,8 @@
 -- What an audit says of a register.
-use Rattle.std.specs.Prelude.{Result, Ok, Err}
+use Rattle.std.specs.Prelude.{◌≢◌, Result, Ok, Err}
 use Rattle.reg_tables.specs.declared.fault.StoreFault.{StoreFault}
 use Rattle.reg_tables.specs.declared.fault.StoreFault.TheVariants as fault
+use Rattle.reg_audit.specs.declared.stop.Why.TheVariants.{OtherBytes}
 use Rattle.reg_auditing.specs.declared.auditing.Audited.{Audited}
 use Rattle.reg_auditing.specs.declared.stop.AuditStop.{AuditStop}
 use Rattle.reg_auditing.specs.declared.stop.AuditStop.TheVariants as stop
@@ -20,7 +21,7 @@ abbrev pub IsSound : Verdict → Type 0
 IsSound (Sound found) = Unit {0}
 IsSound _ = ⊥
 
--- a row was told that breaks a rule
+-- a row was told that breaks a rule, and not for the bytes of a CRL
 abbrev pub IsBrokenRow : Verdict → Type 0
-IsBrokenRow (Broken row) = Unit {0}
+IsBrokenRow (Broken row) = row.why ≢ OtherBytes
 IsBrokenRow _ = ⊥

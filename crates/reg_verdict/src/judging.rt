@@ -4,11 +4,12 @@ ghost use Rattle.std.specs.Prelude.{◌≡◌, ◌≢◌, false, IfErr, IfOk};
 ghost use Rattle.sqlite.specs.Held.{state};
 ghost use Rattle.sqlite.specs.State.{HasCleanDisk};
 ghost use Rattle.reg_core.specs.Records.{Records};
-ghost use Rattle.reg_core.specs.Sound.{SoundRows};
+ghost use Rattle.reg_core.specs.Sound.{Sound, SoundRows};
 ghost use Rattle.reg_tables.specs.Columns.{Columns};
 ghost use Rattle.reg_tables.specs.Kept.{Kept};
 ghost use Rattle.reg_tables.specs.Shows.{ShowsBoth};
 ghost use Rattle.reg_tables.specs.Stays.{IsRegister, Stays};
+ghost use Rattle.reg_auditing.specs.Stored.{IsSomeCrl};
 ghost use Rattle.reg_auditing.specs.Values.{HasValues};
 ghost use Rattle.reg_verdict.specs.Verdicts.{IsBrokenRow, IsSound, verdict_of};
 
@@ -51,16 +52,17 @@ fn said(audited: Result<Audited, AuditStop>) -> Result<Verdict, StoreFault>
 /// ([`reg_auditing::audit`]). Nothing is changed; a register of version 1 or 2 is not made newer. The connection is in no
 /// transaction, as one that was just opened.
 ///
-/// Where the answer is `Sound`, the schema is a register's, whatever records the tables show are sound, and what is kept beside
-/// these follows from them. Where it is `Broken`, the tables show no sound records, with what follows from them kept beside them,
-/// whose names, validities and reasonCodes are a register's.
+/// Where the answer is `Sound`, the schema is a register's, whatever records the tables show are sound, each CRL's bytes are
+/// those of what it lists, whatever its signature, and what is kept beside the records follows from them. Where it is `Broken`,
+/// but for the bytes of a CRL, the tables show no sound records, with what follows from them kept beside them, whose names,
+/// validities and reasonCodes are a register's.
 ///
 /// # Errors
 /// `NotARegister` and `NewVersion` as [`reg_opening::open`] has them; `Memory`; `Store` where the database fails.
 pub fn judge<S: Alter>(alloc: Global, conn: &mut Connection<S>) -> Result<Verdict, StoreFault>
     requires { conn.old.in_transaction ≡ false }
     ensures sound { (records : Records) → (columns : Columns) → ShowsBoth S.Store conn.old records columns → HasCleanDisk (state S.Store conn.new)
-        → IfOk result (λ verdict. IsSound verdict → SoundRows records × Kept columns records) }
+        → IfOk result (λ verdict. IsSound verdict → Sound IsSomeCrl records × Kept columns records) }
     ensures broken { (records : Records) → (columns : Columns) → ShowsBoth S.Store conn.old records columns → HasCleanDisk (state S.Store conn.new)
         → IfOk result (λ verdict. IsBrokenRow verdict → ¬ (HasValues records × SoundRows records × Kept columns records)) }
     ensures register { IfOk result (λ verdict. IsSound verdict → IsRegister (state S.Store conn.new)) }

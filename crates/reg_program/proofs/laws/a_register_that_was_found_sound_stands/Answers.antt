@@ -11,5 +11,5 @@ returns g c = λ found register identity opens records columns shown signed.
     let there = subst (λ db. AreBoth db records columns) (sym opens.same) shown in
     record {
       shown = opened.kept records (columns, record { saved = λ clean up. (opened.connects.whole clean).0.clean; tables = λ clean up. there }, it.1);
-      sound = record { rows = it.0; signatures = signed };
+      sound = record { rows = it.0.rows; signatures = signed };
     }

@@ -1,0 +1,55 @@
+use Rattle.std.proofs.Common.{map, subst, ap, ◌∙◌, arith, rules}
+use Rattle.std.specs.List.{AllByRecursion}
+use Rattle.sqlite.specs.Held.{state}
+use Rattle.sqlite.specs.State.{HasCleanDisk}
+use Rattle.reg_tables.proofs.Staying.{both_shows, shows_register, stays_shows, stays_then, stays_register, leaves_then}
+use Rattle.reg_audit.specs.Beside.{listed_in}
+use Rattle.reg_auditing.specs.Said.{whole}
+use Rattle.reg_auditing.specs.Stops.{IsBrokenRow}
+use Rattle.reg_auditing.specs.Stored.{IsStored}
+use Rattle.reg_auditing.specs.declared.texts.What.TheVariants.{Office}
+use Rattle.reg_audit.proofs.Results.{on_ok}
+use Rattle.reg_auditing.proofs.Having.{each_has}
+use Rattle.reg_auditing.proofs.Signed.{all_signed, lists_are, row_is_broken}
+use Rattle.reg_auditing.proofs.stored.check_crls.Goals as goal
+
+pub returns-clause-same : goal.returns-clause-same
+returns-clause-same g c register =
+    let first = state g.S.Store c.args.conn.now in
+    let before = state g.S.Store c.terms.new.conn in
+    let after = state g.S.Store c.check_each.new.conn in
+    let stays = c.terms.ensures.same register in
+    stays_then first before after c.check_each.ensures.survives.clean stays (c.check_each.ensures.same (stays_register first before c.terms.ensures.survives.clean stays register))
+
+pub returns-clause-survives : goal.returns-clause-survives
+returns-clause-survives g c =
+    leaves_then (state g.S.Store c.args.conn.now) (state g.S.Store c.terms.new.conn) (state g.S.Store c.check_each.new.conn) c.terms.ensures.survives c.check_each.ensures.survives
+
+pub returns-clause-bytes : goal.returns-clause-bytes
+returns-clause-bytes g c records columns shows are kept clean =
+    let old = c.args.conn.now in
+    let mid = c.terms.new.conn in
+    let was_clean : HasCleanDisk (state g.S.Store mid) = omega (arith, c.check_each.ensures.survives.clean) in
+    let here = both_shows g.S.Store old records columns shows in
+    let register = shows_register g.S.Store old records here in
+    let there = stays_shows g.S.Store old mid records c.terms.ensures.survives.clean (c.terms.ensures.same register) here in
+    let terms = c.in_ok-issuer.ensures.found records here was_clean in
+    let of_crls = c.rows_at.ensures.read records columns whole Office are (omega arith) in
+    let of_listed = c.rows_at-2.ensures.read records columns whole Office are (omega arith) in
+    let numbered = of_crls.both.shown.rows.crls_numbered in
+    let listed = ap (map listed_in) c.deref.ensures.value ∙ c.in_ok-listed.ensures.read records columns of_listed in
+    let crls = c.deref-2.ensures.value ∙ c.in_ok-crls.ensures.read records columns of_crls in
+    let lists = lists_are records columns terms.0 terms.1 numbered listed kept in
+    on_ok c.check_each.result (c.check_each.ensures.bytes records there lists clean) (λ all. all_signed records numbered (subst (AllByRecursion (IsStored records)) crls all))
+
+pub returns-in_err-crls-clause-rows : goal.returns-in_err-crls-clause-rows
+returns-in_err-crls-clause-rows g c records columns are values sound kept =
+    let no : IsBrokenRow c.in_err-crls.field-0.0 → ⊥ =
+    λ is. c.in_err-crls.ensures.has records columns (c.rows_at.ensures.read records columns whole Office are (omega arith)) (each_has records columns values sound kept) (row_is_broken _ is) in
+    search rules
+
+pub returns-in_err-listed-clause-rows : goal.returns-in_err-listed-clause-rows
+returns-in_err-listed-clause-rows g c records columns are values sound kept =
+    let no : IsBrokenRow c.in_err-listed.field-0.0 → ⊥ =
+    λ is. c.in_err-listed.ensures.has records columns (c.rows_at-2.ensures.read records columns whole Office are (omega arith)) (each_has records columns values sound kept) (row_is_broken _ is) in
+    search rules

@@ -1,0 +1,40 @@
+use Rattle.std.proofs.Common.{arith, subst}
+use Rattle.std.specs.List.{AllByRecursion}
+use Rattle.std.proofs.lemmas.List.{take_all}
+use Rattle.sqlite.specs.Held.{state}
+use Rattle.sqlite.specs.State.{HasCleanDisk}
+use Rattle.reg_tables.proofs.Staying.{shows_register, stays_shows, stays_then, stays_register, leaves_then}
+use Rattle.reg_auditing.specs.Stored.{IsStored}
+use Rattle.reg_auditing.proofs.Signed.{all_more}
+use Rattle.reg_auditing.proofs.stored.check_each.Goals as goal
+
+pub loop-crl-preserved : goal.loop-crl-preserved
+loop-crl-preserved g c =
+    let first = state g.S.Store c.args.conn.now in
+    let before = state g.S.Store c.loop-crl.conn in
+    let after = state g.S.Store c.check_stored.new.conn in
+    record {
+      stays = λ register.
+          let stays = c.loop-crl.invariant.stays register in
+          stays_then first before after c.check_stored.ensures.survives.clean stays (c.check_stored.ensures.same (stays_register first before c.loop-crl.invariant.survives.clean stays register));
+      survives = leaves_then first before after c.loop-crl.invariant.survives c.check_stored.ensures.survives;
+      bytes = λ records shows lists clean.
+          let was_clean : HasCleanDisk before = omega (arith, c.check_stored.ensures.survives.clean) in
+          let register = shows_register g.S.Store c.args.conn.now records shows in
+          let mid = stays_shows g.S.Store c.args.conn.now c.loop-crl.conn records c.loop-crl.invariant.survives.clean (c.loop-crl.invariant.stays register) shows in
+          all_more (IsStored records) c.args.crls.now c.loop-crl.crl-index c.crl-item.result c.loop-crl-test.true c.crl-item.is (c.loop-crl.invariant.bytes records shows lists was_clean)
+          (c.in_ok-check_stored.ensures.bytes records mid lists clean);
+      idle = λ e. c.check_stored.ensures.idle (c.loop-crl.invariant.idle e);
+    }
+
+pub returns-in_err-check_stored-clause-same : goal.returns-in_err-check_stored-clause-same
+returns-in_err-check_stored-clause-same g c register =
+    let first = state g.S.Store c.args.conn.now in
+    let before = state g.S.Store c.loop-crl.conn in
+    let after = state g.S.Store c.check_stored.new.conn in
+    let stays = c.loop-crl.invariant.stays register in
+    stays_then first before after c.check_stored.ensures.survives.clean stays (c.check_stored.ensures.same (stays_register first before c.loop-crl.invariant.survives.clean stays register))
+
+pub returns-clause-bytes : goal.returns-clause-bytes
+returns-clause-bytes g c records shows lists clean =
+    subst (AllByRecursion (IsStored records)) (take_all c.loop-crl.crl-index c.args.crls.now c.loop-crl-test.false) (c.loop-crl.invariant.bytes records shows lists clean)

@@ -1,0 +1,165 @@
+//! Whether the bytes of the stored CRLs are those of what the records list.
+
+ghost use Rattle.std.specs.Prelude.{◌≡◌, ◌≤◌, false, OnOk, IfOk, IfErr, IfSome};
+ghost use Rattle.std.specs.List.{AllByRecursion};
+ghost use Rattle.sqlite.specs.Held.{state};
+ghost use Rattle.sqlite.specs.State.{HasCleanDisk};
+ghost use Rattle.reg_core.specs.Crls.{cert_list};
+ghost use Rattle.reg_core.specs.Records.{Records};
+ghost use Rattle.reg_core.specs.Sound.{CrlsSigned, SoundRows};
+ghost use Rattle.reg_crl.specs.Signing.{IsAlgorithm};
+ghost use Rattle.reg_tables.specs.Columns.{Columns};
+ghost use Rattle.reg_tables.specs.Kept.{Kept};
+ghost use Rattle.reg_tables.specs.Shows.{Shows, ShowsBoth};
+ghost use Rattle.reg_tables.specs.Stays.{IsCallFault, IsRegister, LeavesNothing, Stays};
+ghost use Rattle.reg_audit.specs.Crls.{Lists};
+ghost use Rattle.reg_auditing.specs.Said.{AreRead, whole};
+ghost use Rattle.reg_auditing.specs.Stops.{IsBrokenRow};
+ghost use Rattle.reg_auditing.specs.Stored.{IsSomeCrl, IsStored};
+ghost use Rattle.reg_auditing.specs.Values.{HasValues};
+
+use crate::judging::rows_at;
+use crate::stop::AuditStop;
+use crate::tables::{crls, listings};
+use reg_audit::{Broken, Listed, Stop, Table, Why, check_crl};
+use reg_core::{CrlRow, Moment};
+use reg_der::{Issuer, take};
+use reg_tables::StoreFault;
+use sqlite::{Alter, Connection, Row};
+use std::alloc::Global;
+
+/// The tag octet of a SEQUENCE (X.690 8.9).
+const SEQUENCE: u8 = 0x30;
+
+/// The most octets of an AlgorithmIdentifier.
+const MOST_ALGORITHM: usize = 1_024;
+
+/// The bytes of the CRL with a number are not those of what the records list.
+fn other_bytes(number: u64) -> AuditStop
+    ensures { ¬ IsBrokenRow result }
+{
+    AuditStop::Broken(Broken {
+        table: Table::Crl,
+        row: number,
+        why: Why::OtherBytes,
+    })
+}
+
+/// The AlgorithmIdentifier before the signature of a CRL (RFC 5280 5.1.1.2), where one stands there.
+fn algorithm_in(crl: &[u8]) -> Option<&[u8]>
+    ensures { IfSome result (λ found. IsAlgorithm found.now) }
+{
+    let (list, _) = take(crl)?;
+    let (_, behind_tbs) = take(list.contents)?;
+    let (algorithm, _) = take(behind_tbs)?;
+    if algorithm.tag == SEQUENCE && algorithm.raw.len() <= MOST_ALGORITHM {
+        Some(algorithm.raw)
+    } else {
+        None
+    }
+}
+
+/// The bytes are those of the CRL that the records list, under the algorithm that stands in them.
+fn check_bytes(
+    alloc: Global,
+    issuer: &Issuer,
+    crl_life: u64,
+    listed: &[Listed],
+    crl: &CrlRow,
+    bytes: &[u8],
+) -> Result<(), AuditStop>
+    requires { crl_life ≤ 863999 }
+    ensures bytes { (records : Records) → Lists issuer.now crl_life listed.now records → OnOk result (IsSomeCrl (cert_list records crl.now.number crl.now.this_update) bytes.now) }
+    ensures rows { IfErr result (λ stop. ¬ IsBrokenRow stop) }
+{
+    let Some(algorithm) = algorithm_in(bytes) else {
+        return Err(other_bytes(crl.number));
+    };
+    // No row is read with such a thisUpdate: the test is what makes nextUpdate a moment.
+    if crl.this_update >= Moment::CLOCK_END {
+        return Err(other_bytes(crl.number));
+    }
+    match check_crl(alloc, issuer, algorithm, crl_life, listed, crl, bytes) {
+        Ok(()) => Ok(()),
+        Err(Stop::Memory) => Err(AuditStop::Memory),
+        Err(Stop::Broken(_)) => Err(other_bytes(crl.number)),
+    }
+}
+
+/// The stored bytes of one CRL are those of what the records list in it.
+fn check_stored<S: Alter>(
+    alloc: Global,
+    conn: &mut Connection<S>,
+    issuer: &Issuer,
+    crl_life: u64,
+    listed: &[Listed],
+    crl: &CrlRow,
+) -> Result<(), AuditStop>
+    requires { crl_life ≤ 863999 }
+    ensures bytes { (records : Records) → Shows S.Store conn.old records → Lists issuer.now crl_life listed.now records → HasCleanDisk (state S.Store conn.new) → OnOk result (IsStored records crl.now) }
+    ensures rows { IfErr result (λ stop. ¬ IsBrokenRow stop) }
+    ensures same { IsRegister (state S.Store conn.old) → Stays (state S.Store conn.old) (state S.Store conn.new) }
+    ensures survives { LeavesNothing (state S.Store conn.old) (state S.Store conn.new) }
+    ensures idle { conn.old.in_transaction ≡ false → conn.new.in_transaction ≡ false }
+{
+    match reg_tables::crl(conn, crl.number)? {
+        Some(bytes) => check_bytes(alloc, issuer, crl_life, listed, crl, &bytes),
+        None => Err(other_bytes(crl.number)),
+    }
+}
+
+/// The same of each CRL. The bytes of one are held at a time.
+fn check_each<S: Alter>(
+    alloc: Global,
+    conn: &mut Connection<S>,
+    issuer: &Issuer,
+    crl_life: u64,
+    listed: &[Listed],
+    crls: &[CrlRow],
+) -> Result<(), AuditStop>
+    requires { crl_life ≤ 863999 }
+    ensures bytes { (records : Records) → Shows S.Store conn.old records → Lists issuer.now crl_life listed.now records → HasCleanDisk (state S.Store conn.new) → OnOk result (AllByRecursion (IsStored records) crls.now) }
+    ensures rows { IfErr result (λ stop. ¬ IsBrokenRow stop) }
+    ensures same { IsRegister (state S.Store conn.old) → Stays (state S.Store conn.old) (state S.Store conn.new) }
+    ensures survives { LeavesNothing (state S.Store conn.old) (state S.Store conn.new) }
+    ensures idle { conn.old.in_transaction ≡ false → conn.new.in_transaction ≡ false }
+{
+    for crl in crls {
+        check_stored(alloc, conn, issuer, crl_life, listed, crl)?;
+    }
+    Ok(())
+}
+
+/// What a CRL has beside what it lists: the issuer, and the seconds from its thisUpdate to its nextUpdate.
+fn terms<S: Alter>(conn: &mut Connection<S>) -> Result<(Issuer, u64), StoreFault>
+    ensures found { (records : Records) → Shows S.Store conn.old records → HasCleanDisk (state S.Store conn.new) → IfOk result (λ it. (it.0 ≡ records.issuer) × (it.1 ≡ records.policy.crl_life)) }
+    ensures short { IfOk result (λ it. it.1 ≤ 863999) }
+    ensures faults { IfErr result IsCallFault }
+    ensures same { IsRegister (state S.Store conn.old) → Stays (state S.Store conn.old) (state S.Store conn.new) }
+    ensures survives { LeavesNothing (state S.Store conn.old) (state S.Store conn.new) }
+    ensures idle { conn.old.in_transaction ≡ false → conn.new.in_transaction ≡ false }
+{
+    let issuer = reg_tables::issuer(conn)?;
+    let policy = reg_tables::policy(conn)?;
+    Ok((issuer, policy.crl_life()))
+}
+
+/// The stored bytes of each CRL are those of what the records list in it, under some algorithm and whatever signature. The
+/// rows are those that were read of the tables, in the order of [`crate::auditing::WHOLE`].
+pub(crate) fn check_crls<S: Alter>(
+    alloc: Global,
+    conn: &mut Connection<S>,
+    all: &[Vec<Row>],
+) -> Result<(), AuditStop>
+    ensures bytes { (records : Records) → (columns : Columns) → ShowsBoth S.Store conn.old records columns → AreRead records columns whole all.now (λ rows. rows.items) → Kept columns records → HasCleanDisk (state S.Store conn.new)
+        → OnOk result (CrlsSigned IsSomeCrl records) }
+    ensures rows { (records : Records) → (columns : Columns) → AreRead records columns whole all.now (λ rows. rows.items) → HasValues records → SoundRows records → Kept columns records → IfErr result (λ stop. ¬ IsBrokenRow stop) }
+    ensures same { IsRegister (state S.Store conn.old) → Stays (state S.Store conn.old) (state S.Store conn.new) }
+    ensures survives { LeavesNothing (state S.Store conn.old) (state S.Store conn.new) }
+    ensures idle { conn.old.in_transaction ≡ false → conn.new.in_transaction ≡ false }
+{
+    let crls = crls(alloc, rows_at(all, 6))?;
+    let listed = listings(alloc, rows_at(all, 9))?;
+    let (issuer, crl_life) = terms(conn)?;
+    check_each(alloc, conn, &issuer, crl_life, &listed, &crls)
+}
