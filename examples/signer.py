@@ -89,6 +89,12 @@ def listen(path):
     return listener
 
 
+def accepted(listener):
+    """The next connection, as the plain type below socket.socket: to make one of the latter takes a tenth as long as to sign."""
+    descriptor, _ = listener._accept()
+    return socket.SocketType(socket.AF_UNIX, socket.SOCK_STREAM, 0, descriptor)
+
+
 def main():
     if len(sys.argv) not in (2, 3):
         sys.exit(__doc__)
@@ -104,8 +110,7 @@ def main():
     room = memoryview(bytearray(65536))
     try:
         while True:
-            connection, _ = listener.accept()
-            answer(connection, sign, room)
+            answer(accepted(listener), sign, room)
     finally:
         os.remove(sys.argv[2])
 

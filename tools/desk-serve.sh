@@ -174,7 +174,7 @@ signed_register() {
     rm -f ca.db ca.db-wal
     "$signer" ca.key ca.sign >signing &
     holder=$!
-    for _ in $(seq 50); do
+    for _ in $(seq 200); do
         [ -s signing ] && break
         sleep 0.1
     done
