@@ -212,6 +212,7 @@ fn a_register_that_can_not_be_told_is_not_left(rt: HostRuntime) {
 fn a_new_register_is_its_owners_alone(rt: HostRuntime) {
     let file = "desk_examples_own.db";
     drop(fs::remove_file(&rt, file));
+    drop(fs::remove_file(&rt, "desk_examples_own.db-wal"));
     assert!(rt; wrote(&done(&rt, &init(file, NAME, 398), b""), b"created\n"));
     let mode = fs::metadata(&rt, file).map_or(0, |it| it.mode() & 0o777);
     assert!(rt; mode == 0o600);
@@ -246,6 +247,7 @@ fn a_link_that_leads_nowhere_stays(rt: HostRuntime) {
 fn a_register_is_not_made_twice(rt: HostRuntime) {
     let file = "desk_examples_twice.db";
     drop(fs::remove_file(&rt, file));
+    drop(fs::remove_file(&rt, "desk_examples_twice.db-wal"));
     assert!(rt; wrote(&done(&rt, &init(file, NAME, 398), b""), b"created\n"));
     assert!(rt; told(&done(&rt, &init(file, NAME, 398), b""), b"not-empty\n"));
     assert!(rt; fs::exists(&rt, file).unwrap_or(false));
