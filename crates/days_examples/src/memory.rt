@@ -2,14 +2,17 @@
 
 use days_model::der::{KEY, NAME};
 use days_model::scripts::Plan;
+use days_model::tally::Tally;
 use days_model::tested::Tested;
 use days_model::texts::Text;
+use reg_auditing::Audited;
 use reg_core::{Command, Fault, Moment, Outcome, Policy, Query, Schedule};
 use reg_crl::DigestSeal;
 use reg_der::Issuer;
 use reg_faces::{Desk, import, serve_one};
 use reg_office::Office;
 use reg_store::Store;
+use reg_verdict::{Verdict, judge};
 use sqlite::{Connection, MemStore};
 use std::alloc::Global;
 
@@ -17,6 +20,8 @@ use std::alloc::Global;
 #[derive(Drop)]
 pub struct InMemory {
     desk: Desk<Office<MemStore, DigestSeal>>,
+    /// How many certificates the imports registered, by their replies.
+    imported: u64,
 }
 
 impl InMemory {
@@ -30,7 +35,23 @@ impl InMemory {
         let office = Office::new(store, DigestSeal);
         Some(InMemory {
             desk: Desk { office, alloc },
+            imported: 0,
         })
+    }
+
+    /// Whether an audit says that the register is sound, and has as many certificates, revocations and CRLs as the plain
+    /// lists: those of the days that came to this tally.
+    pub fn is_sound(self, tally: &Tally) -> bool {
+        let InMemory { desk, imported } = self;
+        let [_, _, registered, _, _, _, revoked, revoked_late, ..] = tally.replies;
+        let due = Audited {
+            certificates: registered.saturating_add(imported) as usize,
+            revoked: revoked.saturating_add(revoked_late) as usize,
+            crls: tally.crls as usize,
+        };
+        let (store, _) = desk.office.into_parts();
+        let mut connection = store.into_connection();
+        judge(desk.alloc, &mut connection).ok() == Some(Verdict::Sound(due))
     }
 }
 
@@ -51,7 +72,13 @@ fn written(alloc: Global, ended: Result<(), Fault>, bytes: Vec<u8>) -> Vec<u8> {
     }
 }
 
-impl Tested for InMemory {
+/// How many of the lines of an import's replies tell of a registered certificate.
+fn registered(lines: &[u8]) -> u64 {
+    let line = b"registered\n".as_slice();
+    lines.windows(11).filter(|part| *part == line).count() as u64
+}
+
+impl Tested for &mut InMemory {
     fn run_one(&mut self, now: Moment, command: &Command) -> Outcome {
         let alloc = self.desk.alloc;
         self.desk.office.run_one(alloc, now, command)
@@ -87,6 +114,7 @@ impl Tested for InMemory {
         let alloc = self.desk.alloc;
         let (mut reader, mut bytes) = (text, Vec::new(alloc));
         let ended = import(alloc, &mut reader, &mut bytes, now, &mut self.desk);
+        self.imported = self.imported.saturating_add(registered(&bytes));
         written(alloc, ended, bytes)
     }
 

@@ -7,10 +7,13 @@ use days_model::scripts::Plan;
 use days_model::tally::{FORMS, Tally};
 use std::test::Fail;
 
-/// What came in the days of a plan.
+/// What came in the days of a plan, after which an audit says that the register is sound, with the numbers of the lists.
 fn came(rt: &HostRuntime, plan: &Plan) -> Result<Tally, Fail> {
-    let office = InMemory::new(rt.alloc(), plan).ok_or("an office")?;
-    let tally = Days::run(rt.alloc(), plan, office)?;
+    let mut office = InMemory::new(rt.alloc(), plan).ok_or("an office")?;
+    let tally = Days::run(rt.alloc(), plan, &mut office)?;
+    if !office.is_sound(&tally) {
+        return Err("the audit says something else")?;
+    }
     Ok(tally)
 }
 

@@ -1,6 +1,7 @@
 //! Random days at an office in memory, from seeds that are given (tools/random-days.sh): `random_days FIRST COUNT [PLAN]` goes
 //! through each plan of the days, or the one with a name, from each of COUNT seeds, FIRST the least, and prints what came. It stops
-//! with an error at the first answer of the office that is not the one of the plain lists. Without arguments it prints nothing.
+//! with an error at the first answer of the office that is not the one of the plain lists, or where an audit of the register in the
+//! end does not say that it is sound, with their numbers. Without arguments it prints nothing.
 #![tactic(auto)]
 
 use anyhow::{Context, anyhow};
@@ -31,9 +32,10 @@ fn tell(rt: HostRuntime, name: &str, seed: u64, tally: &Tally) -> anyhow::Result
 
 /// Goes through the days of a plan.
 fn go_through(rt: HostRuntime, name: &str, plan: &Plan) -> anyhow::Result<()> {
-    let office = InMemory::new(rt.alloc(), plan).context("an office")?;
-    match Days::run(rt.alloc(), plan, office) {
-        Ok(tally) => tell(rt, name, plan.seed, &tally),
+    let mut office = InMemory::new(rt.alloc(), plan).context("an office")?;
+    match Days::run(rt.alloc(), plan, &mut office) {
+        Ok(tally) if office.is_sound(&tally) => tell(rt, name, plan.seed, &tally),
+        Ok(_) => Err(anyhow!("{name} {}: the audit says something else", plan.seed)),
         Err(difference) => {
             println!(rt; "{name} {difference:?}")?;
             Err(anyhow!("another answer"))
