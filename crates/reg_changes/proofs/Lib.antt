@@ -5,6 +5,7 @@ pub mod Letters
 pub mod Making
 pub mod Meaning
 pub mod Moving
+pub mod Obeying
 pub mod Params
 pub mod Placing
 pub mod Putting

@@ -1,8 +1,9 @@
 -- What a stop may find after a transaction.
 use Rattle.std.proofs.Common.{◌≡◌, true, refl, sym, subst}
 use Rattle.sqlite_trees.specs.Tree.{Trees}
+use Rattle.sqlite_catalog.specs.Listing.{IsSound}
 use Rattle.sqlite_trees.specs.declared.store.Store.{Ghosts}
-use Rattle.sqlite.specs.Effect.{Database}
+use Rattle.sqlite.specs.Effect.{Database, IsDatabase}
 use Rattle.sqlite.specs.Held.{Held, state}
 use Rattle.sqlite.specs.State.{State, HasCleanDisk, Survives}
 use Rattle.sqlite.proofs.Callers.{survives_begin}
@@ -12,11 +13,16 @@ use Rattle.reg_tables.specs.Columns.{Columns}
 use Rattle.reg_tables.specs.Schema.{register_schema}
 use Rattle.reg_tables.specs.Shows.{AreBoth}
 use Rattle.reg_tables.specs.Stays.{LeavesNothing}
+use Rattle.reg_changes.specs.AtRest.{AreARegisters}
 
 -- what a database shows its rows show
 pub resting : (db : Database) (trees : Trees) (records : Records) (columns : Columns) → trees ≡ db.trees → AreBoth db records columns → AreBoth (record { schema = register_schema; trees = trees }) records columns
 resting db trees records columns is both =
     subst (λ t. AreBoth (record { schema = register_schema; trees = t }) records columns) (sym is) (record { shown = record { schema = refl; rows = both.shown.rows }; kept = both.kept })
+
+-- and what it obeys they obey
+pub rests_sound : (db : Database) (trees : Trees) → trees ≡ db.trees → db.schema ≡ register_schema → IsDatabase db → AreARegisters trees
+rests_sound db trees is schema sound = subst (λ t. IsSound register_schema t) (sym is) (subst (λ s. IsSound s db.trees) schema sound)
 
 -- what commits nothing leaves what any call may
 pub leaves_less : (old new : State) (P : Trees → Type 0) → LeavesNothing old new → Survives old new P

@@ -2,6 +2,7 @@
 use Rattle.std.specs.Prelude.{◌≡◌, ◌≤◌, ℕ, List}
 use Rattle.sqlite_trees.specs.Tree.{Trees}
 use Rattle.sqlite_trees.specs.declared.store.Store.{Ghosts}
+use Rattle.sqlite_catalog.specs.Listing.{IsSound}
 use Rattle.sqlite.specs.Held.{Held}
 use Rattle.reg_core.specs.declared.change.Change.{Change}
 use Rattle.reg_core.specs.Changes.{Fits, changed_by, with_crl, with_schedule}
@@ -19,9 +20,13 @@ use Rattle.reg_changes.specs.Beside.{after}
 abbrev pub AreRowsOf : Records → Columns → Trees → Type 0
 AreRowsOf records columns trees = AreBoth (record { schema = register_schema; trees = trees }) records columns
 
+-- the rows list a register's tables and indexes, and obey them: an opening finds the register's schema there
+abbrev pub AreARegisters : Trees → Type 0
+AreARegisters trees = IsSound register_schema trees
+
 -- as a register's tables these rows show the records, and what is kept beside them stands for these records
 abbrev pub IsAtRest : Records → Trees → Type 0
-IsAtRest records trees = (columns : Columns) × AreRowsOf records columns trees × Kept columns records
+IsAtRest records trees = (columns : Columns) × AreRowsOf records columns trees × Kept columns records × AreARegisters trees
 
 -- the rows of the tables as a change leaves them: the records are those after it, with what follows from them
 abbrev pub IsChanged : {S : Type 0} → Ghosts S → Held S → ℕ → Change → Trees → Type 0
@@ -37,7 +42,7 @@ IsIssued g old now row bytes trees =
 -- the same of the columns that the transaction writes for a notAfter
 abbrev pub IsEntered : {S : Type 0} → Ghosts S → Held S → ℕ → Change → ℕ → Trees → Type 0
 IsEntered g old now change not_after trees =
-    (records : Records) (columns : Columns) → ShowsBoth g old records columns → SoundRows records → Fits records now change → AreRowsOf (changed_by records now change) (after now change not_after columns) trees
+    (records : Records) (columns : Columns) → ShowsBoth g old records columns → SoundRows records → Fits records now change → AreRowsOf (changed_by records now change) (after now change not_after columns) trees × AreARegisters trees
 
 -- the rows of the tables as a schedule that is set leaves them
 abbrev pub IsScheduled : {S : Type 0} → Ghosts S → Held S → List (ℕ × ℕ) → Trees → Type 0

@@ -1,6 +1,7 @@
 //! The schedule of longest validities, written anew.
 
 ghost use Rattle.std.specs.Prelude.{◌≡◌, ◌++◌, ◌∷◌, ℕ, List, [], true, false, IsTrue, OnOk, OnErr, IfErr};
+ghost use Rattle.sqlite.specs.Effect.{IsDatabase};
 ghost use Rattle.sqlite.specs.Held.{state};
 ghost use Rattle.sqlite.specs.State.{HasCleanDisk, KeepsCommit, Survives};
 ghost use Rattle.sqlite_trees.specs.Tree.{Trees};
@@ -25,6 +26,8 @@ fn clear_steps<S: Alter>(tx: &mut Transaction<'_, S>) -> Result<(), StoreFault>
     ensures ok { HasCleanDisk (state S.Store tx.new.conn.now) → (base : Trees) → (steps : List (ℕ × ℕ))
         → (IsTrue (state S.Store tx.old.conn.now).is_open → IsStaged base steps (state S.Store tx.old.conn.now).now)
         → OnOk result (IsStaged base [] (state S.Store tx.new.conn.now).now) }
+    ensures database { HasCleanDisk (state S.Store tx.new.conn.now) → (base : Trees) → (steps : List (ℕ × ℕ)) → (IsTrue (state S.Store tx.old.conn.now).is_open → IsStaged base steps (state S.Store tx.old.conn.now).now)
+        → OnOk result (IsDatabase (state S.Store tx.new.conn.now).now) }
     ensures kept { HasCleanDisk (state S.Store tx.new.conn.now) → KeepsCommit (state S.Store tx.old.conn.now) (state S.Store tx.new.conn.now) }
     ensures inside { HasCleanDisk (state S.Store tx.new.conn.now) → OnOk result (tx.new.conn.now.in_transaction ≡ true) }
     ensures live { HasCleanDisk (state S.Store tx.new.conn.now) → OnOk result (IsTrue (state S.Store tx.new.conn.now).is_open) }
@@ -45,6 +48,8 @@ fn put_step<S: Alter>(
     ensures ok { HasCleanDisk (state S.Store tx.new.conn.now) → (base : Trees) → (steps : List (ℕ × ℕ)) → AreBefore from steps
         → (IsTrue (state S.Store tx.old.conn.now).is_open → IsStaged base steps (state S.Store tx.old.conn.now).now)
         → OnOk result (IsStaged base (steps ++ (from, days) ∷ []) (state S.Store tx.new.conn.now).now) }
+    ensures database { HasCleanDisk (state S.Store tx.new.conn.now) → (base : Trees) → (steps : List (ℕ × ℕ)) → (IsTrue (state S.Store tx.old.conn.now).is_open → IsStaged base steps (state S.Store tx.old.conn.now).now)
+        → OnOk result (IsDatabase (state S.Store tx.new.conn.now).now) }
     ensures kept { HasCleanDisk (state S.Store tx.new.conn.now) → KeepsCommit (state S.Store tx.old.conn.now) (state S.Store tx.new.conn.now) }
     ensures inside { HasCleanDisk (state S.Store tx.new.conn.now) → OnOk result (tx.new.conn.now.in_transaction ≡ true) }
     ensures live { HasCleanDisk (state S.Store tx.new.conn.now) → OnOk result (IsTrue (state S.Store tx.new.conn.now).is_open) }
@@ -69,6 +74,8 @@ pub fn put_steps<S: Alter>(
     ensures ok { HasCleanDisk (state S.Store tx.new.conn.now) → (base : Trees) → Ascends steps.now
         → (IsTrue (state S.Store tx.old.conn.now).is_open → IsStaged base [] (state S.Store tx.old.conn.now).now)
         → OnOk result (IsTrue (state S.Store tx.new.conn.now).is_open → IsStaged base steps.now (state S.Store tx.new.conn.now).now) }
+    ensures database { HasCleanDisk (state S.Store tx.new.conn.now) → (base : Trees) → Ascends steps.now → (IsTrue (state S.Store tx.old.conn.now).is_open → IsStaged base [] (state S.Store tx.old.conn.now).now) → (IsTrue (state S.Store tx.old.conn.now).is_open → IsDatabase (state S.Store tx.old.conn.now).now)
+        → OnOk result (IsTrue (state S.Store tx.new.conn.now).is_open → IsDatabase (state S.Store tx.new.conn.now).now) }
     ensures kept { HasCleanDisk (state S.Store tx.new.conn.now) → KeepsCommit (state S.Store tx.old.conn.now) (state S.Store tx.new.conn.now) }
     ensures inside { HasCleanDisk (state S.Store tx.new.conn.now) → tx.old.conn.now.in_transaction ≡ true → OnOk result (tx.new.conn.now.in_transaction ≡ true) }
     ensures live { HasCleanDisk (state S.Store tx.new.conn.now) → IsTrue (state S.Store tx.old.conn.now).is_open → OnOk result (IsTrue (state S.Store tx.new.conn.now).is_open) }
@@ -90,6 +97,8 @@ fn write_schedule<S: Alter>(
     ensures ok { HasCleanDisk (state S.Store tx.new.conn.now) → (base : Trees) → (steps : List (ℕ × ℕ))
         → (IsTrue (state S.Store tx.old.conn.now).is_open → IsStaged base steps (state S.Store tx.old.conn.now).now)
         → OnOk result (IsTrue (state S.Store tx.new.conn.now).is_open → IsStaged base schedule.now (state S.Store tx.new.conn.now).now) }
+    ensures database { HasCleanDisk (state S.Store tx.new.conn.now) → (base : Trees) → (steps : List (ℕ × ℕ)) → (IsTrue (state S.Store tx.old.conn.now).is_open → IsStaged base steps (state S.Store tx.old.conn.now).now)
+        → OnOk result (IsTrue (state S.Store tx.new.conn.now).is_open → IsDatabase (state S.Store tx.new.conn.now).now) }
     ensures sound { OnOk result (IsSchedule schedule.now) }
     ensures kept { HasCleanDisk (state S.Store tx.new.conn.now) → KeepsCommit (state S.Store tx.old.conn.now) (state S.Store tx.new.conn.now) }
     ensures inside { HasCleanDisk (state S.Store tx.new.conn.now) → OnOk result (tx.new.conn.now.in_transaction ≡ true) }

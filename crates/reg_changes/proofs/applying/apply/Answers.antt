@@ -45,8 +45,10 @@ returns-clause-survives g c =
     let columns = kept.0 in
     let shows = kept_shows s old records kept in
     let still = stays_both s old mid records columns c.end_for.ensures.survives.clean (c.end_for.ensures.same (shows_register s old records shows)) kept.1 in
-    let ends : c.in_ok-not_after.not_after ≡ end_by records now change = c.in_ok-not_after.ensures.found records shows (was_clean (state s mid) (state s new) c.commit.ensures.survives.clean clean) in (
+    let ends : c.in_ok-not_after.not_after ≡ end_by records now change = c.in_ok-not_after.ensures.found records shows (was_clean (state s mid) (state s new) c.commit.ensures.survives.clean clean) in
+    let rows = entered records columns still sound fits in (
       after now change (end_by records now change) columns,
-      subst (λ n. AreRowsOf (changed_by records now change) (after now change n columns) trees) ends (entered records columns still sound fits),
+      subst (λ n. AreRowsOf (changed_by records now change) (after now change n columns) trees) ends rows.0,
       kept_change records columns now sound up kept.2 change fits,
+      rows.1,
     )) c.end_for.ensures.survives c.commit.ensures.survives

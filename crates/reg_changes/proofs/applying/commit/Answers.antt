@@ -9,7 +9,7 @@ use Rattle.reg_changes.specs.AtRest.{IsEntered}
 use Rattle.reg_changes.specs.Beside.{after}
 use Rattle.reg_changes.proofs.Committing.{clean_before, shows_back}
 use Rattle.reg_changes.proofs.Moving.{commits, was_clean, begun_before}
-use Rattle.reg_changes.proofs.Resting.{leaves_first, resting, survives_commit}
+use Rattle.reg_changes.proofs.Resting.{leaves_first, resting, rests_sound, survives_commit}
 use Rattle.reg_changes.proofs.applying.commit.Goals as goal
 
 pub returns-clause-ok : goal.returns-clause-ok
@@ -71,9 +71,12 @@ returns-clause-survives g c =
     let first : HasCleanDisk (state s was) = clean_before s was begun entered c.transaction-tx.ensures.begun c.enter.ensures.survives.clean mid in
     let register = shows_register s old records (both_shows s old records columns both) in
     let still = stays_both s old was records columns c.kept_counts.ensures.survives.clean (c.kept_counts.ensures.same register) both in
-    let moved =
-    c.in_ok-enter.ensures.ok mid records columns (c.in_ok-counts.ensures.found records columns both first) sound fits (begun_before s was begun c.transaction-tx.ensures.begun records columns still first) in
-    resting (state s entered).now trees (changed_by records c.args.now c.args.change.now) (after c.args.now c.args.change.now c.args.not_after columns) is moved.tables) in
+    let counted = c.in_ok-counts.ensures.found records columns both first in
+    let before = begun_before s was begun c.transaction-tx.ensures.begun records columns still first in
+    let moved = c.in_ok-enter.ensures.ok mid records columns counted sound fits before in (
+      resting (state s entered).now trees (changed_by records c.args.now c.args.change.now) (after c.args.now c.args.change.now c.args.not_after columns) is moved.tables,
+      rests_sound (state s entered).now trees is moved.tables.shown.schema (c.in_ok-enter.ensures.database mid records columns counted sound fits before),
+    )) in
     let same : ended ≡ c.conn-2-1.given.0 = search rules in
     subst (λ h. Survives (state s old) (state s h) made) same (leaves_first (state s old) (state s was) (state s ended) made c.kept_counts.ensures.survives second)
 
@@ -93,8 +96,11 @@ returns-in_err-commit-clause-survives g c =
     let first : HasCleanDisk (state s was) = clean_before s was begun entered c.transaction-tx.ensures.begun c.enter.ensures.survives.clean mid in
     let register = shows_register s old records (both_shows s old records columns both) in
     let still = stays_both s old was records columns c.kept_counts.ensures.survives.clean (c.kept_counts.ensures.same register) both in
-    let moved =
-    c.in_ok-enter.ensures.ok mid records columns (c.in_ok-counts.ensures.found records columns both first) sound fits (begun_before s was begun c.transaction-tx.ensures.begun records columns still first) in
-    resting (state s entered).now trees (changed_by records c.args.now c.args.change.now) (after c.args.now c.args.change.now c.args.not_after columns) is moved.tables) in
+    let counted = c.in_ok-counts.ensures.found records columns both first in
+    let before = begun_before s was begun c.transaction-tx.ensures.begun records columns still first in
+    let moved = c.in_ok-enter.ensures.ok mid records columns counted sound fits before in (
+      resting (state s entered).now trees (changed_by records c.args.now c.args.change.now) (after c.args.now c.args.change.now c.args.not_after columns) is moved.tables,
+      rests_sound (state s entered).now trees is moved.tables.shown.schema (c.in_ok-enter.ensures.database mid records columns counted sound fits before),
+    )) in
     let same : ended ≡ c.conn-2-1.given.0 = search rules in
     subst (λ h. Survives (state s old) (state s h) made) same (leaves_first (state s old) (state s was) (state s ended) made c.kept_counts.ensures.survives second)

@@ -41,3 +41,17 @@ returns-clause-one g c clean records columns before =
     let first = c.in_ok-ended.ensures.ok clean1 records columns before in
     let one = c.in_ok-put.ensures.one clean2 records (swept c.args.now columns) (λ up. first.0.tables) in
     ok_if (TurnsOne c.args.change.now (swept c.args.now columns)) c.close.result one
+
+pub returns-clause-database : goal.returns-clause-database
+returns-clause-database g c clean records columns same sound fits before =
+    let s0 = state g.S.Store c.args.tx.now.conn.now in
+    let s1 = state g.S.Store c.sweep.new.tx.conn.now in
+    let s2 = state g.S.Store c.put.new.tx.conn.now in
+    let s3 = state g.S.Store c.close.new.tx.conn.now in
+    let clean2 : HasCleanDisk s2 = was_clean s2 s3 c.close.ensures.survives.clean clean in
+    let clean1 : HasCleanDisk s1 = was_clean s1 s2 c.put.ensures.survives.clean clean2 in
+    let now = c.args.now in
+    let change = c.args.change.now in
+    let first = c.in_ok-ended.ensures.ok clean1 records columns before in
+    let second = c.in_ok-put.ensures.ok clean2 records (swept now columns) now sound fits (moved_here s0 s1 _ first.0) in
+    c.close.ensures.database clean (changed_by records records.last change) (beside change c.args.not_after (swept now columns)) (λ up. second.tables)

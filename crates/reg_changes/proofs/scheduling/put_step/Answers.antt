@@ -4,6 +4,7 @@ use Rattle.reg_changes.specs.Ran.{Ran}
 use Rattle.reg_changes.specs.declared.texts.TheConstants.{PUT_STEP}
 use Rattle.reg_changes.proofs.Params.{number_is, moment_is}
 use Rattle.reg_changes.proofs.Stages.{puts_step}
+use Rattle.reg_changes.proofs.Obeying.{step_obeys}
 use Rattle.reg_changes.proofs.scheduling.put_step.Goals as goal
 
 pub returns-clause-ok : goal.returns-clause-ok
@@ -12,3 +13,7 @@ returns-clause-ok g c clean base steps earlier before =
     let new = state g.S.Store c.write.new.tx.conn.now in
     let ran = subst (λ params. Ran PUT_STEP.now params old new c.in_ok-write.field-0) (λ i. (moment_is _ _ c.sql_moment-from.ensures) i ∷ (number_is _ _ c.in_ok-days.ensures.value) i ∷ []) (c.in_ok-write.ensures.ran clean) in
     puts_step base steps c.args.from c.args.days old new c.in_ok-write.field-0 ran earlier before
+
+pub returns-clause-database : goal.returns-clause-database
+returns-clause-database g c clean base steps before =
+    step_obeys _ (state g.S.Store c.args.tx.now.conn.now) (state g.S.Store c.write.new.tx.conn.now) c.in_ok-write.field-0 (c.in_ok-write.ensures.ran clean) (λ up. (before up).schema)

@@ -1,4 +1,5 @@
-use Rattle.std.proofs.Common.{◌≡◌, ◌≤◌, [], take, true, IsTrue}
+use Rattle.std.proofs.Common.{◌≡◌, [], take, true, IsTrue}
+use Rattle.sqlite.specs.Effect.{IsDatabase}
 use Rattle.sqlite.specs.Held.{state}
 use Rattle.sqlite.specs.State.{HasCleanDisk, KeepsCommit}
 use Rattle.sqlite_trees.specs.Tree.{Trees}
@@ -18,4 +19,5 @@ invariant-loop-step g l =
       kept : HasCleanDisk new → KeepsCommit old new;
       inside : HasCleanDisk new → l.initial.tx.conn.now.in_transaction ≡ true → l.tx.conn.now.in_transaction ≡ true;
       staged : HasCleanDisk new → (base : Trees) → Ascends l.steps → (IsTrue old.is_open → IsStaged base [] old.now) → IsTrue new.is_open → IsStaged base (take l.step-index l.steps) new.now;
+      database : HasCleanDisk new → (base : Trees) → Ascends l.steps → (IsTrue old.is_open → IsStaged base [] old.now) → (IsTrue old.is_open → IsDatabase old.now) → IsTrue new.is_open → IsDatabase new.now;
     }

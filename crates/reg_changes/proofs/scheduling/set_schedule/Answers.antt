@@ -8,7 +8,7 @@ use Rattle.reg_tables.specs.Shows.{Shows, ShowsBoth, IsShownBy, AreBoth}
 use Rattle.reg_changes.specs.AtRest.{IsScheduled}
 use Rattle.reg_changes.proofs.Committing.{clean_before}
 use Rattle.reg_changes.proofs.Moving.{begun_before, commits_by, was_clean}
-use Rattle.reg_changes.proofs.Resting.{resting, survives_commit}
+use Rattle.reg_changes.proofs.Resting.{resting, rests_sound, survives_commit}
 use Rattle.reg_changes.proofs.Stages.{staged_first, staged_shows, staged_both, kept_schedule}
 use Rattle.reg_changes.proofs.scheduling.set_schedule.Goals as goal
 
@@ -69,7 +69,12 @@ returns-clause-survives g c =
     let both =
     staged_both (state s begun).now (state s entered).now records columns steps c.in_ok-write_schedule.ensures.sound (before ((c.write_schedule.ensures.kept mid).was_open up))
     (c.in_ok-write_schedule.ensures.ok mid (state s begun).now.trees records.policy.schedule (λ open_begun. staged_first (state s begun).now records (before open_begun).shown) up) in
-    (columns, resting (state s entered).now trees (with_schedule records steps) columns is both, kept_schedule columns records steps kept.2)) in
+    let obeys = c.in_ok-write_schedule.ensures.database mid (state s begun).now.trees records.policy.schedule (λ open_begun. staged_first (state s begun).now records (before open_begun).shown) up in (
+      columns,
+      resting (state s entered).now trees (with_schedule records steps) columns is both,
+      kept_schedule columns records steps kept.2,
+      rests_sound (state s entered).now trees is both.shown.schema obeys,
+    )) in
     let same : ended ≡ c.conn-2-1.given.0 = search rules in
     subst (λ h. Survives (state s old) (state s h) made) same done
 
@@ -93,6 +98,11 @@ returns-in_err-commit-clause-survives g c =
     let both =
     staged_both (state s begun).now (state s entered).now records columns steps c.in_ok-write_schedule.ensures.sound (before ((c.write_schedule.ensures.kept mid).was_open up))
     (c.in_ok-write_schedule.ensures.ok mid (state s begun).now.trees records.policy.schedule (λ open_begun. staged_first (state s begun).now records (before open_begun).shown) up) in
-    (columns, resting (state s entered).now trees (with_schedule records steps) columns is both, kept_schedule columns records steps kept.2)) in
+    let obeys = c.in_ok-write_schedule.ensures.database mid (state s begun).now.trees records.policy.schedule (λ open_begun. staged_first (state s begun).now records (before open_begun).shown) up in (
+      columns,
+      resting (state s entered).now trees (with_schedule records steps) columns is both,
+      kept_schedule columns records steps kept.2,
+      rests_sound (state s entered).now trees is both.shown.schema obeys,
+    )) in
     let same : ended ≡ c.conn-2-1.given.0 = search rules in
     subst (λ h. Survives (state s old) (state s h) made) same done

@@ -14,3 +14,12 @@ returns-clause-ok g c clean base steps before =
 
 pub returns-clause-sound : goal.returns-clause-sound
 returns-clause-sound g c = ok_if _ c.put_steps.result (subst IsSchedule c.steps.ensures.steps c.steps.ensures.schedule)
+
+pub returns-clause-database : goal.returns-clause-database
+returns-clause-database g c clean base steps before =
+    let s1 = state g.S.Store c.clear_steps.new.tx.conn.now in
+    let s2 = state g.S.Store c.put_steps.new.tx.conn.now in
+    let clean1 = was_clean s1 s2 c.put_steps.ensures.survives.clean clean in
+    let first = c.in_ok-clear_steps.ensures.ok clean1 base steps before in
+    let obeys = c.in_ok-clear_steps.ensures.database clean1 base steps before in
+    c.put_steps.ensures.database clean base c.steps.ensures.schedule.ascending (λ up. first) (λ up. obeys)

@@ -4,6 +4,7 @@ use Rattle.reg_changes.specs.Ran.{Ran}
 use Rattle.reg_changes.specs.declared.texts.TheConstants.{SET_COUNTS}
 use Rattle.reg_changes.proofs.Params.{number_is}
 use Rattle.reg_changes.proofs.Sweeping.{sets_counts}
+use Rattle.reg_changes.proofs.Obeying.{counts_obey}
 use Rattle.reg_changes.proofs.steps.set_counts.Goals as goal
 
 pub returns-clause-ok : goal.returns-clause-ok
@@ -12,3 +13,7 @@ returns-clause-ok g c clean records columns before =
     let new = state g.S.Store c.write.new.tx.conn.now in
     let ran = subst (λ params. Ran SET_COUNTS.now params old new c.in_ok-write.field-0) (λ i. (number_is _ _ c.in_ok-good.ensures.value) i ∷ (number_is _ _ c.in_ok-revoked.ensures.value) i ∷ (number_is _ _ c.in_ok-expired.ensures.value) i ∷ []) (c.in_ok-write.ensures.ran clean) in
     sets_counts old new records columns c.args.counts c.in_ok-write.field-0 ran before
+
+pub returns-clause-database : goal.returns-clause-database
+returns-clause-database g c clean records columns before =
+    counts_obey _ (state g.S.Store c.args.tx.now.conn.now) (state g.S.Store c.write.new.tx.conn.now) c.in_ok-write.field-0 (c.in_ok-write.ensures.ran clean) (λ up. (before up).shown.schema)
