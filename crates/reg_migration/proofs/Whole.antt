@@ -6,7 +6,7 @@ use Rattle.std.proofs.lemmas.List.Sorted.{IsPermutation-refl}
 use Rattle.sqlite_trees.specs.Tree.{Trees}
 use Rattle.sqlite_trees.specs.View.{doubt}
 use Rattle.sqlite_trees.specs.declared.store.Store.{Ghosts}
-use Rattle.sqlite.specs.Effect.{Database}
+use Rattle.sqlite.specs.Effect.{Database, IsDatabase}
 use Rattle.sqlite.specs.Held.{Held, state}
 use Rattle.sqlite.specs.State.{HasCleanDisk}
 use Rattle.reg_core.specs.Records.{Records}
@@ -15,7 +15,7 @@ use Rattle.reg_tables.specs.Columns.{Columns}
 use Rattle.reg_tables.specs.Kept.{Kept, ShowsKept, standing_of, listed_of}
 use Rattle.reg_tables.specs.Shows.{Holds, Shows}
 use Rattle.reg_changes.specs.AtRest.{IsAtRest}
-use Rattle.reg_changes.proofs.Resting.{resting}
+use Rattle.reg_changes.proofs.Resting.{resting, rests_sound}
 use Rattle.reg_migration.specs.Refilled.{HasKept}
 
 abbrev columns_of : Records → Columns
@@ -55,6 +55,6 @@ kept_while g h records known = kept_whole g h records (record {
   tables = λ clean up. let it = known clean in (it.0, it.1.tables clean up, it.2);
 })
 
--- what a database shows and keeps its rows show and keep
-pub kept_rests : (db : Database) (trees : Trees) (records : Records) → trees ≡ db.trees → HasKept db records → IsAtRest records trees
-kept_rests db trees records is had = (had.0, resting db trees records had.0 is had.1, had.2)
+-- what a database shows and keeps its rows show and keep, and what it obeys they obey
+pub kept_rests : (db : Database) (trees : Trees) (records : Records) → trees ≡ db.trees → HasKept db records → IsDatabase db → IsAtRest records trees
+kept_rests db trees records is had sound = (had.0, resting db trees records had.0 is had.1, had.2, rests_sound db trees is had.1.shown.schema sound)

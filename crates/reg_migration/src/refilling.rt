@@ -1,6 +1,7 @@
 //! What is kept beside the records, made anew from them.
 
 ghost use Rattle.std.specs.Prelude.{◌≡◌, List, [], map, true, IsPermutation, IsTrue, OnOk, IfErr};
+ghost use Rattle.sqlite.specs.Effect.{IsDatabase};
 ghost use Rattle.sqlite.specs.Held.{state};
 ghost use Rattle.sqlite.specs.State.{HasCleanDisk, KeepsCommit};
 ghost use Rattle.reg_core.specs.Records.{Records};
@@ -38,6 +39,8 @@ pub(crate) fn refill<S: Alter>(tx: &mut Transaction<'_, S>, last: Moment) -> Res
     ensures same_reference { tx.new.conn.ghost_name ≡ tx.old.conn.ghost_name }
     ensures ok { HasCleanDisk (state S.Store tx.new.conn.now) → (records : Records) → SoundRows records → records.last ≡ last → Before (state S.Store tx.old.conn.now) records no_columns
         → OnOk result (IsTrue (state S.Store tx.new.conn.now).is_open × HasKept (state S.Store tx.new.conn.now).now records) }
+    ensures database { HasCleanDisk (state S.Store tx.new.conn.now) → (records : Records) → SoundRows records → records.last ≡ last → Before (state S.Store tx.old.conn.now) records no_columns
+        → OnOk result (IsDatabase (state S.Store tx.new.conn.now).now) }
     ensures kept { HasCleanDisk (state S.Store tx.new.conn.now) → KeepsCommit (state S.Store tx.old.conn.now) (state S.Store tx.new.conn.now) }
     ensures inside { HasCleanDisk (state S.Store tx.new.conn.now) → OnOk result (tx.new.conn.now.in_transaction ≡ true) }
     ensures survives { LeavesNothing (state S.Store tx.old.conn.now) (state S.Store tx.new.conn.now) }

@@ -12,7 +12,7 @@ use Rattle.sqlite_rules.specs.declared.error.Rowids.TheVariants.{Chosen}
 use Rattle.sqlite_rules.specs.Edit.{with_rowid}
 use Rattle.sqlite_rules.specs.Cast.{cast_row}
 use Rattle.sqlite_tied.specs.Compute.{everything}
-use Rattle.sqlite.specs.Effect.{Database}
+use Rattle.sqlite.specs.Effect.{Database, IsDatabase}
 use Rattle.sqlite.specs.Listing.{understood}
 use Rattle.sqlite.specs.State.{State}
 use Rattle.reg_core.specs.Issuer.{Issuer}
@@ -28,6 +28,7 @@ use Rattle.reg_changes.specs.Ran.{Ran}
 use Rattle.reg_changes.specs.Staged.{IsStaged, table_trees}
 use Rattle.reg_changes.proofs.Edits.{cast_int, cast_null}
 use Rattle.reg_changes.proofs.Meaning.{inserts, IsWriting}
+use Rattle.reg_changes.proofs.Obeying.{obeys}
 use Rattle.reg_changes.proofs.Registers.{puts_row, puts_spares}
 use Rattle.reg_opening.specs.Blank.{IsBlank, BlankBefore}
 use Rattle.reg_migration.specs.Refilled.{no_columns}
@@ -117,6 +118,9 @@ puts_counts issuer policy old new count ran before =
         others = λ n known apart beside. spares.same n known beside ∙ was.others n known apart;
       };
     }
+
+pub counts_obey : (old new : State) (count : ℕ) → Ran PUT_COUNTS.now [] old new count → (IsTrue old.is_open → old.now.schema ≡ register_schema) → IsDatabase new.now
+counts_obey old new count = obeys PUT_COUNTS.now [] old new count (inserts 8 counts_terms 5) (λ text w. w.sound) put_counts_means
 
 -- the schedule is to be written
 pub staged_first : (issuer : Issuer) (policy : Terms) (db : Database) → HasCounts issuer policy db → IsStaged db.trees [] db

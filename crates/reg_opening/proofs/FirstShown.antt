@@ -3,7 +3,7 @@ use Rattle.std.proofs.Common.{◌≡◌, ◌≤◌, true, false, Result, Ok, Err
 use Rattle.sqlite_trees.specs.Tree.{Trees}
 use Rattle.sqlite_trees.specs.View.{doubt}
 use Rattle.sqlite_trees.specs.declared.store.Store.{Ghosts}
-use Rattle.sqlite.specs.Effect.{Database}
+use Rattle.sqlite.specs.Effect.{Database, IsDatabase}
 use Rattle.sqlite.specs.Held.{Held, state}
 use Rattle.sqlite.specs.State.{HasCleanDisk, Shows as IsSeen}
 use Rattle.reg_core.specs.Issuer.{Issuer}
@@ -13,7 +13,7 @@ use Rattle.reg_tables.specs.Schema.{no_schema}
 use Rattle.reg_tables.specs.Kept.{ShowsKept}
 use Rattle.reg_tables.specs.Shows.{AreBoth}
 use Rattle.reg_changes.specs.AtRest.{IsAtRest}
-use Rattle.reg_changes.proofs.Resting.{resting}
+use Rattle.reg_changes.proofs.Resting.{resting, rests_sound}
 use Rattle.reg_opening.specs.Blank.{BlankBefore}
 use Rattle.reg_migration.specs.Refilled.{no_columns}
 use Rattle.reg_opening.proofs.FirstRows.{none_kept}
@@ -43,6 +43,7 @@ created_shows g issuer policy entered ended forgets enters commit = (
   none_kept issuer policy,
 )
 
--- what its tables show their rows show
-pub created_rests : (issuer : Issuer) (policy : Terms) (db : Database) (trees : Trees) → trees ≡ db.trees → AreBoth db (no_records issuer policy) no_columns → IsAtRest (no_records issuer policy) trees
-created_rests issuer policy db trees is both = (no_columns, resting db trees (no_records issuer policy) no_columns is both, none_kept issuer policy)
+-- what its tables show their rows show, and what they obey these obey
+pub created_rests : (issuer : Issuer) (policy : Terms) (db : Database) (trees : Trees) → trees ≡ db.trees → AreBoth db (no_records issuer policy) no_columns → IsDatabase db → IsAtRest (no_records issuer policy) trees
+created_rests issuer policy db trees is both sound =
+    (no_columns, resting db trees (no_records issuer policy) no_columns is both, none_kept issuer policy, rests_sound db trees is both.shown.schema sound)

@@ -1,6 +1,7 @@
 //! A register's tables, made new.
 
 ghost use Rattle.std.specs.Prelude.{◌≡◌, ◌≢◌, ◌⊎◌, ◌↔◌, true, false, IsTrue, OnOk, OnErr, IfErr};
+ghost use Rattle.sqlite.specs.Effect.{IsDatabase};
 ghost use Rattle.sqlite.specs.Held.{state};
 ghost use Rattle.sqlite.specs.State.{HasCleanDisk, KeepsCommit, Survives};
 ghost use Rattle.reg_core.specs.Records.{no_records};
@@ -36,6 +37,8 @@ fn make_register<S: Alter>(
     ensures same_reference { tx.new.conn.ghost_name ≡ tx.old.conn.ghost_name }
     ensures ok { HasCleanDisk (state S.Store tx.new.conn.now) → BlankBefore (state S.Store tx.old.conn.now) no_schema
         → OnOk result (IsTrue (state S.Store tx.new.conn.now).is_open × AreBoth (state S.Store tx.new.conn.now).now (no_records issuer.now policy.now) no_columns) }
+    ensures database { HasCleanDisk (state S.Store tx.new.conn.now) → BlankBefore (state S.Store tx.old.conn.now) no_schema
+        → OnOk result (IsDatabase (state S.Store tx.new.conn.now).now) }
     ensures kept { HasCleanDisk (state S.Store tx.new.conn.now) → KeepsCommit (state S.Store tx.old.conn.now) (state S.Store tx.new.conn.now) }
     ensures inside { HasCleanDisk (state S.Store tx.new.conn.now) → OnOk result (tx.new.conn.now.in_transaction ≡ true) }
     ensures survives { LeavesNothing (state S.Store tx.old.conn.now) (state S.Store tx.new.conn.now) }

@@ -43,7 +43,7 @@ returns-clause-survives g c =
     let first : HasCleanDisk (state s old) = clean_before s old begun entered c.transaction-tx.ensures.begun c.make_newer.ensures.survives.clean mid in
     let before : IsTrue (state s begun).is_open → IsShownByOlder c.args.version (state s begun).now records =
     subst (λ h. IsTrue (state s h).is_open → IsShownByOlder c.args.version (state s h).now records) (sym c.transaction-tx.ensures.begun) (older.tables first) in
-    kept_rests (state s entered).now trees records is (c.in_ok-make_newer.ensures.ok mid records sound one same before).1) in
+    kept_rests (state s entered).now trees records is (c.in_ok-make_newer.ensures.ok mid records sound one same before).1 (c.in_ok-make_newer.ensures.database mid records sound one same before)) in
     let back : ended ≡ c.conn-2-1.given.0 = search rules in
     subst (λ h. Survives (state s old) (state s h) made) back done
 
@@ -62,6 +62,6 @@ returns-in_err-commit-clause-survives g c =
     let first : HasCleanDisk (state s old) = clean_before s old begun entered c.transaction-tx.ensures.begun c.make_newer.ensures.survives.clean mid in
     let before : IsTrue (state s begun).is_open → IsShownByOlder c.args.version (state s begun).now records =
     subst (λ h. IsTrue (state s h).is_open → IsShownByOlder c.args.version (state s h).now records) (sym c.transaction-tx.ensures.begun) (older.tables first) in
-    kept_rests (state s entered).now trees records is (c.in_ok-make_newer.ensures.ok mid records sound one same before).1) in
+    kept_rests (state s entered).now trees records is (c.in_ok-make_newer.ensures.ok mid records sound one same before).1 (c.in_ok-make_newer.ensures.database mid records sound one same before)) in
     let back : ended ≡ c.conn-2-1.given.0 = search rules in
     subst (λ h. Survives (state s old) (state s h) made) back done

@@ -33,3 +33,19 @@ returns-clause-ok g c clean records sound same before =
     let set = given _ (c.set_counts.ensures.ok clean records columns there) in
     let counts = c.in_ok-counts.counts in
     (set.is_open, (with_counts counts columns, set.tables, subst (λ x. Kept (with_counts x columns) records) (sym counted) (kept_counted records columns sound done.2 whole))))
+
+pub returns-clause-database : goal.returns-clause-database
+returns-clause-database g c clean records sound same before =
+    let s1 = state g.S.Store c.fill_letters.new.tx.conn.now in
+    let s2 = state g.S.Store c.relist.new.tx.conn.now in
+    let s3 = state g.S.Store c.counts.new.tx.conn.now in
+    let s4 = state g.S.Store c.set_counts.new.tx.conn.now in
+    let clean3 : HasCleanDisk s3 = was_clean s3 s4 c.set_counts.ensures.survives.clean clean in
+    let clean2 : HasCleanDisk s2 = was_clean s2 s3 c.counts.ensures.survives.clean clean3 in
+    let clean1 : HasCleanDisk s1 = was_clean s1 s2 c.relist.ensures.survives.clean clean2 in
+    let filled = c.in_ok-fill_letters.ensures.ok clean1 records no_columns sound same refl before in
+    let start : IsTrue s1.is_open → HasRelisted s1.now records 0 = λ up. (with_letters filled.0 no_columns, filled.2.tables, filled.1, refl) in
+    let still = c.in_ok-counts.ensures.same clean3 in
+    let done = c.in_ok-relist.ensures.ok clean2 records sound start still.0.was_open in
+    c.set_counts.ensures.database clean records done.0
+    (Rattle.reg_migration.proofs.Steps.unchanged_before s2 s3 (λ db. Rattle.reg_tables.specs.Shows.AreBoth db records done.0) still (λ _. done.1))

@@ -42,8 +42,9 @@ returns-clause-survives g c =
     survives_commit s was begun entered ended c.transaction-tx.ensures.begun made c.make_register.ensures.survives c.commit.ensures.survives
     (λ clean trees is.
     let mid : HasCleanDisk (state s entered) = was_clean (state s entered) (state s ended) c.commit.ensures.survives.clean clean in
-    let filled = c.in_ok-make_register.ensures.ok mid (begun_blank s was begun c.transaction-tx.ensures.begun none) in
-    (none, created_rests issuer policy (state s entered).now trees is filled.1)) in
+    let blank = begun_blank s was begun c.transaction-tx.ensures.begun none in
+    let filled = c.in_ok-make_register.ensures.ok mid blank in
+    (none, created_rests issuer policy (state s entered).now trees is filled.1 (c.in_ok-make_register.ensures.database mid blank))) in
     let same : ended ≡ c.conn-2-1.given.0 = search rules in
     subst (λ h. Survives (state s was) (state s h) made) same done
 
@@ -62,7 +63,8 @@ returns-in_err-commit-clause-survives g c =
     survives_commit s was begun entered ended c.transaction-tx.ensures.begun made c.make_register.ensures.survives c.commit.ensures.survives
     (λ clean trees is.
     let mid : HasCleanDisk (state s entered) = was_clean (state s entered) (state s ended) c.commit.ensures.survives.clean clean in
-    let filled = c.in_ok-make_register.ensures.ok mid (begun_blank s was begun c.transaction-tx.ensures.begun none) in
-    (none, created_rests issuer policy (state s entered).now trees is filled.1)) in
+    let blank = begun_blank s was begun c.transaction-tx.ensures.begun none in
+    let filled = c.in_ok-make_register.ensures.ok mid blank in
+    (none, created_rests issuer policy (state s entered).now trees is filled.1 (c.in_ok-make_register.ensures.database mid blank))) in
     let same : ended ≡ c.conn-2-1.given.0 = search rules in
     subst (λ h. Survives (state s was) (state s h) made) same done
