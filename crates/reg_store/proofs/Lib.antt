@@ -1,1 +1,2 @@
+pub mod OpenedAgain
 pub mod Resting

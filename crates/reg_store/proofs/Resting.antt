@@ -5,13 +5,14 @@ use Rattle.sqlite_trees.specs.Tree.{Trees}
 use Rattle.sqlite_trees.specs.declared.store.Store.{Ghosts}
 use Rattle.sqlite.specs.Effect.{Database}
 use Rattle.sqlite.specs.Held.{Held, state}
-use Rattle.sqlite.specs.State.{HasCleanDisk}
+use Rattle.sqlite.specs.State.{HasCleanDisk, IsLive}
 use Rattle.reg_core.specs.Records.{Records}
 use Rattle.reg_core.specs.Sound.{SoundRows}
 use Rattle.reg_tables.specs.Kept.{ShowsKept}
 use Rattle.reg_tables.specs.Shows.{IsShownBy, Shows}
-use Rattle.reg_changes.specs.AtRest.{IsAtRest}
-use Rattle.reg_changes.proofs.Resting.{resting}
+use Rattle.reg_tables.proofs.Staying.{kept_shows}
+use Rattle.reg_changes.specs.AtRest.{AreARegisters, IsAtRest}
+use Rattle.reg_changes.proofs.Resting.{resting, rests_sound}
 use Rattle.reg_migration.specs.Older.{number_of, older_schema, IsShownByOlder, ShowsOlder}
 use Rattle.reg_migration.specs.declared.version.Earlier.{Earlier}
 use Rattle.reg_migration.specs.declared.version.Earlier.TheVariants.{First, Second}
@@ -22,13 +23,26 @@ use Rattle.reg_opening.proofs.Registered.{number_one}
 use Rattle.reg_opening.proofs.Steps.{only_row}
 use Rattle.reg_store.specs.AtRest.{IsUntouched, IsOlderAtRest}
 
--- what is committed of shown records are rows of them
-pub at_rest : {S : Type 0} (g : Ghosts S) (held : Held S) (records : Records) (trees : Trees) → HasCleanDisk (state g held) → IsTrue (state g held).is_open → ShowsKept g held records → IsUntouched g held trees
+-- what is committed of shown records obeys a register's schema
+pub at_rest_sound : {S : Type 0} (g : Ghosts S) (held : Held S) (records : Records) (trees : Trees) → HasCleanDisk (state g held) → IsTrue (state g held).is_open → Shows g held records → IsLive (state g held) → IsUntouched g held trees
+    → AreARegisters trees
+at_rest_sound g held records trees clean up shows live is =
+    let db = (state g held).now in
+    let same : trees ≡ db.trees = is ∙ ap (λ (d : Database). d.trees) (sym (shows.saved clean up)) in
+    rests_sound db trees same (shows.tables clean up).schema (live up).0
+
+-- and are rows of the records
+pub at_rest : {S : Type 0} (g : Ghosts S) (held : Held S) (records : Records) (trees : Trees) → HasCleanDisk (state g held) → IsTrue (state g held).is_open → ShowsKept g held records → AreARegisters trees → IsUntouched g held trees
     → IsAtRest records trees
-at_rest g held records trees clean up kept is =
+at_rest g held records trees clean up kept sound is =
     let db = (state g held).now in
     let same : trees ≡ db.trees = is ∙ ap (λ (d : Database). d.trees) (sym (kept.1.saved clean up)) in
-    (kept.0, resting db trees records kept.0 same (kept.1.tables clean up), kept.2)
+    (kept.0, resting db trees records kept.0 same (kept.1.tables clean up), kept.2, sound)
+
+-- the same of a connection that obeys its schema
+pub live_at_rest : {S : Type 0} (g : Ghosts S) (held : Held S) (records : Records) (trees : Trees) → HasCleanDisk (state g held) → IsTrue (state g held).is_open → ShowsKept g held records → IsLive (state g held) → IsUntouched g held trees
+    → IsAtRest records trees
+live_at_rest g held records trees clean up kept live is = at_rest g held records trees clean up kept (at_rest_sound g held records trees clean up (kept_shows g held records kept) live is) is
 
 -- the same of the tables of an older version
 pub older_at_rest : {S : Type 0} (g : Ghosts S) (held : Held S) (version : Earlier) (records : Records) (trees : Trees) → HasCleanDisk (state g held) → IsTrue (state g held).is_open → ShowsOlder version g held records → IsUntouched g held trees

@@ -3,7 +3,7 @@ use Rattle.std.specs.Prelude.{◌≡◌, ◌⊎◌, ℕ, List, IsTrue}
 use Rattle.sqlite_trees.specs.Tree.{Trees}
 use Rattle.sqlite_trees.specs.declared.store.Store.{Ghosts}
 use Rattle.sqlite.specs.Held.{Held, state}
-use Rattle.sqlite.specs.State.{HasCleanDisk, Survives}
+use Rattle.sqlite.specs.State.{HasCleanDisk, IsLive, Survives}
 use Rattle.reg_core.specs.Changes.{with_schedule}
 use Rattle.reg_core.specs.Issuer.{Issuer}
 use Rattle.reg_core.specs.Policy.{Terms}
@@ -50,6 +50,6 @@ StopsWithTheSame {S = S} g =
 abbrev pub StopsWithASchedule : {S : Type 0} → Ghosts S → Type 0
 StopsWithASchedule {S = S} g =
     (old new : Held S) (records : Records) (steps : List (ℕ × ℕ))
-    → ShowsKept g old records → IsTrue (state g old).is_open → Survives (state g old) (state g new) (IsScheduled g old steps) → HasCleanDisk (state g new)
+    → ShowsKept g old records → IsTrue (state g old).is_open → IsLive (state g old) → Survives (state g old) (state g new) (IsScheduled g old steps) → HasCleanDisk (state g new)
     → (trees : Trees) → (state g new).may_leave trees
     → IsAtRest records trees ⊎ IsAtRest (with_schedule records steps) trees

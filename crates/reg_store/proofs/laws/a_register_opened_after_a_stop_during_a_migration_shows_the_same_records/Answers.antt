@@ -1,0 +1,35 @@
+-- What a stop found before the call is what was committed; the rest is what the call may commit, and that only of older tables.
+use Rattle.std.proofs.Common.{◌⊎◌, inl, inr}
+use Rattle.std.proofs.Math.Logic.{∥∥₁_elim, ∥∥₁_map}
+use Rattle.sqlite_trees.specs.Props.{Trees-set}
+use Rattle.sqlite.specs.Effect.{Database}
+use Rattle.sqlite.specs.Held.{state}
+use Rattle.sqlite.specs.State.{HasCleanDisk}
+use Rattle.reg_changes.proofs.Moving.{was_clean}
+use Rattle.reg_migration.specs.Older.{IsShownByOlder, ShowsOlder}
+use Rattle.reg_opening.specs.AtRest.{IsOpened}
+use Rattle.reg_tables.proofs.Staying.{kept_shows}
+use Rattle.reg_tables.specs.Kept.{ShowsKept}
+use Rattle.reg_store.specs.AtRest.{IsUntouched}
+use Rattle.reg_store.proofs.OpenedAgain.{holds_again, keeps_again, shows_again}
+use Rattle.reg_store.proofs.Resting.{opened_rests}
+use Rattle.reg_store.proofs.laws.a_register_opened_after_a_stop_during_a_migration_shows_the_same_records.Goals as goal
+
+pub returns : goal.returns
+returns g c = λ old new again up live survives opened.
+    let s = g.S.Store in
+    let trees = (state s again).committed.trees in
+    let first : HasCleanDisk (state s old) = was_clean (state s old) (state s new) survives.clean opened.honest in
+    let found : (state s new).may_leave trees → IsUntouched s old trees ⊎ IsOpened s old trees = λ may. elim (survives.crash opened.honest trees may) [
+      | inl before ↦ inl (g.met.S.Store.settled old.store trees up before)
+      | inr newer ↦ inr newer
+    ] in (
+      λ records kept.
+          let same : IsUntouched s old trees = ∥∥₁_elim opened.found (Trees-set _ _) (λ may. opened_rests s old records trees first up (kept_shows s old records kept) (found may)) in
+          keeps_again s again opened.opens opened.live old up live same records first kept,
+      λ version records shows sound. ∥∥₁_map opened.found (λ may.
+          let shown : ShowsOlder version s again records ⊎ ShowsKept s again records = elim (found may) [
+            | inl is ↦ inl (holds_again s again opened.opens opened.live old up live is (λ (db : Database). IsShownByOlder version db records) first shows)
+            | inr newer ↦ inr (shows_again s again opened.opens opened.live records (newer.1 version records shows sound))
+          ] in shown),
+    )
