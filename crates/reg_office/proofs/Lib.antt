@@ -3,6 +3,7 @@ pub mod Composing
 pub mod Deciding
 pub mod Facts
 pub mod Issuing
+pub mod OpenedAgain
 pub mod Resting
 pub mod Standing
 pub mod Stopping

@@ -4,16 +4,17 @@ use Rattle.std.proofs.lemmas.List.{append-nil as append_nil}
 use Rattle.sqlite_trees.specs.Tree.{Trees}
 use Rattle.sqlite_trees.specs.declared.store.Store.{Ghosts}
 use Rattle.sqlite.specs.Held.{Held, state}
-use Rattle.sqlite.specs.State.{HasCleanDisk}
+use Rattle.sqlite.specs.State.{HasCleanDisk, IsLive}
 use Rattle.reg_core.specs.Records.{Records}
 use Rattle.reg_core.specs.declared.command.Command.{Command}
 use Rattle.reg_core.specs.declared.command.Reply.{Reply}
 use Rattle.reg_core.specs.declared.refusal.Fault.{Fault}
 use Rattle.reg_crl.specs.Signing.{Identity}
+use Rattle.reg_changes.specs.AtRest.{AreARegisters}
 use Rattle.reg_office.specs.AtRest.{HaveNoReply, IsNextDone, IsPartlyRun, IsRunOne, AreRunByOne}
 use Rattle.reg_office.specs.Stands.{Stands, Ran}
 use Rattle.reg_office.proofs.Composing.{was_clean}
-use Rattle.reg_store.proofs.Resting.{at_rest}
+use Rattle.reg_store.proofs.Resting.{at_rest, live_at_rest}
 use Rattle.reg_office.proofs.Standing.{ran_more, ran_none}
 
 -- between calls a stop finds what was committed
@@ -28,9 +29,9 @@ pub record Reached {C : Type 0} (g : Ghosts C) (signs : Identity → List ℕ �
 -- no command ran yet
 pub reached_none :
     {C : Type 0} (g : Ghosts C) (signs : Identity → List ℕ → List ℕ → Type 0) (identity : Identity) (held : Held C) (records : Records)
-    → Settles g → Stands g signs held identity records → IsTrue (state g held).is_open → HasCleanDisk (state g held)
+    → Settles g → Stands g signs held identity records → IsTrue (state g held).is_open → IsLive (state g held) → HasCleanDisk (state g held)
     → Reached g signs identity held records [] []
-reached_none g signs identity held records settles stands up clean = record {
+reached_none g signs identity held records settles stands up live clean = record {
   ran = ran_none g signs held identity records stands;
   found = λ trees may. record {
     done = [];
@@ -43,9 +44,24 @@ reached_none g signs identity held records settles stands up clean = record {
     after = records;
     run = refl;
     sound = stands.sound;
-    rests = inl (at_rest g held records trees clean up stands.shown (settles held trees up may));
+    rests = inl (live_at_rest g held records trees clean up stands.shown live (settles held trees up may));
   };
 }
+
+-- what a stop may find obeys a register's schema
+next_sound :
+    (signs : Identity → List ℕ → List ℕ → Type 0) (identity : Identity) (records : Records) (left : List (ℕ × Command)) (trees : Trees)
+    → IsNextDone signs identity records left trees → AreARegisters trees
+next_sound signs identity records [] trees h = absurd h
+next_sound signs identity records (timed ∷ left) trees h = h.stepped.rests.3
+
+part_sound :
+    (signs : Identity → List ℕ → List ℕ → Type 0) (identity : Identity) (records : Records) (commands : List (ℕ × Command)) (outcomes : List (Result Reply Fault)) (trees : Trees)
+    → IsPartlyRun signs identity records commands outcomes trees → AreARegisters trees
+part_sound signs identity records commands outcomes trees it = elim (it.rests) [
+  | inl rests ↦ rests.3
+  | inr next ↦ next_sound signs identity it.after it.left trees next
+]
 
 no_reply_more : (outcomes : List (Result Reply Fault)) (fault : Fault) → HaveNoReply outcomes → HaveNoReply (outcomes ++ Err fault ∷ [])
 no_reply_more [] fault h = tt
@@ -92,6 +108,10 @@ found_more :
     → IsPartlyRun signs identity records (commands ++ timed ∷ []) (came ++ outcome ∷ []) trees
 found_more g signs identity old new records commands came timed (Ok reply) trees settles one clean reached ran may =
     let up : IsTrue (state g new).is_open = one.live clean in
+    let sound : AreARegisters trees = elim (one.survives.crash clean trees may) [
+      | inl before ↦ part_sound signs identity records commands came trees (reached.found trees before)
+      | inr does ↦ (does reached.ran.after reached.ran.stands).stepped.rests.3
+    ] in
     record {
       done = commands ++ timed ∷ [];
       left = [];
@@ -103,7 +123,7 @@ found_more g signs identity old new records commands came timed (Ok reply) trees
       after = ran.after;
       run = ran.run;
       sound = ran.stands.sound;
-      rests = inl (at_rest g new ran.after trees clean up ran.stands.shown (settles new trees up may));
+      rests = inl (at_rest g new ran.after trees clean up ran.stands.shown sound (settles new trees up may));
     }
 found_more g signs identity old new records commands came timed (Err fault) trees settles one clean reached ran may =
     elim (one.survives.crash clean trees may) [

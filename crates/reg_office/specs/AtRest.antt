@@ -3,7 +3,7 @@ use Rattle.std.specs.Prelude.{◌≡◌, ◌⊎◌, ℕ, List, [], ◌∷◌, �
 use Rattle.sqlite_trees.specs.Tree.{Trees}
 use Rattle.sqlite_trees.specs.declared.store.Store.{Ghosts}
 use Rattle.sqlite.specs.Held.{Held, state}
-use Rattle.sqlite.specs.State.{HasCleanDisk, Survives}
+use Rattle.sqlite.specs.State.{HasCleanDisk, IsLive, Survives}
 use Rattle.reg_core.specs.Crls.{CertList}
 use Rattle.reg_core.specs.Records.{Records}
 use Rattle.reg_core.specs.Sound.{Sound, SoundRows}
@@ -41,7 +41,7 @@ Does g signs old identity now command trees = (records : Records) → Stands g s
 abbrev pub StopsBeforeOrAfter : {C : Type 0} → Ghosts C → (Identity → List ℕ → List ℕ → Type 0) → Type 0
 StopsBeforeOrAfter {C = C} g signs =
     (old new : Held C) (identity : Identity) (records : Records) (now : ℕ) (command : Command)
-    → Stands g signs old identity records → IsTrue (state g old).is_open
+    → Stands g signs old identity records → IsTrue (state g old).is_open → IsLive (state g old)
     → Survives (state g old) (state g new) (Does g signs old identity now command) → HasCleanDisk (state g new)
     → (trees : Trees) → (state g new).may_leave trees → IsAtRest records trees ⊎ IsDone signs identity records now command trees
 
@@ -92,6 +92,6 @@ AreRunByOne {C = C} g signs identity old (timed ∷ commands) (outcome ∷ outco
 abbrev pub StopsAfterAPrefix : {C : Type 0} → Ghosts C → (Identity → List ℕ → List ℕ → Type 0) → Type 0
 StopsAfterAPrefix {C = C} g signs =
     (old new : Held C) (identity : Identity) (records : Records) (commands : List (ℕ × Command)) (outcomes : List (Result Reply Fault))
-    → Stands g signs old identity records → IsTrue (state g old).is_open
+    → Stands g signs old identity records → IsTrue (state g old).is_open → IsLive (state g old)
     → AreRunByOne g signs identity old commands outcomes new → HasCleanDisk (state g new)
     → (trees : Trees) → (state g new).may_leave trees → IsPartlyRun signs identity records commands outcomes trees

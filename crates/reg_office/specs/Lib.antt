@@ -1,6 +1,7 @@
 pub mod AtRest
 pub mod Faults
 pub mod Happened
+pub mod OpenedAgain
 pub mod Shown
 pub mod Stands
 pub mod Answered

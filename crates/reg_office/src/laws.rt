@@ -5,6 +5,7 @@ ghost use Rattle.reg_crl.specs.Signing.{signed_by};
 ghost use Rattle.reg_laws.specs.Headline.{CreatedSound, KeepsSound, RunsInParts, StandsInExactlyOne, CountsMoveExactly, ListsRevoked, RefusalsChangeNothing};
 ghost use Rattle.reg_laws.specs.History.{HistoryStands};
 ghost use Rattle.reg_office.specs.AtRest.{StopsBeforeOrAfter, StopsAfterAPrefix};
+ghost use Rattle.reg_office.specs.OpenedAgain.{OpensAfterAPrefix, OpensBeforeOrAfter};
 ghost use Rattle.reg_office.specs.Decisions.{SubscribersAreSteps, OrdersAreSteps, RegistrationsAreSteps, RequestsAreSteps, DeclinesAreSteps, RevocationsAreSteps, CrlsAreSteps};
 ghost use Rattle.reg_office.specs.Shown.{SoundRun, AcceptedRevocation, IsShownEverywhere, WasRevoked, IsNowhereShown};
 ghost use Rattle.reg_responder.specs.Agreement.{OcspAgrees};
@@ -100,4 +101,28 @@ pub fn a_stop_leaves_the_records_before_or_after<C: Alter, S: Signer>()
 /// [`Office::run`](crate::Office::run) says the same of its list in its clause `survives`.
 pub fn a_stop_leaves_the_records_after_a_prefix<C: Alter, S: Signer>()
     ensures { StopsAfterAPrefix C.Store S.signs }
+{}
+
+/// A register opened after a stop stands for the records before the command or for those after it.
+///
+/// A register's records stand, whatever the command and whoever signs. The machine stops after
+/// [`Office::run_one`](crate::Office::run_one), or in the middle of it, and the register is opened again from what the disk
+/// left: the records before the command stand in it, or those after the command's acceptance, whole, sound, and with the
+/// letters, counts and last listings that follow from them.
+///
+/// `IsOpenedAgain` is what `restart` of the crate `reg_restart` ensures over any disk that may lose what was not synced; that a
+/// connection obeys its schema (`IsLive`) is the clause `live` of the crate `sqlite`'s `Connection::schema`.
+pub fn a_register_opened_after_a_stop_stands_before_or_after<C: Alter, S: Signer>()
+    ensures { OpensBeforeOrAfter C.Store S.signs }
+{}
+
+/// A register opened after a stop stands for the records after a prefix of the commands, which has at least those whose
+/// replies were given.
+///
+/// Any commands run one after another by [`Office::run_one`](crate::Office::run_one), also after refusals and faults. The
+/// machine stops after them, or in the middle of one, and the register is opened again from what the disk left: the records
+/// after the first of the commands stand in it, with the outcomes that were told; or those after these and the next one, of
+/// which a fault was told. Each command behind them came to a refusal or a fault.
+pub fn a_register_opened_after_a_stop_stands_after_a_prefix<C: Alter, S: Signer>()
+    ensures { OpensAfterAPrefix C.Store S.signs }
 {}

@@ -2,7 +2,7 @@
 
 ghost use Rattle.std.specs.Prelude.{◌≡◌, ◌≤◌, ◌++◌, length, List, Result, OnOk, OnErr, IsTrue};
 ghost use Rattle.sqlite.specs.Held.{state};
-ghost use Rattle.sqlite.specs.State.{HasCleanDisk};
+ghost use Rattle.sqlite.specs.State.{HasCleanDisk, IsLive};
 ghost use Rattle.sqlite_trees.specs.Tree.{Trees};
 ghost use Rattle.sqlite_trees.specs.View.{doubt};
 ghost use Rattle.reg_core.specs.Records.{Records};
@@ -36,7 +36,7 @@ impl<C: Alter, S: Signer> Office<C, S> {
             × Ran C.Store S.signs self.new.store (S.identity self.new.signer) records commands.now came) }
         ensures none_ran { OnErr result ((outcomes.new.items ≡ outcomes.old.items) × (self.new ≡ self.old)) }
         ensures survives { (records : Records) → Stands C.Store S.signs self.old.store (S.identity self.old.signer) records
-            → IsTrue (state C.Store self.old.store).is_open → HasCleanDisk (state C.Store self.new.store)
+            → IsTrue (state C.Store self.old.store).is_open → IsLive (state C.Store self.old.store) → HasCleanDisk (state C.Store self.new.store)
             → OnOk result ((came : List (Result Reply Fault)) × (outcomes.new.items ≡ outcomes.old.items ++ came)
             × ((trees : Trees) → (state C.Store self.new.store).may_leave trees → IsPartlyRun S.signs (S.identity self.old.signer) records commands.now came trees)) }
         ensures clean { doubt (state C.Store self.old.store).is_clean ≤ doubt (state C.Store self.new.store).is_clean }

@@ -24,10 +24,10 @@ loop-now-init g c = record {
     c.in-Ok.ensures.items ∙ sym (append_nil c.args.outcomes.now.items),
     ran_none g.C.Store g.S.Signer.signs c.args.self.now.store (g.S.Signer.identity c.args.self.now.signer) records stands,
   );
-  survives = λ records stands up clean. (
+  survives = λ records stands up live clean. (
     [],
     c.in-Ok.ensures.items ∙ sym (append_nil c.args.outcomes.now.items),
-    reached_none g.C.Store g.S.Signer.signs (g.S.Signer.identity c.args.self.now.signer) c.args.self.now.store records (λ held trees is_open leaves. g.met.C.Store.settled held.store trees is_open leaves) stands up clean,
+    reached_none g.C.Store g.S.Signer.signs (g.S.Signer.identity c.args.self.now.signer) c.args.self.now.store records (λ held trees is_open leaves. g.met.C.Store.settled held.store trees is_open leaves) stands up live clean,
   );
 }
 
@@ -68,10 +68,10 @@ loop-now-preserved g c =
                 (ran_more s signs old.store new.store (g.S.Signer.identity old.signer) (g.S.Signer.identity new.signer) records (take i commands) earlier.0 timed outcome
                 c.run_one-outcome.ensures.same_identity earlier.2 step),
           );
-      survives = λ records stands up clean.
+      survives = λ records stands up live clean.
           let who = g.S.Signer.identity c.args.self.now.signer in
           let before = was_clean (state s old.store) (state s new.store) c.run_one-outcome.ensures.survives.clean clean in
-          let earlier = c.loop-now.invariant.survives records stands up before in
+          let earlier = c.loop-now.invariant.survives records stands up live before in
           let settles : Settles s = λ held trees is_open leaves. g.met.C.Store.settled held.store trees is_open leaves in
           let one : IsRunOne s signs who old.store new.store timed.0 timed.1 outcome =
           subst
@@ -115,8 +115,8 @@ returns-clause-ran g c records stands clean =
     )
 
 pub returns-clause-survives : goal.returns-clause-survives
-returns-clause-survives g c records stands up clean =
-    let reached = c.loop-now.invariant.survives records stands up clean in
+returns-clause-survives g c records stands up live clean =
+    let reached = c.loop-now.invariant.survives records stands up live clean in
     let commands = c.args.commands.now in
     let who = g.S.Signer.identity c.args.self.now.signer in (
       reached.0,

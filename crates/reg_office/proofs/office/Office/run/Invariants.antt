@@ -2,7 +2,7 @@ use Rattle.std.specs.Prelude.{Result}
 use Rattle.std.proofs.Common.{◌≡◌, ◌≤◌, ◌+◌, List, ◌++◌, length, take, vec_len, IsTrue}
 use Rattle.std.specs.Vec.{vec_capacity}
 use Rattle.sqlite.specs.Held.{state}
-use Rattle.sqlite.specs.State.{HasCleanDisk}
+use Rattle.sqlite.specs.State.{HasCleanDisk, IsLive}
 use Rattle.sqlite_trees.specs.View.{doubt}
 use Rattle.reg_core.specs.Records.{Records}
 use Rattle.reg_core.specs.declared.command.Reply.{Reply}
@@ -25,6 +25,7 @@ invariant-loop-now g l = record {
   survives : (records : Records)
       → Stands g.C.Store g.S.Signer.signs l.fn.self.store (g.S.Signer.identity l.fn.self.signer) records
       → IsTrue (state g.C.Store l.fn.self.store).is_open
+      → IsLive (state g.C.Store l.fn.self.store)
       → HasCleanDisk (state g.C.Store l.self.store)
       → (came : List (Result Reply Fault)) × (l.outcomes.items ≡ l.fn.outcomes.items ++ came)
       × Reached g.C.Store g.S.Signer.signs (g.S.Signer.identity l.fn.self.signer) l.self.store records (take l.now-index l.commands) came;

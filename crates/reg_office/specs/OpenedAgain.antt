@@ -1,0 +1,58 @@
+-- The records of an office that is opened again after a stop.
+use Rattle.std.specs.Prelude.{◌≡◌, ◌⊎◌, ℕ, List, [], ◌∷◌, ◌++◌, Result, Ok, IsTrue}
+use Rattle.sqlite_trees.specs.declared.store.Store.{Ghosts}
+use Rattle.sqlite.specs.Held.{Held, state}
+use Rattle.sqlite.specs.State.{IsLive, Survives}
+use Rattle.reg_core.specs.Records.{Records}
+use Rattle.reg_core.specs.declared.command.Command.{Command}
+use Rattle.reg_core.specs.declared.command.Reply.{Reply}
+use Rattle.reg_core.specs.declared.refusal.Fault.{Fault}
+use Rattle.reg_crl.specs.Signing.{Identity, signed_by}
+use Rattle.reg_laws.specs.Run.{Run}
+use Rattle.reg_store.specs.OpenedAgain.{IsOpenedAgain}
+use Rattle.reg_office.specs.AtRest.{AreRunByOne, Does, HaveNoReply}
+use Rattle.reg_office.specs.Stands.{Stands, CameTo}
+
+-- the command was accepted over the records, and those after it stand
+pub record StandsDone {C : Type 0} (g : Ghosts C) (signs : Identity → List ℕ → List ℕ → Type 0) (held : Held C) (identity : Identity) (records : Records) (now : ℕ) (command : Command) : Type 0 where
+  pub answer : Reply
+  pub came : CameTo g signs held identity records now command (Ok answer)
+
+-- the machine stops after a command, or in the middle of it, and the register is opened again: the records before the command stand, or those
+-- after its acceptance, with what is kept beside them; over any disk that may lose what was not synced
+abbrev pub OpensBeforeOrAfter : {C : Type 0} → Ghosts C → (Identity → List ℕ → List ℕ → Type 0) → Type 0
+OpensBeforeOrAfter {C = C} g signs =
+    (old new again : Held C) (identity : Identity) (records : Records) (now : ℕ) (command : Command)
+    → Stands g signs old identity records → IsTrue (state g old).is_open → IsLive (state g old)
+    → Survives (state g old) (state g new) (Does g signs old identity now command) → IsOpenedAgain g new again
+    → ∥ Stands g signs again identity records ⊎ StandsDone g signs again identity records now command ∥₁
+
+-- ---- over a run
+
+-- the first of these commands was accepted, and no more of them ran
+abbrev pub StandsNext : {C : Type 0} → Ghosts C → (Identity → List ℕ → List ℕ → Type 0) → Held C → Identity → Records → List (ℕ × Command) → Type 0
+StandsNext g signs held identity records [] = ⊥
+StandsNext g signs held identity records (timed ∷ commands) = StandsDone g signs held identity records timed.0 timed.1
+
+-- the records after a prefix of the commands stand, with what is kept beside them: after those which came to the first of the outcomes, or
+-- after these and the next, whose outcome is a fault that was told; no reply was given to any that is left
+pub record StandsPartlyRun {C : Type 0} (g : Ghosts C) (signs : Identity → List ℕ → List ℕ → Type 0) (held : Held C) (identity : Identity) (records : Records) (commands : List (ℕ × Command)) (outcomes : List (Result Reply Fault)) : Type 0 where
+  pub done : List (ℕ × Command)
+  pub left : List (ℕ × Command)
+  pub commands_are : commands ≡ done ++ left
+  pub came : List (Result Reply Fault)
+  pub others : List (Result Reply Fault)
+  pub outcomes_are : outcomes ≡ came ++ others
+  pub no_reply : HaveNoReply others
+  pub after : Records
+  pub run : Run (signed_by signs identity) records done came after
+  pub stands : Stands g signs held identity after ⊎ StandsNext g signs held identity after left
+
+-- the machine stops after such a run, or in the middle of it, and the register is opened again: the records after a prefix of the commands
+-- stand, which has at least those whose replies were given; over any disk that may lose what was not synced
+abbrev pub OpensAfterAPrefix : {C : Type 0} → Ghosts C → (Identity → List ℕ → List ℕ → Type 0) → Type 0
+OpensAfterAPrefix {C = C} g signs =
+    (old new again : Held C) (identity : Identity) (records : Records) (commands : List (ℕ × Command)) (outcomes : List (Result Reply Fault))
+    → Stands g signs old identity records → IsTrue (state g old).is_open → IsLive (state g old)
+    → AreRunByOne g signs identity old commands outcomes new → IsOpenedAgain g new again
+    → ∥ StandsPartlyRun g signs again identity records commands outcomes ∥₁
