@@ -2,3 +2,5 @@ pub mod Octets
 pub mod Values
 pub mod Integers
 pub mod Names
+pub mod SerialOctets
+pub mod PublicLaws

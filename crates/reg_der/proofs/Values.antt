@@ -5,8 +5,8 @@ use Rattle.std.proofs.Math.Nat.{mod-eq_of_lt, mod-lt, pow-le-pow_right}
 use Rattle.std.proofs.lemmas.Bool.{cases_lt, ltb-false, le-ltb, lt-ltb, ne_eqb, eqb-false}
 use Rattle.std.proofs.lemmas.List.{take_at, drop_at, take-append-drop, length-append, length-take, get_or-take, get_or_append_left}
 use Rattle.reg_core.specs.Integer.{IsBytes, value, without_zeros}
-use Rattle.reg_der.specs.Der.{fewest, length_octets, tlv, IsTlv, IsLength, IsLongForm, NoTwoPrefixes, LengthIsFewest}
-use Rattle.reg_der.specs.Reading.{◌>>=◌, Parts, long_at, length_at, counted_at, value_at}
+use Rattle.reg_der.specs.Der.{fewest, length_octets, tlv, IsTlv, IsLength, IsLongForm, NoTwoPrefixes, LengthIsFewest, ValuesHaveSizes}
+use Rattle.reg_der.specs.Reading.{◌>>=◌, Parts, Takes, TakesValue, ReadsValues, ReadsAgain, long_at, length_at, counted_at, value_at}
 use Rattle.reg_core.proofs.Integers.{is_bytes-cons, is_bytes-tail, is_bytes-take, is_bytes-append, is_bytes-bytes_high_first, value-lt, value-without_zeros, value-bytes_high_first, length-bytes_high_first, same_bytes}
 use Rattle.reg_der.proofs.Octets.{is_bytes-drop, is_bytes-without_zeros, without_zeros-leads, without_zeros-first, length-without_zeros, same_digits}
 
@@ -34,11 +34,6 @@ kept false x y e = (refl, e)
 or_false : (a b : Bool) → (a || b) ≡ false → (a ≡ false) × (b ≡ false)
 or_false true b e = absurd cc
 or_false false b e = (refl, e)
-
--- what a reading took from the front: the text, and what follows it
-pub record Takes (bytes text rest : List ℕ) : Type 0 where
-  pub parts : bytes ≡ text ++ rest
-  pub each : IsBytes rest
 
 pub Takes-then : (a x b y c : List ℕ) → Takes a x b → Takes b y c → Takes a (x ++ y) c
 Takes-then a x b y c p q = record { parts = p.parts ∙ ap (λ (t : List ℕ). x ++ t) q.parts ∙ sym (append_assoc x y c); each = q.each }
@@ -106,7 +101,7 @@ pub length-length_octets_short : (size : ℕ) → size < 128 → length (length_
 unfolding length_octets
 length-length_octets_short size lt = rw (lt-ltb size 128 lt) refl
 
-pub length-tlv : (tag : ℕ) (contents : List ℕ) → length (tlv tag contents) ≡ 1 + length (length_octets (length contents)) + length contents
+length-tlv : (tag : ℕ) (contents : List ℕ) → length (tlv tag contents) ≡ 1 + length (length_octets (length contents)) + length contents
 unfolding tlv
 length-tlv tag contents = omega (arith, length-append (length_octets (length contents)) contents)
 
@@ -118,6 +113,9 @@ length-tlv_at_least tag contents = omega (arith, length-tlv tag contents, length
 
 pub length-tlv_short : (tag : ℕ) (contents : List ℕ) → length contents < 128 → length (tlv tag contents) ≡ length contents + 2
 length-tlv_short tag contents lt = omega (arith, length-tlv tag contents, length-length_octets_short (length contents) lt)
+
+pub value_size : ValuesHaveSizes
+value_size tag contents = record { least = length-tlv_at_least tag contents; most = length-tlv_at_most tag contents; short = length-tlv_short tag contents }
 
 -- ---- the length
 
@@ -223,11 +221,6 @@ counted_again contents rest fits =
 abbrev pub text_of : Parts → List ℕ
 text_of parts = tlv parts.tag parts.contents
 
--- a value that was read: what it took, and that it is one
-pub record TakesValue (bytes : List ℕ) (parts : Parts) (rest : List ℕ) : Type 0 where
-  pub taken : Takes bytes (text_of parts) rest
-  pub fits : IsTlv (text_of parts) parts.tag parts.contents
-
 abbrev after_tag : ℕ → List ℕ × List ℕ → Option (Parts × List ℕ)
 after_tag tag counted = Some (record { tag = tag; contents = counted.0 }, counted.1)
 
@@ -241,7 +234,7 @@ front_tag : (tag : ℕ) (bytes contents rest : List ℕ) → Takes bytes (counte
 unfolding tlv
 front_tag tag bytes contents rest taken = record { parts = ap (λ (t : List ℕ). tag ∷ t) taken.parts; each = taken.each }
 
-pub value_takes : (bytes : List ℕ) (x : Parts × List ℕ) → IsBytes bytes → value_at bytes ≡ Some x → TakesValue bytes x.0 x.1
+pub value_takes : ReadsValues
 unfolding value_at
 value_takes [] x each e = absurd cc
 value_takes (tag ∷ bytes) x each e =
@@ -253,7 +246,7 @@ value_takes (tag ∷ bytes) x each e =
     subst (λ (y : Parts × List ℕ). TakesValue (tag ∷ bytes) y.0 y.1) (some_is made x then)
     (record { taken = front; fits = record { one_byte = each 0; low_tag = low_tag tag g.0; byte_contents = t.1; short = t.2; spelled = refl } }))
 
-pub value_again : (tag : ℕ) (contents rest : List ℕ) → tag % 32 < 31 → length contents < 2 ^ 32 → value_at (tlv tag contents ++ rest) ≡ Some (record { tag = tag; contents = contents }, rest)
+pub value_again : ReadsAgain
 unfolding value_at tlv
 value_again tag contents rest low fits =
     let again = counted_again contents rest fits in

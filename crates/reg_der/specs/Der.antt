@@ -51,3 +51,12 @@ pub record HasFewest (size : ℕ) : Type 0 where
 
 abbrev pub LengthIsFewest : Type 0
 LengthIsFewest = (size : ℕ) → size < 2 ^ 32 → HasFewest size
+
+-- a value is longer than its contents by 2 to 6 bytes, and by 2 where they are fewer than 128
+pub record HasSize (tag : ℕ) (contents : List ℕ) : Type 0 where
+  pub least : length contents + 2 ≤ length (tlv tag contents)
+  pub most : length (tlv tag contents) ≤ length contents + 6
+  pub short : length contents < 128 → length (tlv tag contents) ≡ length contents + 2
+
+abbrev pub ValuesHaveSizes : Type 0
+ValuesHaveSizes = (tag : ℕ) (contents : List ℕ) → HasSize tag contents

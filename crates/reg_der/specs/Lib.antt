@@ -1,5 +1,5 @@
 pub mod Der
 pub mod Values
 pub mod Reading
-pub mod Writing
 pub mod Authority
+pub mod Numbers

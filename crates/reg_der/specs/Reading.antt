@@ -1,6 +1,7 @@
 -- Reading one value from the front of bytes, as a function on lists. What it means is `IsTlv`.
-use Rattle.std.specs.Prelude.{◌≡◌, ℕ, ◌-◌, ◌%◌, List, [], ◌∷◌, length, take, drop, get_or, Option, Some, None, option_and_then, nat_lt, ◌==◌, ◌||◌, if◌then◌else◌}
-use Rattle.reg_core.specs.Integer.{value}
+use Rattle.std.specs.Prelude.{◌≡◌, ℕ, ◌-◌, ◌%◌, ◌^◌, ◌<◌, List, [], ◌∷◌, ◌++◌, length, take, drop, get_or, Option, Some, None, option_and_then, nat_lt, ◌==◌, ◌||◌, if◌then◌else◌}
+use Rattle.reg_core.specs.Integer.{IsBytes, value}
+use Rattle.reg_der.specs.Der.{tlv, IsTlv}
 
 infixl 10 ◌>>=◌
 abbrev pub ◌>>=◌ : {A B : Type 0} → Option A → (A → Option B) → Option B
@@ -39,3 +40,23 @@ value_at [] = None
 value_at (tag ∷ rest) =
     if tag % 32 == 31 then None
     else (counted_at rest >>= λ counted. Some (record { tag = tag; contents = counted.0 }, counted.1))
+
+-- what was taken from the front of bytes: the text, and what follows it, which is bytes
+pub record Takes (bytes text rest : List ℕ) : Type 0 where
+  pub parts : bytes ≡ text ++ rest
+  pub each : IsBytes rest
+
+-- the text that was taken is the value with these parts
+pub record TakesValue (bytes : List ℕ) (parts : Parts) (rest : List ℕ) : Type 0 where
+  pub taken : Takes bytes (tlv parts.tag parts.contents) rest
+  pub fits : IsTlv (tlv parts.tag parts.contents) parts.tag parts.contents
+
+-- what is read of bytes is a value at their front
+abbrev pub ReadsValues : Type 0
+ReadsValues = (bytes : List ℕ) (x : Parts × List ℕ) → IsBytes bytes → value_at bytes ≡ Some x → TakesValue bytes x.0 x.1
+
+-- a value at the front of bytes is what is read
+abbrev pub ReadsAgain : Type 0
+ReadsAgain =
+    (tag : ℕ) (contents rest : List ℕ) → tag % 32 < 31 → length contents < 2 ^ 32
+    → value_at (tlv tag contents ++ rest) ≡ Some (record { tag = tag; contents = contents }, rest)

@@ -1,6 +1,8 @@
-//! Laws of DER values. The functions do nothing: their contracts are the laws.
+//! Laws of DER values. The functions do nothing: their contracts are the laws. Proofs above cite them by `proofs/PublicLaws.antt`.
 
-ghost use Rattle.reg_der.specs.Der.{NoTwoPrefixes, LengthIsFewest};
+ghost use Rattle.reg_der.specs.Der.{NoTwoPrefixes, LengthIsFewest, ValuesHaveSizes};
+ghost use Rattle.reg_der.specs.Numbers.{OneNumber, OctetsArePlaces, OctetsAreBelow, SerialsInOrder, OneSerial};
+ghost use Rattle.reg_der.specs.Reading.{ReadsValues, ReadsAgain};
 
 /// No two prefixes of the same bytes are values, so what `take` gives is the only one.
 pub fn no_two_prefixes()
@@ -10,4 +12,33 @@ pub fn no_two_prefixes()
 /// The length octets of a value are the fewest that spell its length, in the short form or in the long form.
 pub fn length_is_fewest()
     ensures { LengthIsFewest }
+{}
+
+/// How much longer than its contents a value is.
+pub fn values_have_sizes()
+    ensures { ValuesHaveSizes }
+{}
+
+/// The function that `take` computes (`exact`) has one reading: what it reads of bytes is a value at their front, and a value
+/// at their front is what it reads.
+pub fn values_are_read()
+    ensures reads { ReadsValues }
+    ensures again { ReadsAgain }
+{}
+
+/// Numbers below 2^160 with the same INTEGER are the same.
+pub fn one_number()
+    ensures { OneNumber }
+{}
+
+/// What octets, the highest first, say of the number that they spell.
+pub fn octets_are_digits()
+    ensures places { OctetsArePlaces }
+    ensures below { OctetsAreBelow }
+{}
+
+/// Serial numbers have the order of their 20 octets, and no two have the same.
+pub fn serials_in_order()
+    ensures order { SerialsInOrder }
+    ensures one { OneSerial }
 {}

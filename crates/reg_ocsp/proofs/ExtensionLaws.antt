@@ -8,8 +8,9 @@ use Rattle.std.proofs.lemmas.List.{length-append}
 use Rattle.std.proofs.lemmas.Slice.Eq.{bytes_eq-Decides}
 use Rattle.reg_core.specs.Integer.{IsBytes}
 use Rattle.reg_der.specs.Der.{tlv}
-use Rattle.reg_der.specs.Reading.{◌>>=◌}
-use Rattle.reg_der.proofs.Values.{bind_then, some_is, kept, Takes, length-tlv_at_least}
+use Rattle.reg_der.specs.Reading.{◌>>=◌, Takes}
+use Rattle.reg_der.proofs.PublicLaws.{value_size}
+use Rattle.reg_ocsp.proofs.Steps.{bind_then, some_is, kept}
 use Rattle.reg_ocsp.specs.Request.{Extension, IsExtension, AreExtensions, nonce_identifier, first_nonce, optional, boolean, critical, extension, extensions}
 use Rattle.reg_ocsp.specs.Reading.{expect_at, whole_at, optional_at, all_at, flag_of, written_flag, critical_at, is_refused, extension_at, nonce_at, written_nonce}
 use Rattle.reg_ocsp.proofs.PartLaws.{expect_takes, expect_again, whole_takes, whole_again, optional_takes, optional_again, BeginsElse, begins_last}
@@ -152,9 +153,9 @@ extension_again e rest fits small =
     let last = tlv 0x04 e.value in
     let after = critical e.critical ++ last in
     let contents = tlv 0x06 e.identifier ++ after in
-    let l0 : length contents ≤ 65536 = omega (arith, length-tlv_at_least 0x30 contents) in
-    let l1 : length e.identifier ≤ 65536 = omega (arith, length-append (tlv 0x06 e.identifier) after, length-tlv_at_least 0x06 e.identifier) in
-    let l2 : length e.value ≤ 65536 = omega (arith, length-append (tlv 0x06 e.identifier) after, length-append (critical e.critical) last, length-tlv_at_least 0x04 e.value) in
+    let l0 : length contents ≤ 65536 = omega (arith, (value_size 0x30 contents).least) in
+    let l1 : length e.identifier ≤ 65536 = omega (arith, length-append (tlv 0x06 e.identifier) after, (value_size 0x06 e.identifier).least) in
+    let l2 : length e.value ≤ 65536 = omega (arith, length-append (tlv 0x06 e.identifier) after, length-append (critical e.critical) last, (value_size 0x04 e.value).least) in
     let e0 = expect_again 0x30 contents rest (omega arith) l0 in
     let e1 = expect_again 0x06 e.identifier after (omega arith) l1 in
     let e2 = critical_again e.critical last (begins_last 0x01 0x04 e.value (λ same. absurd (omega arith))) in
@@ -165,7 +166,7 @@ pub extension_reads : Reads extension_at extension same_extension IsExtension
 extension_reads = record {
   takes = extension_takes;
   again = extension_again;
-  some = λ e. omega (arith, length-tlv_at_least 0x30 (tlv 0x06 e.identifier ++ (critical e.critical ++ tlv 0x04 e.value)));
+  some = λ e. omega (arith, (value_size 0x30 (tlv 0x06 e.identifier ++ (critical e.critical ++ tlv 0x04 e.value))).least);
 }
 
 -- ---- extensions that are written or not
@@ -225,7 +226,7 @@ unfolding nonce_at
 written_nonce_again tag None fits small = refl
 written_nonce_again tag (Some es) fits small =
     let list = flat_map extension es in
-    let l0 : length list ≤ 65536 = omega (arith, length-tlv_at_least tag (tlv 0x30 list), length-tlv_at_least 0x30 list) in
+    let l0 : length list ≤ 65536 = omega (arith, (value_size tag (tlv 0x30 list)).least, (value_size 0x30 list).least) in
     let e0 = whole_again 0x30 list (omega arith) l0 in
     let e1 = items_again extension_at extension same_extension IsExtension extension_reads es (length list) fits (omega arith) l0 in
     rw (e0, e1, map_same es) refl

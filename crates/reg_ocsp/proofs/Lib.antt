@@ -1,3 +1,4 @@
+pub mod Steps
 pub mod Sizes
 pub mod PartLaws
 pub mod ItemLaws

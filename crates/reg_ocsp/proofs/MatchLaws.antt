@@ -4,7 +4,7 @@ use Rattle.std.specs.Prelude.{◌≢◌, MatchOption}
 use Rattle.reg_core.specs.Integer.{IsInteger, integer}
 use Rattle.reg_core.specs.Serial.{IsSerial}
 use Rattle.reg_core.specs.Issuer as core
-use Rattle.reg_core.proofs.Integers.{integer_injective}
+use Rattle.reg_der.proofs.PublicLaws.{one_number}
 use Rattle.reg_ocsp.specs.Request.{Id}
 use Rattle.reg_ocsp.specs.Matching.{IsMatch}
 
@@ -15,5 +15,5 @@ pub only_match : (octets : List ℕ) (outcome : Option ℕ) → MatchOption outc
 only_match octets (Some found) exact read serial in_range spelled =
     let below = in_range.1 in
     let below_found = read.0.1 in
-    ap (λ (n : ℕ). Some n) (integer_injective found serial (omega arith) (omega arith) (sym exact ∙ spelled))
+    ap (λ (n : ℕ). Some n) (one_number found serial (omega arith) (omega arith) (sym exact ∙ spelled))
 only_match octets None exact read serial in_range spelled = absurd (exact serial in_range spelled)

@@ -5,8 +5,9 @@ use Rattle.std.proofs.lemmas.Bool.{eqb-true, eq-eqb, ne_eqb}
 use Rattle.std.proofs.lemmas.List.{append-nil, nil_from_length}
 use Rattle.reg_core.specs.Integer.{IsBytes}
 use Rattle.reg_der.specs.Der.{tlv}
-use Rattle.reg_der.specs.Reading.{◌>>=◌, Parts, value_at}
-use Rattle.reg_der.proofs.Values.{bind_then, some_is, Takes, value_takes, value_again}
+use Rattle.reg_der.specs.Reading.{◌>>=◌, Parts, value_at, Takes}
+use Rattle.reg_der.proofs.PublicLaws.{value_takes, value_again}
+use Rattle.reg_ocsp.proofs.Steps.{bind_then, some_is}
 use Rattle.reg_ocsp.specs.Request.{optional}
 use Rattle.reg_ocsp.specs.Reading.{expect_at, whole_at, optional_at, last_at}
 

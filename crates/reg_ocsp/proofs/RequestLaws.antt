@@ -8,8 +8,9 @@ use Rattle.std.proofs.lemmas.List.Sums.{sum_by-cons}
 use Rattle.std.proofs.lemmas.Slice.Eq.{bytes_eq-Decides}
 use Rattle.reg_core.specs.Integer.{IsBytes}
 use Rattle.reg_der.specs.Der.{tlv, length_octets}
-use Rattle.reg_der.specs.Reading.{◌>>=◌}
-use Rattle.reg_der.proofs.Values.{bind_then, some_is, kept, Takes, length-tlv_at_least}
+use Rattle.reg_der.specs.Reading.{◌>>=◌, Takes}
+use Rattle.reg_der.proofs.PublicLaws.{value_size}
+use Rattle.reg_ocsp.proofs.Steps.{bind_then, some_is, kept}
 use Rattle.reg_ocsp.specs.Request.{Single, IsSingle, Extension, AreExtensions, Id, asked_by, Form, IsForm, single, version, optional, extensions, to_be_signed, spelling, repeated, nonce_of, first_nonce, IsRequest, OneReading, cert_id, algorithm, raw_length, IsNonce, CanBeAnswered}
 use Rattle.reg_ocsp.specs.declared.asked.Asked.{Asked}
 use Rattle.reg_ocsp.specs.declared.fault.AskFault.{AskFault}
@@ -173,7 +174,7 @@ signed_again flag requestor list tree fits small =
     let len2 = length-append (tlv 0x30 list) last in
     let is : last ≡ optional 0xA2 (contents_of tree) = extensions_are 0xA2 tree in
     let l1 : length (optional 0xA2 (contents_of tree)) ≤ 65536 = let same = ap length is in omega arith in
-    let l2 : length list ≤ 65536 = omega (arith, length-tlv_at_least 0x30 list) in
+    let l2 : length list ≤ 65536 = omega (arith, (value_size 0x30 list).least) in
     let l3 : length (optional 0xA1 requestor) ≤ 65536 = omega arith in
     let begins_list : BeginsElse 0xA1 after_requestor = begins_value 0xA1 0x30 list last (λ same. absurd (omega arith)) in
     let begins_here : BeginsElse 0xA0 after_version = begins_optional 0xA0 0xA1 requestor after_requestor (λ same. absurd (omega arith)) (begins_value 0xA0 0x30 list last (λ same. absurd (omega arith))) in
@@ -240,8 +241,8 @@ parts_again flag requestor list tree signature fits small =
     let last = optional 0xA0 signature in
     let outer = tlv 0x30 signed ++ last in
     let len = length-append (tlv 0x30 signed) last in
-    let l0 : length outer ≤ 65536 = omega (arith, length-tlv_at_least 0x30 outer) in
-    let l1 : length signed ≤ 65536 = omega (arith, length-tlv_at_least 0x30 signed) in
+    let l0 : length outer ≤ 65536 = omega (arith, (value_size 0x30 outer).least) in
+    let l1 : length signed ≤ 65536 = omega (arith, (value_size 0x30 signed).least) in
     let e0 : ltb 65536 (length (tlv 0x30 outer)) ≡ false = le-ltb 65536 (length (tlv 0x30 outer)) small in
     let e1 = whole_again 0x30 outer (omega arith) l0 in
     let e2 = expect_again 0x30 signed last (omega arith) l1 in
@@ -282,13 +283,13 @@ list_small f small =
     let signed = to_be_signed f in
     omega (
       arith,
-      length-tlv_at_least 0x30 (signed ++ optional 0xA0 f.signature),
+      (value_size 0x30 (signed ++ optional 0xA0 f.signature)).least,
       length-append signed (optional 0xA0 f.signature),
-      length-tlv_at_least 0x30 (signed_text f.version f.requestor list f.extensions),
+      (value_size 0x30 (signed_text f.version f.requestor list f.extensions)).least,
       length-append (version f.version) (optional 0xA1 f.requestor ++ (tlv 0x30 list ++ last)),
       length-append (optional 0xA1 f.requestor) (tlv 0x30 list ++ last),
       length-append (tlv 0x30 list) last,
-      length-tlv_at_least 0x30 list,
+      (value_size 0x30 list).least,
     )
 
 spelling_reads : (f : Form) → IsForm f → length (spelling f) ≤ 65536 → request_at (spelling f) ≡ Some (map asked_by f.singles, nonce_of f.extensions)
@@ -333,14 +334,14 @@ raws_small (s ∷ ss) =
     let others = raws_small ss in
     let id = cert_id s.target in
     let written = extensions 0xA0 s.extensions in
-    omega (arith, sum_by-cons raw_length (asked_by s) (map asked_by ss), length-append (single s) (flat_map single ss), length-tlv_at_least 0x30 (id ++ written), length-append id written)
+    omega (arith, sum_by-cons raw_length (asked_by s) (map asked_by ss), length-append (single s) (flat_map single ss), (value_size 0x30 (id ++ written)).least, length-append id written)
 
 ids_few : (ss : List Single) → length (map asked_by ss) ≤ sum_by raw_length (map asked_by ss)
 ids_few [] = omega arith
 ids_few (s ∷ ss) =
     let others = ids_few ss in
     let t = s.target in
-    omega (arith, sum_by-cons raw_length (asked_by s) (map asked_by ss), length-tlv_at_least 0x30 (algorithm t.identifier t.parameters ++ (tlv 0x04 t.name_hash ++ (tlv 0x04 t.key_hash ++ tlv 0x02 t.serial))))
+    omega (arith, sum_by-cons raw_length (asked_by s) (map asked_by ss), (value_size 0x30 (algorithm t.identifier t.parameters ++ (tlv 0x04 t.name_hash ++ (tlv 0x04 t.key_hash ++ tlv 0x02 t.serial)))).least)
 
 repeated_short : (first : Option (List ℕ)) → IfSome (repeated first) IsNonce
 repeated_short None = tt

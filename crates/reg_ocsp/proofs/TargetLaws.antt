@@ -6,8 +6,9 @@ use Rattle.std.proofs.lemmas.Bool.Decides.{nat_tests}
 use Rattle.std.proofs.lemmas.List.{append-nil, nil_from_length, length-append}
 use Rattle.reg_core.specs.Integer.{IsBytes, IsShortest}
 use Rattle.reg_der.specs.Der.{tlv}
-use Rattle.reg_der.specs.Reading.{◌>>=◌, Parts, value_at}
-use Rattle.reg_der.proofs.Values.{bind_then, some_is, kept, Takes, value_takes, value_again, length-tlv_at_least}
+use Rattle.reg_der.specs.Reading.{◌>>=◌, Parts, value_at, Takes}
+use Rattle.reg_der.proofs.PublicLaws.{value_takes, value_again, value_size}
+use Rattle.reg_ocsp.proofs.Steps.{bind_then, some_is, kept}
 use Rattle.reg_ocsp.specs.Request.{Target, IsTarget, Single, IsSingle, Id, id_of, asked_by, parameters, algorithm, cert_id, single, optional, extensions}
 use Rattle.reg_ocsp.specs.Reading.{expect_at, whole_at, last_at, read_all, algorithm_at, is_shortest, target_at, single_at, written_nonce}
 use Rattle.reg_ocsp.proofs.PartLaws.{chosen, expect_takes, expect_again, whole_takes, whole_again, last_takes, last_again, IsSmall}
@@ -38,7 +39,7 @@ parameters_again (Some x) low small = any_again x low small
   where
     any_again : (x : Parts) → x.tag % 32 < 31 → length (tlv x.tag x.contents) ≤ 65536 → read_all (tlv x.tag x.contents) (value_at (tlv x.tag x.contents)) ≡ true
     any_again x low small =
-        let again : value_at (tlv x.tag x.contents) ≡ Some (x, []) = ap value_at (sym (append-nil (tlv x.tag x.contents))) ∙ value_again x.tag x.contents [] low (omega (arith, length-tlv_at_least x.tag x.contents)) in
+        let again : value_at (tlv x.tag x.contents) ≡ Some (x, []) = ap value_at (sym (append-nil (tlv x.tag x.contents))) ∙ value_again x.tag x.contents [] low (omega (arith, (value_size x.tag x.contents).least)) in
         rw again refl
 
 -- ---- the algorithm
@@ -86,8 +87,8 @@ unfolding algorithm_at
 algorithm_again identifier any rest some low small =
     let contents = tlv 0x06 identifier ++ parameters any in
     let len = length-append (tlv 0x06 identifier) (parameters any) in
-    let l0 : length contents ≤ 65536 = omega (arith, length-tlv_at_least 0x30 contents) in
-    let l1 : length identifier ≤ 65536 = omega (arith, length-tlv_at_least 0x06 identifier) in
+    let l0 : length contents ≤ 65536 = omega (arith, (value_size 0x30 contents).least) in
+    let l1 : length identifier ≤ 65536 = omega (arith, (value_size 0x06 identifier).least) in
     let e0 = expect_again 0x30 contents rest (omega arith) l0 in
     let e1 = expect_again 0x06 identifier (parameters any) (omega arith) l1 in
     let e2 : eqb (length identifier) 0 ≡ false = ne_eqb (length identifier) 0 (λ same. absurd (omega arith)) in
@@ -172,14 +173,14 @@ target_again t rest fits small =
     let after_name = tlv 0x04 t.key_hash ++ last in
     let after_front = tlv 0x04 t.name_hash ++ after_name in
     let contents = front ++ after_front in
-    let l0 : length contents ≤ 65536 = omega (arith, length-tlv_at_least 0x30 contents) in
+    let l0 : length contents ≤ 65536 = omega (arith, (value_size 0x30 contents).least) in
     let len0 = length-append front after_front in
     let len1 = length-append (tlv 0x04 t.name_hash) after_name in
     let len2 = length-append (tlv 0x04 t.key_hash) last in
     let l1 : length front ≤ 65536 = omega arith in
-    let l2 : length t.name_hash ≤ 65536 = omega (arith, length-tlv_at_least 0x04 t.name_hash) in
-    let l3 : length t.key_hash ≤ 65536 = omega (arith, length-tlv_at_least 0x04 t.key_hash) in
-    let l4 : length t.serial ≤ 65536 = omega (arith, length-tlv_at_least 0x02 t.serial) in
+    let l2 : length t.name_hash ≤ 65536 = omega (arith, (value_size 0x04 t.name_hash).least) in
+    let l3 : length t.key_hash ≤ 65536 = omega (arith, (value_size 0x04 t.key_hash).least) in
+    let l4 : length t.serial ≤ 65536 = omega (arith, (value_size 0x02 t.serial).least) in
     let e0 = expect_again 0x30 contents rest (omega arith) l0 in
     let e1 = algorithm_again t.identifier t.parameters after_front fits.identified fits.low_tag l1 in
     let e2 = expect_again 0x04 t.name_hash after_name (omega arith) l2 in
@@ -224,7 +225,7 @@ single_takes bytes x each e =
 -- what is written of extensions is few where they are
 pub contents_small : (tag : ℕ) (written : Option (List ℕ)) → length (optional tag written) ≤ 65536 → IsSmall written
 contents_small tag None small = tt
-contents_small tag (Some contents) small = omega (arith, length-tlv_at_least tag contents)
+contents_small tag (Some contents) small = omega (arith, (value_size tag contents).least)
 
 single_again : (s : Single) (rest : List ℕ) → IsSingle s → length (single s) ≤ 65536 → single_at (single s ++ rest) ≡ Some (asked_by s, rest)
 unfolding single_at
@@ -234,7 +235,7 @@ single_again s rest fits small =
     let last = extensions 0xA0 s.extensions in
     let contents = front ++ last in
     let len = length-append front last in
-    let l0 : length contents ≤ 65536 = omega (arith, length-tlv_at_least 0x30 contents) in
+    let l0 : length contents ≤ 65536 = omega (arith, (value_size 0x30 contents).least) in
     let is : last ≡ optional 0xA0 written = extensions_are 0xA0 s.extensions in
     let l1 : length (optional 0xA0 written) ≤ 65536 = let same = ap length is in omega arith in
     let e0 = expect_again 0x30 contents rest (omega arith) l0 in
@@ -247,5 +248,5 @@ pub single_reads : Reads single_at single asked_by IsSingle
 single_reads = record {
   takes = single_takes;
   again = single_again;
-  some = λ s. omega (arith, length-tlv_at_least 0x30 (cert_id s.target ++ extensions 0xA0 s.extensions));
+  some = λ s. omega (arith, (value_size 0x30 (cert_id s.target ++ extensions 0xA0 s.extensions)).least);
 }

@@ -1,7 +1,7 @@
 -- The algorithm of a CRL, as it is read.
 use Rattle.std.proofs.Common.{◌≡◌, ℕ, List, [], ◌++◌, sym, ◌∙◌, append-nil}
 use Rattle.reg_der.specs.Der.{IsTlv}
-use Rattle.reg_der.proofs.Values.{no_two_prefixes}
+use Rattle.reg_der.proofs.PublicLaws.{no_two_prefixes}
 use Rattle.reg_signer.specs.Signed.{IsCrlUnder}
 
 -- the contents of the value at the front are the CRL's

@@ -5,7 +5,7 @@ use Rattle.std.proofs.lemmas.Bool.{eqb-true, false≢true}
 use Rattle.std.proofs.lemmas.List.{nil_from_length}
 use Rattle.reg_core.specs.Integer.{IsInteger, value}
 use Rattle.reg_der.specs.Der.{IsTlv}
-use Rattle.reg_der.proofs.Values.{no_two_prefixes}
+use Rattle.reg_der.proofs.PublicLaws.{no_two_prefixes}
 use Rattle.reg_signer.specs.Forms.{BeginsPositive, HasOctets, HoldsPair, IsEcdsaValue, IsPair, IsPositive, IsRsaKey}
 use Rattle.reg_signer.proofs.Sizes.{below_power, one_count, within_power}
 

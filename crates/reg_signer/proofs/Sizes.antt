@@ -3,17 +3,17 @@ use Rattle.std.proofs.Common.{◌≡◌, ℕ, suc, ◌-◌, ◌*◌, ◌^◌, �
 use Rattle.std.proofs.Math.Nat.{pow-succ', pow-le-pow_right, one-le-pow, mul-le-mul_right}
 use Rattle.std.proofs.lemmas.Bool.{cases_lt}
 use Rattle.reg_core.specs.Integer.{IsBytes, IsInteger, IsShortest, value}
-use Rattle.reg_core.proofs.Integers.{is_bytes-tail, value-cons, value-lt}
+use Rattle.reg_der.proofs.PublicLaws.{octets_are_below, octets_are_places}
 use Rattle.reg_signer.specs.Forms.{HasOctets}
 
 -- octets whose first is above 0 are as many as their number has
 pub octets_lead : (first : ℕ) (rest : List ℕ) → 0 < first → IsBytes (first ∷ rest) → HasOctets (value (first ∷ rest)) (suc (length rest))
 octets_lead first rest some each =
     let unit = 256 ^ length rest in
-    let digits = value-cons first rest in
+    let digits = octets_are_places first rest in
     let more : 1 * unit ≤ first * unit = mul-le-mul_right unit some in
     let places = pow-succ' 256 (length rest) in
-    record { below = value-lt (first ∷ rest) each; no_fewer = omega arith }
+    record { below = octets_are_below (first ∷ rest) each; no_fewer = omega arith }
 
 -- a number has no two counts
 pub one_count : (number a b : ℕ) → HasOctets number a → HasOctets number b → a ≤ b
@@ -59,8 +59,8 @@ pub zero_leads : (contents : List ℕ) → IsBytes contents → 2 ≤ length con
 zero_leads [] each two first second = absurd (omega arith)
 zero_leads (a ∷ []) each two first second = absurd (omega arith)
 zero_leads (a ∷ b ∷ rest) each two first second =
-    let inner = octets_lead b rest (omega arith) (is_bytes-tail a (b ∷ rest) each) in
-    let digits = value-cons a (b ∷ rest) in
+    let inner = octets_lead b rest (omega arith) (λ i. each (suc i)) in
+    let digits = octets_are_places a (b ∷ rest) in
     let zeros : a * 256 ^ suc (length rest) ≡ 0 * 256 ^ suc (length rest) = ap (λ (x : ℕ). x * 256 ^ suc (length rest)) first in
     let same : value (a ∷ b ∷ rest) ≡ value (b ∷ rest) = omega arith in
     let some : 0 < 256 ^ suc (length rest) = one-le-pow (suc (length rest)) 256 (omega arith) in

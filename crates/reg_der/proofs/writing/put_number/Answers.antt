@@ -6,6 +6,9 @@ use Rattle.reg_der.proofs.writing.put_number.Goals as goal
 pub returns-clause-ok : goal.returns-clause-ok
 returns-clause-ok c = rw (← integer_of_word c.args.number (omega arith)) (search rules)
 
+pub returns-clause-full : goal.returns-clause-full
+returns-clause-full c = rw (← integer_of_word c.args.number (omega arith)) (search rules)
+
 pub returns-clause-value : goal.returns-clause-value
 returns-clause-value c = integer_is_value c.args.number (omega arith)
 

@@ -8,6 +8,10 @@ pub returns-clause-ok : goal.returns-clause-ok
 returns-clause-ok c =
     rw (← integer_of_serial c.bytes20.result c.args.serial c.bytes20.ensures.bytes c.bytes20.ensures.in_range.1) (search rules)
 
+pub returns-clause-full : goal.returns-clause-full
+returns-clause-full c =
+    rw (← integer_of_serial c.bytes20.result c.args.serial c.bytes20.ensures.bytes c.bytes20.ensures.in_range.1) (search rules)
+
 pub returns-clause-value : goal.returns-clause-value
 returns-clause-value c =
     integer_is_value c.args.serial (let below = c.bytes20.ensures.in_range.1 in omega arith)
