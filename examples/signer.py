@@ -6,8 +6,13 @@ back, and the connection ends. One line of socat does the same, and starts opens
 
     socat UNIX-LISTEN:ca.sign,fork,mode=600 EXEC:'openssl dgst -sha256 -sign ca.key'
 
-This program keeps the key in memory, and so is for load. Whoever can connect to the socket can have anything signed: it is made
-with mode 600, and belongs into a folder that the desk's user alone can enter.
+This program keeps the key in memory, and is for load tests and for showing how a key signs: a key that matters belongs into hardware.
+Whoever can connect to the socket can have anything signed: it is made with mode 600, and belongs into a folder that the desk's user
+alone can enter.
+
+With P-256 it draws nonces before their messages come, by the system's libcrypto (OpenSSL), since nearly all of a signature's work
+depends on the nonce alone. Some are in memory at any time, and so is the key: never copy a machine, nor set it back, with its memory
+while this runs, for then one nonce may sign two messages, which gives the key away.
 
 Usage: examples/signer.py KEY.pem SOCKET
        examples/signer.py KEY.pem              prints the NAME of the key's algorithm, and ends
@@ -15,45 +20,125 @@ Usage: examples/signer.py KEY.pem SOCKET
 The key is one of P-256, P-384, RSA of 2,048 bits or more, or Ed25519, in PEM and without a passphrase.
 It wants the package `cryptography` (Debian: python3-cryptography).
 """
+import ctypes
+import ctypes.util
 import hashlib
 import os
+import select
 import signal
 import socket
-import struct
 import sys
 
 from cryptography.hazmat.primitives import hashes
 from cryptography.hazmat.primitives.asymmetric import ec, ed25519, padding, rsa, utils
-from cryptography.hazmat.primitives.serialization import load_pem_private_key
+from cryptography.hazmat.primitives.serialization import Encoding, NoEncryption, PrivateFormat, load_pem_private_key
 
-# How long a read may wait, as long as the desk waits: a `struct timeval` of ten seconds.
-PATIENCE = struct.pack("ll", 10, 0)
+# How many seconds a read may wait, as long as the desk waits.
+PATIENCE = 10
 # The longest message: the desk signs CRLs of 2^27 bytes at most.
 LONGEST = 1 << 27
+# How many nonces are drawn at most.
+POOL = 8
+# How often a peer is looked for before it is waited for, a hundred microseconds or two: who wants many signatures is back by then, and to be
+# woken takes longer than to sign.
+LOOKS = 100
+
+
+def libcrypto():
+    """OpenSSL's library, with the calls that divide an ECDSA signature into what needs the message and what does not; None where they can't be had."""
+    pointer, number = ctypes.c_void_p, ctypes.c_int
+    try:
+        library = ctypes.CDLL(ctypes.util.find_library("crypto"))
+        library.d2i_ECPrivateKey.restype, library.d2i_ECPrivateKey.argtypes = pointer, [pointer, pointer, ctypes.c_long]
+        library.ECDSA_sign_setup.argtypes = [pointer] * 4
+        library.ECDSA_sign_ex.argtypes = [number, ctypes.c_char_p, number] + [pointer] * 5
+        library.BN_clear_free.restype, library.BN_clear_free.argtypes = None, [pointer]
+        return library
+    except (AttributeError, OSError):
+        return None
+
+
+class Ecdsa:
+    """Signs by ECDSA, with nonces that were drawn while nobody waited (k^-1, and r out of kG: FIPS 186-5 6.4.1), which OpenSSL's own code
+    alone works with; where none is left, or none can be drawn, by the package. The digest is hashlib's: the package's own takes thrice as long.
+
+    A nonce signs one message and never another, since two signatures by one nonce give the key away. So it leaves the list before it is
+    used and is freed after it, whatever comes of it, and a forked process begins with none."""
+
+    def __init__(self, key, digest, kind):
+        self.key, self.digest, self.algorithm = key, digest, ec.ECDSA(utils.Prehashed(kind))
+        self.room, self.length, self.drawn = ctypes.create_string_buffer(256), ctypes.c_uint(), []
+        # For P-384 OpenSSL 3.0 takes five times as long to draw a nonce as the package takes to sign.
+        self.library, self.theirs = libcrypto() if key.curve.name == "secp256r1" else None, None
+        if self.library:
+            der = key.private_bytes(Encoding.DER, PrivateFormat.TraditionalOpenSSL, NoEncryption())
+            self.theirs = self.library.d2i_ECPrivateKey(None, ctypes.byref(ctypes.c_char_p(der)), len(der))
+            os.register_at_fork(after_in_child=self.drawn.clear)
+
+    def draw(self):
+        """Draws one more nonce, and tells whether it did."""
+        if len(self.drawn) == POOL:
+            return False
+        inverse, r = ctypes.c_void_p(), ctypes.c_void_p()
+        if self.library.ECDSA_sign_setup(self.theirs, None, ctypes.byref(inverse), ctypes.byref(r)) != 1:
+            return False
+        self.drawn.append((inverse, r))
+        return True
+
+    def sign(self, message):
+        digest = self.digest(message).digest()
+        if not self.drawn:
+            return self.key.sign(digest, self.algorithm)
+        inverse, r = self.drawn.pop()
+        try:
+            if self.library.ECDSA_sign_ex(0, digest, len(digest), self.room, ctypes.byref(self.length), inverse, r, self.theirs) != 1:
+                raise OSError("libcrypto gave no signature")
+            return self.room.raw[: self.length.value]
+        finally:
+            self.library.BN_clear_free(inverse)
+            self.library.BN_clear_free(r)
+
+
+def nothing():
+    """What a signer draws ahead that draws nothing."""
 
 
 def signer_of(key):
-    """The name of a key's algorithm, and what signs with it. The digest is hashlib's: with the package's own a signature of P-256 takes half as long again."""
+    """The name of a key's algorithm, what signs with it, and what draws ahead for it."""
     if isinstance(key, ec.EllipticCurvePrivateKey):
         kinds = {"secp256r1": ("ecdsa-sha256", hashlib.sha256, hashes.SHA256()), "secp384r1": ("ecdsa-sha384", hashlib.sha384, hashes.SHA384())}
         if key.curve.name not in kinds:
             sys.exit(f"no algorithm for the curve {key.curve.name}")
-        name, digest, kind = kinds[key.curve.name]
-        algorithm = ec.ECDSA(utils.Prehashed(kind))
-        return name, lambda message: key.sign(digest(message).digest(), algorithm)
+        name, *parts = kinds[key.curve.name]
+        signer = Ecdsa(key, *parts)
+        return name, signer.sign, signer.draw if signer.theirs else nothing
     if isinstance(key, rsa.RSAPrivateKey):
         kind, filling = utils.Prehashed(hashes.SHA256()), padding.PKCS1v15()
-        return "rsa-sha256", lambda message: key.sign(hashlib.sha256(message).digest(), filling, kind)
+        return "rsa-sha256", lambda message: key.sign(hashlib.sha256(message).digest(), filling, kind), nothing
     if isinstance(key, ed25519.Ed25519PrivateKey):
-        return "ed25519", key.sign
+        return "ed25519", key.sign, nothing
     sys.exit(f"no algorithm for a key of the kind {type(key).__name__}")
 
 
-def message_of(connection, room):
-    """All that the peer writes, up to its end; nothing where that is too long. Most messages are taken by one call."""
-    length = connection.recv_into(room, 0, socket.MSG_WAITALL)
-    parts = [room[:length]]
-    while part := connection.recv(len(room)):
+def soon(call, at, patience, meanwhile):
+    """What a call gives that never waits. While it has nothing, what is to be done meanwhile is done; then it is called some times more,
+    and then waited for."""
+    looks = 0
+    while True:
+        try:
+            return call()
+        except BlockingIOError:
+            if meanwhile():
+                continue
+        looks += 1
+        if looks > LOOKS and not select.select([at], [], [], patience)[0]:
+            raise TimeoutError("nothing came in time")
+
+
+def message_of(connection):
+    """All that the peer writes, up to its end; None where that is too long."""
+    parts, length = [], 0
+    while part := soon(lambda: os.read(connection, 65536), connection, PATIENCE, nothing):
         parts.append(part)
         length += len(part)
         if length > LONGEST:
@@ -61,17 +146,19 @@ def message_of(connection, room):
     return parts[0] if len(parts) == 1 else b"".join(parts)
 
 
-def answer(connection, sign, room):
-    """One message, and its signature. A peer that fails costs no more than its own connection."""
+def answer(connection, sign):
+    """One message, and its signature, over a bare descriptor: to make a socket of it takes as long as to sign. A peer that fails costs no
+    more than its own connection."""
     try:
-        connection.setsockopt(socket.SOL_SOCKET, socket.SO_RCVTIMEO, PATIENCE)
-        message = message_of(connection, room)
+        os.set_blocking(connection, False)
+        message = message_of(connection)
         if message is not None:
-            connection.sendall(sign(message))
+            # A new socket has room for more than this.
+            os.write(connection, sign(message))
     except OSError as error:
         print(f"a connection failed: {error}", file=sys.stderr)
     finally:
-        connection.close()
+        os.close(connection)
 
 
 def listen(path):
@@ -86,20 +173,15 @@ def listen(path):
     listener.bind(path)
     os.umask(mask)
     listener.listen(128)
+    listener.setblocking(False)
     return listener
-
-
-def accepted(listener):
-    """The next connection, as the plain type below socket.socket: to make one of the latter takes a tenth as long as to sign."""
-    descriptor, _ = listener._accept()
-    return socket.SocketType(socket.AF_UNIX, socket.SOCK_STREAM, 0, descriptor)
 
 
 def main():
     if len(sys.argv) not in (2, 3):
         sys.exit(__doc__)
     with open(sys.argv[1], "rb") as file:
-        name, sign = signer_of(load_pem_private_key(file.read(), None))
+        name, sign, draw = signer_of(load_pem_private_key(file.read(), None))
     if len(sys.argv) == 2:
         print(name)
         return
@@ -107,10 +189,10 @@ def main():
     for ending in (signal.SIGTERM, signal.SIGINT):
         signal.signal(ending, lambda *_: sys.exit(0))
     print(f"{name} at {sys.argv[2]}", flush=True)
-    room = memoryview(bytearray(65536))
     try:
         while True:
-            answer(accepted(listener), sign, room)
+            connection, _ = soon(listener._accept, listener, None, draw)
+            answer(connection, sign)
     finally:
         os.remove(sys.argv[2])
 
