@@ -4,8 +4,12 @@ loaded before the program. What meets the refusal tells of want of memory and le
 the same again has its answer, and so has all that follows. A script with every command and query is run a line at a time, each route is asked over HTTP, a CRL
 is written, a certificate imported, a schedule set, a register made, and one of version 1 and of version 2 opened and so made newer.
 
+Tests that are called `refused_..` are run in the same way: they call what takes memory by itself, and pass where the answer is whole, or want of memory with every
+buffer as it was.
+
 Usage, from the repository's root: tools/refused-memory.py [JOBS [NAME ..]]   (so many runs side by side, 2 where none is given; of these: script, serve, crl,
-import, schedule, init, "version 1 opened", "version 2 opened"). It wants cc, and the program that ./desk builds. All take half an hour or more on two processors.
+import, schedule, init, "version 1 opened", "version 2 opened", all of them where none is named; or a crate of tests that is built, as der_examples: `rt ci` builds
+all, and tools/refused-memory.sh one). It wants cc, and the program that ./desk builds. All take half an hour or more on two processors.
 """
 import collections
 import concurrent.futures
@@ -107,13 +111,13 @@ def copy(base, path):
 
 
 class Refusing:
-    """The program, with its Nth allocation refused."""
+    """The program, or one of tests, with its Nth allocation refused."""
 
-    def __init__(self, library, words, at, **how):
+    def __init__(self, library, words, at, program=DESK):
         self.told, to = os.pipe()
         os.set_blocking(self.told, False)
         environment = dict(os.environ, LD_PRELOAD=library, REFUSED_AT=str(at), REFUSED_TO=str(to)) if at else dict(os.environ)
-        self.process = subprocess.Popen([DESK] + words, env=environment, pass_fds=[to], stdin=subprocess.PIPE, stdout=subprocess.PIPE, stderr=subprocess.PIPE, **how)
+        self.process = subprocess.Popen([program] + words, env=environment, pass_fds=[to], stdin=subprocess.PIPE, stdout=subprocess.PIPE, stderr=subprocess.PIPE)
         os.close(to)
         self.refused = False
 
@@ -294,6 +298,28 @@ def served(desk, routes, state, path, port, at):
     return refused, ended, None
 
 
+def test_round(work, kind, at):
+    """A test with the Nth allocation refused: it passes all the same."""
+    program, test = kind
+    it = Refusing(work.library, [test], at, program)
+    out, err = it.process.communicate(timeout=60)
+    refused = it.was_refused()
+    os.close(it.told)
+    if it.process.returncode:
+        fail(f"{test} at allocation {at}: status {it.process.returncode}, {out[:80]!r}, {err[:200]!r}")
+    return refused, "passed", None
+
+
+def refused_tests(crate):
+    """Returns the tests of a crate that are to pass whatever allocation is refused, by what is printed of them."""
+    program = f"{TOP}/crates/{crate}/out/{crate}_tests"
+    if not os.path.exists(program):
+        fail(f"the tests of {crate} are not built (tools/refused-memory.sh {crate})")
+    listed = subprocess.run([program, "--list"], check=True, capture_output=True, text=True).stdout.splitlines()
+    names = [line.removesuffix(": test") for line in listed if line.endswith(": test")]
+    return {f"{crate} {name}": (test_round, (program, name)) for name in names if name.rpartition("::")[2].startswith("refused_")}
+
+
 def each(name, jobs, work, round_of, kind):
     """Goes up through the allocations until a run meets no refusal, and prints how many were refused."""
     counted, rare, first, wanted = collections.Counter(), [], 1, round_of(work, kind, 0)[2]
@@ -340,29 +366,47 @@ def states_of(work, base, lines):
 
 
 def main():
-    jobs = int(sys.argv[1]) if len(sys.argv) > 1 else 2
-    if not os.path.exists(DESK):
-        subprocess.run(["./desk", "--help"], check=True, stdout=subprocess.DEVNULL)
+    jobs, names = int(sys.argv[1]) if len(sys.argv) > 1 else 2, sys.argv[2:]
+    of_tests = [name for name in names if os.path.isdir(f"{TOP}/crates/{name}")]
     with tempfile.TemporaryDirectory() as folder:
         work = Work(folder)
-        new, older = f"{folder}/new.db", older_registers()
-        subprocess.run([DESK, "init", new] + ISSUER, check=True, stdout=subprocess.DEVNULL)
-        made, states = states_of(work, new, LINES)
-        kinds = {
-            "script": (script_round, (new, LINES, states)),
-            "serve": (serve_round, (ordered(work, made, b"2026-01-10T00:00:01Z register 3 0A 2026-01-10T00:00:01Z 2027-01-01T00:00:00Z\n"), ROUTES, 24000)),
-            "crl": (job_round, (made, ["crl", "FILE"], b"", states[-1]["crl"][-1][2], None)),
-            "import": (job_round, (ordered(work, made, b""), ["import", "FILE", "--now", "2026-01-10T00:00:01Z"], ROW, b"registered\n", None)),
-            "schedule": (job_round, (new, ["schedule", "FILE", "1970-01-01T00:00:00Z=47"], b"", b"schedule set\n", None)),
-            "init": (job_round, (None, ["init", "FILE"] + ISSUER, b"", b"created\n", None)),
-        }
-        for version in (1, 2):
-            path = f"{folder}/version{version}.db"
-            older.make(path, older.Records(2, 3), version)
-            line = f"{older.moment(older.Records(2, 3).last)} next-crl\n".encode()
-            kinds[f"version {version} opened"] = (job_round, (path, ["script", "FILE"], line, NEXT, newer(work, path)))
-        for name in sys.argv[2:] or kinds:
-            each(name, jobs, work, *kinds[name])
+        for crate in of_tests:
+            for name, of in refused_tests(crate).items():
+                each(name, jobs, work, *of)
+        of_program = [name for name in names if name not in of_tests]
+        if of_program or not names:
+            over_program(work, jobs, of_program)
+
+
+def over_program(work, jobs, names):
+    """Runs what is named of the program's kinds, or all."""
+    if not os.path.exists(DESK):
+        subprocess.run(["./desk", "--help"], check=True, stdout=subprocess.DEVNULL)
+    kinds = kinds_of(work)
+    for name in names or kinds:
+        each(name, jobs, work, *kinds[name])
+
+
+def kinds_of(work):
+    """Returns what is run of the program, by name, over registers that are made first."""
+    folder, older = work.folder, older_registers()
+    new = f"{folder}/new.db"
+    subprocess.run([DESK, "init", new] + ISSUER, check=True, stdout=subprocess.DEVNULL)
+    made, states = states_of(work, new, LINES)
+    kinds = {
+        "script": (script_round, (new, LINES, states)),
+        "serve": (serve_round, (ordered(work, made, b"2026-01-10T00:00:01Z register 3 0A 2026-01-10T00:00:01Z 2027-01-01T00:00:00Z\n"), ROUTES, 24000)),
+        "crl": (job_round, (made, ["crl", "FILE"], b"", states[-1]["crl"][-1][2], None)),
+        "import": (job_round, (ordered(work, made, b""), ["import", "FILE", "--now", "2026-01-10T00:00:01Z"], ROW, b"registered\n", None)),
+        "schedule": (job_round, (new, ["schedule", "FILE", "1970-01-01T00:00:00Z=47"], b"", b"schedule set\n", None)),
+        "init": (job_round, (None, ["init", "FILE"] + ISSUER, b"", b"created\n", None)),
+    }
+    for version in (1, 2):
+        path = f"{folder}/version{version}.db"
+        older.make(path, older.Records(2, 3), version)
+        line = f"{older.moment(older.Records(2, 3).last)} next-crl\n".encode()
+        kinds[f"version {version} opened"] = (job_round, (path, ["script", "FILE"], line, NEXT, newer(work, path)))
+    return kinds
 
 
 ROW = b"3,07,2026-01-01T00:00:00Z,2026-02-01T00:00:00Z\n"

@@ -1,22 +1,8 @@
 #!/usr/bin/env bash
-# tools/refused-memory.sh CRATE: runs a crate's tests, as those of der_examples or crl_examples, with the Nth allocation of each
-# test refused, for N = 1, 2 and so on, until no test meets a refusal. The tests called `refused_..` must pass in each: they call
-# what takes memory, and find the whole answer, or `Memory` with every buffer as it was. Other tests may stop at a refusal, by
-# their own `?`. The libraries below the crate are proved first, where they are not built yet.
+# tools/refused-memory.sh CRATE [JOBS]: proves and builds the tests of a crate, as der_examples, crl_examples, ocsp_examples or http_examples,
+# and runs those that are called `refused_..` with each of their allocations refused in turn (tools/refused-memory.py).
 set -euo pipefail
-top=$(cd "$(dirname "$0")/.." && pwd)
-crate=${1:?usage: tools/refused-memory.sh CRATE}
-cd "$top/crates/$crate"
-log=$(mktemp)
-trap 'rm -f "$log"' EXIT
-for ((n = 1; n <= 400; n++)); do
-    rt try --test --fail-alloc "$n" > "$log" 2>&1 || true
-    printf '%d: %s\n' "$n" "$(grep -E '^test result' "$log" | head -n 1)"
-    if grep -E '^test .*refused_.*FAILED' "$log"; then
-        exit 1
-    fi
-    if grep -q '^test result: ok' "$log"; then
-        exit 0
-    fi
-done
-exit 1
+cd "$(dirname "$0")/.."
+crate=${1:?usage: tools/refused-memory.sh CRATE [JOBS]}
+(cd "crates/$crate" && rt test -- refused_)
+exec tools/refused-memory.py "${2:-2}" "$crate"
