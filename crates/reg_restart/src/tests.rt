@@ -41,6 +41,9 @@ fn made(alloc: Global) -> Option<Connection<FileStore<Memory>>> {
 /// Whether a register is opened over the files of a connection after a stop.
 fn is_register_again(alloc: Global, connection: Connection<FileStore<Memory>>) -> Option<bool> {
     let again = restart(alloc, connection, Options::new(1)).ok()?;
+    if !again.is_autocommit() {
+        return None;
+    }
     Some(Store::open(again).is_ok())
 }
 
