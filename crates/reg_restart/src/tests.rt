@@ -39,24 +39,23 @@ fn made(alloc: Global) -> Option<Connection<FileStore<Memory>>> {
 }
 
 /// Whether a register is opened over the files of a connection after a stop.
-fn is_register_again(alloc: Global, connection: Connection<FileStore<Memory>>) -> Option<bool> {
-    let again = restart(alloc, connection, Options::new(1)).ok()?;
-    if !again.is_autocommit() {
-        return None;
+fn is_register_again(alloc: Global, connection: Connection<FileStore<Memory>>) -> bool {
+    match restart(alloc, connection, Options::new(1)) {
+        Ok(again) => Store::open(again).is_ok(),
+        Err(_) => false,
     }
-    Some(Store::open(again).is_ok())
 }
 
 #[test]
 fn a_register_that_was_made_is_there_after_a_stop(rt: HostRuntime) -> Result<(), Fail> {
     let connection = made(rt.alloc()).ok_or("a register")?;
-    assert_eq!(rt; is_register_again(rt.alloc(), connection), Some(true));
+    assert!(rt; is_register_again(rt.alloc(), connection));
     Ok(())
 }
 
 #[test]
 fn none_is_there_where_none_was_made(rt: HostRuntime) -> Result<(), Fail> {
     let connection = opened(rt.alloc()).ok_or("a connection")?;
-    assert_eq!(rt; is_register_again(rt.alloc(), connection), Some(false));
+    assert!(rt; !is_register_again(rt.alloc(), connection));
     Ok(())
 }
