@@ -1,5 +1,5 @@
 -- The AlgorithmIdentifier that stands in a CRL.
-use Rattle.std.proofs.Common.{◌≡◌, ℕ, ◌+◌, ◌≤◌, List, [], ◌∷◌, ◌++◌, length, Some, refl, sym, ap, subst, ◌∙◌, arith, append-nil, append_assoc, length-append}
+use Rattle.std.proofs.Common.{◌≡◌, ℕ, ◌+◌, ◌≤◌, List, [], ◌++◌, length, Some, refl, sym, ap, subst, ◌∙◌, arith, append-nil, append_assoc, length-append}
 use Rattle.reg_core.specs.Crls.{CertList}
 use Rattle.reg_crl.specs.Crl.{tbs_of, tbs_cert_list, certificate_list}
 use Rattle.reg_der.specs.Der.{IsTlv, tlv}

@@ -12,7 +12,7 @@ use Rattle.reg_core.specs.Calendar.{clock_end}
 use Rattle.reg_core.specs.Crls.{row_of, cert_list}
 use Rattle.reg_core.specs.Policy.{IsPolicy}
 use Rattle.reg_core.specs.Records.{Records, Crl}
-use Rattle.reg_core.specs.Sound.{NumberedFrom, KeysDiffer, CrlsSigned, Sound, SoundRows}
+use Rattle.reg_core.specs.Sound.{NumberedFrom, KeysDiffer, CrlsSigned, SoundRows}
 use Rattle.reg_core.specs.declared.rows.CrlRow.{CrlRow}
 use Rattle.reg_laws.proofs.Kept.{revocations_within}
 use Rattle.reg_laws.proofs.Lists.{all_map, all_weaker, each_found}
@@ -138,25 +138,19 @@ updates_before records sound =
 module _ (records : Records) (columns : Columns) where
   -- where the rows are no sound records
   pub rows_denied : (stop : AuditStop) → (IsBroken stop → ¬ (HasValues records × SoundRows records × Kept columns records)) → IsDenied stop records columns
-  rows_denied Memory no = tt
-  rows_denied Store no = tt
-  rows_denied (Broken row) no = record {
-    whole = λ values sound kept. no tt (values, sound.rows, kept);
-    rows = λ other values sound kept. no tt (values, sound, kept);
+  rows_denied Memory never = tt
+  rows_denied Store never = tt
+  rows_denied (Broken row) never = record {
+    whole = λ values sound kept. never tt (values, sound.rows, kept);
+    rows = λ other values sound kept. never tt (values, sound, kept);
   }
 
   -- where the bytes of a CRL are others
   pub bytes_denied : (stop : AuditStop) → (HasValues records → SoundRows records → Kept columns records → ¬ IsBrokenRow stop) → (HasValues records → SoundRows records → Kept columns records → IsBroken stop → ¬ CrlsSigned IsSomeCrl records)
       → IsDenied stop records columns
-  bytes_denied Memory no others = tt
-  bytes_denied Store no others = tt
-  bytes_denied (Broken row) no others = record {
+  bytes_denied Memory never others = tt
+  bytes_denied Store never others = tt
+  bytes_denied (Broken row) never others = record {
     whole = λ values sound kept. others values sound.rows kept tt sound.signatures;
-    rows = λ other values sound kept. no values sound kept other;
+    rows = λ other values sound kept. never values sound kept other;
   }
-
-  -- where nothing is told of a row
-  pub nothing_denied : (stop : AuditStop) → ¬ IsBroken stop → IsDenied stop records columns
-  nothing_denied Memory no = tt
-  nothing_denied Store no = tt
-  nothing_denied (Broken row) no = absurd (no tt)

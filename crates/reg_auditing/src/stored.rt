@@ -63,19 +63,25 @@ fn value_behind_signed(crl: &[u8]) -> Option<Tlv<'_>>
     Some(algorithm)
 }
 
+/// A value as an AlgorithmIdentifier (RFC 5280 4.1.1.2), where it is one.
+fn as_algorithm(value: Tlv<'_>) -> Option<&[u8]>
+    ensures found { IsTlv value.entry.raw.now value.entry.tag value.entry.contents.now → IfSome result (λ found. IsAlgorithm found.now) }
+    ensures one { value.entry.tag ≡ 48 → length value.entry.raw.now ≤ 1024 → IsSomeAnd result (λ found. found.now ≡ value.entry.raw.now) }
+{
+    if value.tag == SEQUENCE && value.raw.len() <= MOST_ALGORITHM {
+        Some(value.raw)
+    } else {
+        None
+    }
+}
+
 /// The AlgorithmIdentifier before the signature of a CRL (RFC 5280 5.1.1.2), where one stands there.
 fn algorithm_in(crl: &[u8]) -> Option<&[u8]>
     ensures found { IfSome result (λ found. IsAlgorithm found.now) }
     ensures one { (list : CertList) → (is : IsSomeCrl list crl.now) → IsSomeAnd result (λ found. found.now ≡ is.algorithm) }
 {
     match value_behind_signed(crl) {
-        Some(value) => {
-            if value.tag == SEQUENCE && value.raw.len() <= MOST_ALGORITHM {
-                Some(value.raw)
-            } else {
-                None
-            }
-        }
+        Some(value) => as_algorithm(value),
         None => None,
     }
 }
