@@ -5,7 +5,7 @@ use days_model::scripts::Plan;
 use days_model::tally::Tally;
 use days_model::tested::Tested;
 use days_model::texts::Text;
-use reg_auditing::Audited;
+use reg_auditing::{Audited, Unwatched};
 use reg_core::{Command, Fault, Moment, Outcome, Policy, Query, Schedule};
 use reg_crl::DigestSeal;
 use reg_der::Issuer;
@@ -51,7 +51,7 @@ impl InMemory {
         };
         let (store, _) = desk.office.into_parts();
         let mut connection = store.into_connection();
-        judge(desk.alloc, &mut connection).ok() == Some(Verdict::Sound(due))
+        judge(desk.alloc, &mut connection, &mut Unwatched).ok() == Some(Verdict::Sound(due))
     }
 }
 

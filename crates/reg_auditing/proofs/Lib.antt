@@ -3,4 +3,6 @@ pub mod Whole
 pub mod Serials
 pub mod Showing
 pub mod Signed
+pub mod Algorithms
+pub mod Denying
 pub mod Having

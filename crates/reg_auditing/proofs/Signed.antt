@@ -21,7 +21,7 @@ use Rattle.reg_auditing.specs.declared.stop.AuditStop.TheVariants.{Memory, Store
 use Rattle.reg_auditing.specs.Stored.{IsSomeCrl, IsStored}
 
 -- numbers that rise by one differ
-numbers_differ : {Row : Type 0} (number : Row → ℕ) (from : ℕ) (rows : List Row) → NumberedFrom number from rows → KeysDiffer number rows
+pub numbers_differ : {Row : Type 0} (number : Row → ℕ) (from : ℕ) (rows : List Row) → NumberedFrom number from rows → KeysDiffer number rows
 numbers_differ number from [] numbered = tt
 numbers_differ number from (row ∷ rest) numbered = (
   all_weaker (λ other. from + 1 ≤ number other) (λ other. number row ≢ number other) (λ other above same. let is = numbered.0 in omega arith) rest (numbered_above number (from + 1) rest numbered.1),

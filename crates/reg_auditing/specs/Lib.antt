@@ -1,5 +1,5 @@
+pub mod Values
+pub mod Stored
 pub mod Stops
 pub mod Said
-pub mod Values
 pub mod Shown
-pub mod Stored

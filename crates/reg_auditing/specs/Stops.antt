@@ -1,10 +1,17 @@
 -- How an audit ends that finds nothing well.
 use Rattle.std.specs.Prelude.{◌≢◌}
+use Rattle.reg_core.specs.Records.{Records}
+use Rattle.reg_core.specs.Sound.{Sound, SoundRows}
+use Rattle.reg_audit.specs.declared.stop.Broken.{Broken as Row}
 use Rattle.reg_audit.specs.declared.stop.Stop.{Stop}
 use Rattle.reg_audit.specs.declared.stop.Stop.TheVariants as found
 use Rattle.reg_audit.specs.declared.stop.Why.TheVariants.{OtherBytes}
+use Rattle.reg_tables.specs.Columns.{Columns}
+use Rattle.reg_tables.specs.Kept.{Kept}
 use Rattle.reg_tables.specs.declared.fault.StoreFault.{StoreFault}
 use Rattle.reg_tables.specs.declared.fault.StoreFault.TheVariants as fault
+use Rattle.reg_auditing.specs.Stored.{IsSomeCrl}
+use Rattle.reg_auditing.specs.Values.{HasValues}
 use Rattle.reg_auditing.specs.declared.stop.AuditStop.{AuditStop}
 use Rattle.reg_auditing.specs.declared.stop.AuditStop.TheVariants.{Memory, Store, Broken}
 
@@ -32,3 +39,16 @@ abbrev pub IsBrokenRow : AuditStop → Type 0
 IsBrokenRow Memory = ⊥
 IsBrokenRow Store = ⊥
 IsBrokenRow (Broken broken) = broken.why ≢ OtherBytes
+
+-- What a row that is told denies of records that tables show, and of what is kept beside them: that the records have a register's
+-- values and are sound with each CRL's bytes those of what it lists, and that what is kept follows from them. Of a row that is
+-- not told for its bytes also whatever the bytes of CRLs are.
+pub record Denies (row : Row) (records : Records) (columns : Columns) : Type 0 where
+  pub whole : HasValues records → Sound IsSomeCrl records → Kept columns records → ⊥
+  pub rows : row.why ≢ OtherBytes → HasValues records → SoundRows records → Kept columns records → ⊥
+
+-- an audit that ends so denies it by the row that it tells
+abbrev pub IsDenied : AuditStop → Records → Columns → Type 0
+IsDenied Memory records columns = Unit {0}
+IsDenied Store records columns = Unit {0}
+IsDenied (Broken row) records columns = Denies row records columns

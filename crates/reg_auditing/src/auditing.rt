@@ -4,20 +4,20 @@ ghost use Rattle.std.specs.Prelude.{◌≡◌, false, IfOk, IfErr};
 ghost use Rattle.sqlite.specs.Held.{state};
 ghost use Rattle.sqlite.specs.State.{HasCleanDisk};
 ghost use Rattle.reg_core.specs.Records.{Records};
-ghost use Rattle.reg_core.specs.Sound.{Sound, SoundRows};
+ghost use Rattle.reg_core.specs.Sound.{Sound};
 ghost use Rattle.reg_tables.specs.Columns.{Columns};
 ghost use Rattle.reg_tables.specs.Kept.{Kept};
 ghost use Rattle.reg_tables.specs.Shows.{ShowsBoth};
 ghost use Rattle.reg_tables.specs.Stays.{IsRegister, LeavesNothing, Stays};
 ghost use Rattle.reg_auditing.specs.Stored.{IsSomeCrl};
-ghost use Rattle.reg_auditing.specs.Stops.{IsBrokenRow};
-ghost use Rattle.reg_auditing.specs.Values.{HasValues};
+ghost use Rattle.reg_auditing.specs.Stops.{IsDenied};
 
 use crate::judging::judge;
 use crate::reading::read_each;
 use crate::stop::AuditStop;
 use crate::stored::check_crls;
 use crate::texts::What;
+use crate::watch::Watch;
 use sqlite::{Alter, Connection};
 use std::alloc::Global;
 
@@ -52,8 +52,8 @@ const WHOLE: [What; 10] = [
 /// register's type has no such value. Whatever records the tables show, where all is found well these are sound, each CRL's
 /// bytes are those of what it lists, and what is kept beside the records follows from them; where a row is told as broken, the
 /// records are not sound, or what is kept does not follow, or they have a value that no register's records have
-/// (`HasValues`). That the bytes of a CRL are others where that is told is not proved. It changes nothing of the tables of a
-/// register, and commits nothing.
+/// (`HasValues`), or, where it is told for its bytes, some CRL's bytes are others than those of what it lists (`Denies`). It
+/// changes nothing of the tables of a register, and commits nothing. The watch is told how far it is.
 ///
 /// Whether a signature verifies, the policy's schedule and the life of OCSP answers, and the rowids of the tables whose key is
 /// a serial number are not looked at. The schema is not looked at either.
@@ -61,17 +61,21 @@ const WHOLE: [What; 10] = [
 /// # Errors
 /// `Broken` with a row that breaks a rule; `Memory`; `Store` where the database fails, or where the issuer or the policy is
 /// one that no register writes.
-pub fn audit<S: Alter>(alloc: Global, conn: &mut Connection<S>) -> Result<Audited, AuditStop>
+pub fn audit<S: Alter, W: Watch>(
+    alloc: Global,
+    conn: &mut Connection<S>,
+    watch: &mut W,
+) -> Result<Audited, AuditStop>
     ensures sound { (records : Records) → (columns : Columns) → ShowsBoth S.Store conn.old records columns → HasCleanDisk (state S.Store conn.new)
         → IfOk result (λ _. Sound IsSomeCrl records × Kept columns records) }
     ensures broken { (records : Records) → (columns : Columns) → ShowsBoth S.Store conn.old records columns → HasCleanDisk (state S.Store conn.new)
-        → IfErr result (λ stop. IsBrokenRow stop → ¬ (HasValues records × SoundRows records × Kept columns records)) }
+        → IfErr result (λ stop. IsDenied stop records columns) }
     ensures same { IsRegister (state S.Store conn.old) → Stays (state S.Store conn.old) (state S.Store conn.new) }
     ensures survives { LeavesNothing (state S.Store conn.old) (state S.Store conn.new) }
     ensures idle { conn.old.in_transaction ≡ false → conn.new.in_transaction ≡ false }
 {
-    let all = read_each(alloc, conn, &WHOLE)?;
+    let all = read_each(alloc, conn, &WHOLE, watch)?;
     let audited = judge(alloc, &all)?;
-    check_crls(alloc, conn, &all)?;
+    check_crls(alloc, conn, &all, watch)?;
     Ok(audited)
 }

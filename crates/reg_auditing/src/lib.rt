@@ -10,6 +10,8 @@ mod tables;
 mod texts;
 mod typed;
 mod values;
+mod watch;
 
 pub use auditing::{Audited, audit};
 pub use stop::AuditStop;
+pub use watch::{Unwatched, Watch};

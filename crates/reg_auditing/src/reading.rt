@@ -13,6 +13,7 @@ ghost use Rattle.reg_tables.specs.Stays.{IsCallFault, IsRegister, LeavesNothing,
 ghost use Rattle.reg_auditing.specs.Said.{IsReadOf, AreRead};
 
 use crate::texts::{What, text};
+use crate::watch::Watch;
 use reg_tables::StoreFault;
 use sqlite::{Alter, Connection, Row};
 use std::alloc::Global;
@@ -41,11 +42,12 @@ fn read_whole<S: Alter>(conn: &mut Connection<S>, what: What) -> Result<Vec<Row>
     read(conn, text(what))
 }
 
-/// All rows of each of these tables.
-pub(crate) fn read_each<S: Alter>(
+/// All rows of each of these tables. It is told how many were read.
+pub(crate) fn read_each<S: Alter, W: Watch>(
     alloc: Global,
     conn: &mut Connection<S>,
     whats: &[What],
+    watch: &mut W,
 ) -> Result<Vec<Vec<Row>>, StoreFault>
     ensures found { (records : Records) → (columns : Columns) → ShowsBoth S.Store conn.old records columns → HasCleanDisk (state S.Store conn.new)
         → IfOk result (λ all. AreRead records columns whats.now all.items (λ rows. rows.items)) }
@@ -57,6 +59,7 @@ pub(crate) fn read_each<S: Alter>(
     let mut all = Vec::new(alloc);
     for what in whats {
         let rows = read_whole(conn, *what)?;
+        watch.rows_read(rows.len());
         all.push(rows)?;
     }
     Ok(all)

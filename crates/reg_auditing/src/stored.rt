@@ -1,29 +1,33 @@
 //! Whether the bytes of the stored CRLs are those of what the records list.
 
-ghost use Rattle.std.specs.Prelude.{◌≡◌, ◌≤◌, false, OnOk, IfOk, IfErr, IfSome};
+ghost use Rattle.std.specs.Prelude.{◌≡◌, ◌<◌, ◌≤◌, false, length, OnOk, IfOk, IfErr, IfSome, IsSomeAnd};
 ghost use Rattle.std.specs.List.{AllByRecursion};
 ghost use Rattle.sqlite.specs.Held.{state};
 ghost use Rattle.sqlite.specs.State.{HasCleanDisk};
-ghost use Rattle.reg_core.specs.Crls.{cert_list};
+ghost use Rattle.reg_core.specs.Calendar.{clock_end};
+ghost use Rattle.reg_core.specs.Crls.{CertList, cert_list};
 ghost use Rattle.reg_core.specs.Records.{Records};
-ghost use Rattle.reg_core.specs.Sound.{CrlsSigned, SoundRows};
+ghost use Rattle.reg_core.specs.Sound.{CrlsSigned, KeysDiffer, SoundRows};
 ghost use Rattle.reg_crl.specs.Signing.{IsAlgorithm};
+ghost use Rattle.reg_der.specs.Der.{IsTlv};
+ghost use Rattle.reg_der.specs.Reading.{Gives};
 ghost use Rattle.reg_tables.specs.Columns.{Columns};
 ghost use Rattle.reg_tables.specs.Kept.{Kept};
 ghost use Rattle.reg_tables.specs.Shows.{Shows, ShowsBoth};
 ghost use Rattle.reg_tables.specs.Stays.{IsCallFault, IsRegister, LeavesNothing, Stays};
 ghost use Rattle.reg_audit.specs.Crls.{Lists};
 ghost use Rattle.reg_auditing.specs.Said.{AreRead, whole};
-ghost use Rattle.reg_auditing.specs.Stops.{IsBrokenRow};
-ghost use Rattle.reg_auditing.specs.Stored.{IsSomeCrl, IsStored};
+ghost use Rattle.reg_auditing.specs.Stops.{IsBroken, IsBrokenRow};
+ghost use Rattle.reg_auditing.specs.Stored.{CanList, IsSomeCrl, IsStored, behind_signed};
 ghost use Rattle.reg_auditing.specs.Values.{HasValues};
 
 use crate::judging::rows_at;
 use crate::stop::AuditStop;
 use crate::tables::{crls, listings};
+use crate::watch::Watch;
 use reg_audit::{Broken, Listed, Stop, Table, Why, check_crl};
 use reg_core::{CrlRow, Moment};
-use reg_der::{Issuer, take};
+use reg_der::{Issuer, Tlv, take};
 use reg_tables::StoreFault;
 use sqlite::{Alter, Connection, Row};
 use std::alloc::Global;
@@ -33,6 +37,9 @@ const SEQUENCE: u8 = 0x30;
 
 /// The most octets of an AlgorithmIdentifier.
 const MOST_ALGORITHM: usize = 1_024;
+
+/// The most octets of a CRL: those that are made here have half as many.
+const MOST_CRL: usize = 268_435_456;
 
 /// The bytes of the CRL with a number are not those of what the records list.
 fn other_bytes(number: u64) -> AuditStop
@@ -45,17 +52,37 @@ fn other_bytes(number: u64) -> AuditStop
     })
 }
 
-/// The AlgorithmIdentifier before the signature of a CRL (RFC 5280 5.1.1.2), where one stands there.
-fn algorithm_in(crl: &[u8]) -> Option<&[u8]>
-    ensures { IfSome result (λ found. IsAlgorithm found.now) }
+/// The value behind what is signed in a CRL (RFC 5280 5.1.1).
+fn value_behind_signed(crl: &[u8]) -> Option<Tlv<'_>>
+    ensures exact { Gives (λ value. record { tag = value.tag; contents = value.contents.now }) result (behind_signed crl.now) }
+    ensures value { IfSome result (λ value. IsTlv value.raw.now value.tag value.contents.now) }
 {
     let (list, _) = take(crl)?;
     let (_, behind_tbs) = take(list.contents)?;
     let (algorithm, _) = take(behind_tbs)?;
-    if algorithm.tag == SEQUENCE && algorithm.raw.len() <= MOST_ALGORITHM {
-        Some(algorithm.raw)
+    Some(algorithm)
+}
+
+/// A value as an AlgorithmIdentifier (RFC 5280 4.1.1.2), where it is one.
+fn as_algorithm(value: Tlv<'_>) -> Option<&[u8]>
+    ensures found { IsTlv value.entry.raw.now value.entry.tag value.entry.contents.now → IfSome result (λ found. IsAlgorithm found.now) }
+    ensures one { value.entry.tag ≡ 48 → length value.entry.raw.now ≤ 1024 → IsSomeAnd result (λ found. found.now ≡ value.entry.raw.now) }
+{
+    if value.tag == SEQUENCE && value.raw.len() <= MOST_ALGORITHM {
+        Some(value.raw)
     } else {
         None
+    }
+}
+
+/// The AlgorithmIdentifier before the signature of a CRL (RFC 5280 5.1.1.2), where one stands there.
+fn algorithm_in(crl: &[u8]) -> Option<&[u8]>
+    ensures found { IfSome result (λ found. IsAlgorithm found.now) }
+    ensures one { (list : CertList) → (is : IsSomeCrl list crl.now) → IsSomeAnd result (λ found. found.now ≡ is.algorithm) }
+{
+    match value_behind_signed(crl) {
+        Some(value) => as_algorithm(value),
+        None => None,
     }
 }
 
@@ -70,19 +97,26 @@ fn check_bytes(
 ) -> Result<(), AuditStop>
     requires { crl_life ≤ 863999 }
     ensures bytes { (records : Records) → Lists issuer.now crl_life listed.now records → OnOk result (IsSomeCrl (cert_list records crl.now.number crl.now.this_update) bytes.now) }
+    ensures others { (records : Records) → Lists issuer.now crl_life listed.now records → CanList listed.now → crl.now.this_update < clock_end
+        → IfErr result (λ stop. IsBroken stop → ¬ IsSomeCrl (cert_list records crl.now.number crl.now.this_update) bytes.now) }
     ensures rows { IfErr result (λ stop. ¬ IsBrokenRow stop) }
 {
-    let Some(algorithm) = algorithm_in(bytes) else {
+    if bytes.len() > MOST_CRL {
         return Err(other_bytes(crl.number));
-    };
+    }
     // No row is read with such a thisUpdate: the test is what makes nextUpdate a moment.
     if crl.this_update >= Moment::CLOCK_END {
         return Err(other_bytes(crl.number));
     }
-    match check_crl(alloc, issuer, algorithm, crl_life, listed, crl, bytes) {
-        Ok(()) => Ok(()),
-        Err(Stop::Memory) => Err(AuditStop::Memory),
-        Err(Stop::Broken(_)) => Err(other_bytes(crl.number)),
+    match algorithm_in(bytes) {
+        Some(algorithm) => {
+            match check_crl(alloc, issuer, algorithm, crl_life, listed, crl, bytes) {
+                Ok(()) => Ok(()),
+                Err(Stop::Memory) => Err(AuditStop::Memory),
+                Err(Stop::Broken(_)) => Err(other_bytes(crl.number)),
+            }
+        }
+        None => Err(other_bytes(crl.number)),
     }
 }
 
@@ -97,6 +131,8 @@ fn check_stored<S: Alter>(
 ) -> Result<(), AuditStop>
     requires { crl_life ≤ 863999 }
     ensures bytes { (records : Records) → Shows S.Store conn.old records → Lists issuer.now crl_life listed.now records → HasCleanDisk (state S.Store conn.new) → OnOk result (IsStored records crl.now) }
+    ensures others { (records : Records) → Shows S.Store conn.old records → Lists issuer.now crl_life listed.now records → CanList listed.now → crl.now.this_update < clock_end
+        → HasCleanDisk (state S.Store conn.new) → IfErr result (λ stop. IsBroken stop → ¬ IsStored records crl.now) }
     ensures rows { IfErr result (λ stop. ¬ IsBrokenRow stop) }
     ensures same { IsRegister (state S.Store conn.old) → Stays (state S.Store conn.old) (state S.Store conn.new) }
     ensures survives { LeavesNothing (state S.Store conn.old) (state S.Store conn.new) }
@@ -109,16 +145,19 @@ fn check_stored<S: Alter>(
 }
 
 /// The same of each CRL. The bytes of one are held at a time.
-fn check_each<S: Alter>(
+fn check_each<S: Alter, W: Watch>(
     alloc: Global,
     conn: &mut Connection<S>,
     issuer: &Issuer,
     crl_life: u64,
     listed: &[Listed],
     crls: &[CrlRow],
+    watch: &mut W,
 ) -> Result<(), AuditStop>
     requires { crl_life ≤ 863999 }
     ensures bytes { (records : Records) → Shows S.Store conn.old records → Lists issuer.now crl_life listed.now records → HasCleanDisk (state S.Store conn.new) → OnOk result (AllByRecursion (IsStored records) crls.now) }
+    ensures others { (records : Records) → Shows S.Store conn.old records → Lists issuer.now crl_life listed.now records → CanList listed.now → AllByRecursion (λ crl. crl.this_update < clock_end) crls.now
+        → HasCleanDisk (state S.Store conn.new) → IfErr result (λ stop. IsBroken stop → ¬ AllByRecursion (IsStored records) crls.now) }
     ensures rows { IfErr result (λ stop. ¬ IsBrokenRow stop) }
     ensures same { IsRegister (state S.Store conn.old) → Stays (state S.Store conn.old) (state S.Store conn.new) }
     ensures survives { LeavesNothing (state S.Store conn.old) (state S.Store conn.new) }
@@ -126,6 +165,7 @@ fn check_each<S: Alter>(
 {
     for crl in crls {
         check_stored(alloc, conn, issuer, crl_life, listed, crl)?;
+        watch.crl_compared();
     }
     Ok(())
 }
@@ -145,14 +185,17 @@ fn terms<S: Alter>(conn: &mut Connection<S>) -> Result<(Issuer, u64), StoreFault
 }
 
 /// The stored bytes of each CRL are those of what the records list in it, under some algorithm and whatever signature. The
-/// rows are those that were read of the tables, in the order of [`crate::auditing::WHOLE`].
-pub(crate) fn check_crls<S: Alter>(
+/// rows are those that were read of the tables, in the order of [`crate::auditing::WHOLE`]. It is told how many were compared.
+pub(crate) fn check_crls<S: Alter, W: Watch>(
     alloc: Global,
     conn: &mut Connection<S>,
     all: &[Vec<Row>],
+    watch: &mut W,
 ) -> Result<(), AuditStop>
     ensures bytes { (records : Records) → (columns : Columns) → ShowsBoth S.Store conn.old records columns → AreRead records columns whole all.now (λ rows. rows.items) → Kept columns records → HasCleanDisk (state S.Store conn.new)
         → OnOk result (CrlsSigned IsSomeCrl records) }
+    ensures others { (records : Records) → (columns : Columns) → ShowsBoth S.Store conn.old records columns → AreRead records columns whole all.now (λ rows. rows.items) → HasValues records → SoundRows records → Kept columns records
+        → HasCleanDisk (state S.Store conn.new) → IfErr result (λ stop. IsBroken stop → ¬ CrlsSigned IsSomeCrl records) }
     ensures rows { (records : Records) → (columns : Columns) → AreRead records columns whole all.now (λ rows. rows.items) → HasValues records → SoundRows records → Kept columns records → IfErr result (λ stop. ¬ IsBrokenRow stop) }
     ensures same { IsRegister (state S.Store conn.old) → Stays (state S.Store conn.old) (state S.Store conn.new) }
     ensures survives { LeavesNothing (state S.Store conn.old) (state S.Store conn.new) }
@@ -161,5 +204,5 @@ pub(crate) fn check_crls<S: Alter>(
     let crls = crls(alloc, rows_at(all, 6))?;
     let listed = listings(alloc, rows_at(all, 9))?;
     let (issuer, crl_life) = terms(conn)?;
-    check_each(alloc, conn, &issuer, crl_life, &listed, &crls)
+    check_each(alloc, conn, &issuer, crl_life, &listed, &crls, watch)
 }

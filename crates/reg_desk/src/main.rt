@@ -7,7 +7,7 @@ use crate::progress::{Counted, tell_opening};
 use reg_program::{Machine, perform};
 use reg_words::{Job, Usage, no_text, read_words};
 use std::cell::Cell;
-use std::io::ErrorKind;
+use std::io::{ErrorKind, IsTerminal};
 use std::process::ExitCode;
 use std::{env, io};
 
@@ -86,7 +86,9 @@ fn run(rt: &HostRuntime, words: &[String], asked: Asked) -> io::Result<u8> {
 /// Does a job over standard input and output.
 fn do_job(rt: &HostRuntime, job: &Job<'_>, asked: Asked) -> u8 {
     let noted = Cell::new(None);
-    let mut machine = Machine::of(*rt, &noted).with_log(asked.has_log);
+    let mut machine = Machine::of(*rt, &noted)
+        .with_log(asked.has_log)
+        .with_watch(rt.stderr().is_terminal());
     let mut input = rt.stdin();
     let mut output = Counted::of(rt, job, &noted);
     let mut errors = rt.stderr();

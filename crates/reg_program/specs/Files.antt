@@ -17,8 +17,7 @@ use Rattle.reg_tables.specs.Schema.{no_schema}
 use Rattle.reg_tables.specs.Shows.{ShowsBoth}
 use Rattle.reg_tables.specs.Stays.{IsRegister, Stays}
 use Rattle.reg_auditing.specs.Stored.{IsSomeCrl}
-use Rattle.reg_auditing.specs.Values.{HasValues}
-use Rattle.reg_verdict.specs.Verdicts.{IsBrokenRow, IsSound}
+use Rattle.reg_verdict.specs.Verdicts.{DeniedBy, IsSound}
 use Rattle.reg_verdict.specs.declared.judging.Verdict.{Verdict}
 use Rattle.reg_crl.specs.Signing.{Identity}
 use Rattle.reg_program.specs.Signing.{Follows, IsSigning, Signing}
@@ -56,8 +55,8 @@ module _ {D : Type 0} {g : disk.Ghosts D} where
 
 -- A database was audited by a connection, and its tables are as they were. Where all was said to be sound, they are a register's,
 -- whatever records they showed are sound, each CRL's bytes are those of what it lists, whatever its signature, and what is kept beside the
--- records follows from them. Where a row was told, and not for the bytes of a CRL, they showed no sound records with what follows from
--- them kept beside them, whose values are a register's.
+-- records follows from them. Where a row was told, they showed no such records whose values are a register's; and where it was not told
+-- for the bytes of a CRL, none whatever the bytes of CRLs are.
 pub record IsAudited {D : Type 0} (g : disk.Ghosts D) (verdict : Verdict) : Type 0 where
   pub connection : Held (FileStore D g)
   pub after : Held (FileStore D g)
@@ -65,6 +64,6 @@ pub record IsAudited {D : Type 0} (g : disk.Ghosts D) (verdict : Verdict) : Type
   pub sound : (records : Records) (columns : Columns) → ShowsBoth over_files connection records columns → HasCleanDisk (file_state after)
       → IsSound verdict → Sound IsSomeCrl records × Kept columns records
   pub broken : (records : Records) (columns : Columns) → ShowsBoth over_files connection records columns → HasCleanDisk (file_state after)
-      → IsBrokenRow verdict → HasValues records × SoundRows records × Kept columns records → ⊥
+      → DeniedBy verdict records columns
   pub register : IsSound verdict → IsRegister (file_state after)
   pub stays : Stays (file_state connection) (file_state after)

@@ -19,6 +19,7 @@ ghost use Rattle.reg_tables.specs.Schema.{no_schema};
 use crate::machine::Machine;
 use crate::place::{Place, Register};
 use crate::signing::{FileSigner, signer_found, signer_over};
+use crate::watching::Teller;
 use reg_core::{Fault, Memory, Policy, Schedule};
 use reg_crl::Signer;
 use reg_der::Issuer;
@@ -202,7 +203,8 @@ fn audit_file(machine: &Machine<'_>, path: &str) -> Result<Verdict, Failure>
 {
     present(machine, path)?;
     let mut connection = open_noted(machine, path)?;
-    let told = judge(machine.rt.alloc(), &mut connection);
+    let mut teller = Teller::of(machine);
+    let told = judge(machine.rt.alloc(), &mut connection, &mut teller);
     close(connection);
     match told {
         Ok(verdict) => Ok(verdict),

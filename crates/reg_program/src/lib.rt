@@ -18,6 +18,7 @@ mod place;
 mod serving;
 mod signing;
 mod telling;
+mod watching;
 
 pub use asking::talk;
 pub use files::FileOffice;

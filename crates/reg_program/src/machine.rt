@@ -13,6 +13,7 @@ pub struct Machine<'a> {
     pub(crate) rt: HostRuntime,
     noted: &'a Cell<Option<Cause>>,
     pub(crate) has_log: bool,
+    pub(crate) is_watched: bool,
 }
 
 impl<'a> Machine<'a> {
@@ -22,6 +23,7 @@ impl<'a> Machine<'a> {
             rt,
             noted,
             has_log: false,
+            is_watched: false,
         }
     }
 
@@ -31,6 +33,17 @@ impl<'a> Machine<'a> {
             rt: self.rt,
             noted: self.noted,
             has_log,
+            is_watched: self.is_watched,
+        }
+    }
+
+    /// The same machine, which tells on standard error how far an audit is, where it is watched.
+    pub fn with_watch(self, is_watched: bool) -> Machine<'a> {
+        Machine {
+            rt: self.rt,
+            noted: self.noted,
+            has_log: self.has_log,
+            is_watched,
         }
     }
 

@@ -2,14 +2,16 @@
 use Rattle.std.proofs.Common.{◌≡◌, Result, Ok, Err, IfOk, IfErr, IsTrue, sym, subst, ◌∙◌, ap}
 use Rattle.sqlite.specs.Effect.{Database}
 use Rattle.sqlite.specs.State.{State, HasCleanDisk}
+use Rattle.reg_core.specs.Records.{Records}
+use Rattle.reg_tables.specs.Columns.{Columns}
 use Rattle.reg_tables.specs.Schema.{register_schema}
 use Rattle.reg_tables.specs.Stays.{IsRegister}
 use Rattle.reg_tables.specs.declared.fault.StoreFault.{StoreFault}
 use Rattle.reg_auditing.specs.declared.auditing.Audited.{Audited}
 use Rattle.reg_auditing.specs.declared.stop.AuditStop.{AuditStop}
 use Rattle.reg_auditing.specs.declared.stop.AuditStop.TheVariants as stop
-use Rattle.reg_auditing.specs.Stops as auditing
-use Rattle.reg_verdict.specs.Verdicts.{IsBrokenRow, IsSound, verdict_of}
+use Rattle.reg_auditing.specs.Stops.{IsDenied}
+use Rattle.reg_verdict.specs.Verdicts.{DeniedBy, IsSound, verdict_of}
 use Rattle.reg_verdict.specs.declared.judging.Verdict.{Verdict}
 
 module _ (P : Type 0) where
@@ -24,21 +26,21 @@ module _ (P : Type 0) where
       → IfOk result (λ verdict. IsSound verdict → P)
   sound_said audited result is holds = subst (λ (r : Result Verdict StoreFault). IfOk r (λ verdict. IsSound verdict → P)) (sym is) (well_said audited holds)
 
-  broken_well_said : (audited : Result Audited AuditStop) → IfErr audited (λ reason. auditing.IsBrokenRow reason → P) → IfOk (verdict_of audited) (λ verdict. IsBrokenRow verdict → P)
-  broken_well_said (Ok found) holds = λ broken. absurd broken
-  broken_well_said (Err (stop.Broken broken)) holds = λ is. holds is
-  broken_well_said (Err stop.Memory) holds = tt
-  broken_well_said (Err stop.Store) holds = tt
-
-  -- what holds where a row was found that breaks a rule holds where one is told
-  pub broken_said : (audited : Result Audited AuditStop) (result : Result Verdict StoreFault) → result ≡ verdict_of audited → IfErr audited (λ reason. auditing.IsBrokenRow reason → P)
-      → IfOk result (λ verdict. IsBrokenRow verdict → P)
-  broken_said audited result is holds = subst (λ (r : Result Verdict StoreFault). IfOk r (λ verdict. IsBrokenRow verdict → P)) (sym is) (broken_well_said audited holds)
-
   -- and what holds whatever an audit answers holds there too
   pub always_said : (result : Result Verdict StoreFault) → P → IfOk result (λ verdict. IsSound verdict → P)
   always_said (Ok verdict) holds = λ sound. holds
   always_said (Err fault) holds = tt
+
+module _ (records : Records) (columns : Columns) where
+  well_denied : (audited : Result Audited AuditStop) → IfErr audited (λ reason. IsDenied reason records columns) → IfOk (verdict_of audited) (λ verdict. DeniedBy verdict records columns)
+  well_denied (Ok found) denied = tt
+  well_denied (Err (stop.Broken broken)) denied = denied
+  well_denied (Err stop.Memory) denied = tt
+  well_denied (Err stop.Store) denied = tt
+
+  -- what a row that was found denies, it denies where it is told
+  pub denied_said : (audited : Result Audited AuditStop) (result : Result Verdict StoreFault) → result ≡ verdict_of audited → IfErr audited (λ reason. IsDenied reason records columns) → IfOk result (λ verdict. DeniedBy verdict records columns)
+  denied_said audited result is denied = subst (λ (r : Result Verdict StoreFault). IfOk r (λ verdict. DeniedBy verdict records columns)) (sym is) (well_denied audited denied)
 
 -- a schema that is a register's, where all is committed
 pub register_by : (s : State) → s.now.schema ≡ register_schema → (HasCleanDisk s → IsTrue s.is_open → s.now ≡ s.committed) → IsRegister s

@@ -1,9 +1,11 @@
 -- What an audit says of a register.
-use Rattle.std.specs.Prelude.{◌≢◌, Result, Ok, Err}
+use Rattle.std.specs.Prelude.{Result, Ok, Err}
+use Rattle.reg_core.specs.Records.{Records}
+use Rattle.reg_tables.specs.Columns.{Columns}
 use Rattle.reg_tables.specs.declared.fault.StoreFault.{StoreFault}
 use Rattle.reg_tables.specs.declared.fault.StoreFault.TheVariants as fault
-use Rattle.reg_audit.specs.declared.stop.Why.TheVariants.{OtherBytes}
 use Rattle.reg_auditing.specs.declared.auditing.Audited.{Audited}
+use Rattle.reg_auditing.specs.Stops.{Denies}
 use Rattle.reg_auditing.specs.declared.stop.AuditStop.{AuditStop}
 use Rattle.reg_auditing.specs.declared.stop.AuditStop.TheVariants as stop
 use Rattle.reg_verdict.specs.declared.judging.Verdict.{Verdict}
@@ -21,7 +23,7 @@ abbrev pub IsSound : Verdict → Type 0
 IsSound (Sound found) = Unit {0}
 IsSound _ = ⊥
 
--- a row was told that breaks a rule, and not for the bytes of a CRL
-abbrev pub IsBrokenRow : Verdict → Type 0
-IsBrokenRow (Broken row) = row.why ≢ OtherBytes
-IsBrokenRow _ = ⊥
+-- what a row that was told denies of records that the tables show, and of what is kept beside them
+abbrev pub DeniedBy : Verdict → Records → Columns → Type 0
+DeniedBy (Broken row) records columns = Denies row records columns
+DeniedBy _ records columns = Unit {0}

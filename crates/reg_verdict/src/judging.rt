@@ -4,17 +4,16 @@ ghost use Rattle.std.specs.Prelude.{◌≡◌, ◌≢◌, false, IfErr, IfOk};
 ghost use Rattle.sqlite.specs.Held.{state};
 ghost use Rattle.sqlite.specs.State.{HasCleanDisk};
 ghost use Rattle.reg_core.specs.Records.{Records};
-ghost use Rattle.reg_core.specs.Sound.{Sound, SoundRows};
+ghost use Rattle.reg_core.specs.Sound.{Sound};
 ghost use Rattle.reg_tables.specs.Columns.{Columns};
 ghost use Rattle.reg_tables.specs.Kept.{Kept};
 ghost use Rattle.reg_tables.specs.Shows.{ShowsBoth};
 ghost use Rattle.reg_tables.specs.Stays.{IsRegister, Stays};
 ghost use Rattle.reg_auditing.specs.Stored.{IsSomeCrl};
-ghost use Rattle.reg_auditing.specs.Values.{HasValues};
-ghost use Rattle.reg_verdict.specs.Verdicts.{IsBrokenRow, IsSound, verdict_of};
+ghost use Rattle.reg_verdict.specs.Verdicts.{DeniedBy, IsSound, verdict_of};
 
 use reg_audit::Broken;
-use reg_auditing::{AuditStop, Audited, audit};
+use reg_auditing::{AuditStop, Audited, Watch, audit};
 use reg_opening::examine;
 use reg_schema::is_register;
 use reg_tables::StoreFault;
@@ -54,17 +53,21 @@ fn said(audited: Result<Audited, AuditStop>) -> Result<Verdict, StoreFault>
 ///
 /// Where the answer is `Sound`, the schema is a register's, whatever records the tables show are sound, each CRL's bytes are
 /// those of what it lists, whatever its signature, and what is kept beside the records follows from them. Where it is `Broken`,
-/// but for the bytes of a CRL, the tables show no sound records, with what follows from them kept beside them, whose names,
-/// validities and reasonCodes are a register's.
+/// the tables show no such records, with what follows from them kept beside them, whose names, validities and reasonCodes are a
+/// register's; and, but for the bytes of a CRL, none whatever the bytes of CRLs are (`Denies`). The watch is told how far it is.
 ///
 /// # Errors
 /// `NotARegister` and `NewVersion` as [`reg_opening::open`] has them; `Memory`; `Store` where the database fails.
-pub fn judge<S: Alter>(alloc: Global, conn: &mut Connection<S>) -> Result<Verdict, StoreFault>
+pub fn judge<S: Alter, W: Watch>(
+    alloc: Global,
+    conn: &mut Connection<S>,
+    watch: &mut W,
+) -> Result<Verdict, StoreFault>
     requires { conn.old.in_transaction ≡ false }
     ensures sound { (records : Records) → (columns : Columns) → ShowsBoth S.Store conn.old records columns → HasCleanDisk (state S.Store conn.new)
         → IfOk result (λ verdict. IsSound verdict → Sound IsSomeCrl records × Kept columns records) }
     ensures broken { (records : Records) → (columns : Columns) → ShowsBoth S.Store conn.old records columns → HasCleanDisk (state S.Store conn.new)
-        → IfOk result (λ verdict. IsBrokenRow verdict → ¬ (HasValues records × SoundRows records × Kept columns records)) }
+        → IfOk result (λ verdict. DeniedBy verdict records columns) }
     ensures register { IfOk result (λ verdict. IsSound verdict → IsRegister (state S.Store conn.new)) }
     ensures same { Stays (state S.Store conn.old) (state S.Store conn.new) }
     ensures idle { conn.new.in_transaction ≡ false }
@@ -77,5 +80,5 @@ pub fn judge<S: Alter>(alloc: Global, conn: &mut Connection<S>) -> Result<Verdic
     if !is_register(conn.schema()) {
         return Ok(Verdict::OtherSchema);
     }
-    said(audit(alloc, conn))
+    said(audit(alloc, conn, watch))
 }

@@ -2,7 +2,7 @@
 
 use super::register::{CRL_1, full};
 use reg_audit::{Broken, Table, Why};
-use reg_auditing::{AuditStop, Audited, audit};
+use reg_auditing::{AuditStop, Audited, Unwatched, audit};
 use sqlite::types::ValueRef;
 use sqlite::{Connection, MemStore};
 use std::alloc::Global;
@@ -32,7 +32,7 @@ fn told_of(
     der: &[u8],
 ) -> Result<Result<Audited, AuditStop>, Fail> {
     connection.execute("UPDATE crl SET der = ?1", &[ValueRef::Blob(der)])?;
-    Ok(audit(alloc, connection))
+    Ok(audit(alloc, connection, &mut Unwatched))
 }
 
 #[test]
@@ -93,7 +93,11 @@ fn crls_of_something_else(rt: HostRuntime) -> Result<(), Fail> {
     for sql in ALTERED {
         let mut connection = register(alloc)?;
         connection.execute_batch(sql)?;
-        assert_eq!(rt; audit(alloc, &mut connection).err(), others(1), "{sql}");
+        assert_eq!(rt;
+            audit(alloc, &mut connection, &mut Unwatched).err(),
+            others(1),
+            "{sql}"
+        );
     }
     Ok(())
 }
@@ -103,6 +107,9 @@ fn the_row_is_that_of_the_crl(rt: HostRuntime) -> Result<(), Fail> {
     let alloc = rt.alloc();
     let mut connection = register(alloc)?;
     connection.execute_batch("INSERT INTO crl SELECT 2, this_update, der FROM crl")?;
-    assert_eq!(rt; audit(alloc, &mut connection).err(), others(2));
+    assert_eq!(rt;
+        audit(alloc, &mut connection, &mut Unwatched).err(),
+        others(2)
+    );
     Ok(())
 }

@@ -2,7 +2,7 @@
 
 use super::register::{created, full};
 use reg_audit::{Broken, Table, Why};
-use reg_auditing::{AuditStop, Audited, audit};
+use reg_auditing::{AuditStop, Audited, Unwatched, Watch, audit};
 use reg_store::Store;
 use sqlite::MemStore;
 use std::alloc::Global;
@@ -17,7 +17,7 @@ fn told(
 ) -> Result<Result<Audited, AuditStop>, Fail> {
     let mut connection = store.into_connection();
     connection.execute_batch(sql)?;
-    Ok(audit(alloc, &mut connection))
+    Ok(audit(alloc, &mut connection, &mut Unwatched))
 }
 
 #[test]
@@ -41,6 +41,37 @@ fn registers_of_the_store_are_sound(rt: HostRuntime) -> Result<(), Fail> {
             crls: 1
         })
     );
+    Ok(())
+}
+
+/// Counts what it is told.
+#[derive(Drop)]
+struct Counting {
+    rows: usize,
+    crls: usize,
+}
+
+impl Watch for Counting {
+    fn rows_read(&mut self, count: usize) {
+        self.rows = self.rows.saturating_add(count);
+    }
+
+    fn crl_compared(&mut self) {
+        self.crls = self.crls.saturating_add(1);
+    }
+}
+
+#[test]
+fn the_watch_is_told_of_all_rows_and_crls(rt: HostRuntime) -> Result<(), Fail> {
+    let alloc = rt.alloc();
+    let mut connection = full(alloc)?.into_connection();
+    let mut watch = Counting { rows: 0, crls: 0 };
+    let told = audit(alloc, &mut connection, &mut watch);
+    assert_eq!(rt; told.err(), None);
+    // One subscriber, two orders, certificates, requests and letters, one revocation with its listing, one CRL, the office and
+    // the counts.
+    assert_eq!(rt; watch.rows, 14);
+    assert_eq!(rt; watch.crls, 1);
     Ok(())
 }
 

@@ -2,7 +2,7 @@
 
 use super::register::{created, full};
 use reg_audit::{Broken, Table, Why};
-use reg_auditing::Audited;
+use reg_auditing::{Audited, Unwatched};
 use reg_store::{Store, StoreFault};
 use reg_verdict::{Verdict, broken_line, judge, sound_line};
 use sqlite::{Connection, MemStore};
@@ -20,7 +20,7 @@ fn said(
     if !connection.is_autocommit() {
         return Err("in a transaction")?;
     }
-    Ok(judge(alloc, &mut connection))
+    Ok(judge(alloc, &mut connection, &mut Unwatched))
 }
 
 /// The same of a register.

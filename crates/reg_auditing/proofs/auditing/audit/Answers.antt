@@ -1,13 +1,10 @@
 use Rattle.std.proofs.Common.{sym, subst, arith, rules}
 use Rattle.sqlite.specs.Held.{state}
 use Rattle.sqlite.specs.State.{HasCleanDisk}
-use Rattle.reg_core.specs.Sound.{SoundRows}
-use Rattle.reg_tables.specs.Kept.{Kept}
 use Rattle.reg_tables.proofs.Staying.{both_shows, shows_register, stays_both, stays_then, stays_register, leaves_then}
 use Rattle.reg_auditing.specs.Said.{AreRead, whole}
-use Rattle.reg_auditing.specs.Stops.{IsBrokenRow}
-use Rattle.reg_auditing.specs.Values.{HasValues}
-use Rattle.reg_auditing.proofs.Signed.{row_is_broken}
+use Rattle.reg_auditing.specs.Stops.{IsDenied}
+use Rattle.reg_auditing.proofs.Denying.{rows_denied, bytes_denied}
 use Rattle.reg_auditing.proofs.auditing.audit.Goals as goal
 
 pub returns-clause-sound : goal.returns-clause-sound
@@ -49,12 +46,17 @@ returns-in_err-check_crls-clause-survives g c =
 pub returns-in_err-audited-clause-broken : goal.returns-in_err-audited-clause-broken
 returns-in_err-audited-clause-broken g c records columns shows clean =
     let are = subst (λ all. AreRead records columns whole all (λ rows. rows.items)) (sym c.deref.ensures.value) (c.in_ok-all.ensures.found records columns shows clean) in
-    let no : IsBrokenRow c.in_err-audited.field-0.0 → HasValues records × SoundRows records × Kept columns records → ⊥ = λ is. c.in_err-audited.ensures.broken records columns are (row_is_broken _ is) in
+    let denied : IsDenied c.in_err-audited.field-0.0 records columns = rows_denied records columns _ (c.in_err-audited.ensures.broken records columns are) in
     search rules
 
 pub returns-in_err-check_crls-clause-broken : goal.returns-in_err-check_crls-clause-broken
 returns-in_err-check_crls-clause-broken g c records columns shows clean =
-    let was_clean : HasCleanDisk (state g.S.Store c.read_each.new.conn) = omega (arith, c.check_crls.ensures.survives.clean) in
+    let old = c.args.conn.now in
+    let mid = c.read_each.new.conn in
+    let was_clean : HasCleanDisk (state g.S.Store mid) = omega (arith, c.check_crls.ensures.survives.clean) in
+    let register = shows_register g.S.Store old records (both_shows g.S.Store old records columns shows) in
+    let there = stays_both g.S.Store old mid records columns c.read_each.ensures.survives.clean (c.read_each.ensures.same register) shows in
     let are = subst (λ all. AreRead records columns whole all (λ rows. rows.items)) (sym c.deref-2.ensures.value) (c.in_ok-all.ensures.found records columns shows was_clean) in
-    let no : IsBrokenRow c.in_err-check_crls.field-0.0 → HasValues records × SoundRows records × Kept columns records → ⊥ = λ is held. c.in_err-check_crls.ensures.rows records columns are held.0 held.1 held.2 is in
+    let denied : IsDenied c.in_err-check_crls.field-0.0 records columns =
+    bytes_denied records columns _ (c.in_err-check_crls.ensures.rows records columns are) (λ values sound kept. c.in_err-check_crls.ensures.others records columns there are values sound kept clean) in
     search rules

@@ -1,9 +1,13 @@
-use Rattle.std.proofs.Common.{arith, subst}
+use Rattle.std.proofs.Common.{◌<◌, arith, rules, sym, subst}
 use Rattle.std.specs.List.{AllByRecursion}
 use Rattle.std.proofs.lemmas.List.{take_all}
+use Rattle.std.proofs.lemmas.List.Elements.{All-from_recursion}
+use Rattle.reg_core.specs.Calendar.{clock_end}
+use Rattle.reg_core.specs.declared.rows.CrlRow.{CrlRow}
 use Rattle.sqlite.specs.Held.{state}
 use Rattle.sqlite.specs.State.{HasCleanDisk}
 use Rattle.reg_tables.proofs.Staying.{shows_register, stays_shows, stays_then, stays_register, leaves_then}
+use Rattle.reg_auditing.specs.Stops.{IsBroken}
 use Rattle.reg_auditing.specs.Stored.{IsStored}
 use Rattle.reg_auditing.proofs.Signed.{all_more}
 use Rattle.reg_auditing.proofs.stored.check_each.Goals as goal
@@ -38,3 +42,15 @@ returns-in_err-check_stored-clause-same g c register =
 pub returns-clause-bytes : goal.returns-clause-bytes
 returns-clause-bytes g c records shows lists clean =
     subst (AllByRecursion (IsStored records)) (take_all c.loop-crl.crl-index c.args.crls.now c.loop-crl-test.false) (c.loop-crl.invariant.bytes records shows lists clean)
+
+pub returns-in_err-check_stored-clause-others : goal.returns-in_err-check_stored-clause-others
+returns-in_err-check_stored-clause-others g c records shows lists can before clean =
+    let register = shows_register g.S.Store c.args.conn.now records shows in
+    let here = stays_shows g.S.Store c.args.conn.now c.loop-crl.conn records c.loop-crl.invariant.survives.clean (c.loop-crl.invariant.stays register) shows in
+    let at = c.loop-crl.crl-index in
+    let row = c.crl-item.result in
+    let early = subst (λ (crl : CrlRow). crl.this_update < clock_end) (sym c.crl-item.is) (All-from_recursion (λ (crl : CrlRow). crl.this_update < clock_end) c.args.crls.now before at row c.loop-crl-test.true) in
+    let no : IsBroken c.in_err-check_stored.field-0.0 → AllByRecursion (IsStored records) c.args.crls.now → ⊥ =
+    λ is all. c.in_err-check_stored.ensures.others records here lists can early clean is
+    (subst (IsStored records) (sym c.crl-item.is) (All-from_recursion (IsStored records) c.args.crls.now all at row c.loop-crl-test.true)) in
+    search rules

@@ -1,14 +1,11 @@
 use Rattle.std.proofs.Common.{sym, ◌∙◌}
 use Rattle.sqlite.specs.Held.{state}
 use Rattle.reg_tables.proofs.Staying.{stays_both, stays_register, stays_then}
-use Rattle.reg_verdict.proofs.Said.{always_said, broken_said, register_by, sound_said}
+use Rattle.reg_verdict.proofs.Said.{always_said, denied_said, register_by, sound_said}
 use Rattle.reg_verdict.proofs.judging.judge.Goals as goal
 
 pub returns-then-not-is_register-clause-sound : goal.returns-then-not-is_register-clause-sound
 returns-then-not-is_register-clause-sound g c records columns shows clean sound = absurd sound
-
-pub returns-then-not-is_register-clause-broken : goal.returns-then-not-is_register-clause-broken
-returns-then-not-is_register-clause-broken g c records columns shows clean broken = absurd broken
 
 pub returns-then-not-is_register-clause-register : goal.returns-then-not-is_register-clause-register
 returns-then-not-is_register-clause-register g c sound = absurd sound
@@ -21,7 +18,7 @@ returns-clause-sound g c records columns shows clean =
 pub returns-clause-broken : goal.returns-clause-broken
 returns-clause-broken g c records columns shows clean =
     let shown = stays_both g.S.Store c.args.conn.now c.examine.new.conn records columns c.examine.ensures.survives.clean c.examine.ensures.same shows in
-    broken_said _ c.audit.result c.said.result c.said.ensures.is (c.audit.ensures.broken records columns shown clean)
+    denied_said records columns c.audit.result c.said.result c.said.ensures.is (c.audit.ensures.broken records columns shown clean)
 
 pub returns-clause-register : goal.returns-clause-register
 returns-clause-register g c =

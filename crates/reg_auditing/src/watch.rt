@@ -1,0 +1,20 @@
+//! Who is told how far an audit is.
+
+/// Who is told how far an audit is. Nothing of the audit's answer hangs on it.
+pub trait Watch {
+    /// So many rows more were read.
+    fn rows_read(&mut self, count: usize);
+
+    /// One CRL more was compared.
+    fn crl_compared(&mut self);
+}
+
+/// Nobody is told.
+#[derive(Clone, Copy, Debug)]
+pub struct Unwatched;
+
+impl Watch for Unwatched {
+    fn rows_read(&mut self, _count: usize) {}
+
+    fn crl_compared(&mut self) {}
+}
