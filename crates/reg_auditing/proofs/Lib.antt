@@ -6,3 +6,12 @@ pub mod Signed
 pub mod Algorithms
 pub mod Denying
 pub mod Having
+pub mod Cells
+pub mod TreeOrder
+pub mod Obeyed
+pub mod Gathered
+pub mod TableRows
+pub mod OfficeRows
+pub mod CountedRows
+pub mod Completed
+pub mod Ordered

@@ -64,15 +64,15 @@ module _ {A : Type 0} (n : A → ℕ) (stored view : A → Row) (xs : List A) (n
 
 -- ---- a table whose rowids count its rows
 
-abbrev with_rowids : {A : Type 0} → ℕ → List A → List (ℕ × A)
+abbrev pub with_rowids : {A : Type 0} → ℕ → List A → List (ℕ × A)
 with_rowids from [] = []
 with_rowids from (x ∷ xs) = (from, x) ∷ with_rowids (from + 1) xs
 
-rowids_are : {A : Type 0} (stored : A → Row) (from : ℕ) (xs : List A) → behind_rowids from (map stored xs) ≡ map (λ (row : ℕ × A). number row.0 ∷ stored row.1) (with_rowids from xs)
+pub rowids_are : {A : Type 0} (stored : A → Row) (from : ℕ) (xs : List A) → behind_rowids from (map stored xs) ≡ map (λ (row : ℕ × A). number row.0 ∷ stored row.1) (with_rowids from xs)
 rowids_are stored from [] = refl
 rowids_are stored from (x ∷ xs) = ap (λ (l : List Row). (number from ∷ stored x) ∷ l) (rowids_are stored (from + 1) xs)
 
-rowids_numbered : {A : Type 0} (from : ℕ) (xs : List A) → NumberedFrom (λ (row : ℕ × A). row.0) from (with_rowids from xs)
+pub rowids_numbered : {A : Type 0} (from : ℕ) (xs : List A) → NumberedFrom (λ (row : ℕ × A). row.0) from (with_rowids from xs)
 rowids_numbered from [] = tt
 rowids_numbered from (x ∷ xs) = (refl, rowids_numbered (from + 1) xs)
 
@@ -103,13 +103,13 @@ module _ (row shown : Row) (tree : ℕ) (project : List Term) (text : List ℕ) 
 
 -- ---- the tables of the records
 
-abbrev office_columns : List Term
+abbrev pub office_columns : List Term
 office_columns = col 1 8 ∷ col 1 9 ∷ []
 
-abbrev office_names : List (List ℕ)
+abbrev pub office_names : List (List ℕ)
 office_names = codes "cap" ∷ codes "last_at" ∷ []
 
-office_mean : command_of (understood register_schema OFFICE.now) ≡ as_command (selects 0 [] office_columns [] no_limit) office_names
+pub office_mean : command_of (understood register_schema OFFICE.now) ≡ as_command (selects 0 [] office_columns [] no_limit) office_names
 unfolding understood everything register_schema
 office_mean = refl
 
@@ -119,13 +119,13 @@ office_is records columns rows is =
     only_is (stored_office shown.days records.issuer records.policy records.last) (shown_office (record { cap = records.policy.cap; last = records.last })) 0 office_columns OFFICE.now office_names office_mean is.db refl rows is.reads
     shown.office refl
 
-abbrev subscribers_columns : List Term
+abbrev pub subscribers_columns : List Term
 subscribers_columns = col 1 0 ∷ col 1 2 ∷ []
 
-abbrev subscribers_names : List (List ℕ)
+abbrev pub subscribers_names : List (List ℕ)
 subscribers_names = codes "id" ∷ codes "name" ∷ []
 
-subscribers_mean : command_of (understood register_schema SUBSCRIBERS.now) ≡ as_command (selects 1 [] subscribers_columns by_first no_limit) subscribers_names
+pub subscribers_mean : command_of (understood register_schema SUBSCRIBERS.now) ≡ as_command (selects 1 [] subscribers_columns by_first no_limit) subscribers_names
 unfolding understood everything register_schema
 subscribers_mean = refl
 
@@ -134,13 +134,13 @@ subscribers_are records columns rows is =
     let shown = is.both.shown.rows in
     keyed_are (λ (row : SubscriberRow). row.id) stored_subscriber shown_subscriber records.subscribers shown.subscribers_numbered 1 subscribers_columns SUBSCRIBERS.now subscribers_names subscribers_mean is.db refl rows is.reads shown.subscribers (λ row. refl)
 
-abbrev orders_columns : List Term
+abbrev pub orders_columns : List Term
 orders_columns = col 1 0 ∷ col 1 2 ∷ col 1 3 ∷ []
 
-abbrev orders_names : List (List ℕ)
+abbrev pub orders_names : List (List ℕ)
 orders_names = codes "id" ∷ codes "subscriber" ∷ codes "days" ∷ []
 
-orders_mean : command_of (understood register_schema ORDERS.now) ≡ as_command (selects 3 [] orders_columns by_first no_limit) orders_names
+pub orders_mean : command_of (understood register_schema ORDERS.now) ≡ as_command (selects 3 [] orders_columns by_first no_limit) orders_names
 unfolding understood everything register_schema
 orders_mean = refl
 
@@ -149,13 +149,13 @@ orders_are records columns rows is =
     let shown = is.both.shown.rows in
     keyed_are (λ (row : OrderRow). row.id) stored_order shown_order records.orders shown.orders_numbered 3 orders_columns ORDERS.now orders_names orders_mean is.db refl rows is.reads shown.orders (λ row. refl)
 
-abbrev certificates_columns : List Term
+abbrev pub certificates_columns : List Term
 certificates_columns = col 1 1 ∷ col 1 2 ∷ col 1 3 ∷ col 1 4 ∷ []
 
-abbrev certificates_names : List (List ℕ)
+abbrev pub certificates_names : List (List ℕ)
 certificates_names = codes "serial" ∷ codes "order_id" ∷ codes "not_before" ∷ codes "not_after" ∷ []
 
-certificates_mean : command_of (understood register_schema CERTIFICATES.now) ≡ as_command (selects 4 [] certificates_columns by_first no_limit) certificates_names
+pub certificates_mean : command_of (understood register_schema CERTIFICATES.now) ≡ as_command (selects 4 [] certificates_columns by_first no_limit) certificates_names
 unfolding understood everything register_schema
 certificates_mean = refl
 
@@ -163,13 +163,13 @@ pub certificates_are : (records : Records) (columns : Columns) (rows : List Row)
 certificates_are records columns rows is =
     counted_are stored_certificate shown_certificate records.certificates 4 certificates_columns CERTIFICATES.now certificates_names certificates_mean is.db refl rows is.reads is.both.shown.rows.certificates (λ row. refl)
 
-abbrev requests_columns : List Term
+abbrev pub requests_columns : List Term
 requests_columns = col 1 0 ∷ col 1 2 ∷ col 1 3 ∷ col 1 4 ∷ col 1 5 ∷ []
 
-abbrev requests_names : List (List ℕ)
+abbrev pub requests_names : List (List ℕ)
 requests_names = codes "id" ∷ codes "serial" ∷ codes "ground" ∷ codes "received" ∷ codes "declined" ∷ []
 
-requests_mean : command_of (understood register_schema REQUESTS.now) ≡ as_command (selects 7 [] requests_columns by_first no_limit) requests_names
+pub requests_mean : command_of (understood register_schema REQUESTS.now) ≡ as_command (selects 7 [] requests_columns by_first no_limit) requests_names
 unfolding understood everything register_schema
 requests_mean = refl
 
@@ -178,13 +178,13 @@ requests_are records columns rows is =
     let shown = is.both.shown.rows in
     keyed_are (λ (row : RequestRow). row.id) stored_request shown_request records.requests shown.requests_numbered 7 requests_columns REQUESTS.now requests_names requests_mean is.db refl rows is.reads shown.requests (λ row. refl)
 
-abbrev revocations_columns : List Term
+abbrev pub revocations_columns : List Term
 revocations_columns = col 1 1 ∷ col 1 2 ∷ col 1 3 ∷ col 1 4 ∷ col 1 5 ∷ []
 
-abbrev revocations_names : List (List ℕ)
+abbrev pub revocations_names : List (List ℕ)
 revocations_names = codes "serial" ∷ codes "at" ∷ codes "reason" ∷ codes "request" ∷ codes "first_crl" ∷ []
 
-revocations_mean : command_of (understood register_schema REVOCATIONS.now) ≡ as_command (selects 8 [] revocations_columns by_first no_limit) revocations_names
+pub revocations_mean : command_of (understood register_schema REVOCATIONS.now) ≡ as_command (selects 8 [] revocations_columns by_first no_limit) revocations_names
 unfolding understood everything register_schema
 revocations_mean = refl
 
@@ -192,13 +192,13 @@ pub revocations_are : (records : Records) (columns : Columns) (rows : List Row) 
 revocations_are records columns rows is =
     counted_are stored_revocation shown_revocation records.revocations 8 revocations_columns REVOCATIONS.now revocations_names revocations_mean is.db refl rows is.reads is.both.shown.rows.revocations (λ row. refl)
 
-abbrev crls_columns : List Term
+abbrev pub crls_columns : List Term
 crls_columns = col 1 0 ∷ col 1 2 ∷ []
 
-abbrev crls_names : List (List ℕ)
+abbrev pub crls_names : List (List ℕ)
 crls_names = codes "number" ∷ codes "this_update" ∷ []
 
-crls_mean : command_of (understood register_schema CRLS.now) ≡ as_command (selects 11 [] crls_columns by_first no_limit) crls_names
+pub crls_mean : command_of (understood register_schema CRLS.now) ≡ as_command (selects 11 [] crls_columns by_first no_limit) crls_names
 unfolding understood everything register_schema
 crls_mean = refl
 
@@ -249,13 +249,13 @@ pub serials_out : {A B : Type 0} (serial : A → ℕ) (other : B → ℕ) (to : 
 serials_out serial other to same [] all = tt
 serials_out serial other to same (x ∷ xs) all = (subst IsSerial (sym (same x)) all.0, serials_out serial other to same xs all.1)
 
-abbrev letters_columns : List Term
+abbrev pub letters_columns : List Term
 letters_columns = col 1 1 ∷ col 1 2 ∷ col 1 3 ∷ []
 
-abbrev letters_names : List (List ℕ)
+abbrev pub letters_names : List (List ℕ)
 letters_names = codes "serial" ∷ codes "not_after" ∷ codes "state" ∷ []
 
-letters_mean : command_of (understood register_schema STANDINGS.now) ≡ as_command (selects 12 [] letters_columns by_first no_limit) letters_names
+pub letters_mean : command_of (understood register_schema STANDINGS.now) ≡ as_command (selects 12 [] letters_columns by_first no_limit) letters_names
 unfolding understood everything register_schema
 letters_mean = refl
 
@@ -264,13 +264,13 @@ letters_are records columns rows is =
     counted_are stored_standing stored_standing columns.letters 12 letters_columns STANDINGS.now letters_names letters_mean is.db refl rows is.reads is.both.kept.letters (λ row. refl)
     ∙ sym (letters_shown columns.letters)
 
-abbrev counts_columns : List Term
+abbrev pub counts_columns : List Term
 counts_columns = col 1 2 ∷ col 1 3 ∷ col 1 4 ∷ []
 
-abbrev counts_names : List (List ℕ)
+abbrev pub counts_names : List (List ℕ)
 counts_names = codes "n_good" ∷ codes "n_revoked" ∷ codes "n_expired" ∷ []
 
-counts_mean : command_of (understood register_schema COUNTS.now) ≡ as_command (selects 14 [] counts_columns [] no_limit) counts_names
+pub counts_mean : command_of (understood register_schema COUNTS.now) ≡ as_command (selects 14 [] counts_columns [] no_limit) counts_names
 unfolding understood everything register_schema
 counts_mean = refl
 
@@ -278,13 +278,13 @@ pub counts_is : (records : Records) (columns : Columns) (rows : List Row) → Is
 counts_is records columns rows is =
     only_is (stored_counts columns.counts) (shown_counts columns.counts) 14 counts_columns COUNTS.now counts_names counts_mean is.db refl rows is.reads is.both.kept.counts refl
 
-abbrev listed_columns : List Term
+abbrev pub listed_columns : List Term
 listed_columns = col 1 1 ∷ col 1 2 ∷ col 1 3 ∷ col 1 4 ∷ col 1 5 ∷ col 1 6 ∷ []
 
-abbrev listed_names : List (List ℕ)
+abbrev pub listed_names : List (List ℕ)
 listed_names = codes "serial" ∷ codes "at" ∷ codes "reason" ∷ codes "first_crl" ∷ codes "not_after" ∷ codes "last_listed" ∷ []
 
-listed_mean : command_of (understood register_schema LISTINGS.now) ≡ as_command (selects 15 [] listed_columns by_first no_limit) listed_names
+pub listed_mean : command_of (understood register_schema LISTINGS.now) ≡ as_command (selects 15 [] listed_columns by_first no_limit) listed_names
 unfolding understood everything register_schema
 listed_mean = refl
 

@@ -8,8 +8,8 @@ use Rattle.reg_tables.specs.Reading.{IsReading}
 use Rattle.reg_tables.proofs.Selecting.{select_never}
 use Rattle.reg_auditing.specs.Said.{text_of}
 use Rattle.reg_auditing.specs.declared.texts.What.{What}
-use Rattle.reg_auditing.specs.declared.texts.What.TheVariants.{Office, Subscribers, Orders, Certificates, Requests, Revocations, Crls, Standings, Counts, Listings}
-use Rattle.reg_auditing.specs.declared.texts.TheConstants.{OFFICE, SUBSCRIBERS, ORDERS, CERTIFICATES, REQUESTS, REVOCATIONS, CRLS, STANDINGS, COUNTS, LISTINGS}
+use Rattle.reg_auditing.specs.declared.texts.What.TheVariants.{Office, Subscribers, Orders, Certificates, Requests, Revocations, Crls, Standings, Counts, Listings, CertificateRowids, RevocationRowids, StandingRowids, CountsRowid, ListingRowids, Terms, Steps}
+use Rattle.reg_auditing.specs.declared.texts.TheConstants.{OFFICE, SUBSCRIBERS, ORDERS, CERTIFICATES, REQUESTS, REVOCATIONS, CRLS, STANDINGS, COUNTS, LISTINGS, CERTIFICATE_ROWIDS, REVOCATION_ROWIDS, STANDING_ROWIDS, COUNTS_ROWID, LISTING_ROWIDS, TERMS, STEPS}
 
 reading_office : IsReading OFFICE.now
 unfolding understood everything register_schema first
@@ -51,6 +51,34 @@ reading_listings : IsReading LISTINGS.now
 unfolding understood everything register_schema first
 reading_listings = record { plain = (refl, refl); unlisted = refl; never = select_never LISTINGS.now _ _ refl refl refl }
 
+reading_certificate_rowids : IsReading CERTIFICATE_ROWIDS.now
+unfolding understood everything register_schema first
+reading_certificate_rowids = record { plain = (refl, refl); unlisted = refl; never = select_never CERTIFICATE_ROWIDS.now _ _ refl refl refl }
+
+reading_revocation_rowids : IsReading REVOCATION_ROWIDS.now
+unfolding understood everything register_schema first
+reading_revocation_rowids = record { plain = (refl, refl); unlisted = refl; never = select_never REVOCATION_ROWIDS.now _ _ refl refl refl }
+
+reading_standing_rowids : IsReading STANDING_ROWIDS.now
+unfolding understood everything register_schema first
+reading_standing_rowids = record { plain = (refl, refl); unlisted = refl; never = select_never STANDING_ROWIDS.now _ _ refl refl refl }
+
+reading_counts_rowid : IsReading COUNTS_ROWID.now
+unfolding understood everything register_schema first
+reading_counts_rowid = record { plain = (refl, refl); unlisted = refl; never = select_never COUNTS_ROWID.now _ _ refl refl refl }
+
+reading_listing_rowids : IsReading LISTING_ROWIDS.now
+unfolding understood everything register_schema first
+reading_listing_rowids = record { plain = (refl, refl); unlisted = refl; never = select_never LISTING_ROWIDS.now _ _ refl refl refl }
+
+reading_terms : IsReading TERMS.now
+unfolding understood everything register_schema first
+reading_terms = record { plain = (refl, refl); unlisted = refl; never = select_never TERMS.now _ _ refl refl refl }
+
+reading_steps : IsReading STEPS.now
+unfolding understood everything register_schema first
+reading_steps = record { plain = (refl, refl); unlisted = refl; never = select_never STEPS.now _ _ refl refl refl }
+
 pub reading : (what : What) → IsReading (text_of what)
 reading Office = reading_office
 reading Subscribers = reading_subscribers
@@ -62,3 +90,10 @@ reading Crls = reading_crls
 reading Standings = reading_standings
 reading Counts = reading_counts
 reading Listings = reading_listings
+reading CertificateRowids = reading_certificate_rowids
+reading RevocationRowids = reading_revocation_rowids
+reading StandingRowids = reading_standing_rowids
+reading CountsRowid = reading_counts_rowid
+reading ListingRowids = reading_listing_rowids
+reading Terms = reading_terms
+reading Steps = reading_steps

@@ -3,3 +3,5 @@ pub mod Stored
 pub mod Stops
 pub mod Said
 pub mod Shown
+pub mod Cells
+pub mod Complete

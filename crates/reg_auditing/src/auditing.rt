@@ -9,15 +9,17 @@ ghost use Rattle.reg_tables.specs.Columns.{Columns};
 ghost use Rattle.reg_tables.specs.Kept.{Kept};
 ghost use Rattle.reg_tables.specs.Shows.{ShowsBoth};
 ghost use Rattle.reg_tables.specs.Stays.{IsRegister, LeavesNothing, Stays};
+ghost use Rattle.reg_auditing.specs.Complete.{IsRegisterOpen, ShowsSound};
 ghost use Rattle.reg_auditing.specs.Stored.{IsSomeCrl};
 ghost use Rattle.reg_auditing.specs.Stops.{IsDenied};
 
+use crate::complete::{BESIDE, check_complete};
 use crate::judging::judge;
 use crate::reading::read_each;
 use crate::stop::AuditStop;
 use crate::stored::check_crls;
 use crate::texts::What;
-use crate::watch::Watch;
+use crate::watch::{Unwatched, Watch};
 use sqlite::{Alter, Connection};
 use std::alloc::Global;
 
@@ -55,8 +57,11 @@ const WHOLE: [What; 10] = [
 /// (`HasValues`), or, where it is told for its bytes, some CRL's bytes are others than those of what it lists (`Denies`). It
 /// changes nothing of the tables of a register, and commits nothing. The watch is told how far it is.
 ///
-/// Whether a signature verifies, the policy's schedule and the life of OCSP answers, and the rowids of the tables whose key is
-/// a serial number are not looked at. The schema is not looked at either.
+/// In the end the rowids are read, the whole office and the schedule: where all is found well over an open register, there are
+/// records that its tables show (`ShowsSound`). It is asked of the connection that no row of `listed` lacks its last column,
+/// which can be NULL: no query tells the one from the other.
+///
+/// Whether a signature verifies is not looked at. The schema is not looked at either.
 ///
 /// # Errors
 /// `Broken` with a row that breaks a rule; `Memory`; `Store` where the database fails, or where the issuer or the policy is
@@ -68,6 +73,7 @@ pub fn audit<S: Alter, W: Watch>(
 ) -> Result<Audited, AuditStop>
     ensures sound { (records : Records) → (columns : Columns) → ShowsBoth S.Store conn.old records columns → HasCleanDisk (state S.Store conn.new)
         → IfOk result (λ _. Sound IsSomeCrl records × Kept columns records) }
+    ensures shown { IsRegisterOpen S.Store conn.old → HasCleanDisk (state S.Store conn.new) → IfOk result (λ _. ShowsSound S.Store conn.old) }
     ensures broken { (records : Records) → (columns : Columns) → ShowsBoth S.Store conn.old records columns → HasCleanDisk (state S.Store conn.new)
         → IfErr result (λ stop. IsDenied stop records columns) }
     ensures same { IsRegister (state S.Store conn.old) → Stays (state S.Store conn.old) (state S.Store conn.new) }
@@ -77,5 +83,7 @@ pub fn audit<S: Alter, W: Watch>(
     let all = read_each(alloc, conn, &WHOLE, watch)?;
     let audited = judge(alloc, &all)?;
     check_crls(alloc, conn, &all, watch)?;
+    let more = read_each(alloc, conn, &BESIDE, &mut Unwatched)?;
+    check_complete(alloc, &all, &more)?;
     Ok(audited)
 }

@@ -1,11 +1,12 @@
 //! Whether what was read of the tables is a register.
 
 ghost use Rattle.std.specs.Prelude.{◌≡◌, ◌<◌, List, get_or, length, IfOk, IfErr};
+ghost use Rattle.sqlite.specs.Effect.{Database};
 ghost use Rattle.reg_core.specs.Records.{Records};
 ghost use Rattle.reg_core.specs.Sound.{SoundRows};
 ghost use Rattle.reg_tables.specs.Columns.{Columns};
 ghost use Rattle.reg_tables.specs.Kept.{Kept};
-ghost use Rattle.reg_auditing.specs.Said.{IsReadOf, AreRead, whole};
+ghost use Rattle.reg_auditing.specs.Said.{IsReadOf, IsReadFrom, AreRead, AreReadFrom, whole};
 ghost use Rattle.reg_auditing.specs.Stops.{IsBroken};
 ghost use Rattle.reg_auditing.specs.Values.{HasValues};
 
@@ -24,6 +25,8 @@ use std::alloc::Global;
 pub(crate) fn rows_at(all: &[Vec<Row>], place: usize) -> &[Row]
     ensures read { (records : Records) → (columns : Columns) → (whats : List What) → (other : What) → AreRead records columns whats all.now (λ rows. rows.items)
         → place < length whats → IsReadOf records columns (get_or whats place other) result.now }
+    ensures from { (db : Database) → (whats : List What) → (other : What) → AreReadFrom db whats all.now (λ rows. rows.items)
+        → place < length whats → IsReadFrom db (get_or whats place other) result.now }
 {
     match all.get(place) {
         Some(rows) => rows.as_slice(),

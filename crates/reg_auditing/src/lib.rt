@@ -2,6 +2,7 @@
 #![tactic(auto)]
 
 mod auditing;
+mod complete;
 mod judging;
 mod reading;
 mod stop;

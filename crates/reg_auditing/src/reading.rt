@@ -2,15 +2,17 @@
 
 ghost use Rattle.std.specs.Prelude.{◌≡◌, ◌≤◌, false, [], IfOk, IfErr};
 ghost use Rattle.sqlite.specs.Values.{bound};
+ghost use Rattle.sqlite.specs.Effect.{Database};
 ghost use Rattle.sqlite.specs.Held.{state};
 ghost use Rattle.sqlite.specs.State.{HasCleanDisk};
 ghost use Rattle.sqlite_trees.specs.View.{doubt};
 ghost use Rattle.reg_core.specs.Records.{Records};
 ghost use Rattle.reg_tables.specs.Columns.{Columns};
 ghost use Rattle.reg_tables.specs.Reading.{Answers, IsReading};
-ghost use Rattle.reg_tables.specs.Shows.{ShowsBoth};
+ghost use Rattle.reg_tables.specs.Schema.{register_schema};
+ghost use Rattle.reg_tables.specs.Shows.{Holds, ShowsBoth};
 ghost use Rattle.reg_tables.specs.Stays.{IsCallFault, IsRegister, LeavesNothing, Stays};
-ghost use Rattle.reg_auditing.specs.Said.{IsReadOf, AreRead};
+ghost use Rattle.reg_auditing.specs.Said.{IsReadOf, IsReadFrom, AreRead, AreReadFrom};
 
 use crate::texts::{What, text};
 use crate::watch::Watch;
@@ -34,6 +36,7 @@ fn read<S: Alter>(conn: &mut Connection<S>, sql: &str) -> Result<Vec<Row>, Store
 /// All rows of a table.
 fn read_whole<S: Alter>(conn: &mut Connection<S>, what: What) -> Result<Vec<Row>, StoreFault>
     ensures found { (records : Records) → (columns : Columns) → ShowsBoth S.Store conn.old records columns → HasCleanDisk (state S.Store conn.new) → IfOk result (λ rows. IsReadOf records columns what rows.items) }
+    ensures from { (db : Database) → Holds S.Store conn.old (λ now. now ≡ db) → db.schema ≡ register_schema → HasCleanDisk (state S.Store conn.new) → IfOk result (λ rows. IsReadFrom db what rows.items) }
     ensures same { IsRegister (state S.Store conn.old) → Stays (state S.Store conn.old) (state S.Store conn.new) }
     ensures survives { LeavesNothing (state S.Store conn.old) (state S.Store conn.new) }
     ensures idle { conn.old.in_transaction ≡ false → conn.new.in_transaction ≡ false }
@@ -51,6 +54,8 @@ pub(crate) fn read_each<S: Alter, W: Watch>(
 ) -> Result<Vec<Vec<Row>>, StoreFault>
     ensures found { (records : Records) → (columns : Columns) → ShowsBoth S.Store conn.old records columns → HasCleanDisk (state S.Store conn.new)
         → IfOk result (λ all. AreRead records columns whats.now all.items (λ rows. rows.items)) }
+    ensures from { (db : Database) → Holds S.Store conn.old (λ now. now ≡ db) → db.schema ≡ register_schema → HasCleanDisk (state S.Store conn.new)
+        → IfOk result (λ all. AreReadFrom db whats.now all.items (λ rows. rows.items)) }
     ensures same { IsRegister (state S.Store conn.old) → Stays (state S.Store conn.old) (state S.Store conn.new) }
     ensures survives { LeavesNothing (state S.Store conn.old) (state S.Store conn.new) }
     ensures idle { conn.old.in_transaction ≡ false → conn.new.in_transaction ≡ false }

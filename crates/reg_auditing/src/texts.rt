@@ -1,4 +1,4 @@
-//! The texts that read a register's tables whole, each in the order of its rowids.
+//! The texts that read a register's tables whole, each in the order of its rowids, and those that read the rowids alone.
 
 ghost use Rattle.std.specs.Prelude.{◌≡◌};
 ghost use Rattle.reg_auditing.specs.Said.{text_of};
@@ -37,6 +37,28 @@ pub(crate) const COUNTS: &str = "SELECT n_good, n_revoked, n_expired FROM kept";
 pub(crate) const LISTINGS: &str =
     "SELECT serial, at, reason, first_crl, not_after, last_listed FROM listed ORDER BY rowid";
 
+/// The rowids of the certificates.
+pub(crate) const CERTIFICATE_ROWIDS: &str = "SELECT rowid FROM cert ORDER BY rowid";
+
+/// The rowids of the revocations.
+pub(crate) const REVOCATION_ROWIDS: &str = "SELECT rowid FROM revocation ORDER BY rowid";
+
+/// The rowids of the state letters.
+pub(crate) const STANDING_ROWIDS: &str = "SELECT rowid FROM standing ORDER BY rowid";
+
+/// The rowid of the counts.
+pub(crate) const COUNTS_ROWID: &str = "SELECT one FROM kept ORDER BY one";
+
+/// The rowids of what CRLs list.
+pub(crate) const LISTING_ROWIDS: &str = "SELECT rowid FROM listed ORDER BY rowid";
+
+/// The office's rowid, its version, its policy but for the schedule, and the last accepted moment.
+pub(crate) const TERMS: &str =
+    "SELECT one, version, crl_life, ocsp_life, cap, last_at FROM office ORDER BY one";
+
+/// The schedule.
+pub(crate) const STEPS: &str = "SELECT from_at, days FROM longest ORDER BY from_at";
+
 /// What is read by one statement.
 #[derive(Clone, Copy, Debug)]
 pub(crate) enum What {
@@ -50,6 +72,13 @@ pub(crate) enum What {
     Standings,
     Counts,
     Listings,
+    CertificateRowids,
+    RevocationRowids,
+    StandingRowids,
+    CountsRowid,
+    ListingRowids,
+    Terms,
+    Steps,
 }
 
 /// The text that reads a table whole.
@@ -67,5 +96,12 @@ pub(crate) fn text(what: What) -> &'static str
         What::Standings => STANDINGS,
         What::Counts => COUNTS,
         What::Listings => LISTINGS,
+        What::CertificateRowids => CERTIFICATE_ROWIDS,
+        What::RevocationRowids => REVOCATION_ROWIDS,
+        What::StandingRowids => STANDING_ROWIDS,
+        What::CountsRowid => COUNTS_ROWID,
+        What::ListingRowids => LISTING_ROWIDS,
+        What::Terms => TERMS,
+        What::Steps => STEPS,
     }
 }

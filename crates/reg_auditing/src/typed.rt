@@ -20,6 +20,7 @@ use std::alloc::Global;
 pub(crate) trait OfRow: Copy {
     ghost use Rattle.std.specs.Prelude.{◌≡◌, IfSome, IsSome};
     ghost use Rattle.sqlite_value.specs.Order.{Row as Cells};
+    ghost use Rattle.reg_auditing.specs.Cells.{HasCells};
 
     /// Its columns, in the order in which the statement names them.
     ghost shown: { Self → Cells };
@@ -33,7 +34,8 @@ pub(crate) trait OfRow: Copy {
     /// The row, or none where a value in it is none that a register writes.
     fn in_row(row: &Row) -> Option<Self>
         ensures read { (it : Self) → is_keyed it → row.now ≡ shown it → IfSome result (λ read. read ≡ it) }
-        ensures has { (it : Self) → is_keyed it → has_values it → row.now ≡ shown it → IsSome result };
+        ensures has { (it : Self) → is_keyed it → has_values it → row.now ≡ shown it → IsSome result }
+        ensures told { IfSome result (λ it. is_keyed it × HasCells 0 row.now (shown it)) };
 }
 
 /// The cap and the last accepted moment.

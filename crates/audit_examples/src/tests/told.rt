@@ -246,7 +246,7 @@ const RECORDS: [Altered; 14] = [
 ];
 
 /// What is kept beside the records does not follow from them.
-const BESIDE: [Altered; 8] = [
+const BESIDE: [Altered; 9] = [
     (
         "UPDATE kept SET n_good = 2",
         Table::Kept,
@@ -290,6 +290,13 @@ const BESIDE: [Altered; 8] = [
         Why::NotKept,
     ),
     ("DELETE FROM listed", Table::Listed, 1, Why::NotKept),
+    (
+        "DELETE FROM standing WHERE state = 'R'; \
+        INSERT INTO standing SELECT serial, 1768003200, 'R' FROM revocation",
+        Table::Standing,
+        1,
+        Why::OutOfOrder,
+    ),
 ];
 
 /// Each is told with its row.
