@@ -5,7 +5,7 @@ use Rattle.reg_crl.specs.Crl.{tbs_of, tbs_cert_list, certificate_list}
 use Rattle.reg_der.specs.Der.{IsTlv, tlv}
 use Rattle.reg_der.specs.Reading.{Parts, value_at}
 use Rattle.reg_der.specs.Values.{bits_value}
-use Rattle.reg_der.proofs.Values.{length-tlv_at_least, value_again}
+use Rattle.reg_der.proofs.PublicLaws.{value_again, value_size}
 use Rattle.reg_auditing.specs.Stored.{IsSomeCrl, behind_signed}
 
 value_between : (tbs algorithm signature : List ℕ) → length (certificate_list (tlv 48 tbs) (tlv 48 algorithm) signature) ≤ 268435456
@@ -13,9 +13,9 @@ value_between : (tbs algorithm signature : List ℕ) → length (certificate_lis
 unfolding certificate_list
 value_between tbs algorithm signature short =
     let list = tlv 48 tbs ++ tlv 48 algorithm ++ bits_value signature in
-    let at_list = length-tlv_at_least 48 list in
-    let at_tbs = length-tlv_at_least 48 tbs in
-    let at_algorithm = length-tlv_at_least 48 algorithm in
+    let at_list = (value_size 48 list).least in
+    let at_tbs = (value_size 48 tbs).least in
+    let at_algorithm = (value_size 48 algorithm).least in
     let size : length list ≡ length (tlv 48 tbs) + length (tlv 48 algorithm) + length (bits_value signature) = rw (length-append, length-append) refl in
     let one : value_at (tlv 48 list) ≡ Some (record { tag = 48; contents = list }, []) = ap value_at (sym (append-nil (tlv 48 list))) ∙ value_again 48 list [] (omega arith) (omega arith) in
     let two : value_at list ≡ Some (record { tag = 48; contents = tbs }, tlv 48 algorithm ++ bits_value signature) = ap value_at (append_assoc (tlv 48 tbs) (tlv 48 algorithm) (bits_value signature)) ∙ value_again 48 tbs (tlv 48 algorithm ++ bits_value signature) (omega arith) (omega arith) in

@@ -38,7 +38,7 @@ const SEQUENCE: u8 = 0x30;
 /// The most octets of an AlgorithmIdentifier.
 const MOST_ALGORITHM: usize = 1_024;
 
-/// The most octets of a CRL: those that are made here have half as many.
+/// The most octets of a CRL: those that are made here have little more than half as many at most.
 const MOST_CRL: usize = 268_435_456;
 
 /// The bytes of the CRL with a number are not those of what the records list.

@@ -4,7 +4,8 @@ use crate::machine::Machine;
 use reg_auditing::Watch;
 use std::time::Clock;
 
-/// Who watches an audit: once a second it tells how many rows were read and how many CRLs compared, where that is to be told.
+/// Who watches an audit: at most once a second it tells how many rows were read and how many CRLs compared, where that is to
+/// be told.
 #[derive(Drop)]
 pub(crate) struct Teller {
     rt: HostRuntime,
