@@ -42,6 +42,9 @@ def days():
 # A serial number of one byte, in each table that has it.
 RENAMED = "; ".join(f"UPDATE {table} SET serial = x'05'" for table in ("cert", "request", "revocation", "standing", "listed"))
 
+# What is told of a row that its rowid does not count.
+MOVED = "its number is not one more than that before it"
+
 # A register of the first day: what is done to it, and what is told of the file.
 BROKEN = [
     ("a letter", "UPDATE standing SET state = 'G' WHERE rowid = 1", "standing 1"),
@@ -71,6 +74,10 @@ BROKEN = [
     ("another end of a certificate", "UPDATE cert SET not_after = not_after + 86400", "standing 1"),
     ("another end beside a letter", "UPDATE standing SET not_after = not_after + 1", "standing 1"),
     ("another end of what is listed", "UPDATE listed SET not_after = not_after + 1", "listed 1"),
+    ("a certificate's rowid that was moved", "UPDATE cert SET rowid = 9 WHERE rowid = 1", f"cert 1: {MOVED}"),
+    ("a revocation's rowid that was moved", "UPDATE revocation SET rowid = 9 WHERE rowid = 1", f"revocation 1: {MOVED}"),
+    ("a letter's rowid that was moved", "UPDATE standing SET rowid = 9 WHERE rowid = 1", f"standing 1: {MOVED}"),
+    ("a listing's rowid that was moved", "UPDATE listed SET rowid = 9 WHERE rowid = 1", f"listed 1: {MOVED}"),
     ("another issuer", f"UPDATE office SET name = x'{NAME[:-2]}55'", "crl 1"),
     ("another key of the issuer", "UPDATE office SET pubkey = x'0103'", "crl 1"),
     ("another life of CRLs", "UPDATE office SET crl_life = crl_life - 1", "crl 1"),
