@@ -1,13 +1,11 @@
 -- Where the rows of each table are those of records, the tables show these.
-use Rattle.std.proofs.Common.{◌≡◌, IsTrue, [], refl, inl, inr}
-use Rattle.std.proofs.lemmas.Bool.{cases_Bool}
+use Rattle.std.proofs.Common.{◌≡◌, sym, subst}
 use Rattle.sqlite_trees.specs.declared.store.Store.{Ghosts}
 use Rattle.sqlite.specs.Effect.{Database}
-use Rattle.sqlite.specs.Held.{Held, state}
-use Rattle.sqlite.specs.State.{HasCleanDisk}
-use Rattle.reg_core.specs.Records.{Records, no_records}
+use Rattle.sqlite.specs.Held.{Held}
+use Rattle.reg_core.specs.Records.{Records}
 use Rattle.reg_tables.specs.Columns.{Columns}
-use Rattle.reg_tables.specs.Shows.{Holds, ShowsBoth}
+use Rattle.reg_tables.specs.Shows.{AreBoth, Holds, ShowsBoth}
 use Rattle.reg_auditing.specs.Complete.{AreTables, AreCounts, AreOffice, ShowSome, HoldSubscribers, HoldOrders, HoldCertificates, HoldRequests, HoldRevocations, HoldCrls, HoldLetters, HoldListings}
 use Rattle.reg_auditing.specs.Stops.{IsBroken, IsDenied}
 use Rattle.reg_auditing.specs.declared.stop.AuditStop.{AuditStop}
@@ -55,26 +53,9 @@ some_shown db are office subscribers orders certificates requests revocations cr
   };
 }
 
--- the records that tables show
-pub record SomeShown {S : Type 0} (g : Ghosts S) (h : Held S) : Type 0 where
-  pub records : Records
-  pub columns : Columns
-  pub shows : ShowsBoth g h records columns
-
--- what tables show that hold a register's rows is shown; a connection that is shut shows whatever is asked
-pub shown_or_shut : {S : Type 0} (g : Ghosts S) (h : Held S) → HasCleanDisk (state g h) → Holds g h AreTables → ((db : Database) → Holds g h (λ now. now ≡ db) → AreTables db → ShowSome db) → SomeShown g h
-shown_or_shut g h clean holds shown = elim (cases_Bool (state g h).is_open) [
-  | inl up ↦
-      let some = shown (state g h).now (record { saved = holds.saved; tables = λ still opened. refl }) (holds.tables clean up) in
-      record { records = some.records; columns = some.columns; shows = record { saved = holds.saved; tables = λ still opened. some.both } }
-  | inr shut ↦
-      let no : IsTrue (state g h).is_open → ⊥ = λ opened. cc in
-      record {
-        records = no_records (record { name = []; key = [] }) (record { schedule = []; crl_life = 0; ocsp_life = 0; cap = 0 });
-        columns = record { letters = []; counts = record { good = 0; revoked = 0; expired = 0 }; listed = [] };
-        shows = record { saved = λ still opened. absurd (no opened); tables = λ still opened. absurd (no opened) };
-      }
-]
+-- what the tables show that a connection has, it shows
+pub holds_both : {S : Type 0} (g : Ghosts S) (h : Held S) (db : Database) (records : Records) (columns : Columns) → Holds g h (λ now. now ≡ db) → AreBoth db records columns → ShowsBoth g h records columns
+holds_both g h db records columns these both = record { saved = these.saved; tables = λ clean up. subst (λ now. AreBoth now records columns) (sym (these.tables clean up)) both }
 
 -- an audit that tells no row as broken denies nothing
 pub not_broken_denied : (records : Records) (columns : Columns) (stop : AuditStop) → (IsBroken stop → ⊥) → IsDenied stop records columns

@@ -14,4 +14,3 @@ pub mod TableRows
 pub mod OfficeRows
 pub mod CountedRows
 pub mod Completed
-pub mod Ordered

@@ -1,12 +1,9 @@
 -- Tables that hold a register's rows and nothing else.
-use Rattle.std.specs.Prelude.{◌≡◌, ℕ, ℤ, false, IsTrue, List, [], ◌∷◌, map, length}
+use Rattle.std.specs.Prelude.{◌≡◌, ℕ, ℤ, List, [], ◌∷◌, map, length}
 use Rattle.std.specs.List.{AllByRecursion}
 use Rattle.sqlite_value.specs.Order.{Row}
 use Rattle.sqlite_trees.specs.Tree.{Trees, IsTable}
-use Rattle.sqlite_trees.specs.declared.store.Store.{Ghosts}
 use Rattle.sqlite.specs.Effect.{Database, IsDatabase}
-use Rattle.sqlite.specs.Held.{Held, state}
-use Rattle.sqlite.specs.State.{IsLive}
 use Rattle.reg_core.specs.Issuer.{Issuer}
 use Rattle.reg_core.specs.Policy.{Terms, IsPolicy}
 use Rattle.reg_core.specs.Records.{Records, Crl}
@@ -22,7 +19,7 @@ use Rattle.reg_tables.specs.Columns.{Columns, Standing, Listed, stored_standing,
 use Rattle.reg_tables.specs.Kept.{Kept}
 use Rattle.reg_tables.specs.Rows.{number, version, counted_rows, stored_office, stored_subscriber, stored_order, stored_certificate, stored_request, stored_revocation, stored_crl, stored_step}
 use Rattle.reg_tables.specs.Schema.{register_schema}
-use Rattle.reg_tables.specs.Shows.{AreBoth, ShowsBoth}
+use Rattle.reg_tables.specs.Shows.{AreBoth}
 use Rattle.reg_auditing.specs.Cells.{HasCells}
 use Rattle.reg_auditing.specs.Stored.{IsSomeCrl}
 use Rattle.reg_auditing.specs.declared.complete.Terms.{Terms as Found}
@@ -105,22 +102,11 @@ pub record ShowSome (db : Database) : Type 0 where
   pub columns : Columns
   pub both : AreBoth db records columns
 
--- As the crate `sqlite` keeps a connection over a register while it is open, with nothing under way: it has the register's schema
--- and obeys it (the clauses `value` and `live` of its `Connection::schema`), what it shows is committed (`settled` of
--- `is_autocommit`), and no call has left its transaction broken (it keeps this too, and has no clause of it). And no row of
--- listed lacks its last column.
-pub record IsRegisterOpen {S : Type 0} (g : Ghosts S) (h : Held S) : Type 0 where
-  pub schema : IsTrue (state g h).is_open → (state g h).now.schema ≡ register_schema
-  pub live : IsLive (state g h)
-  pub saved : IsTrue (state g h).is_open → (state g h).now ≡ (state g h).committed
-  pub unbroken : IsTrue (state g h).is_open → (g.view h.store).is_broken ≡ false
-  pub whole : IsTrue (state g h).is_open → AllByRecursion (λ row. length row ≡ 7) ((state g h).now.trees 15)
-
 -- there are records that the tables show, sound, with each CRL's bytes those of what it lists, and columns beside them that
 -- follow from them
-pub record ShowsSound {S : Type 0} (g : Ghosts S) (h : Held S) : Type 0 where
+pub record ShowsSound (db : Database) : Type 0 where
   pub records : Records
   pub columns : Columns
-  pub shows : ShowsBoth g h records columns
+  pub both : AreBoth db records columns
   pub sound : Sound IsSomeCrl records
   pub kept : Kept columns records

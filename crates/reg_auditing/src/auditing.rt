@@ -1,15 +1,16 @@
 //! The audit of an open database.
 
 ghost use Rattle.std.specs.Prelude.{◌≡◌, false, IfOk, IfErr};
+ghost use Rattle.sqlite.specs.Effect.{Database};
 ghost use Rattle.sqlite.specs.Held.{state};
 ghost use Rattle.sqlite.specs.State.{HasCleanDisk};
 ghost use Rattle.reg_core.specs.Records.{Records};
 ghost use Rattle.reg_core.specs.Sound.{Sound};
 ghost use Rattle.reg_tables.specs.Columns.{Columns};
 ghost use Rattle.reg_tables.specs.Kept.{Kept};
-ghost use Rattle.reg_tables.specs.Shows.{ShowsBoth};
+ghost use Rattle.reg_tables.specs.Shows.{Holds, ShowsBoth};
 ghost use Rattle.reg_tables.specs.Stays.{IsRegister, LeavesNothing, Stays};
-ghost use Rattle.reg_auditing.specs.Complete.{IsRegisterOpen, ShowsSound};
+ghost use Rattle.reg_auditing.specs.Complete.{AreTables, ShowsSound};
 ghost use Rattle.reg_auditing.specs.Stored.{IsSomeCrl};
 ghost use Rattle.reg_auditing.specs.Stops.{IsDenied};
 
@@ -57,9 +58,8 @@ const WHOLE: [What; 10] = [
 /// (`HasValues`), or, where it is told for its bytes, some CRL's bytes are others than those of what it lists (`Denies`). It
 /// changes nothing of the tables of a register, and commits nothing. The watch is told how far it is.
 ///
-/// In the end the rowids are read, the whole office and the schedule: where all is found well over an open register, there are
-/// records that its tables show (`ShowsSound`). It is asked of the connection that no row of `listed` lacks its last column,
-/// which can be NULL: no query tells the one from the other.
+/// In the end the rowids are read, the whole office and the schedule: where all is found well over tables that obey a register's
+/// schema (`AreTables`), there are records that they show, sound and with what is kept beside them (`ShowsSound`).
 ///
 /// Whether a signature verifies is not looked at. The schema is not looked at either.
 ///
@@ -73,7 +73,7 @@ pub fn audit<S: Alter, W: Watch>(
 ) -> Result<Audited, AuditStop>
     ensures sound { (records : Records) → (columns : Columns) → ShowsBoth S.Store conn.old records columns → HasCleanDisk (state S.Store conn.new)
         → IfOk result (λ _. Sound IsSomeCrl records × Kept columns records) }
-    ensures shown { IsRegisterOpen S.Store conn.old → HasCleanDisk (state S.Store conn.new) → IfOk result (λ _. ShowsSound S.Store conn.old) }
+    ensures shown { (db : Database) → Holds S.Store conn.old (λ now. now ≡ db) → AreTables db → HasCleanDisk (state S.Store conn.new) → IfOk result (λ _. ShowsSound db) }
     ensures broken { (records : Records) → (columns : Columns) → ShowsBoth S.Store conn.old records columns → HasCleanDisk (state S.Store conn.new)
         → IfErr result (λ stop. IsDenied stop records columns) }
     ensures same { IsRegister (state S.Store conn.old) → Stays (state S.Store conn.old) (state S.Store conn.new) }

@@ -1,7 +1,7 @@
 -- What an audit's answer gives of the verdict that is said of it.
 use Rattle.std.proofs.Common.{◌≡◌, Result, Ok, Err, IfOk, IfErr, IsTrue, sym, subst, ◌∙◌, ap}
 use Rattle.sqlite.specs.Effect.{Database}
-use Rattle.sqlite.specs.State.{State, HasCleanDisk}
+use Rattle.sqlite.specs.State.{State}
 use Rattle.reg_core.specs.Records.{Records}
 use Rattle.reg_tables.specs.Columns.{Columns}
 use Rattle.reg_tables.specs.Schema.{register_schema}
@@ -43,5 +43,5 @@ module _ (records : Records) (columns : Columns) where
   denied_said audited result is denied = subst (λ (r : Result Verdict StoreFault). IfOk r (λ verdict. DeniedBy verdict records columns)) (sym is) (well_denied audited denied)
 
 -- a schema that is a register's, where all is committed
-pub register_by : (s : State) → s.now.schema ≡ register_schema → (HasCleanDisk s → IsTrue s.is_open → s.now ≡ s.committed) → IsRegister s
-register_by s is saved = record { now = λ clean up. is; committed = λ clean up. ap (λ (db : Database). db.schema) (sym (saved clean up)) ∙ is }
+pub register_by : (s : State) → s.now.schema ≡ register_schema → (IsTrue s.is_open → s.now ≡ s.committed) → IsRegister s
+register_by s is saved = record { now = λ clean up. is; committed = λ clean up. ap (λ (db : Database). db.schema) (sym (saved up)) ∙ is }

@@ -1,6 +1,6 @@
 //! The audit of a database whose version is looked at first.
 
-ghost use Rattle.std.specs.Prelude.{◌≡◌, ◌≢◌, false, IfErr, IfOk};
+ghost use Rattle.std.specs.Prelude.{◌≡◌, ◌≢◌, false, IfErr, IfOk, IsTrue};
 ghost use Rattle.sqlite.specs.Held.{state};
 ghost use Rattle.sqlite.specs.State.{HasCleanDisk};
 ghost use Rattle.reg_core.specs.Records.{Records};
@@ -9,7 +9,9 @@ ghost use Rattle.reg_tables.specs.Columns.{Columns};
 ghost use Rattle.reg_tables.specs.Kept.{Kept};
 ghost use Rattle.reg_tables.specs.Shows.{ShowsBoth};
 ghost use Rattle.reg_tables.specs.Stays.{IsRegister, Stays};
+ghost use Rattle.reg_auditing.specs.Complete.{ShowsSound};
 ghost use Rattle.reg_auditing.specs.Stored.{IsSomeCrl};
+ghost use Rattle.reg_verdict.specs.Presumed.{IsOverRegister, IsPresumed};
 ghost use Rattle.reg_verdict.specs.Verdicts.{DeniedBy, IsSound, verdict_of};
 
 use reg_audit::Broken;
@@ -46,15 +48,27 @@ fn said(audited: Result<Audited, AuditStop>) -> Result<Verdict, StoreFault>
     }
 }
 
+/// Whether a connection is in no transaction, and its schema is a register's.
+fn is_over_register<S: Alter>(conn: &Connection<S>) -> bool
+    ensures { IsTrue result → IsOverRegister S.Store conn.now }
+{
+    if !conn.is_autocommit() {
+        return false;
+    }
+    is_register(conn.schema())
+}
+
 /// Looks at the version, the issuer, the policy and the last accepted moment as who opens a register does; then, where the
 /// version is the program's, whether the schema is a register's ([`reg_schema::is_register`]), and where it is, at all rows
 /// ([`reg_auditing::audit`]). Nothing is changed; a register of version 1 or 2 is not made newer. The connection is in no
 /// transaction, as one that was just opened.
 ///
 /// Where the answer is `Sound`, the schema is a register's, whatever records the tables show are sound, each CRL's bytes are
-/// those of what it lists, whatever its signature, and what is kept beside the records follows from them. Where it is `Broken`,
-/// the tables show no such records, with what follows from them kept beside them, whose names, validities and reasonCodes are a
-/// register's; and, but for the bytes of a CRL, none whatever the bytes of CRLs are (`Denies`). The watch is told how far it is.
+/// those of what it lists, whatever its signature, and what is kept beside the records follows from them; and there are such
+/// records, where the connection was open and what is presumed of it holds (`IsPresumed`). Where it is
+/// `Broken`, the tables show no such records, with what follows from them kept beside them, whose names, validities and
+/// reasonCodes are a register's; and, but for the bytes of a CRL, none whatever the bytes of CRLs are (`Denies`). The watch is
+/// told how far it is.
 ///
 /// # Errors
 /// `NotARegister` and `NewVersion` as [`reg_opening::open`] has them; `Memory`; `Store` where the database fails.
@@ -66,6 +80,8 @@ pub fn judge<S: Alter, W: Watch>(
     requires { conn.old.in_transaction ≡ false }
     ensures sound { (records : Records) → (columns : Columns) → ShowsBoth S.Store conn.old records columns → HasCleanDisk (state S.Store conn.new)
         → IfOk result (λ verdict. IsSound verdict → Sound IsSomeCrl records × Kept columns records) }
+    ensures shown { (HasCleanDisk (state S.Store conn.old) → IsTrue (state S.Store conn.old).is_open) → IsPresumed S.Store conn.old → HasCleanDisk (state S.Store conn.new)
+        → IfOk result (λ verdict. IsSound verdict → ShowsSound (state S.Store conn.old).now) }
     ensures broken { (records : Records) → (columns : Columns) → ShowsBoth S.Store conn.old records columns → HasCleanDisk (state S.Store conn.new)
         → IfOk result (λ verdict. DeniedBy verdict records columns) }
     ensures register { IfOk result (λ verdict. IsSound verdict → IsRegister (state S.Store conn.new)) }
@@ -73,11 +89,12 @@ pub fn judge<S: Alter, W: Watch>(
     ensures idle { conn.new.in_transaction ≡ false }
     ensures faults { IfErr result (λ fault. fault ≢ StoreFault.NotEmpty) }
 {
+    let is_register = is_over_register(conn);
     let older = examine(conn)?;
     if older.is_some() {
         return Ok(Verdict::Older);
     }
-    if !is_register(conn.schema()) {
+    if !is_register {
         return Ok(Verdict::OtherSchema);
     }
     said(audit(alloc, conn, watch))

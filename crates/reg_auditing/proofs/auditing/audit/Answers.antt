@@ -5,9 +5,8 @@ use Rattle.sqlite.specs.State.{HasCleanDisk}
 use Rattle.reg_tables.proofs.Staying.{both_shows, shows_register, stays_both, stays_holds, stays_then, stays_register, leaves_then}
 use Rattle.reg_auditing.specs.Said.{AreRead, AreReadFrom, whole, beside}
 use Rattle.reg_auditing.specs.Stops.{IsDenied}
-use Rattle.reg_auditing.proofs.Completed.{shown_or_shut, not_broken_denied}
+use Rattle.reg_auditing.proofs.Completed.{holds_both, not_broken_denied}
 use Rattle.reg_auditing.proofs.Denying.{rows_denied, bytes_denied}
-use Rattle.reg_auditing.proofs.Ordered.{holds_tables}
 use Rattle.reg_auditing.proofs.Whole.{holds_register}
 use Rattle.reg_auditing.proofs.auditing.audit.Goals as goal
 
@@ -25,15 +24,12 @@ returns-clause-sound g c records columns shows clean =
     (record { rows = judged.0; signatures = signed }, judged.1)
 
 pub returns-clause-shown : goal.returns-clause-shown
-returns-clause-shown g c is clean =
+returns-clause-shown g c db these are clean =
     let old = c.args.conn.now in
     let mid = c.read_each.new.conn in
     let last = c.check_crls.new.conn in
     let then_clean : HasCleanDisk (state g.S.Store last) = omega (arith, c.read_each-2.ensures.survives.clean) in
     let was_clean : HasCleanDisk (state g.S.Store mid) = omega (arith, c.check_crls.ensures.survives.clean) in
-    let old_clean : HasCleanDisk (state g.S.Store old) = omega (arith, c.read_each.ensures.survives.clean) in
-    let holds = holds_tables g.S.Store old (g.met.S.Store.ordered old.store) (g.met.S.Alter.listed old.store) is in
-    let some = shown_or_shut g.S.Store old old_clean holds (λ db these are.
     let register = holds_register g.S.Store old db these are.schema in
     let stays = stays_then (state g.S.Store old) (state g.S.Store mid) (state g.S.Store last) c.check_crls.ensures.survives.clean (c.read_each.ensures.same register)
     (c.check_crls.ensures.same (stays_register (state g.S.Store old) (state g.S.Store mid) c.read_each.ensures.survives.clean (c.read_each.ensures.same register) register)) in
@@ -41,9 +37,9 @@ returns-clause-shown g c is clean =
     let there = stays_holds g.S.Store old last (λ now. now ≡ db) forgets stays these in
     let all = subst (λ all. AreReadFrom db whole all (λ rows. rows.items)) (sym c.deref-3.ensures.value) (c.in_ok-all.ensures.from db these are.schema was_clean) in
     let more = subst (λ all. AreReadFrom db beside all (λ rows. rows.items)) (sym c.deref-4.ensures.value) (c.in_ok-more.ensures.from db there are.schema clean) in
-    c.in_ok-check_complete.ensures.shown db are all more) in
-    let both = returns-clause-sound g c some.records some.columns some.shows clean in
-    record { records = some.records; columns = some.columns; shows = some.shows; sound = both.0; kept = both.1 }
+    let some = c.in_ok-check_complete.ensures.shown db are all more in
+    let both = returns-clause-sound g c some.records some.columns (holds_both g.S.Store old db some.records some.columns these some.both) clean in
+    record { records = some.records; columns = some.columns; both = some.both; sound = both.0; kept = both.1 }
 
 pub returns-clause-same : goal.returns-clause-same
 returns-clause-same g c register =

@@ -1,11 +1,17 @@
-use Rattle.std.proofs.Common.{sym, ◌∙◌}
+use Rattle.std.proofs.Common.{◌≡◌, refl, arith}
 use Rattle.sqlite.specs.Held.{state}
-use Rattle.reg_tables.proofs.Staying.{stays_both, stays_register, stays_then}
+use Rattle.sqlite.specs.State.{HasCleanDisk}
+use Rattle.reg_tables.proofs.Staying.{stays_both, stays_holds, stays_register, stays_then}
+use Rattle.reg_auditing.specs.Complete.{ShowsSound}
+use Rattle.reg_verdict.proofs.Ordered.{tables_are}
 use Rattle.reg_verdict.proofs.Said.{always_said, denied_said, register_by, sound_said}
 use Rattle.reg_verdict.proofs.judging.judge.Goals as goal
 
 pub returns-then-not-is_register-clause-sound : goal.returns-then-not-is_register-clause-sound
 returns-then-not-is_register-clause-sound g c records columns shows clean sound = absurd sound
+
+pub returns-then-not-is_register-clause-shown : goal.returns-then-not-is_register-clause-shown
+returns-then-not-is_register-clause-shown g c up presumed clean sound = absurd sound
 
 pub returns-then-not-is_register-clause-register : goal.returns-then-not-is_register-clause-register
 returns-then-not-is_register-clause-register g c sound = absurd sound
@@ -15,6 +21,18 @@ returns-clause-sound g c records columns shows clean =
     let shown = stays_both g.S.Store c.args.conn.now c.examine.new.conn records columns c.examine.ensures.survives.clean c.examine.ensures.same shows in
     sound_said _ c.audit.result c.said.result c.said.ensures.is (c.audit.ensures.sound records columns shown clean)
 
+pub returns-clause-shown : goal.returns-clause-shown
+returns-clause-shown g c up presumed clean =
+    let old = c.args.conn.now in
+    let db = (state g.S.Store old).now in
+    let mid_clean : HasCleanDisk (state g.S.Store c.examine.new.conn) = omega (arith, c.audit.ensures.survives.clean) in
+    let old_clean : HasCleanDisk (state g.S.Store old) = omega (arith, c.examine.ensures.survives.clean) in
+    let is = c.is_over_register.ensures c.if-not-is_register.false in
+    let tables = tables_are g.S.Store old (g.met.S.Store.ordered old.store) (g.met.S.Alter.listed old.store) is presumed (up old_clean) in
+    let there = stays_holds g.S.Store old c.examine.new.conn (λ now. now ≡ db) c.examine.ensures.survives.clean c.examine.ensures.same
+    (record { saved = λ was still. is.saved still; tables = λ was still. refl }) in
+    sound_said (ShowsSound db) c.audit.result c.said.result c.said.ensures.is (c.audit.ensures.shown db there tables clean)
+
 pub returns-clause-broken : goal.returns-clause-broken
 returns-clause-broken g c records columns shows clean =
     let shown = stays_both g.S.Store c.args.conn.now c.examine.new.conn records columns c.examine.ensures.survives.clean c.examine.ensures.same shows in
@@ -22,12 +40,16 @@ returns-clause-broken g c records columns shows clean =
 
 pub returns-clause-register : goal.returns-clause-register
 returns-clause-register g c =
+    let old = state g.S.Store c.args.conn.now in
     let mid = state g.S.Store c.examine.new.conn in
-    let register = register_by mid (sym c.schema.ensures.value ∙ c.is_register.ensures.0 c.if-not-is_register.false) c.examine.ensures.saved in
+    let is = c.is_over_register.ensures c.if-not-is_register.false in
+    let register = stays_register old mid c.examine.ensures.survives.clean c.examine.ensures.same (register_by old is.schema is.saved) in
     always_said _ c.said.result (stays_register mid (state g.S.Store c.audit.new.conn) c.audit.ensures.survives.clean (c.audit.ensures.same register) register)
 
 pub returns-clause-same : goal.returns-clause-same
 returns-clause-same g c =
+    let old = state g.S.Store c.args.conn.now in
     let mid = state g.S.Store c.examine.new.conn in
-    let register = register_by mid (sym c.schema.ensures.value ∙ c.is_register.ensures.0 c.if-not-is_register.false) c.examine.ensures.saved in
-    stays_then (state g.S.Store c.args.conn.now) mid (state g.S.Store c.audit.new.conn) c.audit.ensures.survives.clean c.examine.ensures.same (c.audit.ensures.same register)
+    let is = c.is_over_register.ensures c.if-not-is_register.false in
+    let register = stays_register old mid c.examine.ensures.survives.clean c.examine.ensures.same (register_by old is.schema is.saved) in
+    stays_then old mid (state g.S.Store c.audit.new.conn) c.audit.ensures.survives.clean c.examine.ensures.same (c.audit.ensures.same register)

@@ -13,8 +13,8 @@ use Rattle.sqlite_catalog.specs.Listing.{IsSound}
 use Rattle.sqlite_catalog.proofs.LayoutLemmas.{laid_out, objects_rise}
 use Rattle.sqlite.specs.Held.{Held, state}
 use Rattle.reg_tables.specs.Schema.{register_schema}
-use Rattle.reg_tables.specs.Shows.{Holds}
-use Rattle.reg_auditing.specs.Complete.{table_trees, AreTables, IsRegisterOpen}
+use Rattle.reg_auditing.specs.Complete.{table_trees, AreTables}
+use Rattle.reg_verdict.specs.Presumed.{IsOverRegister, IsPresumed}
 
 rises_at : (s : Shape) (trees : Trees) (tree : ℕ) → s ≡ shape.Table → IsShaped s (trees tree) → IsTable (trees tree)
 rises_at s trees tree is shaped = (subst (λ (t : Shape). IsShaped t (trees tree)) is shaped).0
@@ -52,18 +52,16 @@ module _ (shapes : ℕ → Shape) (trees : Trees) (ordered : IsOrdered shapes tr
 
 module _ {S : Type 0} (g : Ghosts S) (h : Held S) (ordered : (g.view h.store).is_broken ≡ false → IsOrdered (g.view h.store).shape (g.view h.store).trees)
     (listed : (g.view h.store).is_broken ≡ false → IsListed ((g.view h.store).trees catalog_tree) (g.view h.store).shape (g.view h.store).reals) where
-  tables_are : IsRegisterOpen g h → IsTrue (state g h).is_open → AreTables (state g h).now
-  tables_are is up =
-      let sound : IsSound register_schema (state g h).now.trees = subst (λ (schema : Schema). IsSound schema (state g h).now.trees) (is.schema up) (is.live up).0 in
-      let order = ordered (is.unbroken up) in
-      let list = listed (is.unbroken up) in
+  -- the tables of an open connection over a register obey its schema, and their rowids rise
+  pub tables_are : IsOverRegister g h → IsPresumed g h → IsTrue (state g h).is_open → AreTables (state g h).now
+  tables_are is presumed up =
+      let sound : IsSound register_schema (state g h).now.trees = subst (λ (schema : Schema). IsSound schema (state g h).now.trees) is.schema (is.live up).0 in
+      let order = ordered presumed.unbroken in
+      let list = listed presumed.unbroken in
       let laid = laid_out list (objects_rise (g.view h.store) list order) sound.lists.listed in
       record {
-        schema = is.schema up;
+        schema = is.schema;
         obeyed = (is.live up).0;
         rises = tables_rise (g.view h.store).shape (g.view h.store).trees order laid;
-        whole = is.whole up;
+        whole = presumed.whole;
       }
-
-  pub holds_tables : IsRegisterOpen g h → Holds g h AreTables
-  holds_tables is = record { saved = λ clean up. is.saved up; tables = λ clean up. tables_are is up }
