@@ -1,5 +1,6 @@
 -- What an audit that found all sound gives of an office over the same tables.
 use Rattle.std.specs.Prelude.{◌≡◌, ℕ, List}
+use Rattle.sqlite.specs.Effect.{Database}
 use Rattle.sqlite.specs.Files.{file_state, over_files}
 use Rattle.sqlite.specs.Held.{Held}
 use Rattle.sqlite.specs.State.{HasCleanDisk}
@@ -11,28 +12,37 @@ use Rattle.reg_crl.specs.Signing.{Identity, signed_by}
 use Rattle.reg_office.specs.Stands.{Stands}
 use Rattle.reg_tables.specs.Columns.{Columns}
 use Rattle.reg_tables.specs.Shows.{AreBoth}
+use Rattle.reg_auditing.specs.Complete.{ShowsSound}
+use Rattle.reg_verdict.specs.Presumed.{IsPresumed}
 use Rattle.reg_verdict.specs.Verdicts.{IsSound}
 use Rattle.reg_verdict.specs.declared.judging.Verdict.{Verdict}
 use Rattle.reg_program.specs.Files.{IsAudited, IsOpenedFrom}
 use Rattle.reg_program.specs.Signing.{Signing}
 
--- an audit of a file that said that all is sound, with a disk that returned what was written
+-- an audit of a file that said that all is sound, with a disk that returned what was written, and where what is presumed of the
+-- connection and of the file holds
 pub record FoundSound {D : Type 0} (g : disk.Ghosts D) : Type 0 where
   pub verdict : Verdict
   pub audited : IsAudited g verdict
   pub sound : IsSound verdict
   pub clean : HasCleanDisk (file_state audited.after)
+  pub presumed : IsPresumed over_files audited.connection
+
+-- the tables that were audited
+abbrev pub tables_of : {D : Type 0} {g : disk.Ghosts D} → FoundSound g → Database
+tables_of found = (file_state found.audited.connection).now
 
 -- a register that was opened over the very tables that were audited
 pub record OpensSame {D : Type 0} {g : disk.Ghosts D} (found : FoundSound g) (register : Held (FileStore D g)) (identity : Identity) : Type 0 where
   pub signing : Signing
   pub opened : IsOpenedFrom signing register identity
-  pub same : (file_state opened.connection).now ≡ (file_state found.audited.connection).now
+  pub same : (file_state opened.connection).now ≡ tables_of found
 
--- Whatever records and columns the audited tables show, they stand in a register that is opened over these tables: they are shown
--- and sound, and what is kept beside them follows from them. That each stored CRL has the signer's signature is what an audit does not tell.
-abbrev pub StandsOnceAudited : {D : Type 0} → disk.Ghosts D → (Identity → List ℕ → List ℕ → Type 0) → Type 0
-StandsOnceAudited {D} g signs =
-    (found : FoundSound g) (register : Held (FileStore D g)) (identity : Identity) → OpensSame found register identity
-    → (records : Records) (columns : Columns) → AreBoth (file_state found.audited.connection).now records columns
-    → CrlsSigned (signed_by signs identity) records → Stands over_files signs register identity records
+-- There are records that the audited tables show: they are sound, and what is kept beside them follows from
+-- them. And whatever records the tables show, they stand in each register that is opened over these tables, where each stored CRL
+-- has the signature of who signs there: that an audit does not tell.
+pub record StandsOnceAudited {D : Type 0} {g : disk.Ghosts D} (signs : Identity → List ℕ → List ℕ → Type 0) (found : FoundSound g) : Type 0 where
+  pub shown : ShowsSound (tables_of found)
+  pub stand : (records : Records) (columns : Columns) → AreBoth (tables_of found) records columns
+      → (register : Held (FileStore D g)) (identity : Identity) → OpensSame found register identity
+      → CrlsSigned (signed_by signs identity) records → Stands over_files signs register identity records

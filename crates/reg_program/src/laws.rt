@@ -1,17 +1,18 @@
 //! A function that does nothing when it runs: its contract is a law, and the check proves it.
 
-ghost use Rattle.reg_program.specs.Audited.{StandsOnceAudited};
+ghost use Rattle.reg_program.specs.Audited.{FoundSound, StandsOnceAudited};
 
 use reg_crl::Signer;
 use sqlite_disk::Disk;
 
 /// The register in a file that an audit found sound stands.
 ///
-/// Where [`Place::audit`](crate::Place::audit) of the machine's files answered `Sound`, and the file is opened afterwards with
-/// these tables, the records that they show are those that an office needs: sound, and with what is kept beside them as it
-/// follows from them. So over such a file, the clauses of [`reg_office::Office`] and its laws rest on no premise about the
-/// tables' rows but that they are some records at all. They rest on the signatures of the stored CRLs, which an audit
-/// does not verify, and on a disk that returned to the audit what was written.
+/// Where [`Place::audit`](crate::Place::audit) of the machine's files answered `Sound`, there are records that the file's tables
+/// show, sound and with what is kept beside them as it follows from them; and in an office that opens the file afterwards with
+/// these tables they stand, so that the clauses of [`reg_office::Office`] and its laws hold of them. Nothing more is asked of the
+/// rows than what no audit can find: that each of `listed` has its last column (`IsPresumed`). The law rests besides on the
+/// signatures of the stored CRLs, which an audit does not verify, on a disk that returned to the audit what was written, and on
+/// what the crate `sqlite` keeps of a connection and does not say.
 pub fn a_register_that_was_found_sound_stands<D: Disk, S: Signer>()
-    ensures { StandsOnceAudited D.Disk S.signs }
+    ensures { (found : FoundSound D.Disk) → StandsOnceAudited S.signs found }
 {}
