@@ -5,3 +5,4 @@ pub mod Said
 pub mod Shown
 pub mod Cells
 pub mod Complete
+pub mod Numbers

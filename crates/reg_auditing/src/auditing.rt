@@ -11,6 +11,7 @@ ghost use Rattle.reg_tables.specs.Kept.{Kept};
 ghost use Rattle.reg_tables.specs.Shows.{Holds, ShowsBoth};
 ghost use Rattle.reg_tables.specs.Stays.{IsRegister, LeavesNothing, Stays};
 ghost use Rattle.reg_auditing.specs.Complete.{AreTables, ShowsSound};
+ghost use Rattle.reg_auditing.specs.Numbers.{AreNumbersOf};
 ghost use Rattle.reg_auditing.specs.Stored.{IsSomeCrl};
 ghost use Rattle.reg_auditing.specs.Stops.{IsDenied};
 
@@ -24,7 +25,7 @@ use crate::watch::{Unwatched, Watch};
 use sqlite::{Alter, Connection};
 use std::alloc::Global;
 
-/// How many rows an audit found well.
+/// How many rows an audit found well: those of certificates, of revocations and of CRLs.
 #[derive(Clone, Copy, Debug, PartialEq, Eq)]
 pub struct Audited {
     pub certificates: usize,
@@ -53,7 +54,8 @@ const WHOLE: [What; 10] = [
 ///
 /// Each value in a row is read as the number, moment, serial number, label or letter that it is, or as none where the
 /// register's type has no such value. Whatever records the tables show, where all is found well these are sound, each CRL's
-/// bytes are those of what it lists, and what is kept beside the records follows from them; where a row is told as broken, the
+/// bytes are those of what it lists, and what is kept beside the records follows from them, and so many are told as there are
+/// (`AreNumbersOf`); where a row is told as broken, the
 /// records are not sound, or what is kept does not follow, or they have a value that no register's records have
 /// (`HasValues`), or, where it is told for its bytes, some CRL's bytes are others than those of what it lists (`Denies`). It
 /// changes nothing of the tables of a register, and commits nothing. The watch is told how far it is.
@@ -74,6 +76,8 @@ pub fn audit<S: Alter, W: Watch>(
     ensures sound { (records : Records) → (columns : Columns) → ShowsBoth S.Store conn.old records columns → HasCleanDisk (state S.Store conn.new)
         → IfOk result (λ _. Sound IsSomeCrl records × Kept columns records) }
     ensures shown { (db : Database) → Holds S.Store conn.old (λ now. now ≡ db) → AreTables db → HasCleanDisk (state S.Store conn.new) → IfOk result (λ _. ShowsSound db) }
+    ensures counted { (records : Records) → (columns : Columns) → ShowsBoth S.Store conn.old records columns → HasCleanDisk (state S.Store conn.new)
+        → IfOk result (AreNumbersOf records) }
     ensures broken { (records : Records) → (columns : Columns) → ShowsBoth S.Store conn.old records columns → HasCleanDisk (state S.Store conn.new)
         → IfErr result (λ stop. IsDenied stop records columns) }
     ensures same { IsRegister (state S.Store conn.old) → Stays (state S.Store conn.old) (state S.Store conn.new) }

@@ -6,6 +6,7 @@ ghost use Rattle.reg_core.specs.Records.{Records};
 ghost use Rattle.reg_core.specs.Sound.{SoundRows};
 ghost use Rattle.reg_tables.specs.Columns.{Columns};
 ghost use Rattle.reg_tables.specs.Kept.{Kept};
+ghost use Rattle.reg_auditing.specs.Numbers.{AreNumbersOf};
 ghost use Rattle.reg_auditing.specs.Said.{IsReadOf, IsReadFrom, AreRead, AreReadFrom, whole};
 ghost use Rattle.reg_auditing.specs.Stops.{IsBroken};
 ghost use Rattle.reg_auditing.specs.Values.{HasValues};
@@ -37,6 +38,7 @@ pub(crate) fn rows_at(all: &[Vec<Row>], place: usize) -> &[Row]
 /// Whether the rows are those of a register, in the order of [`crate::auditing::WHOLE`].
 pub(crate) fn judge(alloc: Global, all: &[Vec<Row>]) -> Result<Audited, AuditStop>
     ensures sound { (records : Records) → (columns : Columns) → AreRead records columns whole all.now (λ rows. rows.items) → IfOk result (λ _. SoundRows records × Kept columns records) }
+    ensures counted { (records : Records) → (columns : Columns) → AreRead records columns whole all.now (λ rows. rows.items) → IfOk result (AreNumbersOf records) }
     ensures broken { (records : Records) → (columns : Columns) → AreRead records columns whole all.now (λ rows. rows.items)
         → IfErr result (λ stop. IsBroken stop → ¬ (HasValues records × SoundRows records × Kept columns records)) }
 {

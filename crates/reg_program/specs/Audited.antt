@@ -14,7 +14,7 @@ use Rattle.reg_tables.specs.Columns.{Columns}
 use Rattle.reg_tables.specs.Shows.{AreBoth}
 use Rattle.reg_auditing.specs.Complete.{ShowsSound}
 use Rattle.reg_verdict.specs.Presumed.{IsPresumed}
-use Rattle.reg_verdict.specs.Verdicts.{IsSound}
+use Rattle.reg_verdict.specs.Verdicts.{CountedBy, IsSound}
 use Rattle.reg_verdict.specs.declared.judging.Verdict.{Verdict}
 use Rattle.reg_program.specs.Files.{IsAudited, IsOpenedFrom}
 use Rattle.reg_program.specs.Signing.{Signing}
@@ -38,11 +38,12 @@ pub record OpensSame {D : Type 0} {g : disk.Ghosts D} (found : FoundSound g) (re
   pub opened : IsOpenedFrom signing register identity
   pub same : (file_state opened.connection).now ≡ tables_of found
 
--- There are records that the audited tables show: they are sound, and what is kept beside them follows from
--- them. And whatever records the tables show, they stand in each register that is opened over these tables, where each stored CRL
+-- There are records that the audited tables show: they are sound, what is kept beside them follows from them, and they are as many as
+-- was told. And whatever records the tables show, they stand in each register that is opened over these tables, where each stored CRL
 -- has the signature of who signs there: that an audit does not tell.
 pub record StandsOnceAudited {D : Type 0} {g : disk.Ghosts D} (signs : Identity → List ℕ → List ℕ → Type 0) (found : FoundSound g) : Type 0 where
   pub shown : ShowsSound (tables_of found)
+  pub counted : CountedBy found.verdict shown.records
   pub stand : (records : Records) (columns : Columns) → AreBoth (tables_of found) records columns
       → (register : Held (FileStore D g)) (identity : Identity) → OpensSame found register identity
       → CrlsSigned (signed_by signs identity) records → Stands over_files signs register identity records

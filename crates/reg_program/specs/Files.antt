@@ -19,7 +19,7 @@ use Rattle.reg_tables.specs.Stays.{IsRegister, Stays}
 use Rattle.reg_auditing.specs.Complete.{ShowsSound}
 use Rattle.reg_auditing.specs.Stored.{IsSomeCrl}
 use Rattle.reg_verdict.specs.Presumed.{IsPresumed}
-use Rattle.reg_verdict.specs.Verdicts.{DeniedBy, IsSound}
+use Rattle.reg_verdict.specs.Verdicts.{CountedBy, DeniedBy, IsSound}
 use Rattle.reg_verdict.specs.declared.judging.Verdict.{Verdict}
 use Rattle.reg_crl.specs.Signing.{Identity}
 use Rattle.reg_program.specs.Signing.{Follows, IsSigning, Signing}
@@ -57,7 +57,7 @@ module _ {D : Type 0} {g : disk.Ghosts D} where
 
 -- A database was audited by a connection, and its tables are as they were. Where all was said to be sound, they are a register's,
 -- whatever records they showed are sound, each CRL's bytes are those of what it lists, whatever its signature, and what is kept beside the
--- records follows from them; and there are such records, where what is presumed of the connection
+-- records follows from them, and they are as many as was told; and there are such records, where what is presumed of the connection
 -- holds. Where a row was told, they showed no such records whose values are a register's; and where it was not told
 -- for the bytes of a CRL, none whatever the bytes of CRLs are.
 pub record IsAudited {D : Type 0} (g : disk.Ghosts D) (verdict : Verdict) : Type 0 where
@@ -67,6 +67,8 @@ pub record IsAudited {D : Type 0} (g : disk.Ghosts D) (verdict : Verdict) : Type
   pub sound : (records : Records) (columns : Columns) → ShowsBoth over_files connection records columns → HasCleanDisk (file_state after)
       → IsSound verdict → Sound IsSomeCrl records × Kept columns records
   pub shown : IsPresumed over_files connection → HasCleanDisk (file_state after) → IsSound verdict → ShowsSound (file_state connection).now
+  pub counted : (records : Records) (columns : Columns) → ShowsBoth over_files connection records columns → HasCleanDisk (file_state after)
+      → CountedBy verdict records
   pub broken : (records : Records) (columns : Columns) → ShowsBoth over_files connection records columns → HasCleanDisk (file_state after)
       → DeniedBy verdict records columns
   pub register : IsSound verdict → IsRegister (file_state after)

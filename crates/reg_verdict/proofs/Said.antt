@@ -10,8 +10,9 @@ use Rattle.reg_tables.specs.declared.fault.StoreFault.{StoreFault}
 use Rattle.reg_auditing.specs.declared.auditing.Audited.{Audited}
 use Rattle.reg_auditing.specs.declared.stop.AuditStop.{AuditStop}
 use Rattle.reg_auditing.specs.declared.stop.AuditStop.TheVariants as stop
+use Rattle.reg_auditing.specs.Numbers.{AreNumbersOf}
 use Rattle.reg_auditing.specs.Stops.{IsDenied}
-use Rattle.reg_verdict.specs.Verdicts.{DeniedBy, IsSound, verdict_of}
+use Rattle.reg_verdict.specs.Verdicts.{CountedBy, DeniedBy, IsSound, verdict_of}
 use Rattle.reg_verdict.specs.declared.judging.Verdict.{Verdict}
 
 module _ (P : Type 0) where
@@ -41,6 +42,17 @@ module _ (records : Records) (columns : Columns) where
   -- what a row that was found denies, it denies where it is told
   pub denied_said : (audited : Result Audited AuditStop) (result : Result Verdict StoreFault) → result ≡ verdict_of audited → IfErr audited (λ reason. IsDenied reason records columns) → IfOk result (λ verdict. DeniedBy verdict records columns)
   denied_said audited result is denied = subst (λ (r : Result Verdict StoreFault). IfOk r (λ verdict. DeniedBy verdict records columns)) (sym is) (well_denied audited denied)
+
+well_counted : (records : Records) (audited : Result Audited AuditStop) → IfOk audited (AreNumbersOf records) → IfOk (verdict_of audited) (λ verdict. CountedBy verdict records)
+well_counted records (Ok found) counted = counted
+well_counted records (Err (stop.Broken broken)) counted = tt
+well_counted records (Err stop.Memory) counted = tt
+well_counted records (Err stop.Store) counted = tt
+
+-- the numbers that were found are told
+pub counted_said : (records : Records) (audited : Result Audited AuditStop) (result : Result Verdict StoreFault) → result ≡ verdict_of audited → IfOk audited (AreNumbersOf records)
+    → IfOk result (λ verdict. CountedBy verdict records)
+counted_said records audited result is counted = subst (λ (r : Result Verdict StoreFault). IfOk r (λ verdict. CountedBy verdict records)) (sym is) (well_counted records audited counted)
 
 -- a schema that is a register's, where all is committed
 pub register_by : (s : State) → s.now.schema ≡ register_schema → (IsTrue s.is_open → s.now ≡ s.committed) → IsRegister s

@@ -5,6 +5,7 @@ use Rattle.reg_tables.specs.Columns.{Columns}
 use Rattle.reg_tables.specs.declared.fault.StoreFault.{StoreFault}
 use Rattle.reg_tables.specs.declared.fault.StoreFault.TheVariants as fault
 use Rattle.reg_auditing.specs.declared.auditing.Audited.{Audited}
+use Rattle.reg_auditing.specs.Numbers.{AreNumbersOf}
 use Rattle.reg_auditing.specs.Stops.{Denies}
 use Rattle.reg_auditing.specs.declared.stop.AuditStop.{AuditStop}
 use Rattle.reg_auditing.specs.declared.stop.AuditStop.TheVariants as stop
@@ -22,6 +23,11 @@ verdict_of (Err stop.Store) = Err fault.Store
 abbrev pub IsSound : Verdict → Type 0
 IsSound (Sound found) = Unit {0}
 IsSound _ = ⊥
+
+-- where all is said to be sound, as many certificates, revocations and CRLs are told as the records have
+abbrev pub CountedBy : Verdict → Records → Type 0
+CountedBy (Sound found) records = AreNumbersOf records found
+CountedBy _ records = Unit {0}
 
 -- what a row that was told denies of records that the tables show, and of what is kept beside them
 abbrev pub DeniedBy : Verdict → Records → Columns → Type 0

@@ -12,7 +12,7 @@ ghost use Rattle.reg_tables.specs.Stays.{IsRegister, Stays};
 ghost use Rattle.reg_auditing.specs.Complete.{ShowsSound};
 ghost use Rattle.reg_auditing.specs.Stored.{IsSomeCrl};
 ghost use Rattle.reg_verdict.specs.Presumed.{IsOverRegister, IsPresumed};
-ghost use Rattle.reg_verdict.specs.Verdicts.{DeniedBy, IsSound, verdict_of};
+ghost use Rattle.reg_verdict.specs.Verdicts.{CountedBy, DeniedBy, IsSound, verdict_of};
 
 use reg_audit::Broken;
 use reg_auditing::{AuditStop, Audited, Watch, audit};
@@ -64,8 +64,8 @@ fn is_over_register<S: Alter>(conn: &Connection<S>) -> bool
 /// transaction, as one that was just opened.
 ///
 /// Where the answer is `Sound`, the schema is a register's, whatever records the tables show are sound, each CRL's bytes are
-/// those of what it lists, whatever its signature, and what is kept beside the records follows from them; and there are such
-/// records, where the connection was open and what is presumed of it holds (`IsPresumed`). Where it is
+/// those of what it lists, whatever its signature, what is kept beside the records follows from them, and they are as many as is
+/// told; and there are such records, where the connection was open and what is presumed of it holds (`IsPresumed`). Where it is
 /// `Broken`, the tables show no such records, with what follows from them kept beside them, whose names, validities and
 /// reasonCodes are a register's; and, but for the bytes of a CRL, none whatever the bytes of CRLs are (`Denies`). The watch is
 /// told how far it is.
@@ -82,6 +82,8 @@ pub fn judge<S: Alter, W: Watch>(
         → IfOk result (λ verdict. IsSound verdict → Sound IsSomeCrl records × Kept columns records) }
     ensures shown { (HasCleanDisk (state S.Store conn.old) → IsTrue (state S.Store conn.old).is_open) → IsPresumed S.Store conn.old → HasCleanDisk (state S.Store conn.new)
         → IfOk result (λ verdict. IsSound verdict → ShowsSound (state S.Store conn.old).now) }
+    ensures counted { (records : Records) → (columns : Columns) → ShowsBoth S.Store conn.old records columns → HasCleanDisk (state S.Store conn.new)
+        → IfOk result (λ verdict. CountedBy verdict records) }
     ensures broken { (records : Records) → (columns : Columns) → ShowsBoth S.Store conn.old records columns → HasCleanDisk (state S.Store conn.new)
         → IfOk result (λ verdict. DeniedBy verdict records columns) }
     ensures register { IfOk result (λ verdict. IsSound verdict → IsRegister (state S.Store conn.new)) }

@@ -41,6 +41,13 @@ returns-clause-shown g c db these are clean =
     let both = returns-clause-sound g c some.records some.columns (holds_both g.S.Store old db some.records some.columns these some.both) clean in
     record { records = some.records; columns = some.columns; both = some.both; sound = both.0; kept = both.1 }
 
+pub returns-clause-counted : goal.returns-clause-counted
+returns-clause-counted g c records columns shows clean =
+    let then_clean : HasCleanDisk (state g.S.Store c.check_crls.new.conn) = omega (arith, c.read_each-2.ensures.survives.clean) in
+    let was_clean : HasCleanDisk (state g.S.Store c.read_each.new.conn) = omega (arith, c.check_crls.ensures.survives.clean) in
+    let are = c.in_ok-all.ensures.found records columns shows was_clean in
+    c.in_ok-audited.ensures.counted records columns (subst (λ all. AreRead records columns whole all (λ rows. rows.items)) (sym c.deref.ensures.value) are)
+
 pub returns-clause-same : goal.returns-clause-same
 returns-clause-same g c register =
     let first = state g.S.Store c.args.conn.now in

@@ -1,4 +1,6 @@
-use Rattle.std.proofs.Common.{map, ap, ◌∙◌, arith, rules}
+use Rattle.std.proofs.Common.{map, length, sym, ap, ◌∙◌, arith, rules}
+use Rattle.std.proofs.lemmas.List.{length-map}
+use Rattle.reg_core.specs.Crls.{row_of}
 use Rattle.reg_core.specs.Sound.{SoundRows}
 use Rattle.reg_tables.specs.Kept.{Kept}
 use Rattle.reg_audit.specs.Stops as found
@@ -42,6 +44,17 @@ returns-clause-sound c records columns are =
       counts = counts;
       listed = ap (map listed_in) c.deref-8.ensures.value ∙ listed;
     })
+
+pub returns-clause-counted : goal.returns-clause-counted
+returns-clause-counted c records columns are =
+    let certificates = c.in_ok-certificates.ensures.read records columns (c.rows_at-4.ensures.read records columns whole Office are (omega arith)) in
+    let revocations = c.in_ok-revocations.ensures.read records columns (c.rows_at-6.ensures.read records columns whole Office are (omega arith)) in
+    let crls = c.in_ok-crls.ensures.read records columns (c.rows_at-7.ensures.read records columns whole Office are (omega arith)) in
+    record {
+      certificates = c.len.ensures ∙ sym c.deref-3.ensures.len ∙ ap length (c.deref-3.ensures.value ∙ certificates);
+      revoked = c.len-2.ensures ∙ sym c.deref-5.ensures.len ∙ ap length (c.deref-5.ensures.value ∙ revocations);
+      crls = c.len-3.ensures ∙ sym c.deref-6.ensures.len ∙ ap length (c.deref-6.ensures.value ∙ crls) ∙ length-map records.crls row_of;
+    }
 
 pub returns-in_err-office-clause-broken : goal.returns-in_err-office-clause-broken
 returns-in_err-office-clause-broken c records columns are =

@@ -10,6 +10,7 @@ returns-in-Ok-clause-ok c =
       connects = record { fresh = found.fresh; whole = found.opened };
       sound = c.in-Ok.ensures.sound;
       shown = c.in-Ok.ensures.shown (λ clean. (found.opened clean).0.is_open);
+      counted = c.in-Ok.ensures.counted;
       broken = c.in-Ok.ensures.broken;
       register = c.in-Ok.ensures.register;
       stays = c.judge-told.ensures.same;

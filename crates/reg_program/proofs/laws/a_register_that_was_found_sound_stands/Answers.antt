@@ -1,16 +1,28 @@
 -- The tables that are opened show what those that were audited show, and what an audit found of these is all that is asked.
 use Rattle.std.proofs.Common.{sym, subst}
-use Rattle.reg_tables.specs.Shows.{AreBoth}
+use Rattle.sqlite.specs.Files.{over_files}
+use Rattle.sqlite_disk.specs.declared.Disk as disk
+use Rattle.reg_core.specs.Records.{Records}
+use Rattle.reg_tables.specs.Columns.{Columns}
+use Rattle.reg_tables.specs.Shows.{AreBoth, ShowsBoth}
+use Rattle.reg_program.specs.Audited.{FoundSound, tables_of}
 use Rattle.reg_program.proofs.laws.a_register_that_was_found_sound_stands.Goals as goal
+
+-- what the tables show, the connection that audited them shows
+by_connection : {D : Type 0} {g : disk.Ghosts D} (found : FoundSound g) (records : Records) (columns : Columns) → AreBoth (tables_of found) records columns
+    → ShowsBoth over_files found.audited.connection records columns
+by_connection found records columns shown = record { saved = λ clean up. (found.audited.connects.whole clean).0.clean; tables = λ clean up. shown }
 
 pub returns : goal.returns
 returns g c = λ found.
     let audited = found.audited in
+    let some = audited.shown found.presumed found.clean found.sound in
     record {
-      shown = audited.shown found.presumed found.clean found.sound;
+      shown = some;
+      counted = audited.counted some.records some.columns (by_connection found some.records some.columns some.both) found.clean;
       stand = λ records columns shown register identity opens signed.
           let opened = opens.opened in
-          let it = audited.sound records columns (record { saved = λ clean up. (audited.connects.whole clean).0.clean; tables = λ clean up. shown }) found.clean found.sound in
+          let it = audited.sound records columns (by_connection found records columns shown) found.clean found.sound in
           let there = subst (λ db. AreBoth db records columns) (sym opens.same) shown in
           record {
             shown = opened.kept records (columns, record { saved = λ clean up. (opened.connects.whole clean).0.clean; tables = λ clean up. there }, it.1);

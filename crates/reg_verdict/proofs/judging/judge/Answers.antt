@@ -4,7 +4,7 @@ use Rattle.sqlite.specs.State.{HasCleanDisk}
 use Rattle.reg_tables.proofs.Staying.{stays_both, stays_holds, stays_register, stays_then}
 use Rattle.reg_auditing.specs.Complete.{ShowsSound}
 use Rattle.reg_verdict.proofs.Ordered.{tables_are}
-use Rattle.reg_verdict.proofs.Said.{always_said, denied_said, register_by, sound_said}
+use Rattle.reg_verdict.proofs.Said.{always_said, counted_said, denied_said, register_by, sound_said}
 use Rattle.reg_verdict.proofs.judging.judge.Goals as goal
 
 pub returns-then-not-is_register-clause-sound : goal.returns-then-not-is_register-clause-sound
@@ -32,6 +32,11 @@ returns-clause-shown g c up presumed clean =
     let there = stays_holds g.S.Store old c.examine.new.conn (λ now. now ≡ db) c.examine.ensures.survives.clean c.examine.ensures.same
     (record { saved = λ was still. is.saved still; tables = λ was still. refl }) in
     sound_said (ShowsSound db) c.audit.result c.said.result c.said.ensures.is (c.audit.ensures.shown db there tables clean)
+
+pub returns-clause-counted : goal.returns-clause-counted
+returns-clause-counted g c records columns shows clean =
+    let shown = stays_both g.S.Store c.args.conn.now c.examine.new.conn records columns c.examine.ensures.survives.clean c.examine.ensures.same shows in
+    counted_said records c.audit.result c.said.result c.said.ensures.is (c.audit.ensures.counted records columns shown clean)
 
 pub returns-clause-broken : goal.returns-clause-broken
 returns-clause-broken g c records columns shows clean =
