@@ -27,7 +27,7 @@ returns-clause-shown g c up presumed clean =
     let db = (state g.S.Store old).now in
     let mid_clean : HasCleanDisk (state g.S.Store c.examine.new.conn) = omega (arith, c.audit.ensures.survives.clean) in
     let old_clean : HasCleanDisk (state g.S.Store old) = omega (arith, c.examine.ensures.survives.clean) in
-    let is = c.is_over_register.ensures c.if-not-is_register.false in
+    let is = c.is_over_register-is_register.ensures c.if-not-is_register.false in
     let tables = tables_are g.S.Store old (g.met.S.Store.ordered old.store) (g.met.S.Alter.listed old.store) is presumed (up old_clean) in
     let there = stays_holds g.S.Store old c.examine.new.conn (λ now. now ≡ db) c.examine.ensures.survives.clean c.examine.ensures.same
     (record { saved = λ was still. is.saved still; tables = λ was still. refl }) in
@@ -47,7 +47,7 @@ pub returns-clause-register : goal.returns-clause-register
 returns-clause-register g c =
     let old = state g.S.Store c.args.conn.now in
     let mid = state g.S.Store c.examine.new.conn in
-    let is = c.is_over_register.ensures c.if-not-is_register.false in
+    let is = c.is_over_register-is_register.ensures c.if-not-is_register.false in
     let register = stays_register old mid c.examine.ensures.survives.clean c.examine.ensures.same (register_by old is.schema is.saved) in
     always_said _ c.said.result (stays_register mid (state g.S.Store c.audit.new.conn) c.audit.ensures.survives.clean (c.audit.ensures.same register) register)
 
@@ -55,6 +55,6 @@ pub returns-clause-same : goal.returns-clause-same
 returns-clause-same g c =
     let old = state g.S.Store c.args.conn.now in
     let mid = state g.S.Store c.examine.new.conn in
-    let is = c.is_over_register.ensures c.if-not-is_register.false in
+    let is = c.is_over_register-is_register.ensures c.if-not-is_register.false in
     let register = stays_register old mid c.examine.ensures.survives.clean c.examine.ensures.same (register_by old is.schema is.saved) in
     stays_then old mid (state g.S.Store c.audit.new.conn) c.audit.ensures.survives.clean c.examine.ensures.same (c.audit.ensures.same register)
