@@ -9,7 +9,7 @@ use reg_auditing::{Audited, Unwatched};
 use reg_core::{Command, Fault, Moment, Outcome, Policy, Query, Schedule};
 use reg_crl::DigestSeal;
 use reg_der::Issuer;
-use reg_faces::{Desk, import, serve_one};
+use reg_faces::{import, serve_one};
 use reg_office::Office;
 use reg_store::Store;
 use reg_verdict::{Verdict, judge};
@@ -19,7 +19,8 @@ use std::alloc::Global;
 /// An office over a register in memory, behind its faces.
 #[derive(Drop)]
 pub struct InMemory {
-    desk: Desk<Office<MemStore, DigestSeal>>,
+    office: Office<MemStore, DigestSeal>,
+    alloc: Global,
     /// How many certificates the imports registered, by their replies.
     imported: u64,
 }
@@ -34,7 +35,8 @@ impl InMemory {
         let store = Store::create(connection, issuer, policy).ok()?;
         let office = Office::new(store, DigestSeal);
         Some(InMemory {
-            desk: Desk { office, alloc },
+            office,
+            alloc,
             imported: 0,
         })
     }
@@ -42,16 +44,20 @@ impl InMemory {
     /// Whether an audit says that the register is sound, and has as many certificates, revocations and CRLs as the plain
     /// lists: those of the days that came to this tally.
     pub fn is_sound(self, tally: &Tally) -> bool {
-        let InMemory { desk, imported } = self;
+        let InMemory {
+            office,
+            alloc,
+            imported,
+        } = self;
         let [_, _, registered, _, _, _, revoked, revoked_late, ..] = tally.replies;
         let due = Audited {
             certificates: registered.saturating_add(imported) as usize,
             revoked: revoked.saturating_add(revoked_late) as usize,
             crls: tally.crls as usize,
         };
-        let (store, _) = desk.office.into_parts();
+        let (store, _) = office.into_parts();
         let mut connection = store.into_connection();
-        judge(desk.alloc, &mut connection, &mut Unwatched).ok() == Some(Verdict::Sound(due))
+        judge(alloc, &mut connection, &mut Unwatched).ok() == Some(Verdict::Sound(due))
     }
 }
 
@@ -80,55 +86,55 @@ fn registered(lines: &[u8]) -> u64 {
 
 impl Tested for &mut InMemory {
     fn run_one(&mut self, now: Moment, command: &Command) -> Outcome {
-        let alloc = self.desk.alloc;
-        self.desk.office.run_one(alloc, now, command)
+        let alloc = self.alloc;
+        self.office.run_one(alloc, now, command)
     }
 
     fn run(&mut self, commands: &[(Moment, Command)], outcomes: &mut Vec<Outcome>) -> bool {
-        let alloc = self.desk.alloc;
-        self.desk.office.run(alloc, commands, outcomes).is_ok()
+        let alloc = self.alloc;
+        self.office.run(alloc, commands, outcomes).is_ok()
     }
 
     fn ask(&mut self, now: Moment, query: &Query) -> Outcome {
-        let alloc = self.desk.alloc;
-        self.desk.office.ask(alloc, now, query)
+        let alloc = self.alloc;
+        self.office.ask(alloc, now, query)
     }
 
     fn crl(&mut self, number: Option<u64>) -> Vec<u8> {
-        let alloc = self.desk.alloc;
-        match self.desk.office.crl_bytes(alloc, number) {
+        let alloc = self.alloc;
+        match self.office.crl_bytes(alloc, number) {
             Ok(bytes) => bytes,
             Err(fault) => Text::new(alloc).outcome(&Err(fault)).bytes,
         }
     }
 
     fn ocsp(&mut self, now: Moment, request: &[u8]) -> Vec<u8> {
-        let alloc = self.desk.alloc;
-        match self.desk.office.ocsp(alloc, now, request) {
+        let alloc = self.alloc;
+        match self.office.ocsp(alloc, now, request) {
             Ok(bytes) => bytes,
             Err(_) => Text::new(alloc).outcome(&Err(Fault::Memory)).bytes,
         }
     }
 
     fn import(&mut self, now: Moment, text: &[u8]) -> Vec<u8> {
-        let alloc = self.desk.alloc;
+        let alloc = self.alloc;
         let (mut reader, mut bytes) = (text, Vec::new(alloc));
-        let ended = import(alloc, &mut reader, &mut bytes, now, &mut self.desk);
+        let ended = import(alloc, &mut reader, &mut bytes, now, &mut self.office);
         self.imported = self.imported.saturating_add(registered(&bytes));
         written(alloc, ended, bytes)
     }
 
     fn serve(&mut self, now: Moment, request: &[u8]) -> Vec<u8> {
-        let alloc = self.desk.alloc;
+        let alloc = self.alloc;
         let (mut reader, mut bytes) = (request, Vec::new(alloc));
-        let ended = serve_one(alloc, &mut reader, &mut bytes, now, &mut self.desk);
+        let ended = serve_one(alloc, &mut reader, &mut bytes, now, &mut self.office);
         written(alloc, ended, bytes)
     }
 
     fn set_schedule(&mut self, steps: &[(u64, u64)]) -> bool {
-        let alloc = self.desk.alloc;
+        let alloc = self.alloc;
         match schedule_of(alloc, steps) {
-            Some(schedule) => self.desk.office.set_schedule(alloc, schedule).is_ok(),
+            Some(schedule) => self.office.set_schedule(alloc, schedule).is_ok(),
             None => false,
         }
     }

@@ -126,7 +126,7 @@ fn answer(alloc: Global, request: &[u8], status: Status) -> Result<Vec<u8>, Fail
 }
 
 /// The ResponseData of an issuer that answers the request at a moment, up to another.
-#[tactic(auto, using(reg_ocsp::proofs::Answering::answered_sum, reg_ocsp::proofs::Answering::answered_count))]
+#[tactic(auto, using(reg_ocsp::proofs::Answering::answers_fit))]
 fn answer_from(
     alloc: Global,
     issuer: &Issuer,

@@ -56,7 +56,7 @@ fn status_of(issuer: &Issuer, id: &CertId<'_>) -> Status {
 }
 
 /// The whole response.
-#[tactic(auto, using(reg_ocsp::proofs::Answering::answered_sum, reg_ocsp::proofs::Answering::answered_count))]
+#[tactic(auto, using(reg_ocsp::proofs::Answering::answers_fit))]
 fn response(alloc: Global, issuer: &Issuer, asked: &Asked<'_>) -> anyhow::Result<Vec<u8>>
     requires { CanBeAnswered (ids_seen asked.now.ids.items) (option_copied asked.now.nonce) }
 {

@@ -6,16 +6,16 @@ use Rattle.reg_crl.specs.Signing.{IsAlgorithm}
 use Rattle.reg_der.specs.Der.{tlv}
 use Rattle.reg_der.specs.Reading.{value_at}
 use Rattle.reg_der.specs.Values.{bits_value}
-use Rattle.reg_der.proofs.Values.{length-tlv_at_least, length-tlv_at_most, value_again}
+use Rattle.reg_der.proofs.PublicLaws.{value_again, value_size}
 use Rattle.reg_audit.specs.Crls.{IsCrlOf, signature_at}
 
 signature_again : (tbs algorithm signature : List ℕ) → length (tlv 48 tbs) ≤ 2 ^ 27 → length (tlv 48 algorithm) ≤ 1024 → length signature ≤ 65536 → signature_at (certificate_list (tlv 48 tbs) (tlv 48 algorithm) signature) ≡ Some signature
 unfolding certificate_list
 signature_again tbs algorithm signature short_tbs short_algorithm short_signature =
     let list = tlv 48 tbs ++ tlv 48 algorithm ++ bits_value signature in
-    let at_tbs = length-tlv_at_least 48 tbs in
-    let at_algorithm = length-tlv_at_least 48 algorithm in
-    let at_bits = length-tlv_at_most 3 (0 ∷ signature) in
+    let at_tbs = (value_size 48 tbs).least in
+    let at_algorithm = (value_size 48 algorithm).least in
+    let at_bits = (value_size 3 (0 ∷ signature)).most in
     let size : length list ≡ length (tlv 48 tbs) + length (tlv 48 algorithm) + length (bits_value signature) = rw (length-append, length-append) refl in
     let one : value_at (tlv 48 list) ≡ Some (record { tag = 48; contents = list }, []) = ap value_at (sym (append-nil (tlv 48 list))) ∙ value_again 48 list [] (omega arith) (omega arith) in
     let two : value_at list ≡ Some (record { tag = 48; contents = tbs }, tlv 48 algorithm ++ bits_value signature) = ap value_at (append_assoc (tlv 48 tbs) (tlv 48 algorithm) (bits_value signature)) ∙ value_again 48 tbs (tlv 48 algorithm ++ bits_value signature) (omega arith) (omega arith) in

@@ -1,10 +1,10 @@
 -- Where the rows of each table are those of records, the tables show these.
-use Rattle.std.proofs.Common.{◌≡◌, sym, subst}
+use Rattle.std.proofs.Common.{◌≡◌, sym, subst, ap}
 use Rattle.sqlite_trees.specs.declared.store.Store.{Ghosts}
 use Rattle.sqlite.specs.Effect.{Database}
 use Rattle.sqlite.specs.Held.{Held}
 use Rattle.reg_core.specs.Records.{Records}
-use Rattle.reg_tables.specs.Columns.{Columns}
+use Rattle.reg_tables.specs.Columns.{Columns, office_days}
 use Rattle.reg_tables.specs.Shows.{AreBoth, Holds, ShowsBoth}
 use Rattle.reg_auditing.specs.Complete.{AreTables, AreCounts, AreOffice, ShowSome, HoldSubscribers, HoldOrders, HoldCertificates, HoldRequests, HoldRevocations, HoldCrls, HoldLetters, HoldListings}
 use Rattle.reg_auditing.specs.Stops.{IsBroken, IsDenied}
@@ -25,7 +25,7 @@ some_shown db are office subscribers orders certificates requests revocations cr
     revocations = revocations.these;
     crls = crls.these;
   };
-  columns = record { letters = letters.these; counts = counts.counts; listed = listings.these };
+  columns = record { letters = letters.these; counts = counts.counts; listed = listings.these; days = office.days };
   both = record {
     shown = record {
       schema = are.schema;
@@ -49,7 +49,14 @@ some_shown db are office subscribers orders certificates requests revocations cr
         revocation_serials = revocations.each;
       };
     };
-    kept = record { letters = letters.are; counts = counts.are; listed = listings.are; letter_serials = letters.each; listed_serials = listings.each };
+    kept = record {
+      letters = letters.are;
+      counts = counts.are;
+      listed = listings.are;
+      days = ap office_days office.office;
+      letter_serials = letters.each;
+      listed_serials = listings.each;
+    };
   };
 }
 

@@ -8,9 +8,9 @@ use Rattle.reg_tables.specs.Rows.{number, serial_value}
 use Rattle.reg_audit.specs.Beside.{letter_in}
 use Rattle.reg_audit.specs.declared.beside.Standing.{Standing}
 use Rattle.reg_audit.specs.declared.beside.Listed.{Listed}
-use Rattle.reg_auditing.specs.declared.typed.Office.{Office}
+use Rattle.reg_auditing.specs.declared.typed.OfficeRow.{OfficeRow}
 
-abbrev pub shown_office : Office → Row
+abbrev pub shown_office : OfficeRow → Row
 shown_office office = number office.cap ∷ number office.last ∷ []
 
 abbrev pub shown_standing : Standing → Row

@@ -8,20 +8,17 @@ use Rattle.reg_audit.specs.declared.stop.Stop.TheVariants as found
 use Rattle.reg_audit.specs.declared.stop.Why.TheVariants.{OtherBytes}
 use Rattle.reg_tables.specs.Columns.{Columns}
 use Rattle.reg_tables.specs.Kept.{Kept}
-use Rattle.reg_tables.specs.declared.fault.StoreFault.{StoreFault}
-use Rattle.reg_tables.specs.declared.fault.StoreFault.TheVariants as fault
+use Rattle.reg_tables.specs.declared.fault.CallFault.{CallFault}
+use Rattle.reg_tables.specs.declared.fault.CallFault.TheVariants as fault
 use Rattle.reg_auditing.specs.Stored.{IsSomeCrl}
 use Rattle.reg_auditing.specs.Values.{HasValues}
 use Rattle.reg_auditing.specs.declared.stop.AuditStop.{AuditStop}
 use Rattle.reg_auditing.specs.declared.stop.AuditStop.TheVariants.{Memory, Store, Broken}
 
--- want of memory stays so; all else is a failure of the store
-abbrev pub stop_of : StoreFault → AuditStop
+-- what the fault of a call on the register is to its audit
+abbrev pub stop_of : CallFault → AuditStop
 stop_of fault.Memory = Memory
 stop_of fault.Store = Store
-stop_of fault.NotEmpty = Store
-stop_of fault.NotARegister = Store
-stop_of fault.NewVersion = Store
 
 -- what a check of rows tells
 abbrev pub told : Stop → AuditStop

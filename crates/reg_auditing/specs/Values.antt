@@ -5,20 +5,7 @@ use Rattle.reg_core.specs.Calendar.{IsMoment, clock_end}
 use Rattle.reg_core.specs.Label.{IsLabel}
 use Rattle.reg_core.specs.Records.{Records}
 use Rattle.reg_tables.specs.Columns.{Columns}
-
--- a validity is between moments, through 9999-12-31T23:59:59Z (RFC 5280 4.1.2.5)
-abbrev pub IsValidity : ℕ → ℕ → Type 0
-IsValidity not_before not_after = IsMoment not_before × IsMoment not_after
-
--- a revocation's moment is one that the clock lets pass, and its reasonCode (RFC 5280 5.3.1) one byte
-abbrev pub AreMomentAndReason : ℕ → ℕ → Type 0
-AreMomentAndReason at reason = (at < clock_end) × (reason < 256)
-
--- names are labels, validities are between moments, reasonCodes are one byte; sound records may have others
-pub record HasValues (records : Records) : Type 0 where
-  pub names : AllByRecursion (λ row. IsLabel row.name) records.subscribers
-  pub validities : AllByRecursion (λ row. IsValidity row.not_before row.not_after) records.certificates
-  pub reasons : AllByRecursion (λ row. row.reason < 256) records.revocations
+pub use Rattle.reg_tables.specs.Values.{IsValidity, AreMomentAndReason, HasValues}
 
 -- each value is one that a register's records, or what is kept beside them, can have; this follows where the records have such
 -- values and are sound, and what is kept follows from them

@@ -1,6 +1,6 @@
 //! The audit of an open database.
 
-ghost use Rattle.std.specs.Prelude.{◌≡◌, false, IfOk, IfErr};
+ghost use Rattle.std.specs.Prelude.{◌≡◌, IfOk, IfErr};
 ghost use Rattle.sqlite.specs.Effect.{Database};
 ghost use Rattle.sqlite.specs.Held.{state};
 ghost use Rattle.sqlite.specs.State.{HasCleanDisk};
@@ -9,7 +9,7 @@ ghost use Rattle.reg_core.specs.Sound.{Sound};
 ghost use Rattle.reg_tables.specs.Columns.{Columns};
 ghost use Rattle.reg_tables.specs.Kept.{Kept};
 ghost use Rattle.reg_tables.specs.Shows.{Holds, ShowsBoth};
-ghost use Rattle.reg_tables.specs.Stays.{IsRegister, LeavesNothing, Stays};
+ghost use Rattle.reg_tables.specs.Stays.{Looked};
 ghost use Rattle.reg_auditing.specs.Complete.{AreTables, ShowsSound};
 ghost use Rattle.reg_auditing.specs.Numbers.{AreNumbersOf};
 ghost use Rattle.reg_auditing.specs.Stored.{IsSomeCrl};
@@ -80,9 +80,7 @@ pub fn audit<S: Alter, W: Watch>(
         → IfOk result (AreNumbersOf records) }
     ensures broken { (records : Records) → (columns : Columns) → ShowsBoth S.Store conn.old records columns → HasCleanDisk (state S.Store conn.new)
         → IfErr result (λ stop. IsDenied stop records columns) }
-    ensures same { IsRegister (state S.Store conn.old) → Stays (state S.Store conn.old) (state S.Store conn.new) }
-    ensures survives { LeavesNothing (state S.Store conn.old) (state S.Store conn.new) }
-    ensures idle { conn.old.in_transaction ≡ false → conn.new.in_transaction ≡ false }
+    ensures looked { Looked S.Store conn.old conn.new }
 {
     let all = read_each(alloc, conn, &WHOLE, watch)?;
     let audited = judge(alloc, &all)?;

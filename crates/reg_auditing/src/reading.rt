@@ -1,7 +1,6 @@
 //! The tables read whole.
 
-ghost use Rattle.std.specs.Prelude.{◌≡◌, ◌≤◌, false, [], IfOk, IfErr};
-ghost use Rattle.sqlite.specs.Values.{bound};
+ghost use Rattle.std.specs.Prelude.{◌≡◌, ◌≤◌, [], IfOk};
 ghost use Rattle.sqlite.specs.Effect.{Database};
 ghost use Rattle.sqlite.specs.Held.{state};
 ghost use Rattle.sqlite.specs.State.{HasCleanDisk};
@@ -11,36 +10,30 @@ ghost use Rattle.reg_tables.specs.Columns.{Columns};
 ghost use Rattle.reg_tables.specs.Reading.{Answers, IsReading};
 ghost use Rattle.reg_tables.specs.Schema.{register_schema};
 ghost use Rattle.reg_tables.specs.Shows.{Holds, ShowsBoth};
-ghost use Rattle.reg_tables.specs.Stays.{IsCallFault, IsRegister, LeavesNothing, Stays};
+ghost use Rattle.reg_tables.specs.Stays.{IsRegister, Looked};
 ghost use Rattle.reg_auditing.specs.Said.{IsReadOf, IsReadFrom, AreRead, AreReadFrom};
 
 use crate::texts::{What, text};
 use crate::watch::Watch;
-use reg_tables::StoreFault;
+use reg_tables::CallFault;
 use sqlite::{Alter, Connection, Row};
 use std::alloc::Global;
 
 /// The rows that a query answers.
-fn read<S: Alter>(conn: &mut Connection<S>, sql: &str) -> Result<Vec<Row>, StoreFault>
+fn read<S: Alter>(conn: &mut Connection<S>, sql: &str) -> Result<Vec<Row>, CallFault>
     ensures rows { IsReading sql.now → IsRegister (state S.Store conn.old) → HasCleanDisk (state S.Store conn.new)
         → IfOk result (λ rows. Answers (state S.Store conn.old) sql.now [] rows.items) }
-    ensures same { IsReading sql.now → IsRegister (state S.Store conn.old) → Stays (state S.Store conn.old) (state S.Store conn.new) }
+    ensures looked { IsReading sql.now → Looked S.Store conn.old conn.new }
     ensures clean { doubt (state S.Store conn.old).is_clean ≤ doubt (state S.Store conn.new).is_clean }
-    ensures survives { IsReading sql.now → LeavesNothing (state S.Store conn.old) (state S.Store conn.new) }
-    ensures idle { conn.old.in_transaction ≡ false → conn.new.in_transaction ≡ false }
-    ensures faults { IfErr result IsCallFault }
 {
     Ok(conn.query_all(sql, &[])?)
 }
 
 /// All rows of a table.
-fn read_whole<S: Alter>(conn: &mut Connection<S>, what: What) -> Result<Vec<Row>, StoreFault>
+fn read_whole<S: Alter>(conn: &mut Connection<S>, what: What) -> Result<Vec<Row>, CallFault>
     ensures found { (records : Records) → (columns : Columns) → ShowsBoth S.Store conn.old records columns → HasCleanDisk (state S.Store conn.new) → IfOk result (λ rows. IsReadOf records columns what rows.items) }
     ensures from { (db : Database) → Holds S.Store conn.old (λ now. now ≡ db) → db.schema ≡ register_schema → HasCleanDisk (state S.Store conn.new) → IfOk result (λ rows. IsReadFrom db what rows.items) }
-    ensures same { IsRegister (state S.Store conn.old) → Stays (state S.Store conn.old) (state S.Store conn.new) }
-    ensures survives { LeavesNothing (state S.Store conn.old) (state S.Store conn.new) }
-    ensures idle { conn.old.in_transaction ≡ false → conn.new.in_transaction ≡ false }
-    ensures faults { IfErr result IsCallFault }
+    ensures looked { Looked S.Store conn.old conn.new }
 {
     read(conn, text(what))
 }
@@ -51,15 +44,12 @@ pub(crate) fn read_each<S: Alter, W: Watch>(
     conn: &mut Connection<S>,
     whats: &[What],
     watch: &mut W,
-) -> Result<Vec<Vec<Row>>, StoreFault>
+) -> Result<Vec<Vec<Row>>, CallFault>
     ensures found { (records : Records) → (columns : Columns) → ShowsBoth S.Store conn.old records columns → HasCleanDisk (state S.Store conn.new)
         → IfOk result (λ all. AreRead records columns whats.now all.items (λ rows. rows.items)) }
     ensures from { (db : Database) → Holds S.Store conn.old (λ now. now ≡ db) → db.schema ≡ register_schema → HasCleanDisk (state S.Store conn.new)
         → IfOk result (λ all. AreReadFrom db whats.now all.items (λ rows. rows.items)) }
-    ensures same { IsRegister (state S.Store conn.old) → Stays (state S.Store conn.old) (state S.Store conn.new) }
-    ensures survives { LeavesNothing (state S.Store conn.old) (state S.Store conn.new) }
-    ensures idle { conn.old.in_transaction ≡ false → conn.new.in_transaction ≡ false }
-    ensures faults { IfErr result IsCallFault }
+    ensures looked { Looked S.Store conn.old conn.new }
 {
     let mut all = Vec::new(alloc);
     for what in whats {

@@ -1,9 +1,9 @@
 //! Why an audit comes to no good end.
 
-ghost use Rattle.std.specs.Prelude.{◌≡◌};
+ghost use Rattle.std.specs.Prelude.{◌≡◌, ◌⊎◌};
 
 use reg_audit::{Broken, Stop};
-use reg_tables::StoreFault;
+use reg_tables::CallFault;
 use std::alloc::AllocFailed;
 
 /// Why an audit comes to no good end.
@@ -17,16 +17,16 @@ pub enum AuditStop {
     Broken(Broken),
 }
 
-impl From<StoreFault> for AuditStop {
-    ghost use Rattle.reg_tables.specs.declared.fault.StoreFault.{StoreFault};
+impl From<CallFault> for AuditStop {
     ghost use Rattle.reg_auditing.specs.Stops.{stop_of};
+    ghost use Rattle.reg_auditing.specs.declared.stop.AuditStop.TheVariants.{Memory, Store};
 
-    ghost from_gives = { λ fault stop. stop ≡ stop_of fault };
+    ghost from_gives = { λ fault stop. (stop ≡ stop_of fault) × ((stop ≡ Memory) ⊎ (stop ≡ Store)) };
 
-    fn from(fault: StoreFault) -> AuditStop {
+    fn from(fault: CallFault) -> AuditStop {
         match fault {
-            StoreFault::Memory => AuditStop::Memory,
-            _ => AuditStop::Store,
+            CallFault::Memory => AuditStop::Memory,
+            CallFault::Store => AuditStop::Store,
         }
     }
 }

@@ -1,6 +1,6 @@
 //! Whether the bytes of the stored CRLs are those of what the records list.
 
-ghost use Rattle.std.specs.Prelude.{◌≡◌, ◌<◌, ◌≤◌, false, length, OnOk, IfOk, IfErr, IfSome, IsSomeAnd};
+ghost use Rattle.std.specs.Prelude.{◌≡◌, ◌<◌, ◌≤◌, length, OnOk, IfOk, IfErr, IfSome, IsSomeAnd};
 ghost use Rattle.std.specs.List.{AllByRecursion};
 ghost use Rattle.sqlite.specs.Held.{state};
 ghost use Rattle.sqlite.specs.State.{HasCleanDisk};
@@ -14,7 +14,7 @@ ghost use Rattle.reg_der.specs.Reading.{Gives};
 ghost use Rattle.reg_tables.specs.Columns.{Columns};
 ghost use Rattle.reg_tables.specs.Kept.{Kept};
 ghost use Rattle.reg_tables.specs.Shows.{Shows, ShowsBoth};
-ghost use Rattle.reg_tables.specs.Stays.{IsCallFault, IsRegister, LeavesNothing, Stays};
+ghost use Rattle.reg_tables.specs.Stays.{Looked};
 ghost use Rattle.reg_audit.specs.Crls.{Lists};
 ghost use Rattle.reg_auditing.specs.Said.{AreRead, whole};
 ghost use Rattle.reg_auditing.specs.Stops.{IsBroken, IsBrokenRow};
@@ -28,7 +28,7 @@ use crate::watch::Watch;
 use reg_audit::{Broken, Listed, Stop, Table, Why, check_crl};
 use reg_core::{CrlRow, Moment};
 use reg_der::{Issuer, Tlv, take};
-use reg_tables::StoreFault;
+use reg_tables::CallFault;
 use sqlite::{Alter, Connection, Row};
 use std::alloc::Global;
 
@@ -134,9 +134,7 @@ fn check_stored<S: Alter>(
     ensures others { (records : Records) → Shows S.Store conn.old records → Lists issuer.now crl_life listed.now records → CanList listed.now → crl.now.this_update < clock_end
         → HasCleanDisk (state S.Store conn.new) → IfErr result (λ stop. IsBroken stop → ¬ IsStored records crl.now) }
     ensures rows { IfErr result (λ stop. ¬ IsBrokenRow stop) }
-    ensures same { IsRegister (state S.Store conn.old) → Stays (state S.Store conn.old) (state S.Store conn.new) }
-    ensures survives { LeavesNothing (state S.Store conn.old) (state S.Store conn.new) }
-    ensures idle { conn.old.in_transaction ≡ false → conn.new.in_transaction ≡ false }
+    ensures looked { Looked S.Store conn.old conn.new }
 {
     match reg_tables::crl(conn, crl.number)? {
         Some(bytes) => check_bytes(alloc, issuer, crl_life, listed, crl, &bytes),
@@ -159,9 +157,7 @@ fn check_each<S: Alter, W: Watch>(
     ensures others { (records : Records) → Shows S.Store conn.old records → Lists issuer.now crl_life listed.now records → CanList listed.now → AllByRecursion (λ crl. crl.this_update < clock_end) crls.now
         → HasCleanDisk (state S.Store conn.new) → IfErr result (λ stop. IsBroken stop → ¬ AllByRecursion (IsStored records) crls.now) }
     ensures rows { IfErr result (λ stop. ¬ IsBrokenRow stop) }
-    ensures same { IsRegister (state S.Store conn.old) → Stays (state S.Store conn.old) (state S.Store conn.new) }
-    ensures survives { LeavesNothing (state S.Store conn.old) (state S.Store conn.new) }
-    ensures idle { conn.old.in_transaction ≡ false → conn.new.in_transaction ≡ false }
+    ensures looked { Looked S.Store conn.old conn.new }
 {
     for crl in crls {
         check_stored(alloc, conn, issuer, crl_life, listed, crl)?;
@@ -171,13 +167,10 @@ fn check_each<S: Alter, W: Watch>(
 }
 
 /// What a CRL has beside what it lists: the issuer, and the seconds from its thisUpdate to its nextUpdate.
-fn terms<S: Alter>(conn: &mut Connection<S>) -> Result<(Issuer, u64), StoreFault>
+fn terms<S: Alter>(conn: &mut Connection<S>) -> Result<(Issuer, u64), CallFault>
     ensures found { (records : Records) → Shows S.Store conn.old records → HasCleanDisk (state S.Store conn.new) → IfOk result (λ it. (it.0 ≡ records.issuer) × (it.1 ≡ records.policy.crl_life)) }
     ensures short { IfOk result (λ it. it.1 ≤ 863999) }
-    ensures faults { IfErr result IsCallFault }
-    ensures same { IsRegister (state S.Store conn.old) → Stays (state S.Store conn.old) (state S.Store conn.new) }
-    ensures survives { LeavesNothing (state S.Store conn.old) (state S.Store conn.new) }
-    ensures idle { conn.old.in_transaction ≡ false → conn.new.in_transaction ≡ false }
+    ensures looked { Looked S.Store conn.old conn.new }
 {
     let issuer = reg_tables::issuer(conn)?;
     let policy = reg_tables::policy(conn)?;
@@ -197,9 +190,7 @@ pub(crate) fn check_crls<S: Alter, W: Watch>(
     ensures others { (records : Records) → (columns : Columns) → ShowsBoth S.Store conn.old records columns → AreRead records columns whole all.now (λ rows. rows.items) → HasValues records → SoundRows records → Kept columns records
         → HasCleanDisk (state S.Store conn.new) → IfErr result (λ stop. IsBroken stop → ¬ CrlsSigned IsSomeCrl records) }
     ensures rows { (records : Records) → (columns : Columns) → AreRead records columns whole all.now (λ rows. rows.items) → HasValues records → SoundRows records → Kept columns records → IfErr result (λ stop. ¬ IsBrokenRow stop) }
-    ensures same { IsRegister (state S.Store conn.old) → Stays (state S.Store conn.old) (state S.Store conn.new) }
-    ensures survives { LeavesNothing (state S.Store conn.old) (state S.Store conn.new) }
-    ensures idle { conn.old.in_transaction ≡ false → conn.new.in_transaction ≡ false }
+    ensures looked { Looked S.Store conn.old conn.new }
 {
     let crls = crls(alloc, rows_at(all, 6))?;
     let listed = listings(alloc, rows_at(all, 9))?;

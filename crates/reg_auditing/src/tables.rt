@@ -11,14 +11,14 @@ ghost use Rattle.reg_auditing.specs.Values.{AreReadable};
 ghost use Rattle.reg_auditing.specs.declared.texts.What.TheVariants.{Office as OfOffice, Subscribers, Orders, Certificates, Requests, Revocations, Crls, Standings, Counts as OfCounts, Listings};
 
 use crate::stop::AuditStop;
-use crate::typed::{Office, only, typed};
+use crate::typed::{OfficeRow, only, typed};
 use reg_audit::{Listed, Standing, Table};
 use reg_core::{CertRow, Counts, CrlRow, OrderRow, RequestRow, RevocationRow, SubscriberRow};
 use sqlite::Row;
 use std::alloc::Global;
 
 /// The cap and the last accepted moment.
-pub(crate) fn office(rows: &[Row]) -> Result<Office, AuditStop>
+pub(crate) fn office(rows: &[Row]) -> Result<OfficeRow, AuditStop>
     ensures read { (records : Records) → (columns : Columns) → IsReadOf records columns OfOffice rows.now
         → IfOk result (λ found. (found.cap ≡ records.policy.cap) × (found.last ≡ records.last)) }
     ensures has { (records : Records) → (columns : Columns) → IsReadOf records columns OfOffice rows.now → AreReadable records columns → IfErr result (λ stop. ¬ IsBroken stop) }

@@ -40,12 +40,12 @@ pub(crate) trait OfRow: Copy {
 
 /// The cap and the last accepted moment.
 #[derive(Clone, Copy, Debug)]
-pub(crate) struct Office {
+pub(crate) struct OfficeRow {
     pub(crate) cap: u64,
     pub(crate) last: Moment,
 }
 
-impl OfRow for Office {
+impl OfRow for OfficeRow {
     ghost use Rattle.reg_auditing.specs.Shown.{shown_office};
     ghost use Rattle.std.specs.Prelude.{◌<◌};
     ghost use Rattle.reg_core.specs.Calendar.{clock_end};
@@ -56,8 +56,8 @@ impl OfRow for Office {
 
     ghost has_values = { λ it. it.last < clock_end };
 
-    fn in_row(row: &Row) -> Option<Office> {
-        Some(Office {
+    fn in_row(row: &Row) -> Option<OfficeRow> {
+        Some(OfficeRow {
             cap: number_at(row, 0)?,
             last: clock_moment_at(row, 1)?,
         })

@@ -1,5 +1,7 @@
 pub mod Committing
+pub mod Days
 pub mod Edits
+pub mod Keeping
 pub mod Law
 pub mod Letters
 pub mod Making

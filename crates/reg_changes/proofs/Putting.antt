@@ -19,7 +19,7 @@ use Rattle.reg_core.specs.declared.rows.RequestRow.{RequestRow}
 use Rattle.reg_core.specs.declared.rows.RevocationRow.{RevocationRow}
 use Rattle.reg_tables.specs.Schema.{register_schema, subscriber, orders, cert, request, revocation, crl, standing, listed}
 use Rattle.reg_tables.specs.Rows.{number, serial_value, ground_place, counted_rows, stored_subscriber, stored_order, stored_certificate, stored_request, stored_revocation, stored_crl}
-use Rattle.reg_tables.specs.Columns.{good, Standing, Listed, Columns, stored_standing, stored_listed}
+use Rattle.reg_tables.specs.Columns.{good, Standing, Listed, Columns, stored_standing, stored_listed, office_days}
 use Rattle.reg_tables.specs.Shows.{AreBoth}
 use Rattle.reg_tables.specs.Stays.{Moves}
 use Rattle.reg_changes.specs.Ran.{Ran}
@@ -59,7 +59,7 @@ puts_subscriber old new records columns row count ran next before =
     let spares = puts_spares subscriber _ old.now.trees new.now puts in
     moves PUT_SUBSCRIBER.now params old new count _ ran (record {
       shown = record { schema = puts.keeps_schema; rows = subscriber_more old.now.trees new.now.trees records row spares both.shown.rows rows (numbered_on (λ (row : SubscriberRow). row.id) records.subscribers row numbered next) };
-      kept = columns_spared 1 old.now.trees new.now.trees columns spares refl refl refl both.kept;
+      kept = columns_spared 1 old.now.trees new.now.trees columns spares refl refl refl (ap office_days (spares.same 0 refl refl)) both.kept;
     })
 
 pub puts_order : (old new : State) (records : Records) (columns : Columns) (row : OrderRow) (count : ℕ) → Ran PUT_ORDER.now (number row.id ∷ number row.subscriber ∷ number row.days ∷ []) old new count → row.id ≡ length records.orders + 1
@@ -78,7 +78,7 @@ puts_order old new records columns row count ran next before =
     let spares = puts_spares orders _ old.now.trees new.now puts in
     moves PUT_ORDER.now params old new count _ ran (record {
       shown = record { schema = puts.keeps_schema; rows = order_more old.now.trees new.now.trees records row spares both.shown.rows rows (numbered_on (λ (row : OrderRow). row.id) records.orders row numbered next) };
-      kept = columns_spared 3 old.now.trees new.now.trees columns spares refl refl refl both.kept;
+      kept = columns_spared 3 old.now.trees new.now.trees columns spares refl refl refl (ap office_days (spares.same 0 refl refl)) both.kept;
     })
 
 pub puts_request : (old new : State) (records : Records) (columns : Columns) (row : RequestRow) (count : ℕ) → Ran PUT_REQUEST.now (number row.id ∷ serial_value row.serial ∷ number (ground_place row.ground) ∷ number row.received ∷ number (cond row.declined 1 0) ∷ []) old new count → row.id ≡ length records.requests + 1 → IsSerial row.serial
@@ -97,7 +97,7 @@ puts_request old new records columns row count ran next its before =
     let spares = puts_spares request _ old.now.trees new.now puts in
     moves PUT_REQUEST.now params old new count _ ran (record {
       shown = record { schema = puts.keeps_schema; rows = request_more old.now.trees new.now.trees records row spares both.shown.rows rows (numbered_on (λ (row : RequestRow). row.id) records.requests row numbered next) (pushed (λ (row : RequestRow). IsSerial row.serial) records.requests row both.shown.rows.request_serials its) };
-      kept = columns_spared 7 old.now.trees new.now.trees columns spares refl refl refl both.kept;
+      kept = columns_spared 7 old.now.trees new.now.trees columns spares refl refl refl (ap office_days (spares.same 0 refl refl)) both.kept;
     })
 
 pub puts_crl : (old new : State) (records : Records) (columns : Columns) (row : Crl) (count : ℕ) → Ran PUT_CRL.now (number row.number ∷ number row.this_update ∷ Blob row.bytes ∷ []) old new count → row.number ≡ length records.crls + 1
@@ -116,7 +116,7 @@ puts_crl old new records columns row count ran next before =
     let spares = puts_spares crl _ old.now.trees new.now puts in
     moves PUT_CRL.now params old new count _ ran (record {
       shown = record { schema = puts.keeps_schema; rows = crl_more old.now.trees new.now.trees records row spares both.shown.rows rows (numbered_on (λ (row : Crl). row.number) records.crls row numbered next) };
-      kept = columns_spared 11 old.now.trees new.now.trees columns spares refl refl refl both.kept;
+      kept = columns_spared 11 old.now.trees new.now.trees columns spares refl refl refl (ap office_days (spares.same 0 refl refl)) both.kept;
     })
 
 pub puts_certificate : (old new : State) (records : Records) (columns : Columns) (row : CertRow) (count : ℕ) → Ran PUT_CERT.now (serial_value row.serial ∷ number row.order ∷ number row.not_before ∷ number row.not_after ∷ []) old new count → IsSerial row.serial
@@ -134,7 +134,7 @@ puts_certificate old new records columns row count ran its before =
     let spares = puts_spares cert _ old.now.trees new.now puts in
     moves PUT_CERT.now params old new count _ ran (record {
       shown = record { schema = puts.keeps_schema; rows = certificate_more old.now.trees new.now.trees records row spares both.shown.rows rows (pushed (λ (row : CertRow). IsSerial row.serial) records.certificates row both.shown.rows.certificate_serials its) };
-      kept = columns_spared 4 old.now.trees new.now.trees columns spares refl refl refl both.kept;
+      kept = columns_spared 4 old.now.trees new.now.trees columns spares refl refl refl (ap office_days (spares.same 0 refl refl)) both.kept;
     })
 
 pub puts_revocation : (old new : State) (records : Records) (columns : Columns) (row : RevocationRow) (count : ℕ) → Ran PUT_REVOCATION.now (serial_value row.serial ∷ number row.at ∷ number row.reason ∷ number row.request ∷ number row.first ∷ []) old new count → IsSerial row.serial
@@ -152,7 +152,7 @@ puts_revocation old new records columns row count ran its before =
     let spares = puts_spares revocation _ old.now.trees new.now puts in
     moves PUT_REVOCATION.now params old new count _ ran (record {
       shown = record { schema = puts.keeps_schema; rows = revocation_more old.now.trees new.now.trees records row spares both.shown.rows rows (pushed (λ (row : RevocationRow). IsSerial row.serial) records.revocations row both.shown.rows.revocation_serials its) };
-      kept = columns_spared 8 old.now.trees new.now.trees columns spares refl refl refl both.kept;
+      kept = columns_spared 8 old.now.trees new.now.trees columns spares refl refl refl (ap office_days (spares.same 0 refl refl)) both.kept;
     })
 
 pub puts_letter : (old new : State) (records : Records) (columns : Columns) (serial : ℕ) (not_after : ℕ) (count : ℕ) → Ran PUT_LETTER.now (serial_value serial ∷ number not_after ∷ []) old new count → IsSerial serial

@@ -1,5 +1,5 @@
 -- Tables that a statement does not write show what they showed.
-use Rattle.std.proofs.Common.{◌≡◌, ℕ, false, ◌==◌, List, [], ◌∷◌, ◌++◌, map, refl, ◌∙◌}
+use Rattle.std.proofs.Common.{◌≡◌, ℕ, false, ◌==◌, List, [], ◌∷◌, ◌++◌, map, refl, ap, ◌∙◌}
 use Rattle.sqlite_trees.specs.Tree.{Trees}
 use Rattle.reg_core.specs.Policy.{IsPolicy}
 use Rattle.reg_core.specs.Records.{Records, Crl}
@@ -11,7 +11,7 @@ use Rattle.reg_core.specs.declared.rows.CertRow.{CertRow}
 use Rattle.reg_core.specs.declared.rows.RequestRow.{RequestRow}
 use Rattle.reg_core.specs.declared.rows.RevocationRow.{RevocationRow}
 use Rattle.reg_tables.specs.Rows.{counted_rows, stored_office, stored_subscriber, stored_order, stored_certificate, stored_request, stored_revocation, stored_crl, stored_step}
-use Rattle.reg_tables.specs.Columns.{Columns, Standing, Listed, stored_standing, stored_counts, stored_listed}
+use Rattle.reg_tables.specs.Columns.{Columns, office_days, Standing, Listed, stored_standing, stored_counts, stored_listed}
 use Rattle.reg_core.specs.declared.command.Counts.{Counts}
 use Rattle.reg_tables.specs.Shows.{AreRows, AreColumns, HaveSerials}
 use Rattle.reg_changes.proofs.Registers.{Spares}
@@ -52,8 +52,10 @@ pub columns_spared : (tree : ℕ) (db after : Trees) (columns : Columns) → Spa
     → (12 == tree) ≡ false
     → (14 == tree) ≡ false
     → (15 == tree) ≡ false
+    → office_days (after 0) ≡ office_days (db 0)
     → AreColumns db columns → AreColumns after columns
-columns_spared tree db after columns spares e12 e14 e15 kept = record {
+columns_spared tree db after columns spares e12 e14 e15 days kept = record {
+  days = days ∙ kept.days;
   letters = spares.same 12 refl e12 ∙ kept.letters;
   counts = spares.same 14 refl e14 ∙ kept.counts;
   listed = spares.same 15 refl e15 ∙ kept.listed;
@@ -292,6 +294,7 @@ pub letters_are : (db after : Trees) (columns : Columns) (those : List Standing)
     → HaveSerials (λ (row : Standing). row.serial) those
     → AreColumns after (record columns { letters = those })
 letters_are db after columns those spares kept is serials = record {
+  days = ap office_days (spares.same 0 refl refl) ∙ kept.days;
   letters = is;
   counts = spares.same 14 refl refl ∙ kept.counts;
   listed = spares.same 15 refl refl ∙ kept.listed;
@@ -303,6 +306,7 @@ letters_are db after columns those spares kept is serials = record {
 pub counts_are : (db after : Trees) (columns : Columns) (those : Counts) → Spares 14 db after → AreColumns db columns → after 14 ≡ stored_counts those ∷ []
     → AreColumns after (record columns { counts = those })
 counts_are db after columns those spares kept is = record {
+  days = ap office_days (spares.same 0 refl refl) ∙ kept.days;
   letters = spares.same 12 refl refl ∙ kept.letters;
   counts = is;
   listed = spares.same 15 refl refl ∙ kept.listed;
@@ -315,6 +319,7 @@ pub listings_are : (db after : Trees) (columns : Columns) (those : List Listed) 
     → HaveSerials (λ (row : Listed). row.serial) those
     → AreColumns after (record columns { listed = those })
 listings_are db after columns those spares kept is serials = record {
+  days = ap office_days (spares.same 0 refl refl) ∙ kept.days;
   letters = spares.same 12 refl refl ∙ kept.letters;
   counts = spares.same 14 refl refl ∙ kept.counts;
   listed = is;

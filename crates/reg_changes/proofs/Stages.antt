@@ -14,7 +14,7 @@ use Rattle.reg_core.specs.Records.{Records}
 use Rattle.reg_core.specs.Schedule.{Ascends, IsSchedule}
 use Rattle.reg_tables.specs.Schema.{register_schema, longest}
 use Rattle.reg_tables.specs.Rows.{number, stored_step}
-use Rattle.reg_tables.specs.Columns.{Columns}
+use Rattle.reg_tables.specs.Columns.{Columns, office_days}
 use Rattle.reg_tables.specs.Kept.{Kept}
 use Rattle.reg_tables.specs.Shows.{IsShownBy, AreBoth}
 use Rattle.reg_changes.specs.Ran.{Ran}
@@ -88,7 +88,7 @@ staged_shows db after records steps is shown staged = record {
 pub staged_both : (db after : Database) (records : Records) (columns : Columns) (steps : List (ℕ × ℕ)) → IsSchedule steps → AreBoth db records columns → IsStaged db.trees steps after → AreBoth after (with_schedule records steps) columns
 staged_both db after records columns steps is both staged = record {
   shown = staged_shows db after records steps is both.shown staged;
-  kept = columns_spared 17 db.trees after.trees columns (record { same = staged.others }) refl refl refl both.kept;
+  kept = columns_spared 17 db.trees after.trees columns (record { same = staged.others }) refl refl refl (ap office_days (staged.others 0 refl refl)) both.kept;
 }
 
 pub staged_first : (db : Database) (records : Records) → IsShownBy db records → IsStaged db.trees records.policy.schedule db

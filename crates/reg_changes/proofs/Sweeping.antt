@@ -22,7 +22,7 @@ use Rattle.reg_core.specs.declared.command.Counts.{Counts}
 use Rattle.reg_core.specs.declared.rows.RequestRow.{RequestRow}
 use Rattle.reg_tables.specs.Schema.{register_schema, standing, kept, listed, office, request}
 use Rattle.reg_tables.specs.Rows.{number, serial_value, counted_rows, stored_office, stored_request}
-use Rattle.reg_tables.specs.Columns.{Letter, good, revoked, expired, is_good_letter, ends_before, letter_text, Standing, Listed, Columns, stored_standing, stored_counts, stored_listed, number_or_null}
+use Rattle.reg_tables.specs.Columns.{Letter, good, revoked, expired, is_good_letter, ends_before, letter_text, Standing, Listed, Columns, stored_standing, stored_counts, stored_listed, number_or_null, office_days}
 use Rattle.reg_tables.specs.Shows.{AreBoth}
 use Rattle.reg_tables.specs.Stays.{Moves}
 use Rattle.reg_tables.proofs.Compares.{compares, and_true, eq_number, lt_number, eq_text, eq_serial}
@@ -188,7 +188,7 @@ sets_last old new records columns now count ran before =
     let spares = turns_spares office _ _ old.now.trees new.now count turns in
     moves SET_LAST.now params old new count _ ran (record {
       shown = record { schema = turns.keeps_schema; rows = last_is old.now.trees new.now.trees records now spares both.shown.rows rows };
-      kept = columns_spared 0 old.now.trees new.now.trees columns spares refl refl refl both.kept;
+      kept = columns_spared 0 old.now.trees new.now.trees columns spares refl refl refl (ap office_days rows ∙ sym (ap office_days was)) both.kept;
     })
 
 -- ---- a request
@@ -231,5 +231,5 @@ sets_declined old new records columns id count ran before =
         rows = request_declined old.now.trees new.now.trees records id spares both.shown.rows rows (declined_numbered id 1 records.requests numbered)
             (all_turned (λ (row : RequestRow). IsSerial row.serial) q g (λ row its. its) records.requests both.shown.rows.request_serials);
       };
-      kept = columns_spared 7 old.now.trees new.now.trees columns spares refl refl refl both.kept;
+      kept = columns_spared 7 old.now.trees new.now.trees columns spares refl refl refl (ap office_days (spares.same 0 refl refl)) both.kept;
     })

@@ -2,7 +2,7 @@
 //! what is kept beside the records moves with them, and the last accepted moment is set. A fault leaves the tables as they
 //! were. That the decision allowed a change is no condition of the call, but of what its contract says.
 
-ghost use Rattle.std.specs.Prelude.{◌≡◌, ◌≤◌, false, IsSomeAnd, IfOk, OnOk, OnErr, IfErr, IsTrue};
+ghost use Rattle.std.specs.Prelude.{◌≡◌, ◌≤◌, false, IsSomeAnd, IfOk, OnOk, OnErr, IsTrue};
 ghost use Rattle.sqlite.specs.Held.{state};
 ghost use Rattle.sqlite.specs.State.{HasCleanDisk, Survives};
 ghost use Rattle.reg_core.specs.Records.{Records, certificate_in};
@@ -10,15 +10,16 @@ ghost use Rattle.reg_core.specs.Changes.{Fits, changed_by};
 ghost use Rattle.reg_core.specs.Sound.{SoundRows};
 ghost use Rattle.reg_tables.specs.Columns.{Columns};
 ghost use Rattle.reg_tables.specs.Kept.{ShowsKept};
-ghost use Rattle.reg_tables.specs.Shows.{Shows, ShowsBoth};
-ghost use Rattle.reg_tables.specs.Stays.{IsCallFault, IsRegister, LeavesNothing, Stays};
+ghost use Rattle.reg_tables.specs.Shows.{KeepsOfficeDays, Shows, ShowsBoth};
+ghost use Rattle.reg_tables.specs.Stays.{IsRegister, Looked, Stays};
 ghost use Rattle.reg_changes.specs.AtRest.{IsChanged, IsEntered};
 ghost use Rattle.reg_changes.specs.Beside.{TurnsOne, after, end_by};
+ghost use Rattle.reg_changes.specs.Days.{LeavesOfficeDays};
 ghost use Rattle.reg_changes.specs.Steps.{swept};
 
 use crate::entering::enter;
 use reg_core::{Change, Moment, Serial};
-use reg_tables::{StoreFault, cert, kept_counts};
+use reg_tables::{CallFault, cert, kept_counts};
 use sqlite::{Alter, Connection};
 
 /// Makes a change at a moment, in one transaction.
@@ -30,17 +31,17 @@ pub fn apply<S: Alter>(
     conn: &mut Connection<S>,
     now: Moment,
     change: &Change<'_>,
-) -> Result<(), StoreFault>
+) -> Result<(), CallFault>
     requires { conn.old.in_transaction ≡ false }
     ensures ok { (records : Records) → ShowsKept S.Store conn.old records → SoundRows records → records.last ≤ now → Fits records now change.now
         → OnOk result (ShowsKept S.Store conn.new (changed_by records now change.now)) }
+    ensures days { LeavesOfficeDays S.Store conn.old conn.new now change.now result }
     ensures one { HasCleanDisk (state S.Store conn.new) → (records : Records) → (columns : Columns) → ShowsBoth S.Store conn.old records columns
         → OnOk result (TurnsOne change.now (swept now columns)) }
     ensures live { HasCleanDisk (state S.Store conn.new) → OnOk result (IsTrue (state S.Store conn.new).is_open) }
     ensures err { IsRegister (state S.Store conn.old) → OnErr result (Stays (state S.Store conn.old) (state S.Store conn.new)) }
     ensures survives { Survives (state S.Store conn.old) (state S.Store conn.new) (IsChanged S.Store conn.old now change.now) }
     ensures idle { conn.new.in_transaction ≡ false }
-    ensures faults { IfErr result IsCallFault }
 {
     let not_after = end_for(conn, now, change)?;
     commit(conn, now, change, not_after)
@@ -52,12 +53,9 @@ fn end_for<S: Alter>(
     conn: &mut Connection<S>,
     now: Moment,
     change: &Change<'_>,
-) -> Result<Moment, StoreFault>
+) -> Result<Moment, CallFault>
     ensures found { (records : Records) → Shows S.Store conn.old records → HasCleanDisk (state S.Store conn.new) → IfOk result (λ end. end ≡ end_by records now change.now) }
-    ensures same { IsRegister (state S.Store conn.old) → Stays (state S.Store conn.old) (state S.Store conn.new) }
-    ensures survives { LeavesNothing (state S.Store conn.old) (state S.Store conn.new) }
-    ensures idle { conn.old.in_transaction ≡ false → conn.new.in_transaction ≡ false }
-    ensures faults { IfErr result IsCallFault }
+    ensures looked { Looked S.Store conn.old conn.new }
 {
     match *change {
         Change::Revocation(row) => end_of(conn, row.serial),
@@ -66,16 +64,13 @@ fn end_for<S: Alter>(
 }
 
 /// The end of the certificate with a serial number. `Store` where there is none.
-fn end_of<S: Alter>(conn: &mut Connection<S>, serial: Serial) -> Result<Moment, StoreFault>
+fn end_of<S: Alter>(conn: &mut Connection<S>, serial: Serial) -> Result<Moment, CallFault>
     ensures found { (records : Records) → Shows S.Store conn.old records → HasCleanDisk (state S.Store conn.new)
         → IfOk result (λ end. IsSomeAnd (certificate_in records.certificates serial) (λ certificate. certificate.not_after ≡ end)) }
-    ensures same { IsRegister (state S.Store conn.old) → Stays (state S.Store conn.old) (state S.Store conn.new) }
-    ensures survives { LeavesNothing (state S.Store conn.old) (state S.Store conn.new) }
-    ensures idle { conn.old.in_transaction ≡ false → conn.new.in_transaction ≡ false }
-    ensures faults { IfErr result IsCallFault }
+    ensures looked { Looked S.Store conn.old conn.new }
 {
     let found = cert(conn, serial)?;
-    Ok(found.ok_or(StoreFault::Store)?.not_after)
+    Ok(found.ok_or(CallFault::Store)?.not_after)
 }
 
 /// The change as one transaction.
@@ -84,17 +79,18 @@ fn commit<S: Alter>(
     now: Moment,
     change: &Change<'_>,
     not_after: Moment,
-) -> Result<(), StoreFault>
+) -> Result<(), CallFault>
     requires { conn.old.in_transaction ≡ false }
     ensures ok { (records : Records) → (columns : Columns) → ShowsBoth S.Store conn.old records columns → SoundRows records → Fits records now change.now
         → OnOk result (ShowsBoth S.Store conn.new (changed_by records now change.now) (after now change.now not_after columns)) }
+    ensures days { (records : Records) → (columns : Columns) → ShowsBoth S.Store conn.old records columns → SoundRows records → Fits records now change.now
+        → OnOk result (KeepsOfficeDays S.Store conn.old conn.new) }
     ensures one { HasCleanDisk (state S.Store conn.new) → (records : Records) → (columns : Columns) → ShowsBoth S.Store conn.old records columns
         → OnOk result (TurnsOne change.now (swept now columns)) }
     ensures live { HasCleanDisk (state S.Store conn.new) → OnOk result (IsTrue (state S.Store conn.new).is_open) }
     ensures err { IsRegister (state S.Store conn.old) → OnErr result (Stays (state S.Store conn.old) (state S.Store conn.new)) }
     ensures survives { Survives (state S.Store conn.old) (state S.Store conn.new) (IsEntered S.Store conn.old now change.now not_after) }
     ensures idle { conn.new.in_transaction ≡ false }
-    ensures faults { IfErr result IsCallFault }
 {
     let counts = kept_counts(conn)?;
     let mut tx = conn.transaction();

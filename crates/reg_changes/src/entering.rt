@@ -1,14 +1,14 @@
 //! What a change does inside its transaction.
 
-ghost use Rattle.std.specs.Prelude.{◌≡◌, ◌+◌, ℕ, true, length, IfOk, OnOk, IfErr};
+ghost use Rattle.std.specs.Prelude.{◌≡◌, ◌+◌, ℕ, true, length, IfOk, OnOk};
 ghost use Rattle.sqlite.specs.Effect.{IsDatabase};
 ghost use Rattle.sqlite.specs.Held.{state};
-ghost use Rattle.sqlite.specs.State.{HasCleanDisk, KeepsCommit};
+ghost use Rattle.sqlite.specs.State.{HasCleanDisk};
 ghost use Rattle.reg_core.specs.Records.{Records};
 ghost use Rattle.reg_core.specs.Changes.{Fits, changed_by, touched, with_certificate, with_crl, with_revocation};
 ghost use Rattle.reg_core.specs.Sound.{SoundRows};
 ghost use Rattle.reg_tables.specs.Columns.{Columns};
-ghost use Rattle.reg_tables.specs.Stays.{IsCallFault, LeavesNothing};
+ghost use Rattle.reg_tables.specs.Stays.{Stepped};
 ghost use Rattle.reg_changes.specs.Ran.{Before, Moved};
 ghost use Rattle.reg_changes.specs.Steps.{swept, revoked_at, good_at, with_good, with_unlisted, marked, with_counts, shifted};
 ghost use Rattle.reg_changes.specs.Beside.{TurnsOne, lost, added, beside, after};
@@ -18,23 +18,22 @@ use crate::steps::{
     put_revocation, put_subscriber, set_counts, set_declined, set_last, sweep,
 };
 use reg_core::{CertRow, Change, Counts, CrlRow, Moment, RevocationRow};
-use reg_tables::StoreFault;
+use reg_tables::CallFault;
 use sqlite::{Alter, Transaction};
 
 /// The counts once some good ones have ended, and a change is made. `Store` where the good ones are fewer than what is taken
 /// from them, or a count is too great.
-fn shift(counts: Counts, ended: usize, change: &Change<'_>) -> Result<Counts, StoreFault>
+fn shift(counts: Counts, ended: usize, change: &Change<'_>) -> Result<Counts, CallFault>
     ensures shifted { IfOk result (λ next. next ≡ shifted counts ended (lost change.now) (added change.now)) }
-    ensures faults { IfErr result IsCallFault }
 {
     let (lost, added) = moves_good(change);
     let ended = ended as u64;
-    let gone = ended.checked_add(lost).ok_or(StoreFault::Store)?;
-    let before = counts.good.checked_add(added).ok_or(StoreFault::Store)?;
+    let gone = ended.checked_add(lost).ok_or(CallFault::Store)?;
+    let before = counts.good.checked_add(added).ok_or(CallFault::Store)?;
     Ok(Counts {
-        good: before.checked_sub(gone).ok_or(StoreFault::Store)?,
-        revoked: counts.revoked.checked_add(lost).ok_or(StoreFault::Store)?,
-        expired: counts.expired.checked_add(ended).ok_or(StoreFault::Store)?,
+        good: before.checked_sub(gone).ok_or(CallFault::Store)?,
+        revoked: counts.revoked.checked_add(lost).ok_or(CallFault::Store)?,
+        expired: counts.expired.checked_add(ended).ok_or(CallFault::Store)?,
     })
 }
 
@@ -54,29 +53,23 @@ fn close<S: Alter>(
     tx: &mut Transaction<'_, S>,
     now: Moment,
     counts: Counts,
-) -> Result<(), StoreFault>
-    ensures same_reference { tx.new.conn.ghost_name ≡ tx.old.conn.ghost_name }
+) -> Result<(), CallFault>
     ensures ok { HasCleanDisk (state S.Store tx.new.conn.now) → (records : Records) → (columns : Columns) → Before (state S.Store tx.old.conn.now) records columns
         → OnOk result (Moved (state S.Store tx.old.conn.now) (state S.Store tx.new.conn.now) (touched records now) (with_counts counts columns)) }
     ensures database { HasCleanDisk (state S.Store tx.new.conn.now) → (records : Records) → (columns : Columns) → Before (state S.Store tx.old.conn.now) records columns
         → OnOk result (IsDatabase (state S.Store tx.new.conn.now).now) }
-    ensures kept { HasCleanDisk (state S.Store tx.new.conn.now) → KeepsCommit (state S.Store tx.old.conn.now) (state S.Store tx.new.conn.now) }
     ensures inside { HasCleanDisk (state S.Store tx.new.conn.now) → OnOk result (tx.new.conn.now.in_transaction ≡ true) }
-    ensures survives { LeavesNothing (state S.Store tx.old.conn.now) (state S.Store tx.new.conn.now) }
-    ensures faults { IfErr result IsCallFault }
+    ensures stepped { Stepped S.Store tx.old tx.new }
 {
     set_counts(tx, counts)?;
     set_last(tx, now)
 }
 
 /// One certificate more, with its letter, which is good.
-fn register<S: Alter>(tx: &mut Transaction<'_, S>, row: CertRow) -> Result<(), StoreFault>
-    ensures same_reference { tx.new.conn.ghost_name ≡ tx.old.conn.ghost_name }
+fn register<S: Alter>(tx: &mut Transaction<'_, S>, row: CertRow) -> Result<(), CallFault>
     ensures ok { HasCleanDisk (state S.Store tx.new.conn.now) → (records : Records) → (columns : Columns) → Before (state S.Store tx.old.conn.now) records columns
         → OnOk result (Moved (state S.Store tx.old.conn.now) (state S.Store tx.new.conn.now) (with_certificate records records.last row) (with_good row.serial row.not_after columns)) }
-    ensures kept { HasCleanDisk (state S.Store tx.new.conn.now) → KeepsCommit (state S.Store tx.old.conn.now) (state S.Store tx.new.conn.now) }
-    ensures survives { LeavesNothing (state S.Store tx.old.conn.now) (state S.Store tx.new.conn.now) }
-    ensures faults { IfErr result IsCallFault }
+    ensures stepped { Stepped S.Store tx.old tx.new }
 {
     let (serial, not_after) = (row.serial, row.not_after);
     put_cert(tx, row)?;
@@ -88,31 +81,25 @@ fn revoke<S: Alter>(
     tx: &mut Transaction<'_, S>,
     row: RevocationRow,
     not_after: Moment,
-) -> Result<(), StoreFault>
-    ensures same_reference { tx.new.conn.ghost_name ≡ tx.old.conn.ghost_name }
+) -> Result<(), CallFault>
     ensures ok { HasCleanDisk (state S.Store tx.new.conn.now) → (records : Records) → (columns : Columns) → Before (state S.Store tx.old.conn.now) records columns
         → OnOk result ((good_at row.serial columns ≡ 1) × Moved (state S.Store tx.old.conn.now) (state S.Store tx.new.conn.now) (with_revocation records records.last row) (with_unlisted row not_after (revoked_at row.serial columns))) }
-    ensures kept { HasCleanDisk (state S.Store tx.new.conn.now) → KeepsCommit (state S.Store tx.old.conn.now) (state S.Store tx.new.conn.now) }
-    ensures survives { LeavesNothing (state S.Store tx.old.conn.now) (state S.Store tx.new.conn.now) }
-    ensures faults { IfErr result IsCallFault }
+    ensures stepped { Stepped S.Store tx.old tx.new }
 {
     put_revocation(tx, row)?;
     put_listed(tx, row, not_after)?;
     if mark_revoked(tx, row.serial)? == 1 {
         Ok(())
     } else {
-        Err(StoreFault::Store)
+        Err(CallFault::Store)
     }
 }
 
 /// One CRL more, with its bytes: it is the last that lists the certificates that ended before it.
-fn issue<S: Alter>(tx: &mut Transaction<'_, S>, row: CrlRow, der: &[u8]) -> Result<(), StoreFault>
-    ensures same_reference { tx.new.conn.ghost_name ≡ tx.old.conn.ghost_name }
+fn issue<S: Alter>(tx: &mut Transaction<'_, S>, row: CrlRow, der: &[u8]) -> Result<(), CallFault>
     ensures ok { HasCleanDisk (state S.Store tx.new.conn.now) → (records : Records) → (columns : Columns) → row.number ≡ length records.crls + 1 → Before (state S.Store tx.old.conn.now) records columns
         → OnOk result (Moved (state S.Store tx.old.conn.now) (state S.Store tx.new.conn.now) (with_crl records records.last (record { number = row.number; this_update = row.this_update; bytes = der.now })) (marked row.number row.this_update columns)) }
-    ensures kept { HasCleanDisk (state S.Store tx.new.conn.now) → KeepsCommit (state S.Store tx.old.conn.now) (state S.Store tx.new.conn.now) }
-    ensures survives { LeavesNothing (state S.Store tx.old.conn.now) (state S.Store tx.new.conn.now) }
-    ensures faults { IfErr result IsCallFault }
+    ensures stepped { Stepped S.Store tx.old tx.new }
 {
     let (number, this_update) = (row.number, row.this_update);
     put_crl(tx, row, der)?;
@@ -125,16 +112,13 @@ fn put<S: Alter>(
     tx: &mut Transaction<'_, S>,
     change: &Change<'_>,
     not_after: Moment,
-) -> Result<(), StoreFault>
-    ensures same_reference { tx.new.conn.ghost_name ≡ tx.old.conn.ghost_name }
+) -> Result<(), CallFault>
     ensures ok { HasCleanDisk (state S.Store tx.new.conn.now) → (records : Records) → (columns : Columns) → (now : ℕ) → SoundRows records → Fits records now change.now
         → Moved (state S.Store tx.old.conn.now) (state S.Store tx.old.conn.now) records columns
         → OnOk result (Moved (state S.Store tx.old.conn.now) (state S.Store tx.new.conn.now) (changed_by records records.last change.now) (beside change.now not_after columns)) }
     ensures one { HasCleanDisk (state S.Store tx.new.conn.now) → (records : Records) → (columns : Columns) → Before (state S.Store tx.old.conn.now) records columns
         → OnOk result (TurnsOne change.now columns) }
-    ensures kept { HasCleanDisk (state S.Store tx.new.conn.now) → KeepsCommit (state S.Store tx.old.conn.now) (state S.Store tx.new.conn.now) }
-    ensures survives { LeavesNothing (state S.Store tx.old.conn.now) (state S.Store tx.new.conn.now) }
-    ensures faults { IfErr result IsCallFault }
+    ensures stepped { Stepped S.Store tx.old tx.new }
 {
     match *change {
         Change::Touch => Ok(()),
@@ -155,8 +139,7 @@ pub(crate) fn enter<S: Alter>(
     change: &Change<'_>,
     not_after: Moment,
     counts: Counts,
-) -> Result<(), StoreFault>
-    ensures same_reference { tx.new.conn.ghost_name ≡ tx.old.conn.ghost_name }
+) -> Result<(), CallFault>
     ensures ok { HasCleanDisk (state S.Store tx.new.conn.now) → (records : Records) → (columns : Columns) → counts ≡ columns.counts → SoundRows records → Fits records now change.now
         → Before (state S.Store tx.old.conn.now) records columns
         → OnOk result (Moved (state S.Store tx.old.conn.now) (state S.Store tx.new.conn.now) (changed_by records now change.now) (after now change.now not_after columns)) }
@@ -164,10 +147,8 @@ pub(crate) fn enter<S: Alter>(
         → OnOk result (IsDatabase (state S.Store tx.new.conn.now).now) }
     ensures one { HasCleanDisk (state S.Store tx.new.conn.now) → (records : Records) → (columns : Columns) → Before (state S.Store tx.old.conn.now) records columns
         → OnOk result (TurnsOne change.now (swept now columns)) }
-    ensures kept { HasCleanDisk (state S.Store tx.new.conn.now) → KeepsCommit (state S.Store tx.old.conn.now) (state S.Store tx.new.conn.now) }
     ensures inside { HasCleanDisk (state S.Store tx.new.conn.now) → OnOk result (tx.new.conn.now.in_transaction ≡ true) }
-    ensures survives { LeavesNothing (state S.Store tx.old.conn.now) (state S.Store tx.new.conn.now) }
-    ensures faults { IfErr result IsCallFault }
+    ensures stepped { Stepped S.Store tx.old tx.new }
 {
     let ended = sweep(tx, now)?;
     put(tx, change, not_after)?;

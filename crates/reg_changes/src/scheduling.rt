@@ -1,60 +1,53 @@
 //! The schedule of longest validities, written anew.
 
-ghost use Rattle.std.specs.Prelude.{◌≡◌, ◌++◌, ◌∷◌, ℕ, List, [], true, false, IsTrue, OnOk, OnErr, IfErr};
+ghost use Rattle.std.specs.Prelude.{◌≡◌, ◌++◌, ◌∷◌, ℕ, List, [], true, false, IsTrue, OnOk, OnErr};
 ghost use Rattle.sqlite.specs.Effect.{IsDatabase};
 ghost use Rattle.sqlite.specs.Held.{state};
-ghost use Rattle.sqlite.specs.State.{HasCleanDisk, KeepsCommit, Survives};
+ghost use Rattle.sqlite.specs.State.{HasCleanDisk, Survives};
 ghost use Rattle.sqlite_trees.specs.Tree.{Trees};
 ghost use Rattle.reg_core.specs.Records.{Records};
 ghost use Rattle.reg_core.specs.Changes.{with_schedule};
 ghost use Rattle.reg_core.specs.Schedule.{Ascends, IsSchedule};
 ghost use Rattle.reg_tables.specs.Kept.{ShowsKept};
-ghost use Rattle.reg_tables.specs.Shows.{Shows};
-ghost use Rattle.reg_tables.specs.Stays.{IsCallFault, LeavesNothing, Stays};
+ghost use Rattle.reg_tables.specs.Schema.{register_schema};
+ghost use Rattle.reg_tables.specs.Shows.{Shows, KeepsOfficeDays};
+ghost use Rattle.reg_tables.specs.Stays.{Stays, Stepped};
 ghost use Rattle.reg_changes.specs.AtRest.{IsScheduled};
+ghost use Rattle.reg_changes.specs.Ran.{HasSchema};
 ghost use Rattle.reg_changes.specs.Staged.{IsStaged, AreBefore};
 
 use crate::texts;
 use crate::writing::{sql_moment, sql_number, write};
 use reg_core::{Moment, Schedule};
-use reg_tables::StoreFault;
+use reg_tables::CallFault;
 use sqlite::{Alter, Connection, Transaction};
 
 /// Takes all steps of the schedule out.
-fn clear_steps<S: Alter>(tx: &mut Transaction<'_, S>) -> Result<(), StoreFault>
-    ensures same_reference { tx.new.conn.ghost_name ≡ tx.old.conn.ghost_name }
+fn clear_steps<S: Alter>(tx: &mut Transaction<'_, S>) -> Result<(), CallFault>
     ensures ok { HasCleanDisk (state S.Store tx.new.conn.now) → (base : Trees) → (steps : List (ℕ × ℕ))
         → (IsTrue (state S.Store tx.old.conn.now).is_open → IsStaged base steps (state S.Store tx.old.conn.now).now)
         → OnOk result (IsStaged base [] (state S.Store tx.new.conn.now).now) }
     ensures database { HasCleanDisk (state S.Store tx.new.conn.now) → (base : Trees) → (steps : List (ℕ × ℕ)) → (IsTrue (state S.Store tx.old.conn.now).is_open → IsStaged base steps (state S.Store tx.old.conn.now).now)
         → OnOk result (IsDatabase (state S.Store tx.new.conn.now).now) }
-    ensures kept { HasCleanDisk (state S.Store tx.new.conn.now) → KeepsCommit (state S.Store tx.old.conn.now) (state S.Store tx.new.conn.now) }
     ensures inside { HasCleanDisk (state S.Store tx.new.conn.now) → OnOk result (tx.new.conn.now.in_transaction ≡ true) }
     ensures live { HasCleanDisk (state S.Store tx.new.conn.now) → OnOk result (IsTrue (state S.Store tx.new.conn.now).is_open) }
-    ensures survives { LeavesNothing (state S.Store tx.old.conn.now) (state S.Store tx.new.conn.now) }
-    ensures faults { IfErr result IsCallFault }
+    ensures stepped { Stepped S.Store tx.old tx.new }
 {
     write(tx, texts::CLEAR_STEPS, &[])?;
     Ok(())
 }
 
 /// Puts a step in, behind those that are before it.
-fn put_step<S: Alter>(
-    tx: &mut Transaction<'_, S>,
-    from: Moment,
-    days: u64,
-) -> Result<(), StoreFault>
-    ensures same_reference { tx.new.conn.ghost_name ≡ tx.old.conn.ghost_name }
+fn put_step<S: Alter>(tx: &mut Transaction<'_, S>, from: Moment, days: u64) -> Result<(), CallFault>
     ensures ok { HasCleanDisk (state S.Store tx.new.conn.now) → (base : Trees) → (steps : List (ℕ × ℕ)) → AreBefore from steps
         → (IsTrue (state S.Store tx.old.conn.now).is_open → IsStaged base steps (state S.Store tx.old.conn.now).now)
         → OnOk result (IsStaged base (steps ++ (from, days) ∷ []) (state S.Store tx.new.conn.now).now) }
     ensures database { HasCleanDisk (state S.Store tx.new.conn.now) → (base : Trees) → (steps : List (ℕ × ℕ)) → (IsTrue (state S.Store tx.old.conn.now).is_open → IsStaged base steps (state S.Store tx.old.conn.now).now)
         → OnOk result (IsDatabase (state S.Store tx.new.conn.now).now) }
-    ensures kept { HasCleanDisk (state S.Store tx.new.conn.now) → KeepsCommit (state S.Store tx.old.conn.now) (state S.Store tx.new.conn.now) }
     ensures inside { HasCleanDisk (state S.Store tx.new.conn.now) → OnOk result (tx.new.conn.now.in_transaction ≡ true) }
     ensures live { HasCleanDisk (state S.Store tx.new.conn.now) → OnOk result (IsTrue (state S.Store tx.new.conn.now).is_open) }
-    ensures survives { LeavesNothing (state S.Store tx.old.conn.now) (state S.Store tx.new.conn.now) }
-    ensures faults { IfErr result IsCallFault }
+    ensures schema { HasCleanDisk (state S.Store tx.new.conn.now) → HasSchema register_schema (state S.Store tx.old.conn.now) → OnOk result (HasSchema register_schema (state S.Store tx.new.conn.now)) }
+    ensures stepped { Stepped S.Store tx.old tx.new }
 {
     let from = sql_moment(from);
     let days = sql_number(days)?;
@@ -69,18 +62,16 @@ fn put_step<S: Alter>(
 pub fn put_steps<S: Alter>(
     tx: &mut Transaction<'_, S>,
     steps: &[(Moment, u64)],
-) -> Result<(), StoreFault>
-    ensures same_reference { tx.new.conn.ghost_name ≡ tx.old.conn.ghost_name }
+) -> Result<(), CallFault>
     ensures ok { HasCleanDisk (state S.Store tx.new.conn.now) → (base : Trees) → Ascends steps.now
         → (IsTrue (state S.Store tx.old.conn.now).is_open → IsStaged base [] (state S.Store tx.old.conn.now).now)
         → OnOk result (IsTrue (state S.Store tx.new.conn.now).is_open → IsStaged base steps.now (state S.Store tx.new.conn.now).now) }
     ensures database { HasCleanDisk (state S.Store tx.new.conn.now) → (base : Trees) → Ascends steps.now → (IsTrue (state S.Store tx.old.conn.now).is_open → IsStaged base [] (state S.Store tx.old.conn.now).now) → (IsTrue (state S.Store tx.old.conn.now).is_open → IsDatabase (state S.Store tx.old.conn.now).now)
         → OnOk result (IsTrue (state S.Store tx.new.conn.now).is_open → IsDatabase (state S.Store tx.new.conn.now).now) }
-    ensures kept { HasCleanDisk (state S.Store tx.new.conn.now) → KeepsCommit (state S.Store tx.old.conn.now) (state S.Store tx.new.conn.now) }
     ensures inside { HasCleanDisk (state S.Store tx.new.conn.now) → tx.old.conn.now.in_transaction ≡ true → OnOk result (tx.new.conn.now.in_transaction ≡ true) }
     ensures live { HasCleanDisk (state S.Store tx.new.conn.now) → IsTrue (state S.Store tx.old.conn.now).is_open → OnOk result (IsTrue (state S.Store tx.new.conn.now).is_open) }
-    ensures survives { LeavesNothing (state S.Store tx.old.conn.now) (state S.Store tx.new.conn.now) }
-    ensures faults { IfErr result IsCallFault }
+    ensures schema { HasCleanDisk (state S.Store tx.new.conn.now) → HasSchema register_schema (state S.Store tx.old.conn.now) → OnOk result (HasSchema register_schema (state S.Store tx.new.conn.now)) }
+    ensures stepped { Stepped S.Store tx.old tx.new }
 {
     for step in steps {
         put_step(tx, step.0, step.1)?;
@@ -92,40 +83,38 @@ pub fn put_steps<S: Alter>(
 fn write_schedule<S: Alter>(
     tx: &mut Transaction<'_, S>,
     schedule: &Schedule,
-) -> Result<(), StoreFault>
-    ensures same_reference { tx.new.conn.ghost_name ≡ tx.old.conn.ghost_name }
+) -> Result<(), CallFault>
     ensures ok { HasCleanDisk (state S.Store tx.new.conn.now) → (base : Trees) → (steps : List (ℕ × ℕ))
         → (IsTrue (state S.Store tx.old.conn.now).is_open → IsStaged base steps (state S.Store tx.old.conn.now).now)
         → OnOk result (IsTrue (state S.Store tx.new.conn.now).is_open → IsStaged base schedule.now (state S.Store tx.new.conn.now).now) }
     ensures database { HasCleanDisk (state S.Store tx.new.conn.now) → (base : Trees) → (steps : List (ℕ × ℕ)) → (IsTrue (state S.Store tx.old.conn.now).is_open → IsStaged base steps (state S.Store tx.old.conn.now).now)
         → OnOk result (IsTrue (state S.Store tx.new.conn.now).is_open → IsDatabase (state S.Store tx.new.conn.now).now) }
     ensures sound { OnOk result (IsSchedule schedule.now) }
-    ensures kept { HasCleanDisk (state S.Store tx.new.conn.now) → KeepsCommit (state S.Store tx.old.conn.now) (state S.Store tx.new.conn.now) }
     ensures inside { HasCleanDisk (state S.Store tx.new.conn.now) → OnOk result (tx.new.conn.now.in_transaction ≡ true) }
     ensures live { HasCleanDisk (state S.Store tx.new.conn.now) → OnOk result (IsTrue (state S.Store tx.new.conn.now).is_open) }
-    ensures survives { LeavesNothing (state S.Store tx.old.conn.now) (state S.Store tx.new.conn.now) }
-    ensures faults { IfErr result IsCallFault }
+    ensures stepped { Stepped S.Store tx.old tx.new }
 {
     clear_steps(tx)?;
     put_steps(tx, schedule.steps())
 }
 
 /// Sets the schedule of longest validities. It is no command: no record, nothing that is kept beside them and not the
-/// last accepted moment changes.
+/// last accepted moment changes; and the office keeps the days that it was made with.
 ///
 /// # Errors
 /// `Memory`; `Store` where the database fails. Nothing has changed then.
 pub fn set_schedule<S: Alter>(
     conn: &mut Connection<S>,
     schedule: &Schedule,
-) -> Result<(), StoreFault>
+) -> Result<(), CallFault>
     requires { conn.old.in_transaction ≡ false }
     ensures ok { (records : Records) → ShowsKept S.Store conn.old records → OnOk result (ShowsKept S.Store conn.new (with_schedule records schedule.now)) }
     ensures shown { (records : Records) → Shows S.Store conn.old records → OnOk result (Shows S.Store conn.new (with_schedule records schedule.now)) }
+    ensures days { (records : Records) → Shows S.Store conn.old records → OnOk result (KeepsOfficeDays S.Store conn.old conn.new) }
+    ensures live { HasCleanDisk (state S.Store conn.new) → OnOk result (IsTrue (state S.Store conn.new).is_open) }
     ensures err { OnErr result (Stays (state S.Store conn.old) (state S.Store conn.new)) }
     ensures survives { Survives (state S.Store conn.old) (state S.Store conn.new) (IsScheduled S.Store conn.old schedule.now) }
     ensures idle { conn.new.in_transaction ≡ false }
-    ensures faults { IfErr result IsCallFault }
 {
     let mut tx = conn.transaction();
     write_schedule(&mut tx, schedule)?;

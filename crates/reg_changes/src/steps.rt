@@ -1,14 +1,15 @@
 //! The steps of the changes, inside a transaction: each is one statement.
 
-ghost use Rattle.std.specs.Prelude.{◌≡◌, ◌+◌, true, length, IfOk, OnOk, IfErr};
+ghost use Rattle.std.specs.Prelude.{◌≡◌, ◌+◌, true, length, IfOk, OnOk};
 ghost use Rattle.sqlite.specs.Effect.{IsDatabase};
 ghost use Rattle.sqlite.specs.Held.{state};
-ghost use Rattle.sqlite.specs.State.{HasCleanDisk, KeepsCommit};
+ghost use Rattle.sqlite.specs.State.{HasCleanDisk};
 ghost use Rattle.reg_core.specs.Records.{Records};
 ghost use Rattle.reg_core.specs.Changes.{touched, with_subscriber, with_order, with_certificate, with_request, with_declined, with_revocation, with_crl};
 ghost use Rattle.reg_tables.specs.Columns.{Columns};
-ghost use Rattle.reg_tables.specs.Stays.{IsCallFault, LeavesNothing};
-ghost use Rattle.reg_changes.specs.Ran.{Before, Moved};
+ghost use Rattle.reg_tables.specs.Schema.{register_schema};
+ghost use Rattle.reg_tables.specs.Stays.{Stepped};
+ghost use Rattle.reg_changes.specs.Ran.{Before, HasSchema, Moved};
 ghost use Rattle.reg_changes.specs.Steps.{swept, ended_by, revoked_at, good_at, with_good, with_unlisted, marked, with_counts};
 
 use crate::texts;
@@ -16,18 +17,15 @@ use crate::writing::{sql_flag, sql_ground, sql_moment, sql_number, sql_reason, w
 use reg_core::{
     CertRow, Counts, CrlRow, Moment, OrderRow, RequestRow, RevocationRow, Serial, SubscriberRow,
 };
-use reg_tables::StoreFault;
+use reg_tables::CallFault;
 use sqlite::types::ValueRef;
 use sqlite::{Alter, Transaction};
 
 /// Turns the letter of each good certificate that ended before now, and answers how many.
-pub fn sweep<S: Alter>(tx: &mut Transaction<'_, S>, now: Moment) -> Result<usize, StoreFault>
-    ensures same_reference { tx.new.conn.ghost_name ≡ tx.old.conn.ghost_name }
+pub fn sweep<S: Alter>(tx: &mut Transaction<'_, S>, now: Moment) -> Result<usize, CallFault>
     ensures ok { HasCleanDisk (state S.Store tx.new.conn.now) → (records : Records) → (columns : Columns) → Before (state S.Store tx.old.conn.now) records columns
         → IfOk result (λ count. Moved (state S.Store tx.old.conn.now) (state S.Store tx.new.conn.now) records (swept now columns) × (count ≡ ended_by now columns)) }
-    ensures kept { HasCleanDisk (state S.Store tx.new.conn.now) → KeepsCommit (state S.Store tx.old.conn.now) (state S.Store tx.new.conn.now) }
-    ensures survives { LeavesNothing (state S.Store tx.old.conn.now) (state S.Store tx.new.conn.now) }
-    ensures faults { IfErr result IsCallFault }
+    ensures stepped { Stepped S.Store tx.old tx.new }
 {
     write(tx, texts::SWEEP, &[sql_moment(now)])
 }
@@ -36,13 +34,10 @@ pub fn sweep<S: Alter>(tx: &mut Transaction<'_, S>, now: Moment) -> Result<usize
 pub fn mark_revoked<S: Alter>(
     tx: &mut Transaction<'_, S>,
     serial: Serial,
-) -> Result<usize, StoreFault>
-    ensures same_reference { tx.new.conn.ghost_name ≡ tx.old.conn.ghost_name }
+) -> Result<usize, CallFault>
     ensures ok { HasCleanDisk (state S.Store tx.new.conn.now) → (records : Records) → (columns : Columns) → Before (state S.Store tx.old.conn.now) records columns
         → IfOk result (λ count. Moved (state S.Store tx.old.conn.now) (state S.Store tx.new.conn.now) records (revoked_at serial columns) × (count ≡ good_at serial columns)) }
-    ensures kept { HasCleanDisk (state S.Store tx.new.conn.now) → KeepsCommit (state S.Store tx.old.conn.now) (state S.Store tx.new.conn.now) }
-    ensures survives { LeavesNothing (state S.Store tx.old.conn.now) (state S.Store tx.new.conn.now) }
-    ensures faults { IfErr result IsCallFault }
+    ensures stepped { Stepped S.Store tx.old tx.new }
 {
     let bytes = serial.bytes20();
     write(tx, texts::MARK_REVOKED, &[ValueRef::Blob(&bytes)])
@@ -53,13 +48,10 @@ pub(crate) fn mark_listed<S: Alter>(
     tx: &mut Transaction<'_, S>,
     number: u64,
     this_update: Moment,
-) -> Result<(), StoreFault>
-    ensures same_reference { tx.new.conn.ghost_name ≡ tx.old.conn.ghost_name }
+) -> Result<(), CallFault>
     ensures ok { HasCleanDisk (state S.Store tx.new.conn.now) → (records : Records) → (columns : Columns) → Before (state S.Store tx.old.conn.now) records columns
         → OnOk result (Moved (state S.Store tx.old.conn.now) (state S.Store tx.new.conn.now) records (marked number this_update columns)) }
-    ensures kept { HasCleanDisk (state S.Store tx.new.conn.now) → KeepsCommit (state S.Store tx.old.conn.now) (state S.Store tx.new.conn.now) }
-    ensures survives { LeavesNothing (state S.Store tx.old.conn.now) (state S.Store tx.new.conn.now) }
-    ensures faults { IfErr result IsCallFault }
+    ensures stepped { Stepped S.Store tx.old tx.new }
 {
     let number = sql_number(number)?;
     let this_update = sql_moment(this_update);
@@ -68,16 +60,14 @@ pub(crate) fn mark_listed<S: Alter>(
 }
 
 /// Sets the counts.
-pub fn set_counts<S: Alter>(tx: &mut Transaction<'_, S>, counts: Counts) -> Result<(), StoreFault>
-    ensures same_reference { tx.new.conn.ghost_name ≡ tx.old.conn.ghost_name }
+pub fn set_counts<S: Alter>(tx: &mut Transaction<'_, S>, counts: Counts) -> Result<(), CallFault>
     ensures ok { HasCleanDisk (state S.Store tx.new.conn.now) → (records : Records) → (columns : Columns) → Before (state S.Store tx.old.conn.now) records columns
         → OnOk result (Moved (state S.Store tx.old.conn.now) (state S.Store tx.new.conn.now) records (with_counts counts columns)) }
     ensures database { HasCleanDisk (state S.Store tx.new.conn.now) → (records : Records) → (columns : Columns) → Before (state S.Store tx.old.conn.now) records columns
         → OnOk result (IsDatabase (state S.Store tx.new.conn.now).now) }
-    ensures kept { HasCleanDisk (state S.Store tx.new.conn.now) → KeepsCommit (state S.Store tx.old.conn.now) (state S.Store tx.new.conn.now) }
     ensures inside { HasCleanDisk (state S.Store tx.new.conn.now) → OnOk result (tx.new.conn.now.in_transaction ≡ true) }
-    ensures survives { LeavesNothing (state S.Store tx.old.conn.now) (state S.Store tx.new.conn.now) }
-    ensures faults { IfErr result IsCallFault }
+    ensures schema { HasCleanDisk (state S.Store tx.new.conn.now) → HasSchema register_schema (state S.Store tx.old.conn.now) → OnOk result (HasSchema register_schema (state S.Store tx.new.conn.now)) }
+    ensures stepped { Stepped S.Store tx.old tx.new }
 {
     let good = sql_number(counts.good)?;
     let revoked = sql_number(counts.revoked)?;
@@ -87,29 +77,23 @@ pub fn set_counts<S: Alter>(tx: &mut Transaction<'_, S>, counts: Counts) -> Resu
 }
 
 /// Sets the last accepted moment.
-pub(crate) fn set_last<S: Alter>(tx: &mut Transaction<'_, S>, now: Moment) -> Result<(), StoreFault>
-    ensures same_reference { tx.new.conn.ghost_name ≡ tx.old.conn.ghost_name }
+pub(crate) fn set_last<S: Alter>(tx: &mut Transaction<'_, S>, now: Moment) -> Result<(), CallFault>
     ensures ok { HasCleanDisk (state S.Store tx.new.conn.now) → (records : Records) → (columns : Columns) → Before (state S.Store tx.old.conn.now) records columns
         → OnOk result (Moved (state S.Store tx.old.conn.now) (state S.Store tx.new.conn.now) (touched records now) columns) }
     ensures database { HasCleanDisk (state S.Store tx.new.conn.now) → (records : Records) → (columns : Columns) → Before (state S.Store tx.old.conn.now) records columns
         → OnOk result (IsDatabase (state S.Store tx.new.conn.now).now) }
-    ensures kept { HasCleanDisk (state S.Store tx.new.conn.now) → KeepsCommit (state S.Store tx.old.conn.now) (state S.Store tx.new.conn.now) }
     ensures inside { HasCleanDisk (state S.Store tx.new.conn.now) → OnOk result (tx.new.conn.now.in_transaction ≡ true) }
-    ensures survives { LeavesNothing (state S.Store tx.old.conn.now) (state S.Store tx.new.conn.now) }
-    ensures faults { IfErr result IsCallFault }
+    ensures stepped { Stepped S.Store tx.old tx.new }
 {
     write(tx, texts::SET_LAST, &[sql_moment(now)])?;
     Ok(())
 }
 
 /// Declines the request with the id.
-pub(crate) fn set_declined<S: Alter>(tx: &mut Transaction<'_, S>, id: u64) -> Result<(), StoreFault>
-    ensures same_reference { tx.new.conn.ghost_name ≡ tx.old.conn.ghost_name }
+pub(crate) fn set_declined<S: Alter>(tx: &mut Transaction<'_, S>, id: u64) -> Result<(), CallFault>
     ensures ok { HasCleanDisk (state S.Store tx.new.conn.now) → (records : Records) → (columns : Columns) → Before (state S.Store tx.old.conn.now) records columns
         → OnOk result (Moved (state S.Store tx.old.conn.now) (state S.Store tx.new.conn.now) (with_declined records records.last id) columns) }
-    ensures kept { HasCleanDisk (state S.Store tx.new.conn.now) → KeepsCommit (state S.Store tx.old.conn.now) (state S.Store tx.new.conn.now) }
-    ensures survives { LeavesNothing (state S.Store tx.old.conn.now) (state S.Store tx.new.conn.now) }
-    ensures faults { IfErr result IsCallFault }
+    ensures stepped { Stepped S.Store tx.old tx.new }
 {
     let id = sql_number(id)?;
     write(tx, texts::SET_DECLINED, &[id])?;
@@ -120,13 +104,10 @@ pub(crate) fn set_declined<S: Alter>(tx: &mut Transaction<'_, S>, id: u64) -> Re
 pub(crate) fn put_subscriber<S: Alter>(
     tx: &mut Transaction<'_, S>,
     row: SubscriberRow,
-) -> Result<(), StoreFault>
-    ensures same_reference { tx.new.conn.ghost_name ≡ tx.old.conn.ghost_name }
+) -> Result<(), CallFault>
     ensures ok { HasCleanDisk (state S.Store tx.new.conn.now) → (records : Records) → (columns : Columns) → row.id ≡ length records.subscribers + 1 → Before (state S.Store tx.old.conn.now) records columns
         → OnOk result (Moved (state S.Store tx.old.conn.now) (state S.Store tx.new.conn.now) (with_subscriber records records.last row) columns) }
-    ensures kept { HasCleanDisk (state S.Store tx.new.conn.now) → KeepsCommit (state S.Store tx.old.conn.now) (state S.Store tx.new.conn.now) }
-    ensures survives { LeavesNothing (state S.Store tx.old.conn.now) (state S.Store tx.new.conn.now) }
-    ensures faults { IfErr result IsCallFault }
+    ensures stepped { Stepped S.Store tx.old tx.new }
 {
     let id = sql_number(row.id)?;
     let name = ValueRef::Text(row.name.as_bytes());
@@ -138,13 +119,10 @@ pub(crate) fn put_subscriber<S: Alter>(
 pub(crate) fn put_order<S: Alter>(
     tx: &mut Transaction<'_, S>,
     row: OrderRow,
-) -> Result<(), StoreFault>
-    ensures same_reference { tx.new.conn.ghost_name ≡ tx.old.conn.ghost_name }
+) -> Result<(), CallFault>
     ensures ok { HasCleanDisk (state S.Store tx.new.conn.now) → (records : Records) → (columns : Columns) → row.id ≡ length records.orders + 1 → Before (state S.Store tx.old.conn.now) records columns
         → OnOk result (Moved (state S.Store tx.old.conn.now) (state S.Store tx.new.conn.now) (with_order records records.last row) columns) }
-    ensures kept { HasCleanDisk (state S.Store tx.new.conn.now) → KeepsCommit (state S.Store tx.old.conn.now) (state S.Store tx.new.conn.now) }
-    ensures survives { LeavesNothing (state S.Store tx.old.conn.now) (state S.Store tx.new.conn.now) }
-    ensures faults { IfErr result IsCallFault }
+    ensures stepped { Stepped S.Store tx.old tx.new }
 {
     let id = sql_number(row.id)?;
     let subscriber = sql_number(row.subscriber)?;
@@ -154,16 +132,10 @@ pub(crate) fn put_order<S: Alter>(
 }
 
 /// Puts a certificate in.
-pub(crate) fn put_cert<S: Alter>(
-    tx: &mut Transaction<'_, S>,
-    row: CertRow,
-) -> Result<(), StoreFault>
-    ensures same_reference { tx.new.conn.ghost_name ≡ tx.old.conn.ghost_name }
+pub(crate) fn put_cert<S: Alter>(tx: &mut Transaction<'_, S>, row: CertRow) -> Result<(), CallFault>
     ensures ok { HasCleanDisk (state S.Store tx.new.conn.now) → (records : Records) → (columns : Columns) → Before (state S.Store tx.old.conn.now) records columns
         → OnOk result (Moved (state S.Store tx.old.conn.now) (state S.Store tx.new.conn.now) (with_certificate records records.last row) columns) }
-    ensures kept { HasCleanDisk (state S.Store tx.new.conn.now) → KeepsCommit (state S.Store tx.old.conn.now) (state S.Store tx.new.conn.now) }
-    ensures survives { LeavesNothing (state S.Store tx.old.conn.now) (state S.Store tx.new.conn.now) }
-    ensures faults { IfErr result IsCallFault }
+    ensures stepped { Stepped S.Store tx.old tx.new }
 {
     let serial = row.serial.bytes20();
     let order = sql_number(row.order)?;
@@ -182,13 +154,10 @@ pub(crate) fn put_letter<S: Alter>(
     tx: &mut Transaction<'_, S>,
     serial: Serial,
     not_after: Moment,
-) -> Result<(), StoreFault>
-    ensures same_reference { tx.new.conn.ghost_name ≡ tx.old.conn.ghost_name }
+) -> Result<(), CallFault>
     ensures ok { HasCleanDisk (state S.Store tx.new.conn.now) → (records : Records) → (columns : Columns) → Before (state S.Store tx.old.conn.now) records columns
         → OnOk result (Moved (state S.Store tx.old.conn.now) (state S.Store tx.new.conn.now) records (with_good serial not_after columns)) }
-    ensures kept { HasCleanDisk (state S.Store tx.new.conn.now) → KeepsCommit (state S.Store tx.old.conn.now) (state S.Store tx.new.conn.now) }
-    ensures survives { LeavesNothing (state S.Store tx.old.conn.now) (state S.Store tx.new.conn.now) }
-    ensures faults { IfErr result IsCallFault }
+    ensures stepped { Stepped S.Store tx.old tx.new }
 {
     let serial = serial.bytes20();
     let not_after = sql_moment(not_after);
@@ -200,13 +169,10 @@ pub(crate) fn put_letter<S: Alter>(
 pub(crate) fn put_request<S: Alter>(
     tx: &mut Transaction<'_, S>,
     row: RequestRow,
-) -> Result<(), StoreFault>
-    ensures same_reference { tx.new.conn.ghost_name ≡ tx.old.conn.ghost_name }
+) -> Result<(), CallFault>
     ensures ok { HasCleanDisk (state S.Store tx.new.conn.now) → (records : Records) → (columns : Columns) → row.id ≡ length records.requests + 1 → Before (state S.Store tx.old.conn.now) records columns
         → OnOk result (Moved (state S.Store tx.old.conn.now) (state S.Store tx.new.conn.now) (with_request records records.last row) columns) }
-    ensures kept { HasCleanDisk (state S.Store tx.new.conn.now) → KeepsCommit (state S.Store tx.old.conn.now) (state S.Store tx.new.conn.now) }
-    ensures survives { LeavesNothing (state S.Store tx.old.conn.now) (state S.Store tx.new.conn.now) }
-    ensures faults { IfErr result IsCallFault }
+    ensures stepped { Stepped S.Store tx.old tx.new }
 {
     let id = sql_number(row.id)?;
     let serial = row.serial.bytes20();
@@ -225,13 +191,10 @@ pub(crate) fn put_request<S: Alter>(
 pub(crate) fn put_revocation<S: Alter>(
     tx: &mut Transaction<'_, S>,
     row: RevocationRow,
-) -> Result<(), StoreFault>
-    ensures same_reference { tx.new.conn.ghost_name ≡ tx.old.conn.ghost_name }
+) -> Result<(), CallFault>
     ensures ok { HasCleanDisk (state S.Store tx.new.conn.now) → (records : Records) → (columns : Columns) → Before (state S.Store tx.old.conn.now) records columns
         → OnOk result (Moved (state S.Store tx.old.conn.now) (state S.Store tx.new.conn.now) (with_revocation records records.last row) columns) }
-    ensures kept { HasCleanDisk (state S.Store tx.new.conn.now) → KeepsCommit (state S.Store tx.old.conn.now) (state S.Store tx.new.conn.now) }
-    ensures survives { LeavesNothing (state S.Store tx.old.conn.now) (state S.Store tx.new.conn.now) }
-    ensures faults { IfErr result IsCallFault }
+    ensures stepped { Stepped S.Store tx.old tx.new }
 {
     let serial = row.serial.bytes20();
     let at = sql_moment(row.at);
@@ -251,13 +214,10 @@ pub(crate) fn put_listed<S: Alter>(
     tx: &mut Transaction<'_, S>,
     row: RevocationRow,
     not_after: Moment,
-) -> Result<(), StoreFault>
-    ensures same_reference { tx.new.conn.ghost_name ≡ tx.old.conn.ghost_name }
+) -> Result<(), CallFault>
     ensures ok { HasCleanDisk (state S.Store tx.new.conn.now) → (records : Records) → (columns : Columns) → Before (state S.Store tx.old.conn.now) records columns
         → OnOk result (Moved (state S.Store tx.old.conn.now) (state S.Store tx.new.conn.now) records (with_unlisted row not_after columns)) }
-    ensures kept { HasCleanDisk (state S.Store tx.new.conn.now) → KeepsCommit (state S.Store tx.old.conn.now) (state S.Store tx.new.conn.now) }
-    ensures survives { LeavesNothing (state S.Store tx.old.conn.now) (state S.Store tx.new.conn.now) }
-    ensures faults { IfErr result IsCallFault }
+    ensures stepped { Stepped S.Store tx.old tx.new }
 {
     let serial = row.serial.bytes20();
     let at = sql_moment(row.at);
@@ -277,13 +237,10 @@ pub(crate) fn put_crl<S: Alter>(
     tx: &mut Transaction<'_, S>,
     row: CrlRow,
     der: &[u8],
-) -> Result<(), StoreFault>
-    ensures same_reference { tx.new.conn.ghost_name ≡ tx.old.conn.ghost_name }
+) -> Result<(), CallFault>
     ensures ok { HasCleanDisk (state S.Store tx.new.conn.now) → (records : Records) → (columns : Columns) → row.number ≡ length records.crls + 1 → Before (state S.Store tx.old.conn.now) records columns
         → OnOk result (Moved (state S.Store tx.old.conn.now) (state S.Store tx.new.conn.now) (with_crl records records.last (record { number = row.number; this_update = row.this_update; bytes = der.now })) columns) }
-    ensures kept { HasCleanDisk (state S.Store tx.new.conn.now) → KeepsCommit (state S.Store tx.old.conn.now) (state S.Store tx.new.conn.now) }
-    ensures survives { LeavesNothing (state S.Store tx.old.conn.now) (state S.Store tx.new.conn.now) }
-    ensures faults { IfErr result IsCallFault }
+    ensures stepped { Stepped S.Store tx.old tx.new }
 {
     let number = sql_number(row.number)?;
     let this_update = sql_moment(row.this_update);

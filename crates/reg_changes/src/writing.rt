@@ -3,13 +3,13 @@
 ghost use Rattle.std.specs.Prelude.{◌≡◌, ◌<◌, ◌≤◌, ◌^◌, pos, cond, OnOk, IfOk, IfErr};
 ghost use Rattle.sqlite.specs.Values.{bound};
 ghost use Rattle.sqlite.specs.Held.{state};
-ghost use Rattle.sqlite.specs.State.{HasCleanDisk, KeepsCommit};
+ghost use Rattle.sqlite.specs.State.{HasCleanDisk};
 ghost use Rattle.reg_tables.specs.Rows.{ground_place};
-ghost use Rattle.reg_tables.specs.Stays.{IsCallFault, LeavesNothing};
+ghost use Rattle.reg_tables.specs.Stays.{Stepped};
 ghost use Rattle.reg_changes.specs.Ran.{Ran};
 
 use reg_core::{Ground, Moment};
-use reg_tables::StoreFault;
+use reg_tables::CallFault;
 use sqlite::types::ValueRef;
 use sqlite::{Alter, Transaction};
 
@@ -17,15 +17,14 @@ use sqlite::{Alter, Transaction};
 ///
 /// # Errors
 /// `Store` above 2^63 - 1, which SQL doesn't have.
-pub fn sql_number(n: u64) -> Result<ValueRef<'static>, StoreFault>
+pub fn sql_number(n: u64) -> Result<ValueRef<'static>, CallFault>
     ensures value { IfOk result (λ value. value ≡ ValueRef.Int (pos n)) }
     ensures had { OnOk result (n < 2 ^ 63) }
-    ensures refused { IfErr result (λ fault. (fault ≡ StoreFault.Store) × (2 ^ 63 ≤ n)) }
-    ensures faults { IfErr result IsCallFault }
+    ensures refused { IfErr result (λ fault. (fault ≡ CallFault.Store) × (2 ^ 63 ≤ n)) }
 {
     match i64::try_from(n) {
         Ok(n) => Ok(ValueRef::Int(n)),
-        Err(_) => Err(StoreFault::Store),
+        Err(_) => Err(CallFault::Store),
     }
 }
 
@@ -77,12 +76,9 @@ pub fn write<S: Alter>(
     tx: &mut Transaction<'_, S>,
     sql: &str,
     params: &[ValueRef<'_>],
-) -> Result<usize, StoreFault>
-    ensures same_reference { tx.new.conn.ghost_name ≡ tx.old.conn.ghost_name }
+) -> Result<usize, CallFault>
     ensures ran { HasCleanDisk (state S.Store tx.new.conn.now) → IfOk result (Ran sql.now (bound params.now) (state S.Store tx.old.conn.now) (state S.Store tx.new.conn.now)) }
-    ensures kept { HasCleanDisk (state S.Store tx.new.conn.now) → KeepsCommit (state S.Store tx.old.conn.now) (state S.Store tx.new.conn.now) }
-    ensures survives { LeavesNothing (state S.Store tx.old.conn.now) (state S.Store tx.new.conn.now) }
-    ensures faults { IfErr result IsCallFault }
+    ensures stepped { Stepped S.Store tx.old tx.new }
 {
     Ok(tx.execute(sql, params)?)
 }

@@ -8,5 +8,7 @@ pub mod Moments
 pub mod Numbers
 pub mod Padded
 pub mod Policies
+pub mod PublicLaws
 pub mod Schedules
 pub mod Serials
+pub mod TextLaws

@@ -8,6 +8,7 @@ pub mod Grounds
 pub mod Integer
 pub mod Issuer
 pub mod Label
+pub mod Laws
 pub mod Lines
 pub mod Number
 pub mod Policy

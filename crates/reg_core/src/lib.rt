@@ -7,6 +7,7 @@ mod command;
 mod decide;
 mod grounds;
 mod label;
+pub mod laws;
 mod memory;
 mod moment;
 mod number;

@@ -2,5 +2,4 @@ pub mod Octets
 pub mod Values
 pub mod Integers
 pub mod Names
-pub mod SerialOctets
 pub mod PublicLaws

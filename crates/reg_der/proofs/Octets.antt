@@ -1,13 +1,30 @@
--- Octets, and the numbers that they spell up to leading zeros. Most facts on octets stand in reg_core's `Integers`.
+-- Octets, and the numbers that they spell up to leading zeros.
 use Rattle.std.proofs.Common.{◌≡◌, ℕ, zero, suc, ◌+◌, ◌*◌, ◌^◌, ◌<◌, ◌≤◌, List, [], ◌∷◌, ◌++◌, length, get_or, take, drop, replicate, refl, sym, ap, ◌∙◌, arith, inl, inr}
 use Rattle.std.proofs.Math.Nat.{pow-le-pow_right}
 use Rattle.std.proofs.lemmas.Int.Digits.{number_more}
 use Rattle.std.proofs.lemmas.Bool.{cases_lt}
 use Rattle.std.proofs.lemmas.List.{length-append, length-replicate, length-take, get_or-drop, get_or_past, get_or_append_left}
 use Rattle.reg_core.specs.Integer.{IsBytes, value, without_zeros}
-use Rattle.reg_core.proofs.Integers.{is_bytes-cons, is_bytes-tail, is_bytes-take, is_bytes-append, value-cons, value-lt, same_bytes}
+use Rattle.reg_core.proofs.PublicLaws.{octets_are_places, octets_are_below, one_spelling}
 
 -- ---- bytes
+
+pub is_bytes-cons : (b : ℕ) (bs : List ℕ) → b < 256 → IsBytes bs → IsBytes (b ∷ bs)
+is_bytes-cons b bs h hs zero = h
+is_bytes-cons b bs h hs (suc i) = hs i
+
+pub is_bytes-tail : (b : ℕ) (bs : List ℕ) → IsBytes (b ∷ bs) → IsBytes bs
+is_bytes-tail b bs h i = h (suc i)
+
+pub is_bytes-take : (k : ℕ) (bs : List ℕ) → IsBytes bs → IsBytes (take k bs)
+is_bytes-take zero bs h i = omega arith
+is_bytes-take (suc k) [] h i = omega arith
+is_bytes-take (suc k) (b ∷ bs) h zero = h 0
+is_bytes-take (suc k) (b ∷ bs) h (suc i) = is_bytes-take k bs (is_bytes-tail b bs h) i
+
+pub is_bytes-append : (xs ys : List ℕ) → IsBytes xs → IsBytes ys → IsBytes (xs ++ ys)
+is_bytes-append [] ys hx hy = hy
+is_bytes-append (x ∷ xs) ys hx hy = is_bytes-cons x (xs ++ ys) (hx 0) (is_bytes-append xs ys (is_bytes-tail x xs hx) hy)
 
 pub is_bytes-drop : (n : ℕ) (bytes : List ℕ) → IsBytes bytes → IsBytes (drop n bytes)
 is_bytes-drop n bytes h i = rw get_or-drop (h (n + i))
@@ -36,7 +53,7 @@ value-take_more octets i lt = number_more 256 octets i lt
 -- before the last of four octets it is below 2^24
 pub value-fits : (octets : List ℕ) (i : ℕ) → IsBytes octets → length octets ≤ 4 → i < length octets → value (take i octets) < 16777216
 value-fits octets i h few lt =
-    let below = value-lt (take i octets) (is_bytes-take i octets h) in
+    let below = octets_are_below (take i octets) (is_bytes-take i octets h) in
     let places : 256 ^ length (take i octets) ≤ 256 ^ 3 = pow-le-pow_right {n = 256} (omega arith) {i = length (take i octets)} {j = 3} (omega (arith, length-take i octets)) in
     omega arith
 
@@ -44,7 +61,7 @@ value-fits octets i h few lt =
 
 value-zeros : (n : ℕ) (octets : List ℕ) → value (replicate n 0 ++ octets) ≡ value octets
 value-zeros zero octets = refl
-value-zeros (suc n) octets = value-cons 0 (replicate n 0 ++ octets) ∙ let ih = value-zeros n octets in omega (arith, ih)
+value-zeros (suc n) octets = octets_are_places 0 (replicate n 0 ++ octets) ∙ let ih = value-zeros n octets in omega (arith, ih)
 
 without_zeros-zeros : (n : ℕ) (octets : List ℕ) → without_zeros (replicate n 0 ++ octets) ≡ without_zeros octets
 without_zeros-zeros zero octets = refl
@@ -79,5 +96,5 @@ same_digits xs ys hx hy same =
     let long_y = replicate (length xs) 0 ++ ys in
     let len : length long_x ≡ length long_y = omega (arith, length-append (replicate (length ys) 0) xs, length-append (replicate (length xs) 0) ys, length-replicate {A = ℕ} (length ys) 0, length-replicate {A = ℕ} (length xs) 0) in
     let number : value long_x ≡ value long_y = value-zeros (length ys) xs ∙ same ∙ sym (value-zeros (length xs) ys) in
-    let one = same_bytes long_x long_y (is_bytes-append (replicate (length ys) 0) xs (is_bytes-zeros (length ys)) hx) (is_bytes-append (replicate (length xs) 0) ys (is_bytes-zeros (length xs)) hy) len number in
+    let one = one_spelling long_x long_y (is_bytes-append (replicate (length ys) 0) xs (is_bytes-zeros (length ys)) hx) (is_bytes-append (replicate (length xs) 0) ys (is_bytes-zeros (length xs)) hy) len number in
     sym (without_zeros-zeros (length ys) xs) ∙ ap without_zeros one ∙ without_zeros-zeros (length xs) ys

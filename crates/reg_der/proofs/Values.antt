@@ -7,8 +7,8 @@ use Rattle.std.proofs.lemmas.List.{take_at, drop_at, take-append-drop, length-ap
 use Rattle.reg_core.specs.Integer.{IsBytes, value, without_zeros}
 use Rattle.reg_der.specs.Der.{fewest, length_octets, tlv, IsTlv, IsLength, IsLongForm, NoTwoPrefixes, LengthIsFewest, ValuesHaveSizes}
 use Rattle.reg_der.specs.Reading.{◌>>=◌, Parts, Takes, TakesValue, ReadsValues, ReadsAgain, long_at, length_at, counted_at, value_at}
-use Rattle.reg_core.proofs.Integers.{is_bytes-cons, is_bytes-tail, is_bytes-take, is_bytes-append, is_bytes-bytes_high_first, value-lt, value-without_zeros, value-bytes_high_first, length-bytes_high_first, same_bytes}
-use Rattle.reg_der.proofs.Octets.{is_bytes-drop, is_bytes-without_zeros, without_zeros-leads, without_zeros-first, length-without_zeros, same_digits}
+use Rattle.reg_core.proofs.PublicLaws.{octets_are_below, octets_are_lowest, one_spelling, zeros_count_nothing}
+use Rattle.reg_der.proofs.Octets.{is_bytes-cons, is_bytes-tail, is_bytes-take, is_bytes-append, is_bytes-drop, is_bytes-without_zeros, without_zeros-leads, without_zeros-first, length-without_zeros, same_digits}
 
 -- ---- steps of a reading that did not fail
 
@@ -41,32 +41,32 @@ Takes-then a x b y c p q = record { parts = p.parts ∙ ap (λ (t : List ℕ). x
 -- ---- the fewest octets of a length
 
 value-four : (size : ℕ) → size < 2 ^ 32 → value (bytes_high_first 4 size) ≡ size
-value-four size fits = value-bytes_high_first 4 size ∙ mod-eq_of_lt (omega arith)
+value-four size fits = (octets_are_lowest 4 size).spelled ∙ mod-eq_of_lt (omega arith)
 
 pub length-fewest : (size : ℕ) → length (fewest size) ≤ 4
 unfolding fewest
-length-fewest size = omega (arith, length-without_zeros (bytes_high_first 4 size), length-bytes_high_first 4 size)
+length-fewest size = omega (arith, length-without_zeros (bytes_high_first 4 size), (octets_are_lowest 4 size).counted)
 
 pub is_bytes-fewest : (size : ℕ) → IsBytes (fewest size)
 unfolding fewest
-is_bytes-fewest size = is_bytes-without_zeros (bytes_high_first 4 size) (is_bytes-bytes_high_first 4 size)
+is_bytes-fewest size = is_bytes-without_zeros (bytes_high_first 4 size) (octets_are_lowest 4 size).each_byte
 
 pub value-fewest : (size : ℕ) → size < 2 ^ 32 → value (fewest size) ≡ size
 unfolding fewest
-value-fewest size fits = value-without_zeros (bytes_high_first 4 size) ∙ value-four size fits
+value-fewest size fits = zeros_count_nothing (bytes_high_first 4 size) ∙ value-four size fits
 
 -- digits that spell a size are its fewest octets but for leading zeros
 pub fewest-digits : (digits : List ℕ) (size : ℕ) → IsBytes digits → size < 2 ^ 32 → value digits ≡ size → fewest size ≡ without_zeros digits
 unfolding fewest
 fewest-digits digits size each fits spelled =
-    same_digits (bytes_high_first 4 size) digits (is_bytes-bytes_high_first 4 size) each (value-four size fits ∙ sym spelled)
+    same_digits (bytes_high_first 4 size) digits (octets_are_lowest 4 size).each_byte each (value-four size fits ∙ sym spelled)
 
 pub fewest-some : (size : ℕ) → size < 2 ^ 32 → 0 < size → 0 < length (fewest size)
 fewest-some size fits some =
     let number = value-fewest size fits in
     elim (cases_lt 0 (length (fewest size))) [
       | inl lt ↦ lt
-      | inr le ↦ absurd (let below = value-lt (fewest size) (is_bytes-fewest size) in
+      | inr le ↦ absurd (let below = octets_are_below (fewest size) (is_bytes-fewest size) in
           let one : 256 ^ length (fewest size) ≡ 1 = ap (λ (n : ℕ). 256 ^ n) (let none : length (fewest size) ≡ 0 = omega arith in none) in
           omega arith)
     ]
@@ -133,7 +133,7 @@ refused_digits count bytes = eqb (get_or bytes 0 0) 0 || ltb (value (take count 
 -- the digits that a length above 127 was read from are its fewest
 digits_fewest : (digits : List ℕ) → IsBytes digits → length digits ≤ 4 → 0 < get_or digits 0 0 → fewest (value digits) ≡ digits
 digits_fewest digits each few first =
-    let below = value-lt digits each in
+    let below = octets_are_below digits each in
     let places : 256 ^ length digits ≤ 256 ^ 4 = pow-le-pow_right {n = 256} (omega arith) {i = length digits} {j = 4} few in
     fewest-digits digits (value digits) each (omega arith) refl ∙ without_zeros-leads digits first
 
@@ -154,7 +154,7 @@ long_takes count bytes x each e =
     let len : length (take count bytes) ≡ count = omega (arith, length-take count bytes) in
     let spelled = digits_fewest (take count bytes) digit_bytes (omega arith) first in
     let octets : length_octets (value (take count bytes)) ≡ (128 + count) ∷ take count bytes = length_octets-long (value (take count bytes)) large ∙ rw (spelled, len) refl in
-    let below = value-lt (take count bytes) digit_bytes in
+    let below = octets_are_below (take count bytes) digit_bytes in
     let places : 256 ^ length (take count bytes) ≤ 256 ^ 4 = pow-le-pow_right {n = 256} (omega arith) {i = length (take count bytes)} {j = 4} (omega arith) in
     let whole : Takes ((128 + count) ∷ bytes) (length_octets (value (take count bytes))) (drop count bytes) = record { parts = rw octets (ap (λ (t : List ℕ). (128 + count) ∷ t) (sym (take-append-drop count bytes))); each = is_bytes-drop count bytes each } in
     subst (λ (y : ℕ × List ℕ). Takes ((128 + count) ∷ bytes) (length_octets y.0) y.1 × (y.0 < 2 ^ 32)) (some_is (value (take count bytes), drop count bytes) x inner.1) (whole, omega arith)
@@ -303,7 +303,7 @@ length_octets-fewest_long octets size fits long =
           let few : length (fewest size) ≤ length long.digits = rw digits no_more in
           elim (cases_lt (length (fewest size)) (length long.digits)) [
             | inl fewer ↦ inr (omega arith)
-            | inr as_many ↦ let same = same_bytes (fewest size) long.digits (is_bytes-fewest size) long.each (omega arith) (value-fewest size fits ∙ sym long.spelled) in
+            | inr as_many ↦ let same = one_spelling (fewest size) long.digits (is_bytes-fewest size) long.each (omega arith) (value-fewest size fits ∙ sym long.spelled) in
                 inl (long.counted ∙ rw (← same) (sym spelled))
           ]
     ]

@@ -2,4 +2,3 @@ pub mod Der
 pub mod Values
 pub mod Reading
 pub mod Authority
-pub mod Numbers

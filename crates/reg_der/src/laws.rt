@@ -1,7 +1,6 @@
 //! Laws of DER values. The functions do nothing: their contracts are the laws. Proofs above cite them by `proofs/PublicLaws.antt`.
 
 ghost use Rattle.reg_der.specs.Der.{NoTwoPrefixes, LengthIsFewest, ValuesHaveSizes};
-ghost use Rattle.reg_der.specs.Numbers.{OneNumber, OctetsArePlaces, OctetsAreBelow, SerialsInOrder, OneSerial};
 ghost use Rattle.reg_der.specs.Reading.{ReadsValues, ReadsAgain};
 
 /// No two prefixes of the same bytes are values, so what `take` gives is the only one.
@@ -24,21 +23,4 @@ pub fn values_have_sizes()
 pub fn values_are_read()
     ensures reads { ReadsValues }
     ensures again { ReadsAgain }
-{}
-
-/// Numbers below 2^160 with the same INTEGER are the same.
-pub fn one_number()
-    ensures { OneNumber }
-{}
-
-/// What octets, the highest first, say of the number that they spell.
-pub fn octets_are_digits()
-    ensures places { OctetsArePlaces }
-    ensures below { OctetsAreBelow }
-{}
-
-/// Serial numbers have the order of their 20 octets, and no two have the same.
-pub fn serials_in_order()
-    ensures order { SerialsInOrder }
-    ensures one { OneSerial }
 {}

@@ -13,10 +13,11 @@ use Rattle.reg_core.specs.declared.refusal.Fault.{Fault}
 use Rattle.reg_core.specs.declared.refusal.Fault.TheVariants.{Refused, Memory, Store, Signer, Read, Write}
 use Rattle.reg_core.specs.declared.rows.RequestRow.{RequestRow}
 use Rattle.reg_heads.specs.Response.{Response}
-use Rattle.reg_http.specs.Answers.{Answers}
+use Rattle.reg_http.specs.RespondsTo.{RespondsTo}
 use Rattle.reg_http.specs.Asked.{Asked, refused, only, unread, malformed, ocsp_of, crl_of, status_of, counts_of, request_of}
 use Rattle.reg_laws.specs.Run.{Happens}
-use Rattle.reg_faces.specs.Kept.{Signs, Runs, Asks, Ocsps, Crls, AddsARequestAtMost}
+use Rattle.reg_faces.specs.Faces.{AddsARequestAtMost}
+use Rattle.reg_office.specs.Calls.{Signs, Runs, Asks, Ocsps, Crls}
 use Rattle.reg_crl.specs.Signing.{Identity, signed_by}
 
 -- records that stay
@@ -55,7 +56,7 @@ request_adds signed now serial word before after (Err Write) fault = absurd faul
 
 -- any answer
 pub answer_adds : (signs : Signs) (identity : Identity) (now : ℕ) (asked : Asked) (response : Response) (before after : Records)
-    → Answers (Runs signs identity) Asks (Ocsps signs identity) Crls now before asked response after → AddsARequestAtMost now before after
+    → RespondsTo (Runs signs identity) Asks (Ocsps signs identity) Crls now before asked response after → AddsARequestAtMost now before after
 answer_adds signs identity now (refused status) response before after answered = nothing_added now before after answered.0
 answer_adds signs identity now (only method) response before after answered = nothing_added now before after answered.0
 answer_adds signs identity now unread response before after answered = nothing_added now before after answered.0

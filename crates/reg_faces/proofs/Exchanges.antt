@@ -11,10 +11,10 @@ use Rattle.reg_core.specs.declared.refusal.Fault.{Fault}
 use Rattle.reg_core.specs.declared.refusal.Fault.TheVariants.{Refused, Memory, Store, Signer, Read, Write}
 use Rattle.reg_heads.specs.Frame.{Part, refused, asked}
 use Rattle.reg_heads.specs.Response.{Response}
-use Rattle.reg_http.specs.Answers.{Answers}
+use Rattle.reg_http.specs.RespondsTo.{RespondsTo}
 use Rattle.reg_http.specs.Asked.{Asked, refused as refuses, only, unread, malformed, ocsp_of, crl_of, status_of, counts_of, request_of, asked as asks_for}
-use Rattle.reg_http.specs.Served.{Ends, Responds}
-use Rattle.reg_faces.specs.Moves.{Moves}
+use Rattle.reg_http.specs.Served.{ServingEnds, Responds}
+use Rattle.reg_office.specs.Leads.{Leads}
 use Rattle.reg_faces.proofs.Steps.{stays, follows}
 
 module _ {S I R : Type 0} (is_clean : S → Type 0) (stands : I → S → R → Type 0)
@@ -23,28 +23,28 @@ module _ {S I R : Type 0} (is_clean : S → Type 0) (stands : I → S → R → 
     (kept_runs : I → R → ℕ → Command → Result Reply Fault → R → Type 0) (kept_asks : I → R → ℕ → Query → Result Reply Fault → R → Type 0)
     (kept_ocsps : I → R → ℕ → List ℕ → Result (List ℕ) NoMemory → R → Type 0) (kept_crls : I → R → Option ℕ → Result (List ℕ) Fault → R → Type 0)
     (lifts_runs : (s : S) (now : ℕ) (command : Command) (outcome : Result Reply Fault) (t : S) → runs s now command outcome t
-    → Moves is_clean stands (λ i before after. kept_runs i before now command outcome after) s t)
+    → Leads is_clean stands (λ i before after. kept_runs i before now command outcome after) s t)
     (lifts_asks : (s : S) (now : ℕ) (query : Query) (outcome : Result Reply Fault) (t : S) → asks s now query outcome t
-    → Moves is_clean stands (λ i before after. kept_asks i before now query outcome after) s t)
+    → Leads is_clean stands (λ i before after. kept_asks i before now query outcome after) s t)
     (lifts_ocsps : (s : S) (now : ℕ) (request : List ℕ) (given : Result (List ℕ) NoMemory) (t : S) → ocsps s now request given t
-    → Moves is_clean stands (λ i before after. kept_ocsps i before now request given after) s t)
+    → Leads is_clean stands (λ i before after. kept_ocsps i before now request given after) s t)
     (lifts_crls : (s : S) (number : Option ℕ) (given : Result (List ℕ) Fault) (t : S) → crls s number given t
-    → Moves is_clean stands (λ i before after. kept_crls i before number given after) s t) where
+    → Leads is_clean stands (λ i before after. kept_crls i before number given after) s t) where
   -- the answers of the records
   abbrev pub KeptAnswers : ℕ → Asked → Response → I → R → R → Type 0
   KeptAnswers now what response i before after =
-      Answers (kept_runs i) (kept_asks i) (kept_ocsps i) (kept_crls i) now before what response after
+      RespondsTo (kept_runs i) (kept_asks i) (kept_ocsps i) (kept_crls i) now before what response after
 
   -- an answer that asks nothing of the office
   unasked : (now : ℕ) (what : Asked) (response : Response) (s t : S) → t ≡ s
       → ((i : I) (before after : R) → after ≡ before → KeptAnswers now what response i before after)
-      → Moves is_clean stands (KeptAnswers now what response) s t
+      → Leads is_clean stands (KeptAnswers now what response) s t
   unasked now what response s t same from =
       follows is_clean stands (λ i before after. after ≡ before) (KeptAnswers now what response) from s t (stays is_clean stands s t same)
 
   -- one answer
-  pub answer_moves : (now : ℕ) (what : Asked) (response : Response) (s t : S) → Answers runs asks ocsps crls now s what response t
-      → Moves is_clean stands (KeptAnswers now what response) s t
+  pub answer_moves : (now : ℕ) (what : Asked) (response : Response) (s t : S) → RespondsTo runs asks ocsps crls now s what response t
+      → Leads is_clean stands (KeptAnswers now what response) s t
   answer_moves now (refuses status) response s t (same, is) = unasked now (refuses status) response s t same (λ i before after stayed. (stayed, is))
   answer_moves now (only method) response s t (same, is) = unasked now (only method) response s t same (λ i before after stayed. (stayed, is))
   answer_moves now unread response s t (same, is) = unasked now unread response s t same (λ i before after stayed. (stayed, is))
@@ -97,7 +97,7 @@ module _ {S I R : Type 0} (is_clean : S → Type 0) (stands : I → S → R → 
 
   -- one response
   pub response_moves : (now : ℕ) (part : Part) (text : List ℕ) (s t : S) → Responds runs asks ocsps crls now s part text t
-      → Moves is_clean stands (KeptResponds now part text) s t
+      → Leads is_clean stands (KeptResponds now part text) s t
   response_moves now (refused status) text s t (same, is) =
       follows is_clean stands
       (λ i before after. after ≡ before)
@@ -126,13 +126,13 @@ module _ {S I R : Type 0} (is_clean : S → Type 0) (stands : I → S → R → 
   -- the endings of the records
   abbrev pub KeptEnds : ℕ → Option (List ℕ) → Option (List ℕ) → Option (List ℕ) → Option (List ℕ) → Result (Unit {0}) Fault → I → R → R → Type 0
   KeptEnds now input left out written result i before after =
-      Ends (kept_runs i) (kept_asks i) (kept_ocsps i) (kept_crls i) now before after input left out written result
+      ServingEnds (kept_runs i) (kept_asks i) (kept_ocsps i) (kept_crls i) now before after input left out written result
 
   -- one request served
   pub served_moves : (now : ℕ) (s t : S) (input left out written : Option (List ℕ)) (result : Result (Unit {0}) Fault)
-      → Ends runs asks ocsps crls now s t input left out written result
+      → ServingEnds runs asks ocsps crls now s t input left out written result
       → (result ≡ Err Read → t ≡ s) → (result ≡ Err Memory → t ≡ s)
-      → Moves is_clean stands (KeptEnds now input left out written result) s t
+      → Leads is_clean stands (KeptEnds now input left out written result) s t
   served_moves now s t input left out written (Ok done) ended read memory =
       follows is_clean stands
       (KeptResponds now ended.part ended.text)

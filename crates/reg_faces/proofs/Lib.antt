@@ -1,6 +1,6 @@
 pub mod Added
+pub mod Calling
 pub mod Steps
-pub mod KeepingLemmas
 pub mod Lines
 pub mod Failures
 pub mod Exchanges

@@ -9,16 +9,16 @@ use Rattle.reg_lines.specs.Answer.{Answer, Replies, came_to}
 use Rattle.reg_lines.specs.Import.{Row, RowReplies, ImportEnds, data_rows}
 use Rattle.reg_lines.specs.Meaning.{Meaning, tells}
 use Rattle.reg_lines.specs.Script.{Finished, ScriptEnds, StoppedAtRead, StoppedAtWrite, line_of, pieces}
-use Rattle.reg_faces.specs.Moves.{Moves}
+use Rattle.reg_office.specs.Leads.{Leads}
 use Rattle.reg_faces.proofs.Steps.{stays, follows, chains, runs}
 
 module _ {S I R : Type 0} (is_clean : S → Type 0) (stands : I → S → R → Type 0)
     (answers : S → Meaning → Answer → S → Type 0) (kept : I → R → Meaning → Answer → R → Type 0)
     (lifts : (s : S) (meaning : Meaning) (answer : Answer) (t : S) → answers s meaning answer t
-    → Moves is_clean stands (λ i before after. kept i before meaning answer after) s t) where
+    → Leads is_clean stands (λ i before after. kept i before meaning answer after) s t) where
   -- one line
   pub line_moves : (s : S) (line reply : List ℕ) (t : S) → Replies answers s line reply t
-      → Moves is_clean stands (λ i before after. Replies (kept i) before line reply after) s t
+      → Leads is_clean stands (λ i before after. Replies (kept i) before line reply after) s t
   line_moves s line reply t (inl (meaning, answer, means, answered, told)) =
       follows is_clean stands
       (λ i before after. kept i before meaning answer after)
@@ -46,13 +46,13 @@ module _ {S I R : Type 0} (is_clean : S → Type 0) (stands : I → S → R → 
 
   -- lines, one after the other
   pub lines_move : (s t : S) (lines replies : List (List ℕ)) → Answered (Replies answers) s lines replies t
-      → Moves is_clean stands (λ i before after. Answered (Replies (kept i)) before lines replies after) s t
+      → Leads is_clean stands (λ i before after. Answered (Replies (kept i)) before lines replies after) s t
   lines_move = runs is_clean stands (Replies answers) (λ i. Replies (kept i)) line_moves
 
   -- a script
   pub script_moves : {E W : Type 0} (remaining : E → Option (List ℕ)) (contents : W → Option (List ℕ)) (s t : S) (reader reader' : E) (writer writer' : W)
       (result : Result (Unit {0}) Fault) → ScriptEnds answers remaining contents s t reader reader' writer writer' result
-      → Moves is_clean stands (λ i before after. ScriptEnds (kept i) remaining contents before after reader reader' writer writer' result) s t
+      → Leads is_clean stands (λ i before after. ScriptEnds (kept i) remaining contents before after reader reader' writer writer' result) s t
   script_moves remaining contents s t reader reader' writer writer' (Ok done) ended =
       follows is_clean stands
       (λ i before after. Answered (Replies (kept i)) before (map line_of (pieces ended.took)) ended.replies after)
@@ -150,7 +150,7 @@ module _ {S I R : Type 0} (is_clean : S → Type 0) (stands : I → S → R → 
 
   -- one row of an import
   pub row_moves : (now : ℕ) (s : S) (row : Row) (reply : List ℕ) (t : S) → RowReplies answers now s row reply t
-      → Moves is_clean stands (λ i before after. RowReplies (kept i) now before row reply after) s t
+      → Leads is_clean stands (λ i before after. RowReplies (kept i) now before row reply after) s t
   row_moves now s row reply t (inl (command, outcome, means, answered, told)) =
       follows is_clean stands
       (λ i before after. kept i before (tells now command) (came_to outcome) after)
@@ -170,13 +170,13 @@ module _ {S I R : Type 0} (is_clean : S → Type 0) (stands : I → S → R → 
 
   -- rows, one after the other
   pub rows_move : (now : ℕ) (s t : S) (rows : List Row) (replies : List (List ℕ)) → Answered (RowReplies answers now) s rows replies t
-      → Moves is_clean stands (λ i before after. Answered (RowReplies (kept i) now) before rows replies after) s t
+      → Leads is_clean stands (λ i before after. Answered (RowReplies (kept i) now) before rows replies after) s t
   rows_move now = runs is_clean stands (RowReplies answers now) (λ i. RowReplies (kept i) now) (row_moves now)
 
   -- an import
   pub import_moves : {E W : Type 0} (remaining : E → Option (List ℕ)) (contents : W → Option (List ℕ)) (now : ℕ) (s t : S) (reader reader' : E)
       (writer writer' : W) (result : Result (Unit {0}) Fault) → ImportEnds answers remaining contents now s t reader reader' writer writer' result
-      → Moves is_clean stands (λ i before after. ImportEnds (kept i) remaining contents now before after reader reader' writer writer' result) s t
+      → Leads is_clean stands (λ i before after. ImportEnds (kept i) remaining contents now before after reader reader' writer writer' result) s t
   import_moves remaining contents now s t reader reader' writer writer' (Ok done) (text, all, ended) =
       follows is_clean stands
       (λ i before after. Answered (RowReplies (kept i) now) before (data_rows ended.rows) ended.replies after)

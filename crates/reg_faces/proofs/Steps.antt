@@ -1,11 +1,11 @@
 -- Calls one after the other, and steps that say less.
 use Rattle.std.proofs.Common.{◌≡◌, List, [], ◌∷◌, refl, sym, subst}
 use Rattle.reg_wire.specs.Run.{Answered}
-use Rattle.reg_faces.specs.Moves.{Moves}
+use Rattle.reg_office.specs.Leads.{Leads}
 
 module _ {S I R : Type 0} (is_clean : S → Type 0) (stands : I → S → R → Type 0) where
   -- an office that stays as it is
-  pub stays : (s t : S) → t ≡ s → Moves is_clean stands (λ i before after. after ≡ before) s t
+  pub stays : (s t : S) → t ≡ s → Leads is_clean stands (λ i before after. after ≡ before) s t
   stays s t same = (
     (λ clean. subst is_clean same clean),
     (λ i before stood clean.
@@ -15,7 +15,7 @@ module _ {S I R : Type 0} (is_clean : S → Type 0) (stands : I → S → R → 
 
   -- a step that another one follows from
   pub follows : (step other : I → R → R → Type 0) → ((i : I) (before after : R) → step i before after → other i before after)
-      → (s t : S) → Moves is_clean stands step s t → Moves is_clean stands other s t
+      → (s t : S) → Leads is_clean stands step s t → Leads is_clean stands other s t
   follows step other from s t moved = (
     moved.0,
     (λ i before stood clean.
@@ -24,8 +24,8 @@ module _ {S I R : Type 0} (is_clean : S → Type 0) (stands : I → S → R → 
   )
 
   -- one call, and another
-  pub chains : (first next : I → R → R → Type 0) (s m t : S) → Moves is_clean stands first s m → Moves is_clean stands next m t
-      → Moves is_clean stands (λ i before after. (middle : R) × first i before middle × next i middle after) s t
+  pub chains : (first next : I → R → R → Type 0) (s m t : S) → Leads is_clean stands first s m → Leads is_clean stands next m t
+      → Leads is_clean stands (λ i before after. (middle : R) × first i before middle × next i middle after) s t
   chains first next s m t one two = (
     (λ clean. one.0 (two.0 clean)),
     (λ i before stood clean.
@@ -36,9 +36,9 @@ module _ {S I R : Type 0} (is_clean : S → Type 0) (stands : I → S → R → 
 
   -- a run of an office is a run of its records
   pub runs : {Q A : Type 0} (answers : S → Q → A → S → Type 0) (kept : I → R → Q → A → R → Type 0)
-      → ((s : S) (q : Q) (a : A) (t : S) → answers s q a t → Moves is_clean stands (λ i before after. kept i before q a after) s t)
+      → ((s : S) (q : Q) (a : A) (t : S) → answers s q a t → Leads is_clean stands (λ i before after. kept i before q a after) s t)
       → (s t : S) (asked : List Q) (given : List A) → Answered answers s asked given t
-      → Moves is_clean stands (λ i before after. Answered (kept i) before asked given after) s t
+      → Leads is_clean stands (λ i before after. Answered (kept i) before asked given after) s t
   runs answers kept lifts s t [] [] run = stays s t run
   runs answers kept lifts s t [] (a ∷ given) run = absurd run
   runs answers kept lifts s t (q ∷ asked) [] run = absurd run

@@ -31,7 +31,7 @@ use Rattle.reg_lines.specs.Import.{AllRan, Row, RowMeans, RowReplies, data_rows}
 use Rattle.reg_lines.specs.Meaning.{Meaning, tells}
 use Rattle.reg_lines.specs.Reading.{register_of}
 use Rattle.reg_lines.specs.Replies.{outcome_line, reply_line, with_lf}
-use Rattle.reg_lines.proofs.Meanings.{register_read, row_spelled}
+use Rattle.reg_lines.proofs.PublicLaws.{register_read, row_spelled}
 use Rattle.reg_wire.specs.Run.{Answered}
 use Rattle.reg_faces.specs.Twice.{TellsFault, RepliedAgain}
 
@@ -240,7 +240,7 @@ no_faults (outcome ∷ outcomes) (told ∷ replies) is none =
 -- ---- a run of rows, as an import by the rules
 
 -- what came of each row, and that the replies tell it
-record Ran (signed : CertList → List ℕ → Type 0) (records : Records) (now : ℕ) (rows : List Row) (replies : List (List ℕ)) (after : Records) : Type 0 where
+record RowsRan (signed : CertList → List ℕ → Type 0) (records : Records) (now : ℕ) (rows : List Row) (replies : List (List ℕ)) (after : Records) : Type 0 where
   outcomes : List (Result Reply Fault)
   imports : Imports signed records now (map spelled rows) outcomes after
   of_rows : AllByRecursion IsOfRow outcomes
@@ -250,7 +250,7 @@ module _ (signed : CertList → List ℕ → Type 0) (answers : Records → Mean
     (by_rules : (s : Records) (now : ℕ) (command : Command) (outcome : Result Reply Fault) (t : Records)
     → answers s (tells now command) (came_to outcome) t → Happens signed s now command outcome t) where
   ran : (records after : Records) (now : ℕ) (rows : List Row) (replies : List (List ℕ))
-      → Answered (RowReplies answers now) records rows replies after → Ran signed records now rows replies after
+      → Answered (RowReplies answers now) records rows replies after → RowsRan signed records now rows replies after
   ran records after now [] [] same = record { outcomes = []; imports = same; of_rows = tt; told = tt }
   ran records after now [] (told ∷ replies) answered = absurd answered
   ran records after now (row ∷ rows) [] answered = absurd answered

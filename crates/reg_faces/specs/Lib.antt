@@ -1,3 +1,2 @@
-pub mod Moves
-pub mod Kept
+pub mod Faces
 pub mod Twice

@@ -1,16 +1,16 @@
-//! The faces over a desk, stated by its records.
+//! The faces over an office that keeps records, stated by these.
 
 ghost use Rattle.std.specs.Prelude.{◌≡◌, ◌≢◌, IfErr, IfOk, OnErr};
-ghost use Rattle.reg_faces.specs.Moves.{Moves};
-ghost use Rattle.reg_faces.specs.Kept.{Runs, Asks, Ocsps, Crls, Lines, CountsFailure, AddsARequestAtMost};
+ghost use Rattle.reg_office.specs.Leads.{Leads};
+ghost use Rattle.reg_faces.specs.Faces.{Lines, CountsFailure, AddsARequestAtMost};
+ghost use Rattle.reg_office.specs.Calls.{Runs, Asks, Ocsps, Crls};
 ghost use Rattle.reg_heads.specs.Response.{shown};
-ghost use Rattle.reg_http.specs.Answers.{Answers as AnswersOf};
+ghost use Rattle.reg_http.specs.RespondsTo.{RespondsTo};
 ghost use Rattle.reg_http.specs.Asked.{asked};
-ghost use Rattle.reg_http.specs.Served.{Ends};
+ghost use Rattle.reg_http.specs.Served.{ServingEnds};
 ghost use Rattle.reg_lines.specs.Import.{ImportEnds};
 ghost use Rattle.reg_lines.specs.Script.{ScriptEnds};
 
-use crate::desk::Desk;
 use crate::keeper::Keeper;
 use http::Method;
 use reg_core::{Fault, Memory, Moment};
@@ -18,8 +18,8 @@ use reg_heads::Answer;
 use std::alloc::Global;
 use std::io::{Read, Write};
 
-/// Runs a script over a desk, as [`reg_lines::run_script`] says. `F3 signer` is replied only to a line at which the signer
-/// counted a failure.
+/// Runs a script over an office that keeps records, as [`reg_lines::run_script`] says. `F3 signer` is replied only to a line
+/// at which the signer counted a failure.
 ///
 /// # Errors
 ///
@@ -28,19 +28,19 @@ pub fn run_script<R: Read, W: Write, K: Keeper>(
     alloc: Global,
     reader: &mut R,
     writer: &mut W,
-    desk: &mut Desk<K>,
+    office: &mut K,
 ) -> Result<(), Fault>
-    ensures ends { Moves K.is_clean K.stands
+    ensures ends { Leads K.is_clean K.stands
         (λ identity before after. ScriptEnds (Lines K.signs identity) R.remaining W.contents before after
         reader.old reader.new writer.old writer.new result)
-        desk.old.office desk.new.office }
-    ensures device { ScriptEnds (λ s meaning given t. CountsFailure (K.failures s.office) given (K.failures t.office))
-        R.remaining W.contents desk.old desk.new reader.old reader.new writer.old writer.new result }
+        office.old office.new }
+    ensures device { ScriptEnds (λ s meaning given t. CountsFailure (K.failures s) given (K.failures t))
+        R.remaining W.contents office.old office.new reader.old reader.new writer.old writer.new result }
 {
-    reg_lines::run_script(alloc, reader, writer, desk)
+    reg_lines::run_script(alloc, reader, writer, office)
 }
 
-/// Registers the certificates of an import over a desk, as [`reg_lines::import`] says.
+/// Registers the certificates of an import over an office that keeps records, as [`reg_lines::import`] says.
 ///
 /// # Errors
 ///
@@ -50,17 +50,17 @@ pub fn import<R: Read, W: Write, K: Keeper>(
     reader: &mut R,
     writer: &mut W,
     now: Moment,
-    desk: &mut Desk<K>,
+    office: &mut K,
 ) -> Result<(), Fault>
-    ensures { Moves K.is_clean K.stands
+    ensures { Leads K.is_clean K.stands
         (λ identity before after. ImportEnds (Lines K.signs identity) R.remaining W.contents now before after
         reader.old reader.new writer.old writer.new result)
-        desk.old.office desk.new.office }
+        office.old office.new }
 {
-    reg_lines::import(alloc, reader, writer, now, desk)
+    reg_lines::import(alloc, reader, writer, now, office)
 }
 
-/// Answers one HTTP request over a desk, as [`reg_http::routes::answer`] says.
+/// Answers one HTTP request over an office that keeps records, as [`reg_http::routes::answer`] says.
 ///
 /// # Errors
 ///
@@ -71,19 +71,19 @@ pub fn answer<K: Keeper>(
     target: &str,
     body: &[u8],
     now: Moment,
-    desk: &mut Desk<K>,
+    office: &mut K,
 ) -> Result<Answer, Memory>
-    ensures ok { IfOk result (λ answer. Moves K.is_clean K.stands
-        (λ identity before after. AnswersOf (Runs K.signs identity) Asks (Ocsps K.signs identity) Crls now before
+    ensures ok { IfOk result (λ answer. Leads K.is_clean K.stands
+        (λ identity before after. RespondsTo (Runs K.signs identity) Asks (Ocsps K.signs identity) Crls now before
         (asked method.now target.now body.now) (shown answer) after
         × AddsARequestAtMost now before after)
-        desk.old.office desk.new.office) }
-    ensures memory { OnErr result (desk.new ≡ desk.old) }
+        office.old office.new) }
+    ensures memory { OnErr result (office.new ≡ office.old) }
 {
-    reg_http::routes::answer(alloc, method, target, body, now, desk)
+    reg_http::routes::answer(alloc, method, target, body, now, office)
 }
 
-/// Serves one HTTP request over a desk, as [`reg_http::serve_one`] says.
+/// Serves one HTTP request over an office that keeps records, as [`reg_http::serve_one`] says.
 ///
 /// # Errors
 ///
@@ -93,14 +93,14 @@ pub fn serve_one<R: Read, W: Write, K: Keeper>(
     reader: &mut R,
     writer: &mut W,
     now: Moment,
-    desk: &mut Desk<K>,
+    office: &mut K,
 ) -> Result<(), Fault>
-    ensures ends { Moves K.is_clean K.stands
-        (λ identity before after. Ends (Runs K.signs identity) Asks (Ocsps K.signs identity) Crls now before after
+    ensures ends { Leads K.is_clean K.stands
+        (λ identity before after. ServingEnds (Runs K.signs identity) Asks (Ocsps K.signs identity) Crls now before after
         (R.remaining reader.old) (R.remaining reader.new) (W.contents writer.old) (W.contents writer.new) result)
-        desk.old.office desk.new.office }
+        office.old office.new }
     ensures silent { IfErr result (λ fault. fault ≢ Fault.Write
-        → (writer.new ≡ writer.old) × (desk.new ≡ desk.old)) }
+        → (writer.new ≡ writer.old) × (office.new ≡ office.old)) }
 {
-    reg_http::serve_one(alloc, reader, writer, now, desk)
+    reg_http::serve_one(alloc, reader, writer, now, office)
 }

@@ -1,17 +1,20 @@
 //! An office that keeps records.
 
-use reg_core::{Command, Fault, Memory, Moment, Outcome, Query};
-use std::alloc::Global;
+use reg_calls::Calls;
 
-/// An office that keeps records. Each call is stated as a step of the records that stand in the office.
-pub trait Keeper {
-    ghost use Rattle.std.specs.Prelude.{ℕ, ◌<◌, List, IsErrOf};
+/// An office that keeps records: each of its calls is a step of the records that stand in it. It has no call of its own.
+pub trait Keeper: Calls {
+    ghost use Rattle.std.specs.Prelude.{ℕ, ◌<◌, List, Option, Result, IsErrOf};
     ghost use Rattle.reg_core.specs.Records.{Records};
+    ghost use Rattle.reg_core.specs.declared.command.Command.{Command};
+    ghost use Rattle.reg_core.specs.declared.command.Query.{Query};
+    ghost use Rattle.reg_core.specs.declared.command.Reply.{Reply};
+    ghost use Rattle.reg_core.specs.declared.memory.Memory.{Memory};
+    ghost use Rattle.reg_core.specs.declared.refusal.Fault.{Fault};
     ghost use Rattle.reg_core.specs.declared.refusal.Fault.TheVariants.{Signer};
     ghost use Rattle.reg_crl.specs.Signing.{Identity};
-    ghost use Rattle.reg_faces.specs.Moves.{Moves};
-    ghost use Rattle.reg_faces.specs.Kept.{Runs, Asks, Ocsps, Crls};
-    ghost use Rattle.reg_http.specs.Office.{bytes_of};
+    ghost use Rattle.reg_office.specs.Calls.{Runs, Asks, Ocsps, Crls};
+    ghost use Rattle.reg_office.specs.Leads.{Leads};
 
     /// The medium has returned all that was written to it.
     ghost is_clean: { Self → Type 0 };
@@ -25,31 +28,31 @@ pub trait Keeper {
     /// How many failures who signs for the office has counted.
     ghost failures: { Self → ℕ };
 
-    /// Runs a command at its moment. A fault of the signer comes only where it counted a failure.
-    fn run_one(&mut self, alloc: Global, now: Moment, command: &Command) -> Outcome
-        ensures moves { Moves is_clean stands (λ identity before after. Runs signs identity before now command.now result after)
-            self.old self.new }
-        ensures device { IsErrOf result Signer → failures self.old < failures self.new };
+    /// A command is a step by the rules.
+    ghost runs_lead: { (s : Self) (now : ℕ) (command : Command) (outcome : Result Reply Fault) (t : Self)
+        → Self.runs s now command outcome t
+        → Leads is_clean stands (λ identity before after. Runs signs identity before now command outcome after) s t };
 
-    /// Answers a query at its moment. Nothing is signed for it, so no fault of the signer comes.
-    fn ask(&mut self, alloc: Global, now: Moment, query: &Query) -> Outcome
-        ensures moves { Moves is_clean stands (λ identity before after. Asks before now query.now result after) self.old self.new }
-        ensures unsigned { ¬ (IsErrOf result Signer) };
+    /// A fault of the signer comes only where it counted a failure.
+    ghost runs_count: { (s : Self) (now : ℕ) (command : Command) (outcome : Result Reply Fault) (t : Self)
+        → Self.runs s now command outcome t → IsErrOf outcome Signer → failures s < failures t };
 
-    /// The OCSP response (RFC 6960 4.2) to the bytes of a request, at its moment.
-    ///
-    /// # Errors
-    ///
-    /// [`Memory`] where memory was refused.
-    fn ocsp(&mut self, alloc: Global, now: Moment, request: &[u8]) -> Result<Vec<u8>, Memory>
-        ensures { Moves is_clean stands (λ identity before after. Ocsps signs identity before now request.now (bytes_of result) after)
-            self.old self.new };
+    /// A query has its answer, and the records stay.
+    ghost asks_lead: { (s : Self) (now : ℕ) (query : Query) (outcome : Result Reply Fault) (t : Self)
+        → Self.asks s now query outcome t
+        → Leads is_clean stands (λ identity before after. Asks before now query outcome after) s t };
 
-    /// The bytes of the CRL (RFC 5280 5) with this number, or of the latest.
-    ///
-    /// # Errors
-    ///
-    /// The refusal where there is no such CRL, or a fault.
-    fn crl_bytes(&mut self, alloc: Global, number: Option<u64>) -> Result<Vec<u8>, Fault>
-        ensures { Moves is_clean stands (λ identity before after. Crls before number (bytes_of result) after) self.old self.new };
+    /// Nothing is signed for a query, so no fault of the signer comes.
+    ghost asks_unsigned: { (s : Self) (now : ℕ) (query : Query) (outcome : Result Reply Fault) (t : Self)
+        → Self.asks s now query outcome t → ¬ (IsErrOf outcome Signer) };
+
+    /// An OCSP request has its response, or memory was wanting, and the records stay.
+    ghost ocsps_lead: { (s : Self) (now : ℕ) (request : List ℕ) (given : Result (List ℕ) Memory) (t : Self)
+        → Self.ocsps s now request given t
+        → Leads is_clean stands (λ identity before after. Ocsps signs identity before now request given after) s t };
+
+    /// The bytes of a CRL are those that the records have, and the records stay.
+    ghost crls_lead: { (s : Self) (number : Option ℕ) (given : Result (List ℕ) Fault) (t : Self)
+        → Self.crls s number given t
+        → Leads is_clean stands (λ identity before after. Crls before number given after) s t };
 }

@@ -1,12 +1,10 @@
 //! The faces of an office that keeps records: scripts of lines, imports, and HTTP.
 #![tactic(auto)]
 
-mod desk;
 mod faces;
 mod keeper;
 mod keeping;
 pub mod laws;
 
-pub use desk::Desk;
 pub use faces::{answer, import, run_script, serve_one};
 pub use keeper::Keeper;

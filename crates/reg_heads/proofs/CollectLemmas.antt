@@ -2,9 +2,9 @@
 use Rattle.std.proofs.Common.{◌≡◌, ℕ, ◌<◌, ◌≤◌, Bool, true, false, if◌then◌else◌, List, [], ◌++◌, length, take, drop, Result, Ok, refl, sym, ap, ◌∙◌, subst, arith, inl, inr, take-append-drop, length-append, length-drop}
 use Rattle.std.proofs.lemmas.List.{append-nil, take-append-le, take-take, take_all, length-take-le}
 use Rattle.reg_wire.specs.Mark.{HasNoMark}
-use Rattle.reg_wire.proofs.Marks.{FirstMark-take, no_mark_of_fronts}
+use Rattle.reg_wire.proofs.PublicLaws.{first_mark_in_front, no_mark_in_front}
 use Rattle.reg_heads.specs.Head.{blank_line, longest_head, IsHead, RefusesHead}
-use Rattle.reg_heads.specs.Frame.{refused, asked, Asks, Framed, HasHead, IsUnfinished}
+use Rattle.reg_heads.specs.Frame.{refused, asked, AsksFor, Framed, HasHead, IsUnfinished}
 use Rattle.reg_heads.specs.Bytes.{IsExact}
 use Rattle.reg_heads.specs.Collected.{IsWhole, IsUnmarked, IsRefused, NeedsBytes, Knows, Tells}
 use Rattle.reg_heads.specs.declared.known.Known.{Known}
@@ -14,7 +14,7 @@ use Rattle.reg_heads.proofs.FrameLemmas.{head_of_more, take_of_more}
 -- a head that is refused is refused by its own bytes
 pub refused_at : (bytes : List ℕ) (end status : ℕ) → HasHead bytes end → RefusesHead (take end bytes) status → (end ≤ length bytes) × IsRefused bytes end
 refused_at bytes end status head refuses =
-    let kept : HasHead (take end bytes) end = record { within = head.within; ends = FirstMark-take blank_line bytes end end head.ends (omega arith) } in
+    let kept : HasHead (take end bytes) end = record { within = head.within; ends = first_mark_in_front blank_line bytes end end head.ends (omega arith) } in
     let same : take end (take end bytes) ≡ take end bytes = take-take end end bytes (omega arith) in
     let P : List ℕ → Type 0 = λ b. RefusesHead b status in
     (head.ends.within, record { status = status; framed = inr (end, kept, subst P (sym same) refuses) })
@@ -22,7 +22,7 @@ refused_at bytes end status head refuses =
 -- 8,192 bytes in which no head ends
 pub refused_long : (bytes : List ℕ) → longest_head ≤ length bytes → IsUnmarked bytes longest_head → (longest_head ≤ length bytes) × IsRefused bytes longest_head
 refused_long bytes long none =
-    (long, record { status = 431; framed = inl (refl, (length-take-le longest_head bytes long, no_mark_of_fronts blank_line bytes longest_head none)) })
+    (long, record { status = 431; framed = inl (refl, (length-take-le longest_head bytes long, no_mark_in_front blank_line bytes longest_head none)) })
 
 -- what is told is known
 pub known_of_told : (bytes : List ℕ) (known : Known) → Tells bytes known → Knows bytes known
@@ -62,7 +62,7 @@ whole_of_refused bytes count is = record {
 
 -- a head with all of its body is asked
 pub asks_of_needs : (bytes : List ℕ) (needed : ℕ) (needs : NeedsBytes bytes needed) → needed ≤ length bytes
-    → (asks : Asks bytes needs.head.method needs.head.target (take needs.size (drop needs.end bytes))) × (asks.end ≡ needs.end)
+    → (asks : AsksFor bytes needs.head.method needs.head.target (take needs.size (drop needs.end bytes))) × (asks.end ≡ needs.end)
 asks_of_needs bytes needed needs there =
     let long : length (take needs.size (drop needs.end bytes)) ≡ needs.size =
     length-take-le needs.size (drop needs.end bytes) (omega (arith, there, needs.needed_is, length-drop needs.end bytes)) in (
@@ -109,7 +109,7 @@ unfinished_of_unmarked bytes count told =
     let P : List ℕ → Type 0 = λ b. HasNoMark blank_line b in
     inl (
       omega (arith, told.0, told.1),
-      subst P (take_all count bytes (omega (arith, told.0))) (no_mark_of_fronts blank_line bytes count told.2),
+      subst P (take_all count bytes (omega (arith, told.0))) (no_mark_in_front blank_line bytes count told.2),
     )
 
 pub unfinished_of_needs : (bytes : List ℕ) (needed : ℕ) → NeedsBytes bytes needed → length bytes < needed → IsUnfinished bytes

@@ -5,14 +5,13 @@ use Rattle.httparse.specs.Grammar.{RequestHead}
 use Rattle.reg_wire.specs.Fill.{FillsTo, FillsShort}
 use Rattle.reg_wire.specs.Mark.{HasNoMark}
 use Rattle.reg_wire.specs.declared.fill.Reached.TheVariants.{Mark, Full, End}
-use Rattle.reg_wire.proofs.Marks.{FirstMark-append, FirstMark-take}
-use Rattle.reg_wire.proofs.Searches.{held_now}
+use Rattle.reg_wire.proofs.PublicLaws.{first_mark_goes_on, first_mark_in_front, held_now}
 use Rattle.reg_heads.specs.Head.{blank_line, longest_head, IsHead, RefusesHead, body_size}
-use Rattle.reg_heads.specs.Frame.{refused, Asks, HasHead, IsTooLong, IsUnfinished, Framed}
+use Rattle.reg_heads.specs.Frame.{refused, AsksFor, HasHead, IsTooLong, IsUnfinished, Framed}
 
 -- the head stands in what was read, and in what more is read
 pub head_of_more : (held took : List ℕ) (end : ℕ) → HasHead held end → HasHead (held ++ took) end
-head_of_more held took end head = record { within = head.within; ends = FirstMark-append blank_line held took end head.ends }
+head_of_more held took end head = record { within = head.within; ends = first_mark_goes_on blank_line held took end head.ends }
 
 pub take_of_more : (held took : List ℕ) (end : ℕ) → HasHead held end → take end (held ++ took) ≡ take end held
 take_of_more held took end head = take-append-le end held took head.ends.within
@@ -25,12 +24,12 @@ rest_is held end =
 -- a head, and the whole of its body
 pub asks_from : (held took body : List ℕ) (end size : ℕ) (h : RequestHead) (method target : List ℕ) → HasHead held end → IsHead (take end held) h
     → method ≡ h.method → target ≡ h.target → body_size h ≡ Ok size → length body ≡ size → body ≡ take size (take (length held - end) (drop end held) ++ took)
-    → Asks (held ++ took) method target body
+    → AsksFor (held ++ took) method target body
 asks_from held took body end size h method target head reads method_is target_is size_is long body_is = record {
   end = end;
   head = h;
   within = head.within;
-  ends = FirstMark-append blank_line held took end head.ends;
+  ends = first_mark_goes_on blank_line held took end head.ends;
   reads = (let P : List ℕ → Type 0 = λ bytes. IsHead bytes h in subst P (sym (take_of_more held took end head)) reads);
   method_is = method_is;
   target_is = target_is;
@@ -71,7 +70,7 @@ module _ (input left : Option (List ℕ)) (before after : List ℕ) where
   pub head_at_mark : (end now : ℕ) → FillsTo blank_line input left before after 0 (Mark end now) → length after ≡ longest_head → HasHead (take now after) end
   head_at_mark end now to long = record {
     within = (let low : end ≤ length after = to.rests.1.within in omega (arith, low, long));
-    ends = FirstMark-take blank_line after end now to.rests.1 to.rests.0;
+    ends = first_mark_in_front blank_line after end now to.rests.1 to.rests.0;
   }
 
   -- a full buffer without an end of a head

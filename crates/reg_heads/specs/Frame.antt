@@ -12,7 +12,7 @@ pub data Part : Type 0 where
   asked : List ℕ → List ℕ → List ℕ → Part
 
 -- the bytes have a head and the whole of its body, and ask this
-pub record Asks (took method target body : List ℕ) : Type 0 where
+pub record AsksFor (took method target body : List ℕ) : Type 0 where
   pub end : ℕ
   pub head : RequestHead
   pub within : end ≤ longest_head
@@ -36,7 +36,7 @@ pub record HasHead (took : List ℕ) (end : ℕ) : Type 0 where
 abbrev pub Framed : List ℕ → Part → Type 0
 Framed took (refused status) =
     ((status ≡ 431) × IsTooLong took) ⊎ ((end : ℕ) × HasHead took end × RefusesHead (take end took) status)
-Framed took (asked method target body) = Asks took method target body
+Framed took (asked method target body) = AsksFor took method target body
 
 -- the bytes are no whole request yet: the head has no end, or its body is shorter than its length
 abbrev pub IsUnfinished : List ℕ → Type 0

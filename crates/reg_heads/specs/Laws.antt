@@ -1,7 +1,7 @@
 -- Laws over the definitions.
 use Rattle.std.specs.Prelude.{◌≡◌, ℕ, List, Some}
 use Rattle.http.specs.StatusCode.{reason_phrase}
-use Rattle.reg_heads.specs.Frame.{Asks}
+use Rattle.reg_heads.specs.Frame.{AsksFor}
 use Rattle.reg_heads.specs.Response.{Response, phrase, IsText}
 
 -- each phrase is the one that `http` gives to the code
@@ -14,7 +14,7 @@ ArePhrases =
 -- two readings of the same bytes ask the same
 abbrev pub IsOneRequest : Type 0
 IsOneRequest =
-    (took method target body method' target' body' : List ℕ) → Asks took method target body → Asks took method' target' body'
+    (took method target body method' target' body' : List ℕ) → AsksFor took method target body → AsksFor took method' target' body'
     → (method ≡ method') × (target ≡ target') × (body ≡ body')
 
 -- two texts of the same response at the same moment are the same

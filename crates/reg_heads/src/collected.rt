@@ -15,8 +15,8 @@ pub struct Collected {
 }
 
 impl Collected {
-    ghost use Rattle.std.specs.Prelude.{◌≡◌, ◌++◌, [], true, false, OnOk, OnErr};
-    ghost use Rattle.reg_heads.specs.Bytes.{bytes_of, IsExact};
+    ghost use Rattle.std.specs.Prelude.{◌≡◌, ◌+◌, ◌<◌, ◌≤◌, ◌++◌, [], length, true, false, OnOk, OnErr};
+    ghost use Rattle.reg_heads.specs.Bytes.{bytes_of, room_of, IsExact};
     ghost use Rattle.reg_heads.specs.Collected.{IsWhole};
     ghost use Rattle.reg_heads.specs.Frame.{IsUnfinished};
 
@@ -41,10 +41,12 @@ impl Collected {
     ///
     /// # Errors
     ///
-    /// `AllocError`, and none of them was taken.
+    /// `AllocError` only where what is held has no capacity for them. None of them was taken.
     pub fn add(&mut self, more: &[u8]) -> Result<(), AllocError>
         ensures ok { OnOk result (bytes_of self.new ≡ bytes_of self.old ++ more.now) }
         ensures err { OnErr result (bytes_of self.new ≡ bytes_of self.old) }
+        ensures full { OnErr result (room_of self.old < length (bytes_of self.old) + length more.now) }
+        ensures room { room_of self.old ≤ room_of self.new }
     {
         self.bytes.extend_from_slice(more)
     }

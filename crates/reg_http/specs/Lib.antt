@@ -1,6 +1,5 @@
 pub mod Asked
 pub mod Bodies
-pub mod Office
 pub mod Parts
-pub mod Answers
+pub mod RespondsTo
 pub mod Served

@@ -11,7 +11,7 @@ use Rattle.reg_wire.specs.Put.{AppendsFront}
 use Rattle.reg_heads.specs.Frame.{Part, refused, asked, Framed, IsUnfinished}
 use Rattle.reg_heads.specs.Head.{longest_head, longest_body}
 use Rattle.reg_heads.specs.Response.{Response, IsText, memory_text}
-use Rattle.reg_http.specs.Answers.{Answers}
+use Rattle.reg_http.specs.RespondsTo.{RespondsTo}
 use Rattle.reg_http.specs.Asked.{asked as asks_for}
 use Rattle.reg_http.specs.Bodies.{refusal}
 
@@ -20,7 +20,7 @@ pub record Takes (input left : Option (List ℕ)) (took : List ℕ) : Type 0 whe
   pub consumed : Consumes input left took
   pub few : length took ≤ longest_head + longest_body
 
--- The office's relations, as in `Answers`; `s` is the office before, `t` after.
+-- The office's relations, as in `RespondsTo`; `s` is the office before, `t` after.
 module _ {S : Type 0} (runs : S → ℕ → Command → Result Reply Fault → S → Type 0)
     (asks : S → ℕ → Query → Result Reply Fault → S → Type 0)
     (ocsps : S → ℕ → List ℕ → Result (List ℕ) NoMemory → S → Type 0)
@@ -29,7 +29,7 @@ module _ {S : Type 0} (runs : S → ℕ → Command → Result Reply Fault → S
   abbrev pub Responds : ℕ → S → Part → List ℕ → S → Type 0
   Responds now s (refused status) text t = (t ≡ s) × IsText (refusal status) now text
   Responds now s (asked method target body) text t =
-      ((response : Response) × Answers runs asks ocsps crls now s (asks_for method target body) response t × IsText response now text)
+      ((response : Response) × RespondsTo runs asks ocsps crls now s (asks_for method target body) response t × IsText response now text)
       ⊎ ((t ≡ s) × (text ≡ memory_text))
 
   -- one request was read, and its response was written whole
@@ -53,11 +53,11 @@ module _ {S : Type 0} (runs : S → ℕ → Command → Result Reply Fault → S
     pub wrote : AppendsFront out written text
 
   -- served whole; cut short where the writer failed; else no whole request was there, or no memory for it
-  abbrev pub Ends : ℕ → S → S → Option (List ℕ) → Option (List ℕ) → Option (List ℕ) → Option (List ℕ) → Result (Unit {0}) Fault → Type 0
-  Ends now s t input left out written (Ok done) = Served now s t input left out written
-  Ends now s t input left out written (Err Write) = CutShort now s t input left out written
-  Ends now s t input left out written (Err Read) = (took : List ℕ) × Takes input left took × IsUnfinished took
-  Ends now s t input left out written (Err Memory) = (took : List ℕ) × Takes input left took
-  Ends now s t input left out written (Err Store) = ⊥
-  Ends now s t input left out written (Err Signer) = ⊥
-  Ends now s t input left out written (Err (Refused why)) = ⊥
+  abbrev pub ServingEnds : ℕ → S → S → Option (List ℕ) → Option (List ℕ) → Option (List ℕ) → Option (List ℕ) → Result (Unit {0}) Fault → Type 0
+  ServingEnds now s t input left out written (Ok done) = Served now s t input left out written
+  ServingEnds now s t input left out written (Err Write) = CutShort now s t input left out written
+  ServingEnds now s t input left out written (Err Read) = (took : List ℕ) × Takes input left took × IsUnfinished took
+  ServingEnds now s t input left out written (Err Memory) = (took : List ℕ) × Takes input left took
+  ServingEnds now s t input left out written (Err Store) = ⊥
+  ServingEnds now s t input left out written (Err Signer) = ⊥
+  ServingEnds now s t input left out written (Err (Refused why)) = ⊥

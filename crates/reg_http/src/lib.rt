@@ -2,12 +2,10 @@
 #![tactic(auto)]
 
 mod bodies;
-mod office;
 mod parts;
 mod respond;
 pub mod routes;
 mod serve;
 
-pub use office::Office;
 pub use reg_heads::Answer;
 pub use serve::serve_one;

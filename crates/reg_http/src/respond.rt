@@ -1,18 +1,18 @@
 //! What is asked of the office, and its answer.
 
 ghost use Rattle.std.specs.Prelude.{◌≡◌, ◌≤◌, [], codes, vec_capacity};
+ghost use Rattle.reg_calls.specs.Items.{items_of};
 ghost use Rattle.reg_heads.specs.Response.{shown};
-ghost use Rattle.reg_http.specs.Answers.{Answers};
+ghost use Rattle.reg_http.specs.RespondsTo.{RespondsTo};
 ghost use Rattle.reg_http.specs.Bodies.{crl_told, der, malformed_text, ocsp_told};
-ghost use Rattle.reg_http.specs.Office.{bytes_of};
 ghost use Rattle.reg_http.specs.Parts.{part_asks};
 
 use crate::bodies::{
     crl, ocsp_response, only_get, only_post, refusal, told_counts, told_fault, told_request,
     told_status,
 };
-use crate::office::Office;
 use crate::parts::Part;
+use reg_calls::Calls;
 use reg_core::{Command, Fault, Memory, Moment, Query, Refusal};
 use reg_heads::{Answer, put};
 use std::alloc::Global;
@@ -24,7 +24,7 @@ const MALFORMED: &[u8] = b"\x30\x03\x0A\x01\x01";
 fn told_ocsp(room: Vec<u8>, given: Result<Vec<u8>, Memory>) -> Answer
     requires empty { room.items ≡ [] }
     requires room { 256 ≤ vec_capacity room }
-    ensures { shown result ≡ ocsp_told (bytes_of given) }
+    ensures { shown result ≡ ocsp_told (items_of given) }
 {
     match given {
         Ok(response) => ocsp_response(response),
@@ -36,7 +36,7 @@ fn told_ocsp(room: Vec<u8>, given: Result<Vec<u8>, Memory>) -> Answer
 fn told_crl(room: Vec<u8>, given: Result<Vec<u8>, Fault>) -> Answer
     requires empty { room.items ≡ [] }
     requires room { 256 ≤ vec_capacity room }
-    ensures { shown result ≡ crl_told (bytes_of given) }
+    ensures { shown result ≡ crl_told (items_of given) }
 {
     match given {
         Ok(bytes) => crl(bytes),
@@ -55,7 +55,7 @@ fn malformed(mut room: Vec<u8>) -> Answer
 }
 
 /// Asks the office and tells its answer, in room that was made before, so that no memory is wanted after the call.
-pub(crate) fn respond<O: Office>(
+pub(crate) fn respond<O: Calls>(
     alloc: Global,
     room: Vec<u8>,
     part: Part,
@@ -65,7 +65,7 @@ pub(crate) fn respond<O: Office>(
 ) -> Answer
     requires empty { room.items ≡ [] }
     requires room { 256 ≤ vec_capacity room }
-    ensures { Answers O.runs O.asks O.ocsps O.crls now office.old (part_asks body.now part) (shown result) office.new }
+    ensures { RespondsTo O.runs O.asks O.ocsps O.crls now office.old (part_asks body.now part) (shown result) office.new }
 {
     match part {
         Part::Refused(status) => refusal(room, status),

@@ -2,14 +2,14 @@
 
 ghost use Rattle.std.specs.Prelude.{◌≡◌, IfOk, OnErr};
 ghost use Rattle.reg_heads.specs.Response.{shown};
-ghost use Rattle.reg_http.specs.Answers.{Answers};
+ghost use Rattle.reg_http.specs.RespondsTo.{RespondsTo};
 ghost use Rattle.reg_http.specs.Asked.{asked};
 
 use crate::bodies::JSON_ROOM;
-use crate::office::Office;
 use crate::parts::read_part;
 use crate::respond::respond;
 use http::Method;
+use reg_calls::Calls;
 use reg_core::{Memory, Moment};
 use reg_heads::Answer;
 use std::alloc::Global;
@@ -20,7 +20,7 @@ use std::alloc::Global;
 ///
 /// [`Memory`] where memory is refused before any call of the office, which stays as it is: all that is needed to read the
 /// request and to tell the answer is made first.
-pub fn answer<O: Office>(
+pub fn answer<O: Calls>(
     alloc: Global,
     method: &Method,
     target: &str,
@@ -28,7 +28,7 @@ pub fn answer<O: Office>(
     now: Moment,
     office: &mut O,
 ) -> Result<Answer, Memory>
-    ensures ok { IfOk result (λ answer. Answers O.runs O.asks O.ocsps O.crls now office.old
+    ensures ok { IfOk result (λ answer. RespondsTo O.runs O.asks O.ocsps O.crls now office.old
         (asked method.now target.now body.now) (shown answer) office.new) }
     ensures memory { OnErr result (office.new ≡ office.old) }
 {

@@ -6,11 +6,11 @@ ghost use Rattle.reg_wire.specs.Put.{AppendsFront};
 ghost use Rattle.reg_heads.specs.Frame.{part_of};
 ghost use Rattle.reg_heads.specs.Response.{IsText, memory_text, shown};
 ghost use Rattle.reg_http.specs.Bodies.{refusal as refusal_of};
-ghost use Rattle.reg_http.specs.Served.{Ends, Responds};
+ghost use Rattle.reg_http.specs.Served.{ServingEnds, Responds};
 
 use crate::bodies::{JSON_ROOM, refusal};
-use crate::office::Office;
 use crate::routes::answer;
+use reg_calls::Calls;
 use reg_core::{Fault, Moment};
 use reg_heads::{Answer, HEAD_ROOM, Request, read_request, write_answer, write_memory_fault};
 use std::alloc::Global;
@@ -66,7 +66,7 @@ fn refuse<W: Write>(
 }
 
 /// Answers a request that was read, and writes the response.
-fn reply<W: Write, O: Office>(
+fn reply<W: Write, O: Calls>(
     alloc: Global,
     writer: &mut W,
     room: Vec<u8>,
@@ -112,14 +112,14 @@ fn reply<W: Write, O: Office>(
 /// [`Fault::Read`] where the reader fails or ends within the request, and [`Fault::Memory`] where memory is refused before
 /// the request is answered: then nothing was written, and the office is as it was. [`Fault::Write`] where the writer fails
 /// or takes nothing more: less than the whole response went out, from the front, and the office is as the answer left it.
-pub fn serve_one<R: Read, W: Write, O: Office>(
+pub fn serve_one<R: Read, W: Write, O: Calls>(
     alloc: Global,
     reader: &mut R,
     writer: &mut W,
     now: Moment,
     office: &mut O,
 ) -> Result<(), Fault>
-    ensures ends { Ends O.runs O.asks O.ocsps O.crls now office.old office.new (R.remaining reader.old)
+    ensures ends { ServingEnds O.runs O.asks O.ocsps O.crls now office.old office.new (R.remaining reader.old)
         (R.remaining reader.new) (W.contents writer.old) (W.contents writer.new) result }
     ensures silent { IfErr result (λ fault. fault ≢ Fault.Write
         → (writer.new ≡ writer.old) × (office.new ≡ office.old)) }

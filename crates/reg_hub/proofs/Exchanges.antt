@@ -1,6 +1,6 @@
 -- Exchanges, one after the other.
 use Rattle.std.proofs.Common.{◌≡◌, ℕ, suc, ◌+◌, List, [], ◌∷◌, ◌++◌, refl, sym, subst, ap, ◌∙◌, arith, inl, inr}
-use Rattle.reg_wire.proofs.Runs.{answered_append}
+use Rattle.reg_wire.proofs.PublicLaws.{answered_append}
 use Rattle.std.specs.Prelude.{Result, Ok, Err, OnOk, OnErr, take, drop}
 use Rattle.reg_hub.specs.Lines.{Telling}
 use Rattle.reg_hub.specs.Exchange.{Input, request, line, asked_in, Handles, Exchanged}

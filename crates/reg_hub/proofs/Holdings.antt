@@ -5,9 +5,9 @@ use Rattle.std.specs.Io.KnownBytes.{Appends, Consumes}
 use Rattle.std.proofs.KnownBytes.{Appends-nil, Appends-trans, Consumes-nil, Consumes-trans}
 use Rattle.std.proofs.lemmas.List.{append-nil, append_assoc, drop-drop, take-take, take_all}
 use Rattle.reg_wire.specs.Mark.{EndsWith, FirstMark, HasNoMark}
-use Rattle.reg_wire.proofs.Marks.{no_mark_of_fronts}
+use Rattle.reg_wire.proofs.PublicLaws.{no_mark_in_front}
 use Rattle.reg_heads.specs.Bytes.{bytes_of}
-use Rattle.reg_hub.specs.Calls.{Asks, Takes, Sends}
+use Rattle.reg_hub.specs.Stages.{HasAsked, Takes, Sends}
 use Rattle.reg_hub.specs.Held.{AddsTo, TakesIn, SendsOn, IsSentAt}
 use Rattle.reg_hub.specs.Unsent.{unsent_of}
 use Rattle.reg_hub.specs.declared.caller.Stage.TheVariants as stage
@@ -82,7 +82,7 @@ pub found_or_none : (bytes mark : List ℕ) (r : Option ℕ)
     → MatchOption r (HasNoMark mark bytes) (λ end. FirstMark mark bytes end)
 found_or_none bytes mark None none =
     let P : List ℕ → Type 0 = λ l. HasNoMark mark l in
-    subst P (take_all (length bytes) bytes (omega arith)) (no_mark_of_fronts mark bytes (length bytes) none)
+    subst P (take_all (length bytes) bytes (omega arith)) (no_mark_in_front mark bytes (length bytes) none)
 found_or_none bytes mark (Some end) found = found.1
 
 -- a list of no length

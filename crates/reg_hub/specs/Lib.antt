@@ -1,5 +1,5 @@
-pub mod Calls
 pub mod Exchange
 pub mod Held
 pub mod Lines
+pub mod Stages
 pub mod Unsent

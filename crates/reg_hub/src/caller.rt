@@ -1,7 +1,7 @@
 //! One peer, which is answered once.
 
 ghost use Rattle.std.specs.Prelude.{◌≡◌, ◌≤◌, ◌+◌, OnOk, OnErr};
-ghost use Rattle.reg_hub.specs.Calls.{Answering, Takes, Sends};
+ghost use Rattle.reg_hub.specs.Stages.{Answering, Takes, Sends};
 ghost use Rattle.reg_hub.specs.Exchange.{Exchanged};
 
 use crate::handler::{Handler, Lost, Stopped, answer_one};

@@ -85,7 +85,7 @@ registration_adds test records now row sound free live =
         ∙ live_good now row live
 
 -- a revocation moves one certificate from good to revoked
-record Moves (before after : Status) (here : Bool) : Type 0 where
+record MovesByRevocation (before after : Status) (here : Bool) : Type 0 where
   good : one_if (is_good after) + one_if here ≡ one_if (is_good before)
   revoked : one_if (is_revoked before) + one_if here ≡ one_if (is_revoked after)
   expired : is_expired after ≡ is_expired before
@@ -95,7 +95,7 @@ revocation_moves :
     (records : Records) (now : ℕ) (certificate : CertRow) (revocation : RevocationRow)
     → certificate_in records.certificates revocation.serial ≡ Some certificate
     → revocation_in records.revocations revocation.serial ≡ None → now ≤ certificate.not_after → (row : CertRow)
-    → Moves (status records row.serial now) (status (with_revocation records now revocation) row.serial now) (row.serial == revocation.serial)
+    → MovesByRevocation (status records row.serial now) (status (with_revocation records now revocation) row.serial now) (row.serial == revocation.serial)
 revocation_moves records now certificate revocation known unrevoked live row = go (row.serial == revocation.serial) refl
   where
     before_is : status records revocation.serial now ≡ Good
@@ -127,24 +127,24 @@ revocation_moves records now certificate revocation known unrevoked live row = g
         row.serial
         ((λ e. let bad : (row.serial == revocation.serial) ≡ true = ap (λ n. row.serial == n) e ∙ same_number row.serial in let worse : ⊥ = cc in worse), tt))
 
-    one : Moves Good (Revoked revocation.at revocation.reason) true
+    one : MovesByRevocation Good (Revoked revocation.at revocation.reason) true
     one = record { good = refl; revoked = refl; expired = refl }
 
-    none : (s : Status) → Moves s s false
+    none : (s : Status) → MovesByRevocation s s false
     none s = record { good = omega arith; revoked = omega arith; expired = refl }
 
     go :
         (b : Bool)
         → (row.serial == revocation.serial) ≡ b
-        → Moves (status records row.serial now) (status (with_revocation records now revocation) row.serial now) b
+        → MovesByRevocation (status records row.serial now) (status (with_revocation records now revocation) row.serial now) b
     go true t =
         let e : row.serial ≡ revocation.serial = equal_numbers row.serial revocation.serial t in
-        let P : ℕ → Type 0 = λ n. Moves (status records n now) (status (with_revocation records now revocation) n now) true in
-        let Q : Status → Type 0 = λ s. Moves s (status (with_revocation records now revocation) revocation.serial now) true in
-        let R : Status → Type 0 = λ s. Moves Good s true in
+        let P : ℕ → Type 0 = λ n. MovesByRevocation (status records n now) (status (with_revocation records now revocation) n now) true in
+        let Q : Status → Type 0 = λ s. MovesByRevocation s (status (with_revocation records now revocation) revocation.serial now) true in
+        let R : Status → Type 0 = λ s. MovesByRevocation Good s true in
         subst P (sym e) (subst Q (sym before_is) (subst R (sym after_is) one))
     go false f =
-        let P : Status → Type 0 = λ s. Moves (status records row.serial now) s false in
+        let P : Status → Type 0 = λ s. MovesByRevocation (status records row.serial now) s false in
         subst P (sym (other_is f)) (none (status records row.serial now))
 
 -- so the counts move by one

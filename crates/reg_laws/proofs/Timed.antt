@@ -15,7 +15,7 @@ use Rattle.reg_laws.proofs.CountFacts.{one_if, sum_of_two, same_length}
 use Rattle.reg_laws.proofs.Lists.{all_weaker, each_found}
 
 -- what time does to one certificate: its status before and after, and whether it ends between
-record Moves (before after : Status) (ends : Bool) : Type 0 where
+record MovesInTime (before after : Status) (ends : Bool) : Type 0 where
   good : one_if (is_good after) + one_if ends ≡ one_if (is_good before)
   expired : one_if (is_expired before) + one_if ends ≡ one_if (is_expired after)
   revoked : is_revoked after ≡ is_revoked before
@@ -23,7 +23,7 @@ record Moves (before after : Status) (ends : Bool) : Type 0 where
   others : IsFalse ends → after ≡ before
 
 -- a status that stays
-stays : (status : Status) → Moves status status false
+stays : (status : Status) → MovesInTime status status false
 stays status = record {
   good = omega arith;
   expired = omega arith;
@@ -36,7 +36,7 @@ stays status = record {
 moves_by :
     (past ahead ended : Bool)
     → (past ≡ true → ended ≡ true) → (past ≡ false → ahead ≡ true)
-    → Moves (cond past Expired Good) (cond ended Expired Good) ((is_good (cond past Expired Good) && ahead) && ended)
+    → MovesInTime (cond past Expired Good) (cond ended Expired Good) ((is_good (cond past Expired Good) && ahead) && ended)
 moves_by true ahead true up down = stays Expired
 moves_by true ahead false up down = let e : false ≡ true = up refl in absurd (let bad : ⊥ = cc in bad)
 moves_by false true true up down = record {
@@ -53,7 +53,7 @@ moves_by false false ended up down = let e : false ≡ true = down refl in absur
 moves_at :
     (moment later : ℕ)
     → moment ≤ later → (row : CertRow) (revocation : Option RevocationRow)
-    → Moves (status_by moment (Some row) revocation) (status_by later (Some row) revocation) (is_good (status_by moment (Some row) revocation) && nat_le moment row.not_after && nat_lt row.not_after later)
+    → MovesInTime (status_by moment (Some row) revocation) (status_by later (Some row) revocation) (is_good (status_by moment (Some row) revocation) && nat_le moment row.not_after && nat_lt row.not_after later)
 moves_at moment later up row (Some revocation) = stays (status_by moment (Some row) (Some revocation))
 moves_at moment later up row None =
     moves_by
@@ -71,7 +71,7 @@ moves_at moment later up row None =
 
 -- of a row of the records
 RowMoves : Records → ℕ → ℕ → CertRow → Type 0
-RowMoves records moment later row = Moves (status records row.serial moment) (status records row.serial later) (ends_between records moment later row)
+RowMoves records moment later row = MovesInTime (status records row.serial moment) (status records row.serial later) (ends_between records moment later row)
 
 -- of each registered certificate
 each_moves :
@@ -85,7 +85,7 @@ each_moves records moment later up differ =
     (RowMoves records moment later)
     (λ row found.
     let P : Option CertRow → Type 0 = λ known.
-    Moves
+    MovesInTime
     (status_by moment known (revocation_in records.revocations row.serial))
     (status_by later known (revocation_in records.revocations row.serial))
     (is_good (status_by moment known (revocation_in records.revocations row.serial)) && nat_le moment row.not_after && nat_lt row.not_after later)

@@ -1,5 +1,7 @@
 pub mod FieldLemmas
 pub mod Meanings
+pub mod Pieces
+pub mod PublicLaws
 pub mod Readings
 pub mod RowLemmas
 pub mod Runs

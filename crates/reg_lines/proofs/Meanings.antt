@@ -2,12 +2,10 @@
 use Rattle.std.proofs.Common.{◌≡◌, ◌⊎◌, ℕ, Bool, true, false, cond, List, [], ◌∷◌, Option, Some, None, option_map, refl, sym, ap, ◌∙◌, subst, inl, inr}
 use Rattle.std.specs.Prelude.{bytes_eq, codes, IfNone, IfSome, option_and_then}
 use Rattle.std.proofs.lemmas.Slice.Eq.{bytes_eq-Decides}
-use Rattle.std.specs.Str.Parse.{digits_value}
 use Rattle.reg_core.specs.Calendar.{moment_text}
-use Rattle.reg_core.specs.Number.{IsNumberText, is_number_text, number_of}
-use Rattle.reg_core.specs.Serial.{IsSerialText, is_serial_text, serial_of}
-use Rattle.reg_core.proofs.Numbers.{number_of-some, test-number_text}
-use Rattle.reg_core.proofs.Serials.{serial_of-some, test-serial_text}
+use Rattle.reg_core.specs.Number.{IsNumberText, number_of}
+use Rattle.reg_core.specs.Serial.{IsSerialText, serial_of}
+use Rattle.reg_core.proofs.PublicLaws.{numbers_are_read, serials_are_read}
 use Rattle.reg_core.specs.declared.command.Command.{Command}
 use Rattle.reg_core.specs.declared.command.Command.TheVariants.{Subscriber, Order, Register, Request, Decline, Revoke, Crl}
 use Rattle.reg_core.specs.declared.command.Query.{Query}
@@ -58,20 +56,16 @@ alone_is value v (a ∷ rest) e = cc e
 -- ---- what is read is what is spelled
 
 number_of-is : (text : List ℕ) (n : ℕ) → number_of text ≡ Some n → IsNumberText text n
-unfolding number_of
-number_of-is text n e = by (is_number_text text) refl e
-  where
-    by : (b : Bool) → is_number_text text ≡ b → cond b (Some (digits_value 10 text)) None ≡ Some n → IsNumberText text n
-    by true is e = let same : digits_value 10 text ≡ n = cc in subst (IsNumberText text) same (test-number_text text is)
-    by false is e = cc e
+number_of-is text n = (numbers_are_read text n).0
+
+number_of-some : (text : List ℕ) (n : ℕ) → IsNumberText text n → number_of text ≡ Some n
+number_of-some text n = (numbers_are_read text n).1
 
 serial_of-is : (text : List ℕ) (n : ℕ) → serial_of text ≡ Some n → IsSerialText text n
-unfolding serial_of
-serial_of-is text n e = by (is_serial_text text) refl e
-  where
-    by : (b : Bool) → is_serial_text text ≡ b → cond b (Some (digits_value 16 text)) None ≡ Some n → IsSerialText text n
-    by true is e = let same : digits_value 16 text ≡ n = cc in subst (IsSerialText text) same (test-serial_text text is)
-    by false is e = cc e
+serial_of-is text n = (serials_are_read text n).0
+
+serial_of-some : (text : List ℕ) (n : ℕ) → IsSerialText text n → serial_of text ≡ Some n
+serial_of-some text n = (serials_are_read text n).1
 
 abbrev after : List ℕ → List (List ℕ) → List (List ℕ)
 after word fields = word ∷ fields

@@ -12,7 +12,7 @@ use Rattle.hex.specs.declared.error.FromHexError.{FromHexError}
 use Rattle.hex.proofs.HexLemmas.{decode_of-digits, decode_of-odd, decode_of-ok}
 use Rattle.reg_core.specs.Calendar.{IsMoment, moment_text}
 use Rattle.reg_core.specs.Label.{IsLabel}
-use Rattle.reg_core.proofs.Moments.{moment_text_injective}
+use Rattle.reg_core.proofs.PublicLaws.{one_moment}
 use Rattle.reg_lines.specs.Meaning.{bytes_of, IsHexOf}
 use Rattle.reg_lines.specs.Reading.{first_below, hex_of, label_of, moment_of}
 
@@ -96,7 +96,7 @@ text_below n m one below = by (first_below (is_text_of (moment_text m)) n) refl
 
 pub moment_of-text : (m : ℕ) → IsMoment m → moment_of (moment_text m) ≡ Some m
 unfolding moment_of
-moment_of-text m is = text_below 253402300800 m (λ k below same. sym (moment_text_injective m k is below same)) is
+moment_of-text m is = text_below 253402300800 m (λ k below same. sym (one_moment m k is below same)) is
 
 -- ---- labels
 

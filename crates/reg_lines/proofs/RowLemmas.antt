@@ -13,8 +13,8 @@ use Rattle.csv.specs.declared.reader.Reader.{Reader}
 use Rattle.csv.proofs.ReadFacts.{rows-end, rows-more}
 use Rattle.reg_wire.specs.Run.{Answered}
 use Rattle.reg_wire.specs.declared.put.WriteFault.{WriteFault}
-use Rattle.reg_wire.proofs.Bytes.{concat_push}
-use Rattle.reg_wire.proofs.Runs.{answered_push}
+use Rattle.reg_wire.proofs.PublicLaws.{answered_push}
+use Rattle.reg_lines.proofs.Pieces.{concat_push}
 use Rattle.reg_core.specs.declared.refusal.Fault.{Fault}
 use Rattle.reg_core.specs.declared.refusal.Fault.TheVariants.{Refused, Memory, Store, Signer, Read, Write}
 use Rattle.reg_lines.specs.Answer.{Answer}

@@ -10,8 +10,8 @@ use Rattle.std.proofs.lemmas.Bool.{cases_lt, ne_eqb}
 use Rattle.std.proofs.lemmas.List.{map-append}
 use Rattle.std.proofs.lemmas.List.Elements.{All-head, All-nil, All-tail}
 use Rattle.reg_wire.specs.Run.{Answered}
-use Rattle.reg_wire.proofs.Bytes.{concat_push}
-use Rattle.reg_wire.proofs.Runs.{answered_push}
+use Rattle.reg_wire.proofs.PublicLaws.{answered_push}
+use Rattle.reg_lines.proofs.Pieces.{concat_push}
 use Rattle.reg_lines.specs.Answer.{Answer, Replies}
 use Rattle.reg_lines.specs.Meaning.{Meaning}
 use Rattle.reg_lines.specs.Script.{AreShort, Finished, HasNoLf, InputFails, IsShort, IsWhole, RanFirst, ScriptEnds, StoppedAtRead, StoppedAtWrite, line_of, longest_line, pieces}

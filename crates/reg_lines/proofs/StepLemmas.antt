@@ -7,13 +7,12 @@ use Rattle.std.proofs.lemmas.List.{get_or_push, take_all, take_at}
 use Rattle.reg_wire.specs.Fill.{FillsShort, FillsTo}
 use Rattle.reg_wire.specs.Put.{AppendsFront}
 use Rattle.reg_wire.specs.declared.fill.Reached.TheVariants.{Mark, Full, End}
-use Rattle.reg_wire.proofs.Buffers.{turned}
-use Rattle.reg_wire.proofs.Marks.{byte_first, no_byte}
-use Rattle.reg_wire.proofs.Searches.{cut_at_mark, held_now}
+use Rattle.reg_wire.proofs.PublicLaws.{byte_first, no_byte, cut_at_mark, held_now}
 use Rattle.reg_lines.specs.Answer.{Answer, Replies}
 use Rattle.reg_lines.specs.Meaning.{Meaning}
 use Rattle.reg_lines.specs.Script.{HasNoLf, IsShort, IsWhole, line_of}
 use Rattle.reg_lines.specs.Steps.{RanLast, RanWhole, ReadsNoLine, WritesPart}
+use Rattle.reg_lines.proofs.Pieces.{turned}
 
 -- ---- lines
 

@@ -1,7 +1,8 @@
 -- What an office answers to a line, and what is written of it.
-use Rattle.std.specs.Prelude.{◌≡◌, ◌⊎◌, ℕ, List, ◌++◌, codes, Result, Err}
+use Rattle.std.specs.Prelude.{◌≡◌, ◌⊎◌, ℕ, List, ◌++◌, codes, Result, Ok, Err}
 use Rattle.hex.specs.Hex.{encode_lower}
 use Rattle.reg_core.specs.declared.command.Reply.{Reply}
+use Rattle.reg_core.specs.declared.memory.Memory.{Memory as NoMemory}
 use Rattle.reg_core.specs.declared.refusal.Fault.{Fault}
 use Rattle.reg_core.specs.declared.refusal.Fault.TheVariants.{Refused, Memory}
 use Rattle.reg_core.specs.declared.refusal.Refusal.TheVariants.{Syntax}
@@ -11,8 +12,7 @@ use Rattle.reg_lines.specs.Replies.{outcome_line, with_lf}
 -- what an office answers: what a command or query came to, or the bytes of an OCSP response (RFC 6960 4.2) or want of memory for it
 pub data Answer : Type 0 where
   came_to : Result Reply Fault → Answer
-  responded : List ℕ → Answer
-  lacked_memory : Answer
+  responded : Result (List ℕ) NoMemory → Answer
 
 -- a reply that tells of want of memory
 abbrev pub TellsMemory : List ℕ → Type 0
@@ -21,12 +21,12 @@ TellsMemory reply = reply ≡ with_lf (outcome_line (Err Memory))
 -- the reply tells this answer; where the memory for a response's digits is not there, it tells of that
 abbrev pub Tells : Answer → List ℕ → Type 0
 Tells (came_to outcome) reply = reply ≡ with_lf (outcome_line outcome)
-Tells (responded bytes) reply = (reply ≡ with_lf (codes "ocsp " ++ encode_lower bytes)) ⊎ TellsMemory reply
-Tells lacked_memory reply = TellsMemory reply
+Tells (responded (Ok bytes)) reply = (reply ≡ with_lf (codes "ocsp " ++ encode_lower bytes)) ⊎ TellsMemory reply
+Tells (responded (Err memory)) reply = TellsMemory reply
 
 -- the office is asked what the line means, and the reply tells its answer
-abbrev pub IsAnswered : {S : Type 0} → (S → Meaning → Answer → S → Type 0) → S → List ℕ → List ℕ → S → Type 0
-IsAnswered answers s line reply t = (meaning : Meaning) × (answer : Answer) × LineMeans line meaning × answers s meaning answer t × Tells answer reply
+abbrev pub LineIsAnswered : {S : Type 0} → (S → Meaning → Answer → S → Type 0) → S → List ℕ → List ℕ → S → Type 0
+LineIsAnswered answers s line reply t = (meaning : Meaning) × (answer : Answer) × LineMeans line meaning × answers s meaning answer t × Tells answer reply
 
 -- the line is an OCSP request, whose bytes there is no memory for, and the office is not asked
 abbrev pub IsTooMuch : {S : Type 0} → S → List ℕ → List ℕ → S → Type 0
@@ -36,6 +36,6 @@ IsTooMuch s line reply t = (now : ℕ) × (bytes : List ℕ) × LineMeans line (
 abbrev pub IsRefused : {S : Type 0} → S → List ℕ → List ℕ → S → Type 0
 IsRefused s line reply t = IsUnreadable line × (reply ≡ with_lf (outcome_line (Err (Refused Syntax)))) × (t ≡ s)
 
--- One line and its reply: the office `s` becomes `t`. `answers` is the office's own relation.
+-- One line and its reply: the office `s` becomes `t`. `answers` is the relation of the office's calls, `ByCalls`.
 abbrev pub Replies : {S : Type 0} → (S → Meaning → Answer → S → Type 0) → S → List ℕ → List ℕ → S → Type 0
-Replies answers s line reply t = IsAnswered answers s line reply t ⊎ (IsTooMuch s line reply t ⊎ IsRefused s line reply t)
+Replies answers s line reply t = LineIsAnswered answers s line reply t ⊎ (IsTooMuch s line reply t ⊎ IsRefused s line reply t)

@@ -1,6 +1,8 @@
 pub mod Answer
+pub mod ByCalls
 pub mod Fields
 pub mod Import
+pub mod Laws
 pub mod Meaning
 pub mod Reading
 pub mod Replies

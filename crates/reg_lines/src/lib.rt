@@ -2,15 +2,14 @@
 #![tactic(auto)]
 
 mod fields;
+pub mod laws;
 mod line;
-mod office;
 mod reply;
 mod rows;
 mod run;
 mod script;
 
 pub use line::{Line, read_line};
-pub use office::Answers;
 pub use reply::ReplyText;
 pub use rows::{MOST_BYTES, import};
 pub use script::{LONGEST_LINE, MOST_LINES, run_script};

@@ -3,13 +3,14 @@
 ghost use Rattle.std.specs.Prelude.{◌≡◌, ◌==◌, ◌&&◌, ℕ, option_map, is_some};
 ghost use Rattle.std.specs.Result.{result_map_both};
 ghost use Rattle.csv.specs.Records.{fields_of};
+ghost use Rattle.reg_lines.specs.ByCalls.{ByCalls};
 ghost use Rattle.reg_lines.specs.Import.{ImportEnds, RanRow, RowsEnd, TextRead, TookRow, is_header};
 ghost use Rattle.reg_lines.specs.Reading.{four, four_at, register_of};
 
 use crate::line::read_registration;
-use crate::office::Answers;
 use crate::run::write_outcome;
 use csv::{ByteRecord, ReaderBuilder};
+use reg_calls::Calls;
 use reg_core::{Command, Fault, Moment, Refusal};
 use reg_wire::WriteFault;
 use std::alloc::Global;
@@ -29,14 +30,14 @@ const PIECE: usize = 4096;
 /// [`Fault::Read`] at a read that fails and at more than 16,777,216 bytes: nothing ran. [`Fault::Write`] where the output
 /// fails in a reply, whose row ran. [`Fault::Memory`] where memory was refused for the text or for a row: the rows before
 /// it ran, and their replies were written.
-pub fn import<R: Read, W: Write, O: Answers>(
+pub fn import<R: Read, W: Write, O: Calls>(
     alloc: Global,
     reader: &mut R,
     writer: &mut W,
     now: Moment,
     office: &mut O,
 ) -> Result<(), Fault>
-    ensures { ImportEnds O.answers R.remaining W.contents now
+    ensures { ImportEnds (ByCalls O.runs O.asks O.ocsps) R.remaining W.contents now
         office.old office.new reader.old reader.new writer.old writer.new result }
 {
     match read_text(alloc, reader) {
@@ -66,14 +67,14 @@ fn read_text<R: Read>(alloc: Global, reader: &mut R) -> Result<Vec<u8>, Fault>
 }
 
 /// Runs each row of a text.
-fn run_rows<W: Write, O: Answers>(
+fn run_rows<W: Write, O: Calls>(
     alloc: Global,
     writer: &mut W,
     now: Moment,
     office: &mut O,
     text: &[u8],
 ) -> Result<(), Fault>
-    ensures { RowsEnd O.answers now office.old office.new (W.contents writer.old) (W.contents writer.new) text.now result }
+    ensures { RowsEnd (ByCalls O.runs O.asks O.ocsps) now office.old office.new (W.contents writer.old) (W.contents writer.new) text.now result }
 {
     let mut rows = ReaderBuilder::new()
         .has_headers(false)
@@ -82,7 +83,7 @@ fn run_rows<W: Write, O: Answers>(
     let mut row = ByteRecord::new(alloc);
     for index in 0..u64::MAX {
         match rows.read_byte_record(&mut row) {
-            Ok(true) => match take_row(writer, now, office, &row, index == 0) {
+            Ok(true) => match take_row(alloc, writer, now, office, &row, index == 0) {
                 Ok(()) => {}
                 Err(_) => return Err(Fault::Write),
             },
@@ -96,35 +97,37 @@ fn run_rows<W: Write, O: Answers>(
 }
 
 /// Runs a row, if it is not the header, which only the first row can be.
-fn take_row<W: Write, O: Answers>(
+fn take_row<W: Write, O: Calls>(
+    alloc: Global,
     writer: &mut W,
     now: Moment,
     office: &mut O,
     row: &ByteRecord,
     first: bool,
 ) -> Result<(), WriteFault>
-    ensures { TookRow O.answers now office.old office.new first (fields_of row.now)
+    ensures { TookRow (ByCalls O.runs O.asks O.ocsps) now office.old office.new first (fields_of row.now)
         (W.contents writer.old) (W.contents writer.new) result }
 {
     if first && is_header(row) {
         return Ok(());
     }
-    run_row(writer, now, office, row)
+    run_row(alloc, writer, now, office, row)
 }
 
 /// Runs a row and writes its reply.
-fn run_row<W: Write, O: Answers>(
+fn run_row<W: Write, O: Calls>(
+    alloc: Global,
     writer: &mut W,
     now: Moment,
     office: &mut O,
     row: &ByteRecord,
 ) -> Result<(), WriteFault>
-    ensures { RanRow O.answers now office.old office.new (fields_of row.now)
+    ensures { RanRow (ByCalls O.runs O.asks O.ocsps) now office.old office.new (fields_of row.now)
         (W.contents writer.old) (W.contents writer.new) result }
 {
     match read_row(row) {
         Some(command) => {
-            let outcome = office.run_one(now, &command);
+            let outcome = office.run_one(alloc, now, &command);
             write_outcome(writer, &outcome)
         }
         None => write_outcome(writer, &Err(Fault::Refused(Refusal::Syntax))),

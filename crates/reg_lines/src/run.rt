@@ -1,14 +1,15 @@
 //! One line, run by an office, with its reply written.
 
-ghost use Rattle.std.specs.Prelude.{◌≡◌, ℕ, List, ◌++◌, codes, IfOk};
+ghost use Rattle.std.specs.Prelude.{◌≡◌, ℕ, List, ◌++◌, codes, Ok, IfOk};
 ghost use Rattle.hex.specs.Hex.{encode_lower};
 ghost use Rattle.reg_lines.specs.Answer.{Tells, responded};
+ghost use Rattle.reg_lines.specs.ByCalls.{ByCalls};
 ghost use Rattle.reg_lines.specs.Replies.{with_lf, outcome_line};
 ghost use Rattle.reg_lines.specs.Steps.{RanLine, RanOcsp, RanSaid, Wrote};
 
 use crate::line::{Line, read_line};
-use crate::office::Answers;
 use crate::reply::ReplyText;
+use reg_calls::Calls;
 use reg_core::{Fault, Moment, Outcome, Refusal};
 use reg_wire::{WriteFault, write_whole};
 use std::alloc::{AllocError, Global};
@@ -19,13 +20,13 @@ use std::io::Write;
 /// # Errors
 ///
 /// [`WriteFault`] where the output failed: a front of the reply went out.
-pub(crate) fn run_line<W: Write, O: Answers>(
+pub(crate) fn run_line<W: Write, O: Calls>(
     alloc: Global,
     writer: &mut W,
     office: &mut O,
     line: &[u8],
 ) -> Result<(), WriteFault>
-    ensures { RanLine O.answers office.old office.new line.now (W.contents writer.old) (W.contents writer.new) result }
+    ensures { RanLine (ByCalls O.runs O.asks O.ocsps) office.old office.new line.now (W.contents writer.old) (W.contents writer.new) result }
 {
     match read_line(line) {
         Some(said) => run_said(alloc, writer, office, &said),
@@ -34,21 +35,21 @@ pub(crate) fn run_line<W: Write, O: Answers>(
 }
 
 /// Runs what a line says and writes the reply.
-fn run_said<W: Write, O: Answers>(
+fn run_said<W: Write, O: Calls>(
     alloc: Global,
     writer: &mut W,
     office: &mut O,
     said: &Line<'_>,
 ) -> Result<(), WriteFault>
-    ensures { RanSaid O.answers office.old office.new said.now (W.contents writer.old) (W.contents writer.new) result }
+    ensures { RanSaid (ByCalls O.runs O.asks O.ocsps) office.old office.new said.now (W.contents writer.old) (W.contents writer.new) result }
 {
     match *said {
         Line::Tell(now, command) => {
-            let outcome = office.run_one(now, &command);
+            let outcome = office.run_one(alloc, now, &command);
             write_outcome(writer, &outcome)
         }
         Line::Ask(now, query) => {
-            let outcome = office.ask(now, &query);
+            let outcome = office.ask(alloc, now, &query);
             write_outcome(writer, &outcome)
         }
         Line::Ocsp(now, digits) => run_ocsp(alloc, writer, office, now, digits),
@@ -64,14 +65,14 @@ pub(crate) fn write_outcome<W: Write>(writer: &mut W, outcome: &Outcome) -> Resu
 }
 
 /// Answers an OCSP request, by its digits, and writes the reply.
-fn run_ocsp<W: Write, O: Answers>(
+fn run_ocsp<W: Write, O: Calls>(
     alloc: Global,
     writer: &mut W,
     office: &mut O,
     now: Moment,
     digits: &[u8],
 ) -> Result<(), WriteFault>
-    ensures { RanOcsp O.answers office.old office.new now digits.now (W.contents writer.old) (W.contents writer.new) result }
+    ensures { RanOcsp (ByCalls O.runs O.asks O.ocsps) office.old office.new now digits.now (W.contents writer.old) (W.contents writer.new) result }
 {
     let Ok(request) = hex::decode(alloc, digits) else {
         return write_outcome(writer, &Err(Fault::Memory));
@@ -88,7 +89,7 @@ fn write_response<W: Write>(
     writer: &mut W,
     response: &[u8],
 ) -> Result<(), WriteFault>
-    ensures { (reply : List ℕ) × Wrote (W.contents writer.old) (W.contents writer.new) reply result × Tells (responded response.now) reply }
+    ensures { (reply : List ℕ) × Wrote (W.contents writer.old) (W.contents writer.new) reply result × Tells (responded (Ok response.now)) reply }
 {
     match response_text(alloc, response) {
         Ok(text) => write_whole(writer, &text),

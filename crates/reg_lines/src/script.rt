@@ -3,11 +3,12 @@
 ghost use Rattle.std.specs.Prelude.{◌≡◌, ℕ, ◌≤◌, ◌<◌, List, [], length, take, OnOk, OnErr, MatchResult};
 ghost use Rattle.std.specs.Io.BufRead.{strip_last};
 ghost use Rattle.std.specs.Io.KnownBytes.{Consumes, IsAtEnd};
+ghost use Rattle.reg_lines.specs.ByCalls.{ByCalls};
 ghost use Rattle.reg_lines.specs.Script.{IsWhole, ScriptEnds, line_of};
 ghost use Rattle.reg_lines.specs.Steps.{EndOrMore, RunEnds, StepEnds};
 
-use crate::office::Answers;
 use crate::run::run_line;
+use reg_calls::Calls;
 use reg_core::Fault;
 use reg_wire::{Reached, fill_to_mark};
 use std::alloc::Global;
@@ -20,21 +21,21 @@ pub const LONGEST_LINE: usize = 8192;
 pub const MOST_LINES: u64 = 1_000_000;
 
 /// Runs each line of a script, in turn, and writes each reply before it runs the next line. The input may come in pieces
-/// of any size. Memory is taken once, before the first line; after that only an `ocsp` line takes some, and where that is
-/// refused its reply is `F1 memory`.
+/// of any size. Memory is taken once, before the first line; after that by the calls of the office, and for an `ocsp` line,
+/// whose reply is `F1 memory` where it is refused.
 ///
 /// # Errors
 ///
 /// [`Fault::Read`] at a read that fails, at a line of more than 8,192 bytes and at a line after the 1,000,000th: the lines
 /// before it ran, and their replies were written. [`Fault::Write`] where the output fails in a reply, whose line ran.
 /// [`Fault::Memory`] where there is no memory for one line: nothing ran, nothing was read and nothing was written.
-pub fn run_script<R: Read, W: Write, O: Answers>(
+pub fn run_script<R: Read, W: Write, O: Calls>(
     alloc: Global,
     reader: &mut R,
     writer: &mut W,
     office: &mut O,
 ) -> Result<(), Fault>
-    ensures { ScriptEnds O.answers R.remaining W.contents
+    ensures { ScriptEnds (ByCalls O.runs O.asks O.ocsps) R.remaining W.contents
         office.old office.new reader.old reader.new writer.old writer.new result }
 {
     match vec![in alloc; 0; LONGEST_LINE + 1] {
@@ -44,7 +45,7 @@ pub fn run_script<R: Read, W: Write, O: Answers>(
 }
 
 /// Runs each line of a script, with room for one line and one byte more.
-fn run_lines<R: Read, W: Write, O: Answers>(
+fn run_lines<R: Read, W: Write, O: Calls>(
     alloc: Global,
     reader: &mut R,
     writer: &mut W,
@@ -52,7 +53,7 @@ fn run_lines<R: Read, W: Write, O: Answers>(
     buffer: &mut [u8],
 ) -> Result<(), Fault>
     requires { length buffer.old ≡ 8193 }
-    ensures { RunEnds O.answers office.old office.new
+    ensures { RunEnds (ByCalls O.runs O.asks O.ocsps) office.old office.new
         (R.remaining reader.old) (R.remaining reader.new) (W.contents writer.old) (W.contents writer.new) result }
 {
     let mut held = 0;
@@ -71,7 +72,7 @@ fn run_lines<R: Read, W: Write, O: Answers>(
 
 /// Runs the next line. `Some` tells how many bytes are held after it, at the front of the buffer; `None` that the input is
 /// at its end.
-fn run_next<R: Read, W: Write, O: Answers>(
+fn run_next<R: Read, W: Write, O: Calls>(
     alloc: Global,
     reader: &mut R,
     writer: &mut W,
@@ -81,7 +82,7 @@ fn run_next<R: Read, W: Write, O: Answers>(
 ) -> Result<Option<usize>, Fault>
     requires room { length buffer.old ≡ 8193 }
     requires held_fits { held ≤ length buffer.old }
-    ensures { StepEnds O.answers office.old office.new
+    ensures { StepEnds (ByCalls O.runs O.asks O.ocsps) office.old office.new
         (R.remaining reader.old) (R.remaining reader.new) (W.contents writer.old) (W.contents writer.new)
         (take held buffer.old) buffer.new result }
 {

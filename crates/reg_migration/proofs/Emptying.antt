@@ -21,8 +21,9 @@ use Rattle.sqlite.proofs.Callers.{runs_as, statement_of}
 use Rattle.reg_tables.specs.Reading.{command_of}
 use Rattle.reg_tables.specs.Schema.{standing, kept, listed}
 use Rattle.reg_tables.specs.Stays.{Moves}
-use Rattle.reg_changes.specs.Ran.{Ran}
+use Rattle.reg_changes.specs.Ran.{HasSchema, Ran}
 use Rattle.reg_changes.proofs.Edits.{Empties, does_empty}
+use Rattle.reg_changes.proofs.Keeping.{deletes_keep}
 use Rattle.reg_changes.proofs.Meaning.{deletes}
 use Rattle.reg_changes.proofs.Turning.{IsKeyed}
 use Rattle.reg_migration.specs.Older.{kept_tables}
@@ -76,6 +77,9 @@ module _ (text : List ℕ) (place : ℕ) (table : Table) (there : slice_get kept
       moves_to text [] old new count (HasRows kept_tables (with_rows table.tree [] rows)) ran
       (record { schema = gone.keeps_schema; rows = with_other kept_tables.tables table.tree [] rows old.now.trees new.now.trees gone.rows gone.others was.rows })
 
+  pub keeps : (old new : State) (count : ℕ) → Ran text [] old new count → HasSchema kept_tables old → HasSchema kept_tables new
+  keeps old new count ran had up = deletes_keep text [] old new count ran kept_tables (had ran.was_open) plain place _ means
+
 pub clears_standing : (rows : Trees) (old new : State) (count : ℕ) → Ran CLEAR_STANDING.now [] old new count → AllByRecursion IsNumbered (old.now.trees 12) → HadRows old kept_tables rows
     → Moves old new (HasRows kept_tables (with_rows 12 [] rows))
 unfolding understood everything
@@ -90,3 +94,15 @@ pub clears_listed : (rows : Trees) (old new : State) (count : ℕ) → Ran CLEAR
     → Moves old new (HasRows kept_tables (with_rows 15 [] rows))
 unfolding understood everything
 clears_listed = clears CLEAR_LISTED.now 9 listed refl (refl, refl) refl (λ trees. refl)
+
+pub keeps_standing : (old new : State) (count : ℕ) → Ran CLEAR_STANDING.now [] old new count → HasSchema kept_tables old → HasSchema kept_tables new
+unfolding understood everything
+keeps_standing = keeps CLEAR_STANDING.now 7 standing refl (refl, refl) refl (λ trees. refl)
+
+pub keeps_kept : (old new : State) (count : ℕ) → Ran CLEAR_KEPT.now [] old new count → HasSchema kept_tables old → HasSchema kept_tables new
+unfolding understood everything
+keeps_kept = keeps CLEAR_KEPT.now 8 kept refl (refl, refl) refl (λ trees. refl)
+
+pub keeps_listed : (old new : State) (count : ℕ) → Ran CLEAR_LISTED.now [] old new count → HasSchema kept_tables old → HasSchema kept_tables new
+unfolding understood everything
+keeps_listed = keeps CLEAR_LISTED.now 9 listed refl (refl, refl) refl (λ trees. refl)

@@ -21,8 +21,8 @@ use Rattle.sqlite.specs.State.{State}
 use Rattle.reg_core.specs.Issuer.{Issuer}
 use Rattle.reg_core.specs.Policy.{Terms}
 use Rattle.reg_core.specs.Records.{Records}
-use Rattle.reg_core.specs.Schedule.{one_step}
-use Rattle.reg_tables.specs.Columns.{stored_counts}
+use Rattle.reg_core.specs.Schedule.{greatest_of, one_step}
+use Rattle.reg_tables.specs.Columns.{stored_counts, office_days}
 use Rattle.reg_tables.specs.Rows.{number, stored_office}
 use Rattle.reg_tables.specs.Schema.{register_schema, office, kept}
 use Rattle.reg_tables.specs.Shows.{AreRows, AreColumns, AreBoth}
@@ -36,7 +36,7 @@ use Rattle.reg_changes.proofs.Meaning.{updates, inserts, IsWriting}
 use Rattle.reg_changes.proofs.Registers.{Spares, turns_rows, puts_row}
 use Rattle.reg_changes.proofs.Turning.{IsKeyed}
 use Rattle.reg_migration.specs.Older.{older_schema, stored_older, IsShownByOlder}
-use Rattle.reg_migration.specs.Refilled.{no_columns}
+use Rattle.reg_migration.specs.Refilled.{no_columns, no_counts}
 use Rattle.reg_migration.specs.Rows.{HasRows, HadRows, with_rows, records_alone}
 use Rattle.reg_migration.specs.declared.version.Earlier.{Earlier}
 use Rattle.reg_migration.specs.declared.version.Earlier.TheVariants.{First, Second}
@@ -50,11 +50,11 @@ version_columns = lit Null ∷ lit (Int (pos 3)) ∷ col 1 3 ∷ col 1 4 ∷ col
 abbrev counts_terms : List Term
 counts_terms = lit (Int (pos 1)) ∷ lit Null ∷ lit (Int (pos 0)) ∷ lit (Int (pos 0)) ∷ lit (Int (pos 0)) ∷ []
 
-set_version_means : IsWriting SET_VERSION.now (updates 0 0 [] version_columns)
+pub set_version_means : IsWriting SET_VERSION.now (updates 0 0 [] version_columns)
 unfolding understood everything register_schema
 set_version_means = record { plain = (refl, refl); is = refl }
 
-put_counts_means : IsWriting PUT_COUNTS.now (inserts 8 counts_terms 5)
+pub put_counts_means : IsWriting PUT_COUNTS.now (inserts 8 counts_terms 5)
 unfolding understood everything register_schema
 put_counts_means = record { plain = (refl, refl); is = refl }
 
@@ -102,13 +102,13 @@ sets_version rows version days issuer policy last old new count ran first before
     (record { schema = turns.keeps_schema; rows = with_other register_schema.tables 0 _ rows old.now.trees new.now.trees is turns.others was.rows })
 
 pub puts_counts : (rows : Trees) (old new : State) (count : ℕ) → Ran PUT_COUNTS.now [] old new count → rows 14 ≡ [] → HadRows old register_schema rows
-    → Moves old new (HasRows register_schema (with_rows 14 (stored_counts no_columns.counts ∷ []) rows))
+    → Moves old new (HasRows register_schema (with_rows 14 (stored_counts no_counts ∷ []) rows))
 unfolding register_schema
 puts_counts rows old new count ran none before =
     let was = before ran.was_open in
     let had : old.now.trees 14 ≡ [] = rows_at old.now rows was 14 refl ∙ none in
     let puts = puts_row PUT_COUNTS.now [] old new count ran was.schema 8 kept refl counts_terms 5 put_counts_means refl refl refl in
-    let row : Row = stored_counts no_columns.counts in
+    let row : Row = stored_counts no_counts in
     let is : new.now.trees 14 ≡ row ∷ [] =
     puts.rows ∙ ap (λ r. put_row (with_rowid Chosen (old.now.trees 14) r) (old.now.trees 14)) (let made : cast_row kept (eval_all counts_terms ([] ∷ [])) ≡ row = simp (cast_int, cast_null) in made)
     ∙ ap (λ t. put_row (with_rowid Chosen t row) t) had in
@@ -124,7 +124,7 @@ older_has Second db schema = record { schema = schema; rows = (refl, (refl, (ref
 
 -- the rows once the version is set and the counts' row is put in
 abbrev pub first_rows : Trees → ℕ → Issuer → Terms → ℕ → Trees
-first_rows rows days issuer policy last = with_rows 14 (stored_counts no_columns.counts ∷ []) (with_rows 0 (stored_office (pos days) issuer policy last ∷ []) (records_alone rows))
+first_rows rows days issuer policy last = with_rows 14 (stored_counts no_counts ∷ []) (with_rows 0 (stored_office (pos days) issuer policy last ∷ []) (records_alone rows))
 
 pub staged_first : (rows : Trees) (days : ℕ) (issuer : Issuer) (policy : Terms) (last : ℕ) (db : Database) → HasRows register_schema (first_rows rows days issuer policy last) db
     → IsStaged (first_rows rows days issuer policy last) [] db
@@ -134,9 +134,12 @@ staged_first rows days issuer policy last db has = record {
   rows = rows_at db (first_rows rows days issuer policy last) has 17 refl;
 }
 
+greatest_one : (days : ℕ) → days ≡ greatest_of (one_step days)
+greatest_one days = omega arith
+
 -- the records are shown, and nothing is kept beside them
 pub begun_both : (version : Earlier) (days : ℕ) (db after : Database) (records : Records) (older : IsShownByOlder version db records) → records.policy.schedule ≡ one_step days
-    → IsStaged (first_rows db.trees older.days records.issuer records.policy records.last) ((0, days) ∷ []) after → AreBoth after records no_columns
+    → IsStaged (first_rows db.trees older.days records.issuer records.policy records.last) ((0, days) ∷ []) after → AreBoth after records (no_columns records.policy.schedule)
 begun_both version days db after records older one staged =
     let rows : AreRows after.trees records = record {
       days = pos older.days;
@@ -157,7 +160,8 @@ begun_both version days db after records older one staged =
       request_serials = older.rows.request_serials;
       revocation_serials = older.rows.revocation_serials;
     } in
-    let kept : AreColumns after.trees no_columns = record {
+    let kept : AreColumns after.trees (no_columns records.policy.schedule) = record {
+      days = ap office_days (staged.others 0 refl refl) ∙ ap number (greatest_one older.days ∙ ap greatest_of (sym older.schedule));
       letters = staged.others 12 refl refl;
       counts = staged.others 14 refl refl;
       listed = staged.others 15 refl refl;

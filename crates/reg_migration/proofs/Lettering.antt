@@ -225,11 +225,11 @@ letters_query = record {
   offset = lit (Int (pos 0));
 }
 
-fill_means : command_of (understood register_schema FILL_LETTERS.now) ≡ fills 7 letters_query
+pub fill_means : command_of (understood register_schema FILL_LETTERS.now) ≡ fills 7 letters_query
 unfolding understood everything register_schema
 fill_means = refl
 
-fill_plain : IsPlain (understood register_schema FILL_LETTERS.now)
+pub fill_plain : IsPlain (understood register_schema FILL_LETTERS.now)
 unfolding understood everything register_schema
 fill_plain = (refl, refl)
 

@@ -28,7 +28,7 @@ use Rattle.reg_migration.specs.Refilled.{with_listed}
 use Rattle.reg_migration.specs.declared.texts.TheConstants.{PUT_LISTING}
 use Rattle.reg_migration.proofs.Defining.{moves_to}
 
-put_listing_means : IsWriting PUT_LISTING.now (inserts 9 (lit Null ∷ col 0 0 ∷ col 0 1 ∷ col 0 2 ∷ col 0 3 ∷ col 0 4 ∷ col 0 5 ∷ []) 7)
+pub put_listing_means : IsWriting PUT_LISTING.now (inserts 9 (lit Null ∷ col 0 0 ∷ col 0 1 ∷ col 0 2 ∷ col 0 3 ∷ col 0 4 ∷ col 0 5 ∷ []) 7)
 unfolding understood everything register_schema
 put_listing_means = record { plain = (refl, refl); is = refl }
 

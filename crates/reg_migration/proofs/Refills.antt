@@ -1,5 +1,5 @@
 -- What is kept beside the records, made anew, stands for them.
-use Rattle.std.proofs.Common.{◌≡◌, ◌+◌, ◌<◌, ◌≤◌, ℕ, Bool, true, false, cond, ◌&&◌, List, [], ◌∷◌, ◌++◌, map, length, find, take, get_or, Some, option_map, unwrap_or, refl, sym, ap, subst, ◌∙◌, arith}
+use Rattle.std.proofs.Common.{◌≡◌, ◌+◌, ◌<◌, ◌≤◌, ℕ, pos, Bool, true, false, cond, ◌&&◌, List, [], ◌∷◌, ◌++◌, map, length, find, take, get_or, Some, option_map, unwrap_or, refl, sym, ap, subst, ◌∙◌, arith}
 use Rattle.std.specs.Prelude.{nat_lt, nat_le}
 use Rattle.std.specs.List.Sorted.{IsPermutation}
 use Rattle.std.proofs.lemmas.List.{map-append, take_more, length-map}
@@ -7,6 +7,7 @@ use Rattle.std.proofs.lemmas.List.Sorted.{IsPermutation-refl, length_permutation
 use Rattle.sqlite.specs.Effect.{Database}
 use Rattle.reg_core.specs.Crls.{row_of, last_listing, is_past_on}
 use Rattle.reg_core.specs.Records.{Records, Crl, certificate_in}
+use Rattle.reg_core.specs.Schedule.{greatest_of}
 use Rattle.reg_core.specs.Sound.{NumberedFrom, NeverFalls, SoundRows}
 use Rattle.reg_core.specs.declared.rows.CertRow.{CertRow}
 use Rattle.reg_core.specs.declared.rows.CrlRow.{CrlRow}
@@ -59,15 +60,16 @@ rows_rise (crl ∷ crls) never = (all_map (λ (later : CrlRow). crl.this_update 
 -- one more of the revocations is listed
 pub relisted_more : (db : Database) (records : Records) (at : ℕ) (row : RevocationRow) → at < length records.revocations → row ≡ get_or records.revocations at row → (certificate : CertRow)
     → certificate_in records.certificates row.serial ≡ Some certificate → (columns : Columns) → HasLetters columns records → columns.listed ≡ map (listed_of records) (take at records.revocations)
+    → columns.days ≡ pos (greatest_of records.policy.schedule)
     → AreBoth db records (with_listed (listed_by (map row_of records.crls) row certificate.not_after) columns) → HasRelisted db records (at + 1)
-relisted_more db records at row within is certificate found columns letters listed both =
+relisted_more db records at row within is certificate found columns letters listed days both =
     let rows = records.revocations in
     let new = listed_by (map row_of records.crls) row certificate.not_after in
     let grown : take at rows ++ row ∷ [] ≡ take (at + 1) rows = ap (λ (r : RevocationRow). take at rows ++ r ∷ []) is ∙ sym (take_more rows at row within) in
     let listed_more : columns.listed ++ new ∷ [] ≡ map (listed_of records) (take (at + 1) rows) =
     ap (λ l. l ++ new ∷ []) listed ∙ ap (λ x. map (listed_of records) (take at rows) ++ x ∷ []) (sym (new_listed records row certificate found))
     ∙ sym (map-append (listed_of records) (take at rows) (row ∷ [])) ∙ ap (map (listed_of records)) grown in
-    (with_listed new columns, both, letters, listed_more)
+    (with_listed new columns, both, letters, listed_more, days)
 
 -- there are no more letters than the cap
 pub few_letters : (records : Records) (columns : Columns) → SoundRows records → records.policy.cap ≤ 1000000 → HasLetters columns records → length columns.letters ≤ 1000000

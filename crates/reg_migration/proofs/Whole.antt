@@ -1,5 +1,5 @@
 -- What is kept beside the records, whether or not the connection can still be asked.
-use Rattle.std.proofs.Common.{◌≡◌, ◌==◌, ℕ, true, false, map, refl, inl, inr, arith}
+use Rattle.std.proofs.Common.{◌≡◌, ◌==◌, ℕ, pos, true, false, map, refl, inl, inr, arith}
 use Rattle.std.proofs.lemmas.Bool.{cases_Bool}
 use Rattle.std.proofs.lemmas.Bool.Decides.{nat_tests}
 use Rattle.std.proofs.lemmas.List.Sorted.{IsPermutation-refl}
@@ -10,16 +10,22 @@ use Rattle.sqlite.specs.Effect.{Database, IsDatabase}
 use Rattle.sqlite.specs.Held.{Held, state}
 use Rattle.sqlite.specs.State.{HasCleanDisk}
 use Rattle.reg_core.specs.Records.{Records}
+use Rattle.reg_core.specs.Schedule.{greatest_of}
 use Rattle.reg_core.specs.Status.{counts}
 use Rattle.reg_tables.specs.Columns.{Columns}
 use Rattle.reg_tables.specs.Kept.{Kept, ShowsKept, standing_of, listed_of}
-use Rattle.reg_tables.specs.Shows.{Holds, Shows}
+use Rattle.reg_tables.specs.Shows.{HasOfficeDays, Holds, Shows}
 use Rattle.reg_changes.specs.AtRest.{IsAtRest}
 use Rattle.reg_changes.proofs.Resting.{resting, rests_sound}
 use Rattle.reg_migration.specs.Refilled.{HasKept}
 
 abbrev columns_of : Records → Columns
-columns_of records = record { letters = map (standing_of records) records.certificates; counts = counts records records.last; listed = map (listed_of records) records.revocations }
+columns_of records = record {
+  letters = map (standing_of records) records.certificates;
+  counts = counts records records.last;
+  listed = map (listed_of records) records.revocations;
+  days = pos (greatest_of records.policy.schedule);
+}
 
 columns_stand : (records : Records) → Kept (columns_of records) records
 columns_stand records =
@@ -48,7 +54,13 @@ any_kept g h records none = (columns_of records, record { saved = λ clean up. a
 pub any_shown : {S : Type 0} (g : Ghosts S) (h : Held S) (records : Records) → (HasCleanDisk (state g h) → ⊥) → Shows g h records
 any_shown g h records none = record { saved = λ clean up. absurd (none clean); tables = λ clean up. absurd (none clean) }
 
+pub any_days : {S : Type 0} (g : Ghosts S) (h : Held S) (days : ℕ) → (HasCleanDisk (state g h) → ⊥) → HasOfficeDays g h days
+any_days g h days none = record { saved = λ clean up. absurd (none clean); tables = λ clean up. absurd (none clean) }
+
 -- what holds while the disk is honest
+pub days_while : {S : Type 0} (g : Ghosts S) (h : Held S) (days : ℕ) → (HasCleanDisk (state g h) → HasOfficeDays g h days) → HasOfficeDays g h days
+days_while g h days known = record { saved = λ clean up. (known clean).saved clean up; tables = λ clean up. (known clean).tables clean up }
+
 pub kept_while : {S : Type 0} (g : Ghosts S) (h : Held S) (records : Records) → (HasCleanDisk (state g h) → ShowsKept g h records) → ShowsKept g h records
 kept_while g h records known = kept_whole g h records (record {
   saved = λ clean up. (known clean).1.saved clean up;

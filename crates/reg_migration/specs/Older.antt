@@ -6,7 +6,6 @@ use Rattle.sqlite_value.specs.Order.{Row}
 use Rattle.sqlite_trees.specs.Tree.{Trees}
 use Rattle.sqlite_trees.specs.declared.store.Store.{Ghosts}
 use Rattle.sqlite_schema.specs.declared.schema.Schema.{Schema}
-use Rattle.sqlite_catalog.specs.Change.{created}
 use Rattle.sqlite.specs.Effect.{Database}
 use Rattle.sqlite.specs.Held.{Held}
 use Rattle.reg_core.specs.Issuer.{Issuer}
@@ -14,9 +13,10 @@ use Rattle.reg_core.specs.Policy.{Terms, IsPolicy}
 use Rattle.reg_core.specs.Records.{Records}
 use Rattle.reg_core.specs.Schedule.{one_step}
 use Rattle.reg_core.specs.Sound.{NumberedFrom}
-use Rattle.reg_tables.specs.Schema.{record_tables, standing, kept, listed}
+use Rattle.reg_tables.specs.Schema.{record_tables}
 use Rattle.reg_tables.specs.Rows.{number, counted_rows, stored_subscriber, stored_order, stored_certificate, stored_request, stored_revocation, stored_crl}
 use Rattle.reg_tables.specs.Shows.{HaveSerials, Holds}
+pub use Rattle.reg_schema.specs.Whole.{kept_tables}
 use Rattle.reg_migration.specs.Rows.{IsNumbered}
 use Rattle.reg_migration.specs.declared.version.Earlier.{Earlier}
 use Rattle.reg_migration.specs.declared.version.Earlier.TheVariants.{First, Second}
@@ -25,10 +25,6 @@ use Rattle.reg_migration.specs.declared.version.Earlier.TheVariants.{First, Seco
 abbrev pub number_of : Earlier → ℕ
 number_of First = 1
 number_of Second = 2
-
--- the tables of the records, and then those that are kept beside them
-abbrev pub kept_tables : Schema
-kept_tables = created (created (created record_tables standing) kept) listed
 
 -- version 1 has the tables of the records, version 2 also those beside them; neither has an index of its own
 abbrev pub older_schema : Earlier → Schema

@@ -1,17 +1,23 @@
 -- What is kept beside the records, made anew from them.
-use Rattle.std.specs.Prelude.{◌≡◌, ℕ, Bool, true, false, ◌&&◌, nat_le, nat_lt, List, [], ◌∷◌, ◌++◌, map, filter, length, take, find, Option, option_map, IsPermutation}
+use Rattle.std.specs.Prelude.{◌≡◌, ℕ, pos, Bool, true, false, ◌&&◌, nat_le, nat_lt, List, [], ◌∷◌, ◌++◌, map, filter, length, take, find, Option, option_map, IsPermutation}
 use Rattle.sqlite.specs.Effect.{Database}
 use Rattle.reg_core.specs.Records.{Records}
+use Rattle.reg_core.specs.Schedule.{greatest_of}
 use Rattle.reg_core.specs.declared.command.Counts.{Counts}
 use Rattle.reg_core.specs.declared.rows.CrlRow.{CrlRow}
 use Rattle.reg_core.specs.declared.rows.RevocationRow.{RevocationRow}
-use Rattle.reg_tables.specs.Columns.{Letter, good, revoked, expired, is_good_letter, Standing, Listed, Columns}
+use Rattle.reg_tables.specs.Columns.{Letter, good, revoked, expired, is_good_letter, Standing, Listed, Columns, office_days}
 use Rattle.reg_tables.specs.Kept.{Kept, standing_of, listed_of}
+use Rattle.reg_tables.specs.Rows.{number}
 use Rattle.reg_tables.specs.Shows.{AreBoth}
 
--- nothing is kept yet
-abbrev pub no_columns : Columns
-no_columns = record { letters = []; counts = record { good = 0; revoked = 0; expired = 0 }; listed = [] }
+-- no certificate is counted
+abbrev pub no_counts : Counts
+no_counts = record { good = 0; revoked = 0; expired = 0 }
+
+-- nothing is kept yet; the office's days are the greatest of a schedule
+abbrev pub no_columns : List (ℕ × ℕ) → Columns
+no_columns schedule = record { letters = []; counts = no_counts; listed = []; days = pos (greatest_of schedule) }
 
 -- these letters
 abbrev pub with_letters : List Standing → Columns → Columns
@@ -58,11 +64,16 @@ listed_by crls revocation not_after = record {
 abbrev pub with_listed : Listed → Columns → Columns
 with_listed row columns = record columns { listed = columns.listed ++ row ∷ [] }
 
--- the letters stand for the records, and the first of the revocations are listed
+-- the letters stand for the records, the first of the revocations are listed, and the office's days are the greatest of the schedule
 abbrev pub HasRelisted : Database → Records → ℕ → Type 0
 HasRelisted db records n =
     (columns : Columns) × AreBoth db records columns × HasLetters columns records × (columns.listed ≡ map (listed_of records) (take n records.revocations))
+    × (columns.days ≡ pos (greatest_of records.policy.schedule))
 
 -- the records are shown, and what is kept beside them stands for them
 abbrev pub HasKept : Database → Records → Type 0
 HasKept db records = (columns : Columns) × AreBoth db records columns × Kept columns records
+
+-- the office's row has the greatest days of the records' schedule
+abbrev pub HasGreatestDays : Database → Records → Type 0
+HasGreatestDays db records = office_days (db.trees 0) ≡ number (greatest_of records.policy.schedule)

@@ -1,6 +1,6 @@
 //! What is read of the records while what is kept beside them is made anew.
 
-ghost use Rattle.std.specs.Prelude.{◌≡◌, List, [], ◌∷◌, map, IsTrue, IsSomeAnd, IfOk, IfErr};
+ghost use Rattle.std.specs.Prelude.{◌≡◌, List, [], ◌∷◌, map, IsTrue, IsSomeAnd, IfOk};
 ghost use Rattle.std.specs.List.{AllByRecursion};
 ghost use Rattle.sqlite_value.specs.Order.{Row as Values};
 ghost use Rattle.sqlite.specs.Values.{bound};
@@ -12,12 +12,12 @@ ghost use Rattle.reg_core.specs.Serial.{IsSerial};
 ghost use Rattle.reg_tables.specs.Reading.{Answers, IsReading, shown_certificate, shown_revocation, shown_crl};
 ghost use Rattle.reg_tables.specs.Schema.{register_schema};
 ghost use Rattle.reg_tables.specs.Shows.{IsShownBy};
-ghost use Rattle.reg_tables.specs.Stays.{IsCallFault, LeavesNothing};
+ghost use Rattle.reg_tables.specs.Stays.{LeavesNothing, Stepped};
 
 use crate::texts;
 use reg_core::{CertRow, CrlRow, Moment, RevocationRow, Serial};
 use reg_tables::statements::CERT_BY_SERIAL;
-use reg_tables::{StoreFault, rows};
+use reg_tables::{CallFault, rows};
 use sqlite::types::ValueRef;
 use sqlite::{Alter, Row, Transaction, params};
 
@@ -26,22 +26,20 @@ pub(crate) fn ask<S: Alter>(
     tx: &mut Transaction<'_, S>,
     sql: &str,
     params: &[ValueRef<'_>],
-) -> Result<Vec<Row>, StoreFault>
+) -> Result<Vec<Row>, CallFault>
     ensures same_reference { tx.new.conn.ghost_name ≡ tx.old.conn.ghost_name }
     ensures rows { HasCleanDisk (state S.Store tx.new.conn.now) → IsReading sql.now → (IsTrue (state S.Store tx.old.conn.now).is_open → (state S.Store tx.old.conn.now).now.schema ≡ register_schema)
         → IfOk result (λ rows. Answers (state S.Store tx.old.conn.now) sql.now (bound params.now) rows.items) }
     ensures same { HasCleanDisk (state S.Store tx.new.conn.now) → IsReading sql.now → IfOk result (λ _. IsUnchanged (state S.Store tx.old.conn.now) (state S.Store tx.new.conn.now)) }
     ensures kept { HasCleanDisk (state S.Store tx.new.conn.now) → IsReading sql.now → KeepsCommit (state S.Store tx.old.conn.now) (state S.Store tx.new.conn.now) }
     ensures survives { LeavesNothing (state S.Store tx.old.conn.now) (state S.Store tx.new.conn.now) }
-    ensures faults { IfErr result IsCallFault }
 {
     Ok(tx.query_all(sql, params)?)
 }
 
 /// A row for each revocation: serial, at, reason, request, first_crl.
-fn revocations_in(rows: &Vec<Row>) -> Result<Vec<RevocationRow>, StoreFault>
+fn revocations_in(rows: &Vec<Row>) -> Result<Vec<RevocationRow>, CallFault>
     ensures read { (revocations : List RevocationRow) → AllByRecursion (λ revocation. IsSerial revocation.serial) revocations → rows.now.items ≡ map shown_revocation revocations → IfOk result (λ read. read.items ≡ revocations) }
-    ensures faults { IfErr result IsCallFault }
 {
     let mut revocations = Vec::new(*rows.allocator());
     for row in rows {
@@ -51,9 +49,8 @@ fn revocations_in(rows: &Vec<Row>) -> Result<Vec<RevocationRow>, StoreFault>
 }
 
 /// A row for each CRL: number, this_update.
-fn crls_in(rows: &Vec<Row>) -> Result<Vec<CrlRow>, StoreFault>
+fn crls_in(rows: &Vec<Row>) -> Result<Vec<CrlRow>, CallFault>
     ensures read { (crls : List CrlRow) → rows.now.items ≡ map shown_crl crls → IfOk result (λ read. read.items ≡ crls) }
-    ensures faults { IfErr result IsCallFault }
 {
     let mut crls = Vec::new(*rows.allocator());
     for row in rows {
@@ -65,41 +62,34 @@ fn crls_in(rows: &Vec<Row>) -> Result<Vec<CrlRow>, StoreFault>
 /// All revocations, in the order of entry.
 pub(crate) fn revocations<S: Alter>(
     tx: &mut Transaction<'_, S>,
-) -> Result<Vec<RevocationRow>, StoreFault>
-    ensures same_reference { tx.new.conn.ghost_name ≡ tx.old.conn.ghost_name }
+) -> Result<Vec<RevocationRow>, CallFault>
     ensures found { HasCleanDisk (state S.Store tx.new.conn.now) → (records : Records) → (IsTrue (state S.Store tx.old.conn.now).is_open → IsShownBy (state S.Store tx.old.conn.now).now records)
         → IfOk result (λ found. found.items ≡ records.revocations) }
     ensures same { HasCleanDisk (state S.Store tx.new.conn.now) → IfOk result (λ _. IsUnchanged (state S.Store tx.old.conn.now) (state S.Store tx.new.conn.now)) }
-    ensures kept { HasCleanDisk (state S.Store tx.new.conn.now) → KeepsCommit (state S.Store tx.old.conn.now) (state S.Store tx.new.conn.now) }
-    ensures survives { LeavesNothing (state S.Store tx.old.conn.now) (state S.Store tx.new.conn.now) }
-    ensures faults { IfErr result IsCallFault }
+    ensures stepped { Stepped S.Store tx.old tx.new }
 {
     let found = ask(tx, texts::REVOCATIONS, &[])?;
     revocations_in(&found)
 }
 
 /// All CRLs, without their bytes, in the order of their numbers.
-pub(crate) fn crls<S: Alter>(tx: &mut Transaction<'_, S>) -> Result<Vec<CrlRow>, StoreFault>
-    ensures same_reference { tx.new.conn.ghost_name ≡ tx.old.conn.ghost_name }
+pub(crate) fn crls<S: Alter>(tx: &mut Transaction<'_, S>) -> Result<Vec<CrlRow>, CallFault>
     ensures found { HasCleanDisk (state S.Store tx.new.conn.now) → (records : Records) → (IsTrue (state S.Store tx.old.conn.now).is_open → IsShownBy (state S.Store tx.old.conn.now).now records)
         → IfOk result (λ found. found.items ≡ map row_of records.crls) }
     ensures same { HasCleanDisk (state S.Store tx.new.conn.now) → IfOk result (λ _. IsUnchanged (state S.Store tx.old.conn.now) (state S.Store tx.new.conn.now)) }
-    ensures kept { HasCleanDisk (state S.Store tx.new.conn.now) → KeepsCommit (state S.Store tx.old.conn.now) (state S.Store tx.new.conn.now) }
-    ensures survives { LeavesNothing (state S.Store tx.old.conn.now) (state S.Store tx.new.conn.now) }
-    ensures faults { IfErr result IsCallFault }
+    ensures stepped { Stepped S.Store tx.old tx.new }
 {
     let found = ask(tx, texts::CRLS, &[])?;
     crls_in(&found)
 }
 
 /// The end of the certificate that a row shows. `Store` for no row and for more.
-fn end_in(rows: &[Row]) -> Result<Moment, StoreFault>
+fn end_in(rows: &[Row]) -> Result<Moment, CallFault>
     ensures read { IfOk result (λ end. (row : Values) × (rows.now ≡ row ∷ []) × ((certificate : CertRow) → IsSerial certificate.serial → row ≡ shown_certificate certificate → end ≡ certificate.not_after)) }
-    ensures faults { IfErr result IsCallFault }
 {
     match rows {
         [row] => Ok(rows::certificate_in(row)?.not_after),
-        _ => Err(StoreFault::Store),
+        _ => Err(CallFault::Store),
     }
 }
 
@@ -107,14 +97,11 @@ fn end_in(rows: &[Row]) -> Result<Moment, StoreFault>
 pub(crate) fn end_of<S: Alter>(
     tx: &mut Transaction<'_, S>,
     serial: Serial,
-) -> Result<Moment, StoreFault>
-    ensures same_reference { tx.new.conn.ghost_name ≡ tx.old.conn.ghost_name }
+) -> Result<Moment, CallFault>
     ensures found { HasCleanDisk (state S.Store tx.new.conn.now) → (records : Records) → (IsTrue (state S.Store tx.old.conn.now).is_open → IsShownBy (state S.Store tx.old.conn.now).now records)
         → IfOk result (λ end. IsSomeAnd (certificate_in records.certificates serial) (λ certificate. certificate.not_after ≡ end)) }
     ensures same { HasCleanDisk (state S.Store tx.new.conn.now) → IfOk result (λ _. IsUnchanged (state S.Store tx.old.conn.now) (state S.Store tx.new.conn.now)) }
-    ensures kept { HasCleanDisk (state S.Store tx.new.conn.now) → KeepsCommit (state S.Store tx.old.conn.now) (state S.Store tx.new.conn.now) }
-    ensures survives { LeavesNothing (state S.Store tx.old.conn.now) (state S.Store tx.new.conn.now) }
-    ensures faults { IfErr result IsCallFault }
+    ensures stepped { Stepped S.Store tx.old tx.new }
 {
     let found = ask(tx, CERT_BY_SERIAL, params![serial.bytes20().as_slice()])?;
     end_in(&found)

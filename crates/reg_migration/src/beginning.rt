@@ -1,8 +1,8 @@
 //! The first rows of the tables that an older version lacks.
 
-ghost use Rattle.std.specs.Prelude.{◌≡◌, ℕ, [], ◌∷◌, pos, true, IsTrue, OnOk, IfErr};
+ghost use Rattle.std.specs.Prelude.{◌≡◌, ℕ, [], ◌∷◌, pos, true, IsTrue, OnOk};
 ghost use Rattle.sqlite.specs.Held.{state};
-ghost use Rattle.sqlite.specs.State.{HasCleanDisk, KeepsCommit};
+ghost use Rattle.sqlite.specs.State.{HasCleanDisk};
 ghost use Rattle.sqlite_trees.specs.Tree.{Trees};
 ghost use Rattle.reg_core.specs.Issuer.{Issuer};
 ghost use Rattle.reg_core.specs.Policy.{Terms};
@@ -12,9 +12,10 @@ ghost use Rattle.reg_tables.specs.Columns.{stored_counts};
 ghost use Rattle.reg_tables.specs.Rows.{stored_office};
 ghost use Rattle.reg_tables.specs.Schema.{register_schema};
 ghost use Rattle.reg_tables.specs.Shows.{AreBoth};
-ghost use Rattle.reg_tables.specs.Stays.{IsCallFault, LeavesNothing, Moves};
-ghost use Rattle.reg_migration.specs.Older.{stored_older, IsShownByOlder};
-ghost use Rattle.reg_migration.specs.Refilled.{no_columns};
+ghost use Rattle.reg_tables.specs.Stays.{Moves, Stepped};
+ghost use Rattle.reg_changes.specs.Ran.{HasSchema};
+ghost use Rattle.reg_migration.specs.Older.{older_schema, stored_older, IsShownByOlder};
+ghost use Rattle.reg_migration.specs.Refilled.{no_columns, no_counts};
 ghost use Rattle.reg_migration.specs.Rows.{HasRows, HadRows, with_rows};
 
 use crate::making::make_missing;
@@ -23,32 +24,28 @@ use crate::version::Earlier;
 use reg_changes::put_steps;
 use reg_changes::writing::write;
 use reg_core::Moment;
-use reg_tables::StoreFault;
+use reg_tables::CallFault;
 use sqlite::{Alter, Transaction};
 
 /// Sets the version to the program's.
-fn set_version<S: Alter>(tx: &mut Transaction<'_, S>) -> Result<(), StoreFault>
-    ensures same_reference { tx.new.conn.ghost_name ≡ tx.old.conn.ghost_name }
+fn set_version<S: Alter>(tx: &mut Transaction<'_, S>) -> Result<(), CallFault>
     ensures ok { HasCleanDisk (state S.Store tx.new.conn.now) → (rows : Trees) → (version : Earlier) → (days : ℕ) → (issuer : Issuer) → (policy : Terms) → (last : ℕ) → rows 0 ≡ stored_older version days issuer policy last ∷ []
         → HadRows (state S.Store tx.old.conn.now) register_schema rows
         → OnOk result (Moves (state S.Store tx.old.conn.now) (state S.Store tx.new.conn.now) (HasRows register_schema (with_rows 0 (stored_office (pos days) issuer policy last ∷ []) rows))) }
-    ensures kept { HasCleanDisk (state S.Store tx.new.conn.now) → KeepsCommit (state S.Store tx.old.conn.now) (state S.Store tx.new.conn.now) }
-    ensures survives { LeavesNothing (state S.Store tx.old.conn.now) (state S.Store tx.new.conn.now) }
-    ensures faults { IfErr result IsCallFault }
+    ensures schema { HasCleanDisk (state S.Store tx.new.conn.now) → HasSchema register_schema (state S.Store tx.old.conn.now) → OnOk result (HasSchema register_schema (state S.Store tx.new.conn.now)) }
+    ensures stepped { Stepped S.Store tx.old tx.new }
 {
     write(tx, texts::SET_VERSION, &[])?;
     Ok(())
 }
 
 /// Writes the counts' row, of no certificates.
-fn put_counts<S: Alter>(tx: &mut Transaction<'_, S>) -> Result<(), StoreFault>
-    ensures same_reference { tx.new.conn.ghost_name ≡ tx.old.conn.ghost_name }
+fn put_counts<S: Alter>(tx: &mut Transaction<'_, S>) -> Result<(), CallFault>
     ensures ok { HasCleanDisk (state S.Store tx.new.conn.now) → (rows : Trees) → rows 14 ≡ [] → HadRows (state S.Store tx.old.conn.now) register_schema rows
-        → OnOk result (Moves (state S.Store tx.old.conn.now) (state S.Store tx.new.conn.now) (HasRows register_schema (with_rows 14 (stored_counts no_columns.counts ∷ []) rows))) }
-    ensures kept { HasCleanDisk (state S.Store tx.new.conn.now) → KeepsCommit (state S.Store tx.old.conn.now) (state S.Store tx.new.conn.now) }
+        → OnOk result (Moves (state S.Store tx.old.conn.now) (state S.Store tx.new.conn.now) (HasRows register_schema (with_rows 14 (stored_counts no_counts ∷ []) rows))) }
     ensures inside { HasCleanDisk (state S.Store tx.new.conn.now) → OnOk result (tx.new.conn.now.in_transaction ≡ true) }
-    ensures survives { LeavesNothing (state S.Store tx.old.conn.now) (state S.Store tx.new.conn.now) }
-    ensures faults { IfErr result IsCallFault }
+    ensures schema { HasCleanDisk (state S.Store tx.new.conn.now) → HasSchema register_schema (state S.Store tx.old.conn.now) → OnOk result (HasSchema register_schema (state S.Store tx.new.conn.now)) }
+    ensures stepped { Stepped S.Store tx.old tx.new }
 {
     write(tx, texts::PUT_COUNTS, &[])?;
     Ok(())
@@ -59,15 +56,13 @@ pub(crate) fn begin<S: Alter>(
     tx: &mut Transaction<'_, S>,
     version: Earlier,
     days: u64,
-) -> Result<(), StoreFault>
-    ensures same_reference { tx.new.conn.ghost_name ≡ tx.old.conn.ghost_name }
+) -> Result<(), CallFault>
     ensures ok { HasCleanDisk (state S.Store tx.new.conn.now) → (records : Records) → records.policy.schedule ≡ one_step days
         → (IsTrue (state S.Store tx.old.conn.now).is_open → IsShownByOlder version (state S.Store tx.old.conn.now).now records)
-        → OnOk result (IsTrue (state S.Store tx.new.conn.now).is_open → AreBoth (state S.Store tx.new.conn.now).now records no_columns) }
-    ensures kept { HasCleanDisk (state S.Store tx.new.conn.now) → KeepsCommit (state S.Store tx.old.conn.now) (state S.Store tx.new.conn.now) }
+        → OnOk result (IsTrue (state S.Store tx.new.conn.now).is_open → AreBoth (state S.Store tx.new.conn.now).now records (no_columns records.policy.schedule)) }
     ensures inside { HasCleanDisk (state S.Store tx.new.conn.now) → OnOk result (tx.new.conn.now.in_transaction ≡ true) }
-    ensures survives { LeavesNothing (state S.Store tx.old.conn.now) (state S.Store tx.new.conn.now) }
-    ensures faults { IfErr result IsCallFault }
+    ensures schema { HasCleanDisk (state S.Store tx.new.conn.now) → HasSchema (older_schema version) (state S.Store tx.old.conn.now) → OnOk result (HasSchema register_schema (state S.Store tx.new.conn.now)) }
+    ensures stepped { Stepped S.Store tx.old tx.new }
 {
     make_missing(tx, version)?;
     set_version(tx)?;

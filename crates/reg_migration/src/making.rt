@@ -1,15 +1,16 @@
 //! The tables and indexes that an older version lacks.
 
-ghost use Rattle.std.specs.Prelude.{◌≡◌, ℕ, [], IsTrue, OnOk, IfErr};
+ghost use Rattle.std.specs.Prelude.{◌≡◌, ℕ, [], IsTrue, OnOk};
 ghost use Rattle.sqlite.specs.Held.{state};
-ghost use Rattle.sqlite.specs.State.{HasCleanDisk, KeepsCommit};
+ghost use Rattle.sqlite.specs.State.{HasCleanDisk};
 ghost use Rattle.sqlite_trees.specs.Tree.{Trees};
 ghost use Rattle.sqlite_schema.specs.declared.schema.Schema.{Schema};
 ghost use Rattle.sqlite_schema.specs.declared.schema.Table.{Table};
 ghost use Rattle.sqlite_schema.specs.declared.schema.Index.{Index};
 ghost use Rattle.sqlite_catalog.specs.Change.{next_tree, created, indexed};
 ghost use Rattle.reg_tables.specs.Schema.{record_tables, register_schema};
-ghost use Rattle.reg_tables.specs.Stays.{IsCallFault, LeavesNothing, Moves};
+ghost use Rattle.reg_tables.specs.Stays.{Moves, Stepped};
+ghost use Rattle.reg_changes.specs.Ran.{HasSchema};
 ghost use Rattle.reg_migration.specs.Makes.{DefinesTable, DefinesIndex};
 ghost use Rattle.reg_migration.specs.Older.{kept_tables, older_schema, HasBeside};
 ghost use Rattle.reg_migration.specs.Rows.{HasRows, HadRows, records_alone};
@@ -17,22 +18,19 @@ ghost use Rattle.reg_migration.specs.Rows.{HasRows, HadRows, records_alone};
 use crate::texts;
 use crate::version::Earlier;
 use reg_changes::writing::write;
-use reg_tables::{StoreFault, schema};
+use reg_tables::{CallFault, schema};
 use sqlite::{Alter, Transaction};
 
 /// Makes one table or index.
 ///
 /// # Errors
 /// `Memory`; `Store` where the database fails, or has the name already.
-pub fn define<S: Alter>(tx: &mut Transaction<'_, S>, sql: &str) -> Result<(), StoreFault>
-    ensures same_reference { tx.new.conn.ghost_name ≡ tx.old.conn.ghost_name }
+pub fn define<S: Alter>(tx: &mut Transaction<'_, S>, sql: &str) -> Result<(), CallFault>
     ensures table { HasCleanDisk (state S.Store tx.new.conn.now) → (schema : Schema) → (table : Table) → (rows : Trees) → DefinesTable schema sql.now table → rows (next_tree schema) ≡ [] → HadRows (state S.Store tx.old.conn.now) schema rows
         → OnOk result (Moves (state S.Store tx.old.conn.now) (state S.Store tx.new.conn.now) (HasRows (created schema table) rows)) }
     ensures index { HasCleanDisk (state S.Store tx.new.conn.now) → (schema : Schema) → (at : ℕ) → (table : Table) → (index : Index) → (rows : Trees) → DefinesIndex schema sql.now at table index → HadRows (state S.Store tx.old.conn.now) schema rows
         → OnOk result (Moves (state S.Store tx.old.conn.now) (state S.Store tx.new.conn.now) (HasRows (indexed schema table index) rows)) }
-    ensures kept { HasCleanDisk (state S.Store tx.new.conn.now) → KeepsCommit (state S.Store tx.old.conn.now) (state S.Store tx.new.conn.now) }
-    ensures survives { LeavesNothing (state S.Store tx.old.conn.now) (state S.Store tx.new.conn.now) }
-    ensures faults { IfErr result IsCallFault }
+    ensures stepped { Stepped S.Store tx.old tx.new }
 {
     write(tx, sql, &[])?;
     Ok(())
@@ -42,13 +40,11 @@ pub fn define<S: Alter>(tx: &mut Transaction<'_, S>, sql: &str) -> Result<(), St
 ///
 /// # Errors
 /// `Memory`; `Store` where the database fails, or has one of their names already.
-pub fn make_kept_tables<S: Alter>(tx: &mut Transaction<'_, S>) -> Result<(), StoreFault>
-    ensures same_reference { tx.new.conn.ghost_name ≡ tx.old.conn.ghost_name }
+pub fn make_kept_tables<S: Alter>(tx: &mut Transaction<'_, S>) -> Result<(), CallFault>
     ensures ok { HasCleanDisk (state S.Store tx.new.conn.now) → (rows : Trees) → HadRows (state S.Store tx.old.conn.now) record_tables rows
         → OnOk result (Moves (state S.Store tx.old.conn.now) (state S.Store tx.new.conn.now) (HasRows kept_tables (records_alone rows))) }
-    ensures kept { HasCleanDisk (state S.Store tx.new.conn.now) → KeepsCommit (state S.Store tx.old.conn.now) (state S.Store tx.new.conn.now) }
-    ensures survives { LeavesNothing (state S.Store tx.old.conn.now) (state S.Store tx.new.conn.now) }
-    ensures faults { IfErr result IsCallFault }
+    ensures schema { HasCleanDisk (state S.Store tx.new.conn.now) → HasSchema record_tables (state S.Store tx.old.conn.now) → OnOk result (HasSchema kept_tables (state S.Store tx.new.conn.now)) }
+    ensures stepped { Stepped S.Store tx.old tx.new }
 {
     define(tx, schema::STANDING)?;
     define(tx, schema::KEPT)?;
@@ -56,13 +52,11 @@ pub fn make_kept_tables<S: Alter>(tx: &mut Transaction<'_, S>) -> Result<(), Sto
 }
 
 /// Takes out what is kept beside the records.
-fn clear_kept_tables<S: Alter>(tx: &mut Transaction<'_, S>) -> Result<(), StoreFault>
-    ensures same_reference { tx.new.conn.ghost_name ≡ tx.old.conn.ghost_name }
+fn clear_kept_tables<S: Alter>(tx: &mut Transaction<'_, S>) -> Result<(), CallFault>
     ensures ok { HasCleanDisk (state S.Store tx.new.conn.now) → (rows : Trees) → (IsTrue (state S.Store tx.old.conn.now).is_open → HasBeside Earlier.Second rows) → HadRows (state S.Store tx.old.conn.now) kept_tables rows
         → OnOk result (Moves (state S.Store tx.old.conn.now) (state S.Store tx.new.conn.now) (HasRows kept_tables (records_alone rows))) }
-    ensures kept { HasCleanDisk (state S.Store tx.new.conn.now) → KeepsCommit (state S.Store tx.old.conn.now) (state S.Store tx.new.conn.now) }
-    ensures survives { LeavesNothing (state S.Store tx.old.conn.now) (state S.Store tx.new.conn.now) }
-    ensures faults { IfErr result IsCallFault }
+    ensures schema { HasCleanDisk (state S.Store tx.new.conn.now) → HasSchema kept_tables (state S.Store tx.old.conn.now) → OnOk result (HasSchema kept_tables (state S.Store tx.new.conn.now)) }
+    ensures stepped { Stepped S.Store tx.old tx.new }
 {
     write(tx, texts::CLEAR_LISTED, &[])?;
     write(tx, texts::CLEAR_STANDING, &[])?;
@@ -71,13 +65,11 @@ fn clear_kept_tables<S: Alter>(tx: &mut Transaction<'_, S>) -> Result<(), StoreF
 }
 
 /// Makes the tables beside those of the records, or takes their rows out.
-fn make_beside<S: Alter>(tx: &mut Transaction<'_, S>, version: Earlier) -> Result<(), StoreFault>
-    ensures same_reference { tx.new.conn.ghost_name ≡ tx.old.conn.ghost_name }
+fn make_beside<S: Alter>(tx: &mut Transaction<'_, S>, version: Earlier) -> Result<(), CallFault>
     ensures ok { HasCleanDisk (state S.Store tx.new.conn.now) → (rows : Trees) → (IsTrue (state S.Store tx.old.conn.now).is_open → HasBeside version rows) → HadRows (state S.Store tx.old.conn.now) (older_schema version) rows
         → OnOk result (Moves (state S.Store tx.old.conn.now) (state S.Store tx.new.conn.now) (HasRows kept_tables (records_alone rows))) }
-    ensures kept { HasCleanDisk (state S.Store tx.new.conn.now) → KeepsCommit (state S.Store tx.old.conn.now) (state S.Store tx.new.conn.now) }
-    ensures survives { LeavesNothing (state S.Store tx.old.conn.now) (state S.Store tx.new.conn.now) }
-    ensures faults { IfErr result IsCallFault }
+    ensures schema { HasCleanDisk (state S.Store tx.new.conn.now) → HasSchema (older_schema version) (state S.Store tx.old.conn.now) → OnOk result (HasSchema kept_tables (state S.Store tx.new.conn.now)) }
+    ensures stepped { Stepped S.Store tx.old tx.new }
 {
     match version {
         Earlier::First => make_kept_tables(tx),
@@ -89,13 +81,11 @@ fn make_beside<S: Alter>(tx: &mut Transaction<'_, S>, version: Earlier) -> Resul
 ///
 /// # Errors
 /// `Memory`; `Store` where the database fails, or has one of their names already.
-pub fn make_schedule_and_indexes<S: Alter>(tx: &mut Transaction<'_, S>) -> Result<(), StoreFault>
-    ensures same_reference { tx.new.conn.ghost_name ≡ tx.old.conn.ghost_name }
+pub fn make_schedule_and_indexes<S: Alter>(tx: &mut Transaction<'_, S>) -> Result<(), CallFault>
     ensures ok { HasCleanDisk (state S.Store tx.new.conn.now) → (rows : Trees) → HadRows (state S.Store tx.old.conn.now) kept_tables (records_alone rows)
         → OnOk result (Moves (state S.Store tx.old.conn.now) (state S.Store tx.new.conn.now) (HasRows register_schema (records_alone rows))) }
-    ensures kept { HasCleanDisk (state S.Store tx.new.conn.now) → KeepsCommit (state S.Store tx.old.conn.now) (state S.Store tx.new.conn.now) }
-    ensures survives { LeavesNothing (state S.Store tx.old.conn.now) (state S.Store tx.new.conn.now) }
-    ensures faults { IfErr result IsCallFault }
+    ensures schema { HasCleanDisk (state S.Store tx.new.conn.now) → HasSchema kept_tables (state S.Store tx.old.conn.now) → OnOk result (HasSchema register_schema (state S.Store tx.new.conn.now)) }
+    ensures stepped { Stepped S.Store tx.old tx.new }
 {
     define(tx, schema::LONGEST)?;
     define(tx, schema::CRL_AT)?;
@@ -106,13 +96,11 @@ pub fn make_schedule_and_indexes<S: Alter>(tx: &mut Transaction<'_, S>) -> Resul
 pub(crate) fn make_missing<S: Alter>(
     tx: &mut Transaction<'_, S>,
     version: Earlier,
-) -> Result<(), StoreFault>
-    ensures same_reference { tx.new.conn.ghost_name ≡ tx.old.conn.ghost_name }
+) -> Result<(), CallFault>
     ensures ok { HasCleanDisk (state S.Store tx.new.conn.now) → (rows : Trees) → (IsTrue (state S.Store tx.old.conn.now).is_open → HasBeside version rows) → HadRows (state S.Store tx.old.conn.now) (older_schema version) rows
         → OnOk result (Moves (state S.Store tx.old.conn.now) (state S.Store tx.new.conn.now) (HasRows register_schema (records_alone rows))) }
-    ensures kept { HasCleanDisk (state S.Store tx.new.conn.now) → KeepsCommit (state S.Store tx.old.conn.now) (state S.Store tx.new.conn.now) }
-    ensures survives { LeavesNothing (state S.Store tx.old.conn.now) (state S.Store tx.new.conn.now) }
-    ensures faults { IfErr result IsCallFault }
+    ensures schema { HasCleanDisk (state S.Store tx.new.conn.now) → HasSchema (older_schema version) (state S.Store tx.old.conn.now) → OnOk result (HasSchema register_schema (state S.Store tx.new.conn.now)) }
+    ensures stepped { Stepped S.Store tx.old tx.new }
 {
     make_beside(tx, version)?;
     make_schedule_and_indexes(tx)

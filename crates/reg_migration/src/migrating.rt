@@ -1,23 +1,26 @@
 //! A register of an older version, made one of the program's version.
 
-ghost use Rattle.std.specs.Prelude.{◌≡◌, true, false, IsTrue, OnOk, OnErr, IfErr};
+ghost use Rattle.std.specs.Prelude.{◌≡◌, true, false, IsTrue, OnOk, OnErr};
 ghost use Rattle.sqlite.specs.Effect.{IsDatabase};
 ghost use Rattle.sqlite.specs.Held.{state};
-ghost use Rattle.sqlite.specs.State.{HasCleanDisk, KeepsCommit, Survives};
+ghost use Rattle.sqlite.specs.State.{HasCleanDisk, Survives};
 ghost use Rattle.reg_core.specs.Records.{Records};
-ghost use Rattle.reg_core.specs.Schedule.{one_step};
+ghost use Rattle.reg_core.specs.Schedule.{greatest_of, one_step};
 ghost use Rattle.reg_core.specs.Sound.{SoundRows};
 ghost use Rattle.reg_tables.specs.Kept.{ShowsKept};
-ghost use Rattle.reg_tables.specs.Stays.{IsCallFault, LeavesNothing, Stays};
+ghost use Rattle.reg_tables.specs.Schema.{register_schema};
+ghost use Rattle.reg_tables.specs.Stays.{IsRegister, Stays, Stepped};
+ghost use Rattle.reg_changes.specs.Ran.{HasSchema};
 ghost use Rattle.reg_migration.specs.AtRest.{IsMigrated};
-ghost use Rattle.reg_migration.specs.Older.{IsShownByOlder, ShowsOlder};
-ghost use Rattle.reg_migration.specs.Refilled.{HasKept};
+ghost use Rattle.reg_migration.specs.Older.{older_schema, IsShownByOlder, ShowsOlder};
+ghost use Rattle.reg_migration.specs.Refilled.{HasKept, HasGreatestDays};
+ghost use Rattle.reg_tables.specs.Shows.{HasOfficeDays};
 
 use crate::beginning::begin;
 use crate::refilling::refill;
 use crate::version::Earlier;
 use reg_core::Moment;
-use reg_tables::StoreFault;
+use reg_tables::CallFault;
 use sqlite::{Alter, Connection, Transaction};
 
 /// Makes the tables ones of the program's version, inside a transaction.
@@ -26,18 +29,16 @@ fn make_newer<S: Alter>(
     version: Earlier,
     days: u64,
     last: Moment,
-) -> Result<(), StoreFault>
-    ensures same_reference { tx.new.conn.ghost_name ≡ tx.old.conn.ghost_name }
+) -> Result<(), CallFault>
     ensures ok { HasCleanDisk (state S.Store tx.new.conn.now) → (records : Records) → SoundRows records → records.policy.schedule ≡ one_step days → records.last ≡ last
         → (IsTrue (state S.Store tx.old.conn.now).is_open → IsShownByOlder version (state S.Store tx.old.conn.now).now records)
-        → OnOk result (IsTrue (state S.Store tx.new.conn.now).is_open × HasKept (state S.Store tx.new.conn.now).now records) }
+        → OnOk result (IsTrue (state S.Store tx.new.conn.now).is_open × HasKept (state S.Store tx.new.conn.now).now records × HasGreatestDays (state S.Store tx.new.conn.now).now records) }
     ensures database { HasCleanDisk (state S.Store tx.new.conn.now) → (records : Records) → SoundRows records → records.policy.schedule ≡ one_step days → records.last ≡ last
         → (IsTrue (state S.Store tx.old.conn.now).is_open → IsShownByOlder version (state S.Store tx.old.conn.now).now records)
         → OnOk result (IsDatabase (state S.Store tx.new.conn.now).now) }
-    ensures kept { HasCleanDisk (state S.Store tx.new.conn.now) → KeepsCommit (state S.Store tx.old.conn.now) (state S.Store tx.new.conn.now) }
     ensures inside { HasCleanDisk (state S.Store tx.new.conn.now) → OnOk result (tx.new.conn.now.in_transaction ≡ true) }
-    ensures survives { LeavesNothing (state S.Store tx.old.conn.now) (state S.Store tx.new.conn.now) }
-    ensures faults { IfErr result IsCallFault }
+    ensures schema { HasCleanDisk (state S.Store tx.new.conn.now) → HasSchema (older_schema version) (state S.Store tx.old.conn.now) → OnOk result (HasSchema register_schema (state S.Store tx.new.conn.now)) }
+    ensures stepped { Stepped S.Store tx.old tx.new }
 {
     begin(tx, version, days)?;
     refill(tx, last)
@@ -55,14 +56,16 @@ pub fn migrate<S: Alter>(
     version: Earlier,
     days: u64,
     last: Moment,
-) -> Result<(), StoreFault>
+) -> Result<(), CallFault>
     requires { conn.old.in_transaction ≡ false }
     ensures ok { (records : Records) → ShowsOlder version S.Store conn.old records → SoundRows records → records.policy.schedule ≡ one_step days → records.last ≡ last
         → OnOk result (ShowsKept S.Store conn.new records) }
+    ensures registers { HasSchema (older_schema version) (state S.Store conn.old) → OnOk result (IsRegister (state S.Store conn.new)) }
+    ensures days { (records : Records) → ShowsOlder version S.Store conn.old records → SoundRows records → records.policy.schedule ≡ one_step days → records.last ≡ last
+        → OnOk result (HasOfficeDays S.Store conn.new (greatest_of records.policy.schedule)) }
     ensures err { OnErr result (Stays (state S.Store conn.old) (state S.Store conn.new)) }
     ensures survives { Survives (state S.Store conn.old) (state S.Store conn.new) (IsMigrated S.Store conn.old version days last) }
     ensures idle { conn.new.in_transaction ≡ false }
-    ensures faults { IfErr result IsCallFault }
 {
     let mut tx = conn.transaction();
     make_newer(&mut tx, version, days, last)?;

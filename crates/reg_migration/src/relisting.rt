@@ -1,23 +1,24 @@
 //! What CRLs list of each revocation, made anew.
 
-ghost use Rattle.std.specs.Prelude.{◌≡◌, ◌&&◌, nat_le, nat_lt, length, map, IsTrue, IsSomeAnd, OnOk, IfOk, IfErr};
+ghost use Rattle.std.specs.Prelude.{◌≡◌, ◌&&◌, nat_le, nat_lt, length, map, IsTrue, IsSomeAnd, OnOk, IfOk};
 ghost use Rattle.sqlite_value.specs.Value.{owned};
 ghost use Rattle.sqlite.specs.Values.{bound_value};
 ghost use Rattle.sqlite.specs.Held.{state};
-ghost use Rattle.sqlite.specs.State.{HasCleanDisk, KeepsCommit};
+ghost use Rattle.sqlite.specs.State.{HasCleanDisk};
 ghost use Rattle.reg_core.specs.Crls.{row_of};
 ghost use Rattle.reg_core.specs.Records.{Records, certificate_in};
 ghost use Rattle.reg_core.specs.Sound.{NumberedFrom, NeverFalls, SoundRows};
 ghost use Rattle.reg_tables.specs.Columns.{Columns, number_or_null};
-ghost use Rattle.reg_tables.specs.Stays.{IsCallFault, LeavesNothing};
-ghost use Rattle.reg_changes.specs.Ran.{Before, Moved};
+ghost use Rattle.reg_tables.specs.Schema.{register_schema};
+ghost use Rattle.reg_tables.specs.Stays.{Stepped};
+ghost use Rattle.reg_changes.specs.Ran.{Before, HasSchema, Moved};
 ghost use Rattle.reg_migration.specs.Refilled.{last_in, listed_by, with_listed, HasRelisted};
 
 use crate::asking::{crls, end_of, revocations};
 use crate::texts;
 use reg_changes::writing::{sql_moment, sql_number, sql_reason, write};
 use reg_core::{CrlRow, Moment, RevocationRow};
-use reg_tables::StoreFault;
+use reg_tables::CallFault;
 use sqlite::types::ValueRef;
 use sqlite::{Alter, Transaction};
 
@@ -41,9 +42,8 @@ fn last_listing(crls: &[CrlRow], first: u64, not_after: Moment) -> Option<u64>
 }
 
 /// The number as SQL has it, or NULL.
-fn sql_number_or_null(number: Option<u64>) -> Result<ValueRef<'static>, StoreFault>
+fn sql_number_or_null(number: Option<u64>) -> Result<ValueRef<'static>, CallFault>
     ensures value { IfOk result (λ value. bound_value (owned value) ≡ number_or_null number) }
-    ensures faults { IfErr result IsCallFault }
 {
     match number {
         Some(number) => sql_number(number),
@@ -57,14 +57,12 @@ fn put_listing<S: Alter>(
     row: RevocationRow,
     crls: &[CrlRow],
     not_after: Moment,
-) -> Result<(), StoreFault>
-    ensures same_reference { tx.new.conn.ghost_name ≡ tx.old.conn.ghost_name }
+) -> Result<(), CallFault>
     ensures ok { HasCleanDisk (state S.Store tx.new.conn.now) → (records : Records) → (columns : Columns) → NumberedFrom (λ crl. crl.number) 1 crls.now → NeverFalls (λ crl. crl.this_update) crls.now
         → Before (state S.Store tx.old.conn.now) records columns
         → OnOk result (Moved (state S.Store tx.old.conn.now) (state S.Store tx.new.conn.now) records (with_listed (listed_by crls.now row not_after) columns)) }
-    ensures kept { HasCleanDisk (state S.Store tx.new.conn.now) → KeepsCommit (state S.Store tx.old.conn.now) (state S.Store tx.new.conn.now) }
-    ensures survives { LeavesNothing (state S.Store tx.old.conn.now) (state S.Store tx.new.conn.now) }
-    ensures faults { IfErr result IsCallFault }
+    ensures schema { HasCleanDisk (state S.Store tx.new.conn.now) → HasSchema register_schema (state S.Store tx.old.conn.now) → OnOk result (HasSchema register_schema (state S.Store tx.new.conn.now)) }
+    ensures stepped { Stepped S.Store tx.old tx.new }
 {
     let last = sql_number_or_null(last_listing(crls, row.first, not_after))?;
     let serial = row.serial.bytes20();
@@ -85,14 +83,12 @@ fn relist_one<S: Alter>(
     tx: &mut Transaction<'_, S>,
     revocation: RevocationRow,
     crls: &[CrlRow],
-) -> Result<(), StoreFault>
-    ensures same_reference { tx.new.conn.ghost_name ≡ tx.old.conn.ghost_name }
+) -> Result<(), CallFault>
     ensures ok { HasCleanDisk (state S.Store tx.new.conn.now) → (records : Records) → (columns : Columns) → NumberedFrom (λ crl. crl.number) 1 crls.now → NeverFalls (λ crl. crl.this_update) crls.now
         → Before (state S.Store tx.old.conn.now) records columns
         → OnOk result (IsSomeAnd (certificate_in records.certificates revocation.serial) (λ certificate. Moved (state S.Store tx.old.conn.now) (state S.Store tx.new.conn.now) records (with_listed (listed_by crls.now revocation certificate.not_after) columns))) }
-    ensures kept { HasCleanDisk (state S.Store tx.new.conn.now) → KeepsCommit (state S.Store tx.old.conn.now) (state S.Store tx.new.conn.now) }
-    ensures survives { LeavesNothing (state S.Store tx.old.conn.now) (state S.Store tx.new.conn.now) }
-    ensures faults { IfErr result IsCallFault }
+    ensures schema { HasCleanDisk (state S.Store tx.new.conn.now) → HasSchema register_schema (state S.Store tx.old.conn.now) → OnOk result (HasSchema register_schema (state S.Store tx.new.conn.now)) }
+    ensures stepped { Stepped S.Store tx.old tx.new }
 {
     let not_after = end_of(tx, revocation.serial)?;
     put_listing(tx, revocation, crls, not_after)
@@ -103,14 +99,12 @@ fn relist_each<S: Alter>(
     tx: &mut Transaction<'_, S>,
     revocations: &[RevocationRow],
     crls: &[CrlRow],
-) -> Result<(), StoreFault>
-    ensures same_reference { tx.new.conn.ghost_name ≡ tx.old.conn.ghost_name }
+) -> Result<(), CallFault>
     ensures ok { HasCleanDisk (state S.Store tx.new.conn.now) → (records : Records) → SoundRows records → revocations.now ≡ records.revocations → crls.now ≡ map row_of records.crls
         → (IsTrue (state S.Store tx.old.conn.now).is_open → HasRelisted (state S.Store tx.old.conn.now).now records 0)
         → OnOk result (IsTrue (state S.Store tx.new.conn.now).is_open → HasRelisted (state S.Store tx.new.conn.now).now records (length records.revocations)) }
-    ensures kept { HasCleanDisk (state S.Store tx.new.conn.now) → KeepsCommit (state S.Store tx.old.conn.now) (state S.Store tx.new.conn.now) }
-    ensures survives { LeavesNothing (state S.Store tx.old.conn.now) (state S.Store tx.new.conn.now) }
-    ensures faults { IfErr result IsCallFault }
+    ensures schema { HasCleanDisk (state S.Store tx.new.conn.now) → HasSchema register_schema (state S.Store tx.old.conn.now) → OnOk result (HasSchema register_schema (state S.Store tx.new.conn.now)) }
+    ensures stepped { Stepped S.Store tx.old tx.new }
 {
     for revocation in revocations {
         relist_one(tx, *revocation, crls)?;
@@ -119,13 +113,11 @@ fn relist_each<S: Alter>(
 }
 
 /// Lists each revocation.
-pub(crate) fn relist<S: Alter>(tx: &mut Transaction<'_, S>) -> Result<(), StoreFault>
-    ensures same_reference { tx.new.conn.ghost_name ≡ tx.old.conn.ghost_name }
+pub(crate) fn relist<S: Alter>(tx: &mut Transaction<'_, S>) -> Result<(), CallFault>
     ensures ok { HasCleanDisk (state S.Store tx.new.conn.now) → (records : Records) → SoundRows records → (IsTrue (state S.Store tx.old.conn.now).is_open → HasRelisted (state S.Store tx.old.conn.now).now records 0)
         → OnOk result (IsTrue (state S.Store tx.new.conn.now).is_open → HasRelisted (state S.Store tx.new.conn.now).now records (length records.revocations)) }
-    ensures kept { HasCleanDisk (state S.Store tx.new.conn.now) → KeepsCommit (state S.Store tx.old.conn.now) (state S.Store tx.new.conn.now) }
-    ensures survives { LeavesNothing (state S.Store tx.old.conn.now) (state S.Store tx.new.conn.now) }
-    ensures faults { IfErr result IsCallFault }
+    ensures schema { HasCleanDisk (state S.Store tx.new.conn.now) → HasSchema register_schema (state S.Store tx.old.conn.now) → OnOk result (HasSchema register_schema (state S.Store tx.new.conn.now)) }
+    ensures stepped { Stepped S.Store tx.old tx.new }
 {
     let crls = crls(tx)?;
     let revocations = revocations(tx)?;

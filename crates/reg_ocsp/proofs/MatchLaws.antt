@@ -3,10 +3,7 @@ use Rattle.std.proofs.Common.{◌≡◌, ℕ, List, Option, Some, None, sym, ap,
 use Rattle.std.specs.Prelude.{◌≢◌, MatchOption}
 use Rattle.reg_core.specs.Integer.{IsInteger, integer}
 use Rattle.reg_core.specs.Serial.{IsSerial}
-use Rattle.reg_core.specs.Issuer as core
-use Rattle.reg_der.proofs.PublicLaws.{one_number}
-use Rattle.reg_ocsp.specs.Request.{Id}
-use Rattle.reg_ocsp.specs.Matching.{IsMatch}
+use Rattle.reg_core.proofs.PublicLaws.{one_number}
 
 -- what is read of octets that spell a serial number is this number
 pub only_match : (octets : List ℕ) (outcome : Option ℕ) → MatchOption outcome ((n : ℕ) → IsSerial n → octets ≢ integer n) (λ n. octets ≡ integer n)

@@ -15,7 +15,7 @@ use Rattle.reg_ocsp.specs.Request.{Single, IsSingle, Extension, AreExtensions, I
 use Rattle.reg_ocsp.specs.declared.asked.Asked.{Asked}
 use Rattle.reg_ocsp.specs.declared.fault.AskFault.{AskFault}
 use Rattle.reg_ocsp.specs.declared.fault.AskFault.TheVariants.{Malformed, Memory}
-use Rattle.reg_ocsp.specs.Views.{ids_seen, GivesUnlessMemory}
+use Rattle.reg_ocsp.specs.Views.{id_seen, ids_seen, GivesUnlessMemory}
 use Rattle.reg_ocsp.specs.Reading.{expect_at, whole_at, optional_at, last_at, all_at, ids_at, single_at, is_version, version_at, written_nonce, signed_at, parts_at, request_at}
 use Rattle.reg_ocsp.proofs.PartLaws.{chosen, expect_takes, expect_again, whole_takes, whole_again, optional_takes, optional_again, last_takes, last_again, IsSmall, BeginsElse, begins_value, begins_optional}
 use Rattle.reg_ocsp.proofs.ItemLaws.{TakesAll, items_take, items_again}
@@ -356,6 +356,20 @@ nonce_short : (tree : Option (List Extension)) → IfSome (nonce_of tree) IsNonc
 nonce_short None = tt
 nonce_short (Some es) = repeated_short (first_nonce es)
 
+-- a nonce that is repeated is short enough
+nonce_fits : (nonce : Option (List ℕ)) → IfSome nonce IsNonce → IfSome nonce (λ value. length value ≤ 131)
+nonce_fits None is = tt
+nonce_fits (Some value) is = is.short
+
+pub repeats_nonce : (bytes : List ℕ) (ids : List Id) (nonce : Option (List ℕ)) → IsRequest bytes ids nonce → IfSome nonce IsNonce
+repeats_nonce bytes ids told is = subst (λ (n : Option (List ℕ)). IfSome n IsNonce) (sym is.built.repeats) (nonce_short is.form.extensions)
+
+pub asks_some : (bytes : List ℕ) (ids : List Id) (nonce : Option (List ℕ)) → IsRequest bytes ids nonce → 1 ≤ length ids
+asks_some bytes ids told is =
+    let one = is.built.allowed.some in
+    let same = ap length is.built.asks in
+    omega (arith, length-map is.form.singles asked_by)
+
 pub can_be_answered : (bytes : List ℕ) (ids : List Id) (nonce : Option (List ℕ)) → IsRequest bytes ids nonce → CanBeAnswered ids nonce
 can_be_answered bytes ids nonce is =
     let f = is.form in
@@ -365,10 +379,9 @@ can_be_answered bytes ids nonce is =
     let raws = raws_small f.singles in
     let few = ids_few f.singles in
     let made : CanBeAnswered asked (nonce_of f.extensions) = record {
-      some = let one = is.built.allowed.some in omega (arith, length-map f.singles asked_by);
       few = omega arith;
       short = omega arith;
-      repeated_nonce = nonce_short f.extensions;
+      short_nonce = nonce_fits (nonce_of f.extensions) (nonce_short f.extensions);
     } in
     answered_same asked ids (nonce_of f.extensions) nonce (sym is.built.asks) (sym is.built.repeats) made
   where
@@ -395,3 +408,13 @@ pub is_answerable : (bytes : List ℕ) (outcome : Result Asked AskFault) → IfO
     → IfOk outcome (λ a. CanBeAnswered (ids_seen a.ids.items) (option_copied a.nonce))
 is_answerable bytes (Ok a) is = can_be_answered bytes (ids_seen a.ids.items) (option_copied a.nonce) is
 is_answerable bytes (Err e) is = tt
+
+pub is_some : (bytes : List ℕ) (outcome : Result Asked AskFault) → IfOk outcome (λ a. IsRequest bytes (ids_seen a.ids.items) (option_copied a.nonce))
+    → IfOk outcome (λ a. 1 ≤ length a.ids.items)
+is_some bytes (Ok a) is = omega (arith, asks_some bytes (ids_seen a.ids.items) (option_copied a.nonce) is, length-map a.ids.items id_seen)
+is_some bytes (Err e) is = tt
+
+pub is_repeated : (bytes : List ℕ) (outcome : Result Asked AskFault) → IfOk outcome (λ a. IsRequest bytes (ids_seen a.ids.items) (option_copied a.nonce))
+    → IfOk outcome (λ a. IfSome (option_copied a.nonce) IsNonce)
+is_repeated bytes (Ok a) is = repeats_nonce bytes (ids_seen a.ids.items) (option_copied a.nonce) is
+is_repeated bytes (Err e) is = tt

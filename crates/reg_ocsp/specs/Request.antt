@@ -186,9 +186,8 @@ pub record IsNonce (value : List ℕ) : Type 0 where
   pub some : 1 ≤ length value
   pub short : length value ≤ 131
 
--- one CertID at least, and few and short enough to be answered in one response
+-- few and short enough to be answered in one response: 65,536 CertIDs at most, of 65,536 bytes in all, and a nonce of 131
 pub record CanBeAnswered (ids : List Id) (nonce : Option (List ℕ)) : Type 0 where
-  pub some : 1 ≤ length ids
   pub few : length ids ≤ 65536
   pub short : sum_by raw_length ids ≤ 65536
-  pub repeated_nonce : IfSome nonce IsNonce
+  pub short_nonce : IfSome nonce (λ value. length value ≤ 131)

@@ -32,6 +32,10 @@ answer_seen answer = record { raw = answer.0.raw.now; status = answer.1 }
 abbrev pub answers_seen : List (CertId × Status) → List Answer
 answers_seen answers = map answer_seen answers
 
+-- the CertIDs that are answered
+abbrev pub answered : List (CertId × Status) → List CertId
+answered answers = map (λ answer. answer.0) answers
+
 -- the length of the whole value of its CertID
 abbrev pub answered_length : CertId × Status → ℕ
 answered_length answer = length answer.0.raw.now

@@ -2,7 +2,7 @@
 
 ghost use Rattle.std.specs.Prelude.{◌≡◌, ℕ, List, Option, ◌≤◌, ◌<◌, length, IfOk, IfSome, IsErrOf, option_copied};
 ghost use Rattle.reg_der.specs.Reading.{Gives, value_at};
-ghost use Rattle.reg_ocsp.specs.Request.{CanBeAnswered, Id, IsRequest};
+ghost use Rattle.reg_ocsp.specs.Request.{CanBeAnswered, Id, IsNonce, IsRequest};
 ghost use Rattle.reg_ocsp.specs.Reading.{algorithm_at, ids_at, parts_at, read_all, request_at, signed_at, single_at, target_at, version_at};
 ghost use Rattle.reg_ocsp.specs.Reading as spec;
 ghost use Rattle.reg_ocsp.specs.Request as grammar;
@@ -37,6 +37,8 @@ pub fn read_request(alloc: Global, bytes: &[u8]) -> Result<Asked<'_>, AskFault>
     ensures found { IfOk result (λ a. IsRequest bytes.now (ids_seen a.ids.items) (option_copied a.nonce)) }
     ensures malformed { IsErrOf result AskFault.Malformed → (ids : List Id) (nonce : Option (List ℕ)) → IsRequest bytes.now ids nonce → ⊥ }
     ensures answerable { IfOk result (λ a. CanBeAnswered (ids_seen a.ids.items) (option_copied a.nonce)) }
+    ensures some { IfOk result (λ a. 1 ≤ length a.ids.items) }
+    ensures nonce { IfOk result (λ a. IfSome (option_copied a.nonce) IsNonce) }
 {
     request(alloc, bytes)
 }

@@ -5,7 +5,8 @@ ghost use Rattle.std.specs.List.{flat_map};
 ghost use Rattle.reg_der.specs.Der.{tlv};
 ghost use Rattle.reg_ocsp.specs.Response.{basic_response, cert_status, ocsp_response, reason_part, refusal_response, single_response};
 ghost use Rattle.reg_ocsp.specs.Response as spec;
-ghost use Rattle.reg_ocsp.specs.Views.{answer_seen, answers_seen, answered_length};
+ghost use Rattle.reg_ocsp.specs.Request.{CanBeAnswered};
+ghost use Rattle.reg_ocsp.specs.Views.{answer_seen, answers_seen, answered, answered_length, ids_seen};
 
 use crate::asked::CertId;
 use crate::extensions::NONCE;
@@ -53,7 +54,7 @@ pub fn refusal(status: RefusalStatus) -> [u8; 5]
 ///
 /// There are at most 65,536 CertIDs with 65,536 bytes in all, and the nonce has at most 131, as `read_request` gives
 /// them. `Memory` is the only error.
-#[tactic(auto, unfolding(crate::specs::Response::response_data))]
+#[tactic(auto, using(crate::proofs::Answering::few_answers, crate::proofs::Answering::short_answers), unfolding(crate::specs::Response::response_data))]
 pub fn response_data(
     alloc: Global,
     issuer: &Issuer,
@@ -62,9 +63,7 @@ pub fn response_data(
     answers: &[(CertId<'_>, Status)],
     nonce: Option<&[u8]>,
 ) -> Result<Vec<u8>, Memory>
-    requires few { length answers.now ≤ 65536 }
-    requires short { sum_by answered_length answers.now ≤ 65536 }
-    requires short_nonce { IfSome nonce (λ v. length v.now ≤ 131) }
+    requires { CanBeAnswered (ids_seen (answered answers.now)) (option_copied nonce) }
     ensures data { IfOk result (λ v. v.items ≡ spec.response_data issuer.now.key now next (answers_seen answers.now) (option_copied nonce.entry)) }
     ensures bounded { IfOk result (λ v. length v.items ≤ 2 ^ 27) }
 {
@@ -211,7 +210,7 @@ fn put_reason(alloc: Global, out: &mut Vec<u8>, reason: u8) -> Result<(), Memory
 
 /// Appends responseExtensions with the nonce, if there is one.
 fn put_nonce(alloc: Global, out: &mut Vec<u8>, nonce: Option<&[u8]>) -> Result<(), Memory>
-    requires { IfSome nonce (λ v. length v.now ≤ 131) }
+    requires { IfSome (option_copied nonce) (λ value. length value ≤ 131) }
     ensures ok { OnOk result (out.new.items ≡ out.old.items ++ spec.nonce_part (option_copied nonce.entry)) }
     ensures longer { OnOk result (length out.new.items ≤ length out.old.items + 200) }
 {

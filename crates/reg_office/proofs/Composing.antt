@@ -20,7 +20,7 @@ use Rattle.reg_laws.proofs.Decided.{Refuses, Accepts}
 use Rattle.reg_tables.specs.Faults.{fault_of}
 use Rattle.reg_tables.specs.Kept.{ShowsKept}
 use Rattle.reg_tables.specs.Shows.{Shows}
-use Rattle.reg_tables.specs.Stays.{IsRegister, Stays}
+use Rattle.reg_tables.specs.Stays.{IsRegister, Looked, Stays}
 use Rattle.reg_tables.proofs.Staying.{kept_shows, shows_register, stays_kept, stays_register, stays_shows, stays_then}
 use Rattle.reg_tables.specs.declared.fault.StoreFault.{StoreFault}
 use Rattle.reg_tables.specs.declared.fault.StoreFault.TheVariants.{Memory as NoMemory, Store as Failed, NotEmpty, NotARegister, NewVersion}
@@ -35,6 +35,10 @@ pub after_look :
     → ShowsKept g old records → ShowsKept g new records
 after_look g old new records forgets same kept =
     stays_kept g old new records forgets (same (shows_register g old records (kept_shows g old records kept))) kept
+
+-- the same over a look-up
+pub after_looked : {C : Type 0} {g : Ghosts C} {old new : Held C} → Looked g old new → (records : Records) → ShowsKept g old records → ShowsKept g new records
+after_looked {g = g} {old = old} {new = new} looked records = after_look g old new records looked.survives.clean looked.same
 
 -- the same of the records alone
 pub shown_on :
@@ -189,3 +193,11 @@ happens_as signed records now command (Err Store) after none h = h
 happens_as signed records now command (Err Signer) after none h = h
 happens_as signed records now command (Err Read) after none h = h
 happens_as signed records now command (Err Write) after none h = h
+
+-- where nothing is looked up, nothing changes
+pub looked_none : {C : Type 0} {g : Ghosts C} {a : Held C} → Looked g a a
+looked_none = record {
+  same = λ register. record { was_open = λ clean up. up; now = λ clean up. inl refl; committed = λ clean up. refl };
+  survives = record { clean = omega arith; shield = λ shielded. shielded; counts = omega arith; limit = refl; closes = λ clean up. inl up; crash = λ clean trees may. inl may };
+  idle = λ idle. idle;
+}

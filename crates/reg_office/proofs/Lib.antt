@@ -1,9 +1,13 @@
+pub mod Agreeing
 pub mod Asking
+pub mod Changing
 pub mod Composing
 pub mod Deciding
 pub mod Facts
 pub mod Issuing
+pub mod Leading
 pub mod OpenedAgain
+pub mod Responding
 pub mod Resting
 pub mod Standing
 pub mod Stopping

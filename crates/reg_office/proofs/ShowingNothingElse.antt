@@ -27,7 +27,7 @@ use Rattle.reg_laws.proofs.Lists.{all_any, find_back, some_and_here, some_here, 
 use Rattle.reg_ocsp.specs.Matching.{IsMatch}
 use Rattle.reg_ocsp.specs.Request.{Id}
 use Rattle.reg_ocsp.specs.Response.{Answer, cert_status}
-use Rattle.reg_responder.specs.Agreement.{Agrees, OcspAgrees}
+use Rattle.reg_office.specs.Agreement.{Agrees, OcspAgrees}
 use Rattle.reg_office.specs.Shown.{entry_in, SoundRun, AcceptedRevocation, WasRevoked, IsNowhereShown}
 use Rattle.reg_office.proofs.ShownByCrls.{no_entry_of_unrevoked}
 use Rattle.reg_office.proofs.ShownByOcsp.{ocsp_tells}

@@ -11,8 +11,8 @@ use Rattle.reg_crl.specs.Signing.{Identity}
 use Rattle.reg_ocsp.specs.Matching.{IsMatch}
 use Rattle.reg_ocsp.specs.Request.{Id}
 use Rattle.reg_ocsp.specs.Response.{Answer}
-use Rattle.reg_responder.specs.Agreement.{Agrees, OcspAgrees}
-use Rattle.reg_responder.specs.Ocsp.{IsOcspReply, IsAnswered, IsResponse, IsTimely}
+use Rattle.reg_office.specs.Agreement.{Agrees, OcspAgrees}
+use Rattle.reg_office.specs.Ocsp.{IsOcspReply, IsReadReply, IsResponse, IsTimely}
 use Rattle.reg_office.specs.Shown.{IsReached, OcspTells, ResponseTells}
 
 -- the clock refuses no moment that is reached
@@ -66,7 +66,7 @@ ocsp_tells signs identity records moment serial IsSo agree sound so reached aske
           (agree records moment its.0 its.1 response.tbs sound response.of_records);
     }
 
-    go : IsAnswered signs identity records moment its.0 its.1 reply → OcspTells signs identity records moment serial IsSo asked reply
+    go : IsReadReply signs identity records moment its.0 its.1 reply → OcspTells signs identity records moment serial IsSo asked reply
     go (inl internal) = inr (inl internal)
     go (inr timely) =
         inr

@@ -15,10 +15,10 @@ use Rattle.reg_crl.specs.Signing.{Identity, signed_by}
 use Rattle.reg_laws.specs.Run.{Run}
 use Rattle.reg_laws.proofs.Decided.{clock_ended}
 use Rattle.reg_laws.proofs.Runs.{run_more, step_keeps_sound}
-use Rattle.reg_tables.specs.Stays.{IsRegister, Stays}
+use Rattle.reg_tables.specs.Stays.{IsRegister, Looked, Stays}
 use Rattle.reg_office.specs.Faults.{IsOfficeFault, IsTableFault}
 use Rattle.reg_office.specs.Happened.{Happened, unsigned}
-use Rattle.reg_office.specs.Stands.{Stands, CameTo, Ran}
+use Rattle.reg_office.specs.Stands.{Stands, CameTo, HasRun}
 use Rattle.reg_office.proofs.Composing.{IssuesNone, after_look, happens_as}
 
 -- what stood stands over a call that leaves a register's tables as they are
@@ -32,6 +32,13 @@ stands_on g signs old new identity records forgets same stands = record {
   shown = after_look g old new records forgets same stands.shown;
   sound = stands.sound;
 }
+
+-- the same over a look-up
+pub stands_looked :
+    {C : Type 0} {g : Ghosts C} {old new : Held C} {signs : Identity → List ℕ → List ℕ → Type 0} {identity : Identity} {records : Records}
+    → Looked g old new → Stands g signs old identity records → Stands g signs new identity records
+stands_looked {g = g} {old = old} {new = new} {signs = signs} {identity = identity} {records = records} looked stands =
+    stands_on g signs old new identity records looked.survives.clean looked.same stands
 
 -- a command that happened, over records that stood
 pub came :
@@ -77,7 +84,7 @@ came_unsigned g signs old new identity records now command outcome stands none h
 pub ran_none :
     {C : Type 0} (g : Ghosts C) (signs : Identity → List ℕ → List ℕ → Type 0) (held : Held C) (identity : Identity)
     (records : Records)
-    → Stands g signs held identity records → Ran g signs held identity records [] []
+    → Stands g signs held identity records → HasRun g signs held identity records [] []
 ran_none g signs held identity records stands = record { after = records; run = refl; stands = stands }
 
 -- one command more
@@ -85,9 +92,9 @@ pub ran_more :
     {C : Type 0} (g : Ghosts C) (signs : Identity → List ℕ → List ℕ → Type 0) (old new : Held C) (who next : Identity)
     (records : Records) (commands : List (ℕ × Command)) (came : List (Result Reply Fault)) (timed : ℕ × Command)
     (outcome : Result Reply Fault)
-    → next ≡ who → (ran : Ran g signs old who records commands came)
+    → next ≡ who → (ran : HasRun g signs old who records commands came)
     → CameTo g signs new next ran.after timed.0 timed.1 outcome
-    → Ran g signs new next records (commands ++ timed ∷ []) (came ++ outcome ∷ [])
+    → HasRun g signs new next records (commands ++ timed ∷ []) (came ++ outcome ∷ [])
 ran_more g signs old new who next records commands came timed outcome same ran step = record {
   after = step.after;
   run =

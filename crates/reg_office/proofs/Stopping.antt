@@ -12,7 +12,7 @@ use Rattle.reg_core.specs.declared.refusal.Fault.{Fault}
 use Rattle.reg_crl.specs.Signing.{Identity}
 use Rattle.reg_changes.specs.AtRest.{AreARegisters}
 use Rattle.reg_office.specs.AtRest.{HaveNoReply, IsNextDone, IsPartlyRun, IsRunOne, AreRunByOne}
-use Rattle.reg_office.specs.Stands.{Stands, Ran}
+use Rattle.reg_office.specs.Stands.{Stands, HasRun}
 use Rattle.reg_office.proofs.Composing.{was_clean}
 use Rattle.reg_store.proofs.Resting.{at_rest, live_at_rest}
 use Rattle.reg_office.proofs.Standing.{ran_more, ran_none}
@@ -23,7 +23,7 @@ Settles {C = C} g = (held : Held C) (trees : Trees) → IsTrue (state g held).is
 
 -- commands ran to here, and what a stop may find here
 pub record Reached {C : Type 0} (g : Ghosts C) (signs : Identity → List ℕ → List ℕ → Type 0) (identity : Identity) (held : Held C) (records : Records) (commands : List (ℕ × Command)) (outcomes : List (Result Reply Fault)) : Type 0 where
-  pub ran : Ran g signs held identity records commands outcomes
+  pub ran : HasRun g signs held identity records commands outcomes
   pub found : (trees : Trees) → (state g held).may_leave trees → IsPartlyRun signs identity records commands outcomes trees
 
 -- no command ran yet
@@ -103,7 +103,7 @@ found_more :
     (records : Records) (commands : List (ℕ × Command)) (came : List (Result Reply Fault)) (timed : ℕ × Command) (outcome : Result Reply Fault) (trees : Trees)
     → Settles g → IsRunOne g signs identity old new timed.0 timed.1 outcome → HasCleanDisk (state g new)
     → Reached g signs identity old records commands came
-    → Ran g signs new identity records (commands ++ timed ∷ []) (came ++ outcome ∷ [])
+    → HasRun g signs new identity records (commands ++ timed ∷ []) (came ++ outcome ∷ [])
     → (state g new).may_leave trees
     → IsPartlyRun signs identity records (commands ++ timed ∷ []) (came ++ outcome ∷ []) trees
 found_more g signs identity old new records commands came timed (Ok reply) trees settles one clean reached ran may =

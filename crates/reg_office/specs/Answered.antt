@@ -1,5 +1,5 @@
 -- What queries are answered.
-use Rattle.std.specs.Prelude.{◌≡◌, ℕ, ◌<◌, List, Option, Some, None, option_map, Result, Ok, Err, IsSome, Vec}
+use Rattle.std.specs.Prelude.{◌≡◌, ℕ, ◌<◌, List, Option, Some, None, option_map, Result, Ok, Err, IsSome}
 use Rattle.reg_core.specs.Checks.{clock_end}
 use Rattle.reg_core.specs.Crls.{latest}
 use Rattle.reg_core.specs.Queries.{answer, listing}
@@ -47,8 +47,3 @@ IsGiven records number (Err Store) = Unit {0}
 IsGiven records number (Err Signer) = ⊥
 IsGiven records number (Err Read) = ⊥
 IsGiven records number (Err Write) = ⊥
-
--- the bytes of a buffer, or the error
-abbrev pub items_of : {E Z : Type 0} → Result (Vec ℕ Z) E → Result (List ℕ) E
-items_of (Ok bytes) = Ok bytes.items
-items_of (Err fault) = Err fault

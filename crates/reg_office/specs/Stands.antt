@@ -24,7 +24,7 @@ pub record CameTo {C : Type 0} (g : Ghosts C) (signs : Identity → List ℕ →
   pub stands : Stands g signs held identity after
 
 -- commands, each at its moment: they came to the outcomes, one for each and in order, and the records after them stand
-pub record Ran {C : Type 0} (g : Ghosts C) (signs : Identity → List ℕ → List ℕ → Type 0) (held : Held C) (identity : Identity) (records : Records) (commands : List (ℕ × Command)) (outcomes : List (Result Reply Fault)) : Type 0 where
+pub record HasRun {C : Type 0} (g : Ghosts C) (signs : Identity → List ℕ → List ℕ → Type 0) (held : Held C) (identity : Identity) (records : Records) (commands : List (ℕ × Command)) (outcomes : List (Result Reply Fault)) : Type 0 where
   pub after : Records
   pub run : Run (signed_by signs identity) records commands outcomes after
   pub stands : Stands g signs held identity after

@@ -1,14 +1,15 @@
 //! CRLs.
 
-ghost use Rattle.std.specs.Prelude.{◌≡◌, ◌≤◌, ◌<◌, ◌+◌, length, IsErrOf, OnOk, OnErr, IfOk, IfErr, IsTrue};
+ghost use Rattle.std.specs.Prelude.{◌≡◌, ◌≤◌, ◌<◌, ◌+◌, length, IsErrOf, IfOk, IfErr};
 ghost use Rattle.sqlite.specs.Held.{state};
-ghost use Rattle.sqlite.specs.State.{HasCleanDisk, Survives};
+ghost use Rattle.sqlite.specs.State.{HasCleanDisk};
+ghost use Rattle.reg_calls.specs.Items.{items_of};
 ghost use Rattle.reg_core.specs.Calendar.{clock_end};
 ghost use Rattle.reg_core.specs.Records.{Records};
 ghost use Rattle.reg_core.specs.Sound.{SoundRows};
 ghost use Rattle.reg_core.specs.declared.command.Command.TheVariants.{Crl as IssueCrl};
 ghost use Rattle.reg_tables.specs.Kept.{ShowsKept};
-ghost use Rattle.reg_tables.specs.Stays.{IsRegister, LeavesNothing, Stays};
+ghost use Rattle.reg_tables.specs.Stays.{Changed, Looked};
 ghost use Rattle.reg_office.specs.AtRest.{Steps};
 ghost use Rattle.reg_office.specs.Faults.{IsOfficeFault, IsSigningFault, IsTableFault};
 ghost use Rattle.reg_office.specs.Happened.{Happened};
@@ -16,7 +17,7 @@ ghost use Rattle.reg_core.specs.Crls.{EntriesAscend};
 ghost use Rattle.reg_core.specs.declared.refusal.Fault.TheVariants.{Signer as SignerFailed};
 ghost use Rattle.reg_crl.specs.Signing.{signed_by};
 ghost use Rattle.reg_tables.specs.Shows.{Shows};
-ghost use Rattle.reg_office.specs.Answered.{IsGiven, items_of};
+ghost use Rattle.reg_office.specs.Answered.{IsGiven};
 
 use crate::heads::{head_at, latest_crl};
 use reg_core::{CrlRow, Entry, Fault, Moment, Refusal, Reply, decide_crl};
@@ -71,9 +72,7 @@ pub(crate) fn issue_crl<C: Alter, S: Signer>(
     requires { now < clock_end }
     ensures step { (records : Records) → ShowsKept C.Store store.old records → SoundRows records → HasCleanDisk (state C.Store store.new)
         → Happened C.Store store.new (signed_by S.signs (S.identity signer.old)) records now IssueCrl result }
-    ensures live { HasCleanDisk (state C.Store store.new) → OnOk result (IsTrue (state C.Store store.new).is_open) }
-    ensures err { IsRegister (state C.Store store.old) → OnErr result (Stays (state C.Store store.old) (state C.Store store.new)) }
-    ensures survives { Survives (state C.Store store.old) (state C.Store store.new) (Steps C.Store store.old (signed_by S.signs (S.identity signer.old)) now IssueCrl) }
+    ensures changed { Changed C.Store store.old store.new (Steps C.Store store.old (signed_by S.signs (S.identity signer.old)) now IssueCrl) result }
     ensures faults { IfErr result IsOfficeFault }
     ensures same_identity { S.identity signer.new ≡ S.identity signer.old }
     ensures device { IsErrOf result SignerFailed → S.failure_count signer.old < S.failure_count signer.new }
@@ -103,8 +102,7 @@ pub(crate) fn bytes_of<C: Alter>(
     number: Option<u64>,
 ) -> Result<Vec<u8>, Fault>
     ensures found { (records : Records) → Shows C.Store store.old records → SoundRows records → HasCleanDisk (state C.Store store.new) → IsGiven records number (items_of result) }
-    ensures same { IsRegister (state C.Store store.old) → Stays (state C.Store store.old) (state C.Store store.new) }
-    ensures survives { LeavesNothing (state C.Store store.old) (state C.Store store.new) }
+    ensures looked { Looked C.Store store.old store.new }
     ensures faults { IfErr result IsTableFault }
 {
     match number {
@@ -116,8 +114,7 @@ pub(crate) fn bytes_of<C: Alter>(
 /// The bytes of the CRL with a number.
 fn numbered<C: Alter>(store: &mut Store<C>, number: u64) -> Result<Vec<u8>, Fault>
     ensures found { (records : Records) → Shows C.Store store.old records → HasCleanDisk (state C.Store store.new) → IsGiven records (Some number) (items_of result) }
-    ensures same { IsRegister (state C.Store store.old) → Stays (state C.Store store.old) (state C.Store store.new) }
-    ensures survives { LeavesNothing (state C.Store store.old) (state C.Store store.new) }
+    ensures looked { Looked C.Store store.old store.new }
     ensures faults { IfErr result IsTableFault }
 {
     match store.crl(number)? {
@@ -129,8 +126,7 @@ fn numbered<C: Alter>(store: &mut Store<C>, number: u64) -> Result<Vec<u8>, Faul
 /// The bytes of the CRL that was issued last.
 fn latest<C: Alter>(store: &mut Store<C>) -> Result<Vec<u8>, Fault>
     ensures found { (records : Records) → Shows C.Store store.old records → SoundRows records → HasCleanDisk (state C.Store store.new) → IsGiven records None (items_of result) }
-    ensures same { IsRegister (state C.Store store.old) → Stays (state C.Store store.old) (state C.Store store.new) }
-    ensures survives { LeavesNothing (state C.Store store.old) (state C.Store store.new) }
+    ensures looked { Looked C.Store store.old store.new }
     ensures faults { IfErr result IsTableFault }
 {
     match store.latest_crl()? {

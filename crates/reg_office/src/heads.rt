@@ -8,7 +8,7 @@ ghost use Rattle.reg_core.specs.Crls.{latest, row_of};
 ghost use Rattle.reg_core.specs.Decisions.{head_of};
 ghost use Rattle.reg_core.specs.Records.{Records};
 ghost use Rattle.reg_tables.specs.Shows.{Shows};
-ghost use Rattle.reg_tables.specs.Stays.{IsRegister, LeavesNothing, Stays};
+ghost use Rattle.reg_tables.specs.Stays.{Looked};
 ghost use Rattle.reg_tables.specs.Tables.{rows_of};
 ghost use Rattle.reg_office.specs.Faults.{IsStoreFault};
 
@@ -23,8 +23,7 @@ pub(crate) fn head_at<C: Alter>(
     table: Table,
 ) -> Result<Head, Fault>
     ensures found { (records : Records) → Shows C.Store store.old records → HasCleanDisk (state C.Store store.new) → IfOk result (λ head. head ≡ head_of records now (rows_of records table)) }
-    ensures same { IsRegister (state C.Store store.old) → Stays (state C.Store store.old) (state C.Store store.new) }
-    ensures survives { LeavesNothing (state C.Store store.old) (state C.Store store.new) }
+    ensures looked { Looked C.Store store.old store.new }
     ensures faults { IfErr result IsStoreFault }
 {
     let last = store.last()?;
@@ -49,8 +48,7 @@ fn is_within(crl: &CrlRow) -> bool
 pub(crate) fn latest_crl<C: Alter>(store: &mut Store<C>) -> Result<Option<CrlRow>, Fault>
     ensures found { (records : Records) → Shows C.Store store.old records → HasCleanDisk (state C.Store store.new) → IfOk result (λ row. row ≡ option_map row_of (latest records.crls)) }
     ensures within { IfOk result (λ row. IfSome row (λ crl. (crl.number < 10 ^ 18) × (crl.this_update < clock_end))) }
-    ensures same { IsRegister (state C.Store store.old) → Stays (state C.Store store.old) (state C.Store store.new) }
-    ensures survives { LeavesNothing (state C.Store store.old) (state C.Store store.new) }
+    ensures looked { Looked C.Store store.old store.new }
     ensures faults { IfErr result IsStoreFault }
 {
     let latest = store.latest_crl()?;

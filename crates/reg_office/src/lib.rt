@@ -1,15 +1,19 @@
 //! The office: commands, queries and CRLs over a register's store, with a signer.
 #![tactic(auto)]
 
+mod calls;
 mod certificates;
 mod crls;
 mod heads;
 pub mod laws;
+mod ocsp_answer;
+mod ocsp_faults;
 mod office;
 mod orders;
 mod queries;
 mod requests;
 mod run;
+mod statuses;
 mod subscribers;
 
 pub use office::Office;

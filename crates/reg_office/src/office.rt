@@ -1,8 +1,9 @@
 //! The office: a register's store, and who signs its CRLs.
 
-ghost use Rattle.std.specs.Prelude.{◌≡◌, ◌≤◌, ◌<◌, ◌↔◌, Err, IsErrOf, OnOk, OnErr, IfOk, IfErr, IsTrue};
+ghost use Rattle.std.specs.Prelude.{◌≡◌, ◌≤◌, ◌<◌, ◌↔◌, Err, IsErrOf, OnOk, OnErr, IfOk, IfErr};
 ghost use Rattle.sqlite.specs.Held.{state};
-ghost use Rattle.sqlite.specs.State.{HasCleanDisk, Survives};
+ghost use Rattle.sqlite.specs.State.{HasCleanDisk};
+ghost use Rattle.reg_calls.specs.Items.{items_of};
 ghost use Rattle.reg_core.specs.Calendar.{clock_end};
 ghost use Rattle.reg_core.specs.Changes.{with_schedule};
 ghost use Rattle.reg_core.specs.Records.{Records};
@@ -10,24 +11,24 @@ ghost use Rattle.reg_core.specs.declared.command.Command.TheVariants.{Crl as Iss
 ghost use Rattle.reg_core.specs.declared.refusal.Fault.TheVariants.{Refused, Signer as SignerFailed};
 ghost use Rattle.reg_core.specs.declared.refusal.Refusal.TheVariants.{ClockEnd};
 ghost use Rattle.reg_changes.specs.AtRest.{IsScheduled};
-ghost use Rattle.reg_tables.specs.Stays.{IsCallFault, IsRegister, LeavesNothing, Stays};
+ghost use Rattle.reg_tables.specs.Stays.{Changed, IsCallFault, Looked, Stays};
 ghost use Rattle.reg_ocsp.specs.Response.{refusal_response};
 ghost use Rattle.reg_ocsp.specs.declared.response.RefusalStatus.TheVariants.{Malformed, Internal};
-ghost use Rattle.reg_responder.specs.Ocsp.{HasNoReading, IsOcspReply};
+ghost use Rattle.reg_office.specs.Ocsp.{HasNoReading, IsOcspReply};
 ghost use Rattle.reg_office.specs.AtRest.{Does};
-ghost use Rattle.reg_office.specs.Answered.{IsAnswered, IsGiven, items_of};
+ghost use Rattle.reg_office.specs.Answered.{IsAnswered, IsGiven};
 ghost use Rattle.reg_office.specs.Faults.{IsOfficeFault, IsTableFault};
 ghost use Rattle.reg_office.specs.Stands.{Stands, CameTo};
 
 use crate::certificates::register;
 use crate::crls::{bytes_of, issue_crl};
+use crate::ocsp_answer::ocsp;
 use crate::orders::enter_order;
 use crate::queries::answer;
 use crate::requests::{decline, enter_request, revoke};
 use crate::subscribers::enter_subscriber;
 use reg_core::{CertRow, Command, Fault, Memory, Moment, Query, Refusal, Reply, Schedule};
 use reg_crl::Signer;
-use reg_responder::ocsp;
 use reg_store::{Store, StoreFault};
 use sqlite::Alter;
 use std::alloc::Global;
@@ -69,9 +70,7 @@ impl<C: Alter, S: Signer> Office<C, S> {
             → HasCleanDisk (state C.Store self.new.store)
             → CameTo C.Store S.signs self.new.store (S.identity self.new.signer) records now command.now result }
         ensures ended { clock_end ≤ now → (result ≡ Err (Refused ClockEnd)) × (self.new ≡ self.old) }
-        ensures live { HasCleanDisk (state C.Store self.new.store) → OnOk result (IsTrue (state C.Store self.new.store).is_open) }
-        ensures err { IsRegister (state C.Store self.old.store) → OnErr result (Stays (state C.Store self.old.store) (state C.Store self.new.store)) }
-        ensures survives { Survives (state C.Store self.old.store) (state C.Store self.new.store) (Does C.Store S.signs self.old.store (S.identity self.old.signer) now command.now) }
+        ensures changed { Changed C.Store self.old.store self.new.store (Does C.Store S.signs self.old.store (S.identity self.old.signer) now command.now) result }
         ensures same_identity { S.identity self.new.signer ≡ S.identity self.old.signer }
         ensures device { IsErrOf result SignerFailed → (command.now ≡ IssueCrl) × (S.failure_count self.old.signer < S.failure_count self.new.signer) }
         ensures faults { IfErr result IsOfficeFault }
@@ -117,8 +116,7 @@ impl<C: Alter, S: Signer> Office<C, S> {
             → HasCleanDisk (state C.Store self.new.store)
             → IsAnswered records now query.now result × Stands C.Store S.signs self.new.store (S.identity self.new.signer) records }
         ensures ended { clock_end ≤ now → (result ≡ Err (Refused ClockEnd)) × (self.new ≡ self.old) }
-        ensures same { IsRegister (state C.Store self.old.store) → Stays (state C.Store self.old.store) (state C.Store self.new.store) }
-        ensures survives { LeavesNothing (state C.Store self.old.store) (state C.Store self.new.store) }
+        ensures looked { Looked C.Store self.old.store self.new.store }
         ensures same_signer { self.new.signer ≡ self.old.signer }
         ensures faults { IfErr result IsTableFault }
     {
@@ -136,8 +134,7 @@ impl<C: Alter, S: Signer> Office<C, S> {
         ensures given { (records : Records) → Stands C.Store S.signs self.old.store (S.identity self.old.signer) records
             → HasCleanDisk (state C.Store self.new.store)
             → IsGiven records number (items_of result) × Stands C.Store S.signs self.new.store (S.identity self.new.signer) records }
-        ensures same { IsRegister (state C.Store self.old.store) → Stays (state C.Store self.old.store) (state C.Store self.new.store) }
-        ensures survives { LeavesNothing (state C.Store self.old.store) (state C.Store self.new.store) }
+        ensures looked { Looked C.Store self.old.store self.new.store }
         ensures same_signer { self.new.signer ≡ self.old.signer }
         ensures faults { IfErr result IsTableFault }
     {
@@ -159,8 +156,7 @@ impl<C: Alter, S: Signer> Office<C, S> {
             → IfOk result (λ answer. IsOcspReply S.signs (S.identity self.old.signer) records now request.now answer.items) }
         ensures stands { (records : Records) → Stands C.Store S.signs self.old.store (S.identity self.old.signer) records
             → Stands C.Store S.signs self.new.store (S.identity self.new.signer) records }
-        ensures same { IsRegister (state C.Store self.old.store) → Stays (state C.Store self.old.store) (state C.Store self.new.store) }
-        ensures survives { LeavesNothing (state C.Store self.old.store) (state C.Store self.new.store) }
+        ensures looked { Looked C.Store self.old.store self.new.store }
         ensures same_identity { S.identity self.new.signer ≡ S.identity self.old.signer }
         ensures failed { S.failure_count self.old.signer < S.failure_count self.new.signer → IfOk result (λ answer. answer.items ≡ refusal_response Internal) }
     {
@@ -175,8 +171,8 @@ impl<C: Alter, S: Signer> Office<C, S> {
     pub fn set_schedule(&mut self, alloc: Global, schedule: Schedule) -> Result<(), StoreFault>
         ensures ok { (records : Records) → Stands C.Store S.signs self.old.store (S.identity self.old.signer) records
             → OnOk result (Stands C.Store S.signs self.new.store (S.identity self.new.signer) (with_schedule records schedule)) }
+        ensures changed { Changed C.Store self.old.store self.new.store (IsScheduled C.Store self.old.store schedule) result }
         ensures err { OnErr result (Stays (state C.Store self.old.store) (state C.Store self.new.store)) }
-        ensures survives { Survives (state C.Store self.old.store) (state C.Store self.new.store) (IsScheduled C.Store self.old.store schedule) }
         ensures same_signer { self.new.signer ≡ self.old.signer }
         ensures faults { IfErr result IsCallFault }
     {

@@ -1,14 +1,14 @@
 //! Orders.
 
-ghost use Rattle.std.specs.Prelude.{◌≡◌, ◌<◌, OnOk, OnErr, IfErr, IsTrue};
+ghost use Rattle.std.specs.Prelude.{◌≡◌, ◌<◌, IfErr};
 ghost use Rattle.sqlite.specs.Held.{state};
-ghost use Rattle.sqlite.specs.State.{HasCleanDisk, Survives};
+ghost use Rattle.sqlite.specs.State.{HasCleanDisk};
 ghost use Rattle.reg_core.specs.Calendar.{clock_end};
 ghost use Rattle.reg_core.specs.Records.{Records};
 ghost use Rattle.reg_core.specs.Sound.{SoundRows};
 ghost use Rattle.reg_core.specs.declared.command.Command.TheVariants.{Order as EnterOrder};
 ghost use Rattle.reg_tables.specs.Kept.{ShowsKept};
-ghost use Rattle.reg_tables.specs.Stays.{IsRegister, Stays};
+ghost use Rattle.reg_tables.specs.Stays.{Changed};
 ghost use Rattle.reg_office.specs.AtRest.{Steps};
 ghost use Rattle.reg_office.specs.Faults.{IsTableFault};
 ghost use Rattle.reg_office.specs.Happened.{Happened, unsigned};
@@ -31,9 +31,7 @@ pub(crate) fn enter_order<C: Alter>(
     requires { now < clock_end }
     ensures step { (records : Records) → ShowsKept C.Store store.old records → SoundRows records → HasCleanDisk (state C.Store store.new)
         → Happened C.Store store.new unsigned records now (EnterOrder subscriber days) result }
-    ensures live { HasCleanDisk (state C.Store store.new) → OnOk result (IsTrue (state C.Store store.new).is_open) }
-    ensures err { IsRegister (state C.Store store.old) → OnErr result (Stays (state C.Store store.old) (state C.Store store.new)) }
-    ensures survives { Survives (state C.Store store.old) (state C.Store store.new) (Steps C.Store store.old unsigned now (EnterOrder subscriber days)) }
+    ensures changed { Changed C.Store store.old store.new (Steps C.Store store.old unsigned now (EnterOrder subscriber days)) result }
     ensures faults { IfErr result IsTableFault }
 {
     let head = head_at(store, now, Table::Orders)?;

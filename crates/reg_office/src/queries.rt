@@ -10,7 +10,7 @@ ghost use Rattle.reg_core.specs.Sound.{SoundRows};
 ghost use Rattle.reg_core.specs.Status as status;
 ghost use Rattle.reg_tables.specs.Kept.{ShowsKept};
 ghost use Rattle.reg_tables.specs.Shows.{Shows};
-ghost use Rattle.reg_tables.specs.Stays.{IsRegister, LeavesNothing, Stays};
+ghost use Rattle.reg_tables.specs.Stays.{Looked};
 ghost use Rattle.reg_office.specs.Answered.{IsAnswered, IsListed};
 ghost use Rattle.reg_office.specs.Faults.{IsStoreFault, IsTableFault};
 
@@ -33,8 +33,7 @@ pub(crate) fn answer<C: Alter>(
 ) -> Result<Reply, Fault>
     requires { now < clock_end }
     ensures answer { (records : Records) → ShowsKept C.Store store.old records → SoundRows records → HasCleanDisk (state C.Store store.new) → IsAnswered records now query.now result }
-    ensures same { IsRegister (state C.Store store.old) → Stays (state C.Store store.old) (state C.Store store.new) }
-    ensures survives { LeavesNothing (state C.Store store.old) (state C.Store store.new) }
+    ensures looked { Looked C.Store store.old store.new }
     ensures faults { IfErr result IsTableFault }
 {
     let last = store.last()?;
@@ -51,8 +50,7 @@ pub(crate) fn answer<C: Alter>(
 /// The status of a serial number.
 fn status<C: Alter>(store: &mut Store<C>, now: Moment, serial: Serial) -> Result<Status, Fault>
     ensures found { (records : Records) → Shows C.Store store.old records → HasCleanDisk (state C.Store store.new) → IfOk result (λ found. found ≡ status.status records serial now) }
-    ensures same { IsRegister (state C.Store store.old) → Stays (state C.Store store.old) (state C.Store store.new) }
-    ensures survives { LeavesNothing (state C.Store store.old) (state C.Store store.new) }
+    ensures looked { Looked C.Store store.old store.new }
     ensures faults { IfErr result IsStoreFault }
 {
     let certificate = store.cert(serial)?;
@@ -63,8 +61,7 @@ fn status<C: Alter>(store: &mut Store<C>, now: Moment, serial: Serial) -> Result
 /// Which CRLs list a serial number, one that is registered.
 fn listing<C: Alter>(store: &mut Store<C>, serial: Serial) -> Result<Option<Listing>, Fault>
     ensures found { (records : Records) → ShowsKept C.Store store.old records → HasCleanDisk (state C.Store store.new) → IsListed records serial result }
-    ensures same { IsRegister (state C.Store store.old) → Stays (state C.Store store.old) (state C.Store store.new) }
-    ensures survives { LeavesNothing (state C.Store store.old) (state C.Store store.new) }
+    ensures looked { Looked C.Store store.old store.new }
     ensures faults { IfErr result IsTableFault }
 {
     if store.cert(serial)?.is_none() {
@@ -77,8 +74,7 @@ fn listing<C: Alter>(store: &mut Store<C>, serial: Serial) -> Result<Option<List
 fn earliest_unlisted<C: Alter>(store: &mut Store<C>) -> Result<Option<Moment>, Fault>
     ensures found { (records : Records) → Shows C.Store store.old records → HasCleanDisk (state C.Store store.new) → IfOk result (λ at. at ≡ earliest (unlisted records)) }
     ensures within { IfOk result (λ found. IfSome found (λ at. at < clock_end)) }
-    ensures same { IsRegister (state C.Store store.old) → Stays (state C.Store store.old) (state C.Store store.new) }
-    ensures survives { LeavesNothing (state C.Store store.old) (state C.Store store.new) }
+    ensures looked { Looked C.Store store.old store.new }
     ensures faults { IfErr result IsStoreFault }
 {
     let earliest = store.earliest_unlisted()?;
@@ -91,8 +87,7 @@ fn earliest_unlisted<C: Alter>(store: &mut Store<C>) -> Result<Option<Moment>, F
 /// When the next CRL is due.
 fn next_crl<C: Alter>(store: &mut Store<C>) -> Result<Option<Moment>, Fault>
     ensures found { (records : Records) → Shows C.Store store.old records → HasCleanDisk (state C.Store store.new) → IfOk result (λ at. at ≡ due records) }
-    ensures same { IsRegister (state C.Store store.old) → Stays (state C.Store store.old) (state C.Store store.new) }
-    ensures survives { LeavesNothing (state C.Store store.old) (state C.Store store.new) }
+    ensures looked { Looked C.Store store.old store.new }
     ensures faults { IfErr result IsStoreFault }
 {
     let policy = store.policy()?;

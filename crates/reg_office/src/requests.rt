@@ -1,14 +1,14 @@
 //! Requests for revocation.
 
-ghost use Rattle.std.specs.Prelude.{◌≡◌, ◌<◌, OnOk, OnErr, IfOk, IfErr, IsTrue};
+ghost use Rattle.std.specs.Prelude.{◌≡◌, ◌<◌, IfOk, IfErr};
 ghost use Rattle.sqlite.specs.Held.{state};
-ghost use Rattle.sqlite.specs.State.{HasCleanDisk, Survives};
+ghost use Rattle.sqlite.specs.State.{HasCleanDisk};
 ghost use Rattle.reg_core.specs.Calendar.{clock_end};
 ghost use Rattle.reg_core.specs.Records.{Records};
 ghost use Rattle.reg_core.specs.Sound.{SoundRows};
 ghost use Rattle.reg_core.specs.declared.command.Command.TheVariants.{Request as RequestIt, Decline as DeclineIt, Revoke as RevokeIt};
 ghost use Rattle.reg_tables.specs.Kept.{ShowsKept};
-ghost use Rattle.reg_tables.specs.Stays.{IsRegister, LeavesNothing, Stays};
+ghost use Rattle.reg_tables.specs.Stays.{Changed, Looked};
 ghost use Rattle.reg_office.specs.AtRest.{Steps};
 ghost use Rattle.reg_office.specs.Faults.{IsStoreFault, IsTableFault};
 ghost use Rattle.reg_office.specs.Happened.{Happened, unsigned};
@@ -44,9 +44,7 @@ pub(crate) fn enter_request<C: Alter>(
     requires { now < clock_end }
     ensures step { (records : Records) → ShowsKept C.Store store.old records → SoundRows records → HasCleanDisk (state C.Store store.new)
         → Happened C.Store store.new unsigned records now (RequestIt serial word) result }
-    ensures live { HasCleanDisk (state C.Store store.new) → OnOk result (IsTrue (state C.Store store.new).is_open) }
-    ensures err { IsRegister (state C.Store store.old) → OnErr result (Stays (state C.Store store.old) (state C.Store store.new)) }
-    ensures survives { Survives (state C.Store store.old) (state C.Store store.new) (Steps C.Store store.old unsigned now (RequestIt serial word)) }
+    ensures changed { Changed C.Store store.old store.new (Steps C.Store store.old unsigned now (RequestIt serial word)) result }
     ensures faults { IfErr result IsTableFault }
 {
     let head = head_at(store, now, Table::Requests)?;
@@ -62,8 +60,7 @@ pub(crate) fn enter_request<C: Alter>(
 /// The request with an id, and the certificate and the revocation of its serial number.
 fn case_of<C: Alter>(store: &mut Store<C>, id: u64) -> Result<Case, Fault>
     ensures found { (records : Records) → Shows C.Store store.old records → HasCleanDisk (state C.Store store.new) → IfOk result (λ found. IsCase records id found) }
-    ensures same { IsRegister (state C.Store store.old) → Stays (state C.Store store.old) (state C.Store store.new) }
-    ensures survives { LeavesNothing (state C.Store store.old) (state C.Store store.new) }
+    ensures looked { Looked C.Store store.old store.new }
     ensures faults { IfErr result IsStoreFault }
 {
     match store.request(id)? {
@@ -93,9 +90,7 @@ pub(crate) fn decline<C: Alter>(store: &mut Store<C>, now: Moment, id: u64) -> R
     requires { now < clock_end }
     ensures step { (records : Records) → ShowsKept C.Store store.old records → SoundRows records → HasCleanDisk (state C.Store store.new)
         → Happened C.Store store.new unsigned records now (DeclineIt id) result }
-    ensures live { HasCleanDisk (state C.Store store.new) → OnOk result (IsTrue (state C.Store store.new).is_open) }
-    ensures err { IsRegister (state C.Store store.old) → OnErr result (Stays (state C.Store store.old) (state C.Store store.new)) }
-    ensures survives { Survives (state C.Store store.old) (state C.Store store.new) (Steps C.Store store.old unsigned now (DeclineIt id)) }
+    ensures changed { Changed C.Store store.old store.new (Steps C.Store store.old unsigned now (DeclineIt id)) result }
     ensures faults { IfErr result IsTableFault }
 {
     let head = head_at(store, now, Table::Requests)?;
@@ -113,9 +108,7 @@ pub(crate) fn revoke<C: Alter>(store: &mut Store<C>, now: Moment, id: u64) -> Re
     requires { now < clock_end }
     ensures step { (records : Records) → ShowsKept C.Store store.old records → SoundRows records → HasCleanDisk (state C.Store store.new)
         → Happened C.Store store.new unsigned records now (RevokeIt id) result }
-    ensures live { HasCleanDisk (state C.Store store.new) → OnOk result (IsTrue (state C.Store store.new).is_open) }
-    ensures err { IsRegister (state C.Store store.old) → OnErr result (Stays (state C.Store store.old) (state C.Store store.new)) }
-    ensures survives { Survives (state C.Store store.old) (state C.Store store.new) (Steps C.Store store.old unsigned now (RevokeIt id)) }
+    ensures changed { Changed C.Store store.old store.new (Steps C.Store store.old unsigned now (RevokeIt id)) result }
     ensures faults { IfErr result IsTableFault }
 {
     let head = head_at(store, now, Table::Requests)?;

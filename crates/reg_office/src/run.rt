@@ -9,7 +9,7 @@ ghost use Rattle.reg_core.specs.Records.{Records};
 ghost use Rattle.reg_core.specs.declared.command.Reply.{Reply};
 ghost use Rattle.reg_core.specs.declared.refusal.Fault.{Fault};
 ghost use Rattle.reg_office.specs.AtRest.{IsPartlyRun};
-ghost use Rattle.reg_office.specs.Stands.{Stands, Ran};
+ghost use Rattle.reg_office.specs.Stands.{Stands, HasRun};
 
 use crate::office::Office;
 use reg_core::{Command, Memory, Moment, Outcome};
@@ -33,7 +33,7 @@ impl<C: Alter, S: Signer> Office<C, S> {
         ensures ran { (records : Records) → Stands C.Store S.signs self.old.store (S.identity self.old.signer) records
             → HasCleanDisk (state C.Store self.new.store)
             → OnOk result ((came : List (Result Reply Fault)) × (outcomes.new.items ≡ outcomes.old.items ++ came)
-            × Ran C.Store S.signs self.new.store (S.identity self.new.signer) records commands.now came) }
+            × HasRun C.Store S.signs self.new.store (S.identity self.new.signer) records commands.now came) }
         ensures none_ran { OnErr result ((outcomes.new.items ≡ outcomes.old.items) × (self.new ≡ self.old)) }
         ensures survives { (records : Records) → Stands C.Store S.signs self.old.store (S.identity self.old.signer) records
             → IsTrue (state C.Store self.old.store).is_open → IsLive (state C.Store self.old.store) → HasCleanDisk (state C.Store self.new.store)

@@ -18,9 +18,10 @@ use Rattle.sqlite.specs.State.{State}
 use Rattle.reg_core.specs.Issuer.{Issuer}
 use Rattle.reg_core.specs.Policy.{Terms, IsPolicy}
 use Rattle.reg_core.specs.Records.{no_records}
+use Rattle.reg_core.specs.Schedule.{greatest_of}
 use Rattle.reg_tables.specs.Schema.{register_schema, office, kept}
 use Rattle.reg_tables.specs.Rows.{number, stored_office}
-use Rattle.reg_tables.specs.Columns.{stored_counts}
+use Rattle.reg_tables.specs.Columns.{stored_counts, office_days}
 use Rattle.reg_tables.specs.Kept.{Kept}
 use Rattle.reg_tables.specs.Shows.{AreRows, AreColumns, AreBoth}
 use Rattle.reg_tables.specs.Stays.{Moves}
@@ -31,7 +32,7 @@ use Rattle.reg_changes.proofs.Meaning.{inserts, IsWriting}
 use Rattle.reg_changes.proofs.Obeying.{obeys}
 use Rattle.reg_changes.proofs.Registers.{puts_row, puts_spares}
 use Rattle.reg_opening.specs.Blank.{IsBlank, BlankBefore}
-use Rattle.reg_migration.specs.Refilled.{no_columns}
+use Rattle.reg_migration.specs.Refilled.{no_columns, no_counts}
 use Rattle.reg_opening.specs.Filled.{HasOffice, HasCounts}
 use Rattle.reg_migration.specs.declared.texts.TheConstants.{PUT_COUNTS}
 use Rattle.reg_opening.specs.declared.texts.TheConstants.{PUT_OFFICE}
@@ -65,16 +66,16 @@ blank_at : (db : Database) → IsBlank register_schema db → (n : ℕ) → list
 unfolding register_schema
 blank_at db blank n known = at_any (λ t. db.trees t ≡ []) table_trees n blank.rows known
 
-pub puts_office : (issuer : Issuer) (policy : Terms) (days : ℕ) (old new : State) (count : ℕ) → IsPolicy policy
-    → Ran PUT_OFFICE.now (Blob issuer.name ∷ Blob issuer.key ∷ number days ∷ number policy.crl_life ∷ number policy.ocsp_life ∷ number policy.cap ∷ []) old new count
+pub puts_office : (issuer : Issuer) (policy : Terms) (old new : State) (count : ℕ) → IsPolicy policy
+    → Ran PUT_OFFICE.now (Blob issuer.name ∷ Blob issuer.key ∷ number (greatest_of policy.schedule) ∷ number policy.crl_life ∷ number policy.ocsp_life ∷ number policy.cap ∷ []) old new count
     → BlankBefore old register_schema → Moves old new (HasOffice issuer policy)
 unfolding register_schema
-puts_office issuer policy days old new count is ran before =
-    let params = Blob issuer.name ∷ Blob issuer.key ∷ number days ∷ number policy.crl_life ∷ number policy.ocsp_life ∷ number policy.cap ∷ [] in
+puts_office issuer policy old new count is ran before =
+    let params = Blob issuer.name ∷ Blob issuer.key ∷ number (greatest_of policy.schedule) ∷ number policy.crl_life ∷ number policy.ocsp_life ∷ number policy.cap ∷ [] in
     let was = before ran.was_open in
     let none : old.now.trees 0 ≡ [] = blank_at old.now was 0 refl in
     let puts = puts_row PUT_OFFICE.now params old new count ran was.schema 0 office refl office_terms 10 put_office_means refl refl refl in
-    let row : Row = stored_office (pos days) issuer policy 0 in
+    let row : Row = stored_office (pos (greatest_of policy.schedule)) issuer policy 0 in
     let rows : new.now.trees 0 ≡ row ∷ [] =
     puts.rows ∙ ap (λ r. put_row (with_rowid Chosen (old.now.trees 0) r) (old.now.trees 0)) (let made : cast_row office (eval_all office_terms (params ∷ [])) ≡ row = simp (cast_int, cast_null) in made)
     ∙ ap (λ t. put_row (with_rowid Chosen t row) t) none in
@@ -87,7 +88,6 @@ puts_office issuer policy days old new count is ran before =
       tables = record {
         schema = puts.keeps_schema;
         within = is;
-        days = pos days;
         office = rows;
         others = λ n known apart. spares.same n known apart ∙ blank_at old.now was n known;
       };
@@ -99,7 +99,7 @@ puts_counts issuer policy old new count ran before =
     let was = before ran.was_open in
     let none : old.now.trees 14 ≡ [] = was.others 14 refl refl in
     let puts = puts_row PUT_COUNTS.now [] old new count ran was.schema 8 kept refl counts_terms 5 put_counts_means refl refl refl in
-    let row : Row = stored_counts no_columns.counts in
+    let row : Row = stored_counts no_counts in
     let rows : new.now.trees 14 ≡ row ∷ [] =
     puts.rows ∙ ap (λ r. put_row (with_rowid Chosen (old.now.trees 14) r) (old.now.trees 14)) (let made : cast_row kept (eval_all counts_terms ([] ∷ [])) ≡ row = simp (cast_int, cast_null) in made)
     ∙ ap (λ t. put_row (with_rowid Chosen t row) t) none in
@@ -112,7 +112,6 @@ puts_counts issuer policy old new count ran before =
       tables = record {
         schema = puts.keeps_schema;
         within = was.within;
-        days = was.days;
         office = spares.same 0 refl refl ∙ was.office;
         counts = rows;
         others = λ n known apart beside. spares.same n known beside ∙ was.others n known apart;
@@ -127,11 +126,11 @@ pub staged_first : (issuer : Issuer) (policy : Terms) (db : Database) → HasCou
 staged_first issuer policy db was = record { schema = was.schema; others = λ n known apart. refl; rows = was.others 17 refl refl refl }
 
 -- and once it is, no record is shown
-pub filled : (issuer : Issuer) (policy : Terms) (db after : Database) → HasCounts issuer policy db → IsStaged db.trees policy.schedule after → AreBoth after (no_records issuer policy) no_columns
+pub filled : (issuer : Issuer) (policy : Terms) (db after : Database) → HasCounts issuer policy db → IsStaged db.trees policy.schedule after → AreBoth after (no_records issuer policy) (no_columns policy.schedule)
 filled issuer policy db after was staged =
     let none : (n : ℕ) → list_any (λ t. t == n) table_trees ≡ true → (n == 17) ≡ false → (n == 0) ≡ false → (n == 14) ≡ false → after.trees n ≡ [] = λ n known unstaged apart beside. staged.others n known unstaged ∙ was.others n known apart beside in
     let rows : AreRows after.trees (no_records issuer policy) = record {
-      days = was.days;
+      days = pos (greatest_of policy.schedule);
       office = staged.others 0 refl refl ∙ was.office;
       subscribers = none 1 refl refl refl refl;
       orders = none 3 refl refl refl refl;
@@ -149,7 +148,8 @@ filled issuer policy db after was staged =
       request_serials = tt;
       revocation_serials = tt;
     } in
-    let kept : AreColumns after.trees no_columns = record {
+    let kept : AreColumns after.trees (no_columns policy.schedule) = record {
+      days = ap office_days (staged.others 0 refl refl ∙ was.office);
       letters = none 12 refl refl refl refl;
       counts = staged.others 14 refl refl ∙ was.counts;
       listed = none 15 refl refl refl refl;
@@ -159,5 +159,5 @@ filled issuer policy db after was staged =
     record { shown = record { schema = staged.schema; rows = rows }; kept = kept }
 
 -- what is kept beside no records stands for them
-pub none_kept : (issuer : Issuer) (policy : Terms) → Kept no_columns (no_records issuer policy)
+pub none_kept : (issuer : Issuer) (policy : Terms) → Kept (no_columns policy.schedule) (no_records issuer policy)
 none_kept issuer policy = record { letters = IsPermutation-refl []; counts = refl; listed = IsPermutation-refl [] }

@@ -15,3 +15,4 @@ pub mod Steps
 pub mod Registered
 pub mod OlderRead
 pub mod Newer
+pub mod Others

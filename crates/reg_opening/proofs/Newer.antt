@@ -6,9 +6,10 @@ use Rattle.sqlite_trees.specs.declared.store.Store.{Ghosts}
 use Rattle.sqlite.specs.Held.{Held, state}
 use Rattle.sqlite.specs.State.{HasCleanDisk}
 use Rattle.reg_core.specs.Records.{Records}
-use Rattle.reg_core.specs.Schedule.{one_step}
+use Rattle.reg_core.specs.Schedule.{greatest_of, one_step}
 use Rattle.reg_core.specs.Sound.{SoundRows}
 use Rattle.reg_tables.specs.Kept.{ShowsKept}
+use Rattle.reg_tables.specs.Shows.{HasOfficeDays}
 use Rattle.reg_tables.specs.Stays.{Stays}
 use Rattle.reg_tables.proofs.Staying.{stays_holds}
 use Rattle.reg_changes.specs.AtRest.{IsAtRest}
@@ -17,7 +18,7 @@ use Rattle.reg_migration.specs.AtRest.{IsMigrated}
 use Rattle.reg_migration.specs.Older.{IsShownByOlder, ShowsOlder}
 use Rattle.reg_migration.specs.declared.version.Earlier.{Earlier}
 use Rattle.reg_migration.proofs.Steps.{ok_by}
-use Rattle.reg_migration.proofs.Whole.{kept_while}
+use Rattle.reg_migration.proofs.Whole.{days_while, kept_while}
 use Rattle.reg_opening.specs.Examined.{IsOlderOf}
 use Rattle.reg_opening.specs.declared.opening.Older.{Older}
 
@@ -41,6 +42,18 @@ newer_kept g old mid new version records older r first second stays shows sound 
     let was : HasCleanDisk (state g mid) = was_clean (state g mid) (state g new) second clean in
     let is = told was in
     given (ShowsKept g new records) (migrates version records (stays_holds g old mid (λ db. IsShownByOlder version db records) first stays shows) sound (sym is.0) is.1 is.2)))
+
+-- and the office has the greatest days of their schedule
+pub newer_days
+    : {S : Type 0} (g : Ghosts S) (old mid new : Held S) (version : Earlier) (records : Records) (older : Older)
+    → doubt (state g old).is_clean ≤ doubt (state g mid).is_clean → doubt (state g mid).is_clean ≤ doubt (state g new).is_clean → Stays (state g old) (state g mid)
+    → ShowsOlder version g old records → SoundRows records → (HasCleanDisk (state g mid) → IsOlderOf version records (Some older))
+    → (version ≡ older.version → ShowsOlder version g mid records → records.policy.schedule ≡ one_step older.days → records.last ≡ older.last → HasOfficeDays g new (greatest_of records.policy.schedule))
+    → HasOfficeDays g new (greatest_of records.policy.schedule)
+newer_days g old mid new version records older first second stays shows sound told migrates = days_while g new (greatest_of records.policy.schedule) (λ clean.
+    let was : HasCleanDisk (state g mid) = was_clean (state g mid) (state g new) second clean in
+    let is = told was in
+    migrates (sym is.0) (stays_holds g old mid (λ db. IsShownByOlder version db records) first stays shows) is.1 is.2)
 
 -- and so a stop finds the same records, or the older tables
 pub newer_rests

@@ -1,5 +1,5 @@
--- Over tables with no view, what is told as no register says no version from 1 on but 3, and then no office.
-use Rattle.std.proofs.Common.{◌≡◌, ◌⊎◌, ◌<◌, ◌≤◌, ℕ, false, List, [], None, Ok, sym, ap, subst, ◌∙◌, inl, inr, arith}
+-- Over tables with no view, what is told as no register says no version from 1 on but one up to the program's, and then no office of its, or it has other tables.
+use Rattle.std.proofs.Common.{◌≡◌, ◌≢◌, ◌⊎◌, ◌≤◌, ℕ, false, List, [], Option, None, Some, Ok, sym, ap, subst, ◌∙◌, inl, inr}
 use Rattle.sqlite_value.specs.Order.{Row, column}
 use Rattle.sqlite_resolve.specs.declared.compiled.Compiled.{Compiled}
 use Rattle.sqlite.specs.Effect.{Database, Reads, RefusesToRead}
@@ -9,9 +9,8 @@ use Rattle.reg_tables.specs.Rows.{number}
 use Rattle.reg_tables.specs.declared.statements.TheConstants.{STEPS}
 use Rattle.reg_migration.specs.Older.{number_of}
 use Rattle.reg_migration.specs.declared.version.Earlier.{Earlier}
-use Rattle.reg_migration.specs.declared.version.Earlier.TheVariants.{First, Second}
 use Rattle.reg_opening.specs.declared.texts.TheConstants.{VERSION, OFFICE, OLDER_OFFICE}
-use Rattle.reg_opening.specs.Said.{IsRead, IsRefused, IsOne, KeepsTo, HasVersion, SaysOffice, SaysOlder, SaysNoRegister, SaysNoOffice, SaysNoOlder}
+use Rattle.reg_opening.specs.Said.{version_of, schema_of, IsRead, IsRefused, IsOne, KeepsTo, HasVersion, SaysOffice, SaysOlder, SaysOfficeOf, SaysNoOffice, SaysNoOlder, IsNoRegister}
 use Rattle.reg_opening.proofs.Steps.{only_row}
 use Rattle.reg_opening.proofs.Resolved.{ok_one}
 use Rattle.reg_opening.proofs.Understood.{ReadsTable}
@@ -77,14 +76,9 @@ module _ (db : Database) (unviewed : db.schema.views ≡ []) where
   version_again : (n m : ℕ) → HasVersion db n → HasVersion db m → n ≡ m
   version_again n m one two = one_version two.0 n m (one_again VERSION.now version_names [] db (version_is db.schema unviewed) (λ row. column row 0 ≡ number n) one.0 two.0 one.1 two.1 one.2) two.2
 
-  older_below : (version : Earlier) → number_of version < 3
-  older_below First = omega arith
-  older_below Second = omega arith
-
-  pub no_register : SaysNoRegister db → (n : ℕ) → 1 ≤ n → HasVersion db n → ((n ≡ 3) × (SaysOffice db → ⊥)) ⊎ ((n < 3) × (SaysOlder db → ⊥))
-  no_register (inl (inl refused)) n low has = absurd (not_refused VERSION.now version_names [] db (version_is db.schema unviewed) has.0 has.1 refused)
-  no_register (inl (inr h)) n low has = absurd (h.2 n low (one_again VERSION.now version_names [] db (version_is db.schema unviewed) (λ row. column row 0 ≡ number n) has.0 h.0 has.1 h.1 has.2))
-  no_register (inr (inl h)) n low has = inl (version_again n 3 has h.0, no_office h.1)
-  no_register (inr (inr h)) n low has =
-      let same : n ≡ number_of h.0 = version_again n (number_of h.0) has h.1 in
-      inr (omega (arith, same, older_below h.0), no_older h.2)
+  pub no_register : IsNoRegister db → (n : ℕ) → 1 ≤ n → HasVersion db n → (version : Option Earlier) × (n ≡ version_of version) × ((SaysOfficeOf version db → ⊥) ⊎ (db.schema ≢ schema_of version))
+  no_register (inl (inl (inl refused))) n low has = absurd (not_refused VERSION.now version_names [] db (version_is db.schema unviewed) has.0 has.1 refused)
+  no_register (inl (inl (inr h))) n low has = absurd (h.2 n low (one_again VERSION.now version_names [] db (version_is db.schema unviewed) (λ row. column row 0 ≡ number n) has.0 h.0 has.1 h.1 has.2))
+  no_register (inl (inr (inl h))) n low has = (None, version_again n 3 has h.0, inl (no_office h.1))
+  no_register (inl (inr (inr h))) n low has = (Some h.0, version_again n (number_of h.0) has h.1, inl (no_older h.2))
+  no_register (inr others) n low has = (others.0, version_again n (version_of others.0) has others.1, inr others.2)

@@ -16,7 +16,7 @@ use Rattle.sqlite_resolve.specs.Scope.{Name, Context, is_rowid}
 use Rattle.sqlite_resolve.specs.Select.{inside}
 use Rattle.sqlite_resolve.specs.Expr.{lower}
 use Rattle.sqlite_resolve.specs.Body as body
-use Rattle.reg_opening.proofs.Resolved.{then_ok, ok_one, lift_ok, Kept, kept_on, Names, lowered}
+use Rattle.reg_opening.proofs.Resolved.{then_ok, ok_one, lift_ok, SpendsNothing, kept_on, Names, lowered}
 
 -- ---- the columns of the result
 
@@ -51,7 +51,7 @@ module _ (schema : Schema) (b : Bound) where
   shown_is done s layer is = ap (body.shown_at lower at_result (b ∷ []) done) is
 
   shown_names : (done : List Output) (s : written.Shown) (name : Name) → IsColumn s name → (st : State) (x : List Output × State) → body.shown lower at_result (b ∷ []) done s st ≡ Ok x
-      → (o : Output) × (x.0 ≡ done ++ o ∷ []) × (o.is_alias ≡ false) × Names schema (b ∷ []) name o.term × Kept st x.1
+      → (o : Output) × (x.0 ≡ done ++ o ∷ []) × (o.is_alias ≡ false) × Names schema (b ∷ []) name o.term × SpendsNothing st x.1
   shown_names done s name is st x h =
       let e = is.0 in
       let known : body.shown_at lower at_result (b ∷ []) done (Shown-F.One e None is.1) st ≡ Ok x = ap (λ (f : Lowering (List Output)). f st) (sym (shown_is done s (Shown-F.One e None is.1) is.2)) ∙ h in
@@ -67,7 +67,7 @@ module _ (schema : Schema) (b : Bound) where
       )
 
   pub outputs_names : (shown : List written.Shown) (names : List Name) → AreColumns shown names → (done : List Output) (st : State) (x : List Output × State) → body.outputs_from lower at_result (b ∷ []) done shown st ≡ Ok x
-      → (more : List Output) × (x.0 ≡ done ++ more) × AreOutputs schema (b ∷ []) names more × Kept st x.1
+      → (more : List Output) × (x.0 ≡ done ++ more) × AreOutputs schema (b ∷ []) names more × SpendsNothing st x.1
   outputs_names [] [] are done st x h =
       let same = ok_one (done, st) x h in
       ([], ap (λ (p : List Output × State). p.0) (sym same) ∙ sym (append-nil done), tt, (ap (λ (p : List Output × State). p.1.steps) (sym same), ap (λ (p : List Output × State). p.1.aggregates) (sym same)))
@@ -85,14 +85,14 @@ module _ (schema : Schema) (b : Bound) where
 
 -- ---- FROM
 
-slot_kept : (s : State) (x : ℕ × State) → take_slot s ≡ Ok x → Kept s x.1
+slot_kept : (s : State) (x : ℕ × State) → take_slot s ≡ Ok x → SpendsNothing s x.1
 unfolding take_slot
 slot_kept s x h = elim (cases_Bool (nat_lt s.next 250)) [
   | inl within ↦ let same = ok_one _ x (rw within at h) in (ap (λ (y : ℕ × State). y.1.steps) (sym same), ap (λ (y : ℕ × State). y.1.aggregates) (sym same))
   | inr full ↦ absurd (let failed = rw full at h in cc)
 ]
 
-bound_is : (schema : Schema) (source : Source) (s : State) (x : Bound × State) → body.bound schema source s ≡ Ok x → (x.0.shared ≡ (out-Source source).using) × Kept s x.1
+bound_is : (schema : Schema) (source : Source) (s : State) (x : Bound × State) → body.bound schema source s ≡ Ok x → (x.0.shared ≡ (out-Source source).using) × SpendsNothing s x.1
 unfolding body.bound
 bound_is schema source s x h =
     let a = then_ok (take_slot s) _ _ h in
@@ -100,15 +100,15 @@ bound_is schema source s x h =
     let c = then_ok _ _ _ a.2 in
     let found = lift_ok (body.table_in schema a.0.0 (out-Source source).origin) a.0.1 c.0 c.1 in
     let same = ok_one _ x c.2 in
-    let kept : Kept a.0.1 c.0.1 = (ap (λ (q : State). q.steps) found.1, ap (λ (q : State). q.aggregates) found.1) in
-    let last : Kept c.0.1 x.1 = (ap (λ (p : Bound × State). p.1.steps) (sym same), ap (λ (p : Bound × State). p.1.aggregates) (sym same)) in
+    let kept : SpendsNothing a.0.1 c.0.1 = (ap (λ (q : State). q.steps) found.1, ap (λ (q : State). q.aggregates) found.1) in
+    let last : SpendsNothing c.0.1 x.1 = (ap (λ (p : Bound × State). p.1.steps) (sym same), ap (λ (p : Bound × State). p.1.aggregates) (sym same)) in
     (ap (λ (p : Bound × State). p.0.shared) (sym same), kept_on s a.0.1 x.1 taken (kept_on a.0.1 c.0.1 x.1 kept last))
 
-pub bounds_one : (schema : Schema) (source : Source) (s : State) (x : List Bound × State) → body.bounds schema (source ∷ []) s ≡ Ok x → (b : Bound) × (x.0 ≡ b ∷ []) × (b.shared ≡ (out-Source source).using) × Kept s x.1
+pub bounds_one : (schema : Schema) (source : Source) (s : State) (x : List Bound × State) → body.bounds schema (source ∷ []) s ≡ Ok x → (b : Bound) × (x.0 ≡ b ∷ []) × (b.shared ≡ (out-Source source).using) × SpendsNothing s x.1
 unfolding body.bounds
 bounds_one schema source s x h =
     let a = then_ok (body.bound schema source s) _ _ h in
     let is = bound_is schema source s a.0 a.1 in
     let same = ok_one (a.0.0 ∷ [], a.0.1) x a.2 in
-    let last : Kept a.0.1 x.1 = (ap (λ (p : List Bound × State). p.1.steps) (sym same), ap (λ (p : List Bound × State). p.1.aggregates) (sym same)) in
+    let last : SpendsNothing a.0.1 x.1 = (ap (λ (p : List Bound × State). p.1.steps) (sym same), ap (λ (p : List Bound × State). p.1.aggregates) (sym same)) in
     (a.0.0, ap (λ (p : List Bound × State). p.0) (sym same), is.0, kept_on s a.0.1 x.1 is.1 last)

@@ -30,13 +30,13 @@ pub ok_one : {A : Type 0} (a b : A) → fine a ≡ fine b → a ≡ b
 ok_one a b h = cc
 
 -- no step and no aggregate was added
-abbrev pub Kept : State → State → Type 0
-Kept old new = (new.steps ≡ old.steps) × (new.aggregates ≡ old.aggregates)
+abbrev pub SpendsNothing : State → State → Type 0
+SpendsNothing old new = (new.steps ≡ old.steps) × (new.aggregates ≡ old.aggregates)
 
-pub kept_on : (a b c : State) → Kept a b → Kept b c → Kept a c
+pub kept_on : (a b c : State) → SpendsNothing a b → SpendsNothing b c → SpendsNothing a c
 kept_on a b c one two = (two.0 ∙ one.0, two.1 ∙ one.1)
 
-spend_kept : (n : ℕ) (s : State) (x : Unit {0} × State) → spend n s ≡ Ok x → Kept s x.1
+spend_kept : (n : ℕ) (s : State) (x : Unit {0} × State) → spend n s ≡ Ok x → SpendsNothing s x.1
 unfolding spend
 spend_kept n s x h = elim (cases_Bool (nat_lt n s.budget)) [
   | inl within ↦ let same = ok_one _ x (rw within at h) in (ap (λ (y : Unit {0} × State). y.1.steps) (sym same), ap (λ (y : Unit {0} × State). y.1.aggregates) (sym same))
@@ -113,18 +113,18 @@ module _ (schema : Schema) (b : Bound) (shown : List Output) (aggregates : Bool)
   unfolding find
   find_finds found h = let l = then_ok _ _ _ h in level_finds l.0 found l.1 l.2
 
-  term_names : (slot table at : ℕ) (s : State) (x : Term × State) → only schema None name false (b ∷ []) ≡ Ok (Some (Column slot table at)) → term_of here (Column slot table at) s ≡ Ok x → Names schema (b ∷ []) name x.0 × Kept s x.1
+  term_names : (slot table at : ℕ) (s : State) (x : Term × State) → only schema None name false (b ∷ []) ≡ Ok (Some (Column slot table at)) → term_of here (Column slot table at) s ≡ Ok x → Names schema (b ∷ []) name x.0 × SpendsNothing s x.1
   unfolding term_of
   term_names slot table at s x found h =
       let y = then_ok _ _ _ h in
       let z = lift_ok (column_at schema slot table at) s y.0 y.1 in
       let same = ok_one (y.0.0.0, record y.0.1 { last = y.0.0.1 }) x y.2 in
-      let kept : Kept s y.0.1 = (ap (λ (q : State). q.steps) z.1, ap (λ (q : State). q.aggregates) z.1) in (
+      let kept : SpendsNothing s y.0.1 = (ap (λ (q : State). q.steps) z.1, ap (λ (q : State). q.aggregates) z.1) in (
         record { slot = slot; table = table; at = at; carried = y.0.0.1; found = found; is = z.0 ∙ ap (λ (p : Term × State). fine (p.0, y.0.0.1)) same },
         (ap (λ (p : Term × State). p.1.steps) (sym same) ∙ kept.0, ap (λ (p : Term × State). p.1.aggregates) (sym same) ∙ kept.1),
       )
 
-  column_names : (s : State) (x : Term × State) → column here None name s ≡ Ok x → Names schema (b ∷ []) name x.0 × Kept s x.1
+  column_names : (s : State) (x : Term × State) → column here None name s ≡ Ok x → Names schema (b ∷ []) name x.0 × SpendsNothing s x.1
   unfolding column
   column_names s x h =
       let y = then_ok _ _ _ h in
@@ -139,7 +139,7 @@ module _ (schema : Schema) (b : Bound) (shown : List Output) (aggregates : Bool)
   unfolding opened
   opened_is inner e is = rw is refl
 
-  node_names : (inner : Context → Expr → Lowering Term) (e : Expr) → out-Expr e ≡ Expr-F.Column None name → (s : State) (x : Term × State) → node inner here e s ≡ Ok x → Names schema (b ∷ []) name x.0 × Kept s x.1
+  node_names : (inner : Context → Expr → Lowering Term) (e : Expr) → out-Expr e ≡ Expr-F.Column None name → (s : State) (x : Term × State) → node inner here e s ≡ Ok x → Names schema (b ∷ []) name x.0 × SpendsNothing s x.1
   unfolding node begin finish
   node_names inner e is s x h =
       let a = then_ok (spend 1 s) _ _ h in
@@ -153,6 +153,6 @@ module _ (schema : Schema) (b : Bound) (shown : List Output) (aggregates : Bool)
         (ap (λ (p : Term × State). p.1.steps) (sym same) ∙ named.1.0 ∙ spent.0, ap (λ (p : Term × State). p.1.aggregates) (sym same) ∙ named.1.1 ∙ spent.1),
       )
 
-  pub lowered : (e : Expr) → out-Expr e ≡ Expr-F.Column None name → (s : State) (x : Term × State) → lower here e s ≡ Ok x → Names schema (b ∷ []) name x.0 × Kept s x.1
+  pub lowered : (e : Expr) → out-Expr e ≡ Expr-F.Column None name → (s : State) (x : Term × State) → lower here e s ≡ Ok x → Names schema (b ∷ []) name x.0 × SpendsNothing s x.1
   unfolding lower_to
   lowered e is s x h = node_names (lower_to 699) e is s x h

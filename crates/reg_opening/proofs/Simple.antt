@@ -26,7 +26,7 @@ use Rattle.sqlite_resolve.specs.Select as select
 use Rattle.std.proofs.lemmas.Bool.{cases_Bool}
 use Rattle.sqlite_sql.specs.Term.{reads_below}
 use Rattle.sqlite_resolve.specs.Program.{is_named}
-use Rattle.reg_opening.proofs.Resolved.{then_ok, ok_one, lift_ok, Kept, kept_on, Names, lowered}
+use Rattle.reg_opening.proofs.Resolved.{then_ok, ok_one, lift_ok, SpendsNothing, kept_on, Names, lowered}
 use Rattle.reg_opening.proofs.OneTable.{AreColumns, AreOutputs, no_alias, outputs_names, bounds_one}
 
 -- ---- the join
@@ -43,7 +43,7 @@ module _ (schema : Schema) (b : Bound) (shared : b.shared ≡ []) (shown : List 
   scans tree = record { steps = Inner tree ∷ []; filter = [] }
 
   joined : (source : Source) → (out-Source source).is_left ≡ false → (out-Source source).on ≡ None → (s : State) (x : Joined × State) → body.join lower here (b ∷ []) (record { steps = []; filter = [] }) b source s ≡ Ok x
-      → (tree : ℕ) × (x.0 ≡ scans tree) × Kept s x.1
+      → (tree : ℕ) × (x.0 ≡ scans tree) × SpendsNothing s x.1
   unfolding body.join body.inner_join body.tests
   joined source inner on s x h =
       let known = rw (inner, on) at h in
@@ -60,7 +60,7 @@ module _ (schema : Schema) (b : Bound) (shared : b.shared ≡ []) (shown : List 
       )
 
   pub joins_one : (source : Source) → (out-Source source).is_left ≡ false → (out-Source source).on ≡ None → (out-Source source).using ≡ [] → (s : State) (x : Joined × State) → body.joins lower here (b ∷ []) (source ∷ []) s ≡ Ok x
-      → (tree : ℕ) × (x.0 ≡ scans tree) × Kept s x.1
+      → (tree : ℕ) × (x.0 ≡ scans tree) × SpendsNothing s x.1
   unfolding body.joins
   joins_one source inner on using s x h =
       let known = rw (on, using) at h in
@@ -101,7 +101,7 @@ module _ (schema : Schema) (b : Bound) (columns : List Name) (outs : List Output
   unaliased : (name : Name) → alias_of name outs ≡ None
   unaliased name = no_alias schema (b ∷ []) columns outs name 0 are
 
-  key_names : (e : Expr) (name : Name) → out-Expr e ≡ Expr-F.Column None name → is_rowid name ≡ false → (s : State) (x : Term × State) → order.key lower at_order outs e s ≡ Ok x → Names schema (b ∷ []) name x.0 × Kept s x.1
+  key_names : (e : Expr) (name : Name) → out-Expr e ≡ Expr-F.Column None name → is_rowid name ≡ false → (s : State) (x : Term × State) → order.key lower at_order outs e s ≡ Ok x → Names schema (b ∷ []) name x.0 × SpendsNothing s x.1
   unfolding order.key order.is_numeral
   key_names e name is plain s x h =
       let known = rw is at h in
@@ -109,7 +109,7 @@ module _ (schema : Schema) (b : Bound) (columns : List Name) (outs : List Output
       let named = lowered schema b outs aggregates name plain (unaliased name) e is s a.0 a.1 in
       elim (cases_Bool (reads_below 1 a.0.0)) [
         | inl constant ↦ absurd (let failed = rw constant at a.2 in cc)
-        | inr reads ↦ let same = ok_one a.0 x (rw reads at a.2) in subst (λ (y : Term × State). Names schema (b ∷ []) name y.0 × Kept s y.1) same named
+        | inr reads ↦ let same = ok_one a.0 x (rw reads at a.2) in subst (λ (y : Term × State). Names schema (b ∷ []) name y.0 × SpendsNothing s y.1) same named
       ]
 
   peeled_is : (e : Expr) (name : Name) → out-Expr e ≡ Expr-F.Column None name → order.peeled e ≡ e
@@ -121,7 +121,7 @@ module _ (schema : Schema) (b : Bound) (columns : List Name) (outs : List Output
   alias_is e name is = ap (order.alias_at outs) is ∙ unaliased name
 
   sort_names : (done : List (Term × Key)) (k : Sort) (name : Name) → IsKey k name → (s : State) (x : List (Term × Key) × State) → order.sort lower at_order outs done k s ≡ Ok x
-      → (key : Term × Key) × (x.0 ≡ done ++ key ∷ []) × (key.1.descending ≡ false) × Names schema (b ∷ []) name key.0 × Kept s x.1
+      → (key : Term × Key) × (x.0 ≡ done ++ key ∷ []) × (key.1.descending ≡ false) × Names schema (b ∷ []) name key.0 × SpendsNothing s x.1
   unfolding order.sort order.placed
   sort_names done k name is s x h =
       let e : Expr = (out-Sort k).key in
@@ -146,7 +146,7 @@ module _ (schema : Schema) (b : Bound) (columns : List Name) (outs : List Output
       )
 
   sorts_names : (sorts : List Sort) (names : List Name) → AreKeys sorts names → (done : List (Term × Key)) (s : State) (x : List (Term × Key) × State) → order.sorts_from lower at_order outs done sorts s ≡ Ok x
-      → (more : List (Term × Key)) × (x.0 ≡ done ++ more) × AreSorted schema (b ∷ []) names more × Kept s x.1
+      → (more : List (Term × Key)) × (x.0 ≡ done ++ more) × AreSorted schema (b ∷ []) names more × SpendsNothing s x.1
   sorts_names [] [] are done s x h =
       let same = ok_one (done, s) x h in (
         [],
@@ -182,21 +182,21 @@ pub record IsBare (core : Core) (source : Source) (names : List Name) : Type 0 w
 
 module _ (schema : Schema) (core : Core) (source : Source) (names : List Name) (bare : IsBare core source names) where
   matching_is : (b : Bound) (outs : List Output) → b.shared ≡ [] → (s : State) (x : Joined × State) → body.matching lower (outermost schema) (record { tables = b ∷ []; shown = outs }) core s ≡ Ok x
-      → (tree : ℕ) × (x.0 ≡ record { steps = Inner tree ∷ []; filter = [] }) × Kept s x.1
+      → (tree : ℕ) × (x.0 ≡ record { steps = Inner tree ∷ []; filter = [] }) × SpendsNothing s x.1
   unfolding body.matching body.tests
   matching_is b outs shared s x h =
       let known = rw (bare.from, bare.filter) at h in
       let a = then_ok (body.joins lower (inside schema (record { tables = b ∷ []; shown = outs }) false) (b ∷ []) (source ∷ []) s) _ _ known in
       let one = joins_one schema b shared outs false source bare.inner bare.on bare.using s a.0 a.1 in
       let same = ok_one a.0 x a.2 in
-      subst (λ (y : Joined × State). (tree : ℕ) × (y.0 ≡ record { steps = Inner tree ∷ []; filter = [] }) × Kept s y.1) same one
+      subst (λ (y : Joined × State). (tree : ℕ) × (y.0 ≡ record { steps = Inner tree ∷ []; filter = [] }) × SpendsNothing s y.1) same one
 
   -- what FROM and the result are resolved to
   abbrev pub bare_body : Bound → List Output → ℕ → Body
   bare_body b outs tree = record { level = record { tables = b ∷ []; shown = outs }; steps = Inner tree ∷ []; filter = [] }
 
   abbrev pub IsBody : State → Body × State → Type 0
-  IsBody s x = (b : Bound) × (outs : List Output) × (tree : ℕ) × (x.0 ≡ bare_body b outs tree) × AreOutputs schema (b ∷ []) names outs × Kept s x.1
+  IsBody s x = (b : Bound) × (outs : List Output) × (tree : ℕ) × (x.0 ≡ bare_body b outs tree) × AreOutputs schema (b ∷ []) names outs × SpendsNothing s x.1
 
   body_after : (b : Bound) → b.shared ≡ [] → (s : State) (x : Body × State)
       → and_then (body.result lower (outermost schema) (record { tables = b ∷ []; shown = [] }) core s) (λ q. and_then (body.matching lower (outermost schema) (record { tables = b ∷ []; shown = q.0 }) core q.1) (λ m. Ok (record { level = record { tables = b ∷ []; shown = q.0 }; steps = m.0.steps; filter = m.0.filter }, m.1))) ≡ Ok x
@@ -208,7 +208,7 @@ module _ (schema : Schema) (core : Core) (source : Source) (names : List Name) (
       let d = then_ok (body.matching lower (outermost schema) (record { tables = b ∷ []; shown = c.0.0 }) core c.0.1) _ _ c.2 in
       let one = matching_is b c.0.0 shared c.0.1 d.0 d.1 in
       let same = ok_one (record { level = record { tables = b ∷ []; shown = c.0.0 }; steps = d.0.0.steps; filter = d.0.0.filter }, d.0.1) x d.2 in
-      let kept : Kept s d.0.1 = kept_on s c.0.1 d.0.1 outs.3 one.2 in (
+      let kept : SpendsNothing s d.0.1 = kept_on s c.0.1 d.0.1 outs.3 one.2 in (
         b,
         c.0.0,
         one.0,
@@ -237,7 +237,7 @@ module _ (schema : Schema) (core : Core) (source : Source) (names : List Name) (
       pub shown : AreOutputs schema (b ∷ []) names outs
       pub sorted : AreSorted schema (b ∷ []) keys x.0.order
       pub ungrouped : s.aggregates ≡ [] → x.0.is_grouped ≡ false
-      pub kept : Kept s x.1
+      pub kept : SpendsNothing s x.1
 
     pub parts_is : (s : State) (x : Clauses × State) → select.parts schema core sorts s ≡ Ok x → IsClauses s x
     unfolding select.parts select.having body.tests order.keys order.sorts
@@ -251,7 +251,7 @@ module _ (schema : Schema) (core : Core) (source : Source) (names : List Name) (
         subst (λ (w : Body). order.sorts_from lower (inside schema w.level grouped) w.level.shown [] sorts a.0.1 ≡ Ok c.0) it.3 c.1 in
         let order_is = sorts_names schema it.0 names it.1 it.4 grouped sorts keys are [] a.0.1 c.0 here in
         let same = ok_one (record { body = a.0.0; is_grouped = grouped; keys = []; collations = []; having = []; order = c.0.0 }, c.0.1) x c.2 in
-        let kept : Kept s c.0.1 = kept_on s a.0.1 c.0.1 it.5 order_is.3 in
+        let kept : SpendsNothing s c.0.1 = kept_on s a.0.1 c.0.1 it.5 order_is.3 in
         record {
           b = it.0;
           outs = it.1;

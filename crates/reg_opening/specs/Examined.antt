@@ -17,3 +17,8 @@ SaysFound db (Some older) = HasVersion db (number_of older.version) × ReadsOlde
 abbrev pub IsOlderOf : Earlier → Records → Option Older → Type 0
 IsOlderOf version records None = ⊥
 IsOlderOf version records (Some older) = (older.version ≡ version) × (records.policy.schedule ≡ one_step older.days) × (records.last ≡ older.last)
+
+-- the version that was found, which is none where it is the program's
+abbrev pub found_version : Option Older → Option Earlier
+found_version None = None
+found_version (Some older) = Some older.version

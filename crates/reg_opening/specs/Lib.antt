@@ -1,5 +1,6 @@
 pub mod Blank
 pub mod Filled
 pub mod Said
+pub mod Compared
 pub mod Examined
 pub mod AtRest

@@ -1,5 +1,5 @@
 -- What the tables of an opened database say.
-use Rattle.std.specs.Prelude.{◌≡◌, ◌⊎◌, ◌<◌, ◌≤◌, ℕ, Bool, true, false, List, [], ◌∷◌, length, Option, None, Some, Ok, Err, IsTrue}
+use Rattle.std.specs.Prelude.{◌≡◌, ◌≢◌, ◌⊎◌, ◌<◌, ◌≤◌, ℕ, Bool, true, false, List, [], ◌∷◌, length, Option, None, Some, Ok, Err, IsTrue}
 use Rattle.std.specs.List.{AllByRecursion}
 use Rattle.sqlite_value.specs.declared.value.Value.TheVariants.{Blob}
 use Rattle.sqlite_value.specs.Order.{Row, column}
@@ -132,9 +132,9 @@ ReadsOlder db days last = (rows : List Row) × IsRead db OLDER_OFFICE.now rows �
 abbrev pub SaysOlder : Database → Type 0
 SaysOlder db = (days : ℕ) × (last : ℕ) × ReadsOlder db days last
 
--- the tables say an older version, and its office
+-- the tables are those of an older version, and say it and its office
 abbrev pub IsOlder : Database → Type 0
-IsOlder db = (version : Earlier) × HasVersion db (number_of version) × SaysOlder db
+IsOlder db = (version : Earlier) × (db.schema ≡ older_schema version) × HasVersion db (number_of version) × SaysOlder db
 
 -- a text that is understood is refused over the rows that are there, and by no limit on steps
 pub record IsUnreadable (db : Database) (text : List ℕ) : Type 0 where
@@ -163,13 +163,27 @@ SaysNoOffice db =
 abbrev pub SaysNoOlder : Database → Type 0
 SaysNoOlder db = IsRefused db OLDER_OFFICE.now ⊎ ((rows : List Row) × IsRead db OLDER_OFFICE.now rows × ((days last : ℕ) → ¬ AreOlderOffice days last rows))
 
--- no register of any version stands in the tables: they say no version, or version 3 and no office, or an older version and no older office
+-- the tables say no register of any version: they say no version, or version 3 and no office, or an older version and no older office
 abbrev pub SaysNoRegister : Database → Type 0
 SaysNoRegister db = SaysNoVersion db ⊎ ((HasVersion db 3 × SaysNoOffice db) ⊎ ((version : Earlier) × HasVersion db (number_of version) × SaysNoOlder db))
 
--- over tables with no view: no version from 1 on stands there but 3 with no office, and 1 and 2 with no older office
+-- the tables say a version up to the program's, and they, or what stands beside them, are others than it has
+abbrev pub HasOthers : Database → Type 0
+HasOthers db = (version : Option Earlier) × HasVersion db (version_of version) × (db.schema ≢ schema_of version)
+
+-- no register of any version stands there: the tables say none, or are others than those of the version that they say
+abbrev pub IsNoRegister : Database → Type 0
+IsNoRegister db = SaysNoRegister db ⊎ HasOthers db
+
+-- the tables say the office of a version, each value within its range
+abbrev pub SaysOfficeOf : Option Earlier → Database → Type 0
+SaysOfficeOf None db = SaysOffice db
+SaysOfficeOf (Some version) db = SaysOlder db
+
+-- over tables with no view: no version from 1 on stands there but one up to the program's, with no office of its, or whose tables are others
 abbrev pub HoldsNoRegister : Database → Type 0
-HoldsNoRegister db = db.schema.views ≡ [] → (n : ℕ) → 1 ≤ n → HasVersion db n → ((n ≡ 3) × (¬ SaysOffice db)) ⊎ ((n < 3) × (¬ SaysOlder db))
+HoldsNoRegister db =
+    db.schema.views ≡ [] → (n : ℕ) → 1 ≤ n → HasVersion db n → (version : Option Earlier) × (n ≡ version_of version) × ((¬ SaysOfficeOf version db) ⊎ (db.schema ≢ schema_of version))
 
 -- what a register's issuer, moments and last accepted moment always are
 pub record InRange (records : Records) : Type 0 where

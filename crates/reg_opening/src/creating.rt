@@ -3,12 +3,13 @@
 ghost use Rattle.std.specs.Prelude.{◌≡◌, ◌≢◌, ◌⊎◌, ◌↔◌, true, false, IsTrue, OnOk, OnErr, IfErr};
 ghost use Rattle.sqlite.specs.Effect.{IsDatabase};
 ghost use Rattle.sqlite.specs.Held.{state};
-ghost use Rattle.sqlite.specs.State.{HasCleanDisk, KeepsCommit, Survives};
+ghost use Rattle.sqlite.specs.State.{HasCleanDisk, Survives};
 ghost use Rattle.reg_core.specs.Records.{no_records};
+ghost use Rattle.reg_core.specs.Schedule.{greatest_of};
 ghost use Rattle.reg_tables.specs.Kept.{ShowsKept};
 ghost use Rattle.reg_tables.specs.Schema.{no_schema};
-ghost use Rattle.reg_tables.specs.Shows.{AreBoth};
-ghost use Rattle.reg_tables.specs.Stays.{IsCallFault, LeavesNothing, Stays};
+ghost use Rattle.reg_tables.specs.Shows.{AreBoth, HasOfficeDays};
+ghost use Rattle.reg_tables.specs.Stays.{IsCallFault, Stays, Stepped};
 ghost use Rattle.reg_opening.specs.AtRest.{IsCreated};
 ghost use Rattle.reg_opening.specs.Blank.{BlankBefore};
 ghost use Rattle.reg_migration.specs.Refilled.{no_columns};
@@ -17,7 +18,7 @@ use crate::filling::fill;
 use crate::making::make;
 use reg_core::Policy;
 use reg_der::Issuer;
-use reg_tables::StoreFault;
+use reg_tables::{CallFault, StoreFault};
 use sqlite::{Alter, Connection, Transaction};
 
 /// Whether the database has no table, no index and no view.
@@ -33,16 +34,13 @@ fn make_register<S: Alter>(
     tx: &mut Transaction<'_, S>,
     issuer: &Issuer,
     policy: &Policy,
-) -> Result<(), StoreFault>
-    ensures same_reference { tx.new.conn.ghost_name ≡ tx.old.conn.ghost_name }
+) -> Result<(), CallFault>
     ensures ok { HasCleanDisk (state S.Store tx.new.conn.now) → BlankBefore (state S.Store tx.old.conn.now) no_schema
-        → OnOk result (IsTrue (state S.Store tx.new.conn.now).is_open × AreBoth (state S.Store tx.new.conn.now).now (no_records issuer.now policy.now) no_columns) }
+        → OnOk result (IsTrue (state S.Store tx.new.conn.now).is_open × AreBoth (state S.Store tx.new.conn.now).now (no_records issuer.now policy.now) (no_columns policy.now.schedule)) }
     ensures database { HasCleanDisk (state S.Store tx.new.conn.now) → BlankBefore (state S.Store tx.old.conn.now) no_schema
         → OnOk result (IsDatabase (state S.Store tx.new.conn.now).now) }
-    ensures kept { HasCleanDisk (state S.Store tx.new.conn.now) → KeepsCommit (state S.Store tx.old.conn.now) (state S.Store tx.new.conn.now) }
     ensures inside { HasCleanDisk (state S.Store tx.new.conn.now) → OnOk result (tx.new.conn.now.in_transaction ≡ true) }
-    ensures survives { LeavesNothing (state S.Store tx.old.conn.now) (state S.Store tx.new.conn.now) }
-    ensures faults { IfErr result IsCallFault }
+    ensures stepped { Stepped S.Store tx.old tx.new }
 {
     make(tx)?;
     fill(tx, issuer, policy)
@@ -60,6 +58,7 @@ pub fn create<S: Alter>(
 ) -> Result<(), StoreFault>
     requires { conn.old.in_transaction ≡ false }
     ensures ok { OnOk result (ShowsKept S.Store conn.new (no_records issuer.now policy.now)) }
+    ensures days { OnOk result (HasOfficeDays S.Store conn.new (greatest_of policy.now.schedule)) }
     ensures empty { OnOk result (conn.old.schema ≡ no_schema) }
     ensures not_empty { IfErr result (λ fault. fault ≡ StoreFault.NotEmpty ↔ conn.old.schema ≢ no_schema) }
     ensures err { OnErr result (Stays (state S.Store conn.old) (state S.Store conn.new)) }

@@ -1,15 +1,15 @@
 //! The first rows of a register's tables.
 
-ghost use Rattle.std.specs.Prelude.{◌≡◌, true, IsTrue, OnOk, IfErr};
+ghost use Rattle.std.specs.Prelude.{◌≡◌, true, IsTrue, OnOk};
 ghost use Rattle.sqlite.specs.Effect.{IsDatabase};
 ghost use Rattle.sqlite.specs.Held.{state};
-ghost use Rattle.sqlite.specs.State.{HasCleanDisk, KeepsCommit};
+ghost use Rattle.sqlite.specs.State.{HasCleanDisk};
 ghost use Rattle.reg_core.specs.Issuer as core;
 ghost use Rattle.reg_core.specs.Policy.{Terms};
 ghost use Rattle.reg_core.specs.Records.{no_records};
 ghost use Rattle.reg_tables.specs.Schema.{register_schema};
 ghost use Rattle.reg_tables.specs.Shows.{AreBoth};
-ghost use Rattle.reg_tables.specs.Stays.{IsCallFault, LeavesNothing, Moves};
+ghost use Rattle.reg_tables.specs.Stays.{Moves, Stepped};
 ghost use Rattle.reg_opening.specs.Blank.{BlankBefore};
 ghost use Rattle.reg_migration.specs.Refilled.{no_columns};
 ghost use Rattle.reg_opening.specs.Filled.{HasOffice, HasCounts};
@@ -20,7 +20,7 @@ use reg_changes::writing::{sql_number, write};
 use reg_core::Policy;
 use reg_der::Issuer;
 use reg_migration::texts::PUT_COUNTS;
-use reg_tables::StoreFault;
+use reg_tables::CallFault;
 use sqlite::types::ValueRef;
 use sqlite::{Alter, Transaction};
 
@@ -29,13 +29,10 @@ fn put_office<S: Alter>(
     tx: &mut Transaction<'_, S>,
     issuer: &Issuer,
     policy: &Policy,
-) -> Result<(), StoreFault>
-    ensures same_reference { tx.new.conn.ghost_name ≡ tx.old.conn.ghost_name }
+) -> Result<(), CallFault>
     ensures ok { HasCleanDisk (state S.Store tx.new.conn.now) → BlankBefore (state S.Store tx.old.conn.now) register_schema
         → OnOk result (Moves (state S.Store tx.old.conn.now) (state S.Store tx.new.conn.now) (HasOffice issuer.now policy.now)) }
-    ensures kept { HasCleanDisk (state S.Store tx.new.conn.now) → KeepsCommit (state S.Store tx.old.conn.now) (state S.Store tx.new.conn.now) }
-    ensures survives { LeavesNothing (state S.Store tx.old.conn.now) (state S.Store tx.new.conn.now) }
-    ensures faults { IfErr result IsCallFault }
+    ensures stepped { Stepped S.Store tx.old tx.new }
 {
     let days = sql_number(policy.schedule().greatest())?;
     let crl_life = sql_number(policy.crl_life())?;
@@ -52,16 +49,13 @@ fn put_office<S: Alter>(
 }
 
 /// Writes the counts' row.
-fn put_counts<S: Alter>(tx: &mut Transaction<'_, S>) -> Result<(), StoreFault>
-    ensures same_reference { tx.new.conn.ghost_name ≡ tx.old.conn.ghost_name }
+fn put_counts<S: Alter>(tx: &mut Transaction<'_, S>) -> Result<(), CallFault>
     ensures ok { HasCleanDisk (state S.Store tx.new.conn.now) → (issuer : core.Issuer) → (policy : Terms) → (IsTrue (state S.Store tx.old.conn.now).is_open → HasOffice issuer policy (state S.Store tx.old.conn.now).now)
         → OnOk result (Moves (state S.Store tx.old.conn.now) (state S.Store tx.new.conn.now) (HasCounts issuer policy)) }
     ensures database { HasCleanDisk (state S.Store tx.new.conn.now) → (issuer : core.Issuer) → (policy : Terms) → (IsTrue (state S.Store tx.old.conn.now).is_open → HasOffice issuer policy (state S.Store tx.old.conn.now).now)
         → OnOk result (IsDatabase (state S.Store tx.new.conn.now).now) }
-    ensures kept { HasCleanDisk (state S.Store tx.new.conn.now) → KeepsCommit (state S.Store tx.old.conn.now) (state S.Store tx.new.conn.now) }
     ensures inside { HasCleanDisk (state S.Store tx.new.conn.now) → OnOk result (tx.new.conn.now.in_transaction ≡ true) }
-    ensures survives { LeavesNothing (state S.Store tx.old.conn.now) (state S.Store tx.new.conn.now) }
-    ensures faults { IfErr result IsCallFault }
+    ensures stepped { Stepped S.Store tx.old tx.new }
 {
     write(tx, PUT_COUNTS, &[])?;
     Ok(())
@@ -72,16 +66,13 @@ pub(crate) fn fill<S: Alter>(
     tx: &mut Transaction<'_, S>,
     issuer: &Issuer,
     policy: &Policy,
-) -> Result<(), StoreFault>
-    ensures same_reference { tx.new.conn.ghost_name ≡ tx.old.conn.ghost_name }
+) -> Result<(), CallFault>
     ensures ok { HasCleanDisk (state S.Store tx.new.conn.now) → BlankBefore (state S.Store tx.old.conn.now) register_schema
-        → OnOk result (IsTrue (state S.Store tx.new.conn.now).is_open × AreBoth (state S.Store tx.new.conn.now).now (no_records issuer.now policy.now) no_columns) }
+        → OnOk result (IsTrue (state S.Store tx.new.conn.now).is_open × AreBoth (state S.Store tx.new.conn.now).now (no_records issuer.now policy.now) (no_columns policy.now.schedule)) }
     ensures database { HasCleanDisk (state S.Store tx.new.conn.now) → BlankBefore (state S.Store tx.old.conn.now) register_schema
         → OnOk result (IsDatabase (state S.Store tx.new.conn.now).now) }
-    ensures kept { HasCleanDisk (state S.Store tx.new.conn.now) → KeepsCommit (state S.Store tx.old.conn.now) (state S.Store tx.new.conn.now) }
     ensures inside { HasCleanDisk (state S.Store tx.new.conn.now) → OnOk result (tx.new.conn.now.in_transaction ≡ true) }
-    ensures survives { LeavesNothing (state S.Store tx.old.conn.now) (state S.Store tx.new.conn.now) }
-    ensures faults { IfErr result IsCallFault }
+    ensures stepped { Stepped S.Store tx.old tx.new }
 {
     put_office(tx, issuer, policy)?;
     put_counts(tx)?;

@@ -1,6 +1,7 @@
 //! A register's tables, made new, and tested before they are used.
 #![tactic(auto)]
 
+mod comparing;
 mod creating;
 mod filling;
 mod judging;

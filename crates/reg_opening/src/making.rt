@@ -1,24 +1,21 @@
 //! The tables and indexes of a register, made with no rows.
 
-ghost use Rattle.std.specs.Prelude.{◌≡◌, OnOk, IfErr};
+ghost use Rattle.std.specs.Prelude.{◌≡◌, OnOk};
 ghost use Rattle.sqlite.specs.Held.{state};
-ghost use Rattle.sqlite.specs.State.{HasCleanDisk, KeepsCommit};
+ghost use Rattle.sqlite.specs.State.{HasCleanDisk};
 ghost use Rattle.reg_tables.specs.Schema.{no_schema, record_tables, register_schema};
-ghost use Rattle.reg_tables.specs.Stays.{IsCallFault, LeavesNothing, Moves};
+ghost use Rattle.reg_tables.specs.Stays.{Moves, Stepped};
 ghost use Rattle.reg_opening.specs.Blank.{IsBlank, BlankBefore, entry_tables};
 
 use reg_migration::making::{define, make_kept_tables, make_schedule_and_indexes};
-use reg_tables::{StoreFault, schema};
+use reg_tables::{CallFault, schema};
 use sqlite::{Alter, Transaction};
 
 /// Makes the tables of the office, of subscribers, orders and certificates.
-fn make_entry_tables<S: Alter>(tx: &mut Transaction<'_, S>) -> Result<(), StoreFault>
-    ensures same_reference { tx.new.conn.ghost_name ≡ tx.old.conn.ghost_name }
+fn make_entry_tables<S: Alter>(tx: &mut Transaction<'_, S>) -> Result<(), CallFault>
     ensures ok { HasCleanDisk (state S.Store tx.new.conn.now) → BlankBefore (state S.Store tx.old.conn.now) no_schema
         → OnOk result (Moves (state S.Store tx.old.conn.now) (state S.Store tx.new.conn.now) (IsBlank entry_tables)) }
-    ensures kept { HasCleanDisk (state S.Store tx.new.conn.now) → KeepsCommit (state S.Store tx.old.conn.now) (state S.Store tx.new.conn.now) }
-    ensures survives { LeavesNothing (state S.Store tx.old.conn.now) (state S.Store tx.new.conn.now) }
-    ensures faults { IfErr result IsCallFault }
+    ensures stepped { Stepped S.Store tx.old tx.new }
 {
     define(tx, schema::OFFICE)?;
     define(tx, schema::SUBSCRIBER)?;
@@ -27,13 +24,10 @@ fn make_entry_tables<S: Alter>(tx: &mut Transaction<'_, S>) -> Result<(), StoreF
 }
 
 /// Makes the tables of requests, revocations and CRLs.
-fn make_revocation_tables<S: Alter>(tx: &mut Transaction<'_, S>) -> Result<(), StoreFault>
-    ensures same_reference { tx.new.conn.ghost_name ≡ tx.old.conn.ghost_name }
+fn make_revocation_tables<S: Alter>(tx: &mut Transaction<'_, S>) -> Result<(), CallFault>
     ensures ok { HasCleanDisk (state S.Store tx.new.conn.now) → BlankBefore (state S.Store tx.old.conn.now) entry_tables
         → OnOk result (Moves (state S.Store tx.old.conn.now) (state S.Store tx.new.conn.now) (IsBlank record_tables)) }
-    ensures kept { HasCleanDisk (state S.Store tx.new.conn.now) → KeepsCommit (state S.Store tx.old.conn.now) (state S.Store tx.new.conn.now) }
-    ensures survives { LeavesNothing (state S.Store tx.old.conn.now) (state S.Store tx.new.conn.now) }
-    ensures faults { IfErr result IsCallFault }
+    ensures stepped { Stepped S.Store tx.old tx.new }
 {
     define(tx, schema::REQUEST)?;
     define(tx, schema::REVOCATION)?;
@@ -41,13 +35,10 @@ fn make_revocation_tables<S: Alter>(tx: &mut Transaction<'_, S>) -> Result<(), S
 }
 
 /// Makes all tables and indexes, in a database that has none.
-pub(crate) fn make<S: Alter>(tx: &mut Transaction<'_, S>) -> Result<(), StoreFault>
-    ensures same_reference { tx.new.conn.ghost_name ≡ tx.old.conn.ghost_name }
+pub(crate) fn make<S: Alter>(tx: &mut Transaction<'_, S>) -> Result<(), CallFault>
     ensures ok { HasCleanDisk (state S.Store tx.new.conn.now) → BlankBefore (state S.Store tx.old.conn.now) no_schema
         → OnOk result (Moves (state S.Store tx.old.conn.now) (state S.Store tx.new.conn.now) (IsBlank register_schema)) }
-    ensures kept { HasCleanDisk (state S.Store tx.new.conn.now) → KeepsCommit (state S.Store tx.old.conn.now) (state S.Store tx.new.conn.now) }
-    ensures survives { LeavesNothing (state S.Store tx.old.conn.now) (state S.Store tx.new.conn.now) }
-    ensures faults { IfErr result IsCallFault }
+    ensures stepped { Stepped S.Store tx.old tx.new }
 {
     make_entry_tables(tx)?;
     make_revocation_tables(tx)?;

@@ -2,18 +2,20 @@
 
 ghost use Rattle.std.specs.Prelude.{◌≡◌, ◌≢◌, ◌<◌, ◌⊎◌, ℕ, Option, None, false, IsTrue, MatchResult, OnOk, OnErr, IfOk, IfErr, Err};
 ghost use Rattle.sqlite.specs.Held.{state};
-ghost use Rattle.sqlite.specs.State.{HasCleanDisk, KeepsCommit, IsUnchanged, Survives};
+ghost use Rattle.sqlite.specs.State.{HasCleanDisk, IsUnchanged, Survives};
 ghost use Rattle.reg_core.specs.Records.{Records};
-ghost use Rattle.reg_core.specs.Schedule.{one_step};
+ghost use Rattle.reg_core.specs.Schedule.{greatest_of, one_step};
 ghost use Rattle.reg_core.specs.Sound.{SoundRows};
 ghost use Rattle.reg_tables.specs.Kept.{ShowsKept};
-ghost use Rattle.reg_tables.specs.Shows.{IsShownBy, Shows};
-ghost use Rattle.reg_tables.specs.Stays.{IsCallFault, LeavesNothing, Stays};
+ghost use Rattle.reg_tables.specs.Shows.{IsShownBy, Shows, HasOfficeDays, KeepsOfficeDays};
+ghost use Rattle.reg_tables.specs.Stays.{IsCallFault, IsRegister, LeavesNothing, Stays, Stepped};
 ghost use Rattle.reg_migration.specs.Older.{IsShownByOlder, ShowsOlder};
-ghost use Rattle.reg_opening.specs.Said.{version_of, IsOfVersion, HasVersion, SaysOffice, ReadsOlder, IsOlder, SaysNoVersion, SaysNoOffice, SaysNoOlder, SaysNoRegister, HoldsNoRegister, InRange};
+ghost use Rattle.reg_opening.specs.Said.{version_of, IsOfVersion, HasVersion, SaysOffice, ReadsOlder, IsOlder, SaysNoVersion, SaysNoOffice, SaysNoOlder, SaysNoRegister, IsNoRegister, HoldsNoRegister, InRange};
+ghost use Rattle.reg_opening.specs.Compared.{says};
 ghost use Rattle.reg_opening.specs.AtRest.{IsOpened};
-ghost use Rattle.reg_opening.specs.Examined.{SaysFound, IsOlderOf};
+ghost use Rattle.reg_opening.specs.Examined.{SaysFound, IsOlderOf, found_version};
 
+use crate::comparing::{Compared, is_same, look};
 use crate::judging::{judge_office, judge_older, judge_version};
 use crate::peeking::peek;
 use crate::texts;
@@ -36,14 +38,12 @@ pub struct Older {
 
 /// The version of the tables where it is older than the program's, and none where it is the program's.
 fn test_version<S: Alter>(tx: &mut Transaction<'_, S>) -> Result<Option<Earlier>, StoreFault>
-    ensures same_reference { tx.new.conn.ghost_name ≡ tx.old.conn.ghost_name }
     ensures ok { HasCleanDisk (state S.Store tx.new.conn.now) → IfOk result (λ found. HasVersion (state S.Store tx.old.conn.now).now (version_of found)) }
     ensures same { HasCleanDisk (state S.Store tx.new.conn.now) → OnOk result (IsUnchanged (state S.Store tx.old.conn.now) (state S.Store tx.new.conn.now)) }
     ensures newer { HasCleanDisk (state S.Store tx.new.conn.now) → result ≡ Err StoreFault.NewVersion → (n : ℕ) × (3 < n) × HasVersion (state S.Store tx.old.conn.now).now n }
     ensures none { HasCleanDisk (state S.Store tx.new.conn.now) → result ≡ Err StoreFault.NotARegister → SaysNoVersion (state S.Store tx.old.conn.now).now }
     ensures told { HasCleanDisk (state S.Store tx.new.conn.now) → (version : Option Earlier) → (IsTrue (state S.Store tx.old.conn.now).is_open → IsOfVersion version (state S.Store tx.old.conn.now).now) → MatchResult result (λ found. found ≡ version) IsCallFault }
-    ensures kept { HasCleanDisk (state S.Store tx.new.conn.now) → KeepsCommit (state S.Store tx.old.conn.now) (state S.Store tx.new.conn.now) }
-    ensures survives { LeavesNothing (state S.Store tx.old.conn.now) (state S.Store tx.new.conn.now) }
+    ensures stepped { Stepped S.Store tx.old tx.new }
     ensures faults { IfErr result (λ fault. fault ≢ StoreFault.NotEmpty) }
 {
     let rows = peek(tx, texts::VERSION)?;
@@ -52,12 +52,10 @@ fn test_version<S: Alter>(tx: &mut Transaction<'_, S>) -> Result<Option<Earlier>
 
 /// Tests the office and its schedule.
 fn test_office<S: Alter>(tx: &mut Transaction<'_, S>) -> Result<(), StoreFault>
-    ensures same_reference { tx.new.conn.ghost_name ≡ tx.old.conn.ghost_name }
     ensures ok { HasCleanDisk (state S.Store tx.new.conn.now) → OnOk result (SaysOffice (state S.Store tx.old.conn.now).now) }
     ensures none { HasCleanDisk (state S.Store tx.new.conn.now) → result ≡ Err StoreFault.NotARegister → SaysNoOffice (state S.Store tx.old.conn.now).now }
     ensures shown { HasCleanDisk (state S.Store tx.new.conn.now) → (records : Records) → InRange records → (IsTrue (state S.Store tx.old.conn.now).is_open → IsShownBy (state S.Store tx.old.conn.now).now records) → IfErr result IsCallFault }
-    ensures kept { HasCleanDisk (state S.Store tx.new.conn.now) → KeepsCommit (state S.Store tx.old.conn.now) (state S.Store tx.new.conn.now) }
-    ensures survives { LeavesNothing (state S.Store tx.old.conn.now) (state S.Store tx.new.conn.now) }
+    ensures stepped { Stepped S.Store tx.old tx.new }
     ensures faults { IfErr result (λ fault. IsCallFault fault ⊎ (fault ≡ StoreFault.NotARegister)) }
 {
     let office = peek(tx, texts::OFFICE)?;
@@ -67,14 +65,12 @@ fn test_office<S: Alter>(tx: &mut Transaction<'_, S>) -> Result<(), StoreFault>
 
 /// The days and the last accepted moment of an older office.
 fn test_older<S: Alter>(tx: &mut Transaction<'_, S>) -> Result<(u64, Moment), StoreFault>
-    ensures same_reference { tx.new.conn.ghost_name ≡ tx.old.conn.ghost_name }
     ensures ok { HasCleanDisk (state S.Store tx.new.conn.now) → IfOk result (λ found. ReadsOlder (state S.Store tx.old.conn.now).now found.0 found.1) }
     ensures none { HasCleanDisk (state S.Store tx.new.conn.now) → result ≡ Err StoreFault.NotARegister → SaysNoOlder (state S.Store tx.old.conn.now).now }
     ensures told { HasCleanDisk (state S.Store tx.new.conn.now) → (version : Earlier) → (records : Records) → (IsTrue (state S.Store tx.old.conn.now).is_open → IsShownByOlder version (state S.Store tx.old.conn.now).now records)
         → IfOk result (λ found. (records.policy.schedule ≡ one_step found.0) × (records.last ≡ found.1)) }
     ensures shown { HasCleanDisk (state S.Store tx.new.conn.now) → (version : Earlier) → (records : Records) → InRange records → (IsTrue (state S.Store tx.old.conn.now).is_open → IsShownByOlder version (state S.Store tx.old.conn.now).now records) → IfErr result IsCallFault }
-    ensures kept { HasCleanDisk (state S.Store tx.new.conn.now) → KeepsCommit (state S.Store tx.old.conn.now) (state S.Store tx.new.conn.now) }
-    ensures survives { LeavesNothing (state S.Store tx.old.conn.now) (state S.Store tx.new.conn.now) }
+    ensures stepped { Stepped S.Store tx.old tx.new }
     ensures faults { IfErr result (λ fault. IsCallFault fault ⊎ (fault ≡ StoreFault.NotARegister)) }
 {
     let rows = peek(tx, texts::OLDER_OFFICE)?;
@@ -83,16 +79,15 @@ fn test_older<S: Alter>(tx: &mut Transaction<'_, S>) -> Result<(u64, Moment), St
 
 /// Tests the tables, the version first: what an older office says, or none where they are of the program's version.
 fn test_tables<S: Alter>(tx: &mut Transaction<'_, S>) -> Result<Option<Older>, StoreFault>
-    ensures same_reference { tx.new.conn.ghost_name ≡ tx.old.conn.ghost_name }
     ensures ok { HasCleanDisk (state S.Store tx.new.conn.now) → IfOk result (λ found. SaysFound (state S.Store tx.old.conn.now).now found) }
     ensures newer { HasCleanDisk (state S.Store tx.new.conn.now) → result ≡ Err StoreFault.NewVersion → (n : ℕ) × (3 < n) × HasVersion (state S.Store tx.old.conn.now).now n }
     ensures none { HasCleanDisk (state S.Store tx.new.conn.now) → result ≡ Err StoreFault.NotARegister → SaysNoRegister (state S.Store tx.old.conn.now).now }
+    ensures live { HasCleanDisk (state S.Store tx.new.conn.now) → OnOk result (IsTrue (state S.Store tx.old.conn.now).is_open) }
     ensures register { HasCleanDisk (state S.Store tx.new.conn.now) → (records : Records) → (IsTrue (state S.Store tx.old.conn.now).is_open → IsShownBy (state S.Store tx.old.conn.now).now records) → IfOk result (λ found. found ≡ None) }
     ensures older { HasCleanDisk (state S.Store tx.new.conn.now) → (version : Earlier) → (records : Records) → (IsTrue (state S.Store tx.old.conn.now).is_open → IsShownByOlder version (state S.Store tx.old.conn.now).now records) → IfOk result (IsOlderOf version records) }
     ensures shown { HasCleanDisk (state S.Store tx.new.conn.now) → (records : Records) → InRange records → (IsTrue (state S.Store tx.old.conn.now).is_open → IsShownBy (state S.Store tx.old.conn.now).now records) → IfErr result IsCallFault }
     ensures shown_older { HasCleanDisk (state S.Store tx.new.conn.now) → (version : Earlier) → (records : Records) → InRange records → (IsTrue (state S.Store tx.old.conn.now).is_open → IsShownByOlder version (state S.Store tx.old.conn.now).now records) → IfErr result IsCallFault }
-    ensures kept { HasCleanDisk (state S.Store tx.new.conn.now) → KeepsCommit (state S.Store tx.old.conn.now) (state S.Store tx.new.conn.now) }
-    ensures survives { LeavesNothing (state S.Store tx.old.conn.now) (state S.Store tx.new.conn.now) }
+    ensures stepped { Stepped S.Store tx.old tx.new }
     ensures faults { IfErr result (λ fault. fault ≢ StoreFault.NotEmpty) }
 {
     let older = test_version(tx)?;
@@ -124,6 +119,7 @@ pub fn examine<S: Alter>(conn: &mut Connection<S>) -> Result<Option<Older>, Stor
     ensures ok { HasCleanDisk (state S.Store conn.new) → IfOk result (λ found. SaysFound (state S.Store conn.old).now found) }
     ensures newer { HasCleanDisk (state S.Store conn.new) → result ≡ Err StoreFault.NewVersion → (n : ℕ) × (3 < n) × HasVersion (state S.Store conn.old).now n }
     ensures none { HasCleanDisk (state S.Store conn.new) → result ≡ Err StoreFault.NotARegister → SaysNoRegister (state S.Store conn.old).now }
+    ensures live { HasCleanDisk (state S.Store conn.new) → OnOk result (IsTrue (state S.Store conn.old).is_open) }
     ensures register { HasCleanDisk (state S.Store conn.new) → (records : Records) → Shows S.Store conn.old records → IfOk result (λ found. found ≡ None) }
     ensures older { HasCleanDisk (state S.Store conn.new) → (version : Earlier) → (records : Records) → ShowsOlder version S.Store conn.old records → IfOk result (IsOlderOf version records) }
     ensures shown { HasCleanDisk (state S.Store conn.new) → (records : Records) → InRange records → Shows S.Store conn.old records → IfErr result IsCallFault }
@@ -140,23 +136,48 @@ pub fn examine<S: Alter>(conn: &mut Connection<S>) -> Result<Option<Older>, Stor
     tested
 }
 
+/// The version that was found, which is none where it is the program's.
+fn version_in(found: Option<Older>) -> Option<Earlier>
+    ensures { result ≡ found_version found }
+{
+    match found {
+        None => None,
+        Some(older) => Some(older.version),
+    }
+}
+
+/// Tests that the tables are those of the version that was found.
+fn test_schema(tables: Compared, found: Option<Older>) -> Result<(), StoreFault>
+    ensures ok { OnOk result (IsTrue (says tables (found_version found))) }
+    ensures err { IfErr result (λ fault. (fault ≡ StoreFault.NotARegister) × (says tables (found_version found) ≡ false)) }
+{
+    if is_same(tables, version_in(found)) {
+        return Ok(());
+    }
+    Err(StoreFault::NotARegister)
+}
+
 /// Tests whether the tables are a register's, and changes nothing where they are of the program's version. Where they are
 /// of version 1 or 2 they are made ones of the program's version, in one transaction: the records stay, and what is kept
-/// beside them is made anew from them.
+/// beside them is made anew from them. The schema is looked at before the office is read: nothing is written in between.
 ///
 /// # Errors
 /// `NotARegister` where the one row of the office can't be read for another cause than memory or the database, its
-/// version is below 1, or its values or the schedule's are not within their ranges; `NewVersion` above 3; `Memory`;
-/// `Store` where the database fails, or where an older register can't be made newer, as with a row that no register
-/// writes. The tables are as they were then.
+/// version is below 1, its values or the schedule's are not within their ranges, or the tables, their columns, keys and
+/// indexes, or what stands beside them, are others than those of its version; `NewVersion` above 3; `Memory`; `Store`
+/// where the database fails, or where an older register can't be made newer, as with a row that no register writes. The
+/// tables are as they were then.
 pub fn open<S: Alter>(conn: &mut Connection<S>) -> Result<(), StoreFault>
     requires { conn.old.in_transaction ≡ false }
     ensures shows { (records : Records) → Shows S.Store conn.old records → OnOk result (Shows S.Store conn.new records) }
     ensures keeps { (records : Records) → ShowsKept S.Store conn.old records → OnOk result (ShowsKept S.Store conn.new records) }
     ensures migrated { (version : Earlier) → (records : Records) → ShowsOlder version S.Store conn.old records → SoundRows records → OnOk result (ShowsKept S.Store conn.new records) }
+    ensures registers { OnOk result (IsRegister (state S.Store conn.new)) }
+    ensures days { (records : Records) → Shows S.Store conn.old records → OnOk result (KeepsOfficeDays S.Store conn.old conn.new) }
+    ensures older_days { (version : Earlier) → (records : Records) → ShowsOlder version S.Store conn.old records → SoundRows records → OnOk result (HasOfficeDays S.Store conn.new (greatest_of records.policy.schedule)) }
     ensures said { HasCleanDisk (state S.Store conn.new) → OnOk result ((Stays (state S.Store conn.old) (state S.Store conn.new) × HasVersion (state S.Store conn.old).now 3 × SaysOffice (state S.Store conn.old).now) ⊎ IsOlder (state S.Store conn.old).now) }
     ensures newer { HasCleanDisk (state S.Store conn.new) → result ≡ Err StoreFault.NewVersion → (n : ℕ) × (3 < n) × HasVersion (state S.Store conn.old).now n }
-    ensures none { HasCleanDisk (state S.Store conn.new) → result ≡ Err StoreFault.NotARegister → SaysNoRegister (state S.Store conn.old).now }
+    ensures none { HasCleanDisk (state S.Store conn.new) → result ≡ Err StoreFault.NotARegister → IsNoRegister (state S.Store conn.old).now }
     ensures alone { HasCleanDisk (state S.Store conn.new) → result ≡ Err StoreFault.NotARegister → HoldsNoRegister (state S.Store conn.old).now }
     ensures shown { HasCleanDisk (state S.Store conn.new) → (records : Records) → InRange records → Shows S.Store conn.old records → IfErr result IsCallFault }
     ensures shown_older { HasCleanDisk (state S.Store conn.new) → (version : Earlier) → (records : Records) → InRange records → ShowsOlder version S.Store conn.old records → IfErr result IsCallFault }
@@ -165,9 +186,11 @@ pub fn open<S: Alter>(conn: &mut Connection<S>) -> Result<(), StoreFault>
     ensures idle { conn.new.in_transaction ≡ false }
     ensures faults { IfErr result (λ fault. fault ≢ StoreFault.NotEmpty) }
 {
+    let tables = look(conn);
     let found = examine(conn)?;
+    test_schema(tables, found)?;
     match found {
         None => Ok(()),
-        Some(older) => migrate(conn, older.version, older.days, older.last),
+        Some(older) => Ok(migrate(conn, older.version, older.days, older.last)?),
     }
 }

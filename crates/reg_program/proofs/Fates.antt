@@ -2,7 +2,7 @@
 use Rattle.std.proofs.Common.{◌≡◌, ◌≢◌, ◌⊎◌, ℕ, List, [], ◌∷◌, ◌++◌, Option, Result, Ok, Err, refl, sym, subst, ap, inl, inr}
 use Rattle.std.specs.Io.KnownBytes.{Appends}
 use Rattle.std.proofs.KnownBytes.{Appends-trans}
-use Rattle.reg_heads.proofs.Written.{front_of_first, front_of_second}
+use Rattle.reg_wire.proofs.PublicLaws.{front_of_first, front_of_second}
 use Rattle.reg_jobs.specs.Endings.{store_failure}
 use Rattle.reg_jobs.specs.declared.failure.Failure.{Failure}
 use Rattle.reg_tables.specs.Stays.{IsCallFault}

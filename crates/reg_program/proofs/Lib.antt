@@ -4,5 +4,6 @@ pub mod Holding
 pub mod LineByLine
 pub mod Opened
 pub mod Peers
+pub mod Pieces
 pub mod Setting
 pub mod Talking

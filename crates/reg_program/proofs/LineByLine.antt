@@ -7,23 +7,17 @@ use Rattle.std.proofs.KnownBytes.{Appends-nil, Appends-trans, Consumes-nil, Cons
 use Rattle.reg_core.specs.Records.{Records}
 use Rattle.reg_core.specs.declared.refusal.Fault.TheVariants as fault
 use Rattle.reg_crl.specs.Signing.{Identity}
-use Rattle.reg_faces.specs.Kept.{Signs}
-use Rattle.reg_faces.specs.Moves.{Moves}
-use Rattle.reg_heads.proofs.Written.{front_of_second}
+use Rattle.reg_office.specs.Calls.{Signs}
+use Rattle.reg_office.specs.Leads.{Leads}
 use Rattle.reg_jobs.specs.declared.failure.Failure.{Failure}
 use Rattle.reg_jobs.specs.declared.failure.Failure.TheVariants as failure
-use Rattle.reg_lines.proofs.ScriptLemmas.{AreWhole}
-use Rattle.reg_lines.proofs.StepLemmas.{whole_at}
 use Rattle.reg_lines.specs.Script.{HasNoLf, IsWhole}
+use Rattle.reg_program.proofs.Pieces.{AreWhole, concat_push, turned, whole_at}
 use Rattle.reg_program.proofs.Talking.{all_push}
 use Rattle.reg_program.specs.Asking.{IsAccepted, IsOfTalk}
 use Rattle.reg_program.specs.Exchanges.{Entry, LineRuns}
 use Rattle.reg_program.specs.Lined.{AreLines, EndsOrNot, EndsRefused, Fails, IsLine, LineBy, LinesEnd, NextEnds, TellEnds, TellsLast, TellsNot, TellsWhole}
-use Rattle.reg_wire.proofs.Buffers.{turned}
-use Rattle.reg_wire.proofs.Bytes.{concat_push}
-use Rattle.reg_wire.proofs.Marks.{no_byte}
-use Rattle.reg_wire.proofs.Runs.{answered_push}
-use Rattle.reg_wire.proofs.Searches.{cut_at_mark, held_now}
+use Rattle.reg_wire.proofs.PublicLaws.{answered_push, cut_at_mark, front_of_second, held_now, no_byte}
 use Rattle.reg_wire.specs.Fill.{FillsShort, FillsTo}
 use Rattle.reg_wire.specs.Put.{AppendsFront}
 use Rattle.reg_wire.specs.Run.{Answered}
@@ -330,7 +324,7 @@ module _ {S : Type 0} (is_clean : S → Type 0) (stands : Identity → S → Rec
     (lines replies : List (List ℕ)) where
   -- a run of lines, each by this
   abbrev pub Runs : (Identity → Records → List ℕ → List ℕ → Records → Type 0) → Type 0
-  Runs line = Moves is_clean stands (λ identity before after. Answered (line identity) before lines replies after) s t
+  Runs line = Leads is_clean stands (λ identity before after. Answered (line identity) before lines replies after) s t
 
   pub clocked : (is_clocked : Bool) → is_clocked ≡ true → Runs (Entry signs told) → Runs (LineBy is_clocked signs told)
   clocked true is moved = moved

@@ -5,11 +5,12 @@ use Rattle.reg_core.specs.Records.{Records}
 use Rattle.reg_core.specs.declared.refusal.Fault.{Fault}
 use Rattle.reg_core.specs.declared.refusal.Fault.TheVariants as fault
 use Rattle.reg_crl.specs.Signing.{Identity}
-use Rattle.reg_faces.specs.Kept.{Signs, Runs, Asks, Ocsps, Crls, Lines}
-use Rattle.reg_faces.specs.Moves.{Moves}
+use Rattle.reg_faces.specs.Faces.{Lines}
+use Rattle.reg_office.specs.Calls.{Signs, Runs, Asks, Ocsps, Crls}
+use Rattle.reg_office.specs.Leads.{Leads}
 use Rattle.reg_faces.proofs.Exchanges.{read_is_not_write, memory_is_not_write}
 use Rattle.reg_faces.proofs.Steps.{follows, runs, stays}
-use Rattle.reg_http.specs.Served.{Ends}
+use Rattle.reg_http.specs.Served.{ServingEnds}
 use Rattle.reg_hub.specs.Exchange.{Input, request, line, Handles}
 use Rattle.reg_lines.specs.Answer.{Answer}
 use Rattle.reg_lines.specs.Meaning.{Meaning}
@@ -36,13 +37,13 @@ module _ {S : Type 0} (is_clean : S → Type 0) (stands : Identity → S → Rec
   -- how one request ended whose bytes came, over a text that was empty
   abbrev pub Ended : List ℕ → List ℕ → List ℕ → Result (Unit {0}) Fault → Identity → Records → Records → Type 0
   Ended came left written result identity before after =
-      Ends (Runs signs identity) Asks (Ocsps signs identity) Crls now before after (Some came) (Some left) (Some []) (Some written) result
+      ServingEnds (Runs signs identity) Asks (Ocsps signs identity) Crls now before after (Some came) (Some left) (Some []) (Some written) result
 
   -- one that ended with its response
   spoken : (s t : S) (came left written text : List ℕ) (result : Result (Unit {0}) Fault) → (IfErr result (λ why. ¬ (why ≢ fault.Write)))
       → Responded result written text
-      → Moves is_clean stands (Ended came left written result) s t
-      → Moves is_clean stands (λ identity before after. ExchangeAt signs now identity before came text after) s t
+      → Leads is_clean stands (Ended came left written result) s t
+      → Leads is_clean stands (λ identity before after. ExchangeAt signs now identity before came text after) s t
   spoken s t came left written text result wrote responded moved =
       follows is_clean stands
       (Ended came left written result)
@@ -68,8 +69,8 @@ module _ {S : Type 0} (is_clean : S → Type 0) (stands : Identity → S → Rec
   quiet : (s t : S) (came left written text : List ℕ) (why : Fault)
       → ((identity : Identity) (before after other : Records) → Ended came left written (Err why) identity before after → Ended came left written (Err why) identity before other)
       → Responded (Err why) written text
-      → Moves is_clean stands (Ended came left written (Err why)) s t → t ≡ s
-      → Moves is_clean stands (λ identity before after. ExchangeAt signs now identity before came text after) s t
+      → Leads is_clean stands (Ended came left written (Err why)) s t → t ≡ s
+      → Leads is_clean stands (λ identity before after. ExchangeAt signs now identity before came text after) s t
   quiet s t came left written text why any responded moved still = (
     moved.0,
     (λ identity before stood clean.
@@ -91,9 +92,9 @@ module _ {S : Type 0} (is_clean : S → Type 0) (stands : Identity → S → Rec
   -- one exchange
   pub exchange_moves : (s t : S) (came left written text : List ℕ) (result : Result (Unit {0}) Fault)
       → Responded result written text
-      → Moves is_clean stands (Ended came left written result) s t
+      → Leads is_clean stands (Ended came left written result) s t
       → IfErr result (λ why. why ≢ fault.Write → t ≡ s)
-      → Moves is_clean stands (λ identity before after. ExchangeAt signs now identity before came text after) s t
+      → Leads is_clean stands (λ identity before after. ExchangeAt signs now identity before came text after) s t
   exchange_moves s t came left written text (Ok done) responded moved silent = spoken s t came left written text (Ok done) tt responded moved
   exchange_moves s t came left written text (Err fault.Write) responded moved silent =
       spoken s t came left written text (Err fault.Write) (λ not. not refl) responded moved
@@ -108,33 +109,32 @@ module _ {S : Type 0} (is_clean : S → Type 0) (stands : Identity → S → Rec
   exchange_moves s t came left written text (Err (fault.Refused why)) responded moved silent =
       quiet s t came left written text (fault.Refused why) (λ identity before after other ended. ended) responded moved (silent (λ same. cc same))
 
-  -- the same, from a writer and a desk
-  pub exchange_over : {V D : Type 0} (items : V → List ℕ) (office : D → S) (old new : V) (d d' : D) (came left text : List ℕ)
-      (result : Result (Unit {0}) Fault)
+  -- the same, from a writer
+  pub exchange_over : {V : Type 0} (items : V → List ℕ) (old new : V) (s t : S) (came left text : List ℕ) (result : Result (Unit {0}) Fault)
       → items old ≡ []
-      → Moves is_clean stands
-      (λ identity before after. Ends (Runs signs identity) Asks (Ocsps signs identity) Crls now before after
+      → Leads is_clean stands
+      (λ identity before after. ServingEnds (Runs signs identity) Asks (Ocsps signs identity) Crls now before after
       (Some came) (Some left) (Some (items old)) (Some (items new)) result)
-      (office d) (office d')
-      → IfErr result (λ why. why ≢ fault.Write → (new ≡ old) × (d' ≡ d))
+      s t
+      → IfErr result (λ why. why ≢ fault.Write → (new ≡ old) × (t ≡ s))
       → Responded result (items new) text
-      → Moves is_clean stands (λ identity before after. ExchangeAt signs now identity before came text after) (office d) (office d')
-  exchange_over {V} {D} items office old new d d' came left text result empty moved silent responded =
-      let P : List ℕ → Type 0 = λ start. Moves is_clean stands
-      (λ identity before after. Ends (Runs signs identity) Asks (Ocsps signs identity) Crls now before after
+      → Leads is_clean stands (λ identity before after. ExchangeAt signs now identity before came text after) s t
+  exchange_over {V} items old new s t came left text result empty moved silent responded =
+      let P : List ℕ → Type 0 = λ start. Leads is_clean stands
+      (λ identity before after. ServingEnds (Runs signs identity) Asks (Ocsps signs identity) Crls now before after
       (Some came) (Some left) (Some start) (Some (items new)) result)
-      (office d) (office d')
+      s t
       in
-      exchange_moves (office d) (office d') came left (items new) text result responded (subst P empty moved) (go result silent)
+      exchange_moves s t came left (items new) text result responded (subst P empty moved) (go result silent)
     where
-      go : (r : Result (Unit {0}) Fault) → IfErr r (λ why. why ≢ fault.Write → (new ≡ old) × (d' ≡ d))
-          → IfErr r (λ why. why ≢ fault.Write → office d' ≡ office d)
+      go : (r : Result (Unit {0}) Fault) → IfErr r (λ why. why ≢ fault.Write → (new ≡ old) × (t ≡ s))
+          → IfErr r (λ why. why ≢ fault.Write → t ≡ s)
       go (Ok done) silent = tt
-      go (Err why) silent = λ not. ap office (silent not).1
+      go (Err why) silent = λ not. (silent not).1
 
   -- an exchange for whose answer there was no room
   pub roomless_moves : (s t : S) (came text : List ℕ) → t ≡ s → text ≡ []
-      → Moves is_clean stands (λ identity before after. ExchangeAt signs now identity before came text after) s t
+      → Leads is_clean stands (λ identity before after. ExchangeAt signs now identity before came text after) s t
   roomless_moves s t came text same empty =
       follows is_clean stands
       (λ identity before after. after ≡ before)
@@ -158,10 +158,10 @@ module _ {S : Type 0} (is_clean : S → Type 0) (stands : Identity → S → Rec
 
   -- one line, with its reply
   pub entry_moves : (s t : S) (came left start written text : List ℕ) (result : Result (Unit {0}) Fault) → start ≡ []
-      → Moves is_clean stands (Ran came left start written result) s t → Replied result written text
-      → Moves is_clean stands (λ identity before after. EntryAt signs now identity before came text after) s t
+      → Leads is_clean stands (Ran came left start written result) s t → Replied result written text
+      → Leads is_clean stands (λ identity before after. EntryAt signs now identity before came text after) s t
   entry_moves s t came left start written text result empty moved replied =
-      let P : List ℕ → Type 0 = λ from. Moves is_clean stands (Ran came left from written result) s t in
+      let P : List ℕ → Type 0 = λ from. Leads is_clean stands (Ran came left from written result) s t in
       follows is_clean stands
       (Ran came left [] written result)
       (λ identity before after. EntryAt signs now identity before came text after)
@@ -172,7 +172,7 @@ module _ {S : Type 0} (is_clean : S → Type 0) (stands : Identity → S → Rec
 
   -- a line for which there was no memory
   pub unread_moves : (s t : S) (came start written : List ℕ) → t ≡ s → written ≡ start
-      → Moves is_clean stands (Ran came (line_at now came) start written (Err fault.Memory)) s t
+      → Leads is_clean stands (Ran came (line_at now came) start written (Err fault.Memory)) s t
   unread_moves s t came start written same unwritten =
       follows is_clean stands
       (λ identity before after. after ≡ before)
@@ -185,11 +185,11 @@ module _ {S : Type 0} (is_clean : S → Type 0) (stands : Identity → S → Rec
   -- a line that ran, from a reader and a writer that tell their bytes
   pub line_moves : {E W : Type 0} (remaining : E → List ℕ) (contents : W → List ℕ) (s t : S) (came : List ℕ) (reader reader' : E) (writer writer' : W)
       (result : Result (Unit {0}) Fault) → remaining reader ≡ line_at now came
-      → Moves is_clean stands
+      → Leads is_clean stands
       (λ identity before after. ScriptEnds (Lines signs identity) (λ r. Some (remaining r)) (λ w. Some (contents w)) before after
       reader reader' writer writer' result)
       s t
-      → Moves is_clean stands (Ran came (remaining reader') (contents writer) (contents writer') result) s t
+      → Leads is_clean stands (Ran came (remaining reader') (contents writer) (contents writer') result) s t
   line_moves remaining contents s t came reader reader' writer writer' result is moved =
       follows is_clean stands
       (λ identity before after. ScriptEnds (Lines signs identity) (λ r. Some (remaining r)) (λ w. Some (contents w)) before after
@@ -209,12 +209,12 @@ module _ {S : Type 0} (is_clean : S → Type 0) (stands : Identity → S → Rec
 module _ {S : Type 0} (is_clean : S → Type 0) (stands : Identity → S → Records → Type 0) (signs : Signs) where
   pub alone_moves : {E W : Type 0} (remaining : E → List ℕ) (contents : W → List ℕ) (s t : S) (came text : List ℕ) (reader reader' : E) (writer writer' : W)
       (result : Result (Unit {0}) Fault) → remaining reader ≡ came → contents writer ≡ []
-      → Moves is_clean stands
+      → Leads is_clean stands
       (λ identity before after. ScriptEnds (Lines signs identity) (λ r. Some (remaining r)) (λ w. Some (contents w)) before after
       reader reader' writer writer' result)
       s t
       → Replied result (contents writer') text
-      → Moves is_clean stands (λ identity before after. LineRuns signs identity before came text after) s t
+      → Leads is_clean stands (λ identity before after. LineRuns signs identity before came text after) s t
   alone_moves remaining contents s t came text reader reader' writer writer' result is empty moved replied =
       follows is_clean stands
       (λ identity before after. ScriptEnds (Lines signs identity) (λ r. Some (remaining r)) (λ w. Some (contents w)) before after
@@ -239,15 +239,15 @@ module _ {S : Type 0} (is_clean : S → Type 0) (stands : Identity → S → Rec
 -- What a handler answered, one after the other, as a run of its records.
 module _ {S : Type 0} (is_clean : S → Type 0) (stands : Identity → S → Records → Type 0)
     (answers tells : S → List ℕ → List ℕ → S → Type 0) (kept_answers kept_tells : Identity → Records → List ℕ → List ℕ → Records → Type 0)
-    (lifts : (s : S) (came text : List ℕ) (t : S) → answers s came text t → Moves is_clean stands (λ i before after. kept_answers i before came text after) s t)
-    (lifts_lines : (s : S) (came text : List ℕ) (t : S) → tells s came text t → Moves is_clean stands (λ i before after. kept_tells i before came text after) s t) where
+    (lifts : (s : S) (came text : List ℕ) (t : S) → answers s came text t → Leads is_clean stands (λ i before after. kept_answers i before came text after) s t)
+    (lifts_lines : (s : S) (came text : List ℕ) (t : S) → tells s came text t → Leads is_clean stands (λ i before after. kept_tells i before came text after) s t) where
   -- one of them
   one_moves : (s : S) (input : Input) (text : List ℕ) (t : S) → Handles answers tells s input text t
-      → Moves is_clean stands (λ i before after. Handles (kept_answers i) (kept_tells i) before input text after) s t
+      → Leads is_clean stands (λ i before after. Handles (kept_answers i) (kept_tells i) before input text after) s t
   one_moves s (request came) text t step = lifts s came text t step
   one_moves s (line came) text t step = lifts_lines s came text t step
 
   -- all of them
   pub exchanges_move : (s t : S) (inputs : List Input) (texts : List (List ℕ)) → Answered (Handles answers tells) s inputs texts t
-      → Moves is_clean stands (λ i before after. Answered (Handles (kept_answers i) (kept_tells i)) before inputs texts after) s t
+      → Leads is_clean stands (λ i before after. Answered (Handles (kept_answers i) (kept_tells i)) before inputs texts after) s t
   exchanges_move = runs is_clean stands (Handles answers tells) (λ i. Handles (kept_answers i) (kept_tells i)) one_moves

@@ -7,7 +7,7 @@ use Rattle.std.proofs.KnownBytes.{Appends-nil, Appends-trans, Consumes-nil, Cons
 use Rattle.reg_jobs.specs.declared.failure.Failure.{Failure}
 use Rattle.reg_jobs.specs.declared.failure.Failure.TheVariants as failure
 use Rattle.reg_program.specs.Asking.{IsAccepted, IsOfTalk, Talked, Talks, TalksOnce}
-use Rattle.reg_wire.proofs.Bytes.{concat_push}
+use Rattle.reg_program.proofs.Pieces.{concat_push}
 
 -- all replies so far, and one more
 pub all_push : (replies : List (List ℕ)) (reply : List ℕ)

@@ -6,9 +6,10 @@ use Rattle.reg_core.specs.Records.{Records}
 use Rattle.reg_core.specs.declared.refusal.Fault.{Fault}
 use Rattle.reg_core.specs.declared.refusal.Fault.TheVariants as fault
 use Rattle.reg_crl.specs.Signing.{Identity}
-use Rattle.reg_faces.specs.Kept.{Signs, Runs, Asks, Ocsps, Crls, Lines}
+use Rattle.reg_faces.specs.Faces.{Lines}
+use Rattle.reg_office.specs.Calls.{Signs, Runs, Asks, Ocsps, Crls}
 use Rattle.reg_heads.specs.Response.{memory_text}
-use Rattle.reg_http.specs.Served.{Ends}
+use Rattle.reg_http.specs.Served.{ServingEnds}
 use Rattle.reg_lines.specs.Script.{ScriptEnds}
 
 -- the answer to a request: what was written, where that is the whole response; else the constant text of want of memory, or nothing where
@@ -28,7 +29,7 @@ pub record ExchangeAt (signs : Signs) (now : ℕ) (identity : Identity) (before 
   pub left : List ℕ
   pub written : List ℕ
   pub result : Result (Unit {0}) Fault
-  pub ends : Ends (Runs signs identity) Asks (Ocsps signs identity) Crls now before after (Some request) (Some left) (Some []) (Some written) result
+  pub ends : ServingEnds (Runs signs identity) Asks (Ocsps signs identity) Crls now before after (Some request) (Some left) (Some []) (Some written) result
   pub silent : IfErr result (λ why. why ≢ fault.Write → after ≡ before)
   pub responded : Responded result written text
 

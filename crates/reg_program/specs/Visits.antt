@@ -3,7 +3,7 @@ use Rattle.std.specs.Prelude.{◌≡◌, ℕ, List, Result, Ok, Err}
 use Rattle.reg_core.specs.Records.{Records}
 use Rattle.reg_core.specs.declared.refusal.Fault.{Fault}
 use Rattle.reg_crl.specs.Signing.{Identity}
-use Rattle.reg_faces.specs.Moves.{Moves}
+use Rattle.reg_office.specs.Leads.{Leads}
 use Rattle.reg_faces.specs.declared.keeper.Keeper.{Ghosts as Keeper}
 use Rattle.reg_jobs.specs.declared.failure.Failure.{Failure}
 use Rattle.reg_jobs.specs.declared.failure.Failure.TheVariants as failure
@@ -25,7 +25,7 @@ module _ {P K : Type 0} (places : Place P K) (keeper : Keeper K) (place place' :
     pub last : K
     pub between : P
     pub opened : places.opened place path signing first between
-    pub moves : Moves keeper.is_clean keeper.stands step first last
+    pub moves : Leads keeper.is_clean keeper.stands step first last
     pub closed : places.closed between path last place'
 
   -- the register at a path could not be opened, and that is how the job ends

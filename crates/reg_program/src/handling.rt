@@ -2,8 +2,8 @@
 
 ghost use Rattle.std.specs.Prelude.{◌≡◌, ◌⊎◌, ◌++◌, ◌∷◌, [], ℕ, List, Some, IfOk, OnOk, OnErr};
 ghost use Rattle.reg_core.specs.Lines.{fault_line};
-ghost use Rattle.reg_faces.specs.Kept.{Lines};
-ghost use Rattle.reg_faces.specs.Moves.{Moves};
+ghost use Rattle.reg_faces.specs.Faces.{Lines};
+ghost use Rattle.reg_office.specs.Leads.{Leads};
 ghost use Rattle.reg_lines.specs.Script.{ScriptEnds};
 ghost use Rattle.reg_heads.specs.Response.{memory_text};
 ghost use Rattle.reg_program.specs.Exchanges.{Entry, EntryAt, Exchange, ExchangeAt, LineRuns, Replied, Responded, line_at};
@@ -11,7 +11,7 @@ ghost use Rattle.reg_program.specs.Exchanges.{Entry, EntryAt, Exchange, Exchange
 use crate::front::Front;
 use crate::logging::{began, log_answer, log_line, log_lost};
 use reg_core::{Fault, Moment};
-use reg_faces::{Desk, Keeper, run_script, serve_one};
+use reg_faces::{Keeper, run_script, serve_one};
 use reg_heads::write_memory_fault;
 use reg_hub::{Handler, Lost, Stopped};
 use std::alloc::{AllocError, Global};
@@ -24,34 +24,37 @@ const TEXT_ROOM: usize = 4_096;
 /// A desk that answers peers, each at a moment of the clock, and has no counter.
 #[derive(Drop)]
 pub(crate) struct ServedDesk<'a, K: Keeper, F: Front> {
-    pub(crate) desk: Desk<K>,
+    pub(crate) office: K,
+    pub(crate) alloc: Global,
     pub(crate) front: &'a F,
 }
 
 /// A desk that answers peers and lines at counters, each at a moment of the clock.
 #[derive(Drop)]
 pub(crate) struct OpenDesk<'a, K: Keeper, F: Front> {
-    pub(crate) desk: Desk<K>,
+    pub(crate) office: K,
+    pub(crate) alloc: Global,
     pub(crate) front: &'a F,
 }
 
 /// A desk that runs lines as they are, and has no peers.
 #[derive(Drop)]
 pub(crate) struct LinedDesk<K: Keeper> {
-    pub(crate) desk: Desk<K>,
+    pub(crate) office: K,
+    pub(crate) alloc: Global,
 }
 
 impl<'a, K: Keeper, F: Front> Handler for ServedDesk<'a, K, F> {
-    ghost use Rattle.reg_faces.specs.Moves.{Moves};
+    ghost use Rattle.reg_office.specs.Leads.{Leads};
     ghost use Rattle.reg_program.specs.Exchanges.{Exchange, NoEntry};
 
-    ghost answers = { λ s request text t. Moves K.is_clean K.stands
-        (λ identity before after. Exchange K.signs F.told identity before request text after) s.desk.office t.desk.office };
+    ghost answers = { λ s request text t. Leads K.is_clean K.stands
+        (λ identity before after. Exchange K.signs F.told identity before request text after) s.office t.office };
 
     ghost tells = { NoEntry };
 
     fn answer(&mut self, peer: SocketAddr, request: &[u8]) -> Result<Vec<u8>, Stopped> {
-        answer_now(&mut self.desk, self.front, peer, request)
+        answer_now(self.alloc, &mut self.office, self.front, peer, request)
     }
 
     fn tell(&mut self, _line: &[u8]) -> Result<Vec<u8>, Stopped> {
@@ -59,48 +62,48 @@ impl<'a, K: Keeper, F: Front> Handler for ServedDesk<'a, K, F> {
     }
 
     fn lose(&self, peer: Option<SocketAddr>, why: Lost) {
-        log_lost(self.desk.alloc, self.front, peer, why);
+        log_lost(self.alloc, self.front, peer, why);
     }
 }
 
 impl<'a, K: Keeper, F: Front> Handler for OpenDesk<'a, K, F> {
-    ghost use Rattle.reg_faces.specs.Moves.{Moves};
+    ghost use Rattle.reg_office.specs.Leads.{Leads};
     ghost use Rattle.reg_program.specs.Exchanges.{Exchange, Entry};
 
-    ghost answers = { λ s request text t. Moves K.is_clean K.stands
-        (λ identity before after. Exchange K.signs F.told identity before request text after) s.desk.office t.desk.office };
+    ghost answers = { λ s request text t. Leads K.is_clean K.stands
+        (λ identity before after. Exchange K.signs F.told identity before request text after) s.office t.office };
 
-    ghost tells = { λ s line text t. Moves K.is_clean K.stands
-        (λ identity before after. Entry K.signs F.told identity before line text after) s.desk.office t.desk.office };
+    ghost tells = { λ s line text t. Leads K.is_clean K.stands
+        (λ identity before after. Entry K.signs F.told identity before line text after) s.office t.office };
 
     fn answer(&mut self, peer: SocketAddr, request: &[u8]) -> Result<Vec<u8>, Stopped> {
-        answer_now(&mut self.desk, self.front, peer, request)
+        answer_now(self.alloc, &mut self.office, self.front, peer, request)
     }
 
     fn tell(&mut self, line: &[u8]) -> Result<Vec<u8>, Stopped> {
-        tell_now(&mut self.desk, self.front, line)
+        tell_now(self.alloc, &mut self.office, self.front, line)
     }
 
     fn lose(&self, peer: Option<SocketAddr>, why: Lost) {
-        log_lost(self.desk.alloc, self.front, peer, why);
+        log_lost(self.alloc, self.front, peer, why);
     }
 }
 
 impl<K: Keeper> Handler for LinedDesk<K> {
-    ghost use Rattle.reg_faces.specs.Moves.{Moves};
+    ghost use Rattle.reg_office.specs.Leads.{Leads};
     ghost use Rattle.reg_program.specs.Exchanges.{LineRuns, NoEntry};
 
     ghost answers = { NoEntry };
 
-    ghost tells = { λ s line text t. Moves K.is_clean K.stands
-        (λ identity before after. LineRuns K.signs identity before line text after) s.desk.office t.desk.office };
+    ghost tells = { λ s line text t. Leads K.is_clean K.stands
+        (λ identity before after. LineRuns K.signs identity before line text after) s.office t.office };
 
     fn answer(&mut self, _peer: SocketAddr, _request: &[u8]) -> Result<Vec<u8>, Stopped> {
         Err(Stopped)
     }
 
     fn tell(&mut self, line: &[u8]) -> Result<Vec<u8>, Stopped> {
-        Ok(tell_alone(&mut self.desk, line))
+        Ok(tell_alone(self.alloc, &mut self.office, line))
     }
 
     fn lose(&self, _peer: Option<SocketAddr>, _why: Lost) {}
@@ -108,80 +111,84 @@ impl<K: Keeper> Handler for LinedDesk<K> {
 
 /// Answers what came of a peer, at the moment of the clock.
 fn answer_now<K: Keeper, F: Front>(
-    desk: &mut Desk<K>,
+    alloc: Global,
+    office: &mut K,
     front: &F,
     peer: SocketAddr,
     request: &[u8],
 ) -> Result<Vec<u8>, Stopped>
-    ensures ok { IfOk result (λ text. Moves K.is_clean K.stands
+    ensures ok { IfOk result (λ text. Leads K.is_clean K.stands
         (λ identity before after. Exchange K.signs F.told identity before request.now text.items after)
-        desk.old.office desk.new.office) }
-    ensures err { OnErr result (desk.new ≡ desk.old) }
+        office.old office.new) }
+    ensures err { OnErr result (office.new ≡ office.old) }
 {
     match front.moment() {
-        Ok(now) => Ok(answer_logged(desk, front, now, peer, request)),
+        Ok(now) => Ok(answer_logged(alloc, office, front, now, peer, request)),
         Err(_) => Err(Stopped),
     }
 }
 
 /// Answers a line of a counter, at the moment of the clock.
 fn tell_now<K: Keeper, F: Front>(
-    desk: &mut Desk<K>,
+    alloc: Global,
+    office: &mut K,
     front: &F,
     line: &[u8],
 ) -> Result<Vec<u8>, Stopped>
-    ensures ok { IfOk result (λ text. Moves K.is_clean K.stands
+    ensures ok { IfOk result (λ text. Leads K.is_clean K.stands
         (λ identity before after. Entry K.signs F.told identity before line.now text.items after)
-        desk.old.office desk.new.office) }
-    ensures err { OnErr result (desk.new ≡ desk.old) }
+        office.old office.new) }
+    ensures err { OnErr result (office.new ≡ office.old) }
 {
     match front.moment() {
-        Ok(now) => Ok(tell_logged(desk, front, now, line)),
+        Ok(now) => Ok(tell_logged(alloc, office, front, now, line)),
         Err(_) => Err(Stopped),
     }
 }
 
 /// Answers what came of a peer, at a moment, and puts that into the log, where there is one.
 fn answer_logged<K: Keeper, F: Front>(
-    desk: &mut Desk<K>,
+    alloc: Global,
+    office: &mut K,
     front: &F,
     now: Moment,
     peer: SocketAddr,
     request: &[u8],
 ) -> Vec<u8>
-    ensures { Moves K.is_clean K.stands (λ identity before after. ExchangeAt K.signs now identity before request.now result.items after)
-        desk.old.office desk.new.office }
+    ensures { Leads K.is_clean K.stands (λ identity before after. ExchangeAt K.signs now identity before request.now result.items after)
+        office.old office.new }
 {
     let began = began(front);
-    let text = answer_at(desk, now, request);
-    log_answer(desk.alloc, front, began, now, peer, request, &text);
+    let text = answer_at(alloc, office, now, request);
+    log_answer(alloc, front, began, now, peer, request, &text);
     text
 }
 
 /// Answers what came of a peer, at a moment. Room for the text is made before anything is asked.
-fn answer_at<K: Keeper>(desk: &mut Desk<K>, now: Moment, request: &[u8]) -> Vec<u8>
-    ensures { Moves K.is_clean K.stands (λ identity before after. ExchangeAt K.signs now identity before request.now result.items after)
-        desk.old.office desk.new.office }
+fn answer_at<K: Keeper>(alloc: Global, office: &mut K, now: Moment, request: &[u8]) -> Vec<u8>
+    ensures { Leads K.is_clean K.stands (λ identity before after. ExchangeAt K.signs now identity before request.now result.items after)
+        office.old office.new }
 {
-    match Vec::with_capacity(desk.alloc, TEXT_ROOM) {
-        Ok(text) => answer_in(desk, now, request, text),
-        Err(_) => Vec::new(desk.alloc),
+    match Vec::with_capacity(alloc, TEXT_ROOM) {
+        Ok(text) => answer_in(alloc, office, now, request, text),
+        Err(_) => Vec::new(alloc),
     }
 }
 
 /// Answers what came of a peer, at a moment, in a room that is empty.
 fn answer_in<K: Keeper>(
-    desk: &mut Desk<K>,
+    alloc: Global,
+    office: &mut K,
     now: Moment,
     request: &[u8],
     mut text: Vec<u8>,
 ) -> Vec<u8>
     requires { text.items ≡ [] }
-    ensures { Moves K.is_clean K.stands (λ identity before after. ExchangeAt K.signs now identity before request.now result.items after)
-        desk.old.office desk.new.office }
+    ensures { Leads K.is_clean K.stands (λ identity before after. ExchangeAt K.signs now identity before request.now result.items after)
+        office.old office.new }
 {
     let mut reader = request;
-    let served = serve_one(desk.alloc, &mut reader, &mut text, now, desk);
+    let served = serve_one(alloc, &mut reader, &mut text, now, office);
     response_of(served, text)
 }
 
@@ -217,57 +224,59 @@ fn emptied(mut text: Vec<u8>) -> Vec<u8>
 
 /// Answers a line of a counter, at a moment, and puts that into the log, where there is one.
 fn tell_logged<K: Keeper, F: Front>(
-    desk: &mut Desk<K>,
+    alloc: Global,
+    office: &mut K,
     front: &F,
     now: Moment,
     line: &[u8],
 ) -> Vec<u8>
-    ensures { Moves K.is_clean K.stands (λ identity before after. EntryAt K.signs now identity before line.now result.items after)
-        desk.old.office desk.new.office }
+    ensures { Leads K.is_clean K.stands (λ identity before after. EntryAt K.signs now identity before line.now result.items after)
+        office.old office.new }
 {
     let began = began(front);
-    let reply = tell_at(desk, now, line);
-    log_line(desk.alloc, front, began, now, line, &reply);
+    let reply = tell_at(alloc, office, now, line);
+    log_line(alloc, front, began, now, line, &reply);
     reply
 }
 
 /// Answers a line of a counter, at a moment.
-fn tell_at<K: Keeper>(desk: &mut Desk<K>, now: Moment, line: &[u8]) -> Vec<u8>
-    ensures { Moves K.is_clean K.stands (λ identity before after. EntryAt K.signs now identity before line.now result.items after)
-        desk.old.office desk.new.office }
+fn tell_at<K: Keeper>(alloc: Global, office: &mut K, now: Moment, line: &[u8]) -> Vec<u8>
+    ensures { Leads K.is_clean K.stands (λ identity before after. EntryAt K.signs now identity before line.now result.items after)
+        office.old office.new }
 {
-    let mut reply = Vec::new(desk.alloc);
-    let ran = run_line_at(desk, now, line, &mut reply);
+    let mut reply = Vec::new(alloc);
+    let ran = run_line_at(alloc, office, now, line, &mut reply);
     reply_of(ran, reply)
 }
 
 /// Answers a line as it is.
-fn tell_alone<K: Keeper>(desk: &mut Desk<K>, line: &[u8]) -> Vec<u8>
-    ensures { Moves K.is_clean K.stands (λ identity before after. LineRuns K.signs identity before line.now result.items after)
-        desk.old.office desk.new.office }
+fn tell_alone<K: Keeper>(alloc: Global, office: &mut K, line: &[u8]) -> Vec<u8>
+    ensures { Leads K.is_clean K.stands (λ identity before after. LineRuns K.signs identity before line.now result.items after)
+        office.old office.new }
 {
     let mut reader = line;
-    let mut reply = Vec::new(desk.alloc);
-    let ran = run_script(desk.alloc, &mut reader, &mut reply, desk);
+    let mut reply = Vec::new(alloc);
+    let ran = run_script(alloc, &mut reader, &mut reply, office);
     reply_of(ran, reply)
 }
 
 /// Runs a line with its moment before it, as a script.
 fn run_line_at<K: Keeper>(
-    desk: &mut Desk<K>,
+    alloc: Global,
+    office: &mut K,
     now: Moment,
     line: &[u8],
     reply: &mut Vec<u8>,
 ) -> Result<(), Fault>
-    ensures { (left : List ℕ) × Moves K.is_clean K.stands
+    ensures { (left : List ℕ) × Leads K.is_clean K.stands
         (λ identity before after. ScriptEnds (Lines K.signs identity) (λ bytes. Some bytes) (λ bytes. Some bytes) before after
         (line_at now line.now) left reply.old.items reply.new.items result)
-        desk.old.office desk.new.office }
+        office.old office.new }
 {
-    match timed_line(desk.alloc, now, line) {
+    match timed_line(alloc, now, line) {
         Ok(script) => {
             let mut reader = script.as_slice();
-            run_script(desk.alloc, &mut reader, reply, desk)
+            run_script(alloc, &mut reader, reply, office)
         }
         Err(_) => Err(Fault::Memory),
     }

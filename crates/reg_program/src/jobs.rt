@@ -1,29 +1,31 @@
 //! The jobs but `serve`.
 
-ghost use Rattle.std.specs.Prelude.{◌≡◌, Result, Some, None, IfOk, IfErr};
+ghost use Rattle.std.specs.Prelude.{◌≡◌, Result, IfErr};
 ghost use Rattle.sqlite.specs.Steps.{over_memory};
 ghost use Rattle.reg_core.specs.Records.{Records};
-ghost use Rattle.reg_faces.specs.Kept.{Lines};
-ghost use Rattle.reg_http.specs.Office.{bytes_of};
+ghost use Rattle.reg_calls.specs.Items.{items_of};
+ghost use Rattle.reg_faces.specs.Faces.{Lines};
 ghost use Rattle.reg_jobs.specs.Checks.{terms_of};
 ghost use Rattle.reg_lines.specs.Script.{ScriptEnds};
+ghost use Rattle.reg_office.specs.Calls.{Crls};
+ghost use Rattle.reg_office.specs.Leads.{Leads};
 ghost use Rattle.reg_office.specs.Stands.{Stands};
 ghost use Rattle.reg_program.specs.Digest.{digest, digests};
 ghost use Rattle.reg_program.specs.Ends.{AuditAt, CrlAt, ImportAt, InitAt, MakesAt, SaysGiven, ScheduleAt, ScriptAt, ScriptInMemory, TellsBroken, TellsSet, TellsSound, TellsVerdict};
-ghost use Rattle.reg_program.specs.Failing.{IsOpening};
 ghost use Rattle.reg_program.specs.Sample.{sample_records};
 ghost use Rattle.reg_program.specs.Visits.{ending_of};
 ghost use Rattle.reg_tables.specs.Stays.{IsCallFault};
 ghost use Rattle.reg_verdict.specs.Lines.{broken_text, sound_text};
 
-use crate::memory::{MemoryDesk, desk_in_memory};
+use crate::memory::{MemoryOffice, office_in_memory};
 use crate::place::{Place, Register};
 use crate::telling::say;
 use reg_audit::Broken;
 use reg_auditing::Audited;
+use reg_calls::Calls;
 use reg_core::{Fault, Moment, Policy};
 use reg_der::Issuer;
-use reg_faces::{Desk, Keeper, import, run_script};
+use reg_faces::{Keeper, import, run_script};
 use reg_jobs::{Failure, office_of, schedule_of};
 use reg_store::StoreFault;
 use reg_verdict::{OTHER_SCHEMA, Verdict, broken_line, sound_line};
@@ -52,46 +54,6 @@ fn ended(ran: Result<(), Fault>) -> Result<(), Failure>
     }
 }
 
-/// Opens the register at a path, with its faces, where nothing will be signed.
-pub(crate) fn open_desk<P: Place>(
-    alloc: Global,
-    place: &mut P,
-    path: &str,
-) -> Result<Desk<P::Opened>, Failure>
-    ensures ok { IfOk result (λ desk. P.opened place.old path.now None desk.office place.new) }
-    ensures err { IfErr result (λ why. P.unopened place.old path.now None why place.new) }
-    ensures faults { IfErr result IsOpening }
-{
-    match place.open(path) {
-        Ok(office) => Ok(Desk { office, alloc }),
-        Err(why) => Err(why),
-    }
-}
-
-/// Opens the register at a path, with its faces and with who signs.
-pub(crate) fn open_desk_to_sign<P: Place>(
-    alloc: Global,
-    place: &mut P,
-    path: &str,
-    signer: &Option<KeyHolder<'_>>,
-) -> Result<Desk<P::Opened>, Failure>
-    ensures ok { IfOk result (λ desk. P.opened place.old path.now (Some signer.now) desk.office place.new) }
-    ensures err { IfErr result (λ why. P.unopened place.old path.now (Some signer.now) why place.new) }
-    ensures faults { IfErr result IsOpening }
-{
-    match place.open_to_sign(path, signer) {
-        Ok(office) => Ok(Desk { office, alloc }),
-        Err(why) => Err(why),
-    }
-}
-
-/// Closes the register at a path.
-pub(crate) fn close_desk<P: Place>(place: &mut P, path: &str, desk: Desk<P::Opened>)
-    ensures { P.closed place.old path.now desk.office place.new }
-{
-    place.close(path, desk.office);
-}
-
 /// Makes a register at a path. The issuer and then the policy are looked at before the path is. Where that fails, a path
 /// at which nothing lay has nothing there afterwards, but for a register that somebody else made there meanwhile.
 pub(crate) fn init<P: Place, W: Write>(
@@ -101,7 +63,7 @@ pub(crate) fn init<P: Place, W: Write>(
     new: &NewOffice<'_>,
     writer: &mut W,
 ) -> Result<(), Failure>
-    ensures { InitAt W.contents writer.old writer.new P.Place P.Opened.Keeper place.old place.new path.now
+    ensures { InitAt W.contents writer.old writer.new P.Place P.Opened.Keeper.own place.old place.new path.now
         new.now.name.now new.now.key.now (terms_of new.now.days new.now.crl_life new.now.ocsp_life new.now.cap) result }
 {
     let (issuer, policy) = office_of(
@@ -138,7 +100,7 @@ fn make_at<P: Place, W: Write>(
     policy: Policy,
     writer: &mut W,
 ) -> Result<(), Failure>
-    ensures { MakesAt W.contents writer.old writer.new P.Place P.Opened.Keeper place.old place.new path.now issuer policy
+    ensures { MakesAt W.contents writer.old writer.new P.Place P.Opened.Keeper.own place.old place.new path.now issuer policy
         result }
 {
     let register = place.make(path, issuer, policy)?;
@@ -154,7 +116,7 @@ pub(crate) fn script_in_memory<R: Read, W: Write>(
 ) -> Result<(), Failure>
     ensures { ScriptInMemory R.remaining W.contents reader.old reader.new writer.old writer.new result }
 {
-    let mut fresh = desk_in_memory(alloc)?;
+    let mut fresh = office_in_memory(alloc)?;
     let ran = run_in_memory(alloc, reader, writer, &mut fresh);
     ended(ran)
 }
@@ -164,13 +126,13 @@ fn run_in_memory<R: Read, W: Write>(
     alloc: Global,
     reader: &mut R,
     writer: &mut W,
-    desk: &mut MemoryDesk,
+    office: &mut MemoryOffice,
 ) -> Result<(), Fault>
-    requires { Stands over_memory digests desk.old.office.store digest sample_records }
+    requires { Stands over_memory digests office.old.store digest sample_records }
     ensures { (after : Records) × ScriptEnds (Lines digests digest) R.remaining W.contents sample_records after
         reader.old reader.new writer.old writer.new result }
 {
-    run_script(alloc, reader, writer, desk)
+    run_script(alloc, reader, writer, office)
 }
 
 /// Runs the script of standard input over the register at a path.
@@ -183,11 +145,11 @@ pub(crate) fn script<P: Place, R: Read, W: Write>(
     writer: &mut W,
 ) -> Result<(), Failure>
     ensures { ScriptAt R.remaining W.contents reader.old reader.new writer.old writer.new
-        P.Place P.Opened.Keeper place.old place.new path.now signer.now result }
+        P.Place P.Opened.Keeper.own place.old place.new path.now signer.now result }
 {
-    let mut opened = open_desk_to_sign(alloc, place, path, signer)?;
+    let mut opened = place.open_to_sign(path, signer)?;
     let ran = run_script(alloc, reader, writer, &mut opened);
-    close_desk(place, path, opened);
+    place.close(path, opened);
     ended(ran)
 }
 
@@ -201,11 +163,11 @@ pub(crate) fn import_rows<P: Place, R: Read, W: Write>(
     writer: &mut W,
 ) -> Result<(), Failure>
     ensures { ImportAt R.remaining W.contents reader.old reader.new writer.old writer.new
-        P.Place P.Opened.Keeper place.old place.new path.now now result }
+        P.Place P.Opened.Keeper.own place.old place.new path.now now result }
 {
-    let mut desk = open_desk(alloc, place, path)?;
-    let imported = import(alloc, reader, writer, now, &mut desk);
-    close_desk(place, path, desk);
+    let mut office = place.open(path)?;
+    let imported = import(alloc, reader, writer, now, &mut office);
+    place.close(path, office);
     ended(imported)
 }
 
@@ -217,17 +179,28 @@ pub(crate) fn crl<P: Place, W: Write>(
     number: Option<u64>,
     writer: &mut W,
 ) -> Result<(), Failure>
-    ensures { CrlAt W.contents writer.old writer.new P.Place P.Opened.Keeper place.old place.new path.now number result }
+    ensures { CrlAt W.contents writer.old writer.new P.Place P.Opened.Keeper.own place.old place.new path.now number result }
 {
     let mut register = place.open(path)?;
-    let given = register.crl_bytes(alloc, number);
+    let given = given_crl(alloc, &mut register, number);
     place.close(path, register);
     say_given(writer, given)
 }
 
+/// The bytes of a CRL of a register.
+fn given_crl<K: Keeper>(
+    alloc: Global,
+    register: &mut K,
+    number: Option<u64>,
+) -> Result<Vec<u8>, Fault>
+    ensures { Leads K.is_clean K.stands (λ identity before after. Crls before number (items_of result) after) register.old register.new }
+{
+    register.crl_bytes(alloc, number)
+}
+
 /// Says the bytes that are given.
 fn say_given<W: Write>(writer: &mut W, given: Result<Vec<u8>, Fault>) -> Result<(), Failure>
-    ensures { SaysGiven W.contents writer.old writer.new (bytes_of given) result }
+    ensures { SaysGiven W.contents writer.old writer.new (items_of given) result }
 {
     match given {
         Ok(bytes) => say(writer, &bytes),
@@ -243,7 +216,7 @@ pub(crate) fn schedule<P: Place, W: Write>(
     steps: &Steps,
     writer: &mut W,
 ) -> Result<(), Failure>
-    ensures { ScheduleAt W.contents writer.old writer.new P.Place P.Opened.Keeper place.old place.new path.now steps.now result }
+    ensures { ScheduleAt W.contents writer.old writer.new P.Place P.Opened.Keeper.own place.old place.new path.now steps.now result }
 {
     let schedule = schedule_of(steps)?;
     let mut register = place.open(path)?;
@@ -270,7 +243,7 @@ pub(crate) fn audit<P: Place, W: Write>(
     path: &str,
     writer: &mut W,
 ) -> Result<(), Failure>
-    ensures { AuditAt W.contents writer.old writer.new P.Place P.Opened.Keeper place.old place.new path.now result }
+    ensures { AuditAt W.contents writer.old writer.new P.Place P.Opened.Keeper.own place.old place.new path.now result }
 {
     let verdict = place.audit(path)?;
     tell_verdict(alloc, writer, verdict)

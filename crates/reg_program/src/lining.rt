@@ -1,7 +1,7 @@
 //! The job `script` line by line: each line at the moment of the clock, or all of them up to the first refusal.
 
 ghost use Rattle.std.specs.Prelude.{◌≡◌, ℕ, ◌≤◌, ◌<◌, List, length, take};
-ghost use Rattle.reg_faces.specs.Moves.{Moves};
+ghost use Rattle.reg_office.specs.Leads.{Leads};
 ghost use Rattle.reg_program.specs.Ends.{LinesAt};
 ghost use Rattle.reg_program.specs.Exchanges.{Entry, LineRuns};
 ghost use Rattle.reg_program.specs.Lined.{EndsOrNot, LinesEnd, NextEnds, Passed, TellEnds};
@@ -10,7 +10,6 @@ ghost use Rattle.reg_wire.specs.Run.{Answered};
 use crate::asking::is_accepted;
 use crate::front::Front;
 use crate::handling::{LinedDesk, OpenDesk};
-use crate::jobs::{close_desk, open_desk_to_sign};
 use crate::place::Place;
 use crate::telling::say;
 use reg_core::Fault;
@@ -41,18 +40,22 @@ pub(crate) fn script_by_lines<P: Place, F: Front, R: Read, W: Write>(
     writer: &mut W,
 ) -> Result<(), Failure>
     ensures { LinesAt R.remaining W.contents reader.old reader.new writer.old writer.new
-        P.Place P.Opened.Keeper place.old place.new F.Front path.now signer.now way result }
+        P.Place P.Opened.Keeper.own place.old place.new F.Front path.now signer.now way result }
 {
-    let desk = open_desk_to_sign(alloc, place, path, signer)?;
+    let office = place.open_to_sign(path, signer)?;
     if way.is_clocked {
-        let mut opened = OpenDesk { desk, front };
+        let mut opened = OpenDesk {
+            office,
+            alloc,
+            front,
+        };
         let ran = run_clocked(alloc, &mut opened, way.is_strict, reader, writer);
-        close_desk(place, path, opened.desk);
+        place.close(path, opened.office);
         return ran;
     }
-    let mut lined = LinedDesk { desk };
+    let mut lined = LinedDesk { office, alloc };
     let ran = run_unclocked(alloc, &mut lined, way.is_strict, reader, writer);
-    close_desk(place, path, lined.desk);
+    place.close(path, lined.office);
     ran
 }
 
@@ -65,8 +68,8 @@ fn run_clocked<K: Keeper, F: Front, R: Read, W: Write>(
     writer: &mut W,
 ) -> Result<(), Failure>
     ensures { (lines replies : List (List ℕ))
-        × Moves K.is_clean K.stands (λ identity before after. Answered (Entry K.signs F.told identity) before lines replies after)
-        opened.old.desk.office opened.new.desk.office
+        × Leads K.is_clean K.stands (λ identity before after. Answered (Entry K.signs F.told identity) before lines replies after)
+        opened.old.office opened.new.office
         × LinesEnd is_strict lines replies (R.remaining reader.old) (R.remaining reader.new)
         (W.contents writer.old) (W.contents writer.new) result }
 {
@@ -82,8 +85,8 @@ fn run_unclocked<K: Keeper, R: Read, W: Write>(
     writer: &mut W,
 ) -> Result<(), Failure>
     ensures { (lines replies : List (List ℕ))
-        × Moves K.is_clean K.stands (λ identity before after. Answered (LineRuns K.signs identity) before lines replies after)
-        lined.old.desk.office lined.new.desk.office
+        × Leads K.is_clean K.stands (λ identity before after. Answered (LineRuns K.signs identity) before lines replies after)
+        lined.old.office lined.new.office
         × LinesEnd is_strict lines replies (R.remaining reader.old) (R.remaining reader.new)
         (W.contents writer.old) (W.contents writer.new) result }
 {

@@ -1,14 +1,13 @@
 //! The job `open`: a register that is kept open, for peers and for lines at a counter.
 
 ghost use Rattle.std.specs.Prelude.{◌≡◌, ◌⊎◌, ℕ, List, OnOk, IfErr};
-ghost use Rattle.reg_faces.specs.Moves.{Moves};
+ghost use Rattle.reg_office.specs.Leads.{Leads};
 ghost use Rattle.reg_hub.specs.Exchange.{Input};
 ghost use Rattle.reg_program.specs.Ends.{OpenAt};
 ghost use Rattle.reg_program.specs.Serving.{OpenedAt, Opens, loopback};
 
 use crate::front::Front;
 use crate::handling::OpenDesk;
-use crate::jobs::{close_desk, open_desk_to_sign};
 use crate::place::Place;
 use crate::serving::{LOOPBACK, hub_over, serve_hub};
 use reg_core::Fault;
@@ -30,12 +29,17 @@ pub(crate) fn hold_open<P: Place, F: Front, W: Write>(
     counter: &str,
     writer: &mut W,
 ) -> Result<(), Failure>
-    ensures { OpenAt W.contents writer.old writer.new P.Place P.Opened.Keeper place.old place.new F.Front path.now signer.now port counter.now result }
+    ensures { OpenAt W.contents writer.old writer.new P.Place P.Opened.Keeper.own place.old place.new F.Front path.now signer.now port counter.now result }
 {
-    let desk = open_desk_to_sign(rt.alloc(), place, path, signer)?;
-    let mut opened = OpenDesk { desk, front };
+    let office = place.open_to_sign(path, signer)?;
+    let alloc = rt.alloc();
+    let mut opened = OpenDesk {
+        office,
+        alloc,
+        front,
+    };
     let ending = keep_open(rt, &mut opened, port, counter, writer);
-    close_desk(place, path, opened.desk);
+    place.close(path, opened.office);
     ending
 }
 
@@ -48,7 +52,7 @@ fn keep_open<K: Keeper, F: Front, W: Write>(
     writer: &mut W,
 ) -> Result<(), Failure>
     ensures { (inputs : List Input) × (texts : List (List ℕ))
-        × Moves K.is_clean K.stands (Opens K.signs F.told inputs texts) opened.old.desk.office opened.new.desk.office
+        × Leads K.is_clean K.stands (Opens K.signs F.told inputs texts) opened.old.office opened.new.office
         × OpenedAt W.contents writer.old writer.new F.bound F.laid port counter.now inputs result }
 {
     let mut hub = match hub_with_counter(rt, opened.front, port, counter) {

@@ -36,7 +36,13 @@ pub fn perform<'a, R: Read, W: Write, E: Write>(
 ) -> u8
     ensures { (ending : Result (Unit {0}) Failing)
         × Ends R.remaining W.contents reader.old reader.new writer.old writer.new
-        ⟦<Machine<'a> as Place>⟧ ⟦<FileOffice as Keeper>⟧ machine.old machine.new ⟦<Machine<'a> as Front>⟧ job.now ending
+        ⟦<Machine<'a> as Place>⟧ (record {
+          is_clean = ⟦<FileOffice as Keeper>⟧.is_clean;
+          stands = ⟦<FileOffice as Keeper>⟧.stands;
+          signs = ⟦<FileOffice as Keeper>⟧.signs;
+          failures = ⟦<FileOffice as Keeper>⟧.failures;
+        })
+        machine.old machine.new ⟦<Machine<'a> as Front>⟧ job.now ending
         × (result ≡ status ending) × Explains is_explained ending (E.contents errors.old) (E.contents errors.new) }
 {
     let front = *machine;
@@ -59,7 +65,7 @@ pub fn perform_at<P: Place, F: Front, R: Read, W: Write, E: Write>(
 ) -> u8
     ensures { (ending : Result (Unit {0}) Failing)
         × Ends R.remaining W.contents reader.old reader.new writer.old writer.new
-        P.Place P.Opened.Keeper place.old place.new F.Front job.now ending
+        P.Place P.Opened.Keeper.own place.old place.new F.Front job.now ending
         × (result ≡ status ending) × Tells ending (E.contents errors.old) (E.contents errors.new) }
 {
     let ending = run(rt, front, place, job, reader, writer);
@@ -80,7 +86,7 @@ fn run<P: Place, F: Front, R: Read, W: Write>(
     writer: &mut W,
 ) -> Result<(), Failure>
     ensures { Ends R.remaining W.contents reader.old reader.new writer.old writer.new
-        P.Place P.Opened.Keeper place.old place.new F.Front job.now result }
+        P.Place P.Opened.Keeper.own place.old place.new F.Front job.now result }
 {
     let alloc = rt.alloc();
     match job {

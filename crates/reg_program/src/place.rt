@@ -12,7 +12,7 @@ use std::alloc::Global;
 /// A register that was opened: it keeps records, and its schedule can be set.
 pub trait Register: Keeper {
     ghost use Rattle.std.specs.Prelude.{IfErr};
-    ghost use Rattle.reg_faces.specs.Moves.{Moves};
+    ghost use Rattle.reg_office.specs.Leads.{Leads};
     ghost use Rattle.reg_program.specs.Schedules.{Reschedules};
     ghost use Rattle.reg_tables.specs.Stays.{IsCallFault};
 
@@ -22,7 +22,7 @@ pub trait Register: Keeper {
     ///
     /// `Memory`, `Store`. Nothing has changed then.
     fn set_schedule(&mut self, alloc: Global, schedule: Schedule) -> Result<(), StoreFault>
-        ensures moves { Moves Self.Keeper.is_clean Self.Keeper.stands (λ identity. Reschedules schedule result) self.old self.new }
+        ensures moves { Leads Self.is_clean Self.stands (λ identity. Reschedules schedule result) self.old self.new }
         ensures faults { IfErr result IsCallFault };
 }
 

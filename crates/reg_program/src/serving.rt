@@ -1,7 +1,7 @@
 //! The job `serve`: HTTP on the loopback interface, many peers at once.
 
 ghost use Rattle.std.specs.Prelude.{◌≡◌, ◌≢◌, ◌⊎◌, ◌++◌, ◌∷◌, [], ℕ, List, decimal, OnOk, IfErr, MatchResult};
-ghost use Rattle.reg_faces.specs.Moves.{Moves};
+ghost use Rattle.reg_office.specs.Leads.{Leads};
 ghost use Rattle.reg_hub.specs.Exchange.{Input, Handles, asked_in};
 ghost use Rattle.reg_program.specs.Ends.{Says, ServeAt};
 ghost use Rattle.reg_program.specs.Serving.{Served, ServedAt, Serves, listening, loopback};
@@ -9,7 +9,6 @@ ghost use Rattle.reg_wire.specs.Run.{Answered};
 
 use crate::front::Front;
 use crate::handling::ServedDesk;
-use crate::jobs::{close_desk, open_desk_to_sign};
 use crate::place::Place;
 use crate::telling::say;
 use mio::net::{TcpListener, UnixListener};
@@ -34,12 +33,17 @@ pub(crate) fn serve<P: Place, F: Front, W: Write>(
     requests: u32,
     writer: &mut W,
 ) -> Result<(), Failure>
-    ensures { ServeAt W.contents writer.old writer.new P.Place P.Opened.Keeper place.old place.new F.Front path.now signer.now port requests result }
+    ensures { ServeAt W.contents writer.old writer.new P.Place P.Opened.Keeper.own place.old place.new F.Front path.now signer.now port requests result }
 {
-    let desk = open_desk_to_sign(rt.alloc(), place, path, signer)?;
-    let mut served = ServedDesk { desk, front };
+    let office = place.open_to_sign(path, signer)?;
+    let alloc = rt.alloc();
+    let mut served = ServedDesk {
+        office,
+        alloc,
+        front,
+    };
     let ending = serve_desk(rt, &mut served, port, requests, writer);
-    close_desk(place, path, served.desk);
+    place.close(path, served.office);
     ending
 }
 
@@ -52,7 +56,7 @@ fn serve_desk<K: Keeper, F: Front, W: Write>(
     writer: &mut W,
 ) -> Result<(), Failure>
     ensures { (inputs : List Input) × (texts : List (List ℕ))
-        × Moves K.is_clean K.stands (Serves K.signs F.told inputs texts) served.old.desk.office served.new.desk.office
+        × Leads K.is_clean K.stands (Serves K.signs F.told inputs texts) served.old.office served.new.office
         × ServedAt W.contents writer.old writer.new F.bound port requests inputs result }
 {
     let mut hub = match hub_at(rt, served.front, port) {

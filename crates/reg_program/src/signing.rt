@@ -1,9 +1,8 @@
 //! Who signs for a register in a file.
 
-ghost use Rattle.std.specs.Prelude.{◌≡◌, ◌↔◌, ◌≤◌, ◌⊎◌, List, ℕ, Some, None, option_map, IsTrue, IfOk, IfErr};
+ghost use Rattle.std.specs.Prelude.{◌≡◌, ◌↔◌, ◌⊎◌, List, ℕ, Some, None, option_map, IsTrue, IfOk, IfErr};
 ghost use Rattle.sqlite.specs.Held.{state};
 ghost use Rattle.sqlite.specs.State.{HasCleanDisk};
-ghost use Rattle.sqlite_trees.specs.View.{doubt};
 ghost use Rattle.reg_core.specs.Crls.{latest};
 ghost use Rattle.reg_core.specs.Records.{Records};
 ghost use Rattle.reg_core.specs.Sound.{SoundRows};
@@ -12,7 +11,7 @@ ghost use Rattle.reg_program.specs.Signing.{Follows, IsSigning, identity_told};
 ghost use Rattle.reg_signer.specs.Forms.{identity_of};
 ghost use Rattle.reg_signer.specs.Signed.{IsCrlUnder};
 ghost use Rattle.reg_tables.specs.Shows.{Shows};
-ghost use Rattle.reg_tables.specs.Stays.{IsCallFault, IsRegister, Stays};
+ghost use Rattle.reg_tables.specs.Stays.{IsCallFault, Looked};
 
 use reg_core::Fault;
 use reg_crl::Signer;
@@ -39,8 +38,7 @@ pub(crate) fn signer_over<C: Alter>(
         → ⟦<FileSigner as Signer>⟧.identity signer ≡ identity_told told.now records.issuer.key) }
     ensures follows { IfOk result (λ signer. (records : Records) → Shows C.Store store.old records → SoundRows records
         → HasCleanDisk (state C.Store store.new) → Follows records (⟦<FileSigner as Signer>⟧.identity signer).algorithm) }
-    ensures same { IsRegister (state C.Store store.old) → Stays (state C.Store store.old) (state C.Store store.new) }
-    ensures clean { doubt (state C.Store store.old).is_clean ≤ doubt (state C.Store store.new).is_clean }
+    ensures looked { Looked C.Store store.old store.new }
     ensures faults { IfErr result IsOpening }
 {
     let latest = latest_crl(store)?;
@@ -60,8 +58,7 @@ pub(crate) fn signer_found<C: Alter>(
         → IsSigning None records.issuer.key (⟦<FileSigner as Signer>⟧.identity signer)) }
     ensures follows { IfOk result (λ signer. (records : Records) → Shows C.Store store.old records → SoundRows records
         → HasCleanDisk (state C.Store store.new) → Follows records (⟦<FileSigner as Signer>⟧.identity signer).algorithm) }
-    ensures same { IsRegister (state C.Store store.old) → Stays (state C.Store store.old) (state C.Store store.new) }
-    ensures clean { doubt (state C.Store store.old).is_clean ≤ doubt (state C.Store store.new).is_clean }
+    ensures looked { Looked C.Store store.old store.new }
     ensures faults { IfErr result IsOpening }
 {
     let latest = latest_crl(store)?;
@@ -91,8 +88,7 @@ fn signer_after<C: Alter>(
         → ⟦<FileSigner as Signer>⟧.identity signer ≡ identity_told told.now records.issuer.key) }
     ensures follows { IfOk result (λ signer. (crl : List ℕ) → option_map (λ bytes. bytes.items) latest.now ≡ Some crl
         → (other : List ℕ) → IsCrlUnder crl other → other ≡ (⟦<FileSigner as Signer>⟧.identity signer).algorithm) }
-    ensures same { IsRegister (state C.Store store.old) → Stays (state C.Store store.old) (state C.Store store.new) }
-    ensures clean { doubt (state C.Store store.old).is_clean ≤ doubt (state C.Store store.new).is_clean }
+    ensures looked { Looked C.Store store.old store.new }
     ensures faults { IfErr result IsOpening }
 {
     let issuer = store.issuer()?;
@@ -144,8 +140,7 @@ fn key_signer(
 fn latest_crl<C: Alter>(store: &mut Store<C>) -> Result<Option<Vec<u8>>, StoreFault>
     ensures found { (records : Records) → Shows C.Store store.old records → SoundRows records → HasCleanDisk (state C.Store store.new)
         → IfOk result (λ crl. option_map (λ bytes. bytes.items) crl ≡ option_map (λ crl. crl.bytes) (latest records.crls)) }
-    ensures same { IsRegister (state C.Store store.old) → Stays (state C.Store store.old) (state C.Store store.new) }
-    ensures clean { doubt (state C.Store store.old).is_clean ≤ doubt (state C.Store store.new).is_clean }
+    ensures looked { Looked C.Store store.old store.new }
     ensures faults { IfErr result IsCallFault }
 {
     match store.latest_crl()? {

@@ -5,7 +5,9 @@ use Rattle.sqlite_schema.specs.declared.schema.Table.{Table}
 use Rattle.reg_tables.specs.Schema.{register_schema}
 use Rattle.reg_schema.specs.Forms.{checks_by, column_by, keys_by, orders_by, reference_by, table_by}
 use Rattle.reg_schema.specs.declared.tables.TableForm.{TableForm}
-use Rattle.reg_schema.specs.Whole.{all_indexes, all_tables}
+use Rattle.reg_schema.specs.declared.versions.Version.{Version}
+use Rattle.reg_schema.specs.declared.versions.Version.TheVariants.{First, Second, Third}
+use Rattle.reg_schema.specs.Whole.{all_indexes, all_tables, version_schema}
 
 -- a table whose parts are those of a form
 pub table_is : (table : Table) (form : TableForm)
@@ -29,22 +31,27 @@ table_is table form a b c d = λ i. record {
   is_counted = d.2 i;
 }
 
--- the schema of a register by its lists
-whole : record { tables = all_tables; indexes = all_indexes; views = [] } ≡ register_schema
+-- a schema by its lists
+abbrev by_lists : Version → Schema
+by_lists version = record { tables = all_tables version; indexes = all_indexes version; views = [] }
+
+-- that of a register of each version
+whole : (version : Version) → by_lists version ≡ version_schema version
 unfolding register_schema digits
-whole = refl
+whole First = refl
+whole Second = refl
+whole Third = refl
 
 -- a schema whose parts are those
-pub schema_is : (schema : Schema) → schema.tables ≡ all_tables → schema.indexes ≡ all_indexes → schema.views ≡ [] → schema ≡ register_schema
-schema_is schema tables indexes views =
-    let parts : schema ≡ record { tables = all_tables; indexes = all_indexes; views = [] } =
-    λ i. record { tables = tables i; indexes = indexes i; views = views i } in
-    parts ∙ whole
+pub schema_is : (schema : Schema) (version : Version) → schema.tables ≡ all_tables version → schema.indexes ≡ all_indexes version → schema.views ≡ [] → schema ≡ version_schema version
+schema_is schema version tables indexes views =
+    let parts : schema ≡ by_lists version = λ i. record { tables = tables i; indexes = indexes i; views = views i } in
+    parts ∙ whole version
 
 -- and the parts of that schema
-pub parts_are : (schema : Schema) → schema ≡ register_schema → (schema.tables ≡ all_tables) × (schema.indexes ≡ all_indexes) × (schema.views ≡ [])
-parts_are schema is =
-    let same : schema ≡ record { tables = all_tables; indexes = all_indexes; views = [] } = is ∙ sym whole in
+pub parts_are : (schema : Schema) (version : Version) → schema ≡ version_schema version → (schema.tables ≡ all_tables version) × (schema.indexes ≡ all_indexes version) × (schema.views ≡ [])
+parts_are schema version is =
+    let same : schema ≡ by_lists version = is ∙ sym (whole version) in
     (ap (λ (s : Schema). s.tables) same, ap (λ (s : Schema). s.indexes) same, ap (λ (s : Schema). s.views) same)
 
 -- and the parts of a table that is of a form

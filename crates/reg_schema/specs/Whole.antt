@@ -1,19 +1,26 @@
--- The tables and indexes of a register as lists.
+-- The tables and indexes of a register of each version, as lists and whole.
 use Rattle.std.specs.Prelude.{ℕ, Bool, true, false, List, [], ◌∷◌, codes}
 use Rattle.sqlite_value.specs.Keys.{plain}
 use Rattle.sqlite_schema.specs.declared.schema.Index.{Index}
+use Rattle.sqlite_schema.specs.declared.schema.Schema.{Schema}
 use Rattle.sqlite_schema.specs.declared.schema.Table.{Table}
-use Rattle.reg_tables.specs.Schema.{office, subscriber, orders, cert, request, revocation, crl, standing, kept, listed, longest}
+use Rattle.sqlite_catalog.specs.Change.{created}
+use Rattle.reg_tables.specs.Schema.{office, subscriber, orders, cert, request, revocation, crl, standing, kept, listed, longest, record_tables, register_schema}
+use Rattle.reg_schema.specs.declared.versions.Version.{Version}
+use Rattle.reg_schema.specs.declared.versions.Version.TheVariants.{First, Second, Third}
+
+-- what stands behind the tables of the records: in version 1 nothing, in version 2 what is kept beside them, and then the schedule
+abbrev pub beside_tables : Version → List Table
+beside_tables First = []
+beside_tables Second = standing ∷ kept ∷ listed ∷ []
+beside_tables Third = standing ∷ kept ∷ listed ∷ longest ∷ []
 
 -- the tables in the order in which they are made
-abbrev pub beside_tables : List Table
-beside_tables = standing ∷ kept ∷ listed ∷ longest ∷ []
+abbrev pub revocation_tables : Version → List Table
+revocation_tables version = request ∷ revocation ∷ crl ∷ beside_tables version
 
-abbrev pub revocation_tables : List Table
-revocation_tables = request ∷ revocation ∷ crl ∷ beside_tables
-
-abbrev pub all_tables : List Table
-all_tables = office ∷ subscriber ∷ orders ∷ cert ∷ revocation_tables
+abbrev pub all_tables : Version → List Table
+all_tables version = office ∷ subscriber ∷ orders ∷ cert ∷ revocation_tables version
 
 -- an index of a tree, on a table, over the columns at these places
 abbrev pub index_on : List ℕ → ℕ → ℕ → List ℕ → Bool → Index
@@ -47,12 +54,24 @@ crl_at_index = index_on (codes "crl_at") 18 11 (0 ∷ 2 ∷ []) false
 abbrev pub standing_due_index : Index
 standing_due_index = index_on (codes "standing_due") 19 12 (3 ∷ 2 ∷ []) false
 
--- the indexes in the order in which they are made
-abbrev pub last_indexes : List Index
-last_indexes = key_of_listed_1_index ∷ crl_at_index ∷ standing_due_index ∷ []
+-- the indexes in the order in which they are made: neither version before the third has one of its own
+abbrev pub beside_indexes : Version → List Index
+beside_indexes First = []
+beside_indexes Second = key_of_standing_1_index ∷ key_of_listed_1_index ∷ []
+beside_indexes Third = key_of_standing_1_index ∷ key_of_listed_1_index ∷ crl_at_index ∷ standing_due_index ∷ []
 
-abbrev pub next_indexes : List Index
-next_indexes = key_of_revocation_1_index ∷ key_of_revocation_2_index ∷ key_of_standing_1_index ∷ last_indexes
+abbrev pub revocation_indexes : Version → List Index
+revocation_indexes version = key_of_revocation_1_index ∷ key_of_revocation_2_index ∷ beside_indexes version
 
-abbrev pub all_indexes : List Index
-all_indexes = key_of_subscriber_1_index ∷ key_of_cert_1_index ∷ key_of_cert_2_index ∷ next_indexes
+abbrev pub all_indexes : Version → List Index
+all_indexes version = key_of_subscriber_1_index ∷ key_of_cert_1_index ∷ key_of_cert_2_index ∷ revocation_indexes version
+
+-- the tables of the records, and then those that are kept beside them
+abbrev pub kept_tables : Schema
+kept_tables = created (created (created record_tables standing) kept) listed
+
+-- the schema of a register of a version
+abbrev pub version_schema : Version → Schema
+version_schema First = record_tables
+version_schema Second = kept_tables
+version_schema Third = register_schema

@@ -1,4 +1,4 @@
-//! Whether a schema is that of a register.
+//! Whether a schema is that of a register, of the program's version or of an older one.
 #![tactic(auto)]
 
 mod beside;
@@ -11,5 +11,7 @@ mod recorded;
 mod references;
 mod schemas;
 mod tables;
+mod versions;
 
-pub use schemas::is_register;
+pub use schemas::{is_of, is_register};
+pub use versions::Version;

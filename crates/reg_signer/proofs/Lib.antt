@@ -1,4 +1,5 @@
 pub mod Carried
+pub mod Coming
 mod Identifiers
 mod Pairs
 mod Sizes

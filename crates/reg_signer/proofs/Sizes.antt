@@ -3,7 +3,7 @@ use Rattle.std.proofs.Common.{◌≡◌, ℕ, suc, ◌-◌, ◌*◌, ◌^◌, �
 use Rattle.std.proofs.Math.Nat.{pow-succ', pow-le-pow_right, one-le-pow, mul-le-mul_right}
 use Rattle.std.proofs.lemmas.Bool.{cases_lt}
 use Rattle.reg_core.specs.Integer.{IsBytes, IsInteger, IsShortest, value}
-use Rattle.reg_der.proofs.PublicLaws.{octets_are_below, octets_are_places}
+use Rattle.reg_core.proofs.PublicLaws.{octets_are_below, octets_are_places}
 use Rattle.reg_signer.specs.Forms.{HasOctets}
 
 -- octets whose first is above 0 are as many as their number has

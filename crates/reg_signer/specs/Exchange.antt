@@ -5,7 +5,7 @@ use Rattle.std.specs.Io.KnownBytes.{Appends, Consumes, IsAtEnd}
 
 module _ {C : Type 0} (remaining contents : C → Option (List ℕ)) (finished : C → C → Type 0) where
   -- All of the message went out, then the peer was told that no more comes, and then the answer came in, until the end.
-  pub record Answers (link : C) (message answer : List ℕ) : Type 0 where
+  pub record GivesBack (link : C) (message answer : List ℕ) : Type 0 where
     pub sent : C
     pub told : C
     pub left : C

@@ -2,7 +2,7 @@
 
 ghost use Rattle.std.specs.Prelude.{◌≡◌, ◌<◌, ◌≤◌, IfOk, OnOk, length, take};
 ghost use Rattle.std.specs.Io.KnownBytes.{Appends, Consumes, IsAtEnd};
-ghost use Rattle.reg_signer.specs.Exchange.{Answers};
+ghost use Rattle.reg_signer.specs.Exchange.{GivesBack};
 
 use crate::device::{Device, DeviceFault};
 use reg_wire::write_whole;
@@ -71,13 +71,13 @@ impl<C: Connector> SocketDevice<C> {
 
 impl<C: Connector> Device for SocketDevice<C> {
     ghost use Rattle.std.specs.Prelude.{ℕ, List, ◌⊎◌, string_bytes};
-    ghost use Rattle.reg_signer.specs.Exchange.{Answers};
+    ghost use Rattle.reg_signer.specs.Exchange.{GivesBack};
 
     ghost public_key = { λ it. it.key.items };
 
     // Some connection to what listens at some path took the message whole, and gave the answer until its end.
     ghost answers = { λ key message answer. (path : List ℕ) × (link : C.Link) × C.connected path link
-        × Answers C.Link.Read.remaining C.Link.Write.contents C.Link.Connection.finished link message answer };
+        × GivesBack C.Link.Read.remaining C.Link.Write.contents C.Link.Connection.finished link message answer };
 
     // No connection could be made, or one was made and gave no answer.
     ghost fails = { λ it message after. C.unconnected (string_bytes it.path) ⊎ ((link : C.Link) × C.connected (string_bytes it.path) link) };
@@ -101,7 +101,7 @@ fn converse<L: Connection>(
 ) -> Result<usize, DeviceFault>
     ensures short { IfOk result (λ count. count < length room.new) }
     ensures answered { IfOk result (λ count.
-        Answers L.Read.remaining L.Write.contents L.Connection.finished link.old message.now (take count room.new)) }
+        GivesBack L.Read.remaining L.Write.contents L.Connection.finished link.old message.now (take count room.new)) }
 {
     send(link, message)?;
     receive(link, room)

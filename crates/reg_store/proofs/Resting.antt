@@ -61,7 +61,7 @@ never_three First e = absurd (omega arith)
 never_three Second e = absurd (omega arith)
 
 never_older : (db : Database) (records : Records) → IsShownBy db records → IsOlder db → ⊥
-never_older db records shown (version, has, says) =
+never_older db records shown (version, schema, has, says) =
     let three = version_read None db has.0 (register_of db records shown) has.1 in
     let row : three.0 ≡ has.2.0 = only_row has.0 three.0 has.2.0 three.1 has.2.1 in
     never_three version (number_one 3 (number_of version) (sym three.2 ∙ ap (λ r. column r 0) row ∙ has.2.2))

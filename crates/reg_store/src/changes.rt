@@ -1,8 +1,8 @@
 //! Changes.
 
-ghost use Rattle.std.specs.Prelude.{◌≡◌, ◌+◌, ◌≤◌, length, None, IsSomeAnd, OnOk, OnErr, IfErr, IsTrue};
+ghost use Rattle.std.specs.Prelude.{◌≡◌, ◌+◌, ◌≤◌, length, None, IsSomeAnd, OnOk, OnErr, IfErr};
 ghost use Rattle.sqlite.specs.Held.{state};
-ghost use Rattle.sqlite.specs.State.{HasCleanDisk, Survives};
+ghost use Rattle.sqlite.specs.State.{HasCleanDisk};
 ghost use Rattle.reg_core.specs.declared.change.Change.TheVariants.{Touch, Subscriber, Order, Certificate, Request, Decline, Revocation};
 ghost use Rattle.reg_core.specs.Records.{Records, certificate_in, revocation_in};
 ghost use Rattle.reg_core.specs.Crls.{next_number};
@@ -10,10 +10,11 @@ ghost use Rattle.reg_core.specs.Sound.{SoundRows};
 ghost use Rattle.reg_core.specs.Changes.{Fits, changed_by, touched, with_subscriber, with_order, with_certificate, with_request, with_declined, with_revocation, with_crl, with_schedule};
 ghost use Rattle.reg_tables.specs.Columns.{Columns};
 ghost use Rattle.reg_tables.specs.Kept.{ShowsKept};
-ghost use Rattle.reg_tables.specs.Shows.{Shows, ShowsBoth};
-ghost use Rattle.reg_tables.specs.Stays.{IsCallFault, IsRegister, Stays};
+ghost use Rattle.reg_tables.specs.Shows.{KeepsOfficeDays, Shows, ShowsBoth};
+ghost use Rattle.reg_tables.specs.Stays.{Changed, IsCallFault, Stays};
 ghost use Rattle.reg_changes.specs.AtRest.{IsChanged, IsIssued, IsScheduled};
 ghost use Rattle.reg_changes.specs.Beside.{TurnsOne};
+ghost use Rattle.reg_changes.specs.Days.{LeavesOfficeDays};
 ghost use Rattle.reg_changes.specs.Steps.{swept, good_at};
 
 use crate::store::Store;
@@ -34,12 +35,11 @@ impl<S: Alter> Store<S> {
             → OnOk result (ShowsKept S.Store self.new (changed_by records now change.now)) }
         ensures one { HasCleanDisk (state S.Store self.new) → (records : Records) → (columns : Columns) → ShowsBoth S.Store self.old records columns
             → OnOk result (TurnsOne change.now (swept now columns)) }
-        ensures live { HasCleanDisk (state S.Store self.new) → OnOk result (IsTrue (state S.Store self.new).is_open) }
-        ensures err { IsRegister (state S.Store self.old) → OnErr result (Stays (state S.Store self.old) (state S.Store self.new)) }
-        ensures survives { Survives (state S.Store self.old) (state S.Store self.new) (IsChanged S.Store self.old now change.now) }
+        ensures days { LeavesOfficeDays S.Store self.old self.new now change.now result }
+        ensures changed { Changed S.Store self.old self.new (IsChanged S.Store self.old now change.now) result }
         ensures faults { IfErr result IsCallFault }
     {
-        reg_changes::apply(&mut self.connection, now, change)
+        Ok(reg_changes::apply(&mut self.connection, now, change)?)
     }
 
     /// Sets the last accepted moment.
@@ -50,9 +50,8 @@ impl<S: Alter> Store<S> {
     pub fn touch(&mut self, now: Moment) -> Result<(), StoreFault>
         ensures ok { (records : Records) → ShowsKept S.Store self.old records → SoundRows records → records.last ≤ now
             → OnOk result (ShowsKept S.Store self.new (touched records now)) }
-        ensures live { HasCleanDisk (state S.Store self.new) → OnOk result (IsTrue (state S.Store self.new).is_open) }
-        ensures err { IsRegister (state S.Store self.old) → OnErr result (Stays (state S.Store self.old) (state S.Store self.new)) }
-        ensures survives { Survives (state S.Store self.old) (state S.Store self.new) (IsChanged S.Store self.old now Touch) }
+        ensures days { LeavesOfficeDays S.Store self.old self.new now Touch result }
+        ensures changed { Changed S.Store self.old self.new (IsChanged S.Store self.old now Touch) result }
         ensures faults { IfErr result IsCallFault }
     {
         self.apply(now, &Change::Touch)
@@ -66,9 +65,8 @@ impl<S: Alter> Store<S> {
     pub fn add_subscriber(&mut self, now: Moment, row: SubscriberRow) -> Result<(), StoreFault>
         ensures ok { (records : Records) → ShowsKept S.Store self.old records → SoundRows records → records.last ≤ now → row.id ≡ length records.subscribers + 1
             → OnOk result (ShowsKept S.Store self.new (with_subscriber records now row)) }
-        ensures live { HasCleanDisk (state S.Store self.new) → OnOk result (IsTrue (state S.Store self.new).is_open) }
-        ensures err { IsRegister (state S.Store self.old) → OnErr result (Stays (state S.Store self.old) (state S.Store self.new)) }
-        ensures survives { Survives (state S.Store self.old) (state S.Store self.new) (IsChanged S.Store self.old now (Subscriber row)) }
+        ensures days { LeavesOfficeDays S.Store self.old self.new now (Subscriber row) result }
+        ensures changed { Changed S.Store self.old self.new (IsChanged S.Store self.old now (Subscriber row)) result }
         ensures faults { IfErr result IsCallFault }
     {
         self.apply(now, &Change::Subscriber(row))
@@ -82,9 +80,8 @@ impl<S: Alter> Store<S> {
     pub fn add_order(&mut self, now: Moment, row: OrderRow) -> Result<(), StoreFault>
         ensures ok { (records : Records) → ShowsKept S.Store self.old records → SoundRows records → records.last ≤ now → row.id ≡ length records.orders + 1
             → OnOk result (ShowsKept S.Store self.new (with_order records now row)) }
-        ensures live { HasCleanDisk (state S.Store self.new) → OnOk result (IsTrue (state S.Store self.new).is_open) }
-        ensures err { IsRegister (state S.Store self.old) → OnErr result (Stays (state S.Store self.old) (state S.Store self.new)) }
-        ensures survives { Survives (state S.Store self.old) (state S.Store self.new) (IsChanged S.Store self.old now (Order row)) }
+        ensures days { LeavesOfficeDays S.Store self.old self.new now (Order row) result }
+        ensures changed { Changed S.Store self.old self.new (IsChanged S.Store self.old now (Order row)) result }
         ensures faults { IfErr result IsCallFault }
     {
         self.apply(now, &Change::Order(row))
@@ -98,9 +95,8 @@ impl<S: Alter> Store<S> {
     pub fn add_cert(&mut self, now: Moment, row: CertRow) -> Result<(), StoreFault>
         ensures ok { (records : Records) → ShowsKept S.Store self.old records → SoundRows records → records.last ≤ now → certificate_in records.certificates row.serial ≡ None → now ≤ row.not_after
             → OnOk result (ShowsKept S.Store self.new (with_certificate records now row)) }
-        ensures live { HasCleanDisk (state S.Store self.new) → OnOk result (IsTrue (state S.Store self.new).is_open) }
-        ensures err { IsRegister (state S.Store self.old) → OnErr result (Stays (state S.Store self.old) (state S.Store self.new)) }
-        ensures survives { Survives (state S.Store self.old) (state S.Store self.new) (IsChanged S.Store self.old now (Certificate row)) }
+        ensures days { LeavesOfficeDays S.Store self.old self.new now (Certificate row) result }
+        ensures changed { Changed S.Store self.old self.new (IsChanged S.Store self.old now (Certificate row)) result }
         ensures faults { IfErr result IsCallFault }
     {
         self.apply(now, &Change::Certificate(row))
@@ -114,9 +110,8 @@ impl<S: Alter> Store<S> {
     pub fn add_request(&mut self, now: Moment, row: RequestRow) -> Result<(), StoreFault>
         ensures ok { (records : Records) → ShowsKept S.Store self.old records → SoundRows records → records.last ≤ now → row.id ≡ length records.requests + 1
             → OnOk result (ShowsKept S.Store self.new (with_request records now row)) }
-        ensures live { HasCleanDisk (state S.Store self.new) → OnOk result (IsTrue (state S.Store self.new).is_open) }
-        ensures err { IsRegister (state S.Store self.old) → OnErr result (Stays (state S.Store self.old) (state S.Store self.new)) }
-        ensures survives { Survives (state S.Store self.old) (state S.Store self.new) (IsChanged S.Store self.old now (Request row)) }
+        ensures days { LeavesOfficeDays S.Store self.old self.new now (Request row) result }
+        ensures changed { Changed S.Store self.old self.new (IsChanged S.Store self.old now (Request row)) result }
         ensures faults { IfErr result IsCallFault }
     {
         self.apply(now, &Change::Request(row))
@@ -130,9 +125,8 @@ impl<S: Alter> Store<S> {
     pub fn decline(&mut self, now: Moment, id: u64) -> Result<(), StoreFault>
         ensures ok { (records : Records) → ShowsKept S.Store self.old records → SoundRows records → records.last ≤ now
             → OnOk result (ShowsKept S.Store self.new (with_declined records now id)) }
-        ensures live { HasCleanDisk (state S.Store self.new) → OnOk result (IsTrue (state S.Store self.new).is_open) }
-        ensures err { IsRegister (state S.Store self.old) → OnErr result (Stays (state S.Store self.old) (state S.Store self.new)) }
-        ensures survives { Survives (state S.Store self.old) (state S.Store self.new) (IsChanged S.Store self.old now (Decline id)) }
+        ensures days { LeavesOfficeDays S.Store self.old self.new now (Decline id) result }
+        ensures changed { Changed S.Store self.old self.new (IsChanged S.Store self.old now (Decline id)) result }
         ensures faults { IfErr result IsCallFault }
     {
         self.apply(now, &Change::Decline(id))
@@ -146,9 +140,9 @@ impl<S: Alter> Store<S> {
     pub fn add_crl(&mut self, now: Moment, row: CrlRow, der: &[u8]) -> Result<(), StoreFault>
         ensures ok { (records : Records) → ShowsKept S.Store self.old records → SoundRows records → records.last ≤ now → row.number ≡ next_number records.crls
             → OnOk result (ShowsKept S.Store self.new (with_crl records now (record { number = row.number; this_update = row.this_update; bytes = der.now }))) }
-        ensures live { HasCleanDisk (state S.Store self.new) → OnOk result (IsTrue (state S.Store self.new).is_open) }
-        ensures err { IsRegister (state S.Store self.old) → OnErr result (Stays (state S.Store self.old) (state S.Store self.new)) }
-        ensures survives { Survives (state S.Store self.old) (state S.Store self.new) (IsIssued S.Store self.old now row der.now) }
+        ensures days { (records : Records) → ShowsKept S.Store self.old records → SoundRows records → row.number ≡ next_number records.crls
+            → OnOk result (KeepsOfficeDays S.Store self.old self.new) }
+        ensures changed { Changed S.Store self.old self.new (IsIssued S.Store self.old now row der.now) result }
         ensures faults { IfErr result IsCallFault }
     {
         self.apply(now, &Change::Crl(row, der))
@@ -166,26 +160,26 @@ impl<S: Alter> Store<S> {
             → OnOk result (ShowsKept S.Store self.new (with_revocation records now row)) }
         ensures one { HasCleanDisk (state S.Store self.new) → (records : Records) → (columns : Columns) → ShowsBoth S.Store self.old records columns
             → OnOk result (good_at row.serial (swept now columns) ≡ 1) }
-        ensures live { HasCleanDisk (state S.Store self.new) → OnOk result (IsTrue (state S.Store self.new).is_open) }
-        ensures err { IsRegister (state S.Store self.old) → OnErr result (Stays (state S.Store self.old) (state S.Store self.new)) }
-        ensures survives { Survives (state S.Store self.old) (state S.Store self.new) (IsChanged S.Store self.old now (Revocation row)) }
+        ensures days { LeavesOfficeDays S.Store self.old self.new now (Revocation row) result }
+        ensures changed { Changed S.Store self.old self.new (IsChanged S.Store self.old now (Revocation row)) result }
         ensures faults { IfErr result IsCallFault }
     {
         self.apply(now, &Change::Revocation(row))
     }
 
     /// Sets the schedule of longest validities. It is no command: no record, nothing that is kept beside them and not the
-    /// last accepted moment changes.
+    /// last accepted moment changes; and the office keeps the days that it was made with.
     ///
     /// # Errors
     /// `Memory`; `Store` where the database fails. Nothing has changed then.
     pub fn set_schedule(&mut self, schedule: Schedule) -> Result<(), StoreFault>
         ensures ok { (records : Records) → ShowsKept S.Store self.old records → OnOk result (ShowsKept S.Store self.new (with_schedule records schedule)) }
         ensures shown { (records : Records) → Shows S.Store self.old records → OnOk result (Shows S.Store self.new (with_schedule records schedule)) }
+        ensures days { (records : Records) → Shows S.Store self.old records → OnOk result (KeepsOfficeDays S.Store self.old self.new) }
+        ensures changed { Changed S.Store self.old self.new (IsScheduled S.Store self.old schedule) result }
         ensures err { OnErr result (Stays (state S.Store self.old) (state S.Store self.new)) }
-        ensures survives { Survives (state S.Store self.old) (state S.Store self.new) (IsScheduled S.Store self.old schedule) }
         ensures faults { IfErr result IsCallFault }
     {
-        reg_changes::set_schedule(&mut self.connection, &schedule)
+        Ok(reg_changes::set_schedule(&mut self.connection, &schedule)?)
     }
 }

@@ -11,7 +11,7 @@ ghost use Rattle.reg_core.specs.Sound.{SoundRows};
 ghost use Rattle.reg_core.specs.Status as status;
 ghost use Rattle.reg_tables.specs.Kept.{ShowsKept};
 ghost use Rattle.reg_tables.specs.Shows.{Shows};
-ghost use Rattle.reg_tables.specs.Stays.{IsCallFault, IsRegister, LeavesNothing, Stays};
+ghost use Rattle.reg_tables.specs.Stays.{IsCallFault, Looked};
 ghost use Rattle.reg_tables.specs.Tables.{crl_in, rows_of};
 
 use crate::store::Store;
@@ -30,11 +30,10 @@ impl<S: Alter> Store<S> {
     /// `Memory`; `Store` where the database fails, or where its row is one that no register writes.
     pub fn last(&mut self) -> Result<Moment, StoreFault>
         ensures found { (records : Records) → Shows S.Store self.old records → HasCleanDisk (state S.Store self.new) → IfOk result (λ last. last ≡ records.last) }
-        ensures same { IsRegister (state S.Store self.old) → Stays (state S.Store self.old) (state S.Store self.new) }
-        ensures survives { LeavesNothing (state S.Store self.old) (state S.Store self.new) }
+        ensures looked { Looked S.Store self.old self.new }
         ensures faults { IfErr result IsCallFault }
     {
-        reg_tables::last(&mut self.connection)
+        Ok(reg_tables::last(&mut self.connection)?)
     }
 
     /// The issuer.
@@ -43,11 +42,10 @@ impl<S: Alter> Store<S> {
     /// `Memory`; `Store` where the database fails, or where its row is one that no register writes.
     pub fn issuer(&mut self) -> Result<Issuer, StoreFault>
         ensures found { (records : Records) → Shows S.Store self.old records → HasCleanDisk (state S.Store self.new) → IfOk result (λ issuer. issuer ≡ records.issuer) }
-        ensures same { IsRegister (state S.Store self.old) → Stays (state S.Store self.old) (state S.Store self.new) }
-        ensures survives { LeavesNothing (state S.Store self.old) (state S.Store self.new) }
+        ensures looked { Looked S.Store self.old self.new }
         ensures faults { IfErr result IsCallFault }
     {
-        reg_tables::issuer(&mut self.connection)
+        Ok(reg_tables::issuer(&mut self.connection)?)
     }
 
     /// The policy.
@@ -56,11 +54,10 @@ impl<S: Alter> Store<S> {
     /// `Memory`; `Store` where the database fails, or where its rows are ones that no register writes.
     pub fn policy(&mut self) -> Result<Policy, StoreFault>
         ensures found { (records : Records) → Shows S.Store self.old records → HasCleanDisk (state S.Store self.new) → IfOk result (λ policy. policy ≡ records.policy) }
-        ensures same { IsRegister (state S.Store self.old) → Stays (state S.Store self.old) (state S.Store self.new) }
-        ensures survives { LeavesNothing (state S.Store self.old) (state S.Store self.new) }
+        ensures looked { Looked S.Store self.old self.new }
         ensures faults { IfErr result IsCallFault }
     {
-        reg_tables::policy(&mut self.connection)
+        Ok(reg_tables::policy(&mut self.connection)?)
     }
 
     /// What OCSP answers are made from beside the certificates: the last accepted moment, the issuer, and how many seconds an
@@ -72,11 +69,10 @@ impl<S: Alter> Store<S> {
         ensures found { (records : Records) → Shows S.Store self.old records → HasCleanDisk (state S.Store self.new)
             → IfOk result (λ it. (it.0 ≡ records.last) × (it.1 ≡ records.issuer) × (it.2 ≡ records.policy.ocsp_life)) }
         ensures short { IfOk result (λ it. it.2 ≤ 863999) }
-        ensures same { IsRegister (state S.Store self.old) → Stays (state S.Store self.old) (state S.Store self.new) }
-        ensures survives { LeavesNothing (state S.Store self.old) (state S.Store self.new) }
+        ensures looked { Looked S.Store self.old self.new }
         ensures faults { IfErr result IsCallFault }
     {
-        reg_tables::responding(&mut self.connection)
+        Ok(reg_tables::responding(&mut self.connection)?)
     }
 
     /// How many rows a table has, which is the last id, or for CRLs the latest number. It finds the last row alone.
@@ -85,11 +81,10 @@ impl<S: Alter> Store<S> {
     /// `Memory`; `Store` where the database fails, or where its row is one that no register writes.
     pub fn held(&mut self, table: Table) -> Result<u64, StoreFault>
         ensures found { (records : Records) → Shows S.Store self.old records → HasCleanDisk (state S.Store self.new) → IfOk result (λ rows. rows ≡ rows_of records table) }
-        ensures same { IsRegister (state S.Store self.old) → Stays (state S.Store self.old) (state S.Store self.new) }
-        ensures survives { LeavesNothing (state S.Store self.old) (state S.Store self.new) }
+        ensures looked { Looked S.Store self.old self.new }
         ensures faults { IfErr result IsCallFault }
     {
-        reg_tables::held(&mut self.connection, table)
+        Ok(reg_tables::held(&mut self.connection, table)?)
     }
 
     /// The subscriber with an id.
@@ -98,11 +93,10 @@ impl<S: Alter> Store<S> {
     /// `Memory`; `Store` where the database fails, or where its row is one that no register writes.
     pub fn subscriber(&mut self, id: u64) -> Result<Option<SubscriberRow>, StoreFault>
         ensures found { (records : Records) → Shows S.Store self.old records → HasCleanDisk (state S.Store self.new) → IfOk result (λ row. row ≡ subscriber_in records.subscribers id) }
-        ensures same { IsRegister (state S.Store self.old) → Stays (state S.Store self.old) (state S.Store self.new) }
-        ensures survives { LeavesNothing (state S.Store self.old) (state S.Store self.new) }
+        ensures looked { Looked S.Store self.old self.new }
         ensures faults { IfErr result IsCallFault }
     {
-        reg_tables::subscriber(&mut self.connection, id)
+        Ok(reg_tables::subscriber(&mut self.connection, id)?)
     }
 
     /// The subscriber with a name.
@@ -111,11 +105,10 @@ impl<S: Alter> Store<S> {
     /// `Memory`; `Store` where the database fails, or where its row is one that no register writes.
     pub fn subscriber_by_name(&mut self, name: &Label) -> Result<Option<SubscriberRow>, StoreFault>
         ensures found { (records : Records) → Shows S.Store self.old records → HasCleanDisk (state S.Store self.new) → IfOk result (λ row. row ≡ subscriber_named records.subscribers name.now) }
-        ensures same { IsRegister (state S.Store self.old) → Stays (state S.Store self.old) (state S.Store self.new) }
-        ensures survives { LeavesNothing (state S.Store self.old) (state S.Store self.new) }
+        ensures looked { Looked S.Store self.old self.new }
         ensures faults { IfErr result IsCallFault }
     {
-        reg_tables::subscriber_by_name(&mut self.connection, name)
+        Ok(reg_tables::subscriber_by_name(&mut self.connection, name)?)
     }
 
     /// The order with an id.
@@ -124,11 +117,10 @@ impl<S: Alter> Store<S> {
     /// `Memory`; `Store` where the database fails, or where its row is one that no register writes.
     pub fn order(&mut self, id: u64) -> Result<Option<OrderRow>, StoreFault>
         ensures found { (records : Records) → Shows S.Store self.old records → HasCleanDisk (state S.Store self.new) → IfOk result (λ row. row ≡ order_in records.orders id) }
-        ensures same { IsRegister (state S.Store self.old) → Stays (state S.Store self.old) (state S.Store self.new) }
-        ensures survives { LeavesNothing (state S.Store self.old) (state S.Store self.new) }
+        ensures looked { Looked S.Store self.old self.new }
         ensures faults { IfErr result IsCallFault }
     {
-        reg_tables::order(&mut self.connection, id)
+        Ok(reg_tables::order(&mut self.connection, id)?)
     }
 
     /// The certificate with a serial number.
@@ -137,11 +129,10 @@ impl<S: Alter> Store<S> {
     /// `Memory`; `Store` where the database fails, or where its row is one that no register writes.
     pub fn cert(&mut self, serial: Serial) -> Result<Option<CertRow>, StoreFault>
         ensures found { (records : Records) → Shows S.Store self.old records → HasCleanDisk (state S.Store self.new) → IfOk result (λ row. row ≡ certificate_in records.certificates serial) }
-        ensures same { IsRegister (state S.Store self.old) → Stays (state S.Store self.old) (state S.Store self.new) }
-        ensures survives { LeavesNothing (state S.Store self.old) (state S.Store self.new) }
+        ensures looked { Looked S.Store self.old self.new }
         ensures faults { IfErr result IsCallFault }
     {
-        reg_tables::cert(&mut self.connection, serial)
+        Ok(reg_tables::cert(&mut self.connection, serial)?)
     }
 
     /// The certificate that fills an order.
@@ -150,11 +141,10 @@ impl<S: Alter> Store<S> {
     /// `Memory`; `Store` where the database fails, where its row is one that no register writes, or for a number above 2^63 - 1.
     pub fn cert_of_order(&mut self, order: u64) -> Result<Option<CertRow>, StoreFault>
         ensures found { (records : Records) → Shows S.Store self.old records → HasCleanDisk (state S.Store self.new) → IfOk result (λ row. row ≡ certificate_of_order records.certificates order) }
-        ensures same { IsRegister (state S.Store self.old) → Stays (state S.Store self.old) (state S.Store self.new) }
-        ensures survives { LeavesNothing (state S.Store self.old) (state S.Store self.new) }
+        ensures looked { Looked S.Store self.old self.new }
         ensures faults { IfErr result IsCallFault }
     {
-        reg_tables::cert_of_order(&mut self.connection, order)
+        Ok(reg_tables::cert_of_order(&mut self.connection, order)?)
     }
 
     /// The request with an id.
@@ -163,11 +153,10 @@ impl<S: Alter> Store<S> {
     /// `Memory`; `Store` where the database fails, or where its row is one that no register writes.
     pub fn request(&mut self, id: u64) -> Result<Option<RequestRow>, StoreFault>
         ensures found { (records : Records) → Shows S.Store self.old records → HasCleanDisk (state S.Store self.new) → IfOk result (λ row. row ≡ request_in records.requests id) }
-        ensures same { IsRegister (state S.Store self.old) → Stays (state S.Store self.old) (state S.Store self.new) }
-        ensures survives { LeavesNothing (state S.Store self.old) (state S.Store self.new) }
+        ensures looked { Looked S.Store self.old self.new }
         ensures faults { IfErr result IsCallFault }
     {
-        reg_tables::request(&mut self.connection, id)
+        Ok(reg_tables::request(&mut self.connection, id)?)
     }
 
     /// The revocation of a serial number.
@@ -176,11 +165,10 @@ impl<S: Alter> Store<S> {
     /// `Memory`; `Store` where the database fails, or where its row is one that no register writes.
     pub fn revocation(&mut self, serial: Serial) -> Result<Option<RevocationRow>, StoreFault>
         ensures found { (records : Records) → Shows S.Store self.old records → HasCleanDisk (state S.Store self.new) → IfOk result (λ row. row ≡ revocation_in records.revocations serial) }
-        ensures same { IsRegister (state S.Store self.old) → Stays (state S.Store self.old) (state S.Store self.new) }
-        ensures survives { LeavesNothing (state S.Store self.old) (state S.Store self.new) }
+        ensures looked { Looked S.Store self.old self.new }
         ensures faults { IfErr result IsCallFault }
     {
-        reg_tables::revocation(&mut self.connection, serial)
+        Ok(reg_tables::revocation(&mut self.connection, serial)?)
     }
 
     /// The moment of the earliest revocation that no CRL can have listed yet. It walks the revocations.
@@ -189,11 +177,10 @@ impl<S: Alter> Store<S> {
     /// `Memory`; `Store` where the database fails, or where its row is one that no register writes.
     pub fn earliest_unlisted(&mut self) -> Result<Option<Moment>, StoreFault>
         ensures found { (records : Records) → Shows S.Store self.old records → HasCleanDisk (state S.Store self.new) → IfOk result (λ at. at ≡ earliest (unlisted records)) }
-        ensures same { IsRegister (state S.Store self.old) → Stays (state S.Store self.old) (state S.Store self.new) }
-        ensures survives { LeavesNothing (state S.Store self.old) (state S.Store self.new) }
+        ensures looked { Looked S.Store self.old self.new }
         ensures faults { IfErr result IsCallFault }
     {
-        reg_tables::earliest_unlisted(&mut self.connection)
+        Ok(reg_tables::earliest_unlisted(&mut self.connection)?)
     }
 
     /// The latest CRL, without its bytes, which are not read.
@@ -202,11 +189,10 @@ impl<S: Alter> Store<S> {
     /// `Memory`; `Store` where the database fails, or where its row is one that no register writes.
     pub fn latest_crl(&mut self) -> Result<Option<CrlRow>, StoreFault>
         ensures found { (records : Records) → Shows S.Store self.old records → HasCleanDisk (state S.Store self.new) → IfOk result (λ row. row ≡ option_map row_of (latest records.crls)) }
-        ensures same { IsRegister (state S.Store self.old) → Stays (state S.Store self.old) (state S.Store self.new) }
-        ensures survives { LeavesNothing (state S.Store self.old) (state S.Store self.new) }
+        ensures looked { Looked S.Store self.old self.new }
         ensures faults { IfErr result IsCallFault }
     {
-        reg_tables::latest_crl(&mut self.connection)
+        Ok(reg_tables::latest_crl(&mut self.connection)?)
     }
 
     /// The DER of a CRL, by its number.
@@ -216,11 +202,10 @@ impl<S: Alter> Store<S> {
     pub fn crl(&mut self, number: u64) -> Result<Option<Vec<u8>>, StoreFault>
         ensures found { (records : Records) → Shows S.Store self.old records → HasCleanDisk (state S.Store self.new)
             → IfOk result (λ der. option_map (λ bytes. bytes.items) der ≡ option_map (λ crl. crl.bytes) (crl_in records.crls number)) }
-        ensures same { IsRegister (state S.Store self.old) → Stays (state S.Store self.old) (state S.Store self.new) }
-        ensures survives { LeavesNothing (state S.Store self.old) (state S.Store self.new) }
+        ensures looked { Looked S.Store self.old self.new }
         ensures faults { IfErr result IsCallFault }
     {
-        reg_tables::crl(&mut self.connection, number)
+        Ok(reg_tables::crl(&mut self.connection, number)?)
     }
 
     /// How many requests are overdue at a moment, and the least id of them. It walks the requests that are not declined.
@@ -230,11 +215,10 @@ impl<S: Alter> Store<S> {
     /// without its certificate.
     pub fn open_past_due(&mut self, now: Moment) -> Result<Option<Overdue>, StoreFault>
         ensures found { (records : Records) → Shows S.Store self.old records → HasCleanDisk (state S.Store self.new) → IfOk result (λ report. report ≡ overdue_report (overdue records now)) }
-        ensures same { IsRegister (state S.Store self.old) → Stays (state S.Store self.old) (state S.Store self.new) }
-        ensures survives { LeavesNothing (state S.Store self.old) (state S.Store self.new) }
+        ensures looked { Looked S.Store self.old self.new }
         ensures faults { IfErr result IsCallFault }
     {
-        reg_tables::open_past_due(&mut self.connection, now)
+        Ok(reg_tables::open_past_due(&mut self.connection, now)?)
     }
 
     /// The entries of the CRL with a number, issued or the next, in ascending order of serial number: at most 1,000,000.
@@ -247,11 +231,10 @@ impl<S: Alter> Store<S> {
         ensures found { (records : Records) → ShowsKept S.Store self.old records → HasCleanDisk (state S.Store self.new) → IfOk result (λ found. found.items ≡ entries records number) }
         ensures ascending { IfOk result (λ found. EntriesAscend found.items) }
         ensures at_most { IfOk result (λ found. length found.items ≤ 1000000) }
-        ensures same { IsRegister (state S.Store self.old) → Stays (state S.Store self.old) (state S.Store self.new) }
-        ensures survives { LeavesNothing (state S.Store self.old) (state S.Store self.new) }
+        ensures looked { Looked S.Store self.old self.new }
         ensures faults { IfErr result IsCallFault }
     {
-        reg_tables::entries(&mut self.connection, number)
+        Ok(reg_tables::entries(&mut self.connection, number)?)
     }
 
     /// The numbers of the first CRL that can list a revoked serial number and, where it has been issued, of the last that
@@ -261,11 +244,10 @@ impl<S: Alter> Store<S> {
     /// `Memory`; `Store` where the database fails, or where its row is one that no register writes.
     pub fn listing(&mut self, serial: Serial) -> Result<Option<Listing>, StoreFault>
         ensures found { (records : Records) → ShowsKept S.Store self.old records → HasCleanDisk (state S.Store self.new) → IfOk result (λ found. found ≡ listing records serial) }
-        ensures same { IsRegister (state S.Store self.old) → Stays (state S.Store self.old) (state S.Store self.new) }
-        ensures survives { LeavesNothing (state S.Store self.old) (state S.Store self.new) }
+        ensures looked { Looked S.Store self.old self.new }
         ensures faults { IfErr result IsCallFault }
     {
-        reg_tables::listing(&mut self.connection, serial)
+        Ok(reg_tables::listing(&mut self.connection, serial)?)
     }
 
     /// How many registered certificates are good, revoked and expired at a moment, from the last accepted one on.
@@ -274,10 +256,9 @@ impl<S: Alter> Store<S> {
     /// `Memory`; `Store` where the database fails, or where its rows are ones that no register writes.
     pub fn counts(&mut self, now: Moment) -> Result<Counts, StoreFault>
         ensures found { (records : Records) → ShowsKept S.Store self.old records → SoundRows records → records.last ≤ now → HasCleanDisk (state S.Store self.new) → IfOk result (λ found. found ≡ status.counts records now) }
-        ensures same { IsRegister (state S.Store self.old) → Stays (state S.Store self.old) (state S.Store self.new) }
-        ensures survives { LeavesNothing (state S.Store self.old) (state S.Store self.new) }
+        ensures looked { Looked S.Store self.old self.new }
         ensures faults { IfErr result IsCallFault }
     {
-        reg_tables::counts(&mut self.connection, now)
+        Ok(reg_tables::counts(&mut self.connection, now)?)
     }
 }

@@ -1,6 +1,7 @@
 -- What the look-ups of certificates show.
-use Rattle.std.proofs.Common.{◌≡◌, ℕ, None, List, [], ◌∷◌, codes, refl, ◌∙◌}
+use Rattle.std.proofs.Common.{◌≡◌, ◌≤◌, ℕ, None, List, [], ◌∷◌, length, codes, refl, ◌∙◌, arith}
 use Rattle.std.specs.Prelude.{◌==◌}
+use Rattle.std.specs.List.{AllByRecursion}
 use Rattle.sqlite_value.specs.Order.{Row}
 use Rattle.sqlite_sql.specs.Term.{Term, col}
 use Rattle.sqlite_sql.specs.Query.{Output}
@@ -10,15 +11,19 @@ use Rattle.sqlite_resolve.specs.Compile.{first}
 use Rattle.sqlite_tied.specs.Compute.{everything}
 use Rattle.reg_core.specs.Records.{Records, certificate_in, certificate_of_order}
 use Rattle.reg_core.specs.Serial.{IsSerial}
+use Rattle.reg_core.specs.Sound.{KeysDiffer}
 use Rattle.reg_core.specs.declared.rows.CertRow.{CertRow}
 use Rattle.reg_tables.specs.Schema.{register_schema}
 use Rattle.reg_tables.specs.Rows.{number, serial_value, stored_certificate}
 use Rattle.reg_tables.specs.Shows.{IsShownBy}
+use Rattle.reg_tables.specs.Failing.{IsAsked}
 use Rattle.reg_tables.specs.Reading.{IsReading, command_of, shown_certificate}
 use Rattle.reg_tables.specs.declared.statements.TheConstants.{CERT_BY_SERIAL, CERT_BY_ORDER}
 use Rattle.reg_tables.proofs.Compares.{and_true, eq_number, eq_serial}
 use Rattle.reg_tables.proofs.Queries.{column_is, selects, as_command, no_limit, Given, counted_given, find_none, find_one, Found}
 use Rattle.reg_tables.proofs.Selecting.{select_never}
+use Rattle.reg_tables.proofs.FailingLemmas.{asked_by}
+use Rattle.reg_tables.proofs.Few.{given_few, one_number}
 
 abbrev columns : List Term
 columns = col 1 1 ∷ col 1 2 ∷ col 1 3 ∷ col 1 4 ∷ []
@@ -37,6 +42,10 @@ pub reading_by_serial : IsReading CERT_BY_SERIAL.now
 unfolding understood everything register_schema first
 reading_by_serial = record { plain = (refl, refl); unlisted = refl; never = select_never CERT_BY_SERIAL.now _ _ refl refl refl }
 
+pub asked_by_serial : (serial : ℕ) → IsAsked CERT_BY_SERIAL.now (serial_value serial ∷ [])
+unfolding understood everything register_schema
+asked_by_serial serial = asked_by CERT_BY_SERIAL.now 4 (column_is 1) columns [] no_limit names (serial_value serial ∷ []) (omega arith, refl) by_serial_means refl
+
 module _ (db : Database) (records : Records) (shown : IsShownBy db records) (serial : ℕ) (is_serial : IsSerial serial) (rows : List Row) (reads : Reads (command_of (understood register_schema CERT_BY_SERIAL.now)) db (serial_value serial ∷ []) rows) where
   by_serial_given : Given (λ row. row.serial == serial) out records.certificates (selects 4 (column_is 1) columns [] no_limit) (serial_value serial ∷ []) rows
   by_serial_given =
@@ -46,8 +55,15 @@ module _ (db : Database) (records : Records) (shown : IsShownBy db records) (ser
   pub by_serial_none : rows ≡ [] → None ≡ certificate_in records.certificates serial
   by_serial_none = find_none (λ row. row.serial == serial) out records.certificates 4 (column_is 1) columns [] (serial_value serial ∷ []) rows by_serial_given
 
+  pub by_serial_few : KeysDiffer (λ (row : CertRow). row.serial) records.certificates → length rows ≤ 1
+  by_serial_few differ = given_few (λ row. row.serial == serial) out records.certificates 4 (column_is 1) columns [] (serial_value serial ∷ []) rows by_serial_given
+      (one_number (λ (row : CertRow). row.serial) serial records.certificates differ)
+
+  pub by_serial_has : (P : CertRow → Type 0) → AllByRecursion P records.certificates → (row : Row) → rows ≡ row ∷ [] → Found P shown_certificate (certificate_in records.certificates serial) row
+  by_serial_has P all = find_one (λ row. row.serial == serial) out records.certificates 4 (column_is 1) columns [] (serial_value serial ∷ []) rows by_serial_given P all
+
   pub by_serial_one : (row : Row) → rows ≡ row ∷ [] → Found (λ row. IsSerial row.serial) shown_certificate (certificate_in records.certificates serial) row
-  by_serial_one = find_one (λ row. row.serial == serial) out records.certificates 4 (column_is 1) columns [] (serial_value serial ∷ []) rows by_serial_given (λ row. IsSerial row.serial) shown.rows.certificate_serials
+  by_serial_one = by_serial_has (λ row. IsSerial row.serial) shown.rows.certificate_serials
 
 by_order_means : command_of (understood register_schema CERT_BY_ORDER.now) ≡ as_command (selects 4 (column_is 2) columns [] no_limit) names
 unfolding understood everything register_schema
@@ -56,6 +72,10 @@ by_order_means = refl
 pub reading_by_order : IsReading CERT_BY_ORDER.now
 unfolding understood everything register_schema first
 reading_by_order = record { plain = (refl, refl); unlisted = refl; never = select_never CERT_BY_ORDER.now _ _ refl refl refl }
+
+pub asked_by_order : (order : ℕ) → IsAsked CERT_BY_ORDER.now (number order ∷ [])
+unfolding understood everything register_schema
+asked_by_order order = asked_by CERT_BY_ORDER.now 4 (column_is 2) columns [] no_limit names (number order ∷ []) (omega arith, refl) by_order_means refl
 
 module _ (db : Database) (records : Records) (shown : IsShownBy db records) (order : ℕ) (rows : List Row) (reads : Reads (command_of (understood register_schema CERT_BY_ORDER.now)) db (number order ∷ []) rows) where
   by_order_given : Given (λ row. row.order == order) out records.certificates (selects 4 (column_is 2) columns [] no_limit) (number order ∷ []) rows
@@ -66,5 +86,12 @@ module _ (db : Database) (records : Records) (shown : IsShownBy db records) (ord
   pub by_order_none : rows ≡ [] → None ≡ certificate_of_order records.certificates order
   by_order_none = find_none (λ row. row.order == order) out records.certificates 4 (column_is 2) columns [] (number order ∷ []) rows by_order_given
 
+  pub by_order_few : KeysDiffer (λ (row : CertRow). row.order) records.certificates → length rows ≤ 1
+  by_order_few differ = given_few (λ row. row.order == order) out records.certificates 4 (column_is 2) columns [] (number order ∷ []) rows by_order_given
+      (one_number (λ (row : CertRow). row.order) order records.certificates differ)
+
+  pub by_order_has : (P : CertRow → Type 0) → AllByRecursion P records.certificates → (row : Row) → rows ≡ row ∷ [] → Found P shown_certificate (certificate_of_order records.certificates order) row
+  by_order_has P all = find_one (λ row. row.order == order) out records.certificates 4 (column_is 2) columns [] (number order ∷ []) rows by_order_given P all
+
   pub by_order_one : (row : Row) → rows ≡ row ∷ [] → Found (λ row. IsSerial row.serial) shown_certificate (certificate_of_order records.certificates order) row
-  by_order_one = find_one (λ row. row.order == order) out records.certificates 4 (column_is 2) columns [] (number order ∷ []) rows by_order_given (λ row. IsSerial row.serial) shown.rows.certificate_serials
+  by_order_one = by_order_has (λ row. IsSerial row.serial) shown.rows.certificate_serials

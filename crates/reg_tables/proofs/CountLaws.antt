@@ -7,15 +7,17 @@ use Rattle.std.proofs.lemmas.List.{length-map}
 use Rattle.std.proofs.lemmas.List.Sorted.{length_permutation}
 use Rattle.sqlite_trees.proofs.ListLemmas.{filter-map, filter_same, IsPermutation-filter}
 use Rattle.reg_core.specs.Records.{Records, certificate_in, revocation_in}
-use Rattle.reg_core.specs.Sound.{KeysDiffer}
+use Rattle.reg_core.specs.Policy.{IsPolicy}
+use Rattle.reg_core.specs.Sound.{KeysDiffer, SoundRows}
 use Rattle.reg_core.specs.Status.{status, status_by, counts, is_good, is_revoked, is_expired}
 use Rattle.reg_core.specs.declared.command.Counts.{Counts}
 use Rattle.reg_core.specs.declared.command.Status.{Status}
 use Rattle.reg_core.specs.declared.command.Status.TheVariants.{Good, Expired}
 use Rattle.reg_core.specs.declared.rows.CertRow.{CertRow}
 use Rattle.reg_core.specs.declared.rows.RevocationRow.{RevocationRow}
-use Rattle.reg_tables.specs.Columns.{Columns, is_good_letter, ends_before}
+use Rattle.reg_tables.specs.Columns.{Columns, Standing, is_good_letter, ends_before}
 use Rattle.reg_tables.specs.Kept.{Kept, letter_of, standing_of}
+use Rattle.reg_tables.proofs.Few.{fewer}
 
 all_map : {A : Type 0} (P Q : A → Type 0) → ((x : A) → P x → Q x) → (xs : List A) → AllByRecursion P xs → AllByRecursion Q xs
 all_map P Q to [] all = tt
@@ -152,3 +154,52 @@ module _ (records : Records) (differ : KeysDiffer (λ (row : CertRow). row.seria
         let split = expired_splits in
         let many = ended_as_many in
         omega arith
+
+-- ---- over records that a register writes
+
+ends_still : (now later : ℕ) → now ≤ later → (row : Standing) → ends_before now row ≡ true → ends_before later row ≡ true
+ends_still now later le row ends = elim (cases_Bool (is_good_letter row.letter)) [
+  | inl good ↦
+      let before : nat_lt row.not_after now ≡ true = rw good at ends in
+      let less : row.not_after < now = ltb-true row.not_after now before in
+      let after : nat_lt row.not_after later ≡ true = lt-ltb row.not_after later (omega arith) in
+      rw (good, after) refl
+  | inr other ↦ absurd (let no : false ≡ true = rw other at ends in cc)
+]
+
+ends_later : (now later : ℕ) → now ≤ later → (rows : List Standing) → length (filter (ends_before now) rows) ≤ length (filter (ends_before later) rows)
+ends_later now later le [] = omega arith
+ends_later now later le (row ∷ rows) = let rest = ends_later now later le rows in elim (cases_Bool (ends_before now row)) [
+  | inl ends ↦ let still = ends_still now later le row ends in rw (ends, still) (omega arith)
+  | inr stays ↦ elim (cases_Bool (ends_before later row)) [
+    | inl then ↦ rw (stays, then) (omega arith)
+    | inr lasts ↦ rw (stays, lasts) rest
+  ]
+]
+
+module _ (records : Records) (sound : SoundRows records) where
+  -- no more certificates are kept than a table has rows
+  pub letters_few : IsPolicy records.policy → (kept : Columns) → Kept kept records → length kept.letters ≤ 1000000
+  letters_few policy kept law =
+      let many = letters_as_many records sound.certificates.serials_differ records.last (omega arith) kept law in
+      let within = sound.certificates.within_cap in
+      let cap = policy.cap.1 in
+      omega arith
+
+  -- of those that are kept as good no more end before a moment than there are
+  pub ended_within : (now : ℕ) (kept : Columns) → Kept kept records → length (filter (ends_before now) kept.letters) ≤ kept.counts.good
+  ended_within now kept law =
+      let good = good_then records sound.certificates.serials_differ (now + records.last) (omega arith) kept law in
+      let more = ends_later now (now + records.last) (omega arith) kept.letters in
+      omega arith
+
+  -- and what is added to the expired ones stays a number
+  pub sums_few : IsPolicy records.policy → (now : ℕ) (kept : Columns) → Kept kept records → kept.counts.expired + length (filter (ends_before now) kept.letters) ≤ 2000000
+  sums_few policy now kept law =
+      let expired : kept.counts.expired ≡ length (filter (λ (row : CertRow). is_expired (status records row.serial records.last)) records.certificates) = ap (λ (c : Counts). c.expired) law.counts in
+      let some = fewer (λ (row : CertRow). is_expired (status records row.serial records.last)) records.certificates in
+      let within = sound.certificates.within_cap in
+      let cap = policy.cap.1 in
+      let letters = letters_few policy kept law in
+      let ended = fewer (ends_before now) kept.letters in
+      omega arith

@@ -1,6 +1,6 @@
 -- What the statements on the kept counts show.
-use Rattle.std.proofs.Common.{◌≡◌, ◌≤◌, ◌&&◌, ℕ, pos, true, false, Bool, Some, List, [], ◌∷◌, map, length, codes, refl, sym, ap, subst, ◌∙◌, arith, inl, inr}
-use Rattle.std.specs.Prelude.{min, bytes_eq}
+use Rattle.std.proofs.Common.{◌≡◌, ◌≤◌, ◌<◌, ◌&&◌, ℕ, zero, suc, pos, true, false, Bool, None, Some, List, [], ◌∷◌, map, length, codes, refl, sym, ap, subst, ◌∙◌, arith, inl, inr}
+use Rattle.std.specs.Prelude.{min, bytes_eq, slice_index_or}
 use Rattle.std.specs.List.{filter, AllZip}
 use Rattle.std.specs.List.Sorted.{IsPermutation}
 use Rattle.std.proofs.lemmas.Bool.{cases_Bool}
@@ -11,12 +11,13 @@ use Rattle.sqlite_value.specs.Order.{Row, column}
 use Rattle.sqlite_value.specs.declared.keys.Collation.TheVariants.{Binary}
 use Rattle.sqlite_value.specs.declared.value.Value.{Value}
 use Rattle.sqlite_value.specs.declared.value.Value.TheVariants.{Null, Int, Text}
+use Rattle.sqlite_trees.specs.Tree.{Trees}
 use Rattle.sqlite_sql.specs.Aggregate.{count}
-use Rattle.sqlite_sql.specs.Group.{Aggregate, Grouping, IsSummary}
+use Rattle.sqlite_sql.specs.Group.{Aggregate, Grouping, IsSummary, value_over}
 use Rattle.sqlite_sql.specs.declared.aggregate.AggregateOp.TheVariants.{CountRows}
 use Rattle.sqlite_sql.specs.Term.{Term, Env, col, lit, op2}
-use Rattle.sqlite_sql.specs.Query.{Query, inner, end, Output, output, matches_as, IsAnswerAs}
-use Rattle.sqlite_sql.specs.Program.{overlay}
+use Rattle.sqlite_sql.specs.Query.{Query, inner, end, Output, output, page, matches_as, IsAnswerAs}
+use Rattle.sqlite_sql.specs.Program.{QueryOverflows, overlay}
 use Rattle.sqlite_sql.specs.declared.ops.BinaryOp.TheVariants.{Compare}
 use Rattle.sqlite_sql.specs.declared.ops.CompareOp.TheVariants.{Eq, Lt}
 use Rattle.sqlite.specs.Effect.{Database, Reads}
@@ -30,11 +31,13 @@ use Rattle.reg_tables.specs.Schema.{register_schema}
 use Rattle.reg_tables.specs.Rows.{number, counted_rows}
 use Rattle.reg_tables.specs.Columns.{Letter, good, revoked, expired, is_good_letter, ends_before, letter_text, Standing, Columns, stored_standing, stored_counts}
 use Rattle.reg_tables.specs.Shows.{AreBoth}
+use Rattle.reg_tables.specs.Failing.{IsAsked}
 use Rattle.reg_tables.specs.Reading.{IsReading, command_of}
 use Rattle.reg_tables.specs.declared.statements.TheConstants.{COUNTS, ENDED_BEFORE}
 use Rattle.reg_tables.proofs.Compares.{and_true, compares, lt_number, eq_text}
 use Rattle.reg_tables.proofs.Queries.{selects, no_limit, as_command, passes, picked, kept_behind, all_of, Given, keyed_given, find_one}
 use Rattle.reg_tables.proofs.Selecting.{select_never}
+use Rattle.reg_tables.proofs.FailingLemmas.{asked_by, asked_of}
 
 -- ---- how many rows pass
 
@@ -103,6 +106,25 @@ pub reading_ended : IsReading ENDED_BEFORE.now
 unfolding understood everything register_schema first
 reading_ended = record { plain = (refl, refl); unlisted = refl; never = select_never ENDED_BEFORE.now _ _ refl refl refl }
 
+-- a count of rows is always a number
+count_known : (group : List Env) (a : Aggregate) → count_rows ≡ a → value_over group a ≡ None → ⊥
+count_known group a is none = let no : Some (count (length (map (λ (env : Env). Null) group))) ≡ None = subst (λ (x : Aggregate). value_over group x ≡ None) (sym is) none in absurd (cc)
+
+one_aggregate : (k : ℕ) (a : Aggregate) → k < 1 → slice_index_or (count_rows ∷ []) k a ≡ a → count_rows ≡ a
+one_aggregate zero a within is = is
+one_aggregate (suc k) a within is = absurd (omega (arith, within))
+
+never_overflows : (tree : ℕ) (terms : List Term) (params : Row) (db : Trees) → QueryOverflows (counts_of tree terms) db params → ⊥
+never_overflows tree terms params db (inl overflows) =
+    let over = overflows.2 in
+    let any = over.4 in
+    count_known over.1 any.1 (one_aggregate any.0 any.1 any.2 any.3) any.4
+never_overflows tree terms params db (inr any) = any.4
+
+pub asked_ended : (now : ℕ) → IsAsked ENDED_BEFORE.now (number now ∷ [])
+unfolding understood everything register_schema
+asked_ended now = asked_of ENDED_BEFORE.now (counts_of 12 ended_terms) (codes "count(*)" ∷ []) (number now ∷ []) (never_overflows 12 ended_terms (number now ∷ [])) (omega arith, refl) ended_means refl
+
 is_g : (letter : Letter) → bytes_eq (letter_text letter) (codes "G") ≡ is_good_letter letter
 is_g good = refl
 is_g revoked = refl
@@ -127,7 +149,7 @@ ended_length letters now =
     let right : length (map blank_standing (filter (ends_before now) letters)) ≡ length (filter (ends_before now) letters) = rw length-map refl in
     sym left ∙ ap length same ∙ right
 
-at_most_all : {A : Type 0} (p : A → Bool) (xs : List A) → length (filter p xs) ≤ length xs
+pub at_most_all : {A : Type 0} (p : A → Bool) (xs : List A) → length (filter p xs) ≤ length xs
 at_most_all p [] = omega arith
 at_most_all p (x ∷ xs) = let rest = at_most_all p xs in elim (cases_Bool (p x)) [
   | inl passed ↦ rw passed (omega arith)
@@ -156,6 +178,10 @@ pub reading_counts : IsReading COUNTS.now
 unfolding understood everything register_schema first
 reading_counts = record { plain = (refl, refl); unlisted = refl; never = select_never COUNTS.now _ _ refl refl refl }
 
+pub asked_counts : IsAsked COUNTS.now []
+unfolding understood everything register_schema
+asked_counts = asked_by COUNTS.now 14 [] (col 1 2 ∷ col 1 3 ∷ col 1 4 ∷ []) [] no_limit (codes "n_good" ∷ codes "n_revoked" ∷ codes "n_expired" ∷ []) [] (omega arith, refl) counts_mean refl
+
 abbrev shown_counts : Counts → Row
 shown_counts counts = number counts.good ∷ number counts.revoked ∷ number counts.expired ∷ []
 
@@ -170,6 +196,10 @@ module _ (db : Database) (records : Records) (kept : Columns) (both : AreBoth db
   counts_given =
       keyed_given (λ _. Unit {0}) stored_counts (λ _. true) counts_out (kept.counts ∷ []) (tt, tt) 14 [] (col 1 2 ∷ col 1 3 ∷ col 1 4 ∷ []) [] no_limit [] COUNTS.now (codes "n_good" ∷ codes "n_revoked" ∷ codes "n_expired" ∷ []) counts_mean db refl rows reads
       both.kept.counts (λ counts any. refl) (λ counts. refl)
+
+  -- the one row is there
+  pub counts_rows : rows ≡ shown_counts kept.counts ∷ []
+  counts_rows = counts_given.shown ∙ ap (λ to. page (selects 14 [] (col 1 2 ∷ col 1 3 ∷ col 1 4 ∷ []) [] no_limit) [] (map (λ a. (counts_out a).1) to)) (one_permutation kept.counts counts_given.to counts_given.same)
 
   pub counts_one : (row : Row) → rows ≡ row ∷ [] → row ≡ shown_counts kept.counts
   counts_one row one =

@@ -1,23 +1,24 @@
 -- What the statement on the entries of a CRL shows.
-use Rattle.std.proofs.Common.{◌≡◌, ◌≤◌, ◌<◌, ◌+◌, ◌||◌, ◌&&◌, ℕ, true, false, Bool, not, Option, None, Some, List, [], ◌∷◌, map, codes, refl, sym, ap, subst, ◌∙◌, arith, inl, inr}
+use Rattle.std.proofs.Common.{◌≡◌, ◌≤◌, ◌<◌, ◌+◌, ◌||◌, ◌&&◌, ℕ, true, false, Bool, not, Option, None, Some, List, [], ◌∷◌, map, length, get_or, codes, refl, sym, ap, subst, ◌∙◌, arith, inl, inr}
 use Rattle.std.specs.Prelude.{nat_lt, nat_le, option_map}
 use Rattle.std.specs.List.{filter, find, list_any, AllByRecursion}
-use Rattle.std.specs.List.Sorted.{IsPermutation}
-use Rattle.std.specs.Ordering.{is_eq, is_ge}
+use Rattle.std.specs.List.Sorted.{IsPermutation, IsSorted, IsNonDecreasingBy}
+use Rattle.std.specs.Ordering.{nat_cmp, is_eq, is_ge, is_lt}
 use Rattle.std.proofs.lemmas.Bool.{cases_Bool, le-ltb, ltb-true, ltb-false}
 use Rattle.std.proofs.lemmas.Bool.Decides.{nat_tests}
 use Rattle.std.proofs.lemmas.Cmp.{tied_itself}
+use Rattle.std.proofs.lemmas.List.{get_or-map, length-map}
 use Rattle.std.proofs.lemmas.List.Elements.{All-from_recursion, recursion_from_All}
-use Rattle.std.proofs.lemmas.List.Sorted.{All-permutation, IsPermutation-map, IsPermutation-trans, IsPermutation-sym}
+use Rattle.std.proofs.lemmas.List.Sorted.{All-permutation, IsPermutation-map, IsPermutation-trans, IsPermutation-sym, IsNonDecreasingBy-from_sort, length_permutation}
 use Rattle.sqlite_value.specs.Order.{Row, value_cmp}
 use Rattle.sqlite_value.specs.declared.keys.Key.{Key}
 use Rattle.sqlite_value.specs.declared.keys.Collation.TheVariants.{Binary}
 use Rattle.sqlite_value.specs.declared.value.Value.TheVariants.{Null}
-use Rattle.sqlite_value.proofs.OrderLemmas.{value_cmp-apart, value_cmp_total}
+use Rattle.sqlite_value.proofs.OrderLemmas.{then-Equal, value_cmp-apart, value_cmp-Blob, value_cmp_total}
 use Rattle.sqlite_trees.proofs.ListLemmas.{map-map, filter-map, IsPermutation-filter}
 use Rattle.sqlite_sql.specs.Ops.{binary, is_true, from_truth, truth, or3}
 use Rattle.sqlite_sql.specs.Term.{Term, col, lit, op2}
-use Rattle.sqlite_sql.specs.Query.{Output}
+use Rattle.sqlite_sql.specs.Query.{Output, key_cmp}
 use Rattle.sqlite_sql.specs.declared.ops.BinaryOp.TheVariants.{Compare, Is, Or}
 use Rattle.sqlite_sql.specs.declared.ops.CompareOp.TheVariants.{Le, Ge}
 use Rattle.sqlite.specs.Effect.{Database, Reads}
@@ -26,19 +27,24 @@ use Rattle.sqlite_resolve.specs.Compile.{first}
 use Rattle.sqlite_tied.specs.Compute.{everything}
 use Rattle.reg_core.specs.Crls.{EntriesAscend, is_on, is_past_on, content, entry_of, entries}
 use Rattle.reg_core.specs.Records.{Records, Crl}
-use Rattle.reg_core.specs.Serial.{IsSerial}
-use Rattle.reg_core.specs.Sound.{NumberedFrom}
+use Rattle.reg_core.specs.Serial.{IsSerial, serial_bytes}
+use Rattle.reg_core.specs.Sound.{NumberedFrom, SoundRows}
 use Rattle.reg_core.specs.declared.rows.Entry.{Entry}
 use Rattle.reg_core.specs.declared.rows.RevocationRow.{RevocationRow}
+use Rattle.reg_laws.proofs.Entries.{entries_ascending}
 use Rattle.reg_tables.specs.Schema.{register_schema}
 use Rattle.reg_tables.specs.Rows.{number, serial_value}
 use Rattle.reg_tables.specs.Columns.{Listed, Columns, stored_listed, number_or_null}
 use Rattle.reg_tables.specs.Shows.{AreBoth}
 use Rattle.reg_tables.specs.Kept.{Kept, listed_of}
+use Rattle.reg_tables.specs.Failing.{IsAsked}
 use Rattle.reg_tables.specs.Reading.{IsReading, command_of, shown_entry}
+use Rattle.reg_tables.specs.Values.{AreMomentAndReason}
 use Rattle.reg_tables.specs.declared.statements.TheConstants.{ENTRIES}
 use Rattle.reg_tables.proofs.AscendLemmas.{serial_of, ascending_same, ascending_sorted}
-use Rattle.reg_tables.proofs.Compares.{and_true, compares, le_number, number_order, is_ge-nat_cmp}
+use Rattle.reg_tables.proofs.Compares.{and_true, compares, le_number, number_order, is_ge-nat_cmp, serial_order}
+use Rattle.reg_tables.proofs.FailingLemmas.{asked_by}
+use Rattle.reg_tables.proofs.Few.{fewer}
 use Rattle.reg_tables.proofs.Queries.{selects, as_command, no_limit, Given, counted_given, kept_have}
 use Rattle.reg_tables.proofs.Selecting.{select_never}
 use Rattle.reg_tables.proofs.Sorting.{ascending_key, sorted_same}
@@ -78,6 +84,10 @@ entries_mean = refl
 pub reading_entries : IsReading ENTRIES.now
 unfolding understood everything register_schema first
 reading_entries = record { plain = (refl, refl); unlisted = refl; never = select_never ENTRIES.now _ _ refl refl refl }
+
+pub asked_entries : (n : ℕ) → IsAsked ENTRIES.now (number n ∷ [])
+unfolding understood everything register_schema
+asked_entries n = asked_by ENTRIES.now 15 listing_terms columns by_serial no_limit names (number n ∷ []) (omega arith, refl) entries_mean refl
 
 or_truth : (a b : Bool) → is_true (from_truth (or3 (truth (from_truth (Some a))) (truth (from_truth (Some b))))) ≡ (a || b)
 or_truth true true = refl
@@ -169,6 +179,26 @@ all_mapped : {A B : Type 0} (P : B → Type 0) (f : A → B) (xs : List A) → A
 all_mapped P f [] all = tt
 all_mapped P f (x ∷ xs) all = (all.0, all_mapped P f xs all.1)
 
+-- ---- in the order of serial numbers
+
+serial_key : (a b : ℕ) → IsSerial a → IsSerial b → key_cmp 0 (ascending_key ∷ []) (serial_value a ∷ []) (serial_value b ∷ []) ≡ nat_cmp a b
+serial_key a b in_a in_b = then-Equal _ ∙ value_cmp-Blob (serial_bytes a) (serial_bytes b) ∙ serial_order a b in_a in_b
+
+listed_ascends : (xs : List Listed) → AllByRecursion in_range xs → IsSorted (λ (a b : Listed). key_cmp 0 (ascending_key ∷ []) (serial_value a.serial ∷ []) (serial_value b.serial ∷ [])) xs → IsNonDecreasingBy (λ (row : Listed). row.serial) xs
+listed_ascends xs all sorted =
+    IsNonDecreasingBy-from_sort (λ (row : Listed). row.serial) xs (λ k d low high.
+    sym (ap is_lt (serial_key (get_or xs (k + 1) d).serial (get_or xs k d).serial (All-from_recursion in_range xs all (k + 1) d high) (All-from_recursion in_range xs all k d (omega arith)))) ∙ sorted k d low high)
+
+entries_ascend : (xs : List Listed) → IsNonDecreasingBy (λ (row : Listed). row.serial) xs → IsNonDecreasingBy serial_of (map entry_in xs)
+entries_ascend [] rises i j d le within = absurd (omega (arith, within))
+entries_ascend (x ∷ xs) rises i j d le within =
+    let size : length (map entry_in (x ∷ xs)) ≡ length (x ∷ xs) = rw length-map refl in
+    let inside : j < length (x ∷ xs) = omega arith in
+    let earlier : serial_of (get_or (map entry_in (x ∷ xs)) i d) ≡ (get_or (x ∷ xs) i x).serial = ap serial_of (get_or-map entry_in (x ∷ xs) i x d (omega arith)) in
+    let later : serial_of (get_or (map entry_in (x ∷ xs)) j d) ≡ (get_or (x ∷ xs) j x).serial = ap serial_of (get_or-map entry_in (x ∷ xs) j x d inside) in
+    let rise : (get_or (x ∷ xs) i x).serial ≤ (get_or (x ∷ xs) j x).serial = rises i j x le inside in
+    omega arith
+
 module _ (db : Database) (records : Records) (kept : Columns) (both : AreBoth db records kept) (law : Kept kept records) (n : ℕ) (rows : List Row)
     (reads : Reads (command_of (understood register_schema ENTRIES.now)) db (number n ∷ []) rows) where
   pub entries_given : Given (lists n) out kept.listed (selects 15 listing_terms columns by_serial no_limit) (number n ∷ []) rows
@@ -192,9 +222,43 @@ module _ (db : Database) (records : Records) (kept : Columns) (both : AreBoth db
         same = subst (λ l. IsPermutation l found_entries) (entries_listed records n both.shown.rows.crls_numbered) same;
       }
 
+  -- in the order in which the statement asks for them
+  pub entries_sorted : IsNonDecreasingBy serial_of found_entries
+  entries_sorted =
+      let kept_all = kept_have in_range (lists n) kept.listed both.kept.listed_serials in
+      let all = recursion_from_All in_range entries_given.to (All-permutation in_range (filter (lists n) kept.listed) entries_given.to entries_given.same (All-from_recursion in_range (filter (lists n) kept.listed) kept_all)) in
+      entries_ascend entries_given.to (listed_ascends entries_given.to all entries_given.sorted)
+
 -- in ascending order they are the entries of the CRL
 pub entries_are : (records : Records) (n : ℕ) (rows : List Row) (found : List Entry) → Lists records n rows found → EntriesAscend found → found ≡ entries records n
 entries_are records n rows found lists up =
     sym (sorted_same serial_of found (entries records n) up
     (IsPermutation-trans found (map entry_of (content records n)) (entries records n) (IsPermutation-sym (map entry_of (content records n)) found lists.same) (ascending_same (map entry_of (content records n))))
     (ascending_sorted (map entry_of (content records n))))
+
+-- ---- the entries of records that a register writes
+
+module _ (records : Records) (n : ℕ) (rows : List Row) (found : List Entry) (it : Lists records n rows found) where
+  -- they have the moments and reasonCodes of revocations
+  pub entries_have : AllByRecursion (λ row. AreMomentAndReason row.at row.reason) records.revocations → AllByRecursion (λ entry. AreMomentAndReason entry.at entry.reason) found
+  entries_have all =
+      let P : Entry → Type 0 = λ entry. AreMomentAndReason entry.at entry.reason in
+      let listed = map entry_of (content records n) in
+      let each = all_mapped P entry_of (content records n) (kept_have (λ (row : RevocationRow). AreMomentAndReason row.at row.reason) (is_on records.certificates records.crls n) records.revocations all) in
+      recursion_from_All P found (All-permutation P listed found it.same (All-from_recursion P listed each))
+
+  -- no more than there are revocations
+  pub entries_within : length found ≤ length records.revocations
+  entries_within =
+      let same = length_permutation (map entry_of (content records n)) found it.same in
+      let mapped : length (map entry_of (content records n)) ≡ length (content records n) = rw length-map refl in
+      let on = fewer (is_on records.certificates records.crls n) records.revocations in
+      omega arith
+
+  -- and they ascend strictly
+  pub entries_rise : SoundRows records → IsNonDecreasingBy serial_of found → EntriesAscend found
+  entries_rise sound sorted =
+      let listed = map entry_of (content records n) in
+      let rises = entries_ascending records n sound in
+      let same = IsPermutation-trans (entries records n) listed found (IsPermutation-sym listed (entries records n) (ascending_same listed)) it.same in
+      subst EntriesAscend (sym (sorted_same serial_of (entries records n) found rises same sorted)) rises

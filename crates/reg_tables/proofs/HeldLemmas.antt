@@ -16,12 +16,15 @@ use Rattle.reg_tables.specs.Schema.{register_schema}
 use Rattle.reg_tables.specs.Rows.{number, behind_rowids, stored_subscriber, stored_order, stored_certificate, stored_request, stored_crl}
 use Rattle.reg_tables.specs.Shows.{IsShownBy}
 use Rattle.reg_tables.specs.Tables.{IsNumberShown}
+use Rattle.reg_tables.specs.Failing.{IsAsked}
 use Rattle.reg_tables.specs.Reading.{IsReading, command_of}
 use Rattle.reg_tables.specs.declared.statements.TheConstants.{LAST_SUBSCRIBER, LAST_ORDER, LAST_CERT, LAST_REQUEST, LATEST_CRL}
 use Rattle.reg_tables.proofs.Queries.{selects, as_command, Given, keyed_given, all_of}
 use Rattle.reg_tables.proofs.Selecting.{select_never}
 use Rattle.reg_tables.proofs.Sorting.{descending_key}
 use Rattle.reg_tables.proofs.Greatest.{one_row, greatest_none, greatest_one}
+use Rattle.reg_tables.proofs.FailingLemmas.{asked_by}
+use Rattle.reg_tables.proofs.Few.{taken_few}
 
 -- a statement on the greatest number, of a table whose key it is
 module _ {A : Type 0} (stored : A → Row) (n : A → ℕ) (view : A → Row) (xs : List A) (numbered : NumberedFrom n 1 xs) (tree : ℕ) (project : List Term) (text : List ℕ) (names : List (List ℕ))
@@ -34,6 +37,7 @@ module _ {A : Type 0} (stored : A → Row) (n : A → ℕ) (view : A → Row) (x
     one = λ row one.
         let it = greatest_one n view xs numbered tree project [] rows given (λ _. Unit {0}) (all_of (λ _. Unit {0}) (λ _. tt) xs) row one in
         ap (λ (r : Row). column r 0) it.shown ∙ shows_it it.it ∙ ap number it.counts;
+    few = taken_few rows (map view given.to) given.shown;
   }
 
 subscriber_means : command_of (understood register_schema LAST_SUBSCRIBER.now) ≡ as_command (selects 1 [] (col 1 0 ∷ []) ((col 1 0, descending_key) ∷ []) one_row) (codes "id" ∷ [])
@@ -43,6 +47,10 @@ subscriber_means = refl
 pub reading_subscriber : IsReading LAST_SUBSCRIBER.now
 unfolding understood everything register_schema first
 reading_subscriber = record { plain = (refl, refl); unlisted = refl; never = select_never LAST_SUBSCRIBER.now _ _ refl refl refl }
+
+pub asked_subscriber : IsAsked LAST_SUBSCRIBER.now []
+unfolding understood everything register_schema
+asked_subscriber = asked_by LAST_SUBSCRIBER.now 1 [] (col 1 0 ∷ []) ((col 1 0, descending_key) ∷ []) one_row (codes "id" ∷ []) [] (omega arith, refl) subscriber_means refl
 
 module _ (db : Database) (records : Records) (shown : IsShownBy db records) (rows : List Row) (reads : Reads (command_of (understood register_schema LAST_SUBSCRIBER.now)) db [] rows) where
   pub subscriber_given : Given (λ _. true) (λ (row : SubscriberRow). (number row.id ∷ [], number row.id ∷ [])) records.subscribers (selects 1 [] (col 1 0 ∷ []) ((col 1 0, descending_key) ∷ []) one_row) [] rows
@@ -61,6 +69,10 @@ pub reading_order : IsReading LAST_ORDER.now
 unfolding understood everything register_schema first
 reading_order = record { plain = (refl, refl); unlisted = refl; never = select_never LAST_ORDER.now _ _ refl refl refl }
 
+pub asked_order : IsAsked LAST_ORDER.now []
+unfolding understood everything register_schema
+asked_order = asked_by LAST_ORDER.now 3 [] (col 1 0 ∷ []) ((col 1 0, descending_key) ∷ []) one_row (codes "id" ∷ []) [] (omega arith, refl) order_means refl
+
 module _ (db : Database) (records : Records) (shown : IsShownBy db records) (rows : List Row) (reads : Reads (command_of (understood register_schema LAST_ORDER.now)) db [] rows) where
   pub order_given : Given (λ _. true) (λ (row : OrderRow). (number row.id ∷ [], number row.id ∷ [])) records.orders (selects 3 [] (col 1 0 ∷ []) ((col 1 0, descending_key) ∷ []) one_row) [] rows
   order_given =
@@ -78,6 +90,10 @@ pub reading_request : IsReading LAST_REQUEST.now
 unfolding understood everything register_schema first
 reading_request = record { plain = (refl, refl); unlisted = refl; never = select_never LAST_REQUEST.now _ _ refl refl refl }
 
+pub asked_request : IsAsked LAST_REQUEST.now []
+unfolding understood everything register_schema
+asked_request = asked_by LAST_REQUEST.now 7 [] (col 1 0 ∷ []) ((col 1 0, descending_key) ∷ []) one_row (codes "id" ∷ []) [] (omega arith, refl) request_means refl
+
 module _ (db : Database) (records : Records) (shown : IsShownBy db records) (rows : List Row) (reads : Reads (command_of (understood register_schema LAST_REQUEST.now)) db [] rows) where
   pub request_given : Given (λ _. true) (λ (row : RequestRow). (number row.id ∷ [], number row.id ∷ [])) records.requests (selects 7 [] (col 1 0 ∷ []) ((col 1 0, descending_key) ∷ []) one_row) [] rows
   request_given =
@@ -94,6 +110,10 @@ crl_means = refl
 pub reading_crl : IsReading LATEST_CRL.now
 unfolding understood everything register_schema first
 reading_crl = record { plain = (refl, refl); unlisted = refl; never = select_never LATEST_CRL.now _ _ refl refl refl }
+
+pub asked_crl : IsAsked LATEST_CRL.now []
+unfolding understood everything register_schema
+asked_crl = asked_by LATEST_CRL.now 11 [] (col 1 0 ∷ col 1 2 ∷ []) ((col 1 0, descending_key) ∷ []) one_row (codes "number" ∷ codes "this_update" ∷ []) [] (omega arith, refl) crl_means refl
 
 module _ (db : Database) (records : Records) (shown : IsShownBy db records) (rows : List Row) (reads : Reads (command_of (understood register_schema LATEST_CRL.now)) db [] rows) where
   pub crl_given : Given (λ _. true) (λ (row : Crl). (number row.number ∷ [], number row.number ∷ number row.this_update ∷ [])) records.crls (selects 11 [] (col 1 0 ∷ col 1 2 ∷ []) ((col 1 0, descending_key) ∷ []) one_row) [] rows
@@ -131,6 +151,10 @@ cert_means = refl
 pub reading_cert : IsReading LAST_CERT.now
 unfolding understood everything register_schema first
 reading_cert = record { plain = (refl, refl); unlisted = refl; never = select_never LAST_CERT.now _ _ refl refl refl }
+
+pub asked_cert : IsAsked LAST_CERT.now []
+unfolding understood everything register_schema
+asked_cert = asked_by LAST_CERT.now 4 [] (col 1 0 ∷ []) ((col 1 0, descending_key) ∷ []) one_row (codes "rowid" ∷ []) [] (omega arith, refl) cert_means refl
 
 module _ (db : Database) (records : Records) (shown : IsShownBy db records) (rows : List Row) (reads : Reads (command_of (understood register_schema LAST_CERT.now)) db [] rows) where
   abbrev numbered_certificates : List (ℕ × CertRow)

@@ -7,6 +7,7 @@ pub mod Greatest
 pub mod UnlistedLemmas
 pub mod ScheduleLemmas
 pub mod Taking
+pub mod Judging
 pub mod AscendLemmas
 pub mod EntryLemmas
 pub mod CountLemmas
@@ -22,3 +23,6 @@ pub mod OrderLemmas
 pub mod CertificateLemmas
 pub mod RequestLemmas
 pub mod RevocationLemmas
+pub mod Few
+pub mod FailingLemmas
+pub mod Written

@@ -1,5 +1,5 @@
 -- What the statement on a listed serial number shows.
-use Rattle.std.proofs.Common.{◌≡◌, ℕ, Bool, Option, None, Some, List, [], ◌∷◌, map, codes, refl, ap, ◌∙◌, inl, inr}
+use Rattle.std.proofs.Common.{◌≡◌, ◌≤◌, ℕ, Bool, Option, None, Some, List, [], ◌∷◌, map, length, codes, refl, ap, ◌∙◌, arith, inl, inr}
 use Rattle.std.specs.Prelude.{◌==◌, option_map}
 use Rattle.std.specs.List.{filter, find}
 use Rattle.std.proofs.lemmas.Bool.{cases_Bool}
@@ -15,17 +15,23 @@ use Rattle.sqlite_tied.specs.Compute.{everything}
 use Rattle.reg_core.specs.Queries.{listing}
 use Rattle.reg_core.specs.Records.{Records, revocation_in}
 use Rattle.reg_core.specs.Serial.{IsSerial}
+use Rattle.reg_core.specs.Sound.{KeysDiffer}
 use Rattle.reg_core.specs.declared.command.Listing.{Listing}
+use Rattle.reg_core.specs.declared.rows.RevocationRow.{RevocationRow}
+use Rattle.reg_laws.proofs.ListFacts.{keys_map}
 use Rattle.reg_tables.specs.Schema.{register_schema}
 use Rattle.reg_tables.specs.Rows.{number, serial_value}
 use Rattle.reg_tables.specs.Columns.{Listed, Columns, stored_listed, number_or_null}
 use Rattle.reg_tables.specs.Shows.{AreBoth}
 use Rattle.reg_tables.specs.Kept.{Kept, listed_of}
+use Rattle.reg_tables.specs.Failing.{IsAsked}
 use Rattle.reg_tables.specs.Reading.{IsReading, command_of}
 use Rattle.reg_tables.specs.declared.statements.TheConstants.{LISTED_BY_SERIAL}
 use Rattle.reg_tables.proofs.Compares.{and_true, eq_serial}
 use Rattle.reg_tables.proofs.Queries.{column_is, selects, as_command, no_limit, Given, counted_given, all_of, find_none, find_one}
 use Rattle.reg_tables.proofs.Selecting.{select_never}
+use Rattle.reg_tables.proofs.FailingLemmas.{asked_by}
+use Rattle.reg_tables.proofs.Few.{given_few, one_number}
 
 abbrev columns : List Term
 columns = col 1 4 ∷ col 1 6 ∷ []
@@ -40,6 +46,10 @@ listed_means = refl
 pub reading_listed : IsReading LISTED_BY_SERIAL.now
 unfolding understood everything register_schema first
 reading_listed = record { plain = (refl, refl); unlisted = refl; never = select_never LISTED_BY_SERIAL.now _ _ refl refl refl }
+
+pub asked_listed : (serial : ℕ) → IsAsked LISTED_BY_SERIAL.now (serial_value serial ∷ [])
+unfolding understood everything register_schema
+asked_listed serial = asked_by LISTED_BY_SERIAL.now 15 (column_is 1) columns [] no_limit names (serial_value serial ∷ []) (omega arith, refl) listed_means refl
 
 abbrev shown_listed : Listed → Row
 shown_listed row = number row.first ∷ number_or_null row.last ∷ []
@@ -87,6 +97,10 @@ module _ (db : Database) (records : Records) (kept : Columns) (both : AreBoth db
   listing_is =
       ap (option_map listing_of) (find_mapped has_serial (listed_of records) records.revocations)
       ∙ option_map_twice listing_of (listed_of records) (revocation_in records.revocations serial)
+
+  pub listed_few : KeysDiffer (λ (row : RevocationRow). row.serial) records.revocations → length rows ≤ 1
+  listed_few differ = given_few has_serial out listed_rows 15 (column_is 1) columns [] (serial_value serial ∷ []) rows listed_given
+      (one_number (λ (row : Listed). row.serial) serial listed_rows (keys_map (λ (row : Listed). row.serial) (listed_of records) records.revocations differ))
 
   pub listed_none : rows ≡ [] → None ≡ listing records serial
   listed_none none = ap (option_map listing_of) (find_none has_serial out listed_rows 15 (column_is 1) columns [] (serial_value serial ∷ []) rows listed_given none) ∙ listing_is

@@ -1,5 +1,5 @@
 -- What the look-ups of orders show.
-use Rattle.std.proofs.Common.{◌≡◌, ℕ, None, List, [], ◌∷◌, codes, refl, ◌∙◌}
+use Rattle.std.proofs.Common.{◌≡◌, ◌≤◌, ℕ, None, List, [], ◌∷◌, length, codes, refl, ◌∙◌, arith}
 use Rattle.std.specs.Prelude.{◌==◌}
 use Rattle.sqlite_value.specs.Order.{Row}
 use Rattle.sqlite_sql.specs.Term.{Term, col}
@@ -13,11 +13,14 @@ use Rattle.reg_core.specs.declared.rows.OrderRow.{OrderRow}
 use Rattle.reg_tables.specs.Schema.{register_schema}
 use Rattle.reg_tables.specs.Rows.{number, stored_order}
 use Rattle.reg_tables.specs.Shows.{IsShownBy}
+use Rattle.reg_tables.specs.Failing.{IsAsked}
 use Rattle.reg_tables.specs.Reading.{IsReading, command_of, shown_order}
 use Rattle.reg_tables.specs.declared.statements.TheConstants.{ORDER_BY_ID}
 use Rattle.reg_tables.proofs.Compares.{and_true, eq_number}
 use Rattle.reg_tables.proofs.Queries.{column_is, selects, as_command, no_limit, Given, keyed_given, all_of, find_none, find_one, Found}
 use Rattle.reg_tables.proofs.Selecting.{select_never}
+use Rattle.reg_tables.proofs.FailingLemmas.{asked_by}
+use Rattle.reg_tables.proofs.Few.{given_few, numbers_differ, one_number}
 
 abbrev columns : List Term
 columns = col 1 0 ∷ col 1 2 ∷ col 1 3 ∷ []
@@ -36,6 +39,10 @@ pub reading_by_id : IsReading ORDER_BY_ID.now
 unfolding understood everything register_schema first
 reading_by_id = record { plain = (refl, refl); unlisted = refl; never = select_never ORDER_BY_ID.now _ _ refl refl refl }
 
+pub asked_by_id : (id : ℕ) → IsAsked ORDER_BY_ID.now (number id ∷ [])
+unfolding understood everything register_schema
+asked_by_id id = asked_by ORDER_BY_ID.now 3 (column_is 0) columns [] no_limit names (number id ∷ []) (omega arith, refl) by_id_means refl
+
 module _ (db : Database) (records : Records) (shown : IsShownBy db records) (id : ℕ) (rows : List Row) (reads : Reads (command_of (understood register_schema ORDER_BY_ID.now)) db (number id ∷ []) rows) where
   by_id_given : Given (λ row. row.id == id) out records.orders (selects 3 (column_is 0) columns [] no_limit) (number id ∷ []) rows
   by_id_given =
@@ -44,6 +51,10 @@ module _ (db : Database) (records : Records) (shown : IsShownBy db records) (id 
 
   pub by_id_none : rows ≡ [] → None ≡ order_in records.orders id
   by_id_none = find_none (λ row. row.id == id) out records.orders 3 (column_is 0) columns [] (number id ∷ []) rows by_id_given
+
+  pub by_id_few : length rows ≤ 1
+  by_id_few = given_few (λ row. row.id == id) out records.orders 3 (column_is 0) columns [] (number id ∷ []) rows by_id_given
+      (one_number (λ (row : OrderRow). row.id) id records.orders (numbers_differ (λ (row : OrderRow). row.id) 1 records.orders shown.rows.orders_numbered))
 
   pub by_id_one : (row : Row) → rows ≡ row ∷ [] → Found (λ _. Unit {0}) shown_order (order_in records.orders id) row
   by_id_one = find_one (λ row. row.id == id) out records.orders 3 (column_is 0) columns [] (number id ∷ []) rows by_id_given (λ _. Unit {0}) (all_of (λ _. Unit {0}) (λ _. tt) records.orders)

@@ -1,9 +1,9 @@
 -- What the statement on the requests that are not declined shows, and which of them are overdue.
-use Rattle.std.proofs.Common.{◌≡◌, ◌<◌, ◌+◌, ◌++◌, ◌&&◌, ℕ, pos, true, false, Bool, not, cond, List, [], ◌∷◌, map, length, take, get_or, codes, refl, sym, ap, ◌∙◌, inl, inr}
+use Rattle.std.proofs.Common.{◌≡◌, ◌≤◌, ◌<◌, ◌+◌, ◌++◌, ◌&&◌, ℕ, pos, true, false, Bool, not, cond, Some, List, [], ◌∷◌, map, length, take, get_or, codes, refl, sym, ap, ◌∙◌, arith, inl, inr}
 use Rattle.std.specs.Prelude.{◌==◌, nat_lt}
 use Rattle.std.specs.List.{filter, AllByRecursion}
 use Rattle.std.proofs.lemmas.Bool.{cases_Bool}
-use Rattle.std.proofs.lemmas.List.{take_more}
+use Rattle.std.proofs.lemmas.List.{length-take, take_more}
 use Rattle.sqlite_value.specs.Order.{Row}
 use Rattle.sqlite_value.specs.declared.keys.Key.{Key}
 use Rattle.sqlite_value.specs.declared.keys.Collation.TheVariants.{Binary}
@@ -16,19 +16,25 @@ use Rattle.sqlite.specs.Effect.{Database, Reads}
 use Rattle.sqlite.specs.Listing.{understood}
 use Rattle.sqlite_resolve.specs.Compile.{first}
 use Rattle.sqlite_tied.specs.Compute.{everything}
-use Rattle.reg_core.specs.Due.{deadline, is_open, overdue}
+use Rattle.reg_core.specs.Due.{deadline, is_open, overdue, overdue_report}
 use Rattle.reg_core.specs.Records.{Records}
 use Rattle.reg_core.specs.Serial.{IsSerial}
 use Rattle.reg_core.specs.Status.{status, is_good}
+use Rattle.reg_core.specs.declared.command.Overdue.{Overdue}
+use Rattle.reg_core.specs.declared.command.Status.{Status}
+use Rattle.reg_core.specs.declared.command.Status.TheVariants.{Unknown, Good, Expired, Revoked}
 use Rattle.reg_core.specs.declared.rows.RequestRow.{RequestRow}
 use Rattle.reg_tables.specs.Schema.{register_schema}
 use Rattle.reg_tables.specs.Rows.{number, stored_request}
 use Rattle.reg_tables.specs.Shows.{IsShownBy}
+use Rattle.reg_tables.specs.Failing.{IsAsked}
 use Rattle.reg_tables.specs.Reading.{IsReading, command_of, shown_request}
 use Rattle.reg_tables.specs.declared.statements.TheConstants.{UNDECLINED}
 use Rattle.reg_tables.proofs.Compares.{and_true, eq_number}
 use Rattle.reg_tables.proofs.Queries.{selects, as_command, no_limit, Given, keyed_given, kept_have}
 use Rattle.reg_tables.proofs.Selecting.{select_never}
+use Rattle.reg_tables.proofs.FailingLemmas.{asked_by}
+use Rattle.reg_tables.proofs.Few.{fewer}
 use Rattle.reg_tables.proofs.Sorting.{ascending_key, ascends, Rises, sorted_same}
 use Rattle.reg_tables.proofs.Greatest.{numbered_rises}
 
@@ -51,6 +57,10 @@ undeclined_means = refl
 pub reading_undeclined : IsReading UNDECLINED.now
 unfolding understood everything register_schema first
 reading_undeclined = record { plain = (refl, refl); unlisted = refl; never = select_never UNDECLINED.now _ _ refl refl refl }
+
+pub asked_undeclined : IsAsked UNDECLINED.now []
+unfolding understood everything register_schema
+asked_undeclined = asked_by UNDECLINED.now 7 undeclined_terms columns by_id no_limit names [] (omega arith, refl) undeclined_means refl
 
 abbrev id_of : RequestRow → ℕ
 id_of row = row.id
@@ -93,6 +103,13 @@ module _ (db : Database) (records : Records) (shown : IsShownBy db records) (row
 pub and_true_false : (b : Bool) → (b && false) ≡ false
 and_true_false true = refl
 and_true_false false = refl
+
+-- a status that is not good is told as that
+pub not_good : (s : Status) → (s ≡ Good → ⊥) → false ≡ is_good s
+not_good Unknown never = refl
+not_good Good never = absurd (never refl)
+not_good Expired never = refl
+not_good (Revoked at reason) never = refl
 
 -- both tests, in the order of the code
 pub late_is : (good past : Bool) → cond good past false ≡ (good && past)
@@ -140,3 +157,19 @@ with_late p xs i x within is passed = ap (filter p) (take_more xs i x within ∙
 
 pub without_late : {A : Type 0} (p : A → Bool) (xs : List A) (i : ℕ) (x : A) → i < length xs → x ≡ get_or xs i x → p x ≡ false → filter p (take (i + 1) xs) ≡ filter p (take i xs)
 without_late p xs i x within is failed = ap (filter p) (take_more xs i x within ∙ ap (λ y. take i xs ++ y ∷ []) (sym is)) ∙ filter_append p (take i xs) x ∙ rw failed refl
+
+-- no more rows of a front are kept than there are
+pub front_within : {A : Type 0} (p q : A → Bool) (i : ℕ) (xs : List A) → length (filter p (take i (filter q xs))) ≤ length xs
+front_within p q i xs =
+    let kept = fewer p (take i (filter q xs)) in
+    let front = length-take i (filter q xs) in
+    let open_ones = fewer q xs in
+    omega arith
+
+same_report : (one other : Overdue) → Some one ≡ Some other → one ≡ other
+same_report one other same = cc
+
+-- the requests that are reported are as many as the report counts
+pub report_counts : (requests : List RequestRow) (report : Overdue) → Some report ≡ overdue_report requests → report.count ≡ length requests
+report_counts [] report is = absurd (cc)
+report_counts (request ∷ rest) report is = ap (λ (r : Overdue). r.count) (same_report report (record { count = length (request ∷ rest); first = request.id }) is)

@@ -1,6 +1,7 @@
 -- What the look-ups of requests show.
-use Rattle.std.proofs.Common.{◌≡◌, ℕ, None, List, [], ◌∷◌, codes, refl, ◌∙◌}
+use Rattle.std.proofs.Common.{◌≡◌, ◌≤◌, ℕ, None, List, [], ◌∷◌, length, codes, refl, ◌∙◌, arith}
 use Rattle.std.specs.Prelude.{◌==◌}
+use Rattle.std.specs.List.{AllByRecursion}
 use Rattle.sqlite_value.specs.Order.{Row}
 use Rattle.sqlite_sql.specs.Term.{Term, col}
 use Rattle.sqlite_sql.specs.Query.{Output}
@@ -14,11 +15,14 @@ use Rattle.reg_core.specs.declared.rows.RequestRow.{RequestRow}
 use Rattle.reg_tables.specs.Schema.{register_schema}
 use Rattle.reg_tables.specs.Rows.{number, stored_request}
 use Rattle.reg_tables.specs.Shows.{IsShownBy}
+use Rattle.reg_tables.specs.Failing.{IsAsked}
 use Rattle.reg_tables.specs.Reading.{IsReading, command_of, shown_request}
 use Rattle.reg_tables.specs.declared.statements.TheConstants.{REQUEST_BY_ID}
 use Rattle.reg_tables.proofs.Compares.{and_true, eq_number}
 use Rattle.reg_tables.proofs.Queries.{column_is, selects, as_command, no_limit, Given, keyed_given, find_none, find_one, Found}
 use Rattle.reg_tables.proofs.Selecting.{select_never}
+use Rattle.reg_tables.proofs.FailingLemmas.{asked_by}
+use Rattle.reg_tables.proofs.Few.{given_few, numbers_differ, one_number}
 
 abbrev columns : List Term
 columns = col 1 0 ∷ col 1 2 ∷ col 1 3 ∷ col 1 4 ∷ col 1 5 ∷ []
@@ -37,6 +41,10 @@ pub reading_by_id : IsReading REQUEST_BY_ID.now
 unfolding understood everything register_schema first
 reading_by_id = record { plain = (refl, refl); unlisted = refl; never = select_never REQUEST_BY_ID.now _ _ refl refl refl }
 
+pub asked_by_id : (id : ℕ) → IsAsked REQUEST_BY_ID.now (number id ∷ [])
+unfolding understood everything register_schema
+asked_by_id id = asked_by REQUEST_BY_ID.now 7 (column_is 0) columns [] no_limit names (number id ∷ []) (omega arith, refl) by_id_means refl
+
 module _ (db : Database) (records : Records) (shown : IsShownBy db records) (id : ℕ) (rows : List Row) (reads : Reads (command_of (understood register_schema REQUEST_BY_ID.now)) db (number id ∷ []) rows) where
   by_id_given : Given (λ row. row.id == id) out records.requests (selects 7 (column_is 0) columns [] no_limit) (number id ∷ []) rows
   by_id_given =
@@ -46,5 +54,12 @@ module _ (db : Database) (records : Records) (shown : IsShownBy db records) (id 
   pub by_id_none : rows ≡ [] → None ≡ request_in records.requests id
   by_id_none = find_none (λ row. row.id == id) out records.requests 7 (column_is 0) columns [] (number id ∷ []) rows by_id_given
 
+  pub by_id_few : length rows ≤ 1
+  by_id_few = given_few (λ row. row.id == id) out records.requests 7 (column_is 0) columns [] (number id ∷ []) rows by_id_given
+      (one_number (λ (row : RequestRow). row.id) id records.requests (numbers_differ (λ (row : RequestRow). row.id) 1 records.requests shown.rows.requests_numbered))
+
+  pub by_id_has : (P : RequestRow → Type 0) → AllByRecursion P records.requests → (row : Row) → rows ≡ row ∷ [] → Found P shown_request (request_in records.requests id) row
+  by_id_has P all = find_one (λ row. row.id == id) out records.requests 7 (column_is 0) columns [] (number id ∷ []) rows by_id_given P all
+
   pub by_id_one : (row : Row) → rows ≡ row ∷ [] → Found (λ row. IsSerial row.serial) shown_request (request_in records.requests id) row
-  by_id_one = find_one (λ row. row.id == id) out records.requests 7 (column_is 0) columns [] (number id ∷ []) rows by_id_given (λ row. IsSerial row.serial) shown.rows.request_serials
+  by_id_one = by_id_has (λ row. IsSerial row.serial) shown.rows.request_serials

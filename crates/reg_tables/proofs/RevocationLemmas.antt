@@ -1,6 +1,7 @@
 -- What the look-ups of revocations show.
-use Rattle.std.proofs.Common.{◌≡◌, ℕ, None, List, [], ◌∷◌, codes, refl, ◌∙◌}
+use Rattle.std.proofs.Common.{◌≡◌, ◌≤◌, ℕ, None, List, [], ◌∷◌, length, codes, refl, ◌∙◌, arith}
 use Rattle.std.specs.Prelude.{◌==◌}
+use Rattle.std.specs.List.{AllByRecursion}
 use Rattle.sqlite_value.specs.Order.{Row}
 use Rattle.sqlite_sql.specs.Term.{Term, col}
 use Rattle.sqlite_sql.specs.Query.{Output}
@@ -10,15 +11,19 @@ use Rattle.sqlite_resolve.specs.Compile.{first}
 use Rattle.sqlite_tied.specs.Compute.{everything}
 use Rattle.reg_core.specs.Records.{Records, revocation_in}
 use Rattle.reg_core.specs.Serial.{IsSerial}
+use Rattle.reg_core.specs.Sound.{KeysDiffer}
 use Rattle.reg_core.specs.declared.rows.RevocationRow.{RevocationRow}
 use Rattle.reg_tables.specs.Schema.{register_schema}
 use Rattle.reg_tables.specs.Rows.{serial_value, stored_revocation}
 use Rattle.reg_tables.specs.Shows.{IsShownBy}
+use Rattle.reg_tables.specs.Failing.{IsAsked}
 use Rattle.reg_tables.specs.Reading.{IsReading, command_of, shown_revocation}
 use Rattle.reg_tables.specs.declared.statements.TheConstants.{REVOCATION_BY_SERIAL}
 use Rattle.reg_tables.proofs.Compares.{and_true, eq_serial}
 use Rattle.reg_tables.proofs.Queries.{column_is, selects, as_command, no_limit, Given, counted_given, find_none, find_one, Found}
 use Rattle.reg_tables.proofs.Selecting.{select_never}
+use Rattle.reg_tables.proofs.FailingLemmas.{asked_by}
+use Rattle.reg_tables.proofs.Few.{given_few, one_number}
 
 abbrev columns : List Term
 columns = col 1 1 ∷ col 1 2 ∷ col 1 3 ∷ col 1 4 ∷ col 1 5 ∷ []
@@ -37,6 +42,10 @@ pub reading_by_serial : IsReading REVOCATION_BY_SERIAL.now
 unfolding understood everything register_schema first
 reading_by_serial = record { plain = (refl, refl); unlisted = refl; never = select_never REVOCATION_BY_SERIAL.now _ _ refl refl refl }
 
+pub asked_by_serial : (serial : ℕ) → IsAsked REVOCATION_BY_SERIAL.now (serial_value serial ∷ [])
+unfolding understood everything register_schema
+asked_by_serial serial = asked_by REVOCATION_BY_SERIAL.now 8 (column_is 1) columns [] no_limit names (serial_value serial ∷ []) (omega arith, refl) by_serial_means refl
+
 module _ (db : Database) (records : Records) (shown : IsShownBy db records) (serial : ℕ) (is_serial : IsSerial serial) (rows : List Row) (reads : Reads (command_of (understood register_schema REVOCATION_BY_SERIAL.now)) db (serial_value serial ∷ []) rows) where
   by_serial_given : Given (λ row. row.serial == serial) out records.revocations (selects 8 (column_is 1) columns [] no_limit) (serial_value serial ∷ []) rows
   by_serial_given =
@@ -46,5 +55,12 @@ module _ (db : Database) (records : Records) (shown : IsShownBy db records) (ser
   pub by_serial_none : rows ≡ [] → None ≡ revocation_in records.revocations serial
   by_serial_none = find_none (λ row. row.serial == serial) out records.revocations 8 (column_is 1) columns [] (serial_value serial ∷ []) rows by_serial_given
 
+  pub by_serial_few : KeysDiffer (λ (row : RevocationRow). row.serial) records.revocations → length rows ≤ 1
+  by_serial_few differ = given_few (λ row. row.serial == serial) out records.revocations 8 (column_is 1) columns [] (serial_value serial ∷ []) rows by_serial_given
+      (one_number (λ (row : RevocationRow). row.serial) serial records.revocations differ)
+
+  pub by_serial_has : (P : RevocationRow → Type 0) → AllByRecursion P records.revocations → (row : Row) → rows ≡ row ∷ [] → Found P shown_revocation (revocation_in records.revocations serial) row
+  by_serial_has P all = find_one (λ row. row.serial == serial) out records.revocations 8 (column_is 1) columns [] (serial_value serial ∷ []) rows by_serial_given P all
+
   pub by_serial_one : (row : Row) → rows ≡ row ∷ [] → Found (λ row. IsSerial row.serial) shown_revocation (revocation_in records.revocations serial) row
-  by_serial_one = find_one (λ row. row.serial == serial) out records.revocations 8 (column_is 1) columns [] (serial_value serial ∷ []) rows by_serial_given (λ row. IsSerial row.serial) shown.rows.revocation_serials
+  by_serial_one = by_serial_has (λ row. IsSerial row.serial) shown.rows.revocation_serials

@@ -16,10 +16,12 @@ use Rattle.reg_core.specs.Schedule.{Ascends}
 use Rattle.reg_tables.specs.Schema.{register_schema}
 use Rattle.reg_tables.specs.Rows.{number, stored_step}
 use Rattle.reg_tables.specs.Shows.{IsShownBy}
+use Rattle.reg_tables.specs.Failing.{IsAsked}
 use Rattle.reg_tables.specs.Reading.{IsReading, command_of, shown_step}
 use Rattle.reg_tables.specs.declared.statements.TheConstants.{STEPS}
 use Rattle.reg_tables.proofs.Queries.{selects, as_command, no_limit, Given, keyed_given, all_of}
 use Rattle.reg_tables.proofs.Selecting.{select_never}
+use Rattle.reg_tables.proofs.FailingLemmas.{asked_by}
 use Rattle.reg_tables.proofs.Sorting.{ascending_key, ascends, Rises, sorted_same}
 
 abbrev moment_of : ℕ × ℕ → ℕ
@@ -46,6 +48,10 @@ steps_mean = refl
 pub reading_steps : IsReading STEPS.now
 unfolding understood everything register_schema first
 reading_steps = record { plain = (refl, refl); unlisted = refl; never = select_never STEPS.now _ _ refl refl refl }
+
+pub asked_steps : IsAsked STEPS.now []
+unfolding understood everything register_schema
+asked_steps = asked_by STEPS.now 17 [] (col 1 0 ∷ col 1 2 ∷ []) by_moment no_limit (codes "from_at" ∷ codes "days" ∷ []) [] (omega arith, refl) steps_mean refl
 
 abbrev out : ℕ × ℕ → Output
 out step = (number (moment_of step) ∷ [], shown_step step)

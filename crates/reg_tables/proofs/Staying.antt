@@ -9,6 +9,7 @@ use Rattle.sqlite_trees.specs.declared.store.Store.{Ghosts}
 use Rattle.sqlite_schema.specs.declared.command.Returning.{Returning}
 use Rattle.sqlite_resolve.specs.declared.compiled.Compiled.{Compiled}
 use Rattle.sqlite.specs.declared.error.Error.{Error}
+use Rattle.sqlite.specs.declared.transaction.Transaction.{Transaction}
 use Rattle.sqlite.specs.Effect.{Database}
 use Rattle.sqlite.specs.Given.{IsPlain}
 use Rattle.sqlite.specs.Held.{Held, state}
@@ -22,7 +23,7 @@ use Rattle.reg_core.specs.Records.{Records}
 use Rattle.reg_tables.specs.Columns.{Columns}
 use Rattle.reg_tables.specs.Shows.{Holds, Shows, ShowsBoth, IsShownBy, AreBoth}
 use Rattle.reg_tables.specs.Kept.{ShowsKept}
-use Rattle.reg_tables.specs.Stays.{IsRegister, Stays, LeavesNothing}
+use Rattle.reg_tables.specs.Stays.{IsRegister, Stays, LeavesNothing, Looked, Stepped}
 
 abbrev Remains : State → State → Type 0
 Remains old new = IsUnchanged old new ⊎ IsRolledBack old new
@@ -223,3 +224,35 @@ reads_nothing old new sql params never = survives_weaker old new (CommitsShowing
 -- one such call after another
 pub leaves_then : (a b c : State) → LeavesNothing a b → LeavesNothing b c → LeavesNothing a c
 leaves_then a b c = survives_then a b c (λ _. ⊥) (λ _. ⊥) (λ _. ⊥) (λ clean db none. none) (λ clean db none. none)
+
+-- one look-up after another is one
+pub looked_then : {S : Type 0} {g : Ghosts S} {a b c : Held S} → Looked g a b → Looked g b c → Looked g a c
+looked_then {g = g} {a = a} {b = b} {c = c} first second = record {
+  same = λ register.
+      let was = first.same register in
+      stays_then (state g a) (state g b) (state g c) second.survives.clean was (second.same (stays_register (state g a) (state g b) first.survives.clean was register));
+  survives = leaves_then (state g a) (state g b) (state g c) first.survives second.survives;
+  idle = λ was. second.idle (first.idle was);
+}
+
+-- what is shown before a look-up is shown after it
+pub looked_shows : {S : Type 0} {g : Ghosts S} {old new : Held S} → Looked g old new → (records : Records) → Shows g old records → Shows g new records
+looked_shows {g = g} {old = old} {new = new} looked records shows = stays_shows g old new records looked.survives.clean (looked.same (shows_register g old records shows)) shows
+
+-- and what is kept beside it
+pub looked_both : {S : Type 0} {g : Ghosts S} {old new : Held S} → Looked g old new → (records : Records) (columns : Columns) → ShowsBoth g old records columns → ShowsBoth g new records columns
+looked_both {g = g} {old = old} {new = new} looked records columns both =
+    stays_both g old new records columns looked.survives.clean (looked.same (shows_register g old records (both_shows g old records columns both))) both
+
+-- one step after another is one
+pub stepped_then : {S : Type 0} {g : Ghosts S} {a b c : Transaction S} → Stepped g a b → Stepped g b c → Stepped g a c
+stepped_then {g = g} {a = a} {b = b} {c = c} first second = record {
+  same_reference = second.same_reference ∙ first.same_reference;
+  kept = λ clean.
+      let was : HasCleanDisk (state g b.conn.now) = was_clean (state g b.conn.now) (state g c.conn.now) second.survives.clean clean in
+      record {
+        was_open = λ up. (first.kept was).was_open ((second.kept clean).was_open up);
+        committed = λ up. (second.kept clean).committed up ∙ (first.kept was).committed ((second.kept clean).was_open up);
+      };
+  survives = leaves_then (state g a.conn.now) (state g b.conn.now) (state g c.conn.now) first.survives second.survives;
+}

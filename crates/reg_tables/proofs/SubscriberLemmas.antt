@@ -1,6 +1,8 @@
 -- What the look-ups of subscribers show.
-use Rattle.std.proofs.Common.{◌≡◌, ℕ, None, List, [], ◌∷◌, codes, refl, ◌∙◌}
+use Rattle.std.proofs.Common.{◌≡◌, ◌≤◌, ℕ, true, None, List, [], ◌∷◌, length, codes, refl, ◌∙◌, arith}
 use Rattle.std.specs.Prelude.{◌==◌, bytes_eq}
+use Rattle.std.specs.List.{AllByRecursion}
+use Rattle.std.proofs.lemmas.Slice.Eq.{bytes_eq-Decides}
 use Rattle.sqlite_value.specs.Order.{Row}
 use Rattle.sqlite_value.specs.declared.value.Value.TheVariants.{Text}
 use Rattle.sqlite_sql.specs.Term.{Term, col}
@@ -10,15 +12,19 @@ use Rattle.sqlite.specs.Listing.{understood}
 use Rattle.sqlite_resolve.specs.Compile.{first}
 use Rattle.sqlite_tied.specs.Compute.{everything}
 use Rattle.reg_core.specs.Records.{Records, subscriber_in, subscriber_named}
+use Rattle.reg_core.specs.Sound.{KeysDiffer}
 use Rattle.reg_core.specs.declared.rows.SubscriberRow.{SubscriberRow}
 use Rattle.reg_tables.specs.Schema.{register_schema}
 use Rattle.reg_tables.specs.Rows.{number, stored_subscriber}
 use Rattle.reg_tables.specs.Shows.{IsShownBy}
+use Rattle.reg_tables.specs.Failing.{IsAsked}
 use Rattle.reg_tables.specs.Reading.{IsReading, command_of, shown_subscriber}
 use Rattle.reg_tables.specs.declared.statements.TheConstants.{SUBSCRIBER_BY_ID, SUBSCRIBER_BY_NAME}
 use Rattle.reg_tables.proofs.Compares.{and_true, eq_number, eq_text}
 use Rattle.reg_tables.proofs.Queries.{column_is, selects, as_command, no_limit, Given, keyed_given, all_of, find_none, find_one, Found}
 use Rattle.reg_tables.proofs.Selecting.{select_never}
+use Rattle.reg_tables.proofs.FailingLemmas.{asked_by}
+use Rattle.reg_tables.proofs.Few.{at_most_one, given_few, numbers_differ, one_number}
 
 abbrev columns : List Term
 columns = col 1 0 ∷ col 1 2 ∷ []
@@ -37,6 +43,10 @@ pub reading_by_id : IsReading SUBSCRIBER_BY_ID.now
 unfolding understood everything register_schema first
 reading_by_id = record { plain = (refl, refl); unlisted = refl; never = select_never SUBSCRIBER_BY_ID.now _ _ refl refl refl }
 
+pub asked_by_id : (id : ℕ) → IsAsked SUBSCRIBER_BY_ID.now (number id ∷ [])
+unfolding understood everything register_schema
+asked_by_id id = asked_by SUBSCRIBER_BY_ID.now 1 (column_is 0) columns [] no_limit names (number id ∷ []) (omega arith, refl) by_id_means refl
+
 module _ (db : Database) (records : Records) (shown : IsShownBy db records) (id : ℕ) (rows : List Row) (reads : Reads (command_of (understood register_schema SUBSCRIBER_BY_ID.now)) db (number id ∷ []) rows) where
   by_id_given : Given (λ row. row.id == id) out records.subscribers (selects 1 (column_is 0) columns [] no_limit) (number id ∷ []) rows
   by_id_given =
@@ -46,8 +56,15 @@ module _ (db : Database) (records : Records) (shown : IsShownBy db records) (id 
   pub by_id_none : rows ≡ [] → None ≡ subscriber_in records.subscribers id
   by_id_none = find_none (λ row. row.id == id) out records.subscribers 1 (column_is 0) columns [] (number id ∷ []) rows by_id_given
 
+  pub by_id_few : length rows ≤ 1
+  by_id_few = given_few (λ row. row.id == id) out records.subscribers 1 (column_is 0) columns [] (number id ∷ []) rows by_id_given
+      (one_number (λ (row : SubscriberRow). row.id) id records.subscribers (numbers_differ (λ (row : SubscriberRow). row.id) 1 records.subscribers shown.rows.subscribers_numbered))
+
+  pub by_id_has : (P : SubscriberRow → Type 0) → AllByRecursion P records.subscribers → (row : Row) → rows ≡ row ∷ [] → Found P shown_subscriber (subscriber_in records.subscribers id) row
+  by_id_has P all = find_one (λ row. row.id == id) out records.subscribers 1 (column_is 0) columns [] (number id ∷ []) rows by_id_given P all
+
   pub by_id_one : (row : Row) → rows ≡ row ∷ [] → Found (λ _. Unit {0}) shown_subscriber (subscriber_in records.subscribers id) row
-  by_id_one = find_one (λ row. row.id == id) out records.subscribers 1 (column_is 0) columns [] (number id ∷ []) rows by_id_given (λ _. Unit {0}) (all_of (λ _. Unit {0}) (λ _. tt) records.subscribers)
+  by_id_one = by_id_has (λ _. Unit {0}) (all_of (λ _. Unit {0}) (λ _. tt) records.subscribers)
 
 by_name_means : command_of (understood register_schema SUBSCRIBER_BY_NAME.now) ≡ as_command (selects 1 (column_is 2) columns [] no_limit) names
 unfolding understood everything register_schema
@@ -56,6 +73,13 @@ by_name_means = refl
 pub reading_by_name : IsReading SUBSCRIBER_BY_NAME.now
 unfolding understood everything register_schema first
 reading_by_name = record { plain = (refl, refl); unlisted = refl; never = select_never SUBSCRIBER_BY_NAME.now _ _ refl refl refl }
+
+pub asked_by_name : (name : List ℕ) → IsAsked SUBSCRIBER_BY_NAME.now (Text name ∷ [])
+unfolding understood everything register_schema
+asked_by_name name = asked_by SUBSCRIBER_BY_NAME.now 1 (column_is 2) columns [] no_limit names (Text name ∷ []) (omega arith, refl) by_name_means refl
+
+same_name : (one other : List ℕ) → bytes_eq one other ≡ true → one ≡ other
+same_name one other same = (bytes_eq-Decides one other).0 same
 
 module _ (db : Database) (records : Records) (shown : IsShownBy db records) (name : List ℕ) (rows : List Row) (reads : Reads (command_of (understood register_schema SUBSCRIBER_BY_NAME.now)) db (Text name ∷ []) rows) where
   by_name_given : Given (λ row. bytes_eq row.name name) out records.subscribers (selects 1 (column_is 2) columns [] no_limit) (Text name ∷ []) rows
@@ -66,5 +90,12 @@ module _ (db : Database) (records : Records) (shown : IsShownBy db records) (nam
   pub by_name_none : rows ≡ [] → None ≡ subscriber_named records.subscribers name
   by_name_none = find_none (λ row. bytes_eq row.name name) out records.subscribers 1 (column_is 2) columns [] (Text name ∷ []) rows by_name_given
 
+  pub by_name_few : KeysDiffer (λ (row : SubscriberRow). row.name) records.subscribers → length rows ≤ 1
+  by_name_few differ = given_few (λ row. bytes_eq row.name name) out records.subscribers 1 (column_is 2) columns [] (Text name ∷ []) rows by_name_given
+      (at_most_one (λ (row : SubscriberRow). row.name) name (λ (row : SubscriberRow). bytes_eq row.name name) (λ row same. same_name row.name name same) records.subscribers differ)
+
+  pub by_name_has : (P : SubscriberRow → Type 0) → AllByRecursion P records.subscribers → (row : Row) → rows ≡ row ∷ [] → Found P shown_subscriber (subscriber_named records.subscribers name) row
+  by_name_has P all = find_one (λ row. bytes_eq row.name name) out records.subscribers 1 (column_is 2) columns [] (Text name ∷ []) rows by_name_given P all
+
   pub by_name_one : (row : Row) → rows ≡ row ∷ [] → Found (λ _. Unit {0}) shown_subscriber (subscriber_named records.subscribers name) row
-  by_name_one = find_one (λ row. bytes_eq row.name name) out records.subscribers 1 (column_is 2) columns [] (Text name ∷ []) rows by_name_given (λ _. Unit {0}) (all_of (λ _. Unit {0}) (λ _. tt) records.subscribers)
+  by_name_one = by_name_has (λ _. Unit {0}) (all_of (λ _. Unit {0}) (λ _. tt) records.subscribers)

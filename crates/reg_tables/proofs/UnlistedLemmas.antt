@@ -24,13 +24,16 @@ use Rattle.reg_core.specs.declared.rows.RevocationRow.{RevocationRow}
 use Rattle.reg_tables.specs.Schema.{register_schema}
 use Rattle.reg_tables.specs.Rows.{number, stored_revocation}
 use Rattle.reg_tables.specs.Shows.{IsShownBy}
+use Rattle.reg_tables.specs.Failing.{IsAsked}
 use Rattle.reg_tables.specs.Reading.{IsReading, command_of}
 use Rattle.reg_tables.specs.declared.statements.TheConstants.{EARLIEST_ABOVE}
 use Rattle.reg_tables.proofs.Compares.{and_true, gt_number}
-use Rattle.reg_tables.proofs.Queries.{selects, as_command, Given, counted_given, all_of}
+use Rattle.reg_tables.proofs.Queries.{selects, as_command, Given, counted_given, all_of, kept_have}
 use Rattle.reg_tables.proofs.Selecting.{select_never}
 use Rattle.reg_tables.proofs.Sorting.{ascending_key, ascends, least_first, first_is_one}
 use Rattle.reg_tables.proofs.Greatest.{one_row}
+use Rattle.reg_tables.proofs.FailingLemmas.{asked_by}
+use Rattle.reg_tables.proofs.Few.{taken_few}
 
 -- ---- the number of the next CRL
 
@@ -121,6 +124,10 @@ pub reading_above : IsReading EARLIEST_ABOVE.now
 unfolding understood everything register_schema first
 reading_above = record { plain = (refl, refl); unlisted = refl; never = select_never EARLIEST_ABOVE.now _ _ refl refl refl }
 
+pub asked_above : (n : ℕ) → IsAsked EARLIEST_ABOVE.now (number n ∷ [])
+unfolding understood everything register_schema
+asked_above n = asked_by EARLIEST_ABOVE.now 8 first_above (col 1 2 ∷ []) query_order one_row (codes "at" ∷ []) (number n ∷ []) (omega arith, refl) above_means refl
+
 abbrev out : RevocationRow → Output
 out row = (number row.at ∷ [], number row.at ∷ [])
 
@@ -140,6 +147,22 @@ module _ (db : Database) (records : Records) (shown : IsShownBy db records) (n :
   above_given =
       counted_given (λ _. Unit {0}) stored_revocation waits out records.revocations (all_of (λ _. Unit {0}) (λ _. tt) records.revocations) 8 first_above (col 1 2 ∷ []) query_order one_row (number n ∷ []) EARLIEST_ABOVE.now (codes "at" ∷ []) above_means db
       refl rows reads shown.rows.revocations (λ id row any. and_true _ ∙ gt_number row.first n) (λ id row. refl)
+
+  pub above_few : length rows ≤ 1
+  above_few = taken_few rows (map (λ (row : RevocationRow). (out row).1) above_given.to) above_given.shown
+
+  has_above : (P : ℕ → Type 0) → AllByRecursion (λ row. P row.at) records.revocations → (row : Row) (to : List RevocationRow) → to ≡ above_given.to → row ∷ [] ≡ take 1 (map (λ (row : RevocationRow). (out row).1) to) → (at : ℕ) × P at × (row ≡ number at ∷ [])
+  has_above P all row [] to_is is = absurd (cc)
+  has_above P all row (t ∷ more) to_is is =
+      let same : IsPermutation (filter waits records.revocations) (t ∷ more) = subst (IsPermutation (filter waits records.revocations)) (sym to_is) above_given.same in (
+        t.at,
+        first_is_one (λ (a : RevocationRow). a.at) (λ (a : RevocationRow). P a.at) (filter waits records.revocations) t more same (kept_have (λ (a : RevocationRow). P a.at) waits records.revocations all),
+        cc,
+      )
+
+  -- what each moment has, the one that is shown has
+  pub above_has : (P : ℕ → Type 0) → AllByRecursion (λ row. P row.at) records.revocations → (row : Row) → rows ≡ row ∷ [] → (at : ℕ) × P at × (row ≡ number at ∷ [])
+  above_has P all row one = has_above P all row above_given.to refl (sym one ∙ above_given.shown)
 
   pub above_none : rows ≡ [] → None ≡ earliest (filter waits records.revocations)
   above_none none =

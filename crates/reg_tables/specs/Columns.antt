@@ -1,8 +1,8 @@
--- What is kept beside the records: the state letters, their counts, and what CRLs list.
-use Rattle.std.specs.Prelude.{ℕ, Bool, true, false, ◌&&◌, nat_lt, List, [], ◌∷◌, codes, Option, Some, None}
+-- What is kept beside the records: the state letters, their counts, what CRLs list, and the days that the office was made with.
+use Rattle.std.specs.Prelude.{ℕ, ℤ, Bool, true, false, ◌&&◌, nat_lt, List, [], ◌∷◌, codes, Option, Some, None}
 use Rattle.sqlite_value.specs.declared.value.Value.{Value}
 use Rattle.sqlite_value.specs.declared.value.Value.TheVariants.{Null, Text}
-use Rattle.sqlite_value.specs.Order.{Row}
+use Rattle.sqlite_value.specs.Order.{Row, column}
 use Rattle.reg_core.specs.declared.command.Counts.{Counts}
 use Rattle.reg_tables.specs.Rows.{number, serial_value}
 
@@ -41,11 +41,17 @@ pub record Listed : Type 0 where
   pub not_after : ℕ
   pub last : Option ℕ
 
--- the rows of the three tables
+-- the rows of the three tables, and the days that stand in the office's row
 pub record Columns : Type 0 where
   pub letters : List Standing
   pub counts : Counts
   pub listed : List Listed
+  pub days : ℤ
+
+-- the days in the one row of the office: the greatest of the schedule that the register was made with
+abbrev pub office_days : List Row → Value
+office_days [] = Null
+office_days (row ∷ rows) = column row 5
 
 -- standing: serial, not_after, state
 abbrev pub stored_standing : Standing → Row

@@ -1,8 +1,31 @@
--- What a fault of the store is to a command or a query.
+-- What a fault of the store is to a command or a query, and what a failure of the database is to a call.
+use Rattle.sqlite.specs.declared.error.Error.{Error}
+use Rattle.sqlite.specs.declared.error.Error.TheVariants.{SqliteFailure}
+use Rattle.sqlite.specs.declared.error.ErrorCode.TheVariants.{OutOfMemory}
 use Rattle.reg_core.specs.declared.refusal.Fault.{Fault}
 use Rattle.reg_core.specs.declared.refusal.Fault.TheVariants.{Memory as LackedMemory, Store as StoreFailed}
+use Rattle.reg_der.specs.declared.issuer.IssuerFault.{IssuerFault}
+use Rattle.reg_der.specs.declared.issuer.IssuerFault.TheVariants as issuer
+use Rattle.reg_tables.specs.declared.fault.CallFault.{CallFault}
+use Rattle.reg_tables.specs.declared.fault.CallFault.TheVariants as call
 use Rattle.reg_tables.specs.declared.fault.StoreFault.{StoreFault}
 use Rattle.reg_tables.specs.declared.fault.StoreFault.TheVariants.{Memory, Store, NotEmpty, NotARegister, NewVersion}
+
+-- the database lacked memory, or it failed otherwise
+abbrev pub call_fault_of : Error → CallFault
+call_fault_of (SqliteFailure OutOfMemory) = call.Memory
+call_fault_of _ = call.Store
+
+-- memory was lacking, or the bytes of a row are no issuer's
+abbrev pub issuer_fault_of : IssuerFault → CallFault
+issuer_fault_of issuer.Memory = call.Memory
+issuer_fault_of issuer.BadName = call.Store
+issuer_fault_of issuer.BadKey = call.Store
+
+-- the fault of a call on an open register is one of the store's
+abbrev pub store_fault_of : CallFault → StoreFault
+store_fault_of call.Memory = Memory
+store_fault_of call.Store = Store
 
 -- want of memory stays so; all else is a failure of the store
 abbrev pub fault_of : StoreFault → Fault

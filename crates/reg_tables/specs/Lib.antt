@@ -1,9 +1,11 @@
 pub mod Schema
 pub mod Rows
 pub mod Columns
+pub mod Values
 pub mod Shows
 pub mod Faults
 pub mod Kept
 pub mod Stays
 pub mod Reading
 pub mod Tables
+pub mod Failing

@@ -2,6 +2,7 @@
 use Rattle.std.specs.Prelude.{◌≡◌, ℕ, ℤ, List, [], ◌∷◌, map, IsTrue}
 use Rattle.std.specs.List.{AllByRecursion}
 use Rattle.reg_core.specs.Serial.{IsSerial}
+use Rattle.sqlite_value.specs.declared.value.Value.TheVariants.{Int}
 use Rattle.sqlite_trees.specs.Tree.{Trees}
 use Rattle.sqlite_trees.specs.declared.store.Store.{Ghosts}
 use Rattle.sqlite.specs.Effect.{Database}
@@ -11,8 +12,8 @@ use Rattle.reg_core.specs.Records.{Records}
 use Rattle.reg_core.specs.Policy.{IsPolicy}
 use Rattle.reg_core.specs.Sound.{NumberedFrom}
 use Rattle.reg_tables.specs.Schema.{register_schema}
-use Rattle.reg_tables.specs.Rows.{counted_rows, stored_office, stored_subscriber, stored_order, stored_certificate, stored_request, stored_revocation, stored_crl, stored_step}
-use Rattle.reg_tables.specs.Columns.{Columns, stored_standing, stored_counts, stored_listed}
+use Rattle.reg_tables.specs.Rows.{number, counted_rows, stored_office, stored_subscriber, stored_order, stored_certificate, stored_request, stored_revocation, stored_crl, stored_step}
+use Rattle.reg_tables.specs.Columns.{Columns, office_days, stored_standing, stored_counts, stored_listed}
 
 -- the serial numbers of the rows are serial numbers (RFC 5280 4.1.2.2)
 abbrev pub HaveSerials : {A : Type 0} → (A → ℕ) → List A → Type 0
@@ -40,11 +41,12 @@ pub record AreRows (trees : Trees) (records : Records) : Type 0 where
   pub request_serials : HaveSerials (λ row. row.serial) records.requests
   pub revocation_serials : HaveSerials (λ row. row.serial) records.revocations
 
--- the tables that are kept beside the records have these rows
+-- the tables that are kept beside the records have these rows, and the office these days
 pub record AreColumns (trees : Trees) (columns : Columns) : Type 0 where
   pub letters : trees 12 ≡ counted_rows (map stored_standing columns.letters)
   pub counts : trees 14 ≡ stored_counts columns.counts ∷ []
   pub listed : trees 15 ≡ counted_rows (map stored_listed columns.listed)
+  pub days : office_days (trees 0) ≡ Int columns.days
   pub letter_serials : HaveSerials (λ row. row.serial) columns.letters
   pub listed_serials : HaveSerials (λ row. row.serial) columns.listed
 
@@ -70,3 +72,11 @@ Shows g h records = Holds g h (λ db. IsShownBy db records)
 -- the tables show the records, and these columns beside them
 abbrev pub ShowsBoth : {S : Type 0} → Ghosts S → Held S → Records → Columns → Type 0
 ShowsBoth g h records columns = Holds g h (λ db. AreBoth db records columns)
+
+-- the office's row has these days
+abbrev pub HasOfficeDays : {S : Type 0} → Ghosts S → Held S → ℕ → Type 0
+HasOfficeDays g h days = Holds g h (λ db. office_days (db.trees 0) ≡ number days)
+
+-- the office's row has the days that it had
+abbrev pub KeepsOfficeDays : {S : Type 0} → Ghosts S → Held S → Held S → Type 0
+KeepsOfficeDays g old new = (days : ℕ) → HasOfficeDays g old days → HasOfficeDays g new days

@@ -1,7 +1,9 @@
 -- How many rows a table of the records has.
-use Rattle.std.specs.Prelude.{◌≡◌, ◌==◌, ℕ, List, [], ◌∷◌, length, find, Option}
+use Rattle.std.specs.Prelude.{◌≡◌, ◌≤◌, ◌==◌, ℕ, List, [], ◌∷◌, length, find, Option}
 use Rattle.sqlite_value.specs.Order.{Row, column}
+use Rattle.sqlite.specs.State.{State}
 use Rattle.reg_core.specs.Records.{Records, Crl}
+use Rattle.reg_tables.specs.Reading.{Answers}
 use Rattle.reg_tables.specs.Rows.{number}
 use Rattle.reg_tables.specs.declared.sizes.Table.{Table}
 use Rattle.reg_tables.specs.declared.sizes.Table.TheVariants.{Subscribers, Orders, Certs, Requests, Crls}
@@ -22,3 +24,8 @@ crl_in crls number = find (λ crl. crl.number == number) crls
 pub record IsNumberShown (n : ℕ) (rows : List Row) : Type 0 where
   pub none : rows ≡ [] → n ≡ 0
   pub one : (row : Row) → rows ≡ row ∷ [] → column row 0 ≡ number n
+  pub few : length rows ≤ 1
+
+-- an answer of the text shows a number
+abbrev pub HasNumber : State → List ℕ → Type 0
+HasNumber s text = (rows : List Row) → Answers s text [] rows → (n : ℕ) × IsNumberShown n rows

@@ -1,13 +1,14 @@
 //! Look-ups of certificates.
 
-ghost use Rattle.std.specs.Prelude.{◌≡◌, false, IfOk, IfErr};
+ghost use Rattle.std.specs.Prelude.{◌≡◌, ◌<◌, ◌^◌, IfOk};
 ghost use Rattle.sqlite.specs.Held.{state};
 ghost use Rattle.sqlite.specs.State.{HasCleanDisk};
 ghost use Rattle.reg_core.specs.Records.{Records, certificate_in, certificate_of_order};
+ghost use Rattle.reg_tables.specs.Failing.{Blamed};
 ghost use Rattle.reg_tables.specs.Shows.{Shows};
-ghost use Rattle.reg_tables.specs.Stays.{IsCallFault, IsRegister, LeavesNothing, Stays};
+ghost use Rattle.reg_tables.specs.Stays.{Looked};
 
-use crate::fault::StoreFault;
+use crate::fault::CallFault;
 use crate::reading::{at_most_one, read};
 use crate::rows;
 use crate::statements::{CERT_BY_ORDER, CERT_BY_SERIAL};
@@ -23,12 +24,10 @@ use sqlite::{Alter, Connection, params};
 pub fn cert<S: Alter>(
     conn: &mut Connection<S>,
     serial: Serial,
-) -> Result<Option<CertRow>, StoreFault>
+) -> Result<Option<CertRow>, CallFault>
     ensures found { (records : Records) → Shows S.Store conn.old records → HasCleanDisk (state S.Store conn.new) → IfOk result (λ row. row ≡ certificate_in records.certificates serial) }
-    ensures same { IsRegister (state S.Store conn.old) → Stays (state S.Store conn.old) (state S.Store conn.new) }
-    ensures survives { LeavesNothing (state S.Store conn.old) (state S.Store conn.new) }
-    ensures idle { conn.old.in_transaction ≡ false → conn.new.in_transaction ≡ false }
-    ensures faults { IfErr result IsCallFault }
+    ensures fails { Blamed S.Store CallFault.Store conn.old conn.new result }
+    ensures looked { Looked S.Store conn.old conn.new }
 {
     let found = read(conn, CERT_BY_SERIAL, params![serial.bytes20().as_slice()])?;
     match at_most_one(&found)? {
@@ -45,12 +44,10 @@ pub fn cert<S: Alter>(
 pub fn cert_of_order<S: Alter>(
     conn: &mut Connection<S>,
     order: u64,
-) -> Result<Option<CertRow>, StoreFault>
+) -> Result<Option<CertRow>, CallFault>
     ensures found { (records : Records) → Shows S.Store conn.old records → HasCleanDisk (state S.Store conn.new) → IfOk result (λ row. row ≡ certificate_of_order records.certificates order) }
-    ensures same { IsRegister (state S.Store conn.old) → Stays (state S.Store conn.old) (state S.Store conn.new) }
-    ensures survives { LeavesNothing (state S.Store conn.old) (state S.Store conn.new) }
-    ensures idle { conn.old.in_transaction ≡ false → conn.new.in_transaction ≡ false }
-    ensures faults { IfErr result IsCallFault }
+    ensures fails { order < 2 ^ 63 → Blamed S.Store CallFault.Store conn.old conn.new result }
+    ensures looked { Looked S.Store conn.old conn.new }
 {
     let value = sql_number(order)?;
     let found = read(conn, CERT_BY_ORDER, params![&value])?;

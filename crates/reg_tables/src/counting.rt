@@ -1,17 +1,18 @@
 //! The counts of certificates by their status, from the kept counts.
 
-ghost use Rattle.std.specs.Prelude.{◌≡◌, ◌≤◌, false, length, filter, IsTrue, IfOk, IfErr};
+ghost use Rattle.std.specs.Prelude.{◌≡◌, ◌≤◌, length, filter, IsTrue, IfOk};
 ghost use Rattle.sqlite.specs.Held.{state};
 ghost use Rattle.sqlite.specs.State.{HasCleanDisk};
 ghost use Rattle.reg_core.specs.Records.{Records};
 ghost use Rattle.reg_core.specs.Sound.{SoundRows};
 ghost use Rattle.reg_core.specs.Status as status;
 ghost use Rattle.reg_tables.specs.Columns.{Columns, ends_before};
+ghost use Rattle.reg_tables.specs.Failing.{Blamed};
 ghost use Rattle.reg_tables.specs.Kept.{ShowsKept};
 ghost use Rattle.reg_tables.specs.Shows.{ShowsBoth};
-ghost use Rattle.reg_tables.specs.Stays.{IsCallFault, IsRegister, LeavesNothing, Stays};
+ghost use Rattle.reg_tables.specs.Stays.{Looked};
 
-use crate::fault::StoreFault;
+use crate::fault::CallFault;
 use crate::reading::{only, read};
 use crate::statements::{COUNTS, ENDED_BEFORE};
 use crate::values::{number_at, sql_number};
@@ -23,12 +24,10 @@ use sqlite::{Alter, Connection, params};
 /// # Errors
 /// `Memory`; `Store` where the database fails, or where there is not one row of three numbers.
 #[tactic(auto, using(crate::proofs::CountLemmas::reading_counts))]
-pub fn kept_counts<S: Alter>(conn: &mut Connection<S>) -> Result<Counts, StoreFault>
+pub fn kept_counts<S: Alter>(conn: &mut Connection<S>) -> Result<Counts, CallFault>
     ensures found { (records : Records) → (kept : Columns) → ShowsBoth S.Store conn.old records kept → HasCleanDisk (state S.Store conn.new) → IfOk result (λ counts. counts ≡ kept.counts) }
-    ensures same { IsRegister (state S.Store conn.old) → Stays (state S.Store conn.old) (state S.Store conn.new) }
-    ensures survives { LeavesNothing (state S.Store conn.old) (state S.Store conn.new) }
-    ensures idle { conn.old.in_transaction ≡ false → conn.new.in_transaction ≡ false }
-    ensures faults { IfErr result IsCallFault }
+    ensures fails { Blamed S.Store CallFault.Store conn.old conn.new result }
+    ensures looked { Looked S.Store conn.old conn.new }
 {
     let found = read(conn, COUNTS, &[])?;
     let row = only(&found)?;
@@ -41,13 +40,11 @@ pub fn kept_counts<S: Alter>(conn: &mut Connection<S>) -> Result<Counts, StoreFa
 
 /// How many certificates are kept as good and end before a moment.
 #[tactic(auto, using(crate::proofs::CountLemmas::reading_ended))]
-fn ended_before<S: Alter>(conn: &mut Connection<S>, now: Moment) -> Result<u64, StoreFault>
+fn ended_before<S: Alter>(conn: &mut Connection<S>, now: Moment) -> Result<u64, CallFault>
     ensures found { (records : Records) → (kept : Columns) → ShowsBoth S.Store conn.old records kept → HasCleanDisk (state S.Store conn.new)
         → IfOk result (λ ended. IsTrue (state S.Store conn.old).is_open × (length kept.letters ≤ 1000000 → ended ≡ length (filter (ends_before now) kept.letters))) }
-    ensures same { IsRegister (state S.Store conn.old) → Stays (state S.Store conn.old) (state S.Store conn.new) }
-    ensures survives { LeavesNothing (state S.Store conn.old) (state S.Store conn.new) }
-    ensures idle { conn.old.in_transaction ≡ false → conn.new.in_transaction ≡ false }
-    ensures faults { IfErr result IsCallFault }
+    ensures fails { Blamed S.Store CallFault.Store conn.old conn.new result }
+    ensures looked { Looked S.Store conn.old conn.new }
 {
     let value = sql_number(now.secs())?;
     let found = read(conn, ENDED_BEFORE, params![&value])?;
@@ -59,19 +56,17 @@ fn ended_before<S: Alter>(conn: &mut Connection<S>, now: Moment) -> Result<u64, 
 ///
 /// # Errors
 /// `Memory`; `Store` where the database fails, or where its rows are ones that no register writes.
-#[tactic(auto, using(crate::proofs::Staying::stays_register, crate::proofs::Staying::stays_then, crate::proofs::Staying::leaves_then))]
-pub fn counts<S: Alter>(conn: &mut Connection<S>, now: Moment) -> Result<Counts, StoreFault>
+#[tactic(auto, using(crate::proofs::Staying::looked_then))]
+pub fn counts<S: Alter>(conn: &mut Connection<S>, now: Moment) -> Result<Counts, CallFault>
     ensures found { (records : Records) → ShowsKept S.Store conn.old records → SoundRows records → records.last ≤ now → HasCleanDisk (state S.Store conn.new) → IfOk result (λ found. found ≡ status.counts records now) }
-    ensures same { IsRegister (state S.Store conn.old) → Stays (state S.Store conn.old) (state S.Store conn.new) }
-    ensures survives { LeavesNothing (state S.Store conn.old) (state S.Store conn.new) }
-    ensures idle { conn.old.in_transaction ≡ false → conn.new.in_transaction ≡ false }
-    ensures faults { IfErr result IsCallFault }
+    ensures fails { Blamed S.Store CallFault.Store conn.old conn.new result }
+    ensures looked { Looked S.Store conn.old conn.new }
 {
     let kept = kept_counts(conn)?;
     let ended = ended_before(conn, now)?;
     Ok(Counts {
-        good: kept.good.checked_sub(ended).ok_or(StoreFault::Store)?,
+        good: kept.good.checked_sub(ended).ok_or(CallFault::Store)?,
         revoked: kept.revoked,
-        expired: kept.expired.checked_add(ended).ok_or(StoreFault::Store)?,
+        expired: kept.expired.checked_add(ended).ok_or(CallFault::Store)?,
     })
 }

@@ -22,7 +22,7 @@ mod values;
 pub use certificates::{cert, cert_of_order};
 pub use counting::{counts, kept_counts};
 pub use crls::{crl, latest_crl};
-pub use fault::StoreFault;
+pub use fault::{CallFault, StoreFault};
 pub use listed::{entries, listing};
 pub use office::{issuer, last, policy, responding};
 pub use orders::order;

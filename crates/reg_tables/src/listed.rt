@@ -1,15 +1,16 @@
 //! Look-ups of what CRLs list, from the rows that are kept for it alone.
 
-ghost use Rattle.std.specs.Prelude.{◌≡◌, ◌≤◌, ◌↔◌, false, length, IsTrue, IfOk, IfErr};
+ghost use Rattle.std.specs.Prelude.{◌≡◌, ◌<◌, ◌≤◌, ◌^◌, ◌↔◌, length, IsTrue, IfOk};
 ghost use Rattle.sqlite.specs.Held.{state};
 ghost use Rattle.sqlite.specs.State.{HasCleanDisk};
 ghost use Rattle.reg_core.specs.Crls.{EntriesAscend, entries};
 ghost use Rattle.reg_core.specs.Queries.{listing};
 ghost use Rattle.reg_core.specs.Records.{Records};
+ghost use Rattle.reg_tables.specs.Failing.{Blamed};
 ghost use Rattle.reg_tables.specs.Kept.{ShowsKept};
-ghost use Rattle.reg_tables.specs.Stays.{IsCallFault, IsRegister, LeavesNothing, Stays};
+ghost use Rattle.reg_tables.specs.Stays.{Looked};
 
-use crate::fault::StoreFault;
+use crate::fault::CallFault;
 use crate::reading::{at_most_one, read};
 use crate::rows::entries_in;
 use crate::statements::{ENTRIES, LISTED_BY_SERIAL};
@@ -34,20 +35,21 @@ fn ascends(entries: &[Entry]) -> bool
 /// `Memory`; `Store` where the database fails, where its rows are ones that no register writes or more than 1,000,000,
 /// or for a number above 2^63 - 1.
 #[tactic(auto, using(crate::proofs::EntryLemmas::reading_entries))]
-pub fn entries<S: Alter>(conn: &mut Connection<S>, number: u64) -> Result<Vec<Entry>, StoreFault>
+pub fn entries<S: Alter>(conn: &mut Connection<S>, number: u64) -> Result<Vec<Entry>, CallFault>
     ensures found { (records : Records) → ShowsKept S.Store conn.old records → HasCleanDisk (state S.Store conn.new) → IfOk result (λ found. found.items ≡ entries records number) }
     ensures ascending { IfOk result (λ found. EntriesAscend found.items) }
     ensures at_most { IfOk result (λ found. length found.items ≤ 1000000) }
-    ensures same { IsRegister (state S.Store conn.old) → Stays (state S.Store conn.old) (state S.Store conn.new) }
-    ensures survives { LeavesNothing (state S.Store conn.old) (state S.Store conn.new) }
-    ensures idle { conn.old.in_transaction ≡ false → conn.new.in_transaction ≡ false }
-    ensures faults { IfErr result IsCallFault }
+    ensures fails { number < 2 ^ 63 → Blamed S.Store CallFault.Store conn.old conn.new result }
+    ensures looked { Looked S.Store conn.old conn.new }
 {
     let value = sql_number(number)?;
     let found = read(conn, ENTRIES, params![&value])?;
     let entries = entries_in(&found)?;
-    if entries.len() > MOST_ENTRIES || !ascends(&entries) {
-        return Err(StoreFault::Store);
+    if entries.len() > MOST_ENTRIES {
+        return Err(CallFault::Store);
+    }
+    if !ascends(&entries) {
+        return Err(CallFault::Store);
     }
     Ok(entries)
 }
@@ -61,12 +63,10 @@ pub fn entries<S: Alter>(conn: &mut Connection<S>, number: u64) -> Result<Vec<En
 pub fn listing<S: Alter>(
     conn: &mut Connection<S>,
     serial: Serial,
-) -> Result<Option<Listing>, StoreFault>
+) -> Result<Option<Listing>, CallFault>
     ensures found { (records : Records) → ShowsKept S.Store conn.old records → HasCleanDisk (state S.Store conn.new) → IfOk result (λ found. found ≡ listing records serial) }
-    ensures same { IsRegister (state S.Store conn.old) → Stays (state S.Store conn.old) (state S.Store conn.new) }
-    ensures survives { LeavesNothing (state S.Store conn.old) (state S.Store conn.new) }
-    ensures idle { conn.old.in_transaction ≡ false → conn.new.in_transaction ≡ false }
-    ensures faults { IfErr result IsCallFault }
+    ensures fails { Blamed S.Store CallFault.Store conn.old conn.new result }
+    ensures looked { Looked S.Store conn.old conn.new }
 {
     let found = read(conn, LISTED_BY_SERIAL, params![serial.bytes20().as_slice()])?;
     match at_most_one(&found)? {

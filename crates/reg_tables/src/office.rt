@@ -1,46 +1,31 @@
 //! Look-ups of the office: its issuer, its policy and the last accepted moment.
 
-ghost use Rattle.std.specs.Prelude.{◌≡◌, ◌≤◌, false, IfOk, IfErr};
+ghost use Rattle.std.specs.Prelude.{◌≡◌, ◌≤◌, IfOk};
 ghost use Rattle.sqlite.specs.Held.{state};
 ghost use Rattle.sqlite.specs.State.{HasCleanDisk};
 ghost use Rattle.reg_core.specs.Records.{Records};
+ghost use Rattle.reg_tables.specs.Failing.{Blamed};
 ghost use Rattle.reg_tables.specs.Shows.{Shows};
-ghost use Rattle.reg_tables.specs.Stays.{IsCallFault, IsRegister, LeavesNothing, Stays};
+ghost use Rattle.reg_tables.specs.Stays.{Looked};
 
-use crate::fault::StoreFault;
+use crate::fault::CallFault;
 use crate::reading::{only, read};
 use crate::rows::steps_in;
 use crate::statements::{ISSUER, LAST, RESPONDING, STEPS, TERMS};
 use crate::values::{bytes_at, clock_moment_at, life_at, number_at};
 use reg_core::{Moment, Policy, Schedule};
-use reg_der::{Issuer, IssuerFault};
+use reg_der::Issuer;
 use sqlite::{Alter, Connection};
-
-impl From<IssuerFault> for StoreFault {
-    ghost use Rattle.std.specs.Prelude.{◌≡◌, ◌⊎◌};
-    ghost use Rattle.reg_tables.specs.declared.fault.StoreFault.TheVariants.{Memory, Store};
-
-    ghost from_gives = { λ _ fault. (fault ≡ Memory) ⊎ (fault ≡ Store) };
-
-    fn from(fault: IssuerFault) -> StoreFault {
-        match fault {
-            IssuerFault::Memory => StoreFault::Memory,
-            IssuerFault::BadName | IssuerFault::BadKey => StoreFault::Store,
-        }
-    }
-}
 
 /// The last accepted moment.
 ///
 /// # Errors
 /// `Memory`; `Store` where the database fails, or where its row is one that no register writes.
 #[tactic(auto, using(crate::proofs::OfficeLemmas::reading_last))]
-pub fn last<S: Alter>(conn: &mut Connection<S>) -> Result<Moment, StoreFault>
+pub fn last<S: Alter>(conn: &mut Connection<S>) -> Result<Moment, CallFault>
     ensures found { (records : Records) → Shows S.Store conn.old records → HasCleanDisk (state S.Store conn.new) → IfOk result (λ last. last ≡ records.last) }
-    ensures same { IsRegister (state S.Store conn.old) → Stays (state S.Store conn.old) (state S.Store conn.new) }
-    ensures survives { LeavesNothing (state S.Store conn.old) (state S.Store conn.new) }
-    ensures idle { conn.old.in_transaction ≡ false → conn.new.in_transaction ≡ false }
-    ensures faults { IfErr result IsCallFault }
+    ensures fails { Blamed S.Store CallFault.Store conn.old conn.new result }
+    ensures looked { Looked S.Store conn.old conn.new }
 {
     let found = read(conn, LAST, &[])?;
     clock_moment_at(only(&found)?, 0)
@@ -51,12 +36,10 @@ pub fn last<S: Alter>(conn: &mut Connection<S>) -> Result<Moment, StoreFault>
 /// # Errors
 /// `Memory`; `Store` where the database fails, or where its row is one that no register writes.
 #[tactic(auto, using(crate::proofs::OfficeLemmas::reading_issuer))]
-pub fn issuer<S: Alter>(conn: &mut Connection<S>) -> Result<Issuer, StoreFault>
+pub fn issuer<S: Alter>(conn: &mut Connection<S>) -> Result<Issuer, CallFault>
     ensures found { (records : Records) → Shows S.Store conn.old records → HasCleanDisk (state S.Store conn.new) → IfOk result (λ issuer. issuer ≡ records.issuer) }
-    ensures same { IsRegister (state S.Store conn.old) → Stays (state S.Store conn.old) (state S.Store conn.new) }
-    ensures survives { LeavesNothing (state S.Store conn.old) (state S.Store conn.new) }
-    ensures idle { conn.old.in_transaction ≡ false → conn.new.in_transaction ≡ false }
-    ensures faults { IfErr result IsCallFault }
+    ensures fails { Blamed S.Store CallFault.Store conn.old conn.new result }
+    ensures looked { Looked S.Store conn.old conn.new }
 {
     let found = read(conn, ISSUER, &[])?;
     let row = only(&found)?;
@@ -69,14 +52,12 @@ pub fn issuer<S: Alter>(conn: &mut Connection<S>) -> Result<Issuer, StoreFault>
 /// # Errors
 /// `Memory`; `Store` where the database fails, or where its row is one that no register writes.
 #[tactic(auto, using(crate::proofs::OfficeLemmas::reading_responding))]
-pub fn responding<S: Alter>(conn: &mut Connection<S>) -> Result<(Moment, Issuer, u64), StoreFault>
+pub fn responding<S: Alter>(conn: &mut Connection<S>) -> Result<(Moment, Issuer, u64), CallFault>
     ensures found { (records : Records) → Shows S.Store conn.old records → HasCleanDisk (state S.Store conn.new)
         → IfOk result (λ it. (it.0 ≡ records.last) × (it.1 ≡ records.issuer) × (it.2 ≡ records.policy.ocsp_life)) }
     ensures short { IfOk result (λ it. it.2 ≤ 863999) }
-    ensures same { IsRegister (state S.Store conn.old) → Stays (state S.Store conn.old) (state S.Store conn.new) }
-    ensures survives { LeavesNothing (state S.Store conn.old) (state S.Store conn.new) }
-    ensures idle { conn.old.in_transaction ≡ false → conn.new.in_transaction ≡ false }
-    ensures faults { IfErr result IsCallFault }
+    ensures fails { Blamed S.Store CallFault.Store conn.old conn.new result }
+    ensures looked { Looked S.Store conn.old conn.new }
 {
     let found = read(conn, RESPONDING, &[])?;
     let row = only(&found)?;
@@ -88,13 +69,11 @@ pub fn responding<S: Alter>(conn: &mut Connection<S>) -> Result<(Moment, Issuer,
 
 /// The lives of CRLs and of OCSP answers, and the cap.
 #[tactic(auto, using(crate::proofs::OfficeLemmas::reading_terms))]
-fn terms<S: Alter>(conn: &mut Connection<S>) -> Result<(u64, u64, u64), StoreFault>
+fn terms<S: Alter>(conn: &mut Connection<S>) -> Result<(u64, u64, u64), CallFault>
     ensures found { (records : Records) → Shows S.Store conn.old records → HasCleanDisk (state S.Store conn.new)
         → IfOk result (λ terms. (terms.0 ≡ records.policy.crl_life) × (terms.1 ≡ records.policy.ocsp_life) × (terms.2 ≡ records.policy.cap)) }
-    ensures same { IsRegister (state S.Store conn.old) → Stays (state S.Store conn.old) (state S.Store conn.new) }
-    ensures survives { LeavesNothing (state S.Store conn.old) (state S.Store conn.new) }
-    ensures idle { conn.old.in_transaction ≡ false → conn.new.in_transaction ≡ false }
-    ensures faults { IfErr result IsCallFault }
+    ensures fails { Blamed S.Store CallFault.Store conn.old conn.new result }
+    ensures looked { Looked S.Store conn.old conn.new }
 {
     let found = read(conn, TERMS, &[])?;
     let row = only(&found)?;
@@ -103,31 +82,27 @@ fn terms<S: Alter>(conn: &mut Connection<S>) -> Result<(u64, u64, u64), StoreFau
 
 /// The schedule of longest validities.
 #[tactic(auto, using(crate::proofs::ScheduleLemmas::reading_steps))]
-fn schedule<S: Alter>(conn: &mut Connection<S>) -> Result<Schedule, StoreFault>
+fn schedule<S: Alter>(conn: &mut Connection<S>) -> Result<Schedule, CallFault>
     ensures found { (records : Records) → Shows S.Store conn.old records → HasCleanDisk (state S.Store conn.new) → IfOk result (λ schedule. schedule ≡ records.policy.schedule) }
-    ensures same { IsRegister (state S.Store conn.old) → Stays (state S.Store conn.old) (state S.Store conn.new) }
-    ensures survives { LeavesNothing (state S.Store conn.old) (state S.Store conn.new) }
-    ensures idle { conn.old.in_transaction ≡ false → conn.new.in_transaction ≡ false }
-    ensures faults { IfErr result IsCallFault }
+    ensures fails { Blamed S.Store CallFault.Store conn.old conn.new result }
+    ensures looked { Looked S.Store conn.old conn.new }
 {
     let found = read(conn, STEPS, &[])?;
     let steps = steps_in(&found)?;
-    Schedule::new(&steps).ok_or(StoreFault::Store)
+    Schedule::new(&steps).ok_or(CallFault::Store)
 }
 
 /// The policy.
 ///
 /// # Errors
 /// `Memory`; `Store` where the database fails, or where its rows are ones that no register writes.
-#[tactic(auto, using(crate::proofs::Staying::stays_register, crate::proofs::Staying::stays_then, crate::proofs::Staying::leaves_then))]
-pub fn policy<S: Alter>(conn: &mut Connection<S>) -> Result<Policy, StoreFault>
+#[tactic(auto, using(crate::proofs::Staying::looked_then))]
+pub fn policy<S: Alter>(conn: &mut Connection<S>) -> Result<Policy, CallFault>
     ensures found { (records : Records) → Shows S.Store conn.old records → HasCleanDisk (state S.Store conn.new) → IfOk result (λ policy. policy ≡ records.policy) }
-    ensures same { IsRegister (state S.Store conn.old) → Stays (state S.Store conn.old) (state S.Store conn.new) }
-    ensures survives { LeavesNothing (state S.Store conn.old) (state S.Store conn.new) }
-    ensures idle { conn.old.in_transaction ≡ false → conn.new.in_transaction ≡ false }
-    ensures faults { IfErr result IsCallFault }
+    ensures fails { Blamed S.Store CallFault.Store conn.old conn.new result }
+    ensures looked { Looked S.Store conn.old conn.new }
 {
     let (crl_life, ocsp_life, cap) = terms(conn)?;
     let schedule = schedule(conn)?;
-    Policy::with(schedule, crl_life, ocsp_life, cap).ok_or(StoreFault::Store)
+    Policy::with(schedule, crl_life, ocsp_life, cap).ok_or(CallFault::Store)
 }

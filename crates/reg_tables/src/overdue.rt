@@ -1,16 +1,17 @@
 //! The look-up of the requests whose limit has passed.
 
-ghost use Rattle.std.specs.Prelude.{◌≡◌, ◌&&◌, ◌++◌, List, [], ◌∷◌, false, not, filter, nat_lt, IfOk, IfErr};
+ghost use Rattle.std.specs.Prelude.{◌≡◌, ◌≤◌, ◌+◌, ◌^◌, ◌&&◌, ◌++◌, List, [], ◌∷◌, length, not, filter, nat_lt, IfOk, IsSome, OnErr};
 ghost use Rattle.sqlite.specs.Held.{state};
 ghost use Rattle.sqlite.specs.State.{HasCleanDisk};
 ghost use Rattle.reg_core.specs.Due.{deadline, overdue, overdue_report};
-ghost use Rattle.reg_core.specs.Records.{Records};
+ghost use Rattle.reg_core.specs.Records.{Records, certificate_in};
 ghost use Rattle.reg_core.specs.Status.{status, is_good};
+ghost use Rattle.reg_tables.specs.Failing.{Blamed, FailsWith, ShowsWritten};
 ghost use Rattle.reg_tables.specs.Shows.{Shows};
-ghost use Rattle.reg_tables.specs.Stays.{IsCallFault, IsRegister, LeavesNothing, Stays};
+ghost use Rattle.reg_tables.specs.Stays.{Looked};
 
 use crate::certificates::cert;
-use crate::fault::StoreFault;
+use crate::fault::CallFault;
 use crate::reading::read;
 use crate::revocations::revocation;
 use crate::rows::requests_in;
@@ -20,42 +21,39 @@ use sqlite::{Alter, Connection};
 
 /// The requests that are not declined, in the order of entry.
 #[tactic(auto, using(crate::proofs::OverdueLemmas::reading_undeclined))]
-fn undeclined<S: Alter>(conn: &mut Connection<S>) -> Result<Vec<RequestRow>, StoreFault>
+fn undeclined<S: Alter>(conn: &mut Connection<S>) -> Result<Vec<RequestRow>, CallFault>
     ensures found { (records : Records) → Shows S.Store conn.old records → HasCleanDisk (state S.Store conn.new) → IfOk result (λ found. found.items ≡ filter (λ row. not row.declined) records.requests) }
-    ensures same { IsRegister (state S.Store conn.old) → Stays (state S.Store conn.old) (state S.Store conn.new) }
-    ensures survives { LeavesNothing (state S.Store conn.old) (state S.Store conn.new) }
-    ensures idle { conn.old.in_transaction ≡ false → conn.new.in_transaction ≡ false }
-    ensures faults { IfErr result IsCallFault }
+    ensures fails { Blamed S.Store CallFault.Store conn.old conn.new result }
+    ensures looked { Looked S.Store conn.old conn.new }
 {
     let found = read(conn, UNDECLINED, &[])?;
     requests_in(&found)
 }
 
 /// Whether a registered certificate is good at a moment. `Store` where it is not registered.
-#[tactic(auto, using(crate::proofs::Staying::stays_register, crate::proofs::Staying::stays_then, crate::proofs::Staying::leaves_then))]
+#[tactic(auto, using(crate::proofs::Staying::looked_then))]
 fn is_good_at<S: Alter>(
     conn: &mut Connection<S>,
     serial: Serial,
     now: Moment,
-) -> Result<bool, StoreFault>
+) -> Result<bool, CallFault>
     ensures found { (records : Records) → Shows S.Store conn.old records → HasCleanDisk (state S.Store conn.new) → IfOk result (λ good. good ≡ is_good (status records serial now)) }
-    ensures same { IsRegister (state S.Store conn.old) → Stays (state S.Store conn.old) (state S.Store conn.new) }
-    ensures survives { LeavesNothing (state S.Store conn.old) (state S.Store conn.new) }
-    ensures idle { conn.old.in_transaction ≡ false → conn.new.in_transaction ≡ false }
-    ensures faults { IfErr result IsCallFault }
+    ensures fails { (records : Records) → ShowsWritten S.Store conn.old records → IsSome (certificate_in records.certificates serial)
+        → FailsWith CallFault.Store (state S.Store conn.old) (state S.Store conn.new) result }
+    ensures looked { Looked S.Store conn.old conn.new }
 {
     let certificate = cert(conn, serial)?;
     let revoked = revocation(conn, serial)?;
     if certificate.is_none() {
-        return Err(StoreFault::Store);
+        return Err(CallFault::Store);
     }
     Ok(matches!(status_of(now, certificate, revoked), Status::Good))
 }
 
 /// The report with one request more, whose id is above those in it.
-fn one_more(report: Option<Overdue>, id: u64) -> Result<Option<Overdue>, StoreFault>
+fn one_more(report: Option<Overdue>, id: u64) -> Result<Option<Overdue>, CallFault>
     ensures more { (requests : List RequestRow) → (request : RequestRow) → report ≡ overdue_report requests → request.id ≡ id → IfOk result (λ more. more ≡ overdue_report (requests ++ request ∷ [])) }
-    ensures faults { IfErr result IsCallFault }
+    ensures many { (requests : List RequestRow) → report ≡ overdue_report requests → OnErr result (2 ^ 64 ≤ length requests + 1) }
 {
     match report {
         None => Ok(Some(Overdue {
@@ -63,7 +61,7 @@ fn one_more(report: Option<Overdue>, id: u64) -> Result<Option<Overdue>, StoreFa
             first: id,
         })),
         Some(report) => Ok(Some(Overdue {
-            count: report.count.checked_add(1).ok_or(StoreFault::Store)?,
+            count: report.count.checked_add(1).ok_or(CallFault::Store)?,
             first: report.first,
         })),
     }
@@ -75,12 +73,11 @@ fn is_late<S: Alter>(
     conn: &mut Connection<S>,
     request: RequestRow,
     now: Moment,
-) -> Result<bool, StoreFault>
+) -> Result<bool, CallFault>
     ensures found { (records : Records) → Shows S.Store conn.old records → HasCleanDisk (state S.Store conn.new) → IfOk result (λ late. late ≡ (is_good (status records request.serial now) && nat_lt (deadline request) now)) }
-    ensures same { IsRegister (state S.Store conn.old) → Stays (state S.Store conn.old) (state S.Store conn.new) }
-    ensures survives { LeavesNothing (state S.Store conn.old) (state S.Store conn.new) }
-    ensures idle { conn.old.in_transaction ≡ false → conn.new.in_transaction ≡ false }
-    ensures faults { IfErr result IsCallFault }
+    ensures fails { (records : Records) → ShowsWritten S.Store conn.old records → IsSome (certificate_in records.certificates request.serial)
+        → FailsWith CallFault.Store (state S.Store conn.old) (state S.Store conn.new) result }
+    ensures looked { Looked S.Store conn.old conn.new }
 {
     let deadline = request.received.secs() + request.ground.limit_secs();
     let is_past = deadline < now.secs();
@@ -93,16 +90,14 @@ fn is_late<S: Alter>(
 /// # Errors
 /// `Memory`; `Store` where the database fails, or where its rows are ones that no register writes, such as a request
 /// without its certificate.
-#[tactic(auto, using(crate::proofs::Staying::stays_register, crate::proofs::Staying::stays_then, crate::proofs::Staying::leaves_then))]
+#[tactic(auto, using(crate::proofs::Staying::looked_then))]
 pub fn open_past_due<S: Alter>(
     conn: &mut Connection<S>,
     now: Moment,
-) -> Result<Option<Overdue>, StoreFault>
+) -> Result<Option<Overdue>, CallFault>
     ensures found { (records : Records) → Shows S.Store conn.old records → HasCleanDisk (state S.Store conn.new) → IfOk result (λ report. report ≡ overdue_report (overdue records now)) }
-    ensures same { IsRegister (state S.Store conn.old) → Stays (state S.Store conn.old) (state S.Store conn.new) }
-    ensures survives { LeavesNothing (state S.Store conn.old) (state S.Store conn.new) }
-    ensures idle { conn.old.in_transaction ≡ false → conn.new.in_transaction ≡ false }
-    ensures faults { IfErr result IsCallFault }
+    ensures fails { Blamed S.Store CallFault.Store conn.old conn.new result }
+    ensures looked { Looked S.Store conn.old conn.new }
 {
     let requests = undeclined(conn)?;
     let mut report = None;

@@ -1,14 +1,16 @@
 //! Statements that only read.
 
-ghost use Rattle.std.specs.Prelude.{◌≡◌, ◌≤◌, false, [], ◌∷◌, IfOk, IfErr, MatchOption};
+ghost use Rattle.std.specs.Prelude.{◌≡◌, ◌≢◌, ◌≤◌, [], ◌∷◌, length, IfOk, OnErr, MatchOption};
+ghost use Rattle.sqlite_value.specs.Order.{Row as Values};
 ghost use Rattle.sqlite.specs.Values.{bound};
 ghost use Rattle.sqlite.specs.Held.{state};
 ghost use Rattle.sqlite.specs.State.{HasCleanDisk};
 ghost use Rattle.sqlite_trees.specs.View.{doubt};
+ghost use Rattle.reg_tables.specs.Failing.{FailsWith, IsAsked};
 ghost use Rattle.reg_tables.specs.Reading.{Answers, IsReading};
-ghost use Rattle.reg_tables.specs.Stays.{IsCallFault, IsRegister, LeavesNothing, Stays};
+ghost use Rattle.reg_tables.specs.Stays.{IsRegister, Looked};
 
-use crate::fault::StoreFault;
+use crate::fault::CallFault;
 use sqlite::types::ValueRef;
 use sqlite::{Alter, Connection, Row};
 
@@ -17,34 +19,33 @@ pub(crate) fn read<S: Alter>(
     conn: &mut Connection<S>,
     sql: &str,
     params: &[ValueRef<'_>],
-) -> Result<Vec<Row>, StoreFault>
+) -> Result<Vec<Row>, CallFault>
     ensures rows { IsReading sql.now → IsRegister (state S.Store conn.old) → HasCleanDisk (state S.Store conn.new)
         → IfOk result (λ rows. Answers (state S.Store conn.old) sql.now (bound params.now) rows.items) }
-    ensures same { IsReading sql.now → IsRegister (state S.Store conn.old) → Stays (state S.Store conn.old) (state S.Store conn.new) }
+    ensures fails { IsReading sql.now → IsAsked sql.now (bound params.now) → IsRegister (state S.Store conn.old)
+        → FailsWith CallFault.Store (state S.Store conn.old) (state S.Store conn.new) result }
+    ensures looked { IsReading sql.now → Looked S.Store conn.old conn.new }
     ensures clean { doubt (state S.Store conn.old).is_clean ≤ doubt (state S.Store conn.new).is_clean }
-    ensures survives { IsReading sql.now → LeavesNothing (state S.Store conn.old) (state S.Store conn.new) }
-    ensures idle { conn.old.in_transaction ≡ false → conn.new.in_transaction ≡ false }
-    ensures faults { IfErr result IsCallFault }
 {
     Ok(conn.query_all(sql, params)?)
 }
 
 /// The one row, or none. `Store` for more.
-pub(crate) fn at_most_one(rows: &[Row]) -> Result<Option<&Row>, StoreFault>
+pub(crate) fn at_most_one(rows: &[Row]) -> Result<Option<&Row>, CallFault>
     ensures found { IfOk result (λ found. MatchOption found (rows.now ≡ []) (λ row. rows.now ≡ row.now ∷ [])) }
-    ensures faults { IfErr result IsCallFault }
+    ensures more { OnErr result (2 ≤ length rows.now) }
 {
     match rows {
         [] => Ok(None),
         [row] => Ok(Some(row)),
-        _ => Err(StoreFault::Store),
+        _ => Err(CallFault::Store),
     }
 }
 
 /// The one row. `Store` for none and for more.
-pub(crate) fn only(rows: &[Row]) -> Result<&Row, StoreFault>
+pub(crate) fn only(rows: &[Row]) -> Result<&Row, CallFault>
     ensures found { IfOk result (λ row. rows.now ≡ row.now ∷ []) }
-    ensures faults { IfErr result IsCallFault }
+    ensures others { OnErr result ((row : Values) → rows.now ≢ row ∷ []) }
 {
-    at_most_one(rows)?.ok_or(StoreFault::Store)
+    at_most_one(rows)?.ok_or(CallFault::Store)
 }

@@ -1,14 +1,15 @@
 //! Look-ups of revocations.
 
-ghost use Rattle.std.specs.Prelude.{◌≡◌, nat_lt, false, filter, IsTrue, IfOk, IfErr};
+ghost use Rattle.std.specs.Prelude.{◌≡◌, ◌<◌, ◌^◌, nat_lt, filter, IsTrue, IfOk};
 ghost use Rattle.sqlite.specs.Held.{state};
 ghost use Rattle.sqlite.specs.State.{HasCleanDisk};
 ghost use Rattle.reg_core.specs.Due.{earliest, unlisted};
 ghost use Rattle.reg_core.specs.Records.{Records, revocation_in};
+ghost use Rattle.reg_tables.specs.Failing.{Blamed};
 ghost use Rattle.reg_tables.specs.Shows.{Shows};
-ghost use Rattle.reg_tables.specs.Stays.{IsCallFault, IsRegister, LeavesNothing, Stays};
+ghost use Rattle.reg_tables.specs.Stays.{Looked};
 
-use crate::fault::StoreFault;
+use crate::fault::CallFault;
 use crate::reading::{at_most_one, read};
 use crate::rows;
 use crate::sizes::{Table, held};
@@ -25,12 +26,10 @@ use sqlite::{Alter, Connection, params};
 pub fn revocation<S: Alter>(
     conn: &mut Connection<S>,
     serial: Serial,
-) -> Result<Option<RevocationRow>, StoreFault>
+) -> Result<Option<RevocationRow>, CallFault>
     ensures found { (records : Records) → Shows S.Store conn.old records → HasCleanDisk (state S.Store conn.new) → IfOk result (λ row. row ≡ revocation_in records.revocations serial) }
-    ensures same { IsRegister (state S.Store conn.old) → Stays (state S.Store conn.old) (state S.Store conn.new) }
-    ensures survives { LeavesNothing (state S.Store conn.old) (state S.Store conn.new) }
-    ensures idle { conn.old.in_transaction ≡ false → conn.new.in_transaction ≡ false }
-    ensures faults { IfErr result IsCallFault }
+    ensures fails { Blamed S.Store CallFault.Store conn.old conn.new result }
+    ensures looked { Looked S.Store conn.old conn.new }
 {
     let found = read(
         conn,
@@ -48,13 +47,11 @@ pub fn revocation<S: Alter>(
 fn earliest_above<S: Alter>(
     conn: &mut Connection<S>,
     number: u64,
-) -> Result<Option<Moment>, StoreFault>
+) -> Result<Option<Moment>, CallFault>
     ensures found { (records : Records) → Shows S.Store conn.old records → HasCleanDisk (state S.Store conn.new)
         → IfOk result (λ at. IsTrue (state S.Store conn.old).is_open × (at ≡ earliest (filter (λ row. nat_lt number row.first) records.revocations))) }
-    ensures same { IsRegister (state S.Store conn.old) → Stays (state S.Store conn.old) (state S.Store conn.new) }
-    ensures survives { LeavesNothing (state S.Store conn.old) (state S.Store conn.new) }
-    ensures idle { conn.old.in_transaction ≡ false → conn.new.in_transaction ≡ false }
-    ensures faults { IfErr result IsCallFault }
+    ensures fails { number < 2 ^ 63 → Blamed S.Store CallFault.Store conn.old conn.new result }
+    ensures looked { Looked S.Store conn.old conn.new }
 {
     let value = sql_number(number)?;
     let found = read(conn, EARLIEST_ABOVE, params![&value])?;
@@ -68,13 +65,11 @@ fn earliest_above<S: Alter>(
 ///
 /// # Errors
 /// `Memory`; `Store` where the database fails, or where its row is one that no register writes.
-#[tactic(auto, using(crate::proofs::Staying::stays_register, crate::proofs::Staying::stays_then, crate::proofs::Staying::leaves_then))]
-pub fn earliest_unlisted<S: Alter>(conn: &mut Connection<S>) -> Result<Option<Moment>, StoreFault>
+#[tactic(auto, using(crate::proofs::Staying::looked_then))]
+pub fn earliest_unlisted<S: Alter>(conn: &mut Connection<S>) -> Result<Option<Moment>, CallFault>
     ensures found { (records : Records) → Shows S.Store conn.old records → HasCleanDisk (state S.Store conn.new) → IfOk result (λ at. at ≡ earliest (unlisted records)) }
-    ensures same { IsRegister (state S.Store conn.old) → Stays (state S.Store conn.old) (state S.Store conn.new) }
-    ensures survives { LeavesNothing (state S.Store conn.old) (state S.Store conn.new) }
-    ensures idle { conn.old.in_transaction ≡ false → conn.new.in_transaction ≡ false }
-    ensures faults { IfErr result IsCallFault }
+    ensures fails { Blamed S.Store CallFault.Store conn.old conn.new result }
+    ensures looked { Looked S.Store conn.old conn.new }
 {
     let latest = held(conn, Table::Crls)?;
     earliest_above(conn, latest)

@@ -1,12 +1,15 @@
-//! Rows of the tables as rows of the register, with the columns in the order in which the statements name them.
+//! Rows of the tables as rows of the register, with the columns in the order in which the statements name them. A row of values
+//! that a register writes is read as what it is; [`CallFault::Store`] is told where it has others.
 
-ghost use Rattle.std.specs.Prelude.{◌≡◌, ℕ, List, map, IfOk, IfErr};
+ghost use Rattle.std.specs.Prelude.{◌≡◌, ◌<◌, ◌≤◌, ℕ, List, map, IsOkAnd, MatchResult};
 ghost use Rattle.std.specs.List.{AllByRecursion};
+ghost use Rattle.reg_core.specs.Calendar.{IsMoment, clock_end};
+ghost use Rattle.reg_core.specs.Label.{IsLabel};
 ghost use Rattle.reg_core.specs.Serial.{IsSerial};
 ghost use Rattle.reg_tables.specs.Reading.{shown_subscriber, shown_order, shown_certificate, shown_request, shown_revocation, shown_crl, shown_entry, shown_step};
-ghost use Rattle.reg_tables.specs.Stays.{IsCallFault};
+ghost use Rattle.reg_tables.specs.Values.{IsValidity, AreMomentAndReason};
 
-use crate::fault::StoreFault;
+use crate::fault::CallFault;
 use crate::values::{
     cause_at, clock_moment_at, flag_at, label_at, moment_at, number_at, reason_at, serial_at,
 };
@@ -16,9 +19,8 @@ use reg_core::{
 use sqlite::Row;
 
 /// id, name.
-pub(crate) fn subscriber_in(row: &Row) -> Result<SubscriberRow, StoreFault>
-    ensures read { (subscriber : SubscriberRow) → row.now ≡ shown_subscriber subscriber → IfOk result (λ read. read ≡ subscriber) }
-    ensures faults { IfErr result IsCallFault }
+pub(crate) fn subscriber_in(row: &Row) -> Result<SubscriberRow, CallFault>
+    ensures read { (subscriber : SubscriberRow) → row.now ≡ shown_subscriber subscriber → MatchResult result (λ read. read ≡ subscriber) (λ _. ¬ IsLabel subscriber.name) }
 {
     Ok(SubscriberRow {
         id: number_at(row, 0)?,
@@ -27,9 +29,8 @@ pub(crate) fn subscriber_in(row: &Row) -> Result<SubscriberRow, StoreFault>
 }
 
 /// id, subscriber, days.
-pub(crate) fn order_in(row: &Row) -> Result<OrderRow, StoreFault>
-    ensures read { (order : OrderRow) → row.now ≡ shown_order order → IfOk result (λ read. read ≡ order) }
-    ensures faults { IfErr result IsCallFault }
+pub(crate) fn order_in(row: &Row) -> Result<OrderRow, CallFault>
+    ensures read { (order : OrderRow) → row.now ≡ shown_order order → IsOkAnd result (λ read. read ≡ order) }
 {
     Ok(OrderRow {
         id: number_at(row, 0)?,
@@ -39,9 +40,8 @@ pub(crate) fn order_in(row: &Row) -> Result<OrderRow, StoreFault>
 }
 
 /// serial, order_id, not_before, not_after.
-pub fn certificate_in(row: &Row) -> Result<CertRow, StoreFault>
-    ensures read { (certificate : CertRow) → IsSerial certificate.serial → row.now ≡ shown_certificate certificate → IfOk result (λ read. read ≡ certificate) }
-    ensures faults { IfErr result IsCallFault }
+pub fn certificate_in(row: &Row) -> Result<CertRow, CallFault>
+    ensures read { (certificate : CertRow) → IsSerial certificate.serial → row.now ≡ shown_certificate certificate → MatchResult result (λ read. read ≡ certificate) (λ _. ¬ IsValidity certificate.not_before certificate.not_after) }
 {
     Ok(CertRow {
         serial: serial_at(row, 0)?,
@@ -52,9 +52,8 @@ pub fn certificate_in(row: &Row) -> Result<CertRow, StoreFault>
 }
 
 /// id, serial, ground, received, declined.
-pub(crate) fn request_in(row: &Row) -> Result<RequestRow, StoreFault>
-    ensures read { (request : RequestRow) → IsSerial request.serial → row.now ≡ shown_request request → IfOk result (λ read. read ≡ request) }
-    ensures faults { IfErr result IsCallFault }
+pub(crate) fn request_in(row: &Row) -> Result<RequestRow, CallFault>
+    ensures read { (request : RequestRow) → IsSerial request.serial → row.now ≡ shown_request request → MatchResult result (λ read. read ≡ request) (λ _. clock_end ≤ request.received) }
 {
     Ok(RequestRow {
         id: number_at(row, 0)?,
@@ -66,9 +65,8 @@ pub(crate) fn request_in(row: &Row) -> Result<RequestRow, StoreFault>
 }
 
 /// serial, at, reason, request, first_crl.
-pub fn revocation_in(row: &Row) -> Result<RevocationRow, StoreFault>
-    ensures read { (revocation : RevocationRow) → IsSerial revocation.serial → row.now ≡ shown_revocation revocation → IfOk result (λ read. read ≡ revocation) }
-    ensures faults { IfErr result IsCallFault }
+pub fn revocation_in(row: &Row) -> Result<RevocationRow, CallFault>
+    ensures read { (revocation : RevocationRow) → IsSerial revocation.serial → row.now ≡ shown_revocation revocation → MatchResult result (λ read. read ≡ revocation) (λ _. ¬ AreMomentAndReason revocation.at revocation.reason) }
 {
     Ok(RevocationRow {
         serial: serial_at(row, 0)?,
@@ -80,9 +78,8 @@ pub fn revocation_in(row: &Row) -> Result<RevocationRow, StoreFault>
 }
 
 /// number, this_update.
-pub fn crl_in(row: &Row) -> Result<CrlRow, StoreFault>
-    ensures read { (crl : CrlRow) → row.now ≡ shown_crl crl → IfOk result (λ read. read ≡ crl) }
-    ensures faults { IfErr result IsCallFault }
+pub fn crl_in(row: &Row) -> Result<CrlRow, CallFault>
+    ensures read { (crl : CrlRow) → row.now ≡ shown_crl crl → MatchResult result (λ read. read ≡ crl) (λ _. clock_end ≤ crl.this_update) }
 {
     Ok(CrlRow {
         number: number_at(row, 0)?,
@@ -91,9 +88,8 @@ pub fn crl_in(row: &Row) -> Result<CrlRow, StoreFault>
 }
 
 /// serial, at, reason.
-pub(crate) fn entry_in(row: &Row) -> Result<Entry, StoreFault>
-    ensures read { (entry : Entry) → IsSerial entry.serial → row.now ≡ shown_entry entry → IfOk result (λ read. read ≡ entry) }
-    ensures faults { IfErr result IsCallFault }
+pub(crate) fn entry_in(row: &Row) -> Result<Entry, CallFault>
+    ensures read { (entry : Entry) → IsSerial entry.serial → row.now ≡ shown_entry entry → MatchResult result (λ read. read ≡ entry) (λ _. ¬ AreMomentAndReason entry.at entry.reason) }
 {
     Ok(Entry {
         serial: serial_at(row, 0)?,
@@ -103,9 +99,8 @@ pub(crate) fn entry_in(row: &Row) -> Result<Entry, StoreFault>
 }
 
 /// from_at, days, a row for each step.
-pub(crate) fn steps_in(rows: &Vec<Row>) -> Result<Vec<(Moment, u64)>, StoreFault>
-    ensures read { (steps : List (ℕ × ℕ)) → rows.now.items ≡ map shown_step steps → IfOk result (λ read. read.items ≡ steps) }
-    ensures faults { IfErr result IsCallFault }
+pub(crate) fn steps_in(rows: &Vec<Row>) -> Result<Vec<(Moment, u64)>, CallFault>
+    ensures read { (steps : List (ℕ × ℕ)) → rows.now.items ≡ map shown_step steps → MatchResult result (λ read. read.items ≡ steps) (λ fault. fault ≡ CallFault.Store → ¬ AllByRecursion (λ step. IsMoment step.0) steps) }
 {
     let mut steps = Vec::new(*rows.allocator());
     for row in rows {
@@ -115,9 +110,8 @@ pub(crate) fn steps_in(rows: &Vec<Row>) -> Result<Vec<(Moment, u64)>, StoreFault
 }
 
 /// serial, at, reason, a row for each entry.
-pub(crate) fn entries_in(rows: &Vec<Row>) -> Result<Vec<Entry>, StoreFault>
-    ensures read { (entries : List Entry) → AllByRecursion (λ entry. IsSerial entry.serial) entries → rows.now.items ≡ map shown_entry entries → IfOk result (λ read. read.items ≡ entries) }
-    ensures faults { IfErr result IsCallFault }
+pub(crate) fn entries_in(rows: &Vec<Row>) -> Result<Vec<Entry>, CallFault>
+    ensures read { (entries : List Entry) → AllByRecursion (λ entry. IsSerial entry.serial) entries → rows.now.items ≡ map shown_entry entries → MatchResult result (λ read. read.items ≡ entries) (λ fault. fault ≡ CallFault.Store → ¬ AllByRecursion (λ entry. AreMomentAndReason entry.at entry.reason) entries) }
 {
     let mut entries = Vec::new(*rows.allocator());
     for row in rows {
@@ -127,9 +121,8 @@ pub(crate) fn entries_in(rows: &Vec<Row>) -> Result<Vec<Entry>, StoreFault>
 }
 
 /// id, serial, ground, received, declined, a row for each request.
-pub(crate) fn requests_in(rows: &Vec<Row>) -> Result<Vec<RequestRow>, StoreFault>
-    ensures read { (requests : List RequestRow) → AllByRecursion (λ request. IsSerial request.serial) requests → rows.now.items ≡ map shown_request requests → IfOk result (λ read. read.items ≡ requests) }
-    ensures faults { IfErr result IsCallFault }
+pub(crate) fn requests_in(rows: &Vec<Row>) -> Result<Vec<RequestRow>, CallFault>
+    ensures read { (requests : List RequestRow) → AllByRecursion (λ request. IsSerial request.serial) requests → rows.now.items ≡ map shown_request requests → MatchResult result (λ read. read.items ≡ requests) (λ fault. fault ≡ CallFault.Store → ¬ AllByRecursion (λ request. request.received < clock_end) requests) }
 {
     let mut requests = Vec::new(*rows.allocator());
     for row in rows {

@@ -1,17 +1,18 @@
 //! How many rows the tables of the records have: the number of the last row, since rows are numbered from 1 on.
 
-ghost use Rattle.std.specs.Prelude.{◌≡◌, ◌<◌, ◌≤◌, ℕ, false, List, [], None, IsTrue, OnOk, IfOk, IfErr};
+ghost use Rattle.std.specs.Prelude.{◌≡◌, ◌<◌, ◌≤◌, ◌^◌, ℕ, false, List, [], None, IsTrue, OnOk, IfOk};
 ghost use Rattle.sqlite_value.specs.Order.{Row};
 ghost use Rattle.sqlite.specs.Held.{state};
 ghost use Rattle.sqlite.specs.State.{HasCleanDisk};
 ghost use Rattle.sqlite_trees.specs.View.{doubt};
 ghost use Rattle.reg_core.specs.Records.{Records};
+ghost use Rattle.reg_tables.specs.Failing.{Blamed, FailsWith, IsAsked};
 ghost use Rattle.reg_tables.specs.Reading.{Answers, IsReading};
 ghost use Rattle.reg_tables.specs.Shows.{Shows};
-ghost use Rattle.reg_tables.specs.Stays.{IsCallFault, IsRegister, LeavesNothing, Stays};
-ghost use Rattle.reg_tables.specs.Tables.{IsNumberShown, rows_of};
+ghost use Rattle.reg_tables.specs.Stays.{IsRegister, LeavesNothing, Looked, Stays};
+ghost use Rattle.reg_tables.specs.Tables.{HasNumber, IsNumberShown, rows_of};
 
-use crate::fault::StoreFault;
+use crate::fault::CallFault;
 use crate::reading::{at_most_one, read};
 use crate::statements::{LAST_CERT, LAST_ORDER, LAST_REQUEST, LAST_SUBSCRIBER, LATEST_CRL};
 use crate::values::number_at;
@@ -28,14 +29,13 @@ pub enum Table {
 }
 
 /// The number in the one row that a query answers, or 0 where it answers none.
-fn number_shown<S: Alter>(conn: &mut Connection<S>, sql: &str) -> Result<u64, StoreFault>
+fn number_shown<S: Alter>(conn: &mut Connection<S>, sql: &str) -> Result<u64, CallFault>
     ensures read { IsReading sql.now → IsRegister (state S.Store conn.old) → HasCleanDisk (state S.Store conn.new)
         → IfOk result (λ n. (rows : List Row) × Answers (state S.Store conn.old) sql.now [] rows × ((m : ℕ) → IsNumberShown m rows → n ≡ m)) }
-    ensures same { IsReading sql.now → IsRegister (state S.Store conn.old) → Stays (state S.Store conn.old) (state S.Store conn.new) }
+    ensures fails { IsReading sql.now → IsAsked sql.now [] → IsRegister (state S.Store conn.old) → HasNumber (state S.Store conn.old) sql.now
+        → FailsWith CallFault.Store (state S.Store conn.old) (state S.Store conn.new) result }
+    ensures looked { IsReading sql.now → Looked S.Store conn.old conn.new }
     ensures clean { doubt (state S.Store conn.old).is_clean ≤ doubt (state S.Store conn.new).is_clean }
-    ensures survives { IsReading sql.now → LeavesNothing (state S.Store conn.old) (state S.Store conn.new) }
-    ensures idle { conn.old.in_transaction ≡ false → conn.new.in_transaction ≡ false }
-    ensures faults { IfErr result IsCallFault }
 {
     let found = read(conn, sql, &[])?;
     match at_most_one(&found)? {
@@ -49,13 +49,11 @@ fn number_shown<S: Alter>(conn: &mut Connection<S>, sql: &str) -> Result<u64, St
 /// # Errors
 /// `Memory`; `Store` where the database fails, or where its row is one that no register writes.
 #[tactic(auto, using(crate::proofs::HeldLemmas::reading_subscriber, crate::proofs::HeldLemmas::reading_order, crate::proofs::HeldLemmas::reading_cert, crate::proofs::HeldLemmas::reading_request, crate::proofs::HeldLemmas::reading_crl))]
-pub fn held<S: Alter>(conn: &mut Connection<S>, table: Table) -> Result<u64, StoreFault>
+pub fn held<S: Alter>(conn: &mut Connection<S>, table: Table) -> Result<u64, CallFault>
     ensures found { (records : Records) → Shows S.Store conn.old records → HasCleanDisk (state S.Store conn.new) → IfOk result (λ rows. rows ≡ rows_of records table) }
     ensures live { IsRegister (state S.Store conn.old) → HasCleanDisk (state S.Store conn.new) → OnOk result (IsTrue (state S.Store conn.old).is_open) }
-    ensures same { IsRegister (state S.Store conn.old) → Stays (state S.Store conn.old) (state S.Store conn.new) }
-    ensures survives { LeavesNothing (state S.Store conn.old) (state S.Store conn.new) }
-    ensures idle { conn.old.in_transaction ≡ false → conn.new.in_transaction ≡ false }
-    ensures faults { IfErr result IsCallFault }
+    ensures fails { Blamed S.Store CallFault.Store conn.old conn.new result }
+    ensures looked { Looked S.Store conn.old conn.new }
 {
     match table {
         Table::Subscribers => number_shown(conn, LAST_SUBSCRIBER),
@@ -72,17 +70,16 @@ pub(crate) fn none_past<S: Alter, T>(
     conn: &mut Connection<S>,
     table: Table,
     number: u64,
-) -> Result<Option<T>, StoreFault>
+) -> Result<Option<T>, CallFault>
     ensures none { IfOk result (λ found. found ≡ None) }
     ensures past { (records : Records) → Shows S.Store conn.old records → HasCleanDisk (state S.Store conn.new) → OnOk result (IsTrue (state S.Store conn.old).is_open × (rows_of records table < number)) }
-    ensures same { IsRegister (state S.Store conn.old) → Stays (state S.Store conn.old) (state S.Store conn.new) }
-    ensures survives { LeavesNothing (state S.Store conn.old) (state S.Store conn.new) }
-    ensures idle { conn.old.in_transaction ≡ false → conn.new.in_transaction ≡ false }
-    ensures faults { IfErr result IsCallFault }
+    ensures fails { 2 ^ 63 ≤ number → Blamed S.Store CallFault.Store conn.old conn.new result }
+    ensures looked { Looked S.Store conn.old conn.new }
 {
-    if held(conn, table)? < number {
+    let rows = held(conn, table)?;
+    if rows < number {
         Ok(None)
     } else {
-        Err(StoreFault::Store)
+        Err(CallFault::Store)
     }
 }

@@ -1,13 +1,14 @@
 //! Look-ups of subscribers.
 
-ghost use Rattle.std.specs.Prelude.{◌≡◌, false, IfOk, IfErr};
+ghost use Rattle.std.specs.Prelude.{◌≡◌, IfOk};
 ghost use Rattle.sqlite.specs.Held.{state};
 ghost use Rattle.sqlite.specs.State.{HasCleanDisk};
 ghost use Rattle.reg_core.specs.Records.{Records, subscriber_in, subscriber_named};
+ghost use Rattle.reg_tables.specs.Failing.{Blamed};
 ghost use Rattle.reg_tables.specs.Shows.{Shows};
-ghost use Rattle.reg_tables.specs.Stays.{IsCallFault, IsRegister, LeavesNothing, Stays};
+ghost use Rattle.reg_tables.specs.Stays.{Looked};
 
-use crate::fault::StoreFault;
+use crate::fault::CallFault;
 use crate::reading::{at_most_one, read};
 use crate::rows;
 use crate::sizes::{Table, none_past};
@@ -25,12 +26,10 @@ use sqlite::{Alter, Connection, params};
 pub fn subscriber<S: Alter>(
     conn: &mut Connection<S>,
     id: u64,
-) -> Result<Option<SubscriberRow>, StoreFault>
+) -> Result<Option<SubscriberRow>, CallFault>
     ensures found { (records : Records) → Shows S.Store conn.old records → HasCleanDisk (state S.Store conn.new) → IfOk result (λ row. row ≡ subscriber_in records.subscribers id) }
-    ensures same { IsRegister (state S.Store conn.old) → Stays (state S.Store conn.old) (state S.Store conn.new) }
-    ensures survives { LeavesNothing (state S.Store conn.old) (state S.Store conn.new) }
-    ensures idle { conn.old.in_transaction ≡ false → conn.new.in_transaction ≡ false }
-    ensures faults { IfErr result IsCallFault }
+    ensures fails { Blamed S.Store CallFault.Store conn.old conn.new result }
+    ensures looked { Looked S.Store conn.old conn.new }
 {
     let Some(value) = sql_key(id) else {
         return none_past(conn, Table::Subscribers, id);
@@ -50,12 +49,10 @@ pub fn subscriber<S: Alter>(
 pub fn subscriber_by_name<S: Alter>(
     conn: &mut Connection<S>,
     name: &Label,
-) -> Result<Option<SubscriberRow>, StoreFault>
+) -> Result<Option<SubscriberRow>, CallFault>
     ensures found { (records : Records) → Shows S.Store conn.old records → HasCleanDisk (state S.Store conn.new) → IfOk result (λ row. row ≡ subscriber_named records.subscribers name.now) }
-    ensures same { IsRegister (state S.Store conn.old) → Stays (state S.Store conn.old) (state S.Store conn.new) }
-    ensures survives { LeavesNothing (state S.Store conn.old) (state S.Store conn.new) }
-    ensures idle { conn.old.in_transaction ≡ false → conn.new.in_transaction ≡ false }
-    ensures faults { IfErr result IsCallFault }
+    ensures fails { Blamed S.Store CallFault.Store conn.old conn.new result }
+    ensures looked { Looked S.Store conn.old conn.new }
 {
     let found = read(conn, SUBSCRIBER_BY_NAME, &[ValueRef::Text(name.as_bytes())])?;
     match at_most_one(&found)? {

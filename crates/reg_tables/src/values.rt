@@ -1,14 +1,16 @@
-//! Values of SQL as values of the register. What no register writes is [`StoreFault::Store`].
+//! Values of SQL as values of the register, judged both ways: what a register writes is read as what it is, and
+//! [`CallFault::Store`] is told where no register writes what stands there.
 
-ghost use Rattle.std.specs.Prelude.{◌≡◌, ◌<◌, ◌≤◌, ◌^◌, ℕ, Bool, List, Option, cond, OnOk, IfOk, IfErr, MatchOption};
+ghost use Rattle.std.specs.Prelude.{◌≡◌, ◌<◌, ◌≤◌, ◌^◌, ℕ, Bool, List, Option, cond, length, OnOk, IfOk, IfErr, IsOkAnd, MatchOption, MatchResult};
 ghost use Rattle.sqlite_value.specs.declared.value.Value.TheVariants.{Text, Blob};
 ghost use Rattle.sqlite_value.specs.Order.{column};
+ghost use Rattle.reg_core.specs.Calendar.{clock_end};
+ghost use Rattle.reg_core.specs.Label.{IsLabel};
 ghost use Rattle.reg_core.specs.Serial.{IsSerial};
 ghost use Rattle.reg_tables.specs.Columns.{number_or_null};
 ghost use Rattle.reg_tables.specs.Rows.{number, serial_value, ground_place};
-ghost use Rattle.reg_tables.specs.Stays.{IsCallFault};
 
-use crate::fault::StoreFault;
+use crate::fault::CallFault;
 use reg_core::{Ground, Label, Moment, Serial};
 use sqlite::Row;
 use sqlite::types::{Value, ValueRef};
@@ -27,85 +29,92 @@ pub(crate) fn sql_key(n: u64) -> Option<Value>
 const LONGEST_LIFE: u64 = 863_999;
 
 /// The number as SQL has it. `Store` above 2^63 - 1, which SQL doesn't have.
-pub(crate) fn sql_number(n: u64) -> Result<Value, StoreFault>
+pub(crate) fn sql_number(n: u64) -> Result<Value, CallFault>
     ensures value { IfOk result (λ value. value ≡ number n) }
     ensures had { OnOk result (n < 2 ^ 63) }
-    ensures refused { IfErr result (λ fault. (fault ≡ StoreFault.Store) × (2 ^ 63 ≤ n)) }
-    ensures faults { IfErr result IsCallFault }
+    ensures refused { IfErr result (λ fault. (fault ≡ CallFault.Store) × (2 ^ 63 ≤ n)) }
 {
-    sql_key(n).ok_or(StoreFault::Store)
+    sql_key(n).ok_or(CallFault::Store)
 }
 
 /// The number in a column.
-pub(crate) fn number_at(row: &Row, at: usize) -> Result<u64, StoreFault>
-    ensures read { (n : ℕ) → column row.now at ≡ number n → IfOk result (λ read. read ≡ n) }
-    ensures faults { IfErr result IsCallFault }
+pub(crate) fn number_at(row: &Row, at: usize) -> Result<u64, CallFault>
+    ensures read { (n : ℕ) → column row.now at ≡ number n → IsOkAnd result (λ read. read ≡ n) }
 {
-    Ok(row.get::<u64>(at)?)
+    match row.get_ref(at)? {
+        ValueRef::Int(n) => match u64::try_from(n) {
+            Ok(n) => Ok(n),
+            Err(_) => Err(CallFault::Store),
+        },
+        _ => Err(CallFault::Store),
+    }
 }
 
 /// The moment in a column.
-pub(crate) fn moment_at(row: &Row, at: usize) -> Result<Moment, StoreFault>
-    ensures read { (n : ℕ) → column row.now at ≡ number n → IfOk result (λ read. read ≡ n) }
-    ensures faults { IfErr result IsCallFault }
+pub(crate) fn moment_at(row: &Row, at: usize) -> Result<Moment, CallFault>
+    ensures read { (n : ℕ) → column row.now at ≡ number n → MatchResult result (λ read. read ≡ n) (λ _. 253402300800 ≤ n) }
 {
-    Moment::of_secs(number_at(row, at)?).ok_or(StoreFault::Store)
+    match Moment::of_secs(number_at(row, at)?) {
+        Some(moment) => Ok(moment),
+        None => Err(CallFault::Store),
+    }
 }
 
 /// The moment in a column, one that the register's clock lets pass.
-pub(crate) fn clock_moment_at(row: &Row, at: usize) -> Result<Moment, StoreFault>
-    ensures read { (n : ℕ) → column row.now at ≡ number n → IfOk result (λ read. read ≡ n) }
-    ensures faults { IfErr result IsCallFault }
+pub(crate) fn clock_moment_at(row: &Row, at: usize) -> Result<Moment, CallFault>
+    ensures read { (n : ℕ) → column row.now at ≡ number n → MatchResult result (λ read. read ≡ n) (λ _. clock_end ≤ n) }
 {
     let moment = moment_at(row, at)?;
     if moment < Moment::CLOCK_END {
         Ok(moment)
     } else {
-        Err(StoreFault::Store)
+        Err(CallFault::Store)
     }
 }
 
 /// The seconds in a column that an answer lives, fewer than ten days have.
-pub(crate) fn life_at(row: &Row, at: usize) -> Result<u64, StoreFault>
-    ensures read { (n : ℕ) → column row.now at ≡ number n → IfOk result (λ read. read ≡ n) }
+pub(crate) fn life_at(row: &Row, at: usize) -> Result<u64, CallFault>
+    ensures read { (n : ℕ) → column row.now at ≡ number n → MatchResult result (λ read. read ≡ n) (λ _. 863999 < n) }
     ensures short { IfOk result (λ read. read ≤ 863999) }
-    ensures faults { IfErr result IsCallFault }
 {
     let life = number_at(row, at)?;
     if life <= LONGEST_LIFE {
         Ok(life)
     } else {
-        Err(StoreFault::Store)
+        Err(CallFault::Store)
     }
 }
 
 /// The serial number in a column.
 #[tactic(auto, using(crate::proofs::Compares::serial_injective))]
-pub(crate) fn serial_at(row: &Row, at: usize) -> Result<Serial, StoreFault>
-    ensures read { (serial : ℕ) → IsSerial serial → column row.now at ≡ serial_value serial → IfOk result (λ read. read ≡ serial) }
-    ensures faults { IfErr result IsCallFault }
+pub(crate) fn serial_at(row: &Row, at: usize) -> Result<Serial, CallFault>
+    ensures read { (serial : ℕ) → IsSerial serial → column row.now at ≡ serial_value serial → IsOkAnd result (λ read. read ≡ serial) }
 {
     match row.get_ref(at)? {
-        ValueRef::Blob(bytes) => Serial::from_bytes20(bytes).ok_or(StoreFault::Store),
-        _ => Err(StoreFault::Store),
+        ValueRef::Blob(bytes) => match Serial::from_bytes20(bytes) {
+            Some(serial) => Ok(serial),
+            None => Err(CallFault::Store),
+        },
+        _ => Err(CallFault::Store),
     }
 }
 
 /// The label in a column.
-pub(crate) fn label_at(row: &Row, at: usize) -> Result<Label, StoreFault>
-    ensures read { (text : List ℕ) → column row.now at ≡ Text text → IfOk result (λ read. read ≡ text) }
-    ensures faults { IfErr result IsCallFault }
+pub(crate) fn label_at(row: &Row, at: usize) -> Result<Label, CallFault>
+    ensures read { (text : List ℕ) → column row.now at ≡ Text text → MatchResult result (λ read. read ≡ text) (λ _. ¬ IsLabel text) }
 {
     match row.get_ref(at)? {
-        ValueRef::Text(text) => Label::of(text).ok_or(StoreFault::Store),
-        _ => Err(StoreFault::Store),
+        ValueRef::Text(text) => match Label::of(text) {
+            Some(label) => Ok(label),
+            None => Err(CallFault::Store),
+        },
+        _ => Err(CallFault::Store),
     }
 }
 
 /// The ground in a column, which has its place in the list of grounds.
-pub(crate) fn cause_at(row: &Row, at: usize) -> Result<Ground, StoreFault>
-    ensures read { (cause : Ground) → column row.now at ≡ number (ground_place cause) → IfOk result (λ read. read ≡ cause) }
-    ensures faults { IfErr result IsCallFault }
+pub(crate) fn cause_at(row: &Row, at: usize) -> Result<Ground, CallFault>
+    ensures read { (cause : Ground) → column row.now at ≡ number (ground_place cause) → IsOkAnd result (λ read. read ≡ cause) }
 {
     match number_at(row, at)? {
         1 => Ok(Ground::Asked),
@@ -119,45 +128,44 @@ pub(crate) fn cause_at(row: &Row, at: usize) -> Result<Ground, StoreFault>
         9 => Ok(Ground::NameNotPermitted),
         10 => Ok(Ground::Nonconforming),
         11 => Ok(Ground::Inaccurate),
-        _ => Err(StoreFault::Store),
+        _ => Err(CallFault::Store),
     }
 }
 
 /// The flag in a column, 0 or 1.
-pub(crate) fn flag_at(row: &Row, at: usize) -> Result<bool, StoreFault>
-    ensures read { (flag : Bool) → column row.now at ≡ number (cond flag 1 0) → IfOk result (λ read. read ≡ flag) }
-    ensures faults { IfErr result IsCallFault }
+pub(crate) fn flag_at(row: &Row, at: usize) -> Result<bool, CallFault>
+    ensures read { (flag : Bool) → column row.now at ≡ number (cond flag 1 0) → IsOkAnd result (λ read. read ≡ flag) }
 {
     match number_at(row, at)? {
         0 => Ok(false),
         1 => Ok(true),
-        _ => Err(StoreFault::Store),
+        _ => Err(CallFault::Store),
     }
 }
 
 /// The reasonCode in a column (RFC 5280 5.3.1).
-pub(crate) fn reason_at(row: &Row, at: usize) -> Result<u8, StoreFault>
-    ensures read { (n : ℕ) → column row.now at ≡ number n → IfOk result (λ read. read ≡ n) }
-    ensures faults { IfErr result IsCallFault }
+pub(crate) fn reason_at(row: &Row, at: usize) -> Result<u8, CallFault>
+    ensures read { (n : ℕ) → column row.now at ≡ number n → MatchResult result (λ read. read ≡ n) (λ _. 256 ≤ n) }
 {
-    u8::try_from(number_at(row, at)?).map_err(|_| StoreFault::Store)
+    match u8::try_from(number_at(row, at)?) {
+        Ok(reason) => Ok(reason),
+        Err(_) => Err(CallFault::Store),
+    }
 }
 
 /// The bytes in a column.
-pub(crate) fn bytes_at(row: &Row, at: usize) -> Result<&[u8], StoreFault>
-    ensures read { (bytes : List ℕ) → column row.now at ≡ Blob bytes → IfOk result (λ read. read.now ≡ bytes) }
-    ensures faults { IfErr result IsCallFault }
+pub(crate) fn bytes_at(row: &Row, at: usize) -> Result<&[u8], CallFault>
+    ensures read { (bytes : List ℕ) → column row.now at ≡ Blob bytes → IsOkAnd result (λ read. read.now ≡ bytes) }
 {
     match row.get_ref(at)? {
         ValueRef::Blob(bytes) => Ok(bytes),
-        _ => Err(StoreFault::Store),
+        _ => Err(CallFault::Store),
     }
 }
 
 /// The number in a column that may be NULL.
-pub(crate) fn number_or_null_at(row: &Row, at: usize) -> Result<Option<u64>, StoreFault>
-    ensures read { (n : Option ℕ) → column row.now at ≡ number_or_null n → IfOk result (λ read. read ≡ n) }
-    ensures faults { IfErr result IsCallFault }
+pub(crate) fn number_or_null_at(row: &Row, at: usize) -> Result<Option<u64>, CallFault>
+    ensures read { (n : Option ℕ) → column row.now at ≡ number_or_null n → MatchResult result (λ read. read ≡ n) (λ _. length row.now ≤ at) }
 {
     match row.get_ref(at)? {
         ValueRef::Null => Ok(None),

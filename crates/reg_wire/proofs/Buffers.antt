@@ -1,10 +1,10 @@
 -- Lemmas on a buffer that is read into.
-use Rattle.std.proofs.Common.{◌≡◌, ℕ, ◌≤◌, ◌+◌, ◌-◌, List, [], ◌++◌, length, take, sym, ap, ◌∙◌, arith, append-nil, append_assoc, length-append, length-drop, add-zero, drop}
+use Rattle.std.proofs.Common.{◌≡◌, ℕ, ◌≤◌, ◌+◌, List, [], ◌++◌, length, take, sym, ap, ◌∙◌, arith, append-nil, append_assoc, length-append, add-zero}
 use Rattle.std.specs.declared.option.Option.{Option}
 use Rattle.std.specs.Io.KnownBytes.{Consumes, Keeps}
 use Rattle.std.proofs.KnownBytes.{Consumes-nil, Consumes-trans, Consumes-kept}
 use Rattle.std.proofs.Math.Seq.{take-append-add}
-use Rattle.std.proofs.lemmas.List.{take-append-le, length-take-le, take-take, drop-take}
+use Rattle.std.proofs.lemmas.List.{take-append-le, length-take-le, take-take}
 use Rattle.std.proofs.lemmas.Slice.{take-put_mid_below}
 use borrow.Rule.Slice.PartMut.{put_mid, post_of}
 use Rattle.reg_wire.specs.Fill.{Fills}
@@ -102,10 +102,3 @@ so_far_kept input middle left before between ys held now k so_far fits same keep
   };
   count = so_far.count;
 }
-
--- after `buf.rotate_left(end)`: the bytes behind `end`, up to the count `now`, stand at the front
-pub turned : (buffer : List ℕ) (end now : ℕ) → end ≤ now → now ≤ length buffer → take (now - end) (drop end buffer ++ take end buffer) ≡ drop end (take now buffer)
-turned buffer end now below fits =
-    take-append-le (now - end) (drop end buffer) (take end buffer) (omega (arith, length-drop end buffer))
-    ∙ sym (drop-take end (now - end) buffer)
-    ∙ ap (λ n. drop end (take n buffer)) (let e : end + (now - end) ≡ now = omega arith in e)

@@ -1,15 +1,9 @@
--- Lemmas on known bytes and on what several writes give.
-use Rattle.std.proofs.Common.{◌≡◌, ℕ, ◌+◌, List, [], ◌∷◌, ◌++◌, None, Some, take, drop, refl, sym, ap, ◌∙◌, subst, append-nil}
-use Rattle.std.specs.List.{concat}
+-- Lemmas on known bytes.
+use Rattle.std.proofs.Common.{◌≡◌, ℕ, ◌+◌, List, ◌++◌, None, Some, take, drop, refl, sym, ap, ◌∙◌, subst, append-nil}
 use Rattle.std.specs.Io.KnownBytes.{Appends, Consumes, IsAtEnd}
 use Rattle.std.proofs.KnownBytes.{Appends-trans}
-use Rattle.std.proofs.lemmas.List.Folds.{concat-append}
 use Rattle.std.proofs.Math.Seq.{take-add}
 use Rattle.std.specs.declared.option.Option.{Option}
-
--- one more list at the end of those that are joined
-pub concat_push : (xs : List (List ℕ)) (x : List ℕ) → concat (xs ++ x ∷ []) ≡ concat xs ++ x
-concat_push xs x = concat-append xs (x ∷ []) ∙ ap (λ l. concat xs ++ l) (append-nil x)
 
 -- what is consumed of a known input is its front, and what is left is the rest
 pub Consumes-known : (input took : List ℕ) (left : Option (List ℕ)) → Consumes (Some input) left took

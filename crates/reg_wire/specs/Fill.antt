@@ -1,5 +1,5 @@
 -- What a reading into a buffer does to the bytes that the reader has left (input, then left) and to the buffer (before, then after).
-use Rattle.std.specs.Prelude.{◌≡◌, ℕ, ◌+◌, ◌<◌, ◌≤◌, ◌++◌, List, length, take}
+use Rattle.std.specs.Prelude.{◌≡◌, ℕ, ◌+◌, ◌<◌, ◌≤◌, ◌++◌, List, length, take, drop}
 use Rattle.std.specs.declared.option.Option.{Option}
 use Rattle.std.specs.Io.KnownBytes.{Consumes, IsAtEnd}
 use Rattle.reg_wire.specs.declared.fill.Reached.{Reached}
@@ -37,3 +37,17 @@ pub record FillsShort (mark : List ℕ) (input left : Option (List ℕ)) (before
   pub fills : Fills input left before after held took
   pub room : held + length took < length after
   pub unmarked : HasNoMark mark (take (held + length took) after)
+
+-- ---- laws
+
+-- what is held where a reading came to rest are the bytes that were held before, and those that were taken
+abbrev pub HoldsWhatCame : Type 0
+HoldsWhatCame =
+    (mark : List ℕ) (input left : Option (List ℕ)) (before after : List ℕ) (held : ℕ) (reached : Reached)
+    → (to : FillsTo mark input left before after held reached) → take (held_of (length after) reached) after ≡ take held before ++ to.took
+
+-- at a mark these are the bytes up to its end, and those that are held behind it
+abbrev pub PartsAtMark : Type 0
+PartsAtMark =
+    (mark : List ℕ) (input left : Option (List ℕ)) (before after : List ℕ) (held end now : ℕ)
+    → (to : FillsTo mark input left before after held (Mark end now)) → take held before ++ to.took ≡ take end after ++ drop end (take now after)

@@ -1,5 +1,5 @@
 -- What a write that broke off leaves behind.
-use Rattle.std.specs.Prelude.{ℕ, ◌<◌, List, length, take}
+use Rattle.std.specs.Prelude.{ℕ, ◌<◌, List, ◌++◌, length, take}
 use Rattle.std.specs.declared.option.Option.{Option}
 use Rattle.std.specs.Io.KnownBytes.{Appends}
 
@@ -8,3 +8,15 @@ pub record AppendsFront (old new : Option (List ℕ)) (bytes : List ℕ) : Type 
   pub count : ℕ
   pub short : count < length bytes
   pub written : Appends old new (take count bytes)
+
+-- ---- laws
+
+-- a front of the first of two parts is a front of both
+abbrev pub FrontOfFirst : Type 0
+FrontOfFirst = (old new : Option (List ℕ)) (first second : List ℕ) → AppendsFront old new first → AppendsFront old new (first ++ second)
+
+-- the first part whole, and then a front of the second, are a front of both
+abbrev pub FrontOfSecond : Type 0
+FrontOfSecond =
+    (old middle new : Option (List ℕ)) (first second : List ℕ) → Appends old middle first → AppendsFront middle new second
+    → AppendsFront old new (first ++ second)

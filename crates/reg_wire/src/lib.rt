@@ -3,6 +3,7 @@
 #![tactic(auto)]
 
 mod fill;
+pub mod laws;
 mod put;
 
 pub use fill::{Reached, ReadFault, fill_to_mark, fill_whole, first_mark};

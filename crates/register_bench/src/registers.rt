@@ -66,7 +66,9 @@ pub(crate) fn create_in_memory(alloc: Global) -> Result<Store<MemStore>, StoreFa
     let Ok(issuer) = Issuer::new(alloc, &NAME, b"abc") else {
         return Err(StoreFault::Memory);
     };
-    let connection = Connection::open_in_memory(alloc)?;
+    let Ok(connection) = Connection::open_in_memory(alloc) else {
+        return Err(StoreFault::Memory);
+    };
     match Store::create(connection, issuer, Policy::usual()) {
         Ok(store) => Ok(store),
         Err(unopened) => Err(unopened.fault),

@@ -1,10 +1,10 @@
 //! An office of the tests.
 
+use reg_calls::Calls;
 use reg_core::{
     Command, Counts, Fault, Ground, Memory, Moment, Outcome, Query, Refusal, Reply, Serial, Status,
     clock,
 };
-use reg_http::Office;
 use std::alloc::Global;
 
 /// The moment at which the office begins: 2026-01-01T00:00:00Z, in seconds.
@@ -98,7 +98,7 @@ impl Desk {
     }
 }
 
-impl Office for Desk {
+impl Calls for Desk {
     ghost runs = { λ _ _ _ _ _. Unit {0} };
 
     ghost asks = { λ _ _ _ _ _. Unit {0} };

@@ -2,10 +2,10 @@
 
 ghost use Rattle.std.specs.Prelude.{ℕ};
 
+use reg_calls::Calls;
 use reg_core::{
     Command, Counts, Fault, Listing, Memory, Moment, Outcome, Query, Refusal, Reply, Status,
 };
-use reg_lines::Answers;
 use std::alloc::Global;
 use std::io;
 use std::io::{Read, Write};
@@ -138,10 +138,16 @@ pub(super) fn office() -> FakeOffice {
     FakeOffice { ran: 0, held: None }
 }
 
-impl Answers for FakeOffice {
-    ghost answers = { λ _ _ _ _. Unit {0} };
+impl Calls for FakeOffice {
+    ghost runs = { λ _ _ _ _ _. Unit {0} };
 
-    fn run_one(&mut self, now: Moment, command: &Command) -> Outcome {
+    ghost asks = { λ _ _ _ _ _. Unit {0} };
+
+    ghost ocsps = { λ _ _ _ _ _. Unit {0} };
+
+    ghost crls = { λ _ _ _ _. Unit {0} };
+
+    fn run_one(&mut self, _alloc: Global, now: Moment, command: &Command) -> Outcome {
         self.ran = self.ran.saturating_add(1);
         let id = self.ran;
         match *command {
@@ -161,7 +167,7 @@ impl Answers for FakeOffice {
         }
     }
 
-    fn ask(&mut self, now: Moment, query: &Query) -> Outcome {
+    fn ask(&mut self, _alloc: Global, now: Moment, query: &Query) -> Outcome {
         match *query {
             Query::Status(_) => Ok(Reply::Status(Status::Revoked { at: now, reason: 4 })),
             Query::Counts => Ok(Reply::Counts(Counts {
@@ -183,5 +189,9 @@ impl Answers for FakeOffice {
             return Err(Memory);
         }
         Vec::from_slice(alloc, request).map_err(|_| Memory)
+    }
+
+    fn crl_bytes(&mut self, _alloc: Global, _number: Option<u64>) -> Result<Vec<u8>, Fault> {
+        Err(Fault::Refused(Refusal::NoCrl))
     }
 }

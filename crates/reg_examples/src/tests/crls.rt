@@ -1,10 +1,9 @@
 //! CRLs, byte for byte.
 
-use crate::tests::desk::{new_desk, replies};
+use crate::tests::desk::{Desk, new_desk, replies};
 use crate::tests::signer::FailsAt;
 use crate::tests::vectors::{CRL_OF_ONE, EMPTY_CRL};
 use reg_core::{Fault, Refusal};
-use reg_faces::Desk;
 use reg_office::Office;
 use sqlite::MemStore;
 use std::test::Fail;

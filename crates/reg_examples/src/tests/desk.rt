@@ -4,7 +4,7 @@ use crate::tests::signer::{FailsAt, fails_at};
 use crate::tests::tables::lines;
 use reg_core::{Fault, Moment, Policy};
 use reg_der::Issuer;
-use reg_faces::{Desk, run_script};
+use reg_faces::run_script;
 use reg_office::Office;
 use reg_store::Store;
 use sqlite::{Connection, MemStore};
@@ -35,6 +35,13 @@ pub(super) fn issuer(alloc: Global) -> Option<Issuer> {
     Issuer::new(alloc, &NAME, b"abc").ok()
 }
 
+/// An office, and the allocator of its calls.
+#[derive(Drop)]
+pub(super) struct Desk<O> {
+    pub(super) office: O,
+    pub(super) alloc: Global,
+}
+
 /// A register in memory behind its faces, whose signer fails at one call.
 pub(super) type TestDesk = Desk<Office<MemStore, FailsAt>>;
 
@@ -59,7 +66,7 @@ pub(super) fn new_desk(alloc: Global, cap: u64, call: u64) -> Result<TestDesk, F
 pub(super) fn replies(alloc: Global, desk: &mut TestDesk, script: &[u8]) -> Result<Vec<u8>, Fault> {
     let mut reader: &[u8] = script;
     let mut written: Vec<u8> = Vec::new(alloc);
-    run_script(alloc, &mut reader, &mut written, desk)?;
+    run_script(alloc, &mut reader, &mut written, &mut desk.office)?;
     Ok(written)
 }
 

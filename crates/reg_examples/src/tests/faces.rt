@@ -23,8 +23,8 @@ pub(super) fn exchange(
 ) -> Result<(), Fault> {
     let (alloc, now) = (desk.alloc, moment(now));
     match face {
-        Face::Script => run_script(alloc, reader, writer, desk),
-        Face::Import => import(alloc, reader, writer, now, desk),
-        Face::Http => serve_one(alloc, reader, writer, now, desk),
+        Face::Script => run_script(alloc, reader, writer, &mut desk.office),
+        Face::Import => import(alloc, reader, writer, now, &mut desk.office),
+        Face::Http => serve_one(alloc, reader, writer, now, &mut desk.office),
     }
 }

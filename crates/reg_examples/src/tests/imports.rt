@@ -1,11 +1,11 @@
 //! Imports, and an import that comes twice.
 
-use crate::tests::desk::{DAY_1, looked, new_desk, replies, started};
+use crate::tests::desk::{DAY_1, Desk, looked, new_desk, replies, started};
 use crate::tests::faces::{Face, exchange};
 use crate::tests::signer::FailsAt;
 use crate::tests::wires::{reader_of, writer_of};
 use reg_core::{Fault, Moment};
-use reg_faces::{Desk, import};
+use reg_faces::import;
 use reg_office::Office;
 use sqlite::MemStore;
 use std::alloc::Global;
@@ -41,7 +41,7 @@ fn imported(
 ) -> Result<Vec<u8>, Fault> {
     let mut reader: &[u8] = text;
     let mut written: Vec<u8> = Vec::new(alloc);
-    import(alloc, &mut reader, &mut written, now, desk)?;
+    import(alloc, &mut reader, &mut written, now, &mut desk.office)?;
     Ok(written)
 }
 

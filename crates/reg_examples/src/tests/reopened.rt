@@ -1,8 +1,7 @@
 //! A register that is closed and opened again.
 
-use crate::tests::desk::{looked, new_desk, registered, replies};
+use crate::tests::desk::{Desk, looked, new_desk, registered, replies};
 use crate::tests::signer::FailsAt;
-use reg_faces::Desk;
 use reg_office::Office;
 use reg_store::Store;
 use sqlite::MemStore;

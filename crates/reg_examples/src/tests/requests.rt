@@ -1,10 +1,10 @@
 //! HTTP requests over a register.
 
-use crate::tests::desk::{REGISTERED, new_desk, replies};
+use crate::tests::desk::{Desk, REGISTERED, new_desk, replies};
 use crate::tests::exchanges::EXCHANGES;
 use crate::tests::signer::FailsAt;
 use reg_core::{Fault, Moment};
-use reg_faces::{Desk, serve_one};
+use reg_faces::serve_one;
 use reg_office::Office;
 use sqlite::MemStore;
 use std::alloc::Global;
@@ -19,7 +19,7 @@ pub(super) fn response(
 ) -> Result<Vec<u8>, Fault> {
     let mut reader: &[u8] = request;
     let mut written: Vec<u8> = Vec::new(alloc);
-    serve_one(alloc, &mut reader, &mut written, now, desk)?;
+    serve_one(alloc, &mut reader, &mut written, now, &mut desk.office)?;
     Ok(written)
 }
 

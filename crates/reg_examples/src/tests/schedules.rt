@@ -1,9 +1,8 @@
 //! Longest validities by a schedule, which is set over an office.
 
-use crate::tests::desk::{new_desk, replies};
+use crate::tests::desk::{Desk, new_desk, replies};
 use crate::tests::signer::FailsAt;
 use reg_core::{Moment, Schedule};
-use reg_faces::Desk;
 use reg_office::Office;
 use sqlite::MemStore;
 use std::test::Fail;

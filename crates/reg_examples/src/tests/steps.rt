@@ -1,11 +1,11 @@
 //! Steps of a register's life, over any store.
 
-use crate::tests::desk::{DAY_10, issuer, moment};
+use crate::tests::desk::{DAY_10, Desk, issuer, moment};
 use crate::tests::older::make_older;
 use crate::tests::tables::lines;
 use reg_core::{Moment, Policy, Schedule};
 use reg_crl::DigestSeal;
-use reg_faces::{Desk, run_script};
+use reg_faces::run_script;
 use reg_office::Office;
 use reg_store::{Store, StoreFault, Unopened};
 use sqlite::{Alter, Connection};
@@ -62,7 +62,7 @@ fn line<S: Alter + Drop>(
     wanted: &str,
 ) -> End {
     let (mut reader, mut written) = (asked.as_bytes(), Vec::new(alloc));
-    match run_script(alloc, &mut reader, &mut written, desk) {
+    match run_script(alloc, &mut reader, &mut written, &mut desk.office) {
         Ok(()) => end_by(&written, wanted),
         Err(_) => End::Astray,
     }

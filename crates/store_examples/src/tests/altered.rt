@@ -16,7 +16,6 @@ enum Call {
     Counts,
     Touch,
     AddRevocation,
-    OpenPastDue,
 }
 
 /// What a call answers, at a moment after the certificates' end.
@@ -34,13 +33,12 @@ fn answer(store: &mut Store<MemStore>, call: Call) -> Result<Option<StoreFault>,
             let now = moment(DAY_2)?;
             store.add_revocation(now, revocation(2, "06")?).err()
         }
-        Call::OpenPastDue => store.open_past_due(later).err(),
     };
     Ok(fault)
 }
 
 /// Rows that no register writes, and the call that meets them.
-const ALTERED: [(&str, Call); 16] = [
+const ALTERED: [(&str, Call); 15] = [
     (
         "INSERT INTO orders VALUES (3, 1, 10); INSERT INTO cert VALUES (x'00000000000000000000000000000000000007', 3, 1767225600, 1768003200)",
         Call::CertOfOrder,
@@ -59,10 +57,6 @@ const ALTERED: [(&str, Call); 16] = [
     ("DELETE FROM kept", Call::Touch),
     ("DELETE FROM kept", Call::Counts),
     ("UPDATE standing SET state = 'X'", Call::AddRevocation),
-    (
-        "DELETE FROM listed; DELETE FROM revocation; DROP TABLE request; CREATE TABLE request (id INTEGER PRIMARY KEY, serial BLOB NOT NULL, ground INTEGER NOT NULL, received INTEGER NOT NULL, declined INTEGER NOT NULL) STRICT; INSERT INTO request VALUES (1, x'0000000000000000000000000000000000000009', 6, 1767312000, 0)",
-        Call::OpenPastDue,
-    ),
 ];
 
 #[test]

@@ -127,7 +127,7 @@ fn one_schema(rt: HostRuntime) -> Result<(), Fail> {
 }
 
 /// What `open` answers for older registers after statements of the example's own.
-const REFUSED: [(&str, StoreFault); 12] = [
+const REFUSED: [(&str, StoreFault); 13] = [
     ("UPDATE office SET days = 0", StoreFault::NotARegister),
     ("UPDATE office SET days = 399", StoreFault::NotARegister),
     ("UPDATE office SET name = x''", StoreFault::NotARegister),
@@ -138,13 +138,17 @@ const REFUSED: [(&str, StoreFault); 12] = [
     ),
     (
         "CREATE TABLE longest (from_at INTEGER PRIMARY KEY, days INTEGER NOT NULL) STRICT",
-        StoreFault::Store,
+        StoreFault::NotARegister,
     ),
     (
         "CREATE INDEX crl_at ON crl (number, this_update)",
-        StoreFault::Store,
+        StoreFault::NotARegister,
     ),
-    ("DROP TABLE crl", StoreFault::Store),
+    (
+        "CREATE VIEW note AS SELECT 1 AS one",
+        StoreFault::NotARegister,
+    ),
+    ("DROP TABLE crl", StoreFault::NotARegister),
     ("UPDATE cert SET not_after = -1", StoreFault::Store),
     (
         "UPDATE crl SET this_update = 253401436800",
@@ -187,6 +191,20 @@ fn what_is_not_made_newer(rt: HostRuntime) -> Result<(), Fail> {
             assert_eq!(rt; unopened.fault, fault, "{sql}");
             assert_eq!(rt; answers(&mut connection)?, [1, 0, version], "{sql}");
         }
+    }
+    Ok(())
+}
+
+/// Tables of one older version that say the other one.
+#[test]
+fn the_tables_of_another_version(rt: HostRuntime) -> Result<(), Fail> {
+    let first = ["UPDATE office SET version = 2", REGISTERED];
+    let second = ["UPDATE office SET version = 1", REGISTERED];
+    for connection in [
+        first_version(rt.alloc(), &first)?,
+        second_version(rt.alloc(), &second)?,
+    ] {
+        assert_eq!(rt; opened(connection)?.err(), Some(StoreFault::NotARegister));
     }
     Ok(())
 }

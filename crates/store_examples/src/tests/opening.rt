@@ -51,8 +51,14 @@ const REFUSED: [(&str, Option<StoreFault>); 27] = [
         "UPDATE office SET version = 4",
         Some(StoreFault::NewVersion),
     ),
-    ("UPDATE office SET version = 2", Some(StoreFault::Store)),
-    ("UPDATE office SET version = 1", Some(StoreFault::Store)),
+    (
+        "UPDATE office SET version = 2",
+        Some(StoreFault::NotARegister),
+    ),
+    (
+        "UPDATE office SET version = 1",
+        Some(StoreFault::NotARegister),
+    ),
     (
         "UPDATE office SET version = 2, name = x''",
         Some(StoreFault::NotARegister),
@@ -127,6 +133,42 @@ fn what_is_opened(rt: HostRuntime) -> Result<(), Fail> {
         connection.execute_batch(sql)?;
         assert_eq!(rt; opened(connection)?.err(), fault, "{sql}");
     }
+    Ok(())
+}
+
+/// Statements that make another schema, over which the version, the office and the schedule are read as before: a thing more, a
+/// thing less, or one that is not as a register's.
+const OTHERS: [&str; 9] = [
+    "CREATE TABLE note (title TEXT) STRICT",
+    "CREATE VIEW note AS SELECT 1 AS one",
+    "CREATE INDEX of_crl ON crl (this_update)",
+    "DROP INDEX crl_at",
+    "DROP TABLE kept",
+    "DROP TABLE kept; CREATE TABLE counted (one INTEGER PRIMARY KEY CHECK (one = 1), n_good INTEGER NOT NULL, n_revoked INTEGER NOT NULL, n_expired INTEGER NOT NULL) STRICT",
+    "DROP INDEX standing_due; CREATE INDEX standing_due ON standing (not_after, state)",
+    "DROP INDEX standing_due; DROP INDEX crl_at; DROP TABLE longest; CREATE TABLE longest (from_at INTEGER PRIMARY KEY, days INTEGER NOT NULL, note TEXT) STRICT; CREATE INDEX crl_at ON crl (number, this_update); CREATE INDEX standing_due ON standing (state, not_after); INSERT INTO longest VALUES (0, 398, NULL)",
+    "DROP INDEX standing_due; DROP INDEX crl_at; DROP TABLE longest; CREATE TABLE longest (from_at INTEGER PRIMARY KEY, days INTEGER NOT NULL); CREATE INDEX crl_at ON crl (number, this_update); CREATE INDEX standing_due ON standing (state, not_after); INSERT INTO longest VALUES (0, 398)",
+];
+
+/// Statements that make the last of a register's schema anew, as it was.
+const AGAIN: &str =
+    "DROP INDEX standing_due; DROP INDEX crl_at; DROP TABLE longest; CREATE TABLE longest (from_at INTEGER PRIMARY KEY, days INTEGER NOT NULL) STRICT; CREATE INDEX crl_at ON crl (number, this_update); CREATE INDEX standing_due ON standing (state, not_after); INSERT INTO longest VALUES (0, 398)";
+
+#[test]
+fn another_schema_is_no_register(rt: HostRuntime) -> Result<(), Fail> {
+    for sql in OTHERS {
+        let mut connection = registered(rt.alloc())?.into_connection();
+        connection.execute_batch(sql)?;
+        assert_eq!(rt;
+            opened(connection)?.err(),
+            Some(StoreFault::NotARegister),
+            "{sql}"
+        );
+    }
+    let mut connection = registered(rt.alloc())?.into_connection();
+    connection.execute_batch(AGAIN)?;
+    let mut store = opened(connection)??;
+    assert_eq!(rt; store.cert(serial("05")?)?, Some(certificate(1, "05")?));
     Ok(())
 }
 

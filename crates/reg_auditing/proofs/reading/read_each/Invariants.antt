@@ -1,4 +1,4 @@
-use Rattle.std.proofs.Common.{◌≡◌, false, take}
+use Rattle.std.proofs.Common.{◌≡◌, take}
 use Rattle.sqlite.specs.Effect.{Database}
 use Rattle.sqlite.specs.Held.{state}
 use Rattle.sqlite.specs.State.{HasCleanDisk}
@@ -6,15 +6,13 @@ use Rattle.reg_core.specs.Records.{Records}
 use Rattle.reg_tables.specs.Columns.{Columns}
 use Rattle.reg_tables.specs.Schema.{register_schema}
 use Rattle.reg_tables.specs.Shows.{Holds, ShowsBoth}
-use Rattle.reg_tables.specs.Stays.{IsRegister, LeavesNothing, Stays}
+use Rattle.reg_tables.specs.Stays.{Looked}
 use Rattle.reg_auditing.specs.Said.{AreRead, AreReadFrom}
 use Rattle.reg_auditing.proofs.reading.read_each.Given as goal
 
 abbrev pub invariant-loop-what : goal.invariant-loop-what
 invariant-loop-what g l = record {
-  stays : IsRegister (state g.S.Store l.fn.conn) → Stays (state g.S.Store l.fn.conn) (state g.S.Store l.conn);
-  survives : LeavesNothing (state g.S.Store l.fn.conn) (state g.S.Store l.conn);
+  looked : Looked g.S.Store l.fn.conn l.conn;
   found : (records : Records) (columns : Columns) → ShowsBoth g.S.Store l.fn.conn records columns → HasCleanDisk (state g.S.Store l.conn) → AreRead records columns (take l.what-index l.whats) l.all.items (λ rows. rows.items);
   from : (db : Database) → Holds g.S.Store l.fn.conn (λ now. now ≡ db) → db.schema ≡ register_schema → HasCleanDisk (state g.S.Store l.conn) → AreReadFrom db (take l.what-index l.whats) l.all.items (λ rows. rows.items);
-  idle : l.fn.conn.in_transaction ≡ false → l.conn.in_transaction ≡ false;
 }

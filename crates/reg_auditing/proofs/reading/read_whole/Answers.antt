@@ -11,12 +11,6 @@ use Rattle.reg_auditing.proofs.Whole.{holds_register}
 use Rattle.reg_auditing.proofs.Statements.{reading}
 use Rattle.reg_auditing.proofs.reading.read_whole.Goals as goal
 
-pub returns-clause-same : goal.returns-clause-same
-returns-clause-same g c = c.read.ensures.same (subst IsReading (sym c.text.ensures) (reading c.args.what))
-
-pub returns-clause-survives : goal.returns-clause-survives
-returns-clause-survives g c = c.read.ensures.survives (subst IsReading (sym c.text.ensures) (reading c.args.what))
-
 pub returns-clause-found : goal.returns-clause-found
 returns-clause-found g c records columns shows clean =
     let s = state g.S.Store c.args.conn.now in
@@ -37,3 +31,6 @@ returns-clause-from g c db holds schema clean =
     let was_clean : HasCleanDisk s = omega (arith, c.read.ensures.clean, clean) in
     subst (λ (d : Database). Reads (command_of (understood register_schema (text_of c.args.what))) d [] rows.items) (holds.tables was_clean answers.is_open)
     (subst (λ (text : List ℕ). Reads (command_of (understood register_schema text)) s.now [] rows.items) c.text.ensures answers.reads))
+
+pub returns-clause-looked : goal.returns-clause-looked
+returns-clause-looked g c = c.read.ensures.looked (subst IsReading (sym c.text.ensures) (reading c.args.what))

@@ -4,7 +4,7 @@ use Rattle.sqlite.specs.Held.{state}
 use Rattle.sqlite.specs.State.{HasCleanDisk}
 use Rattle.reg_core.specs.Calendar.{clock_end}
 use Rattle.reg_core.specs.declared.rows.CrlRow.{CrlRow}
-use Rattle.reg_tables.proofs.Staying.{both_shows, shows_register, stays_shows, stays_then, stays_register, leaves_then}
+use Rattle.reg_tables.proofs.Staying.{both_shows, looked_shows, looked_then}
 use Rattle.reg_audit.specs.Beside.{listed_in}
 use Rattle.reg_auditing.specs.Said.{whole}
 use Rattle.reg_auditing.specs.Stops.{IsBroken, IsBrokenRow}
@@ -16,26 +16,13 @@ use Rattle.reg_auditing.proofs.Having.{each_has}
 use Rattle.reg_auditing.proofs.Signed.{all_signed, lists_are, row_is_broken}
 use Rattle.reg_auditing.proofs.stored.check_crls.Goals as goal
 
-pub returns-clause-same : goal.returns-clause-same
-returns-clause-same g c register =
-    let first = state g.S.Store c.args.conn.now in
-    let before = state g.S.Store c.terms.new.conn in
-    let after = state g.S.Store c.check_each.new.conn in
-    let stays = c.terms.ensures.same register in
-    stays_then first before after c.check_each.ensures.survives.clean stays (c.check_each.ensures.same (stays_register first before c.terms.ensures.survives.clean stays register))
-
-pub returns-clause-survives : goal.returns-clause-survives
-returns-clause-survives g c =
-    leaves_then (state g.S.Store c.args.conn.now) (state g.S.Store c.terms.new.conn) (state g.S.Store c.check_each.new.conn) c.terms.ensures.survives c.check_each.ensures.survives
-
 pub returns-clause-bytes : goal.returns-clause-bytes
 returns-clause-bytes g c records columns shows are kept clean =
     let old = c.args.conn.now in
     let mid = c.terms.new.conn in
-    let was_clean : HasCleanDisk (state g.S.Store mid) = omega (arith, c.check_each.ensures.survives.clean) in
+    let was_clean : HasCleanDisk (state g.S.Store mid) = omega (arith, c.check_each.ensures.looked.survives.clean) in
     let here = both_shows g.S.Store old records columns shows in
-    let register = shows_register g.S.Store old records here in
-    let there = stays_shows g.S.Store old mid records c.terms.ensures.survives.clean (c.terms.ensures.same register) here in
+    let there = looked_shows c.terms.ensures.looked records here in
     let terms = c.in_ok-issuer.ensures.found records here was_clean in
     let of_crls = c.rows_at.ensures.read records columns whole Office are (omega arith) in
     let of_listed = c.rows_at-2.ensures.read records columns whole Office are (omega arith) in
@@ -61,10 +48,9 @@ pub returns-clause-others : goal.returns-clause-others
 returns-clause-others g c records columns shows are values sound kept clean =
     let old = c.args.conn.now in
     let mid = c.terms.new.conn in
-    let was_clean : HasCleanDisk (state g.S.Store mid) = omega (arith, c.check_each.ensures.survives.clean) in
+    let was_clean : HasCleanDisk (state g.S.Store mid) = omega (arith, c.check_each.ensures.looked.survives.clean) in
     let here = both_shows g.S.Store old records columns shows in
-    let register = shows_register g.S.Store old records here in
-    let there = stays_shows g.S.Store old mid records c.terms.ensures.survives.clean (c.terms.ensures.same register) here in
+    let there = looked_shows c.terms.ensures.looked records here in
     let terms = c.in_ok-issuer.ensures.found records here was_clean in
     let of_crls = c.rows_at.ensures.read records columns whole Office are (omega arith) in
     let of_listed = c.rows_at-2.ensures.read records columns whole Office are (omega arith) in
@@ -86,3 +72,6 @@ pub returns-in_err-listed-clause-others : goal.returns-in_err-listed-clause-othe
 returns-in_err-listed-clause-others g c records columns shows are values sound kept clean =
     let no : IsBroken c.in_err-listed.field-0.0 → ⊥ = c.in_err-listed.ensures.has records columns (c.rows_at-2.ensures.read records columns whole Office are (omega arith)) (each_has records columns values sound kept) in
     search rules
+
+pub returns-clause-looked : goal.returns-clause-looked
+returns-clause-looked g c = looked_then c.terms.ensures.looked c.check_each.ensures.looked

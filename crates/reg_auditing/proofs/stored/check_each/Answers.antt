@@ -6,7 +6,7 @@ use Rattle.reg_core.specs.Calendar.{clock_end}
 use Rattle.reg_core.specs.declared.rows.CrlRow.{CrlRow}
 use Rattle.sqlite.specs.Held.{state}
 use Rattle.sqlite.specs.State.{HasCleanDisk}
-use Rattle.reg_tables.proofs.Staying.{shows_register, stays_shows, stays_then, stays_register, leaves_then}
+use Rattle.reg_tables.proofs.Staying.{looked_shows, looked_then}
 use Rattle.reg_auditing.specs.Stops.{IsBroken}
 use Rattle.reg_auditing.specs.Stored.{IsStored}
 use Rattle.reg_auditing.proofs.Signed.{all_more}
@@ -14,30 +14,15 @@ use Rattle.reg_auditing.proofs.stored.check_each.Goals as goal
 
 pub loop-crl-preserved : goal.loop-crl-preserved
 loop-crl-preserved g c =
-    let first = state g.S.Store c.args.conn.now in
     let before = state g.S.Store c.loop-crl.conn in
-    let after = state g.S.Store c.check_stored.new.conn in
     record {
-      stays = λ register.
-          let stays = c.loop-crl.invariant.stays register in
-          stays_then first before after c.check_stored.ensures.survives.clean stays (c.check_stored.ensures.same (stays_register first before c.loop-crl.invariant.survives.clean stays register));
-      survives = leaves_then first before after c.loop-crl.invariant.survives c.check_stored.ensures.survives;
+      looked = looked_then c.loop-crl.invariant.looked c.check_stored.ensures.looked;
       bytes = λ records shows lists clean.
-          let was_clean : HasCleanDisk before = omega (arith, c.check_stored.ensures.survives.clean) in
-          let register = shows_register g.S.Store c.args.conn.now records shows in
-          let mid = stays_shows g.S.Store c.args.conn.now c.loop-crl.conn records c.loop-crl.invariant.survives.clean (c.loop-crl.invariant.stays register) shows in
+          let was_clean : HasCleanDisk before = omega (arith, c.check_stored.ensures.looked.survives.clean) in
+          let mid = looked_shows c.loop-crl.invariant.looked records shows in
           all_more (IsStored records) c.args.crls.now c.loop-crl.crl-index c.crl-item.result c.loop-crl-test.true c.crl-item.is (c.loop-crl.invariant.bytes records shows lists was_clean)
           (c.in_ok-check_stored.ensures.bytes records mid lists clean);
-      idle = λ e. c.check_stored.ensures.idle (c.loop-crl.invariant.idle e);
     }
-
-pub returns-in_err-check_stored-clause-same : goal.returns-in_err-check_stored-clause-same
-returns-in_err-check_stored-clause-same g c register =
-    let first = state g.S.Store c.args.conn.now in
-    let before = state g.S.Store c.loop-crl.conn in
-    let after = state g.S.Store c.check_stored.new.conn in
-    let stays = c.loop-crl.invariant.stays register in
-    stays_then first before after c.check_stored.ensures.survives.clean stays (c.check_stored.ensures.same (stays_register first before c.loop-crl.invariant.survives.clean stays register))
 
 pub returns-clause-bytes : goal.returns-clause-bytes
 returns-clause-bytes g c records shows lists clean =
@@ -45,8 +30,7 @@ returns-clause-bytes g c records shows lists clean =
 
 pub returns-in_err-check_stored-clause-others : goal.returns-in_err-check_stored-clause-others
 returns-in_err-check_stored-clause-others g c records shows lists can before clean =
-    let register = shows_register g.S.Store c.args.conn.now records shows in
-    let here = stays_shows g.S.Store c.args.conn.now c.loop-crl.conn records c.loop-crl.invariant.survives.clean (c.loop-crl.invariant.stays register) shows in
+    let here = looked_shows c.loop-crl.invariant.looked records shows in
     let at = c.loop-crl.crl-index in
     let row = c.crl-item.result in
     let early = subst (λ (crl : CrlRow). crl.this_update < clock_end) (sym c.crl-item.is) (All-from_recursion (λ (crl : CrlRow). crl.this_update < clock_end) c.args.crls.now before at row c.loop-crl-test.true) in
@@ -54,3 +38,6 @@ returns-in_err-check_stored-clause-others g c records shows lists can before cle
     λ is all. c.in_err-check_stored.ensures.others records here lists can early clean is
     (subst (IsStored records) (sym c.crl-item.is) (All-from_recursion (IsStored records) c.args.crls.now all at row c.loop-crl-test.true)) in
     search rules
+
+pub returns-in_err-check_stored-clause-looked : goal.returns-in_err-check_stored-clause-looked
+returns-in_err-check_stored-clause-looked g c = looked_then c.loop-crl.invariant.looked c.check_stored.ensures.looked

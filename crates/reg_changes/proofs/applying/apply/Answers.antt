@@ -5,6 +5,7 @@ use Rattle.reg_core.specs.Changes.{changed_by}
 use Rattle.reg_tables.proofs.Staying.{kept_shows, both_shows, shows_register, stays_both}
 use Rattle.reg_changes.specs.AtRest.{AreRowsOf, IsChanged, IsEntered}
 use Rattle.reg_changes.specs.Beside.{after, end_by}
+use Rattle.reg_changes.proofs.Days.{stays_days, keeps_days_then}
 use Rattle.reg_changes.proofs.Law.{kept_change}
 use Rattle.reg_changes.proofs.Moving.{ok_kept_by, was_clean}
 use Rattle.reg_changes.proofs.applying.apply.Goals as goal
@@ -18,18 +19,28 @@ returns-clause-ok g c records kept sound up fits =
     let change = c.args.change.now in
     let columns = kept.0 in
     let shows = kept_shows s old records kept in
-    let still = stays_both s old mid records columns c.end_for.ensures.survives.clean (c.end_for.ensures.same (shows_register s old records shows)) kept.1 in
+    let still = stays_both s old mid records columns c.end_for.ensures.looked.survives.clean (c.end_for.ensures.looked.same (shows_register s old records shows)) kept.1 in
     ok_kept_by s c.commit.new.conn (changed_by records now change) (after now change c.in_ok-not_after.not_after columns) (after now change (end_by records now change) columns)
     c.commit.result (c.commit.ensures.ok records columns still sound fits)
     (λ clean. ap (λ n. after now change n columns) (c.in_ok-not_after.ensures.found records shows (was_clean (state s mid) (state s c.commit.new.conn) c.commit.ensures.survives.clean clean)))
     (kept_change records columns now sound up kept.2 change fits)
+
+pub returns-clause-days : goal.returns-clause-days
+returns-clause-days g c records kept sound fits =
+    let s = g.S.Store in
+    let old = c.args.conn.now in
+    let mid = c.end_for.new.conn in
+    let columns = kept.0 in
+    let same = c.end_for.ensures.looked.same (shows_register s old records (kept_shows s old records kept)) in
+    let still = stays_both s old mid records columns c.end_for.ensures.looked.survives.clean same kept.1 in
+    keeps_days_then s old mid c.commit.new.conn c.commit.result (stays_days s old mid c.end_for.ensures.looked.survives.clean same) (c.commit.ensures.days records columns still sound fits)
 
 pub returns-clause-one : goal.returns-clause-one
 returns-clause-one g c clean records columns both =
     let s = g.S.Store in
     let old = c.args.conn.now in
     let mid = c.end_for.new.conn in
-    let still = stays_both s old mid records columns c.end_for.ensures.survives.clean (c.end_for.ensures.same (shows_register s old records (both_shows s old records columns both))) both in
+    let still = stays_both s old mid records columns c.end_for.ensures.looked.survives.clean (c.end_for.ensures.looked.same (shows_register s old records (both_shows s old records columns both))) both in
     c.commit.ensures.one clean records columns still
 
 pub returns-clause-survives : goal.returns-clause-survives
@@ -44,11 +55,11 @@ returns-clause-survives g c =
     (λ clean trees entered records kept sound up fits.
     let columns = kept.0 in
     let shows = kept_shows s old records kept in
-    let still = stays_both s old mid records columns c.end_for.ensures.survives.clean (c.end_for.ensures.same (shows_register s old records shows)) kept.1 in
+    let still = stays_both s old mid records columns c.end_for.ensures.looked.survives.clean (c.end_for.ensures.looked.same (shows_register s old records shows)) kept.1 in
     let ends : c.in_ok-not_after.not_after ≡ end_by records now change = c.in_ok-not_after.ensures.found records shows (was_clean (state s mid) (state s new) c.commit.ensures.survives.clean clean) in
     let rows = entered records columns still sound fits in (
       after now change (end_by records now change) columns,
       subst (λ n. AreRowsOf (changed_by records now change) (after now change n columns) trees) ends rows.0,
       kept_change records columns now sound up kept.2 change fits,
       rows.1,
-    )) c.end_for.ensures.survives c.commit.ensures.survives
+    )) c.end_for.ensures.looked.survives c.commit.ensures.survives

@@ -2,6 +2,9 @@ use Rattle.std.proofs.Common.{[], ◌∷◌, subst}
 use Rattle.sqlite.specs.Held.{state}
 use Rattle.reg_changes.specs.Ran.{Ran}
 use Rattle.reg_changes.specs.declared.texts.TheConstants.{PUT_STEP}
+use Rattle.reg_tables.specs.Schema.{register_schema}
+use Rattle.reg_changes.proofs.Keeping.{inserts_keep}
+use Rattle.reg_changes.proofs.Meaning.{put_step_means}
 use Rattle.reg_changes.proofs.Params.{number_is, moment_is}
 use Rattle.reg_changes.proofs.Stages.{puts_step}
 use Rattle.reg_changes.proofs.Obeying.{step_obeys}
@@ -17,3 +20,8 @@ returns-clause-ok g c clean base steps earlier before =
 pub returns-clause-database : goal.returns-clause-database
 returns-clause-database g c clean base steps before =
     step_obeys _ (state g.S.Store c.args.tx.now.conn.now) (state g.S.Store c.write.new.tx.conn.now) c.in_ok-write.field-0 (c.in_ok-write.ensures.ran clean) (λ up. (before up).schema)
+
+pub returns-clause-schema : goal.returns-clause-schema
+returns-clause-schema g c clean had up =
+    let ran = c.in_ok-write.ensures.ran clean in
+    inserts_keep _ _ (state g.S.Store c.args.tx.now.conn.now) (state g.S.Store c.write.new.tx.conn.now) c.in_ok-write.field-0 ran register_schema (had ran.was_open) put_step_means.plain _ _ put_step_means.is

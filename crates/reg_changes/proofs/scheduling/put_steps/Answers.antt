@@ -2,9 +2,9 @@ use Rattle.std.proofs.Common.{◌<◌, ℕ, [], ◌∷◌, ◌++◌, take, lengt
 use Rattle.std.proofs.lemmas.List.{take_more}
 use Rattle.sqlite.specs.Held.{state}
 use Rattle.sqlite.specs.State.{HasCleanDisk}
-use Rattle.reg_tables.proofs.Staying.{leaves_then}
+use Rattle.reg_tables.proofs.Staying.{stepped_then}
 use Rattle.reg_changes.specs.Staged.{IsStaged, AreBefore}
-use Rattle.reg_changes.proofs.Moving.{keeps_on, was_clean}
+use Rattle.reg_changes.proofs.Moving.{was_clean}
 use Rattle.reg_changes.proofs.Stages.{earlier_steps, take_whole}
 use Rattle.reg_changes.proofs.scheduling.put_steps.Goals as goal
 
@@ -18,18 +18,17 @@ loop-step-preserved g c =
     let step = c.step-item.result in
     let within : at < length steps = c.loop-step-test.true in
     record {
-      same_reference = c.put_step.ensures.same_reference ∙ c.loop-step.invariant.same_reference;
-      survives = leaves_then s0 s1 s2 c.loop-step.invariant.survives c.put_step.ensures.survives;
+      stepped = stepped_then c.loop-step.invariant.stepped c.put_step.ensures.stepped;
+      schema = λ clean had. c.in_ok-put_step.ensures.schema clean (c.loop-step.invariant.schema (was_clean s1 s2 c.put_step.ensures.stepped.survives.clean clean) had);
       live = λ clean up. c.in_ok-put_step.ensures.live clean;
-      kept = λ clean. keeps_on s0 s1 s2 (c.loop-step.invariant.kept (was_clean s1 s2 c.put_step.ensures.survives.clean clean)) (c.put_step.ensures.kept clean);
       inside = λ clean under. c.in_ok-put_step.ensures.inside clean;
       staged = λ clean base up before open_now.
-          let clean1 : HasCleanDisk s1 = was_clean s1 s2 c.put_step.ensures.survives.clean clean in
+          let clean1 : HasCleanDisk s1 = was_clean s1 s2 c.put_step.ensures.stepped.survives.clean clean in
           let earlier : AreBefore step.0 (take at steps) = subst (λ (x : ℕ × ℕ). AreBefore x.0 (take at steps)) (sym c.step-item.is) (earlier_steps steps at step up within) in
           let placed = c.in_ok-put_step.ensures.ok clean base (take at steps) earlier (λ up1. c.loop-step.invariant.staged clean1 base up before up1) in
           subst (λ l. IsStaged base l s2.now) (ap (λ (x : ℕ × ℕ). take at steps ++ x ∷ []) c.step-item.is ∙ sym (take_more steps at step within)) placed;
       database = λ clean base up before obeys open_now.
-          let clean1 : HasCleanDisk s1 = was_clean s1 s2 c.put_step.ensures.survives.clean clean in
+          let clean1 : HasCleanDisk s1 = was_clean s1 s2 c.put_step.ensures.stepped.survives.clean clean in
           c.in_ok-put_step.ensures.database clean base (take at steps) (λ up1. c.loop-step.invariant.staged clean1 base up before up1);
     }
 
@@ -40,7 +39,3 @@ returns-clause-ok g c clean base up before open_now =
 
 pub returns-clause-database : goal.returns-clause-database
 returns-clause-database g c clean base up before obeys open_now = c.loop-step.invariant.database clean base up before obeys open_now
-
-pub returns-in_err-put_step-clause-survives : goal.returns-in_err-put_step-clause-survives
-returns-in_err-put_step-clause-survives g c =
-    leaves_then (state g.S.Store c.args.tx.now.conn.now) (state g.S.Store c.loop-step.tx.conn.now) (state g.S.Store c.put_step.new.tx.conn.now) c.loop-step.invariant.survives c.put_step.ensures.survives

@@ -2,6 +2,9 @@ use Rattle.std.proofs.Common.{[], ◌∷◌, subst}
 use Rattle.sqlite.specs.Held.{state}
 use Rattle.reg_changes.specs.Ran.{Ran}
 use Rattle.reg_changes.specs.declared.texts.TheConstants.{SET_COUNTS}
+use Rattle.reg_tables.specs.Schema.{register_schema}
+use Rattle.reg_changes.proofs.Keeping.{updates_keep}
+use Rattle.reg_changes.proofs.Meaning.{set_counts_means}
 use Rattle.reg_changes.proofs.Params.{number_is}
 use Rattle.reg_changes.proofs.Sweeping.{sets_counts}
 use Rattle.reg_changes.proofs.Obeying.{counts_obey}
@@ -17,3 +20,8 @@ returns-clause-ok g c clean records columns before =
 pub returns-clause-database : goal.returns-clause-database
 returns-clause-database g c clean records columns before =
     counts_obey _ (state g.S.Store c.args.tx.now.conn.now) (state g.S.Store c.write.new.tx.conn.now) c.in_ok-write.field-0 (c.in_ok-write.ensures.ran clean) (λ up. (before up).shown.schema)
+
+pub returns-clause-schema : goal.returns-clause-schema
+returns-clause-schema g c clean had up =
+    let ran = c.in_ok-write.ensures.ran clean in
+    updates_keep _ _ (state g.S.Store c.args.tx.now.conn.now) (state g.S.Store c.write.new.tx.conn.now) c.in_ok-write.field-0 ran register_schema (had ran.was_open) set_counts_means.plain _ _ set_counts_means.is

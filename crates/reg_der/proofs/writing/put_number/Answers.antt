@@ -1,5 +1,5 @@
 use Rattle.std.proofs.Common.{arith, rules}
-use Rattle.reg_core.proofs.Integers.{integer-is}
+use Rattle.reg_core.proofs.PublicLaws.{integer_is}
 use Rattle.reg_der.proofs.Integers.{integer_of_word, integer_is_value}
 use Rattle.reg_der.proofs.writing.put_number.Goals as goal
 
@@ -13,4 +13,4 @@ pub returns-clause-value : goal.returns-clause-value
 returns-clause-value c = integer_is_value c.args.number (omega arith)
 
 pub returns-clause-integer : goal.returns-clause-integer
-returns-clause-integer c = integer-is c.args.number (omega arith)
+returns-clause-integer c = integer_is c.args.number (omega arith)

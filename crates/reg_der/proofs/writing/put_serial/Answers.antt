@@ -1,6 +1,6 @@
 use Rattle.std.proofs.Common.{◌≤◌, length, ap, arith, rules}
 use Rattle.reg_core.specs.Integer.{without_zeros, with_clear_bit}
-use Rattle.reg_core.proofs.Integers.{integer-is}
+use Rattle.reg_core.proofs.PublicLaws.{integer_is}
 use Rattle.reg_der.proofs.Integers.{integer_of_serial, integer_is_value, length-integer_serial}
 use Rattle.reg_der.proofs.writing.put_serial.Goals as goal
 
@@ -24,4 +24,4 @@ returns-clause-longer c =
     grind arith
 
 pub returns-clause-integer : goal.returns-clause-integer
-returns-clause-integer c = integer-is c.args.serial (let below = c.bytes20.ensures.in_range.1 in omega arith)
+returns-clause-integer c = integer_is c.args.serial (let below = c.bytes20.ensures.in_range.1 in omega arith)

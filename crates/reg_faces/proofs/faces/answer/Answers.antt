@@ -1,5 +1,5 @@
 use Rattle.std.proofs.lemmas.Result.{IfOk-weaker}
-use Rattle.reg_faces.specs.Kept.{Runs, Asks, Ocsps, Crls}
+use Rattle.reg_office.specs.Calls.{Runs, Asks, Ocsps, Crls}
 use Rattle.reg_faces.proofs.Added.{answer_adds}
 use Rattle.reg_faces.proofs.Exchanges.{answer_moves}
 use Rattle.reg_faces.proofs.Steps.{follows}
@@ -18,20 +18,20 @@ returns-clause-ok g c =
     _
     _
     (answer_moves
-    (λ desk. g.K.Keeper.is_clean desk.office)
-    (λ identity desk records. g.K.Keeper.stands identity desk.office records)
-    _
-    _
-    _
-    _
+    g.K.Keeper.is_clean
+    g.K.Keeper.stands
+    g.K.Calls.runs
+    g.K.Calls.asks
+    g.K.Calls.ocsps
+    g.K.Calls.crls
     (Runs g.K.Keeper.signs)
     (λ identity. Asks)
     (Ocsps g.K.Keeper.signs)
     (λ identity. Crls)
-    (λ s now command outcome t moved. moved)
-    (λ s now query outcome t moved. moved)
-    (λ s now request given t moved. moved)
-    (λ s number given t moved. moved)
+    g.met.K.Keeper.runs_lead
+    g.met.K.Keeper.asks_lead
+    g.met.K.Keeper.ocsps_lead
+    g.met.K.Keeper.crls_lead
     c.args.now
     _
     _

@@ -1,15 +1,26 @@
-use Rattle.reg_faces.specs.Kept.{Lines}
+use Rattle.reg_lines.specs.ByCalls.{ByCalls}
+use Rattle.reg_faces.specs.Faces.{Lines}
+use Rattle.reg_faces.proofs.Calling.{calls_lead}
 use Rattle.reg_faces.proofs.Lines.{import_moves}
 use Rattle.reg_faces.proofs.faces.import.Goals as goal
 
 pub returns : goal.returns
 returns g c =
     import_moves
-    (λ desk. g.K.Keeper.is_clean desk.office)
-    (λ identity desk records. g.K.Keeper.stands identity desk.office records)
-    _
+    g.K.Keeper.is_clean
+    g.K.Keeper.stands
+    (ByCalls g.K.Calls.runs g.K.Calls.asks g.K.Calls.ocsps)
     (Lines g.K.Keeper.signs)
-    (λ s meaning answer t moved. moved.0)
+    (calls_lead
+    g.K.Keeper.is_clean
+    g.K.Keeper.stands
+    g.K.Keeper.signs
+    g.K.Calls.runs
+    g.K.Calls.asks
+    g.K.Calls.ocsps
+    g.met.K.Keeper.runs_lead
+    g.met.K.Keeper.asks_lead
+    g.met.K.Keeper.ocsps_lead)
     g.R.Read.remaining
     g.W.Write.contents
     c.args.now

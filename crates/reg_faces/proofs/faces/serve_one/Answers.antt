@@ -1,24 +1,24 @@
-use Rattle.reg_faces.specs.Kept.{Runs, Asks, Ocsps, Crls}
+use Rattle.reg_office.specs.Calls.{Runs, Asks, Ocsps, Crls}
 use Rattle.reg_faces.proofs.Exchanges.{served_moves, stays_silent, read_is_not_write, memory_is_not_write}
 use Rattle.reg_faces.proofs.faces.serve_one.Goals as goal
 
 pub returns-clause-ends : goal.returns-clause-ends
 returns-clause-ends g c =
     served_moves
-    (λ desk. g.K.Keeper.is_clean desk.office)
-    (λ identity desk records. g.K.Keeper.stands identity desk.office records)
-    _
-    _
-    _
-    _
+    g.K.Keeper.is_clean
+    g.K.Keeper.stands
+    g.K.Calls.runs
+    g.K.Calls.asks
+    g.K.Calls.ocsps
+    g.K.Calls.crls
     (Runs g.K.Keeper.signs)
     (λ identity. Asks)
     (Ocsps g.K.Keeper.signs)
     (λ identity. Crls)
-    (λ s now command outcome t moved. moved)
-    (λ s now query outcome t moved. moved)
-    (λ s now request given t moved. moved)
-    (λ s number given t moved. moved)
+    g.met.K.Keeper.runs_lead
+    g.met.K.Keeper.asks_lead
+    g.met.K.Keeper.ocsps_lead
+    g.met.K.Keeper.crls_lead
     c.args.now
     _
     _

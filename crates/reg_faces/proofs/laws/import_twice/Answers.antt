@@ -1,6 +1,6 @@
 -- A text that is imported twice, by its lemma.
 use Rattle.reg_crl.specs.Signing.{signed_by}
-use Rattle.reg_faces.specs.Kept.{Lines}
+use Rattle.reg_faces.specs.Faces.{Lines}
 use Rattle.reg_faces.proofs.Twice.{comes_twice}
 use Rattle.reg_faces.proofs.laws.import_twice.Goals as goal
 

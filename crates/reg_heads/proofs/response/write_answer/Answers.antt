@@ -3,8 +3,8 @@ use Rattle.std.proofs.lemmas.Result.{on_ok_weaker, on_err_weaker}
 use Rattle.std.proofs.KnownBytes.{Appends-trans}
 use Rattle.std.specs.Io.KnownBytes.{Appends}
 use Rattle.reg_wire.specs.Put.{AppendsFront}
+use Rattle.reg_wire.proofs.PublicLaws.{front_of_first, front_of_second}
 use Rattle.reg_heads.specs.Response.{head_text, shown}
-use Rattle.reg_heads.proofs.Written.{front_of_first, front_of_second}
 use Rattle.reg_heads.proofs.response.write_answer.Goals as goal
 
 pub returns-in-Ok-clause-ok : goal.returns-in-Ok-clause-ok

@@ -1,4 +1,5 @@
 use Rattle.std.proofs.Common.{Bor, List, ℕ, Some, inl, inr, ◌∙◌}
+use Rattle.reg_lines.specs.ByCalls.{ByCalls}
 use Rattle.reg_lines.proofs.RowLemmas.{going_start, going_more, one_cut, all_ran}
 use Rattle.reg_lines.proofs.rows.run_rows.Goals as goal
 
@@ -12,21 +13,21 @@ loop-index-init g c =
       untrimmed = trim ∙ c.new.ensures.trim;
       ready = inr (inr (headers, made.headers));
       config = config ∙ c.new.ensures.config;
-      going = going_start g.O.Answers.answers c.args.now _ _ _ _ _ made.source made.state;
+      going = going_start (ByCalls g.O.Calls.runs g.O.Calls.asks g.O.Calls.ocsps) c.args.now _ _ _ _ _ made.source made.state;
     }
 
 pub returns-in-Err-take_row : goal.returns-in-Err-take_row
 returns-in-Err-take_row g c =
     let so_far = c.loop-index.invariant in
     let read = rw c.in-Ok-true.field-0-test at (c.in-Ok-true.ensures.reads so_far.untrimmed so_far.ready) in
-    one_cut g.O.Answers.answers c.args.now _ _ _ _ _ _ _ (λ (s : Bor (List ℕ)). Some s.now) c.loop-index.rows c.read_byte_record.new.self _ c.loop-index.index
+    one_cut (ByCalls g.O.Calls.runs g.O.Calls.asks g.O.Calls.ocsps) c.args.now _ _ _ _ _ _ _ (λ (s : Bor (List ℕ)). Some s.now) c.loop-index.rows c.read_byte_record.new.self _ c.loop-index.index
     c.in-Err-take_row.field-0 so_far.going so_far.config read c.in-Err-take_row.ensures
 
 pub returns-in-Ok-false : goal.returns-in-Ok-false
 returns-in-Ok-false g c =
     let so_far = c.loop-index.invariant in
     let read = rw c.in-Ok-false.field-0-test at (c.in-Ok-false.ensures.reads so_far.untrimmed so_far.ready) in
-    all_ran g.O.Answers.answers c.args.now _ _ c.loop-index.office _ _ (g.W.Write.contents c.loop-index.writer) _ (λ (s : Bor (List ℕ)). Some s.now) c.loop-index.rows c.read_byte_record.new.self _ c.loop-index.index
+    all_ran (ByCalls g.O.Calls.runs g.O.Calls.asks g.O.Calls.ocsps) c.args.now _ _ c.loop-index.office _ _ (g.W.Write.contents c.loop-index.writer) _ (λ (s : Bor (List ℕ)). Some s.now) c.loop-index.rows c.read_byte_record.new.self _ c.loop-index.index
     so_far.going so_far.config read
 
 pub loop-index-preserved : goal.loop-index-preserved
@@ -37,6 +38,6 @@ loop-index-preserved g c =
       untrimmed = read.3 ∙ so_far.untrimmed;
       ready = inl (c.in-Ok-true.ensures.ready so_far.untrimmed);
       config = read.2 ∙ so_far.config;
-      going = going_more g.O.Answers.answers c.args.now _ _ _ _ _ _ _ (λ (s : Bor (List ℕ)). Some s.now) c.loop-index.rows c.read_byte_record.new.self _ c.loop-index.index
+      going = going_more (ByCalls g.O.Calls.runs g.O.Calls.asks g.O.Calls.ocsps) c.args.now _ _ _ _ _ _ _ (λ (s : Bor (List ℕ)). Some s.now) c.loop-index.rows c.read_byte_record.new.self _ c.loop-index.index
           so_far.going so_far.config read c.in-Ok.ensures;
     }

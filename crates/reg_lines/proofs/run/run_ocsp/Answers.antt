@@ -1,5 +1,6 @@
-use Rattle.std.proofs.Common.{List, ℕ, refl, inl, inr, subst, sym, ◌∙◌}
-use Rattle.reg_lines.specs.Answer.{lacked_memory, responded, Tells}
+use Rattle.std.proofs.Common.{List, ℕ, Ok, Err, refl, inl, inr, subst, sym, ◌∙◌}
+use Rattle.reg_lines.specs.Answer.{responded, Tells}
+use Rattle.reg_lines.specs.ByCalls.{ByCalls}
 use Rattle.reg_lines.specs.Meaning.{asks_ocsp}
 use Rattle.reg_lines.proofs.Readings.{bytes_of-decoded}
 use Rattle.reg_lines.proofs.run.run_ocsp.Goals as goal
@@ -15,9 +16,9 @@ returns-in-Ok-ocsp g c =
       wrote,
       λ _.
           inl (
-            responded c.in-Ok-ocsp.response.items,
-            subst (λ (b : List ℕ). g.O.Answers.answers c.args.office.now (asks_ocsp c.args.now b) (responded c.in-Ok-ocsp.response.items) c.ocsp.new.self) same c.in-Ok-ocsp.ensures,
-            subst (λ (b : List ℕ). Tells (responded b) reply) c.deref-in-Ok-ocsp.ensures.value tells,
+            responded (Ok c.in-Ok-ocsp.response.items),
+            subst (λ (b : List ℕ). (ByCalls g.O.Calls.runs g.O.Calls.asks g.O.Calls.ocsps) c.args.office.now (asks_ocsp c.args.now b) (responded (Ok c.in-Ok-ocsp.response.items)) c.ocsp.new.self) same c.in-Ok-ocsp.ensures,
+            subst (λ (b : List ℕ). Tells (responded (Ok b)) reply) c.deref-in-Ok-ocsp.ensures.value tells,
           ),
     )
 
@@ -28,8 +29,8 @@ returns g c =
       c.write_outcome-in-Err.ensures,
       λ _.
           inl (
-            lacked_memory,
-            subst (λ (b : List ℕ). g.O.Answers.answers c.args.office.now (asks_ocsp c.args.now b) lacked_memory c.ocsp.new.self) same c.in-Err.ensures,
+            responded (Err _),
+            subst (λ (b : List ℕ). (ByCalls g.O.Calls.runs g.O.Calls.asks g.O.Calls.ocsps) c.args.office.now (asks_ocsp c.args.now b) (responded (Err _)) c.ocsp.new.self) same c.in-Err.ensures,
             refl,
           ),
     )

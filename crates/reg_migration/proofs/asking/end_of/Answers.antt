@@ -8,12 +8,6 @@ use Rattle.reg_tables.proofs.CertificateLemmas.{reading_by_serial, by_serial_one
 use Rattle.reg_migration.proofs.Steps.{if_ok}
 use Rattle.reg_migration.proofs.asking.end_of.Goals as goal
 
-pub returns-in_err-found-clause-kept : goal.returns-in_err-found-clause-kept
-returns-in_err-found-clause-kept g c clean = c.ask.ensures.kept clean reading_by_serial
-
-pub returns-clause-kept : goal.returns-clause-kept
-returns-clause-kept g c clean = c.ask.ensures.kept clean reading_by_serial
-
 pub returns-clause-same : goal.returns-clause-same
 returns-clause-same g c clean = if_ok _ c.end_in.result (c.in_ok-found.ensures.same clean reading_by_serial)
 
@@ -27,3 +21,9 @@ returns-clause-found g c clean records before =
     ok_then c.end_in.result c.end_in.ensures.read (λ end read.
     let one = by_serial_one s0.now records shown serial c.bytes20.ensures.in_range c.in_ok-found.found.items reads read.0 (sym c.deref.ensures.value ∙ read.1) in
     some_and_here (λ (certificate : CertRow). certificate.not_after ≡ end) (certificate_in records.certificates serial) one.it (sym one.first) (sym (read.2 one.it one.holds one.shown)))
+
+pub returns-in_err-found-clause-stepped : goal.returns-in_err-found-clause-stepped
+returns-in_err-found-clause-stepped g c = record { same_reference = c.ask.ensures.same_reference; kept = λ clean. c.ask.ensures.kept clean reading_by_serial; survives = c.ask.ensures.survives }
+
+pub returns-clause-stepped : goal.returns-clause-stepped
+returns-clause-stepped g c = record { same_reference = c.ask.ensures.same_reference; kept = λ clean. c.ask.ensures.kept clean reading_by_serial; survives = c.ask.ensures.survives }

@@ -16,8 +16,8 @@ returns-clause-counted g c clean records columns few before test is =
 pub returns-clause-same : goal.returns-clause-same
 returns-clause-same g c clean = if_ok _ c.count_in.result (c.in_ok-found.ensures.same clean reading_letter)
 
-pub returns-clause-kept : goal.returns-clause-kept
-returns-clause-kept g c clean = c.ask.ensures.kept clean reading_letter
+pub returns-in_err-found-clause-stepped : goal.returns-in_err-found-clause-stepped
+returns-in_err-found-clause-stepped g c = record { same_reference = c.ask.ensures.same_reference; kept = λ clean. c.ask.ensures.kept clean reading_letter; survives = c.ask.ensures.survives }
 
-pub returns-in_err-found-clause-kept : goal.returns-in_err-found-clause-kept
-returns-in_err-found-clause-kept g c clean = c.ask.ensures.kept clean reading_letter
+pub returns-clause-stepped : goal.returns-clause-stepped
+returns-clause-stepped g c = record { same_reference = c.ask.ensures.same_reference; kept = λ clean. c.ask.ensures.kept clean reading_letter; survives = c.ask.ensures.survives }

@@ -9,6 +9,8 @@ use Rattle.reg_changes.specs.Ran.{Before, Moved}
 use Rattle.reg_changes.proofs.Moving.{was_clean}
 use Rattle.reg_migration.specs.Refilled.{listed_by, with_listed}
 use Rattle.reg_migration.proofs.Steps.{unchanged_before, unchanged_moves, ok_by}
+use Rattle.reg_tables.specs.Schema.{register_schema}
+use Rattle.sqlite.specs.Effect.{Database}
 use Rattle.reg_migration.proofs.relisting.relist_one.Goals as goal
 
 pub returns-clause-ok : goal.returns-clause-ok
@@ -16,7 +18,7 @@ returns-clause-ok g c clean records columns numbered never before =
     let s0 = state g.S.Store c.args.tx.now.conn.now in
     let s1 = state g.S.Store c.end_of.new.tx.conn.now in
     let s2 = state g.S.Store c.put_listing.new.tx.conn.now in
-    let clean1 : HasCleanDisk s1 = was_clean s1 s2 c.put_listing.ensures.survives.clean clean in
+    let clean1 : HasCleanDisk s1 = was_clean s1 s2 c.put_listing.ensures.stepped.survives.clean clean in
     let row = c.args.revocation in
     let crls = c.args.crls.now in
     let end = c.in_ok-not_after.not_after in
@@ -27,3 +29,11 @@ returns-clause-ok g c clean records columns numbered never before =
     let moved : Moved s0 s2 records (with_listed (listed_by crls row end) columns) = unchanged_moves s0 s1 s2 _ same (given _ (c.put_listing.ensures.ok clean records columns numbered never start)) in
     some_weaker (λ (certificate : CertRow). certificate.not_after ≡ end) (λ (certificate : CertRow). Moved s0 s2 records (with_listed (listed_by crls row certificate.not_after) columns))
     (λ certificate is. subst (λ n. Moved s0 s2 records (with_listed (listed_by crls row n) columns)) (sym is) moved) (certificate_in records.certificates row.serial) found)
+
+pub returns-clause-schema : goal.returns-clause-schema
+returns-clause-schema g c clean had =
+    let s0 = state g.S.Store c.args.tx.now.conn.now in
+    let s1 = state g.S.Store c.end_of.new.tx.conn.now in
+    let s2 = state g.S.Store c.put_listing.new.tx.conn.now in
+    let clean1 : HasCleanDisk s1 = was_clean s1 s2 c.put_listing.ensures.stepped.survives.clean clean in
+    c.put_listing.ensures.schema clean (unchanged_before s0 s1 (λ (db : Database). db.schema ≡ register_schema) (c.in_ok-not_after.ensures.same clean1) had)

@@ -1,6 +1,7 @@
 use Rattle.sqlite.specs.Held.{state}
 use Rattle.reg_laws.proofs.Decided.{head_from}
-use Rattle.reg_office.proofs.Composing.{shown_on, was_clean}
+use Rattle.reg_tables.proofs.Staying.{looked_shows, looked_then}
+use Rattle.reg_office.proofs.Composing.{was_clean}
 use Rattle.reg_office.proofs.heads.head_at.Goals as goal
 
 pub returns-clause-found : goal.returns-clause-found
@@ -9,12 +10,21 @@ returns-clause-found g c records shown clean =
     let first = c.last.new.self in
     let second = c.policy.new.self in
     let third = c.held.new.self in
-    let shown_1 = shown_on s c.args.store.now first records c.last.ensures.survives.clean c.last.ensures.same shown in
-    let shown_2 = shown_on s first second records c.policy.ensures.survives.clean c.policy.ensures.same shown_1 in
-    let clean_2 = was_clean (state s second) (state s third) c.held.ensures.survives.clean clean in
-    let clean_1 = was_clean (state s first) (state s second) c.policy.ensures.survives.clean clean_2 in
+    let shown_1 = looked_shows c.last.ensures.looked records shown in
+    let shown_2 = looked_shows c.policy.ensures.looked records shown_1 in
+    let clean_2 = was_clean (state s second) (state s third) c.held.ensures.looked.survives.clean clean in
+    let clean_1 = was_clean (state s first) (state s second) c.policy.ensures.looked.survives.clean clean_2 in
     head_from
     records
     (c.in_ok-last.ensures.found records shown clean_1)
     (c.in_ok-policy.ensures.found records shown_1 clean_2)
     (c.in_ok-held.ensures.found records shown_2 clean)
+
+pub returns-in_err-policy-clause-looked : goal.returns-in_err-policy-clause-looked
+returns-in_err-policy-clause-looked g c = looked_then c.last.ensures.looked c.policy.ensures.looked
+
+pub returns-in_err-held-clause-looked : goal.returns-in_err-held-clause-looked
+returns-in_err-held-clause-looked g c = looked_then (looked_then c.last.ensures.looked c.policy.ensures.looked) c.held.ensures.looked
+
+pub returns-clause-looked : goal.returns-clause-looked
+returns-clause-looked g c = looked_then (looked_then c.last.ensures.looked c.policy.ensures.looked) c.held.ensures.looked

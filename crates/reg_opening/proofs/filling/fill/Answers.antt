@@ -18,14 +18,14 @@ returns-clause-ok g c clean before =
     let s3 = state g.S.Store c.put_steps.new.tx.conn.now in
     let issuer = c.args.issuer.now in
     let policy = c.args.policy.now in
-    let clean2 : HasCleanDisk s2 = was_clean s2 s3 c.put_steps.ensures.survives.clean clean in
-    let clean1 : HasCleanDisk s1 = was_clean s1 s2 c.put_counts.ensures.survives.clean clean2 in
+    let clean2 : HasCleanDisk s2 = was_clean s2 s3 c.put_steps.ensures.stepped.survives.clean clean in
+    let clean1 : HasCleanDisk s1 = was_clean s1 s2 c.put_counts.ensures.stepped.survives.clean clean2 in
     let first = c.in_ok-put_office.ensures.ok clean1 before in
     let second = c.in_ok-put_counts.ensures.ok clean2 issuer policy (λ up. first.tables) in
     let third : OnOk c.put_steps.result (IsTrue s3.is_open → IsStaged s2.now.trees policy.schedule s3.now) =
     subst (λ l. OnOk c.put_steps.result (IsTrue s3.is_open → IsStaged s2.now.trees l s3.now)) (c.steps.ensures.steps ∙ c.schedule-schedule.ensures.schedule)
     (c.put_steps.ensures.ok clean s2.now.trees c.steps.ensures.schedule.ascending (λ up. staged_first issuer policy s2.now second.tables)) in
-    ok_by (IsTrue s3.is_open × AreBoth s3.now (no_records issuer policy) no_columns) c.put_steps.result (λ given.
+    ok_by (IsTrue s3.is_open × AreBoth s3.now (no_records issuer policy) (no_columns policy.schedule)) c.put_steps.result (λ given.
     let up = given _ (c.put_steps.ensures.live clean second.is_open) in
     (up, filled issuer policy s2.now s3.now second.tables (given _ third up)))
 
@@ -36,8 +36,8 @@ returns-clause-database g c clean before =
     let s3 = state g.S.Store c.put_steps.new.tx.conn.now in
     let issuer = c.args.issuer.now in
     let policy = c.args.policy.now in
-    let clean2 : HasCleanDisk s2 = was_clean s2 s3 c.put_steps.ensures.survives.clean clean in
-    let clean1 : HasCleanDisk s1 = was_clean s1 s2 c.put_counts.ensures.survives.clean clean2 in
+    let clean2 : HasCleanDisk s2 = was_clean s2 s3 c.put_steps.ensures.stepped.survives.clean clean in
+    let clean1 : HasCleanDisk s1 = was_clean s1 s2 c.put_counts.ensures.stepped.survives.clean clean2 in
     let first = c.in_ok-put_office.ensures.ok clean1 before in
     let second = c.in_ok-put_counts.ensures.ok clean2 issuer policy (λ up. first.tables) in
     let obeyed = c.in_ok-put_counts.ensures.database clean2 issuer policy (λ up. first.tables) in

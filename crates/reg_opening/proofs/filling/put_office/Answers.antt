@@ -2,7 +2,7 @@ use Rattle.std.proofs.Common.{[], ◌∷◌, ap, subst, ◌∙◌, arith}
 use Rattle.sqlite_value.specs.declared.value.Value.TheVariants.{Blob}
 use Rattle.sqlite.specs.Held.{state}
 use Rattle.reg_core.specs.Policy.{IsPolicy}
-use Rattle.reg_core.specs.Schedule.{IsSchedule}
+use Rattle.reg_core.specs.Schedule.{IsSchedule, greatest_of}
 use Rattle.reg_tables.specs.Rows.{number}
 use Rattle.reg_changes.specs.Ran.{Ran}
 use Rattle.reg_changes.proofs.Params.{number_is}
@@ -22,9 +22,9 @@ returns-clause-ok g c clean before =
       cap = (omega (arith, c.cap.ensures), omega (arith, c.cap.ensures));
     } in
     let ran = subst (λ params. Ran PUT_OFFICE.now params old new c.in_ok-write.field-0)
-    (λ i. (ap Blob c.name.ensures.name) i ∷ (ap Blob c.key.ensures.key) i ∷ (number_is _ _ c.in_ok-days.ensures.value) i
+    (λ i. (ap Blob c.name.ensures.name) i ∷ (ap Blob c.key.ensures.key) i ∷ (number_is _ _ c.in_ok-days.ensures.value ∙ ap number (c.greatest.ensures.days ∙ ap greatest_of c.schedule.ensures.schedule)) i
     ∷ (number_is _ _ c.in_ok-crl_life.ensures.value ∙ ap number c.crl_life.ensures.seconds) i
     ∷ (number_is _ _ c.in_ok-ocsp_life.ensures.value ∙ ap number c.ocsp_life.ensures.seconds) i
     ∷ (number_is _ _ c.in_ok-cap.ensures.value ∙ ap number c.cap.ensures.rows) i ∷ [])
     (c.in_ok-write.ensures.ran clean) in
-    puts_office c.args.issuer.now policy _ old new c.in_ok-write.field-0 is ran before
+    puts_office c.args.issuer.now policy old new c.in_ok-write.field-0 is ran before

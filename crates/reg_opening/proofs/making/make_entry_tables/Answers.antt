@@ -16,9 +16,9 @@ returns-clause-ok g c clean before =
     let s3 = state g.S.Store c.define-3.new.tx.conn.now in
     let s4 = state g.S.Store c.define-4.new.tx.conn.now in
     let clean4 : HasCleanDisk s4 = clean in
-    let clean3 : HasCleanDisk s3 = was_clean s3 s4 c.define-4.ensures.survives.clean clean4 in
-    let clean2 : HasCleanDisk s2 = was_clean s2 s3 c.define-3.ensures.survives.clean clean3 in
-    let clean1 : HasCleanDisk s1 = was_clean s1 s2 c.define-2.ensures.survives.clean clean2 in
+    let clean3 : HasCleanDisk s3 = was_clean s3 s4 c.define-4.ensures.stepped.survives.clean clean4 in
+    let clean2 : HasCleanDisk s2 = was_clean s2 s3 c.define-3.ensures.stepped.survives.clean clean3 in
+    let clean1 : HasCleanDisk s1 = was_clean s1 s2 c.define-2.ensures.stepped.survives.clean clean2 in
     let step1 = c.in_ok-define.ensures.table clean1 no_schema (record office { tree = 0 }) no_rows office_defined refl before in
     let step2 = c.in_ok-define-2.ensures.table clean2 (created no_schema office) (record subscriber { tree = 0 }) no_rows subscriber_defined refl (λ up. step1.tables) in
     let step3 = c.in_ok-define-3.ensures.table clean3 (created (created no_schema office) subscriber) (record orders { tree = 0 }) no_rows orders_defined refl (λ up. step2.tables) in

@@ -4,7 +4,9 @@ use Rattle.sqlite.specs.Held.{state}
 use Rattle.sqlite.specs.State.{HasCleanDisk}
 use Rattle.reg_tables.specs.Schema.{register_schema}
 use Rattle.reg_tables.specs.Shows.{IsShownBy}
-use Rattle.reg_changes.proofs.Moving.{keeps_on, was_clean}
+use Rattle.reg_tables.specs.Stays.{Stepped}
+use Rattle.reg_tables.proofs.Staying.{stepped_then}
+use Rattle.reg_changes.proofs.Moving.{was_clean}
 use Rattle.reg_opening.specs.Said.{SaysOffice, IsRead, IsRefused}
 use Rattle.reg_tables.specs.declared.statements.TheConstants.{STEPS}
 use Rattle.reg_opening.proofs.FirstShown.{ok_on}
@@ -17,9 +19,6 @@ returns-in_err-office-clause-shown g c clean records within before =
     let refused = c.in_err-office.ensures.refused clean office_query register_schema office_never (λ up. (before up).schema) in
     search (rules, refused)
 
-pub returns-in_err-office-clause-kept : goal.returns-in_err-office-clause-kept
-returns-in_err-office-clause-kept g c clean = c.peek.ensures.kept clean office_query
-
 pub returns-in_err-steps-clause-shown : goal.returns-in_err-steps-clause-shown
 returns-in_err-steps-clause-shown g c clean records within before =
     let s1 = state g.S.Store c.peek.new.tx.conn.now in
@@ -29,20 +28,6 @@ returns-in_err-steps-clause-shown g c clean records within before =
     let shown : IsShownBy s1.now records = subst (λ (d : Database). IsShownBy d records) (sym same.0.now_is) (before same.0.was_open) in
     let refused = c.in_err-steps.ensures.refused clean steps_query register_schema steps_never (λ up. shown.schema) in
     search (rules, refused)
-
-pub returns-in_err-steps-clause-kept : goal.returns-in_err-steps-clause-kept
-returns-in_err-steps-clause-kept g c clean =
-    let s0 = state g.S.Store c.args.tx.now.conn.now in
-    let s1 = state g.S.Store c.peek.new.tx.conn.now in
-    let s2 = state g.S.Store c.peek-2.new.tx.conn.now in
-    keeps_on s0 s1 s2 (c.peek.ensures.kept (was_clean s1 s2 c.peek-2.ensures.survives.clean clean) office_query) (c.peek-2.ensures.kept clean steps_query)
-
-pub returns-clause-kept : goal.returns-clause-kept
-returns-clause-kept g c clean =
-    let s0 = state g.S.Store c.args.tx.now.conn.now in
-    let s1 = state g.S.Store c.peek.new.tx.conn.now in
-    let s2 = state g.S.Store c.peek-2.new.tx.conn.now in
-    keeps_on s0 s1 s2 (c.peek.ensures.kept (was_clean s1 s2 c.peek-2.ensures.survives.clean clean) office_query) (c.peek-2.ensures.kept clean steps_query)
 
 pub returns-clause-ok : goal.returns-clause-ok
 returns-clause-ok g c clean =
@@ -88,3 +73,18 @@ returns-clause-none g c clean is =
     let office = c.in_ok-office.ensures.rows clean1 office_query in
     let steps : IsRead s0.now STEPS.now c.in_ok-steps.steps.items = subst (λ (d : Database). IsRead d STEPS.now c.in_ok-steps.steps.items) same.0.now_is (c.in_ok-steps.ensures.rows clean steps_query) in
     inr (c.in_ok-office.office.items, c.in_ok-steps.steps.items, office, steps, c.judge_office.ensures.none is)
+
+pub returns-in_err-office-clause-stepped : goal.returns-in_err-office-clause-stepped
+returns-in_err-office-clause-stepped g c = record { same_reference = c.peek.ensures.same_reference; kept = λ clean. c.peek.ensures.kept clean office_query; survives = c.peek.ensures.survives }
+
+pub returns-in_err-steps-clause-stepped : goal.returns-in_err-steps-clause-stepped
+returns-in_err-steps-clause-stepped g c =
+    let first : Stepped g.S.Store c.args.tx.now c.peek.new.tx = record { same_reference = c.peek.ensures.same_reference; kept = λ clean. c.peek.ensures.kept clean office_query; survives = c.peek.ensures.survives } in
+    let second : Stepped g.S.Store c.peek.new.tx c.peek-2.new.tx = record { same_reference = c.peek-2.ensures.same_reference; kept = λ clean. c.peek-2.ensures.kept clean steps_query; survives = c.peek-2.ensures.survives } in
+    stepped_then first second
+
+pub returns-clause-stepped : goal.returns-clause-stepped
+returns-clause-stepped g c =
+    let first : Stepped g.S.Store c.args.tx.now c.peek.new.tx = record { same_reference = c.peek.ensures.same_reference; kept = λ clean. c.peek.ensures.kept clean office_query; survives = c.peek.ensures.survives } in
+    let second : Stepped g.S.Store c.peek.new.tx c.peek-2.new.tx = record { same_reference = c.peek-2.ensures.same_reference; kept = λ clean. c.peek-2.ensures.kept clean steps_query; survives = c.peek-2.ensures.survives } in
+    stepped_then first second

@@ -11,12 +11,6 @@ returns-in_err-rows-clause-shown g c clean version records within before =
     let refused = c.in_err-rows.ensures.refused clean older_query (older_schema version) (older_never version) (λ up. (before up).schema) in
     search (rules, refused)
 
-pub returns-in_err-rows-clause-kept : goal.returns-in_err-rows-clause-kept
-returns-in_err-rows-clause-kept g c clean = c.peek.ensures.kept clean older_query
-
-pub returns-clause-kept : goal.returns-clause-kept
-returns-clause-kept g c clean = c.peek.ensures.kept clean older_query
-
 pub returns-clause-ok : goal.returns-clause-ok
 returns-clause-ok g c clean = ok_then _ _ c.judge_older.result (λ found are. (c.in_ok-rows.rows.items, c.in_ok-rows.ensures.rows clean older_query, are)) c.judge_older.ensures.ok
 
@@ -38,3 +32,9 @@ returns-clause-shown g c clean version records within before =
     let shown = before (c.in_ok-rows.ensures.same clean older_query).0.was_open in
     let rows = c.in_ok-rows.rows.items in
     older_judged rows shown.days records.last c.judge_older.result (older_office version db records shown rows (c.in_ok-rows.ensures.rows clean older_query) within) c.judge_older.ensures.none c.judge_older.ensures.faults
+
+pub returns-in_err-rows-clause-stepped : goal.returns-in_err-rows-clause-stepped
+returns-in_err-rows-clause-stepped g c = record { same_reference = c.peek.ensures.same_reference; kept = λ clean. c.peek.ensures.kept clean older_query; survives = c.peek.ensures.survives }
+
+pub returns-clause-stepped : goal.returns-clause-stepped
+returns-clause-stepped g c = record { same_reference = c.peek.ensures.same_reference; kept = λ clean. c.peek.ensures.kept clean older_query; survives = c.peek.ensures.survives }

@@ -14,12 +14,6 @@ returns-in_err-rows-clause-told g c clean version before =
     let refused = c.in_err-rows.ensures.refused clean version_query (schema_of version) (version_never version) (λ up. (before up).schema) in
     search (rules, refused)
 
-pub returns-in_err-rows-clause-kept : goal.returns-in_err-rows-clause-kept
-returns-in_err-rows-clause-kept g c clean = c.peek.ensures.kept clean version_query
-
-pub returns-clause-kept : goal.returns-clause-kept
-returns-clause-kept g c clean = c.peek.ensures.kept clean version_query
-
 pub returns-clause-same : goal.returns-clause-same
 returns-clause-same g c clean = ok_if _ c.judge_version.result (c.in_ok-rows.ensures.same clean version_query)
 
@@ -47,3 +41,9 @@ returns-in_err-rows-clause-none g c clean is = inl (c.peek.ensures.none clean ve
 pub returns-clause-none : goal.returns-clause-none
 returns-clause-none g c clean is =
     inr (c.in_ok-rows.rows.items, c.in_ok-rows.ensures.rows clean version_query, λ n low one. c.judge_version.ensures.none is n low (subst (IsOne (λ row. column row 0 ≡ number n)) (sym c.deref.ensures.value) one))
+
+pub returns-in_err-rows-clause-stepped : goal.returns-in_err-rows-clause-stepped
+returns-in_err-rows-clause-stepped g c = record { same_reference = c.peek.ensures.same_reference; kept = λ clean. c.peek.ensures.kept clean version_query; survives = c.peek.ensures.survives }
+
+pub returns-clause-stepped : goal.returns-clause-stepped
+returns-clause-stepped g c = record { same_reference = c.peek.ensures.same_reference; kept = λ clean. c.peek.ensures.kept clean version_query; survives = c.peek.ensures.survives }

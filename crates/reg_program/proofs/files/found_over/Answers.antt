@@ -1,16 +1,16 @@
 use Rattle.std.proofs.Common.{sym}
-use Rattle.reg_program.proofs.Holding.{holds, shown, was_clean}
+use Rattle.reg_program.proofs.Holding.{forgets, holds, shown, was_clean}
 use Rattle.reg_program.proofs.files.found_over.Goals as goal
 
 pub returns-in-Ok-signer_found-clause-kept : goal.returns-in-Ok-signer_found-clause-kept
 returns-in-Ok-signer_found-clause-kept g c records shows =
     holds g.C.Store c.args.connection c.in-Ok.store c.signer_found.new.store c.new.result.store c.new.ensures.store records
-    c.signer_found.ensures.clean c.signer_found.ensures.same (c.in-Ok.ensures.kept records shows)
+    c.signer_found.ensures.looked.survives.clean c.signer_found.ensures.looked.same (c.in-Ok.ensures.kept records shows)
 
 pub returns-in-Ok-signer_found-clause-migrated : goal.returns-in-Ok-signer_found-clause-migrated
 returns-in-Ok-signer_found-clause-migrated g c version records older sound =
     holds g.C.Store c.args.connection c.in-Ok.store c.signer_found.new.store c.new.result.store c.new.ensures.store records
-    c.signer_found.ensures.clean c.signer_found.ensures.same (c.in-Ok.ensures.migrated version records older sound)
+    c.signer_found.ensures.looked.survives.clean c.signer_found.ensures.looked.same (c.in-Ok.ensures.migrated version records older sound)
 
 pub returns-in-Ok-signer_found-clause-told : goal.returns-in-Ok-signer_found-clause-told
 returns-in-Ok-signer_found-clause-told g c records showed clean =
@@ -25,3 +25,8 @@ returns-in-Ok-signer_found-clause-follows g c records showed sound clean crl is 
     (c.in-Ok.ensures.kept records) (λ version. c.in-Ok.ensures.migrated version records) showed in
     let is_clean = was_clean g.C.Store c.args.connection c.in-Ok.store c.signer_found.new.store c.new.result.store c.new.ensures.store clean in
     rw (sym c.new.ensures.signer) at (c.in-Ok-signer_found.ensures.follows records shows sound is_clean crl is other under)
+
+pub returns-in-Ok-signer_found-clause-clean : goal.returns-in-Ok-signer_found-clause-clean
+returns-in-Ok-signer_found-clause-clean g c =
+    forgets g.C.Store c.args.connection c.in-Ok.store c.signer_found.new.store c.new.result.store c.new.ensures.store
+    c.in-Ok.ensures.survives.clean c.signer_found.ensures.looked.survives.clean

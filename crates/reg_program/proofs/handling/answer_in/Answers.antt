@@ -4,6 +4,6 @@ use Rattle.reg_program.proofs.handling.answer_in.Goals as goal
 
 pub returns : goal.returns
 returns g c =
-    exchange_over g.K.Keeper.is_clean g.K.Keeper.stands g.K.Keeper.signs c.args.now (λ (v : Vec ℕ Global). v.items) (λ desk. desk.office) _ _ _ _
+    exchange_over g.K.Keeper.is_clean g.K.Keeper.stands g.K.Keeper.signs c.args.now (λ (v : Vec ℕ Global). v.items) _ _ _ _
     c.args.request.now _ _ c.serve_one-served.result c.requires c.serve_one-served.ensures.ends c.serve_one-served.ensures.silent
     c.response_of.ensures

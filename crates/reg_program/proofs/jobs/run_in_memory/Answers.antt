@@ -6,6 +6,6 @@ use Rattle.reg_program.proofs.jobs.run_in_memory.Goals as goal
 
 pub returns : goal.returns
 returns g c =
-    let clean = always_clean c.run_script.new.desk.office.store in
+    let clean = always_clean c.run_script.new.office.store in
     let (after, ran, stands) = c.run_script.ensures.ends.1 digest sample_records (refl, c.requires) clean in
     (after, ran)

@@ -8,8 +8,8 @@ returns g c =
       ran.0,
       ran.1,
       runs
-          (λ lined. g.K.Keeper.is_clean lined.desk.office)
-          (λ identity lined records. g.K.Keeper.stands identity lined.desk.office records)
+          (λ lined. g.K.Keeper.is_clean lined.office)
+          (λ identity lined records. g.K.Keeper.stands identity lined.office records)
           _
           (LineRuns g.K.Keeper.signs)
           (λ s came text t moved. moved)

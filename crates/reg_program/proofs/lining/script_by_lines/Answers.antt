@@ -9,12 +9,12 @@ returns-then-way g c =
       ran.0,
       ran.1,
       record {
-        first = c.in_ok-desk.desk.office;
-        last = c.run_clocked-ran.new.opened.desk.office;
-        between = c.open_desk_to_sign.new.place;
-        opened = c.in_ok-desk.ensures.ok;
+        first = c.in_ok-office.office;
+        last = c.run_clocked-ran.new.opened.office;
+        between = c.open_to_sign.new.self;
+        opened = c.in_ok-office.ensures.ok;
         moves = clocked g.P.Opened.Keeper.is_clean g.P.Opened.Keeper.stands g.P.Opened.Keeper.signs g.F.Front.told _ _ ran.0 ran.1 c.args.way.is_clocked c.if-way.true ran.2;
-        closed = c.close_desk.ensures;
+        closed = c.close.ensures;
       },
       ran.3,
     )
@@ -26,12 +26,12 @@ returns g c =
       ran.0,
       ran.1,
       record {
-        first = c.in_ok-desk.desk.office;
-        last = c.run_unclocked-ran.new.lined.desk.office;
-        between = c.open_desk_to_sign.new.place;
-        opened = c.in_ok-desk.ensures.ok;
+        first = c.in_ok-office.office;
+        last = c.run_unclocked-ran.new.lined.office;
+        between = c.open_to_sign.new.self;
+        opened = c.in_ok-office.ensures.ok;
         moves = unclocked g.P.Opened.Keeper.is_clean g.P.Opened.Keeper.stands g.P.Opened.Keeper.signs g.F.Front.told _ _ ran.0 ran.1 c.args.way.is_clocked c.if-way.false ran.2;
-        closed = c.close_desk-2.ensures;
+        closed = c.close-2.ensures;
       },
       ran.3,
     )

@@ -19,8 +19,8 @@ returns g c =
       ran.0,
       ran.1,
       exchanges_move
-          (λ opened. g.K.Keeper.is_clean opened.desk.office)
-          (λ identity opened records. g.K.Keeper.stands identity opened.desk.office records)
+          (λ opened. g.K.Keeper.is_clean opened.office)
+          (λ identity opened records. g.K.Keeper.stands identity opened.office records)
           _
           _
           (Exchange g.K.Keeper.signs g.F.Front.told)

@@ -19,8 +19,8 @@ returns g c =
       ran.0,
       ran.1,
       exchanges_move
-          (λ served. g.K.Keeper.is_clean served.desk.office)
-          (λ identity served records. g.K.Keeper.stands identity served.desk.office records)
+          (λ served. g.K.Keeper.is_clean served.office)
+          (λ identity served records. g.K.Keeper.stands identity served.office records)
           _
           _
           (Exchange g.K.Keeper.signs g.F.Front.told)

@@ -3,24 +3,23 @@ use Rattle.std.specs.Prelude.{option_map}
 use Rattle.std.proofs.lemmas.Result.{IfOk-weaker}
 use Rattle.sqlite.specs.Held.{state}
 use Rattle.reg_core.specs.Records.{Crl}
-use Rattle.reg_office.proofs.Composing.{look_then, shown_on, was_clean}
+use Rattle.reg_tables.proofs.Staying.{looked_shows, looked_then}
+use Rattle.reg_office.proofs.Composing.{was_clean}
 use Rattle.reg_program.proofs.signing.signer_found.Goals as goal
 
-pub returns-clause-same : goal.returns-clause-same
-returns-clause-same g c =
-    look_then (state g.C.Store c.args.store.now) (state g.C.Store c.latest_crl.new.store) (state g.C.Store c.signer_after.new.store)
-    c.latest_crl.ensures.clean c.signer_after.ensures.clean c.latest_crl.ensures.same c.signer_after.ensures.same
+pub returns-clause-looked : goal.returns-clause-looked
+returns-clause-looked g c = looked_then c.latest_crl.ensures.looked c.signer_after.ensures.looked
 
 pub returns-clause-told : goal.returns-clause-told
 returns-clause-told g c =
     IfOk-weaker c.signer_after.result _ _ (λ signer told. λ records shown clean.
-    (c.holder_of-told.result, told records (shown_on g.C.Store c.args.store.now c.latest_crl.new.store records c.latest_crl.ensures.clean c.latest_crl.ensures.same shown) clean))
+    (c.holder_of-told.result, told records (looked_shows c.latest_crl.ensures.looked records shown) clean))
     c.signer_after.ensures.told
 
 pub returns-clause-follows : goal.returns-clause-follows
 returns-clause-follows g c =
     IfOk-weaker c.signer_after.result _ _ (λ signer follows. λ records shown sound clean crl is other under.
-    let clean_1 = was_clean (state g.C.Store c.latest_crl.new.store) (state g.C.Store c.signer_after.new.store) c.signer_after.ensures.clean clean in
+    let clean_1 = was_clean (state g.C.Store c.latest_crl.new.store) (state g.C.Store c.signer_after.new.store) c.signer_after.ensures.looked.survives.clean clean in
     let latest_is = c.in_ok-latest.ensures.found records shown sound clean_1 in
     follows crl.bytes (latest_is ∙ ap (option_map (λ (crl : Crl). crl.bytes)) is) other under)
     c.signer_after.ensures.follows

@@ -1,8 +1,13 @@
-use Rattle.std.proofs.Common.{sym, ap, ◌∙◌}
+use Rattle.std.proofs.Common.{sym, ap, ◌∙◌, ◌≡◌, arith, rules, subst}
 use Rattle.sqlite.specs.Held.{state}
 use Rattle.sqlite_value.specs.Order.{Row, column}
 use Rattle.reg_tables.proofs.Staying.{shows_register, shown_then}
-use Rattle.reg_tables.proofs.OfficeLemmas.{reading_responding, responding_one}
+use Rattle.reg_tables.proofs.OfficeLemmas.{reading_responding, responding_one, asked_responding, responding_rows}
+use Rattle.reg_tables.specs.Failing.{HasFailed}
+use Rattle.reg_tables.specs.declared.fault.CallFault.TheVariants.{Store}
+use Rattle.reg_tables.proofs.FailingLemmas.{written_register, written_shown, no_issuer_fault}
+use Rattle.reg_der.specs.Authority.{IsName, IsKey}
+use Rattle.reg_tables.specs.Faults.{issuer_fault_of}
 use Rattle.reg_tables.proofs.office.responding.Goals as goal
 
 pub returns-clause-found : goal.returns-clause-found
@@ -17,26 +22,56 @@ returns-clause-found g c records shows clean =
     let made = c.in_ok-issuer.ensures.ok in
     (last, (λ i. record { name = (made.0 ∙ name) i; key = (made.1 ∙ key) i }), life)
 
-pub returns-in_err-found-clause-same : goal.returns-in_err-found-clause-same
-returns-in_err-found-clause-same g c register = c.read.ensures.same reading_responding register
+pub returns-in_err-found-clause-fails : goal.returns-in_err-found-clause-fails
+returns-in_err-found-clause-fails g c records written clean =
+    let told : c.in_err-found.field-0.0 ≡ Store → HasFailed (state g.S.Store c.args.conn.now) (state g.S.Store c.read.new.conn) = c.in_err-found.ensures.fails reading_responding asked_responding (written_register g.S.Store c.args.conn.now records written) clean in
+    search rules
 
-pub returns-in_err-row-clause-same : goal.returns-in_err-row-clause-same
-returns-in_err-row-clause-same g c register = c.read.ensures.same reading_responding register
+pub returns-in_err-row-clause-fails : goal.returns-in_err-row-clause-fails
+returns-in_err-row-clause-fails g c records written clean =
+    let answer = c.in_ok-found.ensures.rows reading_responding (written_register g.S.Store c.args.conn.now records written) clean in
+    let shown = written_shown {g = g.S.Store} {old = c.args.conn.now} c.read.new.conn records c.read.ensures.clean clean written answer in
+    absurd (c.in_err-row.ensures.others _ (c.deref.ensures.value ∙ responding_rows (state g.S.Store c.args.conn.now).now records shown c.in_ok-found.found.items answer.reads))
 
-pub returns-in_err-last-clause-same : goal.returns-in_err-last-clause-same
-returns-in_err-last-clause-same g c register = c.read.ensures.same reading_responding register
+pub returns-in_err-last-clause-fails : goal.returns-in_err-last-clause-fails
+returns-in_err-last-clause-fails g c records written clean =
+    let answer = c.in_ok-found.ensures.rows reading_responding (written_register g.S.Store c.args.conn.now records written) clean in
+    let shown = written_shown {g = g.S.Store} {old = c.args.conn.now} c.read.new.conn records c.read.ensures.clean clean written answer in
+    let row = responding_one (state g.S.Store c.args.conn.now).now records shown c.in_ok-found.found.items c.in_ok-row.row.now (sym c.deref.ensures.value ∙ c.in_ok-row.ensures.found) answer.reads in
+    let late = c.in_err-last.ensures.read records.last (ap (λ (r : Row). column r 0) row) in
+    let early = written.sound.before_clock_end in
+    absurd (omega arith)
 
-pub returns-in_err-bytes_at-clause-same : goal.returns-in_err-bytes_at-clause-same
-returns-in_err-bytes_at-clause-same g c register = c.read.ensures.same reading_responding register
+pub returns-in_err-bytes_at-clause-fails : goal.returns-in_err-bytes_at-clause-fails
+returns-in_err-bytes_at-clause-fails g c records written clean =
+    let answer = c.in_ok-found.ensures.rows reading_responding (written_register g.S.Store c.args.conn.now records written) clean in
+    let shown = written_shown {g = g.S.Store} {old = c.args.conn.now} c.read.new.conn records c.read.ensures.clean clean written answer in
+    let row = responding_one (state g.S.Store c.args.conn.now).now records shown c.in_ok-found.found.items c.in_ok-row.row.now (sym c.deref.ensures.value ∙ c.in_ok-row.ensures.found) answer.reads in
+    absurd (c.in_err-bytes_at.ensures.read records.issuer.name (ap (λ (r : Row). column r 1) row))
 
-pub returns-in_err-bytes_at-2-clause-same : goal.returns-in_err-bytes_at-2-clause-same
-returns-in_err-bytes_at-2-clause-same g c register = c.read.ensures.same reading_responding register
+pub returns-in_err-bytes_at-2-clause-fails : goal.returns-in_err-bytes_at-2-clause-fails
+returns-in_err-bytes_at-2-clause-fails g c records written clean =
+    let answer = c.in_ok-found.ensures.rows reading_responding (written_register g.S.Store c.args.conn.now records written) clean in
+    let shown = written_shown {g = g.S.Store} {old = c.args.conn.now} c.read.new.conn records c.read.ensures.clean clean written answer in
+    let row = responding_one (state g.S.Store c.args.conn.now).now records shown c.in_ok-found.found.items c.in_ok-row.row.now (sym c.deref.ensures.value ∙ c.in_ok-row.ensures.found) answer.reads in
+    absurd (c.in_err-bytes_at-2.ensures.read records.issuer.key (ap (λ (r : Row). column r 2) row))
 
-pub returns-in_err-issuer-clause-same : goal.returns-in_err-issuer-clause-same
-returns-in_err-issuer-clause-same g c register = c.read.ensures.same reading_responding register
+pub returns-in_err-issuer-clause-fails : goal.returns-in_err-issuer-clause-fails
+returns-in_err-issuer-clause-fails g c records written clean =
+    let answer = c.in_ok-found.ensures.rows reading_responding (written_register g.S.Store c.args.conn.now records written) clean in
+    let shown = written_shown {g = g.S.Store} {old = c.args.conn.now} c.read.new.conn records c.read.ensures.clean clean written answer in
+    let row = responding_one (state g.S.Store c.args.conn.now).now records shown c.in_ok-found.found.items c.in_ok-row.row.now (sym c.deref.ensures.value ∙ c.in_ok-row.ensures.found) answer.reads in
+    let name = c.in_ok-bytes_at.ensures.read records.issuer.name (ap (λ (r : Row). column r 1) row) in
+    let key = c.in_ok-bytes_at-2.ensures.read records.issuer.key (ap (λ (r : Row). column r 2) row) in
+    let told : issuer_fault_of c.in_err-issuer.field-0.0 ≡ Store → HasFailed (state g.S.Store c.args.conn.now) (state g.S.Store c.read.new.conn) =
+    λ store. absurd (no_issuer_fault c.in_err-issuer.field-0.0 (subst IsName (sym name) written.issuer.name) (subst IsKey (sym key) written.issuer.key) c.in_err-issuer.ensures.bad_name.0 c.in_err-issuer.ensures.bad_key.0 store) in
+    search rules
 
-pub returns-in_err-life-clause-same : goal.returns-in_err-life-clause-same
-returns-in_err-life-clause-same g c register = c.read.ensures.same reading_responding register
-
-pub returns-clause-same : goal.returns-clause-same
-returns-clause-same g c register = c.read.ensures.same reading_responding register
+pub returns-in_err-life-clause-fails : goal.returns-in_err-life-clause-fails
+returns-in_err-life-clause-fails g c records written clean =
+    let answer = c.in_ok-found.ensures.rows reading_responding (written_register g.S.Store c.args.conn.now records written) clean in
+    let shown = written_shown {g = g.S.Store} {old = c.args.conn.now} c.read.new.conn records c.read.ensures.clean clean written answer in
+    let row = responding_one (state g.S.Store c.args.conn.now).now records shown c.in_ok-found.found.items c.in_ok-row.row.now (sym c.deref.ensures.value ∙ c.in_ok-row.ensures.found) answer.reads in
+    let late = c.in_err-life.ensures.read records.policy.ocsp_life (ap (λ (r : Row). column r 3) row) in
+    let early = written.policy.ocsp_life.1 in
+    absurd (omega arith)

@@ -1,25 +1,31 @@
-use Rattle.std.proofs.Common.{◌≡◌, take, refl, sym, ap, ◌∙◌, arith}
-use Rattle.std.specs.List.{filter}
+use Rattle.std.proofs.Common.{◌≡◌, take, refl, sym, ap, ◌∙◌, arith, rules, length, subst}
+use Rattle.std.specs.List.{filter, AllByRecursion}
 use Rattle.std.proofs.lemmas.List.{take_all}
 use Rattle.sqlite.specs.Held.{state}
 use Rattle.sqlite.specs.State.{HasCleanDisk}
 use Rattle.reg_core.specs.Due.{overdue_report}
-use Rattle.reg_tables.proofs.Staying.{shows_register, stays_shows, stays_then, stays_register, leaves_then}
-use Rattle.reg_tables.proofs.OverdueLemmas.{late, undeclined, with_late, without_late, overdue_are}
+use Rattle.reg_tables.proofs.Staying.{looked_shows, looked_then}
+use Rattle.reg_tables.proofs.OverdueLemmas.{late, undeclined, with_late, without_late, overdue_are, front_within}
+use Rattle.reg_tables.specs.Failing.{HasFailed}
+use Rattle.reg_tables.specs.declared.fault.CallFault.TheVariants.{Store}
+use Rattle.std.specs.Prelude.{IsSome}
+use Rattle.std.proofs.lemmas.List.Elements.{All-from_recursion}
+use Rattle.reg_core.specs.Records.{certificate_in}
+use Rattle.reg_core.specs.declared.rows.RequestRow.{RequestRow}
+use Rattle.reg_tables.specs.declared.sizes.Table.TheVariants.{Requests}
+use Rattle.reg_tables.proofs.Queries.{kept_have}
+use Rattle.reg_tables.proofs.Written.{rows_few}
+use Rattle.reg_tables.proofs.FailingLemmas.{failed_then, looked_written, written_shows}
 use Rattle.reg_tables.proofs.overdue.open_past_due.Goals as goal
 use Rattle.reg_tables.proofs.overdue.open_past_due.Goals.{then-branch+in_ok-report, else-branch}
 
 pub loop-request-preserved : goal.loop-request-preserved
 loop-request-preserved g c = record {
-  stays = λ reg.
-      stays_then (state g.S.Store c.args.conn.now) (state g.S.Store c.loop-request.conn) (state g.S.Store c.is_late.new.conn) c.is_late.ensures.survives.clean (c.loop-request.invariant.stays reg)
-      (c.is_late.ensures.same (stays_register (state g.S.Store c.args.conn.now) (state g.S.Store c.loop-request.conn) c.loop-request.invariant.survives.clean (c.loop-request.invariant.stays reg) reg));
-  survives = leaves_then (state g.S.Store c.args.conn.now) (state g.S.Store c.loop-request.conn) (state g.S.Store c.is_late.new.conn) c.loop-request.invariant.survives c.is_late.ensures.survives;
-  since = omega (arith, c.is_late.ensures.survives.clean, c.loop-request.invariant.since);
-  idle = λ e. c.is_late.ensures.idle (c.loop-request.invariant.idle e);
+  looked = looked_then c.loop-request.invariant.looked c.is_late.ensures.looked;
+  since = omega (arith, c.is_late.ensures.looked.survives.clean, c.loop-request.invariant.since);
   report = λ records shows clean.
-      let mid_clean : HasCleanDisk (state g.S.Store c.loop-request.conn) = omega (arith, c.is_late.ensures.survives.clean) in
-      let mid = stays_shows g.S.Store c.args.conn.now c.loop-request.conn records c.loop-request.invariant.survives.clean (c.loop-request.invariant.stays (shows_register g.S.Store c.args.conn.now records shows)) shows in
+      let mid_clean : HasCleanDisk (state g.S.Store c.loop-request.conn) = omega (arith, c.is_late.ensures.looked.survives.clean) in
+      let mid = looked_shows c.loop-request.invariant.looked records shows in
       let is = c.in_ok-is_late.ensures.found records mid clean in
       let before = c.loop-request.invariant.report records shows mid_clean in
       elim c.if-branch.branch [
@@ -41,3 +47,35 @@ returns-clause-found g c records shows clean =
     let whole : take c.loop-request.request-index c.deref-request-items.result.now ≡ filter undeclined records.requests =
     take_all c.loop-request.request-index c.deref-request-items.result.now c.loop-request-test.false ∙ c.deref-request-items.ensures.value ∙ requests in
     all ∙ ap overdue_report (ap (filter (late records c.args.now)) whole ∙ overdue_are records c.args.now)
+
+pub returns-in_err-requests-clause-fails : goal.returns-in_err-requests-clause-fails
+returns-in_err-requests-clause-fails g c records written clean =
+    let told : c.in_err-requests.field-0.0 ≡ Store → HasFailed (state g.S.Store c.args.conn.now) (state g.S.Store c.undeclined.new.conn) = c.in_err-requests.ensures.fails records written clean in
+    search rules
+
+pub returns-in_err-is_late-clause-fails : goal.returns-in_err-is_late-clause-fails
+returns-in_err-is_late-clause-fails g c records written clean =
+    let mid_clean : HasCleanDisk (state g.S.Store c.loop-request.conn) = omega (arith, c.is_late.ensures.looked.survives.clean) in
+    let first_clean : HasCleanDisk (state g.S.Store c.undeclined.new.conn) = omega (arith, c.loop-request.invariant.since) in
+    let here = looked_written c.loop-request.invariant.looked records written in
+    let requests = c.deref-request-items.ensures.value ∙ c.in_ok-requests.ensures.found records (written_shows g.S.Store c.args.conn.now records written) first_clean in
+    let P : RequestRow → Type 0 = λ (row : RequestRow). IsSome (certificate_in records.certificates row.serial) in
+    let all = subst (AllByRecursion P) (sym requests) (kept_have P undeclined records.requests written.sound.requests.certificates_exist) in
+    let exists = subst P (sym c.request-item.is) (All-from_recursion P c.deref-request-items.result.now all c.loop-request.request-index c.request-item.result c.loop-request-test.true) in
+    let told : c.in_err-is_late.field-0.0 ≡ Store → HasFailed (state g.S.Store c.args.conn.now) (state g.S.Store c.is_late.new.conn) =
+    λ store. failed_then c.loop-request.invariant.looked c.is_late.ensures.looked clean (c.in_err-is_late.ensures.fails records here exists clean store) in
+    search rules
+
+pub returns-in_err-report-clause-fails : goal.returns-in_err-report-clause-fails
+returns-in_err-report-clause-fails g c records written clean =
+    let mid_clean : HasCleanDisk (state g.S.Store c.loop-request.conn) = omega (arith, c.is_late.ensures.looked.survives.clean) in
+    let first_clean : HasCleanDisk (state g.S.Store c.undeclined.new.conn) = omega (arith, c.loop-request.invariant.since) in
+    let shows = written_shows g.S.Store c.args.conn.now records written in
+    let requests = c.deref-request-items.ensures.value ∙ c.in_ok-requests.ensures.found records shows first_clean in
+    let kept = filter (late records c.args.now) (take c.loop-request.request-index c.deref-request-items.result.now) in
+    let many = c.in_err-report.ensures.many kept (c.loop-request.invariant.report records shows mid_clean) in
+    let front = front_within (late records c.args.now) undeclined c.loop-request.request-index records.requests in
+    let sizes : length kept ≡ length (filter (late records c.args.now) (take c.loop-request.request-index (filter undeclined records.requests))) =
+    ap (λ items. length (filter (late records c.args.now) (take c.loop-request.request-index items))) requests in
+    let few = rows_few records written.sound written.policy Requests in
+    absurd (omega arith)

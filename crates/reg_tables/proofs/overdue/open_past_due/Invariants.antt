@@ -1,4 +1,4 @@
-use Rattle.std.proofs.Common.{◌≡◌, ◌≤◌, false, take}
+use Rattle.std.proofs.Common.{◌≡◌, ◌≤◌, take}
 use Rattle.std.specs.List.{filter}
 use Rattle.sqlite.specs.Held.{state}
 use Rattle.sqlite.specs.State.{HasCleanDisk}
@@ -6,15 +6,13 @@ use Rattle.sqlite_trees.specs.View.{doubt}
 use Rattle.reg_core.specs.Due.{overdue_report}
 use Rattle.reg_core.specs.Records.{Records}
 use Rattle.reg_tables.specs.Shows.{Shows}
-use Rattle.reg_tables.specs.Stays.{IsRegister, LeavesNothing, Stays}
+use Rattle.reg_tables.specs.Stays.{Looked}
 use Rattle.reg_tables.proofs.OverdueLemmas.{late}
 use Rattle.reg_tables.proofs.overdue.open_past_due.Given as goal
 
 abbrev pub invariant-loop-request : goal.invariant-loop-request
 invariant-loop-request g l = record {
-  stays : IsRegister (state g.S.Store l.fn.conn) → Stays (state g.S.Store l.fn.conn) (state g.S.Store l.conn);
-  survives : LeavesNothing (state g.S.Store l.fn.conn) (state g.S.Store l.conn);
+  looked : Looked g.S.Store l.fn.conn l.conn;
   since : doubt (state g.S.Store l.initial.conn).is_clean ≤ doubt (state g.S.Store l.conn).is_clean;
-  idle : l.fn.conn.in_transaction ≡ false → l.conn.in_transaction ≡ false;
   report : (records : Records) → Shows g.S.Store l.fn.conn records → HasCleanDisk (state g.S.Store l.conn) → l.report ≡ overdue_report (filter (late records l.now) (take l.request-index l.request-items));
 }

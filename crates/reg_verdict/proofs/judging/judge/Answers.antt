@@ -25,7 +25,7 @@ pub returns-clause-shown : goal.returns-clause-shown
 returns-clause-shown g c up presumed clean =
     let old = c.args.conn.now in
     let db = (state g.S.Store old).now in
-    let mid_clean : HasCleanDisk (state g.S.Store c.examine.new.conn) = omega (arith, c.audit.ensures.survives.clean) in
+    let mid_clean : HasCleanDisk (state g.S.Store c.examine.new.conn) = omega (arith, c.audit.ensures.looked.survives.clean) in
     let old_clean : HasCleanDisk (state g.S.Store old) = omega (arith, c.examine.ensures.survives.clean) in
     let is = c.is_over_register-is_register.ensures c.if-not-is_register.false in
     let tables = tables_are g.S.Store old (g.met.S.Store.ordered old.store) (g.met.S.Alter.listed old.store) is presumed (up old_clean) in
@@ -49,7 +49,7 @@ returns-clause-register g c =
     let mid = state g.S.Store c.examine.new.conn in
     let is = c.is_over_register-is_register.ensures c.if-not-is_register.false in
     let register = stays_register old mid c.examine.ensures.survives.clean c.examine.ensures.same (register_by old is.schema is.saved) in
-    always_said _ c.said.result (stays_register mid (state g.S.Store c.audit.new.conn) c.audit.ensures.survives.clean (c.audit.ensures.same register) register)
+    always_said _ c.said.result (stays_register mid (state g.S.Store c.audit.new.conn) c.audit.ensures.looked.survives.clean (c.audit.ensures.looked.same register) register)
 
 pub returns-clause-same : goal.returns-clause-same
 returns-clause-same g c =
@@ -57,4 +57,4 @@ returns-clause-same g c =
     let mid = state g.S.Store c.examine.new.conn in
     let is = c.is_over_register-is_register.ensures c.if-not-is_register.false in
     let register = stays_register old mid c.examine.ensures.survives.clean c.examine.ensures.same (register_by old is.schema is.saved) in
-    stays_then old mid (state g.S.Store c.audit.new.conn) c.audit.ensures.survives.clean c.examine.ensures.same (c.audit.ensures.same register)
+    stays_then old mid (state g.S.Store c.audit.new.conn) c.audit.ensures.looked.survives.clean c.examine.ensures.same (c.audit.ensures.looked.same register)

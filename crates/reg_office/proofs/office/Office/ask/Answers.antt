@@ -3,6 +3,8 @@ use Rattle.std.specs.Prelude.{Err}
 use Rattle.reg_core.specs.declared.refusal.Fault.TheVariants.{Refused}
 use Rattle.reg_core.specs.declared.refusal.Refusal.TheVariants.{ClockEnd}
 use Rattle.reg_office.specs.Answered.{IsAnswered}
+use Rattle.reg_office.proofs.Composing.{looked_none}
+use Rattle.reg_office.proofs.Standing.{stands_looked}
 use Rattle.reg_office.proofs.office.Office.ask.Goals as goal
 
 -- What is answered at the clock's end comes first, so that another answer is refused by it.
@@ -11,5 +13,12 @@ returns-clause-answer g c records stands clean =
     let refused : IsAnswered records c.args.now c.args.query.now (Err (Refused ClockEnd)) = search rules in
     (refused, stands)
 
+pub returns-then-lt-clause-answer : goal.returns-then-lt-clause-answer
+returns-then-lt-clause-answer g c records stands clean =
+    (c.answer.ensures.answer records stands.shown stands.sound.rows clean, stands_looked c.answer.ensures.looked stands)
+
 pub returns-clause-ended : goal.returns-clause-ended
 returns-clause-ended g c ended = (refl, refl)
+
+pub returns-clause-looked : goal.returns-clause-looked
+returns-clause-looked g c = looked_none

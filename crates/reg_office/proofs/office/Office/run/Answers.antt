@@ -7,7 +7,7 @@ use Rattle.reg_core.specs.declared.command.Reply.{Reply}
 use Rattle.reg_core.specs.declared.refusal.Fault.{Fault}
 use Rattle.reg_crl.specs.Signing.{Identity}
 use Rattle.reg_office.specs.AtRest.{IsPartlyRun, IsRunOne}
-use Rattle.reg_office.specs.Stands.{CameTo, Ran}
+use Rattle.reg_office.specs.Stands.{CameTo, HasRun}
 use Rattle.reg_office.proofs.Composing.{was_clean}
 use Rattle.reg_office.proofs.Standing.{ran_more, ran_none}
 use Rattle.reg_office.proofs.Stopping.{Reached, Settles, reached_more, reached_none}
@@ -45,7 +45,7 @@ loop-now-preserved g c =
     take_more commands i timed c.loop-now-test.true ∙ ap (λ (x : ℕ × Command). take i commands ++ x ∷ []) (sym c.loop-now-item.is) in
     record {
       room = omega (arith, c.in-Ok-push.ensures.len, c.in-Ok-push.ensures.capacity, c.loop-now.invariant.room);
-      clean = omega (arith, c.loop-now.invariant.clean, c.run_one-outcome.ensures.survives.clean);
+      clean = omega (arith, c.loop-now.invariant.clean, c.run_one-outcome.ensures.changed.survives.clean);
       same_identity = c.run_one-outcome.ensures.same_identity ∙ c.loop-now.invariant.same_identity;
       each =
           let earlier = c.loop-now.invariant.each in (
@@ -56,21 +56,21 @@ loop-now-preserved g c =
                 ∙ (ap (λ n. n + 1) earlier.2 ∙ (sym (length_append (take i commands) (timed ∷ [])) ∙ ap length (sym all))),
           );
       ran = λ records stands clean.
-          let before = was_clean (state s old.store) (state s new.store) c.run_one-outcome.ensures.survives.clean clean in
+          let before = was_clean (state s old.store) (state s new.store) c.run_one-outcome.ensures.changed.survives.clean clean in
           let earlier = c.loop-now.invariant.ran records stands before in
           let step = c.run_one-outcome.ensures.step earlier.2.after earlier.2.stands clean in (
             earlier.0 ++ outcome ∷ [],
             c.in-Ok-push.ensures.items
                 ∙ (ap (λ (l : List (Result Reply Fault)). l ++ outcome ∷ []) earlier.1 ∙ append_assoc c.args.outcomes.now.items earlier.0 (outcome ∷ [])),
             subst
-                (λ (l : List (ℕ × Command)). Ran s signs new.store (g.S.Signer.identity new.signer) records l (earlier.0 ++ outcome ∷ []))
+                (λ (l : List (ℕ × Command)). HasRun s signs new.store (g.S.Signer.identity new.signer) records l (earlier.0 ++ outcome ∷ []))
                 (sym all)
                 (ran_more s signs old.store new.store (g.S.Signer.identity old.signer) (g.S.Signer.identity new.signer) records (take i commands) earlier.0 timed outcome
                 c.run_one-outcome.ensures.same_identity earlier.2 step),
           );
       survives = λ records stands up live clean.
           let who = g.S.Signer.identity c.args.self.now.signer in
-          let before = was_clean (state s old.store) (state s new.store) c.run_one-outcome.ensures.survives.clean clean in
+          let before = was_clean (state s old.store) (state s new.store) c.run_one-outcome.ensures.changed.survives.clean clean in
           let earlier = c.loop-now.invariant.survives records stands up live before in
           let settles : Settles s = λ held trees is_open leaves. g.met.C.Store.settled held.store trees is_open leaves in
           let one : IsRunOne s signs who old.store new.store timed.0 timed.1 outcome =
@@ -83,8 +83,8 @@ loop-now-preserved g c =
                 (λ (w : Identity). CameTo s signs new.store w stood timed.0 timed.1 outcome)
                 c.run_one-outcome.ensures.same_identity
                 (c.run_one-outcome.ensures.step stood standing now_clean);
-            live = c.run_one-outcome.ensures.live;
-            survives = c.run_one-outcome.ensures.survives;
+            live = c.run_one-outcome.ensures.changed.live;
+            survives = c.run_one-outcome.ensures.changed.survives;
           }) in (
             earlier.0 ++ outcome ∷ [],
             c.in-Ok-push.ensures.items
@@ -109,7 +109,7 @@ returns-clause-ran g c records stands clean =
       ran.0,
       ran.1,
       subst
-          (λ (l : List (ℕ × Command)). Ran g.C.Store g.S.Signer.signs done.store (g.S.Signer.identity done.signer) records l ran.0)
+          (λ (l : List (ℕ × Command)). HasRun g.C.Store g.S.Signer.signs done.store (g.S.Signer.identity done.signer) records l ran.0)
           (take_all c.loop-now.now-index commands c.loop-now-test.false)
           ran.2,
     )

@@ -7,7 +7,7 @@ use Rattle.sqlite_trees.specs.View.{doubt}
 use Rattle.reg_core.specs.Records.{Records}
 use Rattle.reg_core.specs.declared.command.Reply.{Reply}
 use Rattle.reg_core.specs.declared.refusal.Fault.{Fault}
-use Rattle.reg_office.specs.Stands.{Stands, Ran}
+use Rattle.reg_office.specs.Stands.{Stands, HasRun}
 use Rattle.reg_office.proofs.Stopping.{Reached}
 use Rattle.reg_office.proofs.office.Office.run.Given as goal
 
@@ -21,7 +21,7 @@ invariant-loop-now g l = record {
       → Stands g.C.Store g.S.Signer.signs l.fn.self.store (g.S.Signer.identity l.fn.self.signer) records
       → HasCleanDisk (state g.C.Store l.self.store)
       → (came : List (Result Reply Fault)) × (l.outcomes.items ≡ l.fn.outcomes.items ++ came)
-      × Ran g.C.Store g.S.Signer.signs l.self.store (g.S.Signer.identity l.self.signer) records (take l.now-index l.commands) came;
+      × HasRun g.C.Store g.S.Signer.signs l.self.store (g.S.Signer.identity l.self.signer) records (take l.now-index l.commands) came;
   survives : (records : Records)
       → Stands g.C.Store g.S.Signer.signs l.fn.self.store (g.S.Signer.identity l.fn.self.signer) records
       → IsTrue (state g.C.Store l.fn.self.store).is_open

@@ -1,11 +1,9 @@
 use Rattle.std.proofs.Common.{sym, subst}
 use Rattle.reg_core.specs.declared.command.Command.{Command}
 use Rattle.reg_core.specs.declared.command.Command.TheVariants.{Subscriber, Order, Register, Request, Decline, Revoke, Crl}
-use Rattle.sqlite.specs.Held.{state}
-use Rattle.sqlite.proofs.StateLemmas.{survives_weaker}
-use Rattle.reg_crl.specs.Signing.{Identity, signed_by}
-use Rattle.reg_office.specs.AtRest.{Does, IsDone, Steps}
-use Rattle.reg_office.specs.Happened.{unsigned}
+use Rattle.reg_crl.specs.Signing.{Identity}
+use Rattle.reg_office.specs.AtRest.{IsDone}
+use Rattle.reg_office.proofs.Changing.{changed_more}
 use Rattle.reg_office.proofs.Resting.{done, done_unsigned}
 use Rattle.reg_office.specs.Stands.{CameTo}
 use Rattle.reg_office.proofs.Standing.{came, came_unsigned}
@@ -98,100 +96,72 @@ returns-in-Crl-clause-step g c records stands clean =
     (came s signs c.args.self.now.store held identity records c.args.now Crl c.issue_crl.result stands
     (c.issue_crl.ensures.step records stands.shown stands.sound.rows clean)))
 
-pub returns-in-Subscriber-clause-survives : goal.returns-in-Subscriber-clause-survives
-returns-in-Subscriber-clause-survives g c =
-    let s = g.C.Store in
+pub returns-in-Subscriber-clause-changed : goal.returns-in-Subscriber-clause-changed
+returns-in-Subscriber-clause-changed g c =
     let signs = g.S.Signer.signs in
     let identity = g.S.Signer.identity c.args.self.now.signer in
-    let old = c.args.self.now.store in
-    let new = c.enter_subscriber.new.store in
     let command : Command = (Subscriber c.in-Subscriber.name) in
-    survives_weaker (state s old) (state s new) (Steps s old unsigned c.args.now command) (Does s signs old identity c.args.now c.args.command.now)
+    changed_more c.enter_subscriber.ensures.changed
     (λ clean trees steps records stands.
     subst (λ (k : Command). IsDone signs identity records c.args.now k trees) (sym c.in-Subscriber.is)
     (done_unsigned signs identity records c.args.now command trees tt stands.sound (steps records stands.shown stands.sound.rows)))
-    c.enter_subscriber.ensures.survives
 
-pub returns-in-Order-clause-survives : goal.returns-in-Order-clause-survives
-returns-in-Order-clause-survives g c =
-    let s = g.C.Store in
+pub returns-in-Order-clause-changed : goal.returns-in-Order-clause-changed
+returns-in-Order-clause-changed g c =
     let signs = g.S.Signer.signs in
     let identity = g.S.Signer.identity c.args.self.now.signer in
-    let old = c.args.self.now.store in
-    let new = c.enter_order.new.store in
     let command : Command = (Order c.in-Order.subscriber c.in-Order.days) in
-    survives_weaker (state s old) (state s new) (Steps s old unsigned c.args.now command) (Does s signs old identity c.args.now c.args.command.now)
+    changed_more c.enter_order.ensures.changed
     (λ clean trees steps records stands.
     subst (λ (k : Command). IsDone signs identity records c.args.now k trees) (sym c.in-Order.is)
     (done_unsigned signs identity records c.args.now command trees tt stands.sound (steps records stands.shown stands.sound.rows)))
-    c.enter_order.ensures.survives
 
-pub returns-in-Register-clause-survives : goal.returns-in-Register-clause-survives
-returns-in-Register-clause-survives g c =
-    let s = g.C.Store in
+pub returns-in-Register-clause-changed : goal.returns-in-Register-clause-changed
+returns-in-Register-clause-changed g c =
     let signs = g.S.Signer.signs in
     let identity = g.S.Signer.identity c.args.self.now.signer in
-    let old = c.args.self.now.store in
-    let new = c.register.new.store in
     let command : Command = (Register c.in-Register.order c.in-Register.serial c.in-Register.not_before c.in-Register.not_after) in
-    survives_weaker (state s old) (state s new) (Steps s old unsigned c.args.now command) (Does s signs old identity c.args.now c.args.command.now)
+    changed_more c.register.ensures.changed
     (λ clean trees steps records stands.
     subst (λ (k : Command). IsDone signs identity records c.args.now k trees) (sym c.in-Register.is)
     (done_unsigned signs identity records c.args.now command trees tt stands.sound (steps records stands.shown stands.sound.rows)))
-    c.register.ensures.survives
 
-pub returns-in-Request-clause-survives : goal.returns-in-Request-clause-survives
-returns-in-Request-clause-survives g c =
-    let s = g.C.Store in
+pub returns-in-Request-clause-changed : goal.returns-in-Request-clause-changed
+returns-in-Request-clause-changed g c =
     let signs = g.S.Signer.signs in
     let identity = g.S.Signer.identity c.args.self.now.signer in
-    let old = c.args.self.now.store in
-    let new = c.enter_request.new.store in
     let command : Command = (Request c.in-Request.serial c.in-Request.ground) in
-    survives_weaker (state s old) (state s new) (Steps s old unsigned c.args.now command) (Does s signs old identity c.args.now c.args.command.now)
+    changed_more c.enter_request.ensures.changed
     (λ clean trees steps records stands.
     subst (λ (k : Command). IsDone signs identity records c.args.now k trees) (sym c.in-Request.is)
     (done_unsigned signs identity records c.args.now command trees tt stands.sound (steps records stands.shown stands.sound.rows)))
-    c.enter_request.ensures.survives
 
-pub returns-in-Decline-clause-survives : goal.returns-in-Decline-clause-survives
-returns-in-Decline-clause-survives g c =
-    let s = g.C.Store in
+pub returns-in-Decline-clause-changed : goal.returns-in-Decline-clause-changed
+returns-in-Decline-clause-changed g c =
     let signs = g.S.Signer.signs in
     let identity = g.S.Signer.identity c.args.self.now.signer in
-    let old = c.args.self.now.store in
-    let new = c.decline.new.store in
     let command : Command = (Decline c.in-Decline.request) in
-    survives_weaker (state s old) (state s new) (Steps s old unsigned c.args.now command) (Does s signs old identity c.args.now c.args.command.now)
+    changed_more c.decline.ensures.changed
     (λ clean trees steps records stands.
     subst (λ (k : Command). IsDone signs identity records c.args.now k trees) (sym c.in-Decline.is)
     (done_unsigned signs identity records c.args.now command trees tt stands.sound (steps records stands.shown stands.sound.rows)))
-    c.decline.ensures.survives
 
-pub returns-in-Revoke-clause-survives : goal.returns-in-Revoke-clause-survives
-returns-in-Revoke-clause-survives g c =
-    let s = g.C.Store in
+pub returns-in-Revoke-clause-changed : goal.returns-in-Revoke-clause-changed
+returns-in-Revoke-clause-changed g c =
     let signs = g.S.Signer.signs in
     let identity = g.S.Signer.identity c.args.self.now.signer in
-    let old = c.args.self.now.store in
-    let new = c.revoke.new.store in
     let command : Command = (Revoke c.in-Revoke.request) in
-    survives_weaker (state s old) (state s new) (Steps s old unsigned c.args.now command) (Does s signs old identity c.args.now c.args.command.now)
+    changed_more c.revoke.ensures.changed
     (λ clean trees steps records stands.
     subst (λ (k : Command). IsDone signs identity records c.args.now k trees) (sym c.in-Revoke.is)
     (done_unsigned signs identity records c.args.now command trees tt stands.sound (steps records stands.shown stands.sound.rows)))
-    c.revoke.ensures.survives
 
-pub returns-in-Crl-clause-survives : goal.returns-in-Crl-clause-survives
-returns-in-Crl-clause-survives g c =
-    let s = g.C.Store in
+pub returns-in-Crl-clause-changed : goal.returns-in-Crl-clause-changed
+returns-in-Crl-clause-changed g c =
     let signs = g.S.Signer.signs in
     let identity = g.S.Signer.identity c.args.self.now.signer in
-    let old = c.args.self.now.store in
-    let new = c.issue_crl.new.store in
     let command : Command = Crl in
-    survives_weaker (state s old) (state s new) (Steps s old (signed_by signs identity) c.args.now command) (Does s signs old identity c.args.now c.args.command.now)
+    changed_more c.issue_crl.ensures.changed
     (λ clean trees steps records stands.
     subst (λ (k : Command). IsDone signs identity records c.args.now k trees) (sym c.in-Crl.is)
     (done signs identity records c.args.now command trees stands.sound (steps records stands.shown stands.sound.rows)))
-    c.issue_crl.ensures.survives

@@ -4,5 +4,8 @@ use Rattle.reg_store.proofs.store.Store.apply.Goals as goal
 pub returns-clause-ok : goal.returns-clause-ok
 returns-clause-ok g c = search rules
 
+pub returns-clause-days : goal.returns-clause-days
+returns-clause-days g c = search rules
+
 pub returns-clause-one : goal.returns-clause-one
 returns-clause-one g c = search rules

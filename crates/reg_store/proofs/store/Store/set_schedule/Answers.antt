@@ -6,3 +6,6 @@ returns-clause-ok g c = search rules
 
 pub returns-clause-shown : goal.returns-clause-shown
 returns-clause-shown g c = search rules
+
+pub returns-clause-days : goal.returns-clause-days
+returns-clause-days g c = search rules

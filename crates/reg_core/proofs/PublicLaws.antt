@@ -1,0 +1,57 @@
+-- The laws, for proofs above: they cite these alone. Each is stated in specs/, and is what a function of `laws` ensures.
+use Rattle.std.proofs.Common.{arith}
+use Rattle.reg_core.specs.Integer.{integer}
+use Rattle.reg_core.specs.Laws.{OctetsArePlaces, OctetsAreBelow, ZerosCountNothing, OneSpelling, OctetsAreLowest, OctetsInOrder, IntegersAreSpelled, OneInteger, OneNumber, IntegersAreShort, SerialsInOrder, OneSerial, OneMoment, NumbersAreRead, SerialsAreRead}
+use Rattle.reg_core.proofs.Integers as integers
+use Rattle.reg_core.proofs.Moments as moments
+use Rattle.reg_core.proofs.TextLaws as texts
+
+pub octets_are_places : OctetsArePlaces
+octets_are_places = integers.value-cons
+
+pub octets_are_below : OctetsAreBelow
+octets_are_below = integers.value-lt
+
+pub zeros_count_nothing : ZerosCountNothing
+zeros_count_nothing = integers.value-without_zeros
+
+pub one_spelling : OneSpelling
+one_spelling = integers.same_bytes
+
+pub octets_are_lowest : OctetsAreLowest
+octets_are_lowest count number = record {
+  counted = integers.length-bytes_high_first count number;
+  each_byte = integers.is_bytes-bytes_high_first count number;
+  spelled = integers.value-bytes_high_first count number;
+}
+
+pub octets_in_order : OctetsInOrder
+octets_in_order = integers.bytes_order
+
+pub integer_is : IntegersAreSpelled
+integer_is = integers.integer-is
+
+pub one_integer : OneInteger
+one_integer = integers.integer_only
+
+pub one_number : OneNumber
+one_number = integers.integer_injective
+
+pub integers_are_short : IntegersAreShort
+integers_are_short number =
+    (integers.length-integer number, λ below. integers.length-below_20 (integer number) number below (integers.integer-is number (omega arith)))
+
+pub serials_in_order : SerialsInOrder
+serials_in_order = texts.serials_in_order
+
+pub one_serial : OneSerial
+one_serial = texts.one_serial
+
+pub one_moment : OneMoment
+one_moment = moments.moment_text_injective
+
+pub numbers_are_read : NumbersAreRead
+numbers_are_read = texts.numbers_are_read
+
+pub serials_are_read : SerialsAreRead
+serials_are_read = texts.serials_are_read

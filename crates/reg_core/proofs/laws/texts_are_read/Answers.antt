@@ -1,0 +1,8 @@
+use Rattle.reg_core.proofs.PublicLaws as laws
+use Rattle.reg_core.proofs.laws.texts_are_read.Goals as goal
+
+pub returns-clause-numbers : goal.returns-clause-numbers
+returns-clause-numbers c = laws.numbers_are_read
+
+pub returns-clause-serials : goal.returns-clause-serials
+returns-clause-serials c = laws.serials_are_read

@@ -1,0 +1,84 @@
+-- Laws over the definitions: octets and the numbers that they spell, INTEGERs, serial numbers, and what texts say.
+use Rattle.std.specs.Prelude.{◌≡◌, ◌↔◌, ℕ, ◌+◌, ◌*◌, ◌%◌, ◌^◌, ◌<◌, ◌≤◌, List, ◌∷◌, length, Some}
+use Rattle.std.specs.Cmp.Lexicographic.{slice_cmp}
+use Rattle.std.specs.Int.{bytes_high_first}
+use Rattle.std.specs.Ordering.{nat_cmp}
+use Rattle.reg_core.specs.Calendar.{IsMoment, moment_text}
+use Rattle.reg_core.specs.Integer.{IsBytes, IsInteger, integer, value, without_zeros}
+use Rattle.reg_core.specs.Number.{IsNumberText, number_of}
+use Rattle.reg_core.specs.Serial.{IsSerial, IsSerialText, serial_bytes, serial_of}
+
+-- ---- octets
+
+-- each octet counts 256 times what one in the next place does
+abbrev pub OctetsArePlaces : Type 0
+OctetsArePlaces = (octet : ℕ) (octets : List ℕ) → value (octet ∷ octets) ≡ octet * 256 ^ length octets + value octets
+
+-- octets spell a number below the power of 256 that their count gives
+abbrev pub OctetsAreBelow : Type 0
+OctetsAreBelow = (octets : List ℕ) → IsBytes octets → value octets < 256 ^ length octets
+
+-- zeros that lead count nothing
+abbrev pub ZerosCountNothing : Type 0
+ZerosCountNothing = (octets : List ℕ) → value (without_zeros octets) ≡ value octets
+
+-- as many octets that spell one number are the same
+abbrev pub OneSpelling : Type 0
+OneSpelling = (xs ys : List ℕ) → IsBytes xs → IsBytes ys → length xs ≡ length ys → value xs ≡ value ys → xs ≡ ys
+
+-- so many of the lowest octets of a number are as many, each of them a byte, and spell the number but for what is above their places
+pub record AreLowest (count number : ℕ) : Type 0 where
+  pub counted : length (bytes_high_first count number) ≡ count
+  pub each_byte : IsBytes (bytes_high_first count number)
+  pub spelled : value (bytes_high_first count number) ≡ number % 256 ^ count
+
+-- the octets that a number is kept in are its lowest
+abbrev pub OctetsAreLowest : Type 0
+OctetsAreLowest = (count number : ℕ) → AreLowest count number
+
+-- as many octets, compared one by one, have the order of the numbers that they spell
+abbrev pub OctetsInOrder : Type 0
+OctetsInOrder =
+    (xs ys : List ℕ) → IsBytes xs → IsBytes ys → length xs ≡ length ys → slice_cmp nat_cmp xs ys ≡ nat_cmp (value xs) (value ys)
+
+-- ---- INTEGERs (X.690 8.3)
+
+-- `integer` gives the INTEGER of a number
+abbrev pub IntegersAreSpelled : Type 0
+IntegersAreSpelled = (number : ℕ) → number < 2 ^ 160 → IsInteger (integer number) number
+
+-- and a number has no other
+abbrev pub OneInteger : Type 0
+OneInteger = (octets : List ℕ) (number : ℕ) → number < 2 ^ 160 → IsInteger octets number → octets ≡ integer number
+
+-- numbers with the same INTEGER are the same
+abbrev pub OneNumber : Type 0
+OneNumber = (m n : ℕ) → m < 2 ^ 160 → n < 2 ^ 160 → integer m ≡ integer n → m ≡ n
+
+-- an INTEGER has 21 octets at most, and that of a serial number 20 (RFC 5280 4.1.2.2)
+abbrev pub IntegersAreShort : Type 0
+IntegersAreShort = (number : ℕ) → (length (integer number) ≤ 21) × (number < 2 ^ 159 → length (integer number) ≤ 20)
+
+-- ---- serial numbers
+
+-- the 20 octets of serial numbers, compared one by one, have the order of the numbers
+abbrev pub SerialsInOrder : Type 0
+SerialsInOrder = (m n : ℕ) → IsSerial m → IsSerial n → slice_cmp nat_cmp (serial_bytes m) (serial_bytes n) ≡ nat_cmp m n
+
+-- serial numbers with the same 20 octets are the same
+abbrev pub OneSerial : Type 0
+OneSerial = (m n : ℕ) → IsSerial m → IsSerial n → serial_bytes m ≡ serial_bytes n → m ≡ n
+
+-- ---- texts
+
+-- moments with the same text are the same
+abbrev pub OneMoment : Type 0
+OneMoment = (a b : ℕ) → IsMoment a → IsMoment b → moment_text a ≡ moment_text b → a ≡ b
+
+-- the number that is read of a text is the one that it writes
+abbrev pub NumbersAreRead : Type 0
+NumbersAreRead = (text : List ℕ) (number : ℕ) → (number_of text ≡ Some number) ↔ IsNumberText text number
+
+-- and so is the serial number
+abbrev pub SerialsAreRead : Type 0
+SerialsAreRead = (text : List ℕ) (serial : ℕ) → (serial_of text ≡ Some serial) ↔ IsSerialText text serial

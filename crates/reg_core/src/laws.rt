@@ -1,0 +1,46 @@
+//! Laws of octets, INTEGERs, serial numbers and texts. The functions do nothing: their contracts are the laws. Proofs above cite them by
+//! `proofs/PublicLaws.antt`.
+
+ghost use Rattle.reg_core.specs.Laws.{OctetsArePlaces, OctetsAreBelow, ZerosCountNothing, OneSpelling, OctetsAreLowest, OctetsInOrder};
+ghost use Rattle.reg_core.specs.Laws.{IntegersAreSpelled, OneInteger, OneNumber, IntegersAreShort, SerialsInOrder, OneSerial};
+ghost use Rattle.reg_core.specs.Laws.{OneMoment, NumbersAreRead, SerialsAreRead};
+
+/// What octets, the highest first, say of the number that they spell, and which octets a number is kept in.
+pub fn octets_are_digits()
+    ensures places { OctetsArePlaces }
+    ensures below { OctetsAreBelow }
+    ensures zeros { ZerosCountNothing }
+    ensures one { OneSpelling }
+    ensures lowest { OctetsAreLowest }
+{}
+
+/// As many octets have the order of their numbers.
+pub fn octets_in_order()
+    ensures { OctetsInOrder }
+{}
+
+/// A number below 2^160 has one INTEGER, and no other number has it (X.690 8.3). It has at most 21 octets, and that of a serial number
+/// at most 20 (RFC 5280 4.1.2.2).
+pub fn one_integer()
+    ensures spelled { IntegersAreSpelled }
+    ensures one { OneInteger }
+    ensures number { OneNumber }
+    ensures short { IntegersAreShort }
+{}
+
+/// Serial numbers have the order of their 20 octets, and no two have the same.
+pub fn serials_in_order()
+    ensures order { SerialsInOrder }
+    ensures one { OneSerial }
+{}
+
+/// No two moments have the same text.
+pub fn one_moment()
+    ensures { OneMoment }
+{}
+
+/// What is read of a text, a number or a serial number, is what it writes.
+pub fn texts_are_read()
+    ensures numbers { NumbersAreRead }
+    ensures serials { SerialsAreRead }
+{}

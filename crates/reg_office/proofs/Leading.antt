@@ -1,0 +1,85 @@
+-- The calls of an office over a store, as steps of its records.
+use Rattle.std.proofs.Common.{◌≡◌, ℕ, ◌≤◌, List, refl, sym, ◌∙◌, subst}
+use Rattle.std.specs.Prelude.{Result, Ok, Err, Vec, IfOk, IfErr, IsErrOf}
+use Rattle.sqlite.specs.Held.{Held, state}
+use Rattle.sqlite.specs.State.{HasCleanDisk}
+use Rattle.sqlite_trees.specs.View.{doubt}
+use Rattle.sqlite_trees.specs.declared.store.Store.{Ghosts}
+use Rattle.reg_calls.specs.Items.{items_of}
+use Rattle.reg_core.specs.Records.{Records}
+use Rattle.reg_core.specs.declared.command.Command.{Command}
+use Rattle.reg_core.specs.declared.command.Reply.{Reply}
+use Rattle.reg_core.specs.declared.memory.Memory.{Memory}
+use Rattle.reg_core.specs.declared.refusal.Fault.{Fault}
+use Rattle.reg_core.specs.declared.refusal.Fault.TheVariants.{Signer}
+use Rattle.reg_crl.specs.Signing.{Identity, signed_by}
+use Rattle.reg_laws.specs.Run.{Happens}
+use Rattle.reg_office.specs.Calls.{Signs, StandsFor, LeadsOver, Runs, Ocsps}
+use Rattle.reg_office.specs.Faults.{IsTableFault}
+use Rattle.reg_office.specs.Stands.{Stands, CameTo}
+use Rattle.reg_office.specs.Ocsp.{IsOcspReply}
+use Rattle.reg_office.proofs.Composing.{was_clean}
+
+-- The calls of an office: its store and who signs, before and after.
+module _ {C : Type 0} (g : Ghosts C) (signs : Signs) (old new : Held C) (who who' : Identity)
+    (clean : doubt (state g old).is_clean ≤ doubt (state g new).is_clean) (same : who' ≡ who) where
+  -- what stood for who signs stood for the identity
+  stood_for : (identity : Identity) (before : Records) → StandsFor g signs (old, who) identity before → Stands g signs old who before
+  stood_for identity before (is, stands) =
+      let P : Identity → Type 0 = λ v. Stands g signs old v before in
+      subst P (sym is) stands
+
+  -- a command
+  pub command_leads : (now : ℕ) (command : Command) (outcome : Result Reply Fault)
+      → ((records : Records) → Stands g signs old who records → HasCleanDisk (state g new) → CameTo g signs new who' records now command outcome)
+      → LeadsOver g signs (λ identity before after. Runs signs identity before now command outcome after) (old, who) (new, who')
+  command_leads now command outcome step = (
+    was_clean (state g old) (state g new) clean,
+    (λ identity before stood is_clean.
+        let came = step before (stood_for identity before stood) is_clean in
+        let is : who' ≡ identity = same ∙ stood.0 in
+        let P : Identity → Type 0 = λ v. Happens (signed_by signs v) before now command outcome came.after in
+        let Q : Identity → Type 0 = λ v. Stands g signs new v came.after in
+        (came.after, subst P is came.happens, (is, subst Q is came.stands))),
+  )
+
+  -- a call that leaves the records
+  pub answer_leads : (Answers : Records → Type 0)
+      → ((records : Records) → Stands g signs old who records → HasCleanDisk (state g new) → Answers records × Stands g signs new who' records)
+      → LeadsOver g signs (λ identity before after. Answers before × (after ≡ before)) (old, who) (new, who')
+  answer_leads Answers call = (
+    was_clean (state g old) (state g new) clean,
+    (λ identity before stood is_clean.
+        let (answered, stands) = call before (stood_for identity before stood) is_clean in
+        let is : who' ≡ identity = same ∙ stood.0 in
+        let Q : Identity → Type 0 = λ v. Stands g signs new v before in
+        (before, (answered, refl), (is, subst Q is stands))),
+  )
+
+  -- an OCSP request
+  pub ocsp_leads : {Z : Type 0} (now : ℕ) (request : List ℕ) (result : Result (Vec ℕ Z) Memory)
+      → ((records : Records) → Stands g signs old who records → HasCleanDisk (state g new) → IfOk result (λ answer. IsOcspReply signs who records now request answer.items))
+      → ((records : Records) → Stands g signs old who records → Stands g signs new who' records)
+      → LeadsOver g signs (λ identity before after. Ocsps signs identity before now request (items_of result) after) (old, who) (new, who')
+  ocsp_leads now request (Ok bytes) replied stays = (
+    was_clean (state g old) (state g new) clean,
+    (λ identity before stood is_clean.
+        let stands = stood_for identity before stood in
+        let is : who' ≡ identity = same ∙ stood.0 in
+        let P : Identity → Type 0 = λ v. IsOcspReply signs v before now request bytes.items in
+        let Q : Identity → Type 0 = λ v. Stands g signs new v before in
+        (before, (subst P stood.0 (replied before stands is_clean), refl), (is, subst Q is (stays before stands)))),
+  )
+  ocsp_leads now request (Err memory) replied stays = (
+    was_clean (state g old) (state g new) clean,
+    (λ identity before stood is_clean.
+        let is : who' ≡ identity = same ∙ stood.0 in
+        let Q : Identity → Type 0 = λ v. Stands g signs new v before in
+        (before, refl, (is, subst Q is (stays before (stood_for identity before stood))))),
+  )
+
+-- a fault of the tables is none of the signer
+pub table_fault : (outcome : Result Reply Fault) → IfErr outcome IsTableFault → ¬ (IsErrOf outcome Signer)
+table_fault outcome faults is =
+    let P : Result Reply Fault → Type 0 = λ o. IfErr o IsTableFault in
+    subst P is faults

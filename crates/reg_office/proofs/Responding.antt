@@ -1,0 +1,91 @@
+-- What an answer comes to, part by part.
+use Rattle.std.proofs.Common.{◌≡◌, ◌≢◌, ℕ, ◌+◌, ◌<◌, Bool, true, false, nat_le, List, [], ◌∷◌, ◌++◌, length, take, Option, Some, None, Ok, Err, refl, sym, ap, subst, ◌∙◌, arith}
+use Rattle.std.specs.List.{AllByRecursion, AllZip}
+use Rattle.std.specs.Prelude.{get_or}
+use Rattle.std.proofs.lemmas.Bool.Decides.{nat_tests}
+use Rattle.std.proofs.lemmas.List.{length-append, map_push, take_more}
+use Rattle.reg_core.specs.Checks.{clock_checks, clock_end, first_of_all}
+use Rattle.reg_core.specs.Decisions.{IsDecidedBy}
+use Rattle.reg_core.specs.Records.{Records}
+use Rattle.reg_core.specs.declared.command.Status.{Status}
+use Rattle.reg_core.specs.declared.refusal.Refusal.{Refusal}
+use Rattle.reg_der.specs.Der.{tlv, length_octets}
+use Rattle.reg_der.proofs.PublicLaws.{value_size}
+use Rattle.reg_ocsp.specs.declared.asked.CertId.{CertId}
+use Rattle.reg_ocsp.specs.declared.response.RefusalStatus.TheVariants.{Malformed, Internal, TryLater}
+use Rattle.reg_ocsp.specs.Response.{basic_response, enumerated, ocsp_response, refusal_response, response_bytes}
+use Rattle.reg_ocsp.specs.Views.{id_seen, ids_seen, answers_seen, answered}
+use Rattle.reg_office.specs.Ocsp.{IsAnswer, IsTold}
+
+-- each CertID is told what the records have
+abbrev pub AreTold : Records → ℕ → List (CertId × Status) → Type 0
+AreTold records now answers = AllByRecursion (λ answer. IsTold records now (id_seen answer.0) answer.1) answers
+
+pub told_push : (records : Records) (now : ℕ) (answers : List (CertId × Status)) (id : CertId) (status : Status)
+    → AreTold records now answers → IsTold records now (id_seen id) status → AreTold records now (answers ++ (id, status) ∷ [])
+told_push records now [] id status all told = (told, tt)
+told_push records now (answer ∷ answers) id status all told = (all.0, told_push records now answers id status all.1 told)
+
+-- one answer more is to one CertID more
+pub answered_push : (answers : List (CertId × Status)) (ids : List CertId) (n : ℕ) (default : CertId) (status : Status) → answered answers ≡ take n ids → n < length ids
+    → answered (answers ++ (get_or ids n default, status) ∷ []) ≡ take (n + 1) ids
+answered_push answers ids n default status front within =
+    map_push (λ (answer : CertId × Status). answer.0) answers (get_or ids n default, status)
+    ∙ ap (λ (xs : List CertId). xs ++ get_or ids n default ∷ []) front
+    ∙ sym (take_more ids n default within)
+
+each_told : (records : Records) (now : ℕ) (answers : List (CertId × Status)) → AreTold records now answers
+    → AllZip (IsAnswer records now) (ids_seen (answered answers)) (answers_seen answers)
+each_told records now [] all = tt
+each_told records now (answer ∷ answers) all = (record { repeated = refl; told = all.0 }, each_told records now answers all.1)
+
+-- the CertIDs that were asked, and their answers
+pub each_answer : (records : Records) (now : ℕ) (ids : List CertId) (answers : List (CertId × Status)) → answered answers ≡ ids → AreTold records now answers
+    → AllZip (IsAnswer records now) (ids_seen ids) (answers_seen answers)
+each_answer records now ids answers same all =
+    subst (λ (xs : List CertId). AllZip (IsAnswer records now) (ids_seen xs) (answers_seen answers)) same (each_told records now answers all)
+
+-- THE CLOCK
+
+pub taken : {A : Type 0} (refusal : Option Refusal) (P : A → Type 0) (x : A) → IsDecidedBy refusal P (Ok x) → refusal ≡ None
+taken None P x is = refl
+taken (Some refusal) P x is = absurd (let bad : ⊥ = cc in bad)
+
+pub refused : {A : Type 0} (refusal : Option Refusal) (P : A → Type 0) (with_it : Refusal) → IsDecidedBy refusal P (Err with_it) → refusal ≡ Some with_it
+refused None P with_it is = absurd is
+refused (Some refusal) P with_it is = let same : refusal ≡ with_it = cc in ap (λ (r : Refusal). Some r) same
+
+-- a moment that the clock takes is before its end
+pub in_range : (now last : ℕ) → first_of_all (clock_checks now last) ≡ None → now < clock_end
+in_range now last none = go (nat_le clock_end now) refl none
+  where
+    go : (late : Bool) → nat_le clock_end now ≡ late → first_of_all (clock_checks now last) ≡ None → now < clock_end
+    go true is none = absurd (let bad : ⊥ = cc in bad)
+    go false is none = grind (arith, nat_tests)
+
+-- THE BYTES
+
+-- a whole response is no refusal
+pub whole_apart : (signed algorithm signature : List ℕ) → ocsp_response signed algorithm signature ≢ refusal_response Malformed
+unfolding ocsp_response
+whole_apart signed algorithm signature same =
+    let bytes = response_bytes (basic_response signed algorithm signature) in
+    omega (
+      arith,
+      ap length same,
+      (value_size 0x30 (enumerated 0 ++ tlv 0xA0 bytes)).least,
+      length-append (enumerated 0) (tlv 0xA0 bytes),
+      (value_size 0x0A (0 ∷ [])).least,
+      (value_size 0xA0 bytes).least,
+      (value_size 0x0A (1 ∷ [])).short (omega arith),
+      (value_size 0x30 (enumerated 1)).short (omega (arith, (value_size 0x0A (1 ∷ [])).short (omega arith))),
+    )
+
+-- nor is one refusal another
+pub internal_apart : refusal_response Internal ≢ refusal_response Malformed
+unfolding tlv length_octets
+internal_apart same = let bad : 2 ≡ 1 = ap (λ (bytes : List ℕ). get_or bytes 4 0) same in omega (arith, bad)
+
+pub try_later_apart : refusal_response TryLater ≢ refusal_response Malformed
+unfolding tlv length_octets
+try_later_apart same = let bad : 3 ≡ 1 = ap (λ (bytes : List ℕ). get_or bytes 4 0) same in omega (arith, bad)

@@ -1,0 +1,6 @@
+use Rattle.reg_office.proofs.Leading.{ocsp_leads}
+use Rattle.reg_office.proofs.calls.OfficeCalls.ocsp.Goals as goal
+
+pub returns : goal.returns
+returns g c =
+    ocsp_leads g.C.Store g.S.Signer.signs _ _ _ _ c.ocsp.ensures.looked.survives.clean c.ocsp.ensures.same_identity c.args.now c.args.request.now c.ocsp.result c.ocsp.ensures.answered c.ocsp.ensures.stands

@@ -1,0 +1,50 @@
+//! The calls of an office over a store, as the faces make them: each is a step of the records that stand in it.
+
+use crate::office::Office;
+use reg_calls::Calls;
+use reg_core::{Command, Fault, Memory, Moment, Outcome, Query};
+use reg_crl::Signer;
+use sqlite::Alter;
+use std::alloc::Global;
+
+impl<C: Alter, S: Signer> Calls for Office<C, S> {
+    ghost use Rattle.std.specs.Prelude.{◌<◌, IsErrOf};
+    ghost use Rattle.reg_core.specs.declared.refusal.Fault.TheVariants.{Signer as SignerFailed};
+    ghost use Rattle.reg_office.specs.Calls.{LeadsOver, Runs, Asks, Ocsps, Crls};
+
+    /// A fault of the signer comes only where it counted a failure.
+    ghost runs = { λ s now command outcome t.
+        LeadsOver C.Store S.signs (λ identity before after. Runs S.signs identity before now command outcome after)
+        (s.store, S.identity s.signer) (t.store, S.identity t.signer)
+        × (IsErrOf outcome SignerFailed → S.failure_count s.signer < S.failure_count t.signer) };
+
+    /// Nothing is signed for a query, so no fault of the signer comes.
+    ghost asks = { λ s now query outcome t.
+        LeadsOver C.Store S.signs (λ identity before after. Asks before now query outcome after)
+        (s.store, S.identity s.signer) (t.store, S.identity t.signer)
+        × ¬ (IsErrOf outcome SignerFailed) };
+
+    ghost ocsps = { λ s now request given t.
+        LeadsOver C.Store S.signs (λ identity before after. Ocsps S.signs identity before now request given after)
+        (s.store, S.identity s.signer) (t.store, S.identity t.signer) };
+
+    ghost crls = { λ s number given t.
+        LeadsOver C.Store S.signs (λ identity before after. Crls before number given after)
+        (s.store, S.identity s.signer) (t.store, S.identity t.signer) };
+
+    fn run_one(&mut self, alloc: Global, now: Moment, command: &Command) -> Outcome {
+        self.run_one(alloc, now, command)
+    }
+
+    fn ask(&mut self, alloc: Global, now: Moment, query: &Query) -> Outcome {
+        self.ask(alloc, now, query)
+    }
+
+    fn ocsp(&mut self, alloc: Global, now: Moment, request: &[u8]) -> Result<Vec<u8>, Memory> {
+        self.ocsp(alloc, now, request)
+    }
+
+    fn crl_bytes(&mut self, alloc: Global, number: Option<u64>) -> Result<Vec<u8>, Fault> {
+        self.crl_bytes(alloc, number)
+    }
+}

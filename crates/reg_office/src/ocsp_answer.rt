@@ -1,0 +1,176 @@
+//! The answer to an OCSP request.
+
+ghost use Rattle.std.specs.Prelude.{◌≡◌, ◌≢◌, ◌+◌, ◌≤◌, ◌<◌, ◌^◌, ◌↔◌, ◌⊎◌, length, None, IfOk, IfErr, IsErrOf, IsSome, OnOk, option_copied};
+ghost use Rattle.sqlite.specs.Held.{state};
+ghost use Rattle.sqlite.specs.State.{HasCleanDisk};
+ghost use Rattle.reg_core.specs.Checks.{clock_checks, first_of_all};
+ghost use Rattle.reg_core.specs.Records.{Records};
+ghost use Rattle.reg_ocsp.specs.Request.{CanBeAnswered};
+ghost use Rattle.reg_ocsp.specs.Response.{refusal_response};
+ghost use Rattle.reg_ocsp.specs.declared.response.RefusalStatus.TheVariants.{Malformed, Internal};
+ghost use Rattle.reg_ocsp.specs.Views.{ids_seen};
+ghost use Rattle.reg_tables.specs.Shows.{Shows};
+ghost use Rattle.reg_tables.specs.Stays.{Looked};
+ghost use Rattle.reg_office.specs.Ocsp.{HasNoReading, IsOcspData, IsOcspReply, IsResponse, response_signed_by};
+
+use crate::ocsp_faults::ResponseFault;
+use crate::statuses::answers;
+use reg_core::{Memory, Moment, clock};
+use reg_crl::{SignFault, Signer};
+use reg_der::Issuer;
+use reg_ocsp::{AskFault, Asked, RefusalStatus, basic, read_request, refusal, response_data};
+use reg_store::Store;
+use sqlite::Alter;
+use std::alloc::Global;
+
+/// The whole OCSPResponse in DER (RFC 6960 4.2.1) to the bytes of a request, at a moment.
+///
+/// malformedRequest exactly where the bytes are no request (`reg_ocsp::read_request`). Else internalError, where the
+/// store or the signer fails; or tryLater exactly where `reg_core::clock` refuses the moment; or else the response that
+/// the signer signs: each CertID byte for byte, in the order asked, told `good` (an expired one too), `revoked` with
+/// time and reason, or `unknown`, from `now` on for the policy's `ocsp_life`, and the nonce.
+///
+/// It changes no table. Where the count of the signer's failures rises, the answer is internalError.
+///
+/// # Errors
+/// `Memory`, the only one, where memory could not be had.
+pub(crate) fn ocsp<C: Alter, S: Signer>(
+    alloc: Global,
+    store: &mut Store<C>,
+    signer: &mut S,
+    now: Moment,
+    request: &[u8],
+) -> Result<Vec<u8>, Memory>
+    ensures malformed { IfOk result (λ answer. (answer.items ≡ refusal_response Malformed) ↔ HasNoReading request.now) }
+    ensures answered { (records : Records) → Shows C.Store store.old records → HasCleanDisk (state C.Store store.new)
+        → IfOk result (λ answer. IsOcspReply S.signs (S.identity signer.old) records now request.now answer.items) }
+    ensures looked { Looked C.Store store.old store.new }
+    ensures same_identity { S.identity signer.new ≡ S.identity signer.old }
+    ensures failures { S.failure_count signer.old ≤ S.failure_count signer.new }
+    ensures failed { S.failure_count signer.old < S.failure_count signer.new → IfOk result (λ answer. answer.items ≡ refusal_response Internal) }
+{
+    let asked = match read_request(alloc, request) {
+        Ok(asked) => asked,
+        Err(AskFault::Malformed) => return refused(alloc, RefusalStatus::Malformed),
+        Err(AskFault::Memory) => return Err(Memory),
+    };
+    match response(alloc, store, signer, now, &asked) {
+        Ok(response) => Ok(response),
+        Err(ResponseFault::Clock) => refused(alloc, RefusalStatus::TryLater),
+        Err(ResponseFault::Memory) => Err(Memory),
+        Err(ResponseFault::Store) => refused(alloc, RefusalStatus::Internal),
+        Err(ResponseFault::Signer) => refused(alloc, RefusalStatus::Internal),
+    }
+}
+
+/// The bytes of a refusal.
+fn refused(alloc: Global, status: RefusalStatus) -> Result<Vec<u8>, Memory>
+    ensures { IfOk result (λ answer. answer.items ≡ refusal_response status) }
+{
+    Vec::from_slice(alloc, &refusal(status)).map_err(|_| Memory)
+}
+
+/// The signed response to what a request asks.
+fn response<C: Alter, S: Signer>(
+    alloc: Global,
+    store: &mut Store<C>,
+    signer: &mut S,
+    now: Moment,
+    asked: &Asked<'_>,
+) -> Result<Vec<u8>, ResponseFault>
+    requires { CanBeAnswered (ids_seen asked.now.ids.items) (option_copied asked.now.nonce) }
+    ensures found { (records : Records) → Shows C.Store store.old records → HasCleanDisk (state C.Store store.new)
+        → IfOk result (λ bytes. IsResponse S.signs (S.identity signer.old) records now (ids_seen asked.now.ids.items) (option_copied asked.now.nonce) bytes.items) }
+    ensures whole { IfOk result (λ bytes. bytes.items ≢ refusal_response Malformed) }
+    ensures timely { (records : Records) → Shows C.Store store.old records → HasCleanDisk (state C.Store store.new)
+        → OnOk result (first_of_all (clock_checks now records.last) ≡ None) }
+    ensures untimely { (records : Records) → Shows C.Store store.old records → HasCleanDisk (state C.Store store.new)
+        → IsErrOf result ResponseFault.Clock → IsSome (first_of_all (clock_checks now records.last)) }
+    ensures looked { Looked C.Store store.old store.new }
+    ensures same_identity { S.identity signer.new ≡ S.identity signer.old }
+    ensures device { IsErrOf result ResponseFault.Signer → S.failure_count signer.old < S.failure_count signer.new }
+    ensures steady { ¬ (IsErrOf result ResponseFault.Signer) → S.failure_count signer.new ≡ S.failure_count signer.old }
+{
+    let message = ocsp_data(alloc, store, now, asked)?;
+    signed(alloc, signer, &message)
+}
+
+/// The ResponseData to what a request asks.
+#[tactic(auto, using(reg_tables::proofs::Staying::looked_then))]
+fn ocsp_data<C: Alter>(
+    alloc: Global,
+    store: &mut Store<C>,
+    now: Moment,
+    asked: &Asked<'_>,
+) -> Result<Vec<u8>, ResponseFault>
+    requires { CanBeAnswered (ids_seen asked.now.ids.items) (option_copied asked.now.nonce) }
+    ensures found { (records : Records) → Shows C.Store store.old records → HasCleanDisk (state C.Store store.new)
+        → IfOk result (λ bytes. IsOcspData records now (ids_seen asked.now.ids.items) (option_copied asked.now.nonce) bytes.items) }
+    ensures bounded { IfOk result (λ bytes. length bytes.items ≤ 2 ^ 27) }
+    ensures timely { (records : Records) → Shows C.Store store.old records → HasCleanDisk (state C.Store store.new)
+        → OnOk result (first_of_all (clock_checks now records.last) ≡ None) }
+    ensures untimely { (records : Records) → Shows C.Store store.old records → HasCleanDisk (state C.Store store.new)
+        → IsErrOf result ResponseFault.Clock → IsSome (first_of_all (clock_checks now records.last)) }
+    ensures looked { Looked C.Store store.old store.new }
+    ensures faults { ¬ (IsErrOf result ResponseFault.Signer) }
+{
+    let (issuer, next) = responding(store, now)?;
+    data_at(alloc, store, &issuer, now, next, asked)
+}
+
+/// The ResponseData of an issuer to what a request asks, from a moment that the clock takes to the next update.
+fn data_at<C: Alter>(
+    alloc: Global,
+    store: &mut Store<C>,
+    issuer: &Issuer,
+    now: Moment,
+    next: Moment,
+    asked: &Asked<'_>,
+) -> Result<Vec<u8>, ResponseFault>
+    requires { CanBeAnswered (ids_seen asked.now.ids.items) (option_copied asked.now.nonce) }
+    ensures found { (records : Records) → Shows C.Store store.old records → HasCleanDisk (state C.Store store.new)
+        → issuer.now ≡ records.issuer → next ≡ now + records.policy.ocsp_life
+        → IfOk result (λ bytes. IsOcspData records now (ids_seen asked.now.ids.items) (option_copied asked.now.nonce) bytes.items) }
+    ensures bounded { IfOk result (λ bytes. length bytes.items ≤ 2 ^ 27) }
+    ensures looked { Looked C.Store store.old store.new }
+    ensures faults { IfErr result (λ fault. (fault ≡ ResponseFault.Memory) ⊎ (fault ≡ ResponseFault.Store)) }
+{
+    let answers = answers(alloc, store, issuer, now, &asked.ids)?;
+    Ok(response_data(alloc, issuer, now, next, &answers, asked.nonce)?)
+}
+
+/// The issuer, and the moment up to which an answer of this moment holds, where the clock takes this moment.
+fn responding<C: Alter>(
+    store: &mut Store<C>,
+    now: Moment,
+) -> Result<(Issuer, Moment), ResponseFault>
+    ensures found { (records : Records) → Shows C.Store store.old records → HasCleanDisk (state C.Store store.new)
+        → IfOk result (λ it. (it.0 ≡ records.issuer) × (it.1 ≡ now + records.policy.ocsp_life)) }
+    ensures timely { (records : Records) → Shows C.Store store.old records → HasCleanDisk (state C.Store store.new)
+        → OnOk result (first_of_all (clock_checks now records.last) ≡ None) }
+    ensures untimely { (records : Records) → Shows C.Store store.old records → HasCleanDisk (state C.Store store.new)
+        → IsErrOf result ResponseFault.Clock → IsSome (first_of_all (clock_checks now records.last)) }
+    ensures looked { Looked C.Store store.old store.new }
+    ensures faults { ¬ (IsErrOf result ResponseFault.Signer) }
+{
+    let (last, issuer, life) = store.responding()?;
+    clock(now, last)?;
+    Ok((issuer, now.plus(life)))
+}
+
+/// The whole response, signed.
+fn signed<S: Signer>(
+    alloc: Global,
+    signer: &mut S,
+    message: &[u8],
+) -> Result<Vec<u8>, ResponseFault>
+    requires { length message.now ≤ 2 ^ 27 }
+    ensures signed { IfOk result (λ bytes. response_signed_by S.signs (S.identity signer.old) message.now bytes.items) }
+    ensures same_identity { S.identity signer.new ≡ S.identity signer.old }
+    ensures device { IsErrOf result ResponseFault.Signer → S.failure_count signer.old < S.failure_count signer.new }
+    ensures steady { ¬ (IsErrOf result ResponseFault.Signer) → S.failure_count signer.new ≡ S.failure_count signer.old }
+    ensures faults { ¬ (IsErrOf result ResponseFault.Clock) }
+{
+    let signature = signer.sign(alloc, message)?;
+    Ok(basic(alloc, message, signer.algorithm(), &signature)?)
+}

@@ -1,0 +1,69 @@
+//! Why a request that was read gets no response.
+
+ghost use Rattle.std.specs.Prelude.{◌≡◌, ◌⊎◌};
+ghost use Rattle.reg_crl.specs.declared.signer.SignFault.TheVariants.{Device, Memory};
+ghost use Rattle.reg_office.specs.declared.ocsp_faults.ResponseFault.TheVariants as to;
+
+use reg_core::{Memory, Refusal};
+use reg_crl::SignFault;
+use reg_tables::StoreFault;
+use std::alloc::AllocError;
+
+/// Why a request that was read gets no response.
+#[derive(Clone, Copy, Debug, PartialEq, Eq)]
+pub(crate) enum ResponseFault {
+    /// The clock refuses the moment.
+    Clock,
+    /// Memory could not be had.
+    Memory,
+    /// The store failed, or holds what no register writes.
+    Store,
+    /// The signer failed.
+    Signer,
+}
+
+impl From<Refusal> for ResponseFault {
+    ghost from_gives = { λ _ fault. fault ≡ to.Clock };
+
+    fn from(_refusal: Refusal) -> ResponseFault {
+        ResponseFault::Clock
+    }
+}
+
+impl From<Memory> for ResponseFault {
+    ghost from_gives = { λ _ fault. fault ≡ to.Memory };
+
+    fn from(_memory: Memory) -> ResponseFault {
+        ResponseFault::Memory
+    }
+}
+
+impl From<AllocError> for ResponseFault {
+    ghost from_gives = { λ _ fault. fault ≡ to.Memory };
+
+    fn from(_error: AllocError) -> ResponseFault {
+        ResponseFault::Memory
+    }
+}
+
+impl From<StoreFault> for ResponseFault {
+    ghost from_gives = { λ _ fault. (fault ≡ to.Memory) ⊎ (fault ≡ to.Store) };
+
+    fn from(fault: StoreFault) -> ResponseFault {
+        match fault {
+            StoreFault::Memory => ResponseFault::Memory,
+            _ => ResponseFault::Store,
+        }
+    }
+}
+
+impl From<SignFault> for ResponseFault {
+    ghost from_gives = { λ cause fault. ((cause ≡ Device) × (fault ≡ to.Signer)) ⊎ ((cause ≡ Memory) × (fault ≡ to.Memory)) };
+
+    fn from(fault: SignFault) -> ResponseFault {
+        match fault {
+            SignFault::Device => ResponseFault::Signer,
+            SignFault::Memory => ResponseFault::Memory,
+        }
+    }
+}

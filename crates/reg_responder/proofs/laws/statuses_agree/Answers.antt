@@ -1,5 +1,0 @@
-use Rattle.reg_responder.proofs.Agreeing.{ocsp_agrees}
-use Rattle.reg_responder.proofs.laws.statuses_agree.Goals as goal
-
-pub returns : goal.returns
-returns c = ocsp_agrees

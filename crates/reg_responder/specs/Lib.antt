@@ -1,2 +1,0 @@
-pub mod Ocsp
-pub mod Agreement
