@@ -19,7 +19,7 @@ use Rattle.reg_tables.specs.Stays.{IsRegister, Stays}
 use Rattle.reg_auditing.specs.Complete.{ShowsSound}
 use Rattle.reg_auditing.specs.Stored.{IsSomeCrl}
 use Rattle.reg_verdict.specs.Presumed.{IsPresumed}
-use Rattle.reg_verdict.specs.Verdicts.{CountedBy, DeniedBy, IsSound}
+use Rattle.reg_verdict.specs.Verdicts.{CountedBy, DeniedBy, IsSound, TellsOf}
 use Rattle.reg_verdict.specs.declared.judging.Verdict.{Verdict}
 use Rattle.reg_crl.specs.Signing.{Identity}
 use Rattle.reg_program.specs.Signing.{Follows, IsSigning, Signing}
@@ -59,7 +59,8 @@ module _ {D : Type 0} {g : disk.Ghosts D} where
 -- whatever records they showed are sound, each CRL's bytes are those of what it lists, whatever its signature, and what is kept beside the
 -- records follows from them, and they are as many as was told; and there are such records, where what is presumed of the connection
 -- holds. Where a row was told, they showed no such records whose values are a register's; and where it was not told
--- for the bytes of a CRL, none whatever the bytes of CRLs are.
+-- for the bytes of a CRL, none whatever the bytes of CRLs are. That it is of an older version, or of other tables, is told where they
+-- say so.
 pub record IsAudited {D : Type 0} (g : disk.Ghosts D) (verdict : Verdict) : Type 0 where
   pub connection : Held (FileStore D g)
   pub after : Held (FileStore D g)
@@ -71,5 +72,6 @@ pub record IsAudited {D : Type 0} (g : disk.Ghosts D) (verdict : Verdict) : Type
       → CountedBy verdict records
   pub broken : (records : Records) (columns : Columns) → ShowsBoth over_files connection records columns → HasCleanDisk (file_state after)
       → DeniedBy verdict records columns
+  pub tells : HasCleanDisk (file_state after) → TellsOf verdict (file_state connection).now
   pub register : IsSound verdict → IsRegister (file_state after)
   pub stays : Stays (file_state connection) (file_state after)

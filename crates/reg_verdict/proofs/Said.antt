@@ -1,5 +1,6 @@
 -- What an audit's answer gives of the verdict that is said of it.
-use Rattle.std.proofs.Common.{◌≡◌, Result, Ok, Err, IfOk, IfErr, IsTrue, sym, subst, ◌∙◌, ap}
+use Rattle.std.proofs.Common.{◌≡◌, false, Some, None, is_some, Result, Ok, Err, IfOk, IfErr, IsTrue, sym, subst, ◌∙◌, ap}
+use Rattle.std.specs.Prelude.{Option}
 use Rattle.sqlite.specs.Effect.{Database}
 use Rattle.sqlite.specs.State.{State}
 use Rattle.reg_core.specs.Records.{Records}
@@ -12,6 +13,8 @@ use Rattle.reg_auditing.specs.declared.stop.AuditStop.{AuditStop}
 use Rattle.reg_auditing.specs.declared.stop.AuditStop.TheVariants as stop
 use Rattle.reg_auditing.specs.Numbers.{AreNumbersOf}
 use Rattle.reg_auditing.specs.Stops.{IsDenied}
+use Rattle.reg_opening.specs.Examined.{SaysFound}
+use Rattle.reg_opening.specs.declared.opening.Older.{Older}
 use Rattle.reg_verdict.specs.Verdicts.{CountedBy, DeniedBy, IsSound, verdict_of}
 use Rattle.reg_verdict.specs.declared.judging.Verdict.{Verdict}
 
@@ -57,3 +60,8 @@ counted_said records audited result is counted = subst (λ (r : Result Verdict S
 -- a schema that is a register's, where all is committed
 pub register_by : (s : State) → s.now.schema ≡ register_schema → (IsTrue s.is_open → s.now ≡ s.committed) → IsRegister s
 register_by s is saved = record { now = λ clean up. is; committed = λ clean up. ap (λ (db : Database). db.schema) (sym (saved up)) ∙ is }
+
+-- what was found, where it is none older, says the program's version and an office
+pub says_third : (db : Database) (found : Option Older) → is_some found ≡ false → SaysFound db found → SaysFound db None
+says_third db None none says = says
+says_third db (Some older) none says = absurd (let bad : ⊥ = cc in bad)

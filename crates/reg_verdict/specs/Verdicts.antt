@@ -1,16 +1,20 @@
 -- What an audit says of a register.
-use Rattle.std.specs.Prelude.{Result, Ok, Err}
+use Rattle.std.specs.Prelude.{◌≡◌, ◌≢◌, None, Some, Result, Ok, Err}
+use Rattle.sqlite.specs.Effect.{Database}
 use Rattle.reg_core.specs.Records.{Records}
 use Rattle.reg_tables.specs.Columns.{Columns}
+use Rattle.reg_tables.specs.Schema.{register_schema}
 use Rattle.reg_tables.specs.declared.fault.StoreFault.{StoreFault}
 use Rattle.reg_tables.specs.declared.fault.StoreFault.TheVariants as fault
+use Rattle.reg_opening.specs.Examined.{SaysFound}
+use Rattle.reg_opening.specs.declared.opening.Older.{Older as OlderOffice}
 use Rattle.reg_auditing.specs.declared.auditing.Audited.{Audited}
 use Rattle.reg_auditing.specs.Numbers.{AreNumbersOf}
 use Rattle.reg_auditing.specs.Stops.{Denies}
 use Rattle.reg_auditing.specs.declared.stop.AuditStop.{AuditStop}
 use Rattle.reg_auditing.specs.declared.stop.AuditStop.TheVariants as stop
 use Rattle.reg_verdict.specs.declared.judging.Verdict.{Verdict}
-use Rattle.reg_verdict.specs.declared.judging.Verdict.TheVariants.{Sound, Broken}
+use Rattle.reg_verdict.specs.declared.judging.Verdict.TheVariants.{Sound, Broken, Older, OtherSchema}
 
 -- rows that were found well, or one that was not; else why there is no verdict
 abbrev pub verdict_of : Result Audited AuditStop → Result Verdict StoreFault
@@ -33,3 +37,11 @@ CountedBy _ records = Unit {0}
 abbrev pub DeniedBy : Verdict → Records → Columns → Type 0
 DeniedBy (Broken row) records columns = Denies row records columns
 DeniedBy _ records columns = Unit {0}
+
+-- what an answer tells of the tables that were looked at: an older version and its office; or the program's version and an office,
+-- in tables that are not a register's, or that are, and whose rows were looked at
+abbrev pub TellsOf : Verdict → Database → Type 0
+TellsOf Older db = (office : OlderOffice) × SaysFound db (Some office)
+TellsOf OtherSchema db = SaysFound db None × (db.schema ≢ register_schema)
+TellsOf (Sound found) db = SaysFound db None × (db.schema ≡ register_schema)
+TellsOf (Broken row) db = SaysFound db None × (db.schema ≡ register_schema)

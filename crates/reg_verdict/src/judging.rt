@@ -1,18 +1,20 @@
 //! The audit of a database whose version is looked at first.
 
-ghost use Rattle.std.specs.Prelude.{◌≡◌, ◌≢◌, false, IfErr, IfOk, IsTrue};
+ghost use Rattle.std.specs.Prelude.{◌≡◌, ◌≢◌, ◌<◌, ℕ, false, IfErr, IfOk, IsTrue, Err};
 ghost use Rattle.sqlite.specs.Held.{state};
 ghost use Rattle.sqlite.specs.State.{HasCleanDisk};
 ghost use Rattle.reg_core.specs.Records.{Records};
 ghost use Rattle.reg_core.specs.Sound.{Sound};
 ghost use Rattle.reg_tables.specs.Columns.{Columns};
 ghost use Rattle.reg_tables.specs.Kept.{Kept};
+ghost use Rattle.reg_tables.specs.Schema.{register_schema};
 ghost use Rattle.reg_tables.specs.Shows.{ShowsBoth};
 ghost use Rattle.reg_tables.specs.Stays.{IsRegister, Stays};
+ghost use Rattle.reg_opening.specs.Said.{HasVersion, SaysNoRegister};
 ghost use Rattle.reg_auditing.specs.Complete.{ShowsSound};
 ghost use Rattle.reg_auditing.specs.Stored.{IsSomeCrl};
 ghost use Rattle.reg_verdict.specs.Presumed.{IsOverRegister, IsPresumed};
-ghost use Rattle.reg_verdict.specs.Verdicts.{CountedBy, DeniedBy, IsSound, verdict_of};
+ghost use Rattle.reg_verdict.specs.Verdicts.{CountedBy, DeniedBy, IsSound, TellsOf, verdict_of};
 
 use reg_audit::Broken;
 use reg_auditing::{AuditStop, Audited, Watch, audit};
@@ -50,7 +52,8 @@ fn said(audited: Result<Audited, AuditStop>) -> Result<Verdict, StoreFault>
 
 /// Whether a connection is in no transaction, and its schema is a register's.
 fn is_over_register<S: Alter>(conn: &Connection<S>) -> bool
-    ensures { IsTrue result → IsOverRegister S.Store conn.now }
+    ensures is { IsTrue result → IsOverRegister S.Store conn.now }
+    ensures other { conn.now.in_transaction ≡ false → result ≡ false → (state S.Store conn.now).now.schema ≢ register_schema }
 {
     if !conn.is_autocommit() {
         return false;
@@ -67,8 +70,8 @@ fn is_over_register<S: Alter>(conn: &Connection<S>) -> bool
 /// those of what it lists, whatever its signature, what is kept beside the records follows from them, and they are as many as is
 /// told; and there are such records, where the connection was open and what is presumed of it holds (`IsPresumed`). Where it is
 /// `Broken`, the tables show no such records, with what follows from them kept beside them, whose names, validities and
-/// reasonCodes are a register's; and, but for the bytes of a CRL, none whatever the bytes of CRLs are (`Denies`). The watch is
-/// told how far it is.
+/// reasonCodes are a register's; and, but for the bytes of a CRL, none whatever the bytes of CRLs are (`Denies`). `Older` and
+/// `OtherSchema` tell what the tables are (`TellsOf`). The watch is told how far it is.
 ///
 /// # Errors
 /// `NotARegister` and `NewVersion` as [`reg_opening::open`] has them; `Memory`; `Store` where the database fails.
@@ -86,6 +89,9 @@ pub fn judge<S: Alter, W: Watch>(
         → IfOk result (λ verdict. CountedBy verdict records) }
     ensures broken { (records : Records) → (columns : Columns) → ShowsBoth S.Store conn.old records columns → HasCleanDisk (state S.Store conn.new)
         → IfOk result (λ verdict. DeniedBy verdict records columns) }
+    ensures tells { HasCleanDisk (state S.Store conn.new) → IfOk result (λ verdict. TellsOf verdict (state S.Store conn.old).now) }
+    ensures newer { HasCleanDisk (state S.Store conn.new) → result ≡ Err StoreFault.NewVersion → (n : ℕ) × (3 < n) × HasVersion (state S.Store conn.old).now n }
+    ensures none { HasCleanDisk (state S.Store conn.new) → result ≡ Err StoreFault.NotARegister → SaysNoRegister (state S.Store conn.old).now }
     ensures register { IfOk result (λ verdict. IsSound verdict → IsRegister (state S.Store conn.new)) }
     ensures same { Stays (state S.Store conn.old) (state S.Store conn.new) }
     ensures idle { conn.new.in_transaction ≡ false }

@@ -12,6 +12,7 @@ returns-in-Ok-clause-ok c =
       shown = c.in-Ok.ensures.shown (λ clean. (found.opened clean).0.is_open);
       counted = c.in-Ok.ensures.counted;
       broken = c.in-Ok.ensures.broken;
+      tells = c.in-Ok.ensures.tells;
       register = c.in-Ok.ensures.register;
       stays = c.judge-told.ensures.same;
     }
