@@ -4,8 +4,11 @@ and memory allows, those with the longest chain of others behind them first. Tel
 done, and how long it took; a crate that fails ends it with that crate's messages. What is built already and has not changed is
 taken as it is.
 
+Those that take longest go first, by the seconds that each crate took when it was last measured (tools/build-times.txt), and by these it
+also tells how long is left: the longest chain that is not done, at the pace of what was done.
+
 Usage: tools/build.py [--times] [CRATE]        (CRATE is reg_desk if left out; --times prints each crate's seconds of
-the processor, and of the clock, at the end)
+the processor, and of the clock, at the end, and writes tools/build-times.txt where all was built anew)
 """
 import fcntl
 import os
@@ -14,6 +17,7 @@ import shutil
 import subprocess
 import sys
 import tempfile
+import threading
 import time
 from concurrent.futures import FIRST_COMPLETED, ThreadPoolExecutor, wait
 
@@ -22,15 +26,20 @@ RT = shutil.which("rt") or "/opt/rattle/bin/rt"
 # What one check may take, by what was seen; a second job of a check takes about half as much again.
 MEMORY_OF_A_CHECK = 3_000_000_000
 MOST_JOBS = 4
+TIMES = f"{TOP}/tools/build-times.txt"
+# A crate that was not measured: seconds of the clock for each of its lines.
+SECONDS_OF_A_LINE = 0.05
+# How often it is told how far the build is, in seconds.
+TELL_EVERY = 60
 
 
 class Crate:
     """A line of crates.txt: a crate, and the crates of this repository that it stands on."""
 
-    def __init__(self, line, name, uses):
+    def __init__(self, line, name, uses, seconds):
         self.line, self.name, self.uses = line, name, uses
         self.folder = f"{TOP}/crates/{name}"
-        self.lines = sum(text.count(b"\n") for text in sources(self.folder))
+        self.seconds = seconds or SECONDS_OF_A_LINE * sum(text.count(b"\n") for text in sources(self.folder))
 
     def is_program(self):
         return os.path.isfile(f"{self.folder}/src/main.rt")
@@ -44,13 +53,29 @@ def sources(folder):
                     yield file.read()
 
 
+def read_times():
+    """Returns the seconds of the clock that each crate took when it was last measured."""
+    try:
+        with open(TIMES, encoding="utf-8") as file:
+            return {name: float(seconds) for name, seconds in (row.split() for row in file if row.strip() and not row.startswith("#"))}
+    except FileNotFoundError:
+        return {}
+
+
+def write_times(took):
+    with open(TIMES, "w", encoding="utf-8") as file:
+        file.write("# Seconds of the clock of each crate, when all was last built anew by tools/build.py --times.\n")
+        file.writelines(f"{name} {built.seconds:.0f}\n" for name, built in sorted(took.items()))
+
+
 def read_crates():
     """Returns the crates by name, each after those that it stands on."""
+    times = read_times()
     with open(f"{TOP}/crates.txt", encoding="utf-8") as file:
         rows = [row.partition("#")[0].strip() for row in file]
     rows = [(row, re.match(r"(\w+)[^:]*:(.*)", row)) for row in rows if row]
     names = {words[1] for _, words in rows}
-    return {words[1]: Crate(row, words[1], [it for it in words[2].split() if it in names]) for row, words in rows}
+    return {words[1]: Crate(row, words[1], [it for it in words[2].split() if it in names], times.get(words[1])) for row, words in rows}
 
 
 def below(crates, name):
@@ -124,13 +149,47 @@ def in_words(seconds):
 
 
 def chains(crates, names):
-    """Returns for each crate how many lines the longest chain has that begins with it and waits for it."""
+    """Returns for each crate how many seconds the longest chain takes that begins with it and waits for it."""
     behind = dict.fromkeys(names, 0)
     for name in reversed(names):
-        behind[name] += crates[name].lines
+        behind[name] += crates[name].seconds
         for it in crates[name].uses:
             behind[it] = max(behind[it], behind[name])
     return behind
+
+
+class Progress:
+    """How far a build is: told each minute while it goes on."""
+
+    def __init__(self, crates, names, behind):
+        self.crates, self.names, self.behind = crates, names, behind
+        self.began, self.done, self.started, self.ended = time.monotonic(), {}, {}, threading.Event()
+
+    def pace(self):
+        """How many seconds one of the file's is here, by what was built; where that is little, one."""
+        told = [(built.seconds, self.crates[it].seconds) for it, built in self.done.items() if built.seconds > 5]
+        expected = sum(it for _, it in told)
+        return sum(it for it, _ in told) / expected if expected > 60 else 1.0
+
+    def left(self):
+        """The seconds that the longest chain takes which is not done."""
+        now, pace = time.monotonic(), self.pace()
+        running = dict(self.started)
+        waiting = [it for it in self.names if it not in self.done and it not in running]
+        chains = [pace * self.behind[it] for it in waiting]
+        chains += [max(pace * self.behind[it] - (now - at), pace * (self.behind[it] - self.crates[it].seconds)) for it, at in running.items()]
+        return max(chains, default=0)
+
+    def text(self):
+        running = ", ".join(sorted(self.started))
+        return (
+            f"{len(self.done)} of {len(self.names)} crates done in {in_words(time.monotonic() - self.began)}; at work on {running}; "
+            f"some {max(1, round(self.left() / 60))} min left"
+        )
+
+    def tell_on(self):
+        while not self.ended.wait(TELL_EVERY):
+            tell(self.text())
 
 
 def free_memory():
@@ -147,10 +206,13 @@ def room_for(jobs, running):
     return wanted + promised <= 0.85 * (free_memory() + promised / 2)
 
 
-def build(crates, names, started):
+def build(crates, names):
     """Builds these crates side by side, and returns how each one's build ended, or None where one failed."""
     lanes, behind = len(os.sched_getaffinity(0)), chains(crates, names)
-    left, running, took = sorted(names, key=lambda it: -behind[it]), {}, {}
+    left, running, progress = sorted(names, key=lambda it: -behind[it]), {}, Progress(crates, names, behind)
+    took = progress.done
+    teller = threading.Thread(target=progress.tell_on, daemon=True)
+    teller.start()
     with ThreadPoolExecutor(lanes) as pool:
         while left or running:
             ready = [it for it in left if all(other in took for other in crates[it].uses)]
@@ -166,15 +228,18 @@ def build(crates, names, started):
                     left.remove(name)
                     call = (build_program, crates[name]) if crates[name].is_program() else (build_library, crates, crates[name])
                     running[pool.submit(*call, jobs, is_first)] = name, jobs
+                    progress.started[name] = time.monotonic()
             for it in wait(running, return_when=FIRST_COMPLETED).done:
                 (name, _), built = running.pop(it), it.result()
+                del progress.started[name]
                 if built.status:
                     tell(f"{name} could not be built:\n{built.said}")
                     subprocess.run(["pkill", "-TERM", "-P", str(os.getpid())], check=False)
                     return None
                 took[name] = built
                 if built.seconds > 5:
-                    tell(f"{len(took)} of {len(names)} crates, {in_words(time.monotonic() - started)}: {name} proved and built in {in_words(built.seconds)}")
+                    tell(f"{name} proved and built in {in_words(built.seconds)}")
+    progress.ended.set()
     return took
 
 
@@ -189,13 +254,15 @@ def main():
     name, started = (words or ["reg_desk"])[0], time.monotonic()
     with open(f"{TOP}/crates.txt", encoding="utf-8") as held:
         fcntl.flock(held, fcntl.LOCK_EX)
-        took = build(crates, [*below(crates, name), name], started)
+        took = build(crates, [*below(crates, name), name])
     if took is None:
         raise SystemExit(126)
     if "--times" in sys.argv:
         for it, built in sorted(took.items(), key=lambda it: -it[1].processor):
             print(f"{built.processor:8.1f} {built.seconds:8.1f} {it}")
         print(f"{sum(it.processor for it in took.values()):8.1f} {time.monotonic() - started:8.1f} all")
+        if all(it.seconds > 5 for it in took.values()):
+            write_times(took)
     tell(f"{len(took)} crates built, {in_words(time.monotonic() - started)}")
 
 

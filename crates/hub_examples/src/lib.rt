@@ -1,5 +1,5 @@
-//! Examples of a hub: peers at all stages over loopback, deadlines by a clock of the tests, counters, and readers and writers
-//! that move a little, wait or fail.
+//! Examples of a hub that nothing outside can see: deadlines by a clock of the tests, few places, how many lines are told a turn,
+//! and readers and writers that move a little, wait or fail. All else is in tests/groups/peers.py.
 #![tactic(auto)]
 
 #[cfg(test)]

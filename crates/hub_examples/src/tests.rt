@@ -1,7 +1,6 @@
 //! The examples.
 
 mod counters;
-mod crowds;
 mod office;
 mod peers;
 mod pieces;

@@ -4,6 +4,3 @@
 mod cause;
 
 pub use cause::{Cause, of_database, of_io, of_opening, of_port};
-
-#[cfg(test)]
-mod tests;

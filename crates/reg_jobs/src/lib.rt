@@ -6,6 +6,3 @@ mod failure;
 
 pub use checks::{issuer_of, office_of, policy_of, schedule_of};
 pub use failure::{Failure, status_of};
-
-#[cfg(test)]
-mod tests;

@@ -3,5 +3,3 @@
 
 pub mod examples;
 pub mod laws;
-#[cfg(test)]
-mod tests;

@@ -4,6 +4,3 @@
 mod line;
 
 pub use line::{exchange_line, lost_line};
-
-#[cfg(test)]
-mod tests;

@@ -10,9 +10,6 @@ use sqlite::{Connection, Error, FileStore, Leftover, Options};
 use sqlite_disk::Crash;
 use std::alloc::Global;
 
-#[cfg(test)]
-mod tests;
-
 /// The machine stops: the files are closed as they are, each loses what was not synced, and they are opened again.
 ///
 /// The moment of the stop may lie in the middle of a call that was made: then the disk refused every call from that moment on,

@@ -1,11 +1,9 @@
 //! Connections that take and give in pieces, and fail at a call.
 
-use reg_signer::{Connection, Connector, DeviceFault, TimedStream, UnixLink};
-use std::alloc::AllocError;
+use reg_signer::{Connection, Connector, DeviceFault, TimedStream};
 use std::cell::{Cell, RefCell};
 use std::io;
 use std::io::{ErrorKind, Read, Write};
-use std::os::unix::net::UnixListener;
 use std::rc::Rc;
 use std::time::{Clock, Duration};
 
@@ -194,97 +192,4 @@ impl TimedStream for Slow {
         self.longest = self.longest.max(bytes.len());
         Ok(bytes.len())
     }
-}
-
-/// What a peer of the machine's answers at most.
-const SEVENS: [u8; 10_000] = [7; 10_000];
-
-/// Connects to a socket of the machine's, and does itself what its peer does once no more comes.
-#[derive(Drop)]
-pub(crate) struct OneProcess {
-    pub(crate) rt: HostRuntime,
-    pub(crate) listener: Rc<UnixListener>,
-    pub(crate) asked: Rc<RefCell<Vec<u8>>>,
-    pub(crate) answer: usize,
-}
-
-/// A connection to a socket of the machine's.
-#[derive(Drop)]
-pub(crate) struct OwnPeer {
-    link: UnixLink,
-    listener: Rc<UnixListener>,
-    asked: Rc<RefCell<Vec<u8>>>,
-    answer: usize,
-}
-
-impl Connector for OneProcess {
-    type Link = OwnPeer;
-
-    ghost connected = { λ path link. Unit {0} };
-
-    ghost unconnected = { λ path. Unit {0} };
-
-    fn connect(&self, path: &str) -> Result<OwnPeer, DeviceFault>
-        ensures { Unit {0} }
-    {
-        let link = self.rt.connect(path)?;
-        match self.shared() {
-            Ok((listener, asked)) => Ok(OwnPeer {
-                link,
-                listener,
-                asked,
-                answer: self.answer,
-            }),
-            Err(_) => Err(DeviceFault),
-        }
-    }
-}
-
-impl OneProcess {
-    /// What it shares with its connections.
-    fn shared(&self) -> Result<(Rc<UnixListener>, Rc<RefCell<Vec<u8>>>), AllocError> {
-        Ok((self.listener.clone()?, self.asked.clone()?))
-    }
-}
-
-impl Read for OwnPeer {
-    fn read(&mut self, buf: &mut [u8]) -> io::Result<usize> {
-        self.link.read(buf)
-    }
-}
-
-impl Write for OwnPeer {
-    fn write(&mut self, bytes: &[u8]) -> io::Result<usize> {
-        self.link.write(bytes)
-    }
-
-    fn flush(&mut self) -> io::Result<()> {
-        self.link.flush()
-    }
-}
-
-impl Connection for OwnPeer {
-    ghost finished = { λ link after. Unit {0} };
-
-    fn finish(&mut self) -> Result<(), DeviceFault>
-        ensures { Unit {0} }
-    {
-        self.link.finish()?;
-        let answer = &SEVENS[..self.answer.min(SEVENS.len())];
-        match answer_one(&self.listener, &self.asked, answer) {
-            Ok(()) => Ok(()),
-            Err(_) => Err(DeviceFault),
-        }
-    }
-}
-
-/// Takes a connection, reads it to its end, and answers it by one write, which a socket takes though nobody reads yet: the
-/// system counts some hundred bytes for each write, so many small ones would wait for a reader.
-fn answer_one(listener: &UnixListener, asked: &RefCell<Vec<u8>>, answer: &[u8]) -> io::Result<()> {
-    let (mut stream, _) = listener.accept()?;
-    let Ok(mut asked) = asked.try_borrow_mut() else {
-        return Err(io::Error::from(ErrorKind::Other));
-    };
-    stream.read_to_end(&mut asked)?;
-    stream.write_all(answer)
 }

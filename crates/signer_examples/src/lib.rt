@@ -1,11 +1,13 @@
-//! Tests alone, of reg_signer: the algorithms against what openssl writes, signers over devices and connections that fail,
-//! answer short, long, in pieces or late, and sockets of the machine.
+//! Tests alone, of what nothing outside can see: the forms of keys and signatures at their bounds, signers over devices and connections
+//! that fail at each call, answer short, long, in pieces or late by a clock of the tests; and the laws at a concrete signer.
 #![tactic(auto)]
 
 #[cfg(test)]
 mod connections;
 #[cfg(test)]
 mod devices;
+#[cfg(test)]
+mod laws;
 #[cfg(test)]
 mod tests;
 #[cfg(test)]

@@ -2,12 +2,9 @@
 
 ghost use Rattle.std.specs.Prelude.{◌≡◌, length, IfOk};
 
-use crate::connections::{Journal, Manner, OneProcess, Peer, Slow, Ticking};
+use crate::connections::{Journal, Manner, Peer, Slow, Ticking};
 use crate::devices::{Given, Scripted};
-use crate::vectors::{
-    ED25519_KEY, ED25519_SIGNATURE, P256_KEY, P256_SIGNATURE, P384_KEY, RSA_KEY, VECTORS, Vector,
-    bytes_of,
-};
+use crate::vectors::{ED25519_KEY, ED25519_SIGNATURE, RSA_KEY, VECTORS, Vector, bytes_of};
 use reg_crl::{SignFault, Signer};
 use reg_signer::{
     Algorithm, BadSigner, Device, DeviceFault, DeviceSigner, SocketDevice, read_in_time, time_left,
@@ -15,9 +12,7 @@ use reg_signer::{
 };
 use std::alloc::Global;
 use std::cell::{Cell, RefCell};
-use std::fs;
 use std::io::ErrorKind;
-use std::os::unix::net::UnixListener;
 use std::rc::Rc;
 use std::test::Fail;
 use std::time::{Duration, Instant};
@@ -570,114 +565,5 @@ fn a_write_is_handed_no_more_than_a_piece(rt: HostRuntime) -> Result<(), Fail> {
             "at {length}"
         );
     }
-    Ok(())
-}
-
-/// A device behind a socket of the machine's, whose peer answers so.
-fn one_process(
-    rt: &HostRuntime,
-    path: &str,
-    key: &str,
-    asked: &Rc<RefCell<Vec<u8>>>,
-    answer: usize,
-) -> Result<SocketDevice<OneProcess>, Fail> {
-    let _ = fs::remove_file(rt, path);
-    let connector = OneProcess {
-        rt: *rt,
-        listener: Rc::new(rt.alloc(), UnixListener::bind(rt, path)?)?,
-        asked: asked.clone()?,
-        answer,
-    };
-    Ok(SocketDevice::new(
-        connector,
-        String::from_str(rt.alloc(), path)?,
-        bytes_of(rt.alloc(), key)?,
-    ))
-}
-
-#[test]
-fn a_socket_of_the_machine_takes_a_message_and_gives_a_signature(
-    rt: HostRuntime,
-) -> Result<(), Fail> {
-    let path = "signer_examples.sign";
-    let asked = Rc::new(rt.alloc(), RefCell::new(Vec::new(rt.alloc())))?;
-    let device = one_process(&rt, path, ED25519_KEY, &asked, 64)?;
-    let mut signer = DeviceSigner::new(device, Algorithm::Ed25519)?;
-    for _ in 0..3 {
-        let told = ask(rt.alloc(), &mut signer, &LONG[..64]);
-        assert!(rt; told == (Ok(true), 0));
-    }
-    let message = match asked.try_borrow() {
-        Ok(asked) => {
-            asked.as_slice()
-                == b"the bytes to be signedthe bytes to be signedthe bytes to be signed".as_slice()
-        }
-        Err(_) => false,
-    };
-    assert!(rt; message);
-    fs::remove_file(&rt, path)?;
-    Ok(())
-}
-
-#[test]
-fn a_peer_that_closes_or_says_too_much_gives_no_signature(rt: HostRuntime) -> Result<(), Fail> {
-    let path = "signer_examples.other";
-    for answer in [0, 1, 63, 65, 4_096, 10_000] {
-        let asked = Rc::new(rt.alloc(), RefCell::new(Vec::new(rt.alloc())))?;
-        let device = one_process(&rt, path, ED25519_KEY, &asked, answer)?;
-        let mut signer = DeviceSigner::new(device, Algorithm::Ed25519)?;
-        let told = ask(rt.alloc(), &mut signer, &LONG[..64]);
-        assert!(rt; told == (Err(SignFault::Device), 1), "at {answer}");
-        fs::remove_file(&rt, path)?;
-    }
-    Ok(())
-}
-
-/// A signer at a path of the machine's.
-fn at_path(rt: &HostRuntime, path: &str) -> Result<DeviceSigner<SocketDevice<HostRuntime>>, Fail> {
-    let device = SocketDevice::new(
-        *rt,
-        String::from_str(rt.alloc(), path)?,
-        bytes_of(rt.alloc(), P256_KEY)?,
-    );
-    Ok(DeviceSigner::new(device, Algorithm::EcdsaSha256)?)
-}
-
-#[test]
-fn a_socket_that_nobody_listens_at_gives_no_signature(rt: HostRuntime) -> Result<(), Fail> {
-    let path = "signer_examples.gone";
-    let _ = fs::remove_file(&rt, path);
-    // No file; a file that is no socket; a socket that nobody listens at any more; no path.
-    let mut signer = at_path(&rt, path)?;
-    assert!(rt; ask(rt.alloc(), &mut signer, b"") == (Err(SignFault::Device), 1));
-    fs::write(&rt, path, "no socket")?;
-    assert!(rt; ask(rt.alloc(), &mut signer, b"") == (Err(SignFault::Device), 2));
-    fs::remove_file(&rt, path)?;
-    drop(UnixListener::bind(&rt, path)?);
-    assert!(rt; ask(rt.alloc(), &mut signer, b"") == (Err(SignFault::Device), 3));
-    fs::remove_file(&rt, path)?;
-    for path in ["", "nul\0", "no_such_folder/ca.sign"] {
-        let mut signer = at_path(&rt, path)?;
-        assert!(rt;
-            ask(rt.alloc(), &mut signer, b"") == (Err(SignFault::Device), 1),
-            "at {path:?}"
-        );
-    }
-    Ok(())
-}
-
-#[test]
-fn a_peer_that_says_nothing_is_waited_for_ten_seconds(rt: HostRuntime) -> Result<(), Fail> {
-    let path = "signer_examples.silent";
-    let _ = fs::remove_file(&rt, path);
-    let _listener = UnixListener::bind(&rt, path)?;
-    let mut signer = at_path(&rt, path)?;
-    let began = Instant::now(&rt)?;
-    let told = ask(rt.alloc(), &mut signer, b"");
-    let passed = began.elapsed(&rt)?;
-    assert!(rt; told == (Err(SignFault::Device), 1));
-    let ten = Duration::from_secs(9) < passed && passed < Duration::from_secs(20);
-    assert!(rt; ten, "{passed:?}");
-    fs::remove_file(&rt, path)?;
     Ok(())
 }

@@ -6,7 +6,7 @@ use std::alloc::{AllocError, Global};
 use std::cell::Cell;
 use std::fmt::Debug;
 use std::io::{ErrorKind, Read, Write};
-use std::net::{Ipv4Addr, Shutdown, SocketAddr, TcpStream};
+use std::net::{Ipv4Addr, SocketAddr, TcpStream};
 use std::os::unix::net::UnixStream;
 use std::test::Fail;
 use std::time::{Clock, Duration};
@@ -203,15 +203,6 @@ impl Office {
         Ok(())
     }
 
-    /// So many requests are served, by the clock of the machine.
-    pub(super) fn serve(&mut self, rt: &HostRuntime, most: u64) -> Result<(), Fail> {
-        if self.made <= most {
-            self.hub
-                .serve_all(rt, &mut self.echo, &mut self.made, most)?;
-        }
-        Ok(())
-    }
-
     /// Everybody is let go, and the counter's file goes.
     pub(super) fn finish(&mut self, rt: &HostRuntime) -> Result<(), Fail> {
         self.hub.finish(rt, &self.echo)?;
@@ -246,43 +237,6 @@ impl Office {
         Ok(())
     }
 
-    /// A peer sends this one byte at a time, with two turns behind each.
-    pub(super) fn drip(&mut self, at: usize, bytes: &[u8]) -> Result<(), Fail> {
-        for byte in bytes {
-            self.send(at, &[*byte])?;
-            self.turns(0, 2)?;
-        }
-        Ok(())
-    }
-
-    /// A silent peer comes, where the system has descriptors for it; whether it did.
-    pub(super) fn come_silent(&mut self, rt: &HostRuntime) -> Result<bool, Fail> {
-        match TcpStream::connect(rt, self.at) {
-            Ok(peer) => self.peers.push(peer)?,
-            Err(_) => return Ok(false),
-        }
-        Ok(true)
-    }
-
-    /// How many peers came and did not go.
-    pub(super) fn peers(&self) -> usize {
-        self.peers.len()
-    }
-
-    /// The newest peer sends no more.
-    pub(super) fn end(&self) -> Result<(), Fail> {
-        if let Some(peer) = self.peers.last() {
-            peer.shutdown(Shutdown::Write)?;
-        }
-        Ok(())
-    }
-
-    /// The newest peer goes.
-    pub(super) fn go(&mut self) -> Result<(), Fail> {
-        drop(self.peers.pop());
-        Ok(())
-    }
-
     /// What a peer gets up to its end, which comes within a second.
     pub(super) fn got(&self, at: usize) -> Result<Vec<u8>, Fail> {
         let mut got = Vec::new(self.echo.alloc);
@@ -291,17 +245,8 @@ impl Office {
         Ok(got)
     }
 
-    /// The first peer goes, once it has so many bytes; how many it got.
-    pub(super) fn take_all(&mut self, wanted: usize) -> Result<usize, Fail> {
-        if self.peers.is_empty() {
-            return Ok(0);
-        }
-        let peer = self.peers.remove(0);
-        self.count_to(peer, wanted)
-    }
-
     /// How many bytes come to somebody until so many are there, while the hub goes on.
-    fn count_to<R: Read + Drop>(&mut self, mut reader: R, wanted: usize) -> Result<usize, Fail> {
+    fn count_to(&mut self, mut reader: UnixStream, wanted: usize) -> Result<usize, Fail> {
         let mut room = [0u8; 50_000];
         let mut all = 0usize;
         for _ in 0..2_000 {
@@ -349,14 +294,6 @@ impl Office {
         let count = counter.read(got.as_mut_slice())?;
         got.truncate(count);
         Ok(got)
-    }
-
-    /// The first counter goes, and those behind it move up.
-    pub(super) fn close(&mut self) -> Result<(), Fail> {
-        if !self.counters.is_empty() {
-            drop(self.counters.remove(0));
-        }
-        Ok(())
     }
 
     /// The first counter goes, once it has so many bytes; how many it got.

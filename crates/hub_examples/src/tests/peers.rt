@@ -1,53 +1,13 @@
-//! Peers at the port.
+//! Peers at the port: what goes by the clock, by how many places there are, and by how much waits, of which a program
+//! outside sees the outcome and not the moment.
 
 use crate::tests::office::{ANSWER, LARGE, REQUEST};
 use crate::tests::steps::Step::{
-    self, Comes, Drips, Gets, Goes, Large, Opens, Sees, SeesLost, SeesRequest, Sends, Serves,
-    Takes, Turns,
+    self, Comes, Gets, Large, Sees, SeesLost, SeesRequest, Sends, Turns,
 };
 use crate::tests::steps::play;
 use reg_hub::Lost;
 use std::test::Fail;
-
-static OWN_ANSWERS: [Step; 18] = [
-    Comes(b"GET "),
-    Turns(0, 2),
-    Comes(b"GET "),
-    Turns(0, 2),
-    Comes(b"GET "),
-    Turns(0, 2),
-    Sends(0, b"/one"),
-    Sends(1, b"/two"),
-    Sends(2, b"/three"),
-    Sends(2, b" HTTP/1.1\r\n\r\n"),
-    Turns(0, 3),
-    Sends(1, b" HTTP/1.1\r\n\r\n"),
-    Sends(0, b" HTTP/1.1\r\n\r\n"),
-    Turns(0, 3),
-    Sees(3, 0),
-    Gets(0, b"answer GET /one HTTP/1.1\r\n\r\n"),
-    Gets(1, b"answer GET /two HTTP/1.1\r\n\r\n"),
-    Gets(2, b"answer GET /three HTTP/1.1\r\n\r\n"),
-];
-
-#[test]
-fn each_peer_gets_the_answer_to_its_own_request(rt: HostRuntime) -> Result<(), Fail> {
-    play(&rt, "hub_examples.own", 1_000, &OWN_ANSWERS)
-}
-
-static BYTES: [Step; 6] = [
-    Comes(b""),
-    Drips(0, b"GET /counts HTTP/1.1\r\n\r"),
-    Sees(0, 1),
-    Drips(0, b"\n"),
-    Sees(1, 0),
-    Gets(0, ANSWER),
-];
-
-#[test]
-fn one_byte_at_a_time_makes_a_request(rt: HostRuntime) -> Result<(), Fail> {
-    play(&rt, "hub_examples.bytes", 1_000, &BYTES)
-}
 
 static HALF: [Step; 10] = [
     Comes(b"GET /half"),
@@ -81,22 +41,6 @@ static UNREAD: [Step; 8] = [
 #[test]
 fn an_answer_has_30_seconds_to_be_taken(rt: HostRuntime) -> Result<(), Fail> {
     play(&rt, "hub_examples.unread", 1_000, &UNREAD)
-}
-
-static BROKEN_OFF: [Step; 8] = [
-    Large(12_000_000),
-    Comes(LARGE),
-    Turns(0, 6),
-    Sees(1, 1),
-    Goes,
-    Turns(0, 6),
-    Sees(1, 0),
-    SeesLost(true, Some(Lost::Broken)),
-];
-
-#[test]
-fn an_answer_is_lost_where_its_peer_breaks_off(rt: HostRuntime) -> Result<(), Fail> {
-    play(&rt, "hub_examples.broken", 1_000, &BROKEN_OFF)
 }
 
 static FOLLOWED: [Step; 9] = [
@@ -153,39 +97,6 @@ static ANSWERED_FIRST: [Step; 12] = [
 #[test]
 fn who_has_its_answer_is_let_go_before_the_oldest(rt: HostRuntime) -> Result<(), Fail> {
     play(&rt, "hub_examples.answered", 2, &ANSWERED_FIRST)
-}
-
-static SO_MANY: [Step; 8] = [
-    Comes(REQUEST),
-    Comes(REQUEST),
-    Comes(REQUEST),
-    Opens(b"line\n"),
-    Serves(2),
-    Sees(2, 0),
-    Gets(0, ANSWER),
-    Gets(1, ANSWER),
-];
-
-#[test]
-fn so_many_are_served_and_no_more(rt: HostRuntime) -> Result<(), Fail> {
-    play(&rt, "hub_examples.many", 1_000, &SO_MANY)
-}
-
-static TAKEN: [Step; 9] = [
-    Large(12_000_000),
-    Comes(LARGE),
-    Turns(0, 20),
-    Sees(1, 1),
-    Comes(REQUEST),
-    Turns(0, 3),
-    Gets(1, ANSWER),
-    Takes(12_000_030),
-    Sees(2, 0),
-];
-
-#[test]
-fn a_large_answer_is_sent_as_its_peer_takes_it(rt: HostRuntime) -> Result<(), Fail> {
-    play(&rt, "hub_examples.taken", 1_000, &TAKEN)
 }
 
 /// The second answer fits beside the first; the third, which is too long alone, makes both go.

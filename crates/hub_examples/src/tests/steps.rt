@@ -10,16 +10,8 @@ pub(super) enum Step {
     Comes(&'static [u8]),
     /// A peer sends this.
     Sends(usize, &'static [u8]),
-    /// A peer sends this one byte at a time, with two turns behind each.
-    Drips(usize, &'static [u8]),
-    /// The newest peer sends no more.
-    Ends,
-    /// The newest peer goes.
-    Goes,
     /// A peer gets this, and then its end.
     Gets(usize, &'static [u8]),
-    /// The first peer takes so many bytes, while the hub goes on, and goes.
-    Takes(usize),
     /// A counter comes and sends this.
     Opens(&'static [u8]),
     /// A counter sends this.
@@ -28,12 +20,8 @@ pub(super) enum Step {
     Hears(usize, &'static [u8]),
     /// The first counter takes so many bytes, while the hub goes on, and goes.
     TakesReplies(usize),
-    /// The first counter goes.
-    Closes,
     /// Turns at this moment in milliseconds, so many.
     Turns(u64, usize),
-    /// So many requests are served, by the clock of the machine.
-    Serves(u64),
     /// From now on a large answer has so many bytes more.
     Large(usize),
     /// So many requests were answered, and so many peers are there.
@@ -54,16 +42,10 @@ pub(super) fn play(
     steps: &[Step],
 ) -> Result<(), Fail> {
     let mut office = office_of(rt, path, places)?;
-    go_on(rt, &mut office, steps)?;
-    office.finish(rt)
-}
-
-/// Goes through some steps.
-pub(super) fn go_on(rt: &HostRuntime, office: &mut Office, steps: &[Step]) -> Result<(), Fail> {
     for (at, step) in steps.iter().enumerate() {
-        take(rt, office, at, step)?;
+        take(rt, &mut office, at, step)?;
     }
-    Ok(())
+    office.finish(rt)
 }
 
 /// Takes one step of this number.
@@ -71,14 +53,9 @@ fn take(rt: &HostRuntime, office: &mut Office, at: usize, step: &Step) -> Result
     match step {
         Step::Comes(bytes) => office.come(rt, bytes),
         Step::Sends(peer, bytes) => office.send(*peer, bytes),
-        Step::Drips(peer, bytes) => office.drip(*peer, bytes),
-        Step::Ends => office.end(),
-        Step::Goes => office.go(),
         Step::Opens(bytes) => office.open(rt, bytes),
         Step::Tells(counter, bytes) => office.tell(*counter, bytes),
-        Step::Closes => office.close(),
         Step::Turns(millis, count) => office.turns(*millis, *count),
-        Step::Serves(most) => office.serve(rt, *most),
         Step::Large(more) => office.set_more(*more),
         seen => look(office, at, seen),
     }
@@ -95,7 +72,6 @@ fn look(office: &mut Office, at: usize, step: &Step) -> Result<(), Fail> {
                 wanted,
             )
         }
-        Step::Takes(wanted) => same(at, &office.take_all(*wanted)?, wanted),
         Step::TakesReplies(wanted) => same(at, &office.hear_all(*wanted)?, wanted),
         Step::Sees(made, callers) => same(at, &office.seen(), &(*made, *callers)),
         Step::SeesLines(lines) => same(at, &office.lines(), lines),

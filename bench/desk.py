@@ -1,0 +1,117 @@
+#!/usr/bin/env python3
+"""Measures the built program from outside, over registers in files of any size: opening, and each kind of line, in microseconds a line (a script of so many lines,
+less the opening), with the peak of its memory; and a CRL of so many entries. It prints tables as docs/PERFORMANCE.md has them.
+
+Usage: bench/desk.py [NUMBER OF CERTIFICATES ..]     (1000 10000 100000 where none is given; DESK names another program)
+The files lie in the folder that DESK_BENCH_FOLDER names, or else in that of temporary files; /dev/shm has them in memory.
+"""
+import os
+import resource
+import shutil
+import subprocess
+import sys
+import tempfile
+import time
+
+TOP = os.path.dirname(os.path.dirname(os.path.abspath(__file__)))
+DESK = os.path.abspath(os.environ.get("DESK", f"{TOP}/crates/reg_desk/out/reg_desk"))
+NAME, KEY = "300D310B300906035504030C024341", "616263"
+DAY, END = "2026-01-01T00:00:00Z", "2026-12-31T23:59:59Z"
+LINES, ROUNDS = 2_000, 3
+# A fifth of the certificates are revoked.
+REVOKED = 5
+
+
+def serial(place):
+    """A serial number of 20 octets, spread as a CA draws them."""
+    return f"40000000{place * 0x9E37_79B9_7F4A_7C15 % 2**64:016x}{0:016x}"
+
+
+def script(path, lines):
+    """The seconds of a script over a register's file, and its last reply."""
+    began = time.perf_counter()
+    ran = subprocess.run([DESK, "script", path], input="".join(f"{DAY} {it}\n" for it in lines), capture_output=True, text=True, check=True)
+    took = time.perf_counter() - began
+    told = ran.stdout.splitlines()
+    wrong = [it for it in told if it[0] in "EF"]
+    if wrong:
+        raise SystemExit(f"bench/desk.py: {wrong[0]}")
+    return took, told[-1] if told else ""
+
+
+def make(path, size):
+    """A register with so many certificates, an order each, a fifth of them revoked, and a CRL."""
+    subprocess.run([DESK, "init", path, "--name", NAME, "--key", KEY], check=True, stdout=subprocess.DEVNULL)
+    script(path, ["subscriber acme"])
+    for first in range(1, size + 1, 100_000):
+        places = range(first, min(first + 100_000, size + 1))
+        script(path, [line for at in places for line in ("order 1 398", f"register {at} {serial(at)} {DAY} {END}")])
+    gone = range(1, size + 1, REVOKED)
+    script(path, [line for request, at in enumerate(gone, 1) for line in (f"request {serial(at)} superseded", f"revoke {request}")])
+    script(path, ["crl"])
+    return len(gone)
+
+
+def kinds(size, requests):
+    """The lines of each kind, each of which does the same work; those that enter something, with what comes before them."""
+    good = [at for at in range(1, size + 1) if at % REVOKED != 1]
+    spread = [good[it * 7_919 % len(good)] for it in range(LINES)]
+    some = [good[it * len(good) // min(LINES, len(good))] for it in range(min(LINES, len(good)))]
+    new = range(size + 1, size + 1 + LINES)
+    return {
+        "`status`": ([], [f"status {serial(it)}" for it in spread]),
+        "`listing`": ([], [f"listing {serial(it)}" for it in spread]),
+        "`counts`": ([], ["counts"] * LINES),
+        "`order`": ([], ["order 1 398"] * LINES),
+        "`register`": (["order 1 398"] * LINES, [f"register {it} {serial(it)} {DAY} {END}" for it in new]),
+        "`request`": ([], [f"request {serial(it)} asked" for it in some]),
+        "`revoke`": ([f"request {serial(it)} asked" for it in some], [f"revoke {requests + it}" for it in range(1, len(some) + 1)]),
+        "`next-crl`": ([], ["next-crl"] * 200),
+        "`overdue`": ([], ["overdue"] * 20),
+        "`crl`": ([], ["crl"] * 20),
+    }
+
+
+def copied(path, folder):
+    other = f"{folder}/copy.db"
+    for end in ("", "-wal"):
+        if os.path.exists(path + end):
+            shutil.copyfile(path + end, other + end)
+    return other
+
+
+def measured(path, folder, before, lines):
+    """The least microseconds of a line, over copies of the register."""
+    took = []
+    for _ in range(ROUNDS):
+        other = copied(path, folder)
+        if before:
+            script(other, before)
+        opening = min(script(other, [])[0] for _ in range(2))
+        took.append((script(other, lines)[0] - opening) / len(lines) * 1e6)
+    return max(0.0, min(took))
+
+
+def main():
+    sizes = [int(it) for it in sys.argv[1:]] or [1_000, 10_000, 100_000]
+    found, peaks = {}, []
+    with tempfile.TemporaryDirectory(prefix="desk-bench-", dir=os.environ.get("DESK_BENCH_FOLDER")) as folder:
+        for size in sizes:
+            path = f"{folder}/{size}.db"
+            requests = make(path, size)
+            found.setdefault("opening, ms", []).append(min(script(path, [])[0] for _ in range(ROUNDS)) * 1e3)
+            for kind, (before, lines) in kinds(size, requests).items():
+                found.setdefault(kind, []).append(measured(path, folder, before, lines))
+            der = subprocess.run([DESK, "crl", path], capture_output=True, check=True).stdout
+            found.setdefault("bytes of the CRL", []).append(len(der))
+            peaks.append(resource.getrusage(resource.RUSAGE_CHILDREN).ru_maxrss / 1024)
+            os.remove(path)
+    print("| Microseconds a line | " + " | ".join(f"{it:,}" for it in sizes) + " |")
+    print("|---|" + "---|" * len(sizes))
+    for kind, row in found.items():
+        print(f"| {kind} | " + " | ".join(f"{it:,.0f}" if it >= 10 else f"{it:.1f}" for it in row) + " |")
+    print("| peak memory so far, MiB | " + " | ".join(f"{it:.0f}" for it in peaks) + " |")
+
+
+if __name__ == "__main__":
+    main()

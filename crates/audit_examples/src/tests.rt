@@ -1,4 +1,0 @@
-mod bytes;
-mod register;
-mod told;
-mod verdicts;

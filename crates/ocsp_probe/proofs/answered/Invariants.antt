@@ -1,6 +1,0 @@
-use Rattle.std.proofs.Common.{◌≡◌, take}
-use Rattle.reg_ocsp.specs.Views.{answered}
-use Rattle.ocsp_probe.proofs.answered.Given as goal
-
-abbrev pub invariant-loop-id : goal.invariant-loop-id
-invariant-loop-id l = answered l.answers.items ≡ take l.id-index l.ids

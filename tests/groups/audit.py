@@ -1,0 +1,228 @@
+"""`desk audit`: a sound register is found sound; a copy that is broken by one statement is told by its table and row, with status 1; an audit changes no byte of the file."""
+
+import sqlite3
+from functools import cache
+
+from lib import program, registers
+from lib.trial import each, test
+
+NAME = "300C310A300806035504030C0154"
+KEY = "0102"
+FIRST_DAY = (program.TOP / "examples/first-day.txt").read_text()
+TABLES = ("cert", "request", "revocation", "standing", "listed")
+# A serial number of one byte, in each table that has it.
+RENAMED = "; ".join(f"UPDATE {table} SET serial = x'05'" for table in TABLES)
+# What is told of a row that its rowid does not count.
+MOVED = "its number is not one more than that before it"
+
+# What is done to the register of a first day, and what is told of the file.
+BROKEN = {
+    "a letter": ("UPDATE standing SET state = 'G' WHERE rowid = 1", "standing 1"),
+    "a letter that is none": ("UPDATE standing SET state = 'Q' WHERE rowid = 1", "standing 1"),
+    "a letter that is missing": ("DELETE FROM standing", "standing 1"),
+    "the counts": ("UPDATE kept SET n_good = n_good + 1", "kept 1"),
+    "no counts": ("DELETE FROM kept", "kept"),
+    "a last listing that is not yet": ("UPDATE listed SET last_listed = 2", "listed 1"),
+    "what a CRL lists": ("UPDATE listed SET reason = 4", "listed 1"),
+    "a listing that is missing": ("DELETE FROM listed", "listed 1"),
+    "a revocation before its request": ("UPDATE revocation SET at = at - 86400", "revocation 1"),
+    "a revocation after the last moment": ("UPDATE revocation SET at = at + 86400", "revocation 1"),
+    "a first CRL that is not issued": ("UPDATE revocation SET first_crl = 9", "revocation 1"),
+    "a CRL before the first that lists": ("UPDATE revocation SET first_crl = 1", "revocation 1"),
+    "a CRL number out of order": ("UPDATE crl SET number = 7 WHERE number = 2", "crl 2"),
+    "a CRL before the previous": ("UPDATE crl SET this_update = this_update - 86400 WHERE number = 2", "crl 2"),
+    "a serial number that is none": (RENAMED, "cert 1"),
+    "a subscriber's id that is left out": ("UPDATE subscriber SET id = 2; UPDATE orders SET subscriber = 2", "subscriber 1"),
+    "an order's id that is left out": ("UPDATE orders SET id = 2; UPDATE cert SET order_id = 2", "orders 1"),
+    "a name that is none": ("UPDATE subscriber SET name = ''", "subscriber 1"),
+    "a ground that is none": ("UPDATE request SET ground = 12", "request 1"),
+    "a request after the last moment": ("UPDATE request SET received = received + 864000", "request 1"),
+    "a moment below 0": ("UPDATE cert SET not_after = -1", "cert 1"),
+    "more rows than the cap": ("UPDATE office SET cap = 1", "crl 2"),
+    "a request that is half declined": ("UPDATE request SET declined = 2", "request 1"),
+    "a reason that was not listed": ("UPDATE revocation SET reason = 2", "listed 1"),
+    "another end of a certificate": ("UPDATE cert SET not_after = not_after + 86400", "standing 1"),
+    "another end beside a letter": ("UPDATE standing SET not_after = not_after + 1", "standing 1"),
+    "another end of what is listed": ("UPDATE listed SET not_after = not_after + 1", "listed 1"),
+    "a certificate's rowid that was moved": ("UPDATE cert SET rowid = 9 WHERE rowid = 1", f"cert 1: {MOVED}"),
+    "a revocation's rowid that was moved": ("UPDATE revocation SET rowid = 9 WHERE rowid = 1", f"revocation 1: {MOVED}"),
+    "a letter's rowid that was moved": ("UPDATE standing SET rowid = 9 WHERE rowid = 1", f"standing 1: {MOVED}"),
+    "a listing's rowid that was moved": ("UPDATE listed SET rowid = 9 WHERE rowid = 1", f"listed 1: {MOVED}"),
+    "another issuer": (f"UPDATE office SET name = x'{NAME[:-2]}55'", "crl 1"),
+    "another key of the issuer": ("UPDATE office SET pubkey = x'0103'", "crl 1"),
+    "another life of CRLs": ("UPDATE office SET crl_life = crl_life - 1", "crl 1"),
+    "another table": ("CREATE TABLE t (a)", "schema: "),
+    "a view": ("CREATE VIEW v AS SELECT 1", "schema: "),
+    "a trigger": ("CREATE TRIGGER t AFTER DELETE ON crl BEGIN DELETE FROM crl; END", "schema: "),
+    "an index that is missing": ("DROP INDEX standing_due", "schema: "),
+    "a column besides": ("ALTER TABLE crl ADD COLUMN note TEXT", "schema: "),
+    "a column of another name": ("ALTER TABLE subscriber RENAME COLUMN name TO label", "schema: "),
+}
+# What no command opens: a row that refers to none, or breaks a CHECK.
+DAMAGED = {
+    "a certificate whose order is missing": "DELETE FROM orders",
+    "an order whose subscriber is missing": "DELETE FROM subscriber",
+    "a request for another serial number": "UPDATE request SET serial = x'07'",
+    "a letter of another serial number": "UPDATE standing SET serial = x'07'",
+    "a revocation on another request": "UPDATE revocation SET request = 2",
+    "a second row of counts": "PRAGMA ignore_check_constraints = 1; UPDATE kept SET one = 2",
+}
+# What a command that opens a file tells of the office and the schedule.
+NO_OFFICE = {
+    "a cap of 0": "UPDATE office SET cap = 0",
+    "an empty key": "UPDATE office SET pubkey = x''",
+    "a Name that is none": "UPDATE office SET name = x'00'",
+    "a schedule that begins later": "UPDATE longest SET from_at = 5",
+    "no office": "DELETE FROM office",
+}
+
+
+@cache
+def days():
+    """The lines of a script of three months: certificates that end, and some that are revoked before; some lines are refused."""
+    lines = ["2026-01-01T08:00:00Z subscriber acme", "2026-01-01T08:00:00Z subscriber globex"]
+    for order in range(1, 41):
+        lines.append(f"2026-01-01T09:00:00Z order {1 + order % 2} 90")
+    for order in range(1, 41):
+        lines.append(f"2026-01-02T09:00:00Z register {order} {order:02X} 2026-01-02T00:00:00Z 2026-{1 + order % 3:02}-{5 + order % 20:02}T00:00:00Z")
+    request = 0
+    for month, day in ((1, 3), (1, 4), (1, 20), (2, 2), (2, 20), (3, 1)):
+        for serial in range(day, 41, 9):
+            lines.append(f"2026-{month:02}-{day:02}T10:00:00Z request {serial:02X} key-compromise")
+        lines.append(f"2026-{month:02}-{day:02}T11:00:00Z crl")
+        for request in range(request + 1, request + 4):
+            word = "decline" if request % 7 == 0 else "revoke"
+            lines.append(f"2026-{month:02}-{day:02}T12:00:00Z {word} {request}")
+    return "".join(f"{it}\n" for it in (*lines, "2026-03-03T11:00:00Z crl", "2026-03-20T11:00:00Z crl"))
+
+
+def made(t, lines, file="ca.db"):
+    """A register with an issuer of its own, after a script of which some lines may be refused."""
+    t.register(file, name=NAME, key=KEY)
+    t.same(t.desk("script", file, given=lines).status, 0, "the script")
+    return file
+
+
+def alter(t, statements, file="ca.db"):
+    """Statements over the closed register, without the tests of foreign keys."""
+    t.note(f"sql {file} {statements}")
+    with sqlite3.connect(t.room / file) as db:
+        db.executescript("PRAGMA foreign_keys = OFF;" + statements)
+    db.close()
+
+
+def audited(t, file="ca.db", *words):
+    """The exit status, what was printed and what was told; no byte of the file is another afterwards."""
+    before = (t.room / file).read_bytes()
+    ran = t.desk("audit", file, *words)
+    t.true((t.room / file).read_bytes() == before, "the audit changed the file")
+    return ran.status, ran.out.decode(), ran.err.decode()
+
+
+def sound(t, file="ca.db"):
+    counts = [t.sql(file, f"SELECT count(*) FROM {table}")[0][0] for table in ("cert", "revocation", "crl")]
+    return "sound, {} certificates, {} revoked, {} CRLs\n".format(*counts)
+
+
+@each({"a first day": FIRST_DAY, "three months": None})
+def a_sound_register_is_found_sound(t, lines):
+    made(t, lines or days())
+    t.same(audited(t), (0, sound(t), ""))
+
+
+@each(BROKEN)
+def a_broken_row_is_told(t, statements, row):
+    made(t, FIRST_DAY)
+    alter(t, statements)
+    status, printed, told = audited(t)
+    t.same((status, told), (1, "broken\n"))
+    t.true(printed.startswith(f"broken: {row}") and printed.count("\n") == 1, f"{printed!r} does not name {row}")
+
+
+@each(DAMAGED)
+def what_refers_to_none_or_breaks_a_check_is_damaged(t, statements):
+    made(t, FIRST_DAY)
+    alter(t, statements)
+    t.same(audited(t, "ca.db", "--why"), (1, "", "F2 store\n  damaged\n"))
+
+
+@each(NO_OFFICE)
+def an_office_out_of_its_ranges_is_no_register(t, statements):
+    made(t, FIRST_DAY)
+    alter(t, statements)
+    t.same(audited(t), (1, "", "not-a-register\n"))
+
+
+def values(der, start, end):
+    """Where the values in DER stand (X.690 8.1): the tag's place, that of the contents, and the end of each."""
+    while start < end:
+        size, contents = der[start + 1], start + 2
+        if size >= 128:
+            contents += size - 128
+            size = int.from_bytes(der[start + 2 : contents], "big")
+        yield start, contents, contents + size
+        start = contents + size
+
+
+def parts(der):
+    """The parts of a CRL with an entry, each with the place of an octet in it; the signature is the last."""
+    ((_, list_at, list_end),) = values(der, 0, len(der))
+    (_, tbs_at, tbs_end), (_, _, algorithm), (bits, _, signature) = values(der, list_at, list_end)
+    (_, _, version), (_, _, signed), (_, _, name), (_, _, this_update), (_, _, next_update), revoked, (_, _, number) = values(der, tbs_at, tbs_end)
+    _, entry_at, entry_end = next(values(der, revoked[1], revoked[2]))
+    (_, _, serial), (_, _, date), (_, _, reason) = values(der, entry_at, entry_end)
+    return {
+        "list's length": list_at - 1,
+        "tbsCertList's length": tbs_at - 1,
+        "version": version - 1,
+        "algorithm that is signed": signed - 1,
+        "issuer's name": name - 1,
+        "thisUpdate": this_update - 2,
+        "nextUpdate": next_update - 2,
+        "first serial number": serial - 1,
+        "first revocationDate": date - 2,
+        "first reason code": reason - 1,
+        "key identifier": der.index(b"\x55\x1d\x23") + 12,
+        "CRL number": number - 1,
+        "signatureAlgorithm": algorithm - 1,
+        "count of unused bits": bits + 2,
+        "signature": signature - 1,
+    }
+
+
+@each({"CRL 2 of a first day": (FIRST_DAY, 2), "CRL 5 of three months": (None, 5)}, seconds=3)
+def a_bit_of_a_crl_s_bytes_is_told(t, lines, number):
+    made(t, lines or days())
+    der, before = (t.sql("ca.db", "SELECT der FROM crl WHERE number = ?", it)[0][0] for it in (number, number - 1))
+    breaks = {"no bytes": b"", "bytes of the CRL before": before, "bytes that end before": der[:-1], "a byte more": der + b"\0"}
+    for what, place in parts(der).items():
+        breaks[f"a bit of the {what}"] = der[:place] + bytes([der[place] ^ 1]) + der[place + 1 :]
+    # Another signature is as good: an audit does not verify it.
+    signed = breaks.pop("a bit of the signature")
+    for what, other in breaks.items():
+        t.sql("ca.db", "UPDATE crl SET der = ? WHERE number = ?", other, number)
+        t.same(audited(t), (1, f"broken: crl {number}: its bytes are not those of what the records list\n", "broken\n"), what)
+    t.sql("ca.db", "UPDATE crl SET der = ? WHERE number = ?", signed, number)
+    t.same(audited(t), (0, sound(t), ""), "another signature")
+
+
+@test
+def other_files_are_told(t):
+    made(t, FIRST_DAY, "newer.db")
+    alter(t, "UPDATE office SET version = 4", "newer.db")
+    t.same(audited(t, "newer.db"), (1, "", "new-version\n"))
+    alter(t, "CREATE TABLE t (a)", "other.db")
+    t.same(audited(t, "other.db"), (1, "", "not-a-register\n"))
+    (t.room / "text.db").write_text("no database\n" * 100)
+    t.same(audited(t, "text.db"), (1, "", "F2 store\n"))
+    ran = t.desk("audit", "none.db", "--why")
+    t.same((ran.status, ran.out, ran.err), (1, b"", b"F2 store\n  no such file\n"))
+    t.true(not (t.room / "none.db").exists(), "a file was made")
+
+
+@test(seconds=2)
+def a_large_register_is_found_sound(t):
+    records = registers.Records(5_000)
+    registers.make(t.room / "ca.db", records, 1)
+    t.done("script", "ca.db", given="")
+    t.same(audited(t), (0, f"sound, 5000 certificates, {len(records.revocations)} revoked, {len(records.crls)} CRLs\n", ""))

@@ -1,0 +1,180 @@
+"""examples/board/index.html in Debian's Chromium with no screen: served by nginx with examples/nginx.conf beside a desk whose register has
+good, revoked and expired certificates and CRLs of forty days. Serial numbers are typed, the buttons are pressed, and what is shown is
+compared. BOARD_PICTURE=FILE.png keeps a picture of it."""
+
+import base64
+import json
+import os
+import subprocess
+import time
+
+from lib import authority
+from lib.authority import DAY, Authority, moment_of
+from lib.trial import Failed, need, test
+from lib.web_server import Front, certificates
+
+
+def shown(at):
+    return time.strftime("%Y-%m-%d %H:%M:%S UTC", time.gmtime(at))
+
+
+class Browser:
+    """Chromium, spoken to by its pipe (the Chrome DevTools Protocol)."""
+
+    def __init__(self, t):
+        theirs_in, self.out = os.pipe()
+        self.read, theirs_out = os.pipe()
+        for it in (theirs_in, theirs_out):
+            os.set_inheritable(it, True)
+        words = ["chromium", "--headless=new", "--no-sandbox", "--disable-gpu", "--hide-scrollbars", "--remote-debugging-pipe",
+                 f"--user-data-dir={t.room}/chromium", "about:blank"]
+        self.chromium = subprocess.Popen(
+            ["bash", "-c", f'exec "$@" 3<&{theirs_in} 4>&{theirs_out}', "bash", *words], close_fds=False, stdin=subprocess.DEVNULL,
+            stdout=subprocess.DEVNULL, stderr=subprocess.DEVNULL, env=dict(os.environ, HOME=str(t.room)),
+        )
+        t.callback(self.end)
+        os.close(theirs_in)
+        os.close(theirs_out)
+        self.held, self.number, self.session, self.complaints = b"", 0, None, []
+        target = self.ask("Target.createTarget", url="about:blank")["targetId"]
+        self.session = self.ask("Target.attachToTarget", targetId=target, flatten=True)["sessionId"]
+        for part in ("Page", "Runtime", "Log"):
+            self.ask(f"{part}.enable")
+        self.ask("Emulation.setDeviceMetricsOverride", width=820, height=650, deviceScaleFactor=1, mobile=False)
+
+    def message(self):
+        while b"\0" not in self.held:
+            got = os.read(self.read, 1 << 20)
+            if not got:
+                raise Failed("chromium ended")
+            self.held += got
+        text, _, self.held = self.held.partition(b"\0")
+        return json.loads(text)
+
+    def ask(self, method, **words):
+        self.number += 1
+        asked = {"id": self.number, "method": method, "params": words}
+        if self.session:
+            asked["sessionId"] = self.session
+        os.write(self.out, json.dumps(asked).encode() + b"\0")
+        while True:
+            got = self.message()
+            if got.get("method") in ("Runtime.exceptionThrown", "Log.entryAdded"):
+                self.complaints.append(json.dumps(got["params"])[:300])
+            if got.get("id") == self.number:
+                if "error" in got:
+                    raise Failed(f"{method}: {got['error']}")
+                return got["result"]
+
+    def value(self, text):
+        return self.ask("Runtime.evaluate", expression=text, awaitPromise=True, returnByValue=True)["result"].get("value")
+
+    def text_of(self, name):
+        return self.value(f"document.getElementById('{name}').innerText")
+
+    def until(self, text):
+        authority.until(lambda: self.value(text), text)
+
+    def press(self, selector):
+        box = f"document.querySelector('{selector}').getBoundingClientRect()"
+        place = self.value(f"(() => {{ const it = {box}; return [it.x + it.width / 2, it.y + it.height / 2]; }})()")
+        for kind in ("mousePressed", "mouseReleased"):
+            self.ask("Input.dispatchMouseEvent", type=kind, x=place[0], y=place[1], button="left", clickCount=1)
+
+    def picture(self, path):
+        with open(path, "wb") as file:
+            file.write(base64.b64decode(self.ask("Page.captureScreenshot", captureBeyondViewport=True)["data"]))
+
+    def end(self):
+        self.chromium.terminate()
+        try:
+            self.chromium.wait(10)
+        except subprocess.TimeoutExpired:
+            self.chromium.kill()
+            self.chromium.wait()
+        os.close(self.out)
+        os.close(self.read)
+
+
+class Days:
+    """The register of forty days. 0b is revoked in the very second of CRL 2, after it; 07 ends at day 10; 08 is revoked after the latest CRL;
+    09 ended good."""
+
+    def __init__(self):
+        self.begun = authority.now() - 40 * DAY
+        text = lambda day: moment_of(self.after(day))
+        ends = {"05": 90, "06": 90, "07": 10, "08": 90, "09": 5, "0b": 90}
+        rows = [(0, "subscriber acme"), *[(0, "order 1 398")] * 6]
+        rows += [(0, f"register {order} {serial} {text(0)} {text(day)}") for order, (serial, day) in enumerate(ends.items(), 1)]
+        rows += [(0, "crl"), (1, "request 05 key-compromise"), (1, "revoke 1"), (1, "crl"), (1, "request 0b superseded"), (1, "revoke 2")]
+        rows += [(2, "request 07 cessation"), (2, "revoke 3"), *((day, "crl") for day in (3, 12, 13, 20, 27, 34, 39))]
+        rows += [(39.5, "request 08 misuse"), (39.5, "revoke 4")]
+        self.lines = "".join(f"{text(day)} {line}\n" for day, line in rows)
+        at = lambda day: shown(self.after(day))
+        self.told = {
+            "05": f"revoked on {at(1)}, reason 1 keyCompromise\nFirst listed by CRL 2 of {at(1)}, and by each one since.",
+            "00:0B": f"revoked on {at(1)}, reason 4 superseded\nFirst listed by CRL 3 of {at(3)}, and by each one since.",
+            "07": f"revoked on {at(2)}, reason 5 cessationOfOperation\nFirst listed by CRL 3 of {at(3)}, last by CRL 4 of {at(12)}.",
+            "0x08": f"revoked on {at(39.5)}, reason 9 privilegeWithdrawn\nNo CRL lists it yet.",
+            "09": "expired", "06": "good", "99": "unknown", "zz": "A serial number is 1 to 40 hexadecimal digits.",
+        }
+
+    def after(self, days):
+        return self.begun + int(days * DAY)
+
+
+def loaded(browser):
+    number = "document.getElementById('number')"
+    browser.until(f"document.readyState === 'complete' && {number} !== null && {number}.innerText !== '–'")
+
+
+@test(seconds=20)
+def the_board_shows_what_the_desk_says(t):
+    need("chromium", "nginx")
+    it, days = Authority(t, subject="/O=Example/CN=Example CA"), Days()
+    certificates(t)
+    it.register()
+    replies = t.done("script", "ca.db", given=days.lines).splitlines()
+    t.same([reply for reply in replies if reply[0] in "EF"], [], "refusals")
+    crl = t.done("crl", "ca.db").encode("latin-1")
+    desk = t.open("ca.db", "--requests", "1000", command="serve")
+    front = Front(t, desk.port, seconds=1)
+    browser = Browser(t)
+    browser.ask("Page.navigate", url=front.url("/board/"))
+    loaded(browser)
+    wanted = {"good": "1", "revoked": "4", "expired": "1", "issuer": "Example CA", "number": "9", "entries": "2",
+              "this": shown(days.after(39)), "next": shown(days.after(47))}
+    t.same({name: browser.text_of(name) for name in wanted}, wanted, "what is shown")
+    t.same(browser.text_of("holds").split(" d ")[0], "6", "how long the CRL holds")
+    for serial, told in days.told.items():
+        browser.value("document.getElementById('serial').value = ''; document.getElementById('said').innerText = ''")
+        browser.press("#serial")
+        browser.ask("Input.insertText", text=serial)
+        browser.press("#ask button")
+        browser.until("!['', '…'].includes(document.getElementById('said').innerText)")
+        t.same(browser.text_of("said"), told, f"serial number {serial}")
+        if serial == "07" and "BOARD_PICTURE" in os.environ:
+            browser.picture(os.environ["BOARD_PICTURE"])
+    browser.ask("Browser.setDownloadBehavior", behavior="allow", downloadPath=f"{t.room}/fetched")
+    browser.press("#fetch")
+    fetched = t.room / "fetched/latest.crl"
+    authority.until(fetched.exists, "the CRL that the button fetches")
+    t.same(fetched.read_bytes() == crl, True, "it is the one of `desk crl`")
+    t.same(browser.complaints, [], "what the page complained of")
+    little(t, it, desk, browser)
+
+
+def little(t, it, desk, browser):
+    """A register with nothing in it, and no desk at all."""
+    desk.end()
+    it.register("new.db")
+    second = t.open("new.db", "--requests", "1000", "--port", desk.port, command="serve")
+    # What was kept for a second is gone, by the whole seconds of nginx.
+    time.sleep(2.1)
+    browser.ask("Page.reload")
+    loaded(browser)
+    t.same([browser.text_of(name) for name in ("good", "number", "holds", "fault")], ["0", "none was issued yet", "–", ""], "a new register")
+    second.end()
+    browser.ask("Page.reload")
+    browser.until("document.getElementById('fault') !== null && document.getElementById('fault').innerText !== ''")
+    t.same(browser.text_of("fault"), "The desk answers: 502", "no desk")

@@ -1,0 +1,277 @@
+"""What an open desk shows to the outside, and to whom: its port, its counter's socket, its clock, its log, and the replies that `at` and `script` tell."""
+
+import contextlib
+import os
+import re
+import socket
+import stat
+import time
+
+from lib.program import Counter, free_port, moment_of, parted, seconds_of
+from lib.trial import test
+
+DAY = "2026-01-01T00:00:00Z"
+ENTERED = f"{DAY} subscriber acme\n{DAY} order 1 398\n{DAY} register 1 05 {DAY} 2026-12-31T00:00:00Z\n"
+LISTENS = "0A"
+
+
+def listening_at(port):
+    """The addresses that somebody of this machine listens at with this port, as the kernel writes them, low byte first."""
+    rows = [it.split() for name in ("tcp", "tcp6") for it in open(f"/proc/net/{name}").read().splitlines()[1:]]
+    local = [row[1].split(":") for row in rows if row[3] == LISTENS]
+    return [address for address, at in local if int(at, 16) == port]
+
+
+@test
+def the_port_is_that_of_the_loopback_address_alone(t):
+    t.register()
+    t.register("served.db")
+    for opened in (t.open(), t.open("served.db", "--requests", 1, command="serve")):
+        t.same(listening_at(opened.port), ["0100007F"], "addresses that are listened at (127.0.0.1)")
+        # Every address of 127.0.0.0/8 is this machine's.
+        with socket.socket() as other:
+            t.true(other.connect_ex(("127.0.0.2", opened.port)) != 0, "somebody answers at 127.0.0.2")
+
+
+@test
+def the_counter_is_its_owners_alone(t):
+    t.register()
+    t.open()
+    mode = os.stat(t.room / "counter").st_mode
+    t.same((stat.S_ISSOCK(mode), oct(stat.S_IMODE(mode))), (True, "0o600"), "the counter")
+    t.same(oct(stat.S_IMODE(os.stat(t.room / "ca.db").st_mode)), "0o600", "the register")
+
+
+@test
+def a_counter_at_which_somebody_answers_is_not_taken_over(t):
+    t.register(lines=ENTERED)
+    t.register("other.db")
+    t.open()
+    ran = t.desk("open", "other.db", "--port", free_port(), "--counter", "counter")
+    t.same((ran.status, ran.out, ran.err), (1, b"", b"F4 read\n"), "the second desk at the same counter")
+    t.same(t.done("at", "counter", given="status 05\n"), "good\n", "the first one")
+
+
+@test
+def a_socket_that_was_left_behind_is_taken_over_and_a_file_is_not(t):
+    t.register(lines=ENTERED)
+    t.open().end()
+    t.true((t.room / "counter").is_socket(), "a desk that was ended leaves its socket behind")
+    opened = t.open()
+    t.same(t.done("at", "counter", given="status 05\n"), "good\n")
+    opened.end()
+    (t.room / "file").write_text("no socket")
+    ran = t.desk("open", "ca.db", "--port", free_port(), "--counter", "file")
+    t.same((ran.status, ran.out, ran.err), (1, b"", b"F4 read\n"), "a counter that is a file")
+    t.same((t.room / "file").read_text(), "no socket", "the file")
+
+
+@test
+def moments_are_those_of_the_machines_clock(t):
+    t.register()
+    opened = t.open()
+    before = int(time.time())
+    _, lines, _ = parted(opened.ask("GET", "/counts"))
+    with t.counter() as counter:
+        counter.ask("subscriber acme")
+        counter.ask("order 1 2")
+        at = [moment_of(int(time.time()) + it) for it in (0, 86_400)]
+        t.same(counter.ask(f"register 1 05 {at[0]} {at[1]}"), "registered")
+        due = counter.ask("request 05 asked").removeprefix("request 1 due ")
+    after = int(time.time())
+    told = time.strptime(next(it for it in lines if it.startswith("Date: ")), "Date: %a, %d %b %Y %H:%M:%S GMT")
+    seconds = seconds_of(time.strftime("%Y-%m-%dT%H:%M:%SZ", told))
+    t.true(before <= seconds <= after, f"Date is {seconds}, which is not between {before} and {after}")
+    # To be decided within a day.
+    t.true(before + 86_400 <= seconds_of(due) <= after + 86_400, f"the request is due at {due}")
+
+
+@test
+def a_clock_that_is_set_is_that_of_answers_and_commands(t):
+    t.register(lines=ENTERED)
+    t.clock("2026-02-28T23:59:59Z")
+    opened = t.open()
+    t.same([it for it in parted(opened.ask("GET", "/counts"))[1] if it.startswith("Date")], ["Date: Sat, 28 Feb 2026 23:59:59 GMT"])
+    t.same(t.done("at", "counter", given="request 05 asked\n"), "request 1 due 2026-03-01T23:59:59Z\n")
+    t.clock("2026-03-01T00:00:00Z")
+    t.same(t.done("at", "counter", given="revoke 1\nstatus 05\n"), "revoked\nrevoked 2026-03-01T00:00:00Z reason 0\n")
+
+
+@test
+def at_tells_each_reply_in_order_and_its_status(t):
+    t.register(lines=ENTERED)
+    t.clock(DAY)
+    t.open()
+    ran = t.desk("at", "counter", given="counts\nstatus 05\nstatus 06\nnext-crl\n")
+    t.same((ran.status, ran.out, ran.err), (0, b"good 1 revoked 0 expired 0\ngood\nunknown\nnext-crl at-once\n", b""))
+    ran = t.desk("at", "counter", given="counts\nrevoke 7\nstatus 05\n")
+    t.same((ran.status, ran.out, ran.err), (3, b"good 1 revoked 0 expired 0\nE17 no-request\ngood\n", b"refused\n"))
+    ran = t.desk("at", "counter", given="")
+    t.same((ran.status, ran.out, ran.err), (0, b"", b""), "no line")
+    ran = t.desk("at", "nobody", given="counts\n")
+    t.same((ran.status, ran.out, ran.err), (1, b"", b"F4 read\n"), "a socket that is not there")
+
+
+@test
+def many_lines_in_one_write_are_all_answered_in_order(t):
+    t.register(lines=ENTERED)
+    t.clock(DAY)
+    t.open()
+    lines = [f"status {serial:x}" for serial in range(1, 20_001)]
+    with Counter(t.room / "counter", timeout=60) as counter:
+        sent = 0
+        text = "".join(f"{it}\n" for it in lines).encode()
+        counter.peer.setblocking(False)
+        replies = b""
+        while replies.count(b"\n") < len(lines):
+            with contextlib.suppress(BlockingIOError):
+                sent += counter.peer.send(text[sent:]) if sent < len(text) else 0
+            with contextlib.suppress(BlockingIOError):
+                got = counter.peer.recv(65_536)
+                t.true(got, f"the counter ended behind {replies.count(10)} of {len(lines)} replies")
+                replies += got
+            time.sleep(0.0002)
+    wanted = b"".join(b"good\n" if serial == 5 else b"unknown\n" for serial in range(1, 20_001))
+    t.true(replies == wanted, "a reply is another, or in another place")
+
+
+@test
+def a_long_line_is_answered_and_a_longer_one_ends_the_counter(t):
+    t.register()
+    t.clock(DAY)
+    t.open()
+    with t.counter() as counter:
+        t.same(counter.ask("status " + "0" * 8_100), "E22 syntax")
+        t.same(counter.ask("counts"), "good 0 revoked 0 expired 0")
+    with t.counter() as counter:
+        counter.peer.sendall(b"x" * 9_000)
+        t.same(counter.file.read(), b"", "what a counter hears that sent 9,000 bytes without an end")
+
+
+@test
+def the_log_has_each_exchange_also_revocations_and_refusals(t):
+    t.register(lines=ENTERED)
+    t.clock("2026-01-02T00:00:00Z")
+    opened = t.open("ca.db", "--log")
+    opened.ask("POST", "/requests", '{"serial":"05","ground":"superseded"}')
+    opened.ask("GET", "/nowhere")
+    t.desk("at", "counter", given="revoke 1\nrevoke 1\nnonsense\n")
+    opened.ask("GET", "/status/05")
+    told = opened.end().told
+    bare = [re.sub(r"127\.0\.0\.1:\d+", "PEER", re.sub(r" \d+ \d+$", "", it)) for it in told]
+    at = "2026-01-02T00:00:00Z"
+    t.same(
+        bare,
+        [
+            f'{at} PEER "POST /requests HTTP/1.1" "HTTP/1.1 200 OK"',
+            f'{at} PEER "GET /nowhere HTTP/1.1" "HTTP/1.1 404 Not Found"',
+            f'{at} counter "revoke 1" "revoked"',
+            f'{at} counter "revoke 1" "E19 revoked-before {at}"',
+            f'{at} counter "nonsense" "E22 syntax"',
+            f'{at} PEER "GET /status/05 HTTP/1.1" "HTTP/1.1 200 OK"',
+        ],
+        "the log",
+    )
+
+
+@test
+def without_log_nothing_is_told(t):
+    t.register(lines=ENTERED)
+    opened = t.open()
+    opened.ask("GET", "/counts")
+    t.desk("at", "counter", given="revoke 1\n")
+    t.same(opened.end().err, b"", "standard error")
+
+
+@test
+def serve_has_a_log_too(t):
+    t.register(lines=ENTERED)
+    t.clock(DAY)
+    opened = t.open("ca.db", "--requests", 1, "--log", command="serve")
+    opened.ask("GET", "/counts")
+    ended = opened.wait()
+    t.same((ended.status, len(ended.told)), (0, 1), "status, and how many lines")
+    t.has(ended.told[0], '"GET /counts HTTP/1.1" "HTTP/1.1 200 OK"')
+
+
+@test
+def a_script_over_a_file_tells_refusals(t):
+    t.register(lines=ENTERED)
+    ran = t.desk("script", "ca.db", given=f"{DAY} revoke 1\n{DAY} counts\n{DAY} status 5 5\n")
+    t.same((ran.status, ran.out, ran.err), (0, b"E17 no-request\ngood 1 revoked 0 expired 0\nE22 syntax\n", b""))
+
+
+@test
+def a_strict_script_ends_with_status_3_at_the_first_refusal(t):
+    t.register(lines=ENTERED)
+    ran = t.desk("script", "ca.db", "--strict", given=f"{DAY} counts\n{DAY} revoke 1\n{DAY} order 1 1\n")
+    t.same((ran.status, ran.out, ran.err), (3, b"good 1 revoked 0 expired 0\nE17 no-request\n", b"refused\n"))
+    t.same(t.done("script", "ca.db", given=f"{DAY} order 1 1\n"), "order 2\n", "the line behind it was not run")
+
+
+@test
+def an_audit_names_the_row_that_is_broken(t):
+    t.register(lines=ENTERED)
+    t.sql("ca.db", "UPDATE standing SET state = 'R'")
+    ran = t.desk("audit", "ca.db")
+    t.same(
+        (ran.status, ran.out, ran.err),
+        (1, b"broken: standing 1: not what follows from the records, or a row before it is missing\n", b"broken\n"),
+    )
+
+
+def large_register(t, count):
+    """A register whose latest CRL lists so many serial numbers."""
+    lines = [f"{DAY} subscriber acme\n"]
+    for at in range(1, count + 1):
+        lines.append(f"{DAY} order 1 398\n{DAY} register {at} {at:x} {DAY} 2026-12-31T00:00:00Z\n{DAY} request {at:x} superseded\n{DAY} revoke {at}\n")
+    return t.register(lines="".join(lines) + f"{DAY} crl\n")
+
+
+@test(seconds=5)
+def answers_are_sent_whole_at_the_end(t):
+    # An older CRL, which nothing looks into, is made larger than what a socket of loopback holds unread.
+    t.register(lines=f"{DAY} crl\n{DAY} crl\n")
+    t.sql("ca.db", "UPDATE crl SET der = zeroblob(12000000) WHERE number = 1")
+    t.clock(DAY)
+    opened = t.open("ca.db", "--requests", 2, command="serve")
+    with opened.connect() as slow:
+        slow.sendall(b"GET /crl/1 HTTP/1.1\r\n\r\n")
+        time.sleep(0.3)
+        t.same(parted(opened.ask("GET", "/counts"))[0], 200)
+        time.sleep(0.3)
+        got = 0
+        while piece := slow.recv(1_000_000):
+            got += len(piece)
+            time.sleep(0.01)
+    t.true(got > 12_000_000, f"the reader that was slow got {got} bytes of some 12,000,150")
+    t.same(opened.wait().status, 0, "status")
+
+
+@test
+def long_requests_are_answered(t):
+    t.register(lines=ENTERED)
+    t.clock(DAY)
+    opened = t.open()
+    status, _, body = parted(opened.ask("GET", "/status/05", headers=[f"X-Long: {'x' * 8_000}"]))
+    t.same((status, body), (200, b'{"status":"good"}'), "a head of 8,000 bytes")
+    body = bytes(65_536)
+    with opened.connect() as peer:
+        peer.sendall(b"POST /ocsp HTTP/1.1\r\nContent-Length: 65536\r\n\r\n" + body[:30_000])
+        time.sleep(0.1)
+        peer.sendall(body[30_000:])
+        got = b""
+        while piece := peer.recv(65_536):
+            got += piece
+    t.same((parted(got)[0], parted(got)[2].hex()), (200, "30030a0101"), "a body of 65,536 bytes in two pieces")
+
+
+@test
+def a_crl_of_many_entries_is_printed_whole(t):
+    large_register(t, 300)
+    der = t.desk("crl", "ca.db").out
+    t.true(len(der) > 4_096, f"the CRL has {len(der)} bytes")
+    text = t.tool("openssl", "crl", "-inform", "DER", "-noout", "-text", given=der).decode()
+    t.same(text.count("Serial Number:"), 300, "entries")
+    opened = t.open()
+    t.true(parted(opened.ask("GET", "/crl"))[2] == der, "GET /crl gives other bytes")

@@ -1,0 +1,65 @@
+"""A script and an open desk are ended at moments drawn at random, by SIGKILL and by SIGTERM, and the register is opened again each time: what was answered stands."""
+
+import random
+import signal
+import subprocess
+import tempfile
+import threading
+import time
+
+from lib import program
+from lib.faults import audited
+from lib.trial import each
+
+ROUNDS, LINES = 8, 20_000
+
+
+def feed(process, lines):
+    """Gives lines until there are no more, or the program was ended while it read."""
+    try:
+        process.stdin.write("".join(lines).encode())
+        process.stdin.close()
+    except OSError:
+        pass
+
+
+def ended_while_fed(t, words, lines, ended, how, after):
+    """Feeds lines, ends a program after a while, and returns the last id that was answered; 0 where none was."""
+    with tempfile.TemporaryFile(dir=t.room) as replies:
+        asker = subprocess.Popen(
+            [program.program(), *words], cwd=t.room, stdin=subprocess.PIPE, stdout=replies, stderr=subprocess.DEVNULL, env=program.environment()
+        )
+        feeder = threading.Thread(target=feed, args=(asker, lines))
+        feeder.start()
+        time.sleep(after)
+        ended = ended or asker
+        ended.send_signal(how)
+        ended.wait(30)
+        # Who asked at the counter ends by itself, since nobody answers any more.
+        asker.wait(30)
+        feeder.join()
+        replies.seek(0)
+        whole = replies.read().decode().split("\n")[:-1]
+    return int(whole[-1].split()[1]) if whole else 0
+
+
+@each({"a script, by SIGKILL": ("script", signal.SIGKILL), "an open desk, by SIGKILL": ("open", signal.SIGKILL), "an open desk, by SIGTERM": ("open", signal.SIGTERM)}, seconds=6)
+def what_was_answered_stands(t, command, how):
+    t.register()
+    draw, most = random.Random(20260101), 0
+    for number in range(ROUNDS):
+        after, now = draw.uniform(0.02, 0.6), program.moment_of(time.time())
+        if command == "script":
+            lines = [f"{now} subscriber n{number}-{at}\n" for at in range(LINES)]
+            last = ended_while_fed(t, ["script", "ca.db"], lines, None, how, after)
+        else:
+            (t.room / "counter").unlink(missing_ok=True)
+            with program.Opened(["open", "ca.db", "--counter", "counter"], cwd=t.room) as desk:
+                lines = [f"subscriber n{number}-{at}\n" for at in range(LINES)]
+                last = ended_while_fed(t, ["at", "counter"], lines, desk.process, how, after)
+        again = t.done("script", "ca.db", given=f"{program.moment_of(time.time())} subscriber after-{number}\n")
+        following = int(again.split()[1])
+        t.true(following > last, f"round {number}: subscriber {last} was answered and is lost: the next one is {following}")
+        most = max(most, following)
+    t.true(most > ROUNDS, f"only {most} subscribers were entered")
+    audited(t, "ca.db", (0, 0, 0), "in the end")

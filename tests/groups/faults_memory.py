@@ -1,0 +1,145 @@
+"""Each allocation is refused in turn, until a run meets no refusal: what meets one tells `F1 memory` and changes nothing, or it is done as with memory; what follows has
+its answer. Near the beginning each is refused, and then every so many: an allocation of a statement that comes again is refused at its first time."""
+
+from lib import faults, program
+from lib.faults import CHANGES, LIFE, MEMORY, REGISTERED, Course
+from lib.program import parted
+from lib.trial import Failed, each, test
+
+DAY = "2026-01-01T00:00:00Z"
+LATER = "2026-01-02T00:00:00Z"
+# Each of so many, and then each one of so many.
+EACH, STRIDE = 200, 37
+PARTS = 4
+
+
+def script(lines):
+    return "".join(f"{asked}\n" for asked, _ in lines)
+
+
+def part_of(last, part):
+    """One part of the places, so that the parts are tried side by side."""
+    return faults.places(last, EACH, STRIDE)[part::PARTS]
+
+
+def course_of(t, lines, sound, before=()):
+    return Course(t, t.register("base.db", script(before)), lines, sound)
+
+
+@each({f"part {it}": it for it in range(PARTS)}, seconds=15)
+def a_script_goes_on_after_a_refusal(t, part):
+    course = course_of(t, LIFE, (1, 1, 3))
+    faults.copy(course.base, t.room / "ca.db")
+    last = faults.total(t, ["script", "ca.db"], "alloc", script(LIFE))
+    t.true(last > 2_000, f"only {last} allocations")
+    for at in part_of(last, part):
+        course.round(MEMORY, 0, f"allocation {at}", fail=f"alloc:{at}")
+
+
+@each({f"part {it}": it for it in range(PARTS)}, seconds=15)
+def a_script_of_the_other_commands_goes_on_after_a_refusal(t, part):
+    course = course_of(t, CHANGES, (1, 0, 0), REGISTERED)
+    faults.copy(course.base, t.room / "ca.db")
+    last = faults.total(t, ["script", "ca.db"], "alloc", script(CHANGES))
+    for at in part_of(last, part):
+        course.round(MEMORY, 0, f"allocation {at}", fail=f"alloc:{at}")
+
+
+CRL = "a CRL's bytes"
+JOBS = {
+    "init": (["init", "ca.db", "--name", program.NAME, "--key", program.KEY], "", None),
+    "import": (["import", "ca.db", "--now", DAY], f"2,06,{DAY},2026-01-10T00:00:00Z\n", "base.db"),
+    "schedule": (["schedule", "ca.db", "1970-01-01T00:00:00Z=398", "2026-03-15T00:00:00Z=200"], "", "base.db"),
+    "crl": (["crl", "ca.db"], "", "base.db"),
+    "audit": (["audit", "ca.db"], "", "base.db"),
+}
+
+
+@each(JOBS, seconds=15)
+def a_job_that_is_refused_is_done_the_next_time(t, words, given, base):
+    base = base and t.register(base, script(REGISTERED) + f"{DAY} order 1 398\n{DAY} crl\n")
+    faults.copy(base, t.room / "ca.db")
+    before = faults.tables(t.room / "ca.db")
+    usual, count = faults.run(t, words, given)
+    t.same((usual.status, usual.err), (0, b""), "without a refusal")
+    after = faults.tables(t.room / "ca.db")
+    for at in faults.places(count["alloc"], EACH, STRIDE):
+        faults.copy(base, t.room / "ca.db")
+        ran, count = faults.run(t, words, given, fail=f"alloc:{at}")
+        where, found = f"allocation {at}", faults.tables(t.room / "ca.db")
+        t.same(count["met"], 1, f"{where} was refused")
+        if (ran.status, ran.out) == (0, usual.out):
+            t.same(found, after, f"{where}: the tables, where it was done as with memory")
+        elif words[0] == "import" and ran.out == b"F1 memory\n":
+            # A row that found no memory is answered so, and the import goes on.
+            t.same((ran.status, found), (0, before), f"{where}: a row that was refused")
+        else:
+            t.same((ran.status, ran.out, ran.err), (1, b"", b"F1 memory\n"), where)
+            t.true(found in (before, None) or words[0] == "init", f"{where}: the tables: {found}")
+        again = program.run(words, given, cwd=t.room)
+        if ran.status:
+            t.same((again.status, again.out), (0, usual.out), f"{where}: the same again")
+        t.same(faults.tables(t.room / "ca.db"), after, f"{where}: the tables in the end")
+
+
+# What is asked of an open desk, and the status and body of its answer; the log's line of a revocation is behind them.
+ASKED = [
+    ("GET", "/counts", None, 200, b'{"expired":0,"good":1,"revoked":0}'),
+    ("GET", "/status/05", None, 200, b'{"status":"good"}'),
+    ("GET", "/crl/9", None, 404, b'{"error":"E21 no-crl"}'),
+    ("GET", "/nowhere", None, 404, b'{"error":"404"}'),
+    ("POST", "/ocsp", b"\xff", 200, bytes.fromhex("30030a0101")),
+    ("POST", "/requests", b'{"serial":"05","ground":"asked"}', 200, b'{"due":"2026-01-03T00:00:00Z","request":1}'),
+]
+
+
+def fits(response, status, body):
+    """Whether an answer is the usual one, or tells that there was no memory: in JSON, by the constant text, by internalError, or by nothing at all."""
+    got, lines, told = parted(response)
+    no_memory = got == 500 and told in (b'{"error":"F1 memory"}', b"")
+    return (got, told) == (status, body) or no_memory or response == b""
+
+
+@each({f"part {it}": it for it in range(PARTS)}, seconds=20)
+def an_open_desk_goes_on_after_a_refusal(t, part):
+    base = t.register("base.db", script(REGISTERED))
+    clock = t.room / "clock"
+    clock.write_text(str(program.seconds_of(LATER)))
+    last, done = 0, 0
+    for at in faults.places(12_000, 0, 41, 1 + part * 10):
+        faults.copy(base, t.room / "ca.db")
+        (t.room / "counter").unlink(missing_ok=True)
+        env = faults.environment(count=t.room / "count", same=1, fail=f"alloc:{at}")
+        with program.Opened(["open", "ca.db", "--counter", "counter"], cwd=t.room, clock=clock, faults=env) as desk:
+            if desk.listens:
+                asked_of(t, desk, at)
+            else:
+                t.same(desk.wait().err, b"F1 memory\n", f"allocation {at}, before it listens")
+            desk.end()
+        if not faults.counted(t.room / "count")["met"]:
+            last = at
+            break
+        opened = program.run(["script", "ca.db"], f"{LATER} status 05\n{LATER} subscriber b\n", cwd=t.room)
+        t.same((opened.status, opened.lines[1]), (0, "subscriber 2"), f"opened after allocation {at}")
+        faults.audited(t, "ca.db", (1, int(opened.lines[0] != "good"), 0), f"allocation {at}")
+        done += 1
+    t.true(last and done > 20, f"{done} allocations were refused, the last before {last}")
+
+
+def asked_of(t, desk, at):
+    for method, target, body, status, wanted in ASKED:
+        response = desk.ask(method, target, body)
+        t.true(fits(response, status, wanted), f"allocation {at}: {method} {target}: {response!r}")
+    with program.Counter(t.room / "counter") as counter:
+        for line, wanted in (("revoke 1", ("revoked", "E17 no-request")), ("counts", ("good 0 revoked 1 expired 0", "good 1 revoked 0 expired 0"))):
+            reply = counter.ask(line)
+            t.true(reply in (*wanted, "F1 memory", ""), f"allocation {at}: {line}: {reply!r}")
+
+
+@test
+def where_nothing_can_be_had_it_is_told(t):
+    t.register(lines=script(REGISTERED))
+    for words in (["script"], ["script", "ca.db"], ["audit", "ca.db"], ["crl", "ca.db"]):
+        ran, _ = faults.run(t, words, f"{DAY} counts\n", fail="alloc:1+")
+        if (ran.status, ran.out, ran.err) != (1, b"", b"F1 memory\n"):
+            raise Failed(f"{program.shown(words)} with no memory at all: {ran}")

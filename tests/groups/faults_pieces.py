@@ -1,0 +1,113 @@
+"""Reads and writes that move one byte, and ones that fail at standard input, standard output and the sockets: the same output byte for byte; `F4 read` behind the replies of
+the whole lines before it; `F5 write`, and the command whose reply was cut stands."""
+
+from lib import faults, program
+from lib.faults import LIFE, REGISTERED
+from lib.trial import each, test
+
+DAY = "2026-01-01T00:00:00Z"
+LATER = "2026-01-02T00:00:00Z"
+# All but the register's own files: of these a read or write that moves less than it was told is a failure of the store (below).
+WIRES = "stdin,stdout,socket"
+SCRIPT = "".join(f"{asked}\n" for asked, _ in LIFE)
+REPLIES = "".join(f"{reply}\n" for _, reply in LIFE)
+ROWS = f"order,serial,notBefore,notAfter\n1,05,{DAY},2026-01-10T00:00:00Z\n1,05,{DAY},2026-01-10T00:00:00Z\n2,06\n"
+
+
+@each({"one byte": 1, "seven bytes": 7, "4,095 bytes": 4_095}, seconds=2)
+def a_script_in_pieces(t, size):
+    t.register()
+    ran, _ = faults.run(t, ["script", "ca.db"], SCRIPT, only=WIRES, short=size)
+    t.same((ran.status, ran.out.decode(), ran.err), (0, REPLIES, b""))
+    faults.audited(t, "ca.db", (1, 1, 3), "in pieces")
+
+
+@each({"one byte": 1, "seven bytes": 7}, seconds=2)
+def jobs_in_pieces(t, size):
+    ran, _ = faults.run(t, ["init", "ca.db", "--name", program.NAME, "--key", program.KEY], only=WIRES, short=size)
+    t.same((ran.status, ran.out), (0, b"created\n"))
+    t.done("script", "ca.db", given=f"{DAY} subscriber acme\n{DAY} order 1 398\n")
+    ran, _ = faults.run(t, ["import", "ca.db", "--now", DAY], ROWS, only=WIRES, short=size)
+    t.same((ran.status, ran.lines), (0, ["registered", "same", "E22 syntax"]))
+    t.done("script", "ca.db", given=f"{DAY} crl\n")
+    ran, _ = faults.run(t, ["crl", "ca.db"], only=WIRES, short=size)
+    t.same((ran.status, ran.out), (0, t.desk("crl", "ca.db").out), "the CRL's bytes")
+    ran, _ = faults.run(t, ["audit", "ca.db"], only=WIRES, short=size)
+    t.same((ran.status, ran.lines), (0, ["sound, 1 certificates, 0 revoked, 1 CRLs"]))
+
+
+@each({"one byte": 1, "seven bytes": 7}, seconds=3)
+def an_open_desk_in_pieces(t, size):
+    t.register(lines="".join(f"{asked}\n" for asked, _ in REGISTERED))
+    t.clock(LATER)
+    whole = t.open()
+    asked = [("GET", "/status/05", None), ("POST", "/ocsp", bytes.fromhex(faults.OCSP_REQUEST)), ("GET", "/crl", None), ("POST", "/ocsp", bytes(9_000))]
+    wanted = [whole.ask(*it) for it in asked]
+    whole.end()
+    opened = t.open(faults=faults.environment(only=WIRES, short=size))
+    t.same([opened.ask(*it) for it in asked], wanted, "HTTP in pieces")
+    ran = t.desk("at", "counter", given="status 05\nrequest 05 asked\nrevoke 1\nstatus 05\n", faults=faults.environment(only=WIRES, short=size))
+    t.same(ran.lines, ["good", "request 1 due 2026-01-03T00:00:00Z", "revoked", f"revoked {LATER} reason 0"], "the counter in pieces")
+
+
+@each({"one byte": 1, "4,095 bytes": 4_095}, seconds=2)
+def a_register_s_file_in_pieces_is_a_failure_that_loses_nothing(t, size):
+    base = t.register("base.db", "".join(f"{asked}\n" for asked, _ in REGISTERED))
+    before = faults.tables(base)
+    faults.copy(base, t.room / "ca.db")
+    ran, _ = faults.run(t, ["script", "ca.db"], f"{DAY} subscriber b\n", only="ca.db,ca.db-wal", short=size)
+    t.same((ran.status, ran.out, ran.err), (1, b"", b"F2 store\n"))
+    t.same(faults.tables(t.room / "ca.db"), before, "the tables")
+    t.same(t.done("script", "ca.db", given=f"{DAY} subscriber b\n"), "subscriber 2\n")
+
+
+@each({"fails": "", "fails from then on": "+"}, seconds=4)
+def a_read_of_a_script_fails(t, how):
+    base = t.register("base.db")
+    for at in range(1, len(SCRIPT) // 16 + 2):
+        faults.copy(base, t.room / "ca.db")
+        ran, count = faults.run(t, ["script", "ca.db"], SCRIPT, only="stdin", short=16, fail=f"read:{at}{how}")
+        whole = SCRIPT[: 16 * (at - 1)].count("\n")
+        wanted = "".join(f"{reply}\n" for _, reply in LIFE[:whole])
+        if not count["met"]:
+            t.same((ran.status, ran.out.decode()), (0, REPLIES), f"read {at}, which was not met")
+            break
+        t.same((ran.status, ran.out.decode(), ran.err), (1, wanted, b"F4 read\n"), f"read {at}")
+        faults.audited(t, "ca.db", (int(whole > 2), int(whole > 4), [0, 0, 0, 0, 0, 0, 1, 1, 2, 3, 3][whole]), f"read {at}")
+
+
+@test(seconds=2)
+def a_read_of_an_import_fails(t):
+    base = t.register("base.db", f"{DAY} subscriber acme\n{DAY} order 1 398\n")
+    before = faults.tables(base)
+    for at in range(1, len(ROWS) // 16 + 2):
+        faults.copy(base, t.room / "ca.db")
+        ran, count = faults.run(t, ["import", "ca.db", "--now", DAY], ROWS, only="stdin", short=16, fail=f"read:{at}")
+        if count["met"]:
+            t.same((ran.status, ran.out, ran.err), (1, b"", b"F4 read\n"), f"read {at}")
+            t.same(faults.tables(t.room / "ca.db"), before, f"the tables after read {at}: nothing ran")
+
+
+@each({"fails": "", "fails from then on": "+", "moves nothing": "=0"}, seconds=6)
+def a_write_of_replies_fails(t, how):
+    base = t.register("base.db")
+    for at in range(1, len(REPLIES) // 5 + 2):
+        faults.copy(base, t.room / "ca.db")
+        ran, count = faults.run(t, ["script", "ca.db"], SCRIPT, only="stdout", short=5, fail=f"write:{at}{how}")
+        if not count["met"]:
+            break
+        t.same((ran.status, ran.err), (1, b"F5 write\n"), f"write {at}")
+        t.true(REPLIES.encode().startswith(ran.out), f"write {at}: what was written is no front of the replies: {ran.out!r}")
+        # The command whose reply was cut stands, and none behind it.
+        place = ran.out.count(b"\n") + 1
+        rest = "".join(f"{asked}\n" for asked, _ in LIFE[place:])
+        again = program.run(["script", "ca.db"], rest, cwd=t.room)
+        t.same(again.out.decode(), "".join(f"{reply}\n" for _, reply in LIFE[place:]), f"the rest behind write {at}")
+
+
+@each({"a CRL": (["crl", "ca.db"], ""), "an audit": (["audit", "ca.db"], ""), "an import": (["import", "ca.db", "--now", LATER], f"1,05,{DAY},2026-01-10T00:00:00Z\n")})
+def a_write_of_a_job_fails(t, words, given):
+    t.register(lines="".join(f"{asked}\n" for asked, _ in REGISTERED) + f"{DAY} crl\n")
+    for how in ("", "=0"):
+        ran, count = faults.run(t, words, given, only="stdout", fail=f"write:1{how}")
+        t.same((ran.status, ran.out, ran.err, count["met"]), (1, b"", b"F5 write\n", 1))

@@ -1,0 +1,74 @@
+"""Each route of a register that is served, with an allocation refused: the answer is whole, or tells of want of memory (of OCSP by internalError), or the connection is shut without
+one; the tables are as they were then, and the same again has its answer."""
+
+from lib import faults, program
+from lib.faults import DAY_1, DAY_2, OCSP_REQUEST, PAST_END
+from lib.trial import each
+
+LINES = (
+    f"{DAY_1} subscriber acme\n" + f"{DAY_1} order 1 398\n" * 3 + f"{DAY_1} register 1 05 {DAY_1} 2026-01-10T00:00:00Z\n"
+    f"{DAY_1} register 2 06 {DAY_1} 2026-01-10T00:00:00Z\n{DAY_2} request 05 key-compromise\n{DAY_2} revoke 1\n{DAY_2} crl\n{PAST_END} crl\n"
+    f"{PAST_END} register 3 0A {PAST_END} 2027-01-01T00:00:00Z\n"
+)
+OCSP = bytes.fromhex(OCSP_REQUEST)
+BY_GET = (
+    b"GET /ocsp/MGcwZTA%2BMDwwOjAJBgUrDgMCGgUABBRxHTl2ccn6zyJCCVkll5oGmORrEQQUqZk%2BNkcGgWq6PiVxeFDCbJzQ2J0CAQWiIzAhMB8GCSsGAQUFBzABAgQSBBAAAQIDBAUGBwgJCgsMDQ4P"
+    b" HTTP/1.1\r\n\r\n"
+)
+BODY = b'{"serial":"0A","ground":"superseded"}'
+# Each request, the beginning of its status, and what its body holds; the last alone changes the tables.
+ROUTES = [
+    (b"GET /counts HTTP/1.1\r\n\r\n", b"200", b'{"expired":1,"good":1,"revoked":1}'),
+    (b"GET /status/05 HTTP/1.1\r\n\r\n", b"200", b'{"at":"2026-01-02T00:00:00Z","reason":1,"status":"revoked"}'),
+    (b"GET /status/07 HTTP/1.1\r\n\r\n", b"200", b'{"status":"unknown"}'),
+    (b"GET /crl HTTP/1.1\r\n\r\n", b"200", b"260110000001Z"),
+    (b"GET /crl/1 HTTP/1.1\r\n\r\n", b"200", b"260102000000Z"),
+    (b"GET /crl/9 HTTP/1.1\r\n\r\n", b"404", b'{"error":"E21 no-crl"}'),
+    (b"POST /ocsp HTTP/1.1\r\nContent-Length: %d\r\n\r\n%s" % (len(OCSP), OCSP), b"200", b"20260102000000Z"),
+    (BY_GET, b"200", b"20260102000000Z"),
+    (b"GET /nowhere HTTP/1.1\r\n\r\n", b"404", b'{"error":"404"}'),
+    (b"POST /requests HTTP/1.1\r\nContent-Length: %d\r\n\r\n%s" % (len(BODY), BODY), b"200", b'{"due":"2026-01-11T00:00:01Z","request":2}'),
+]
+PARTS = 8
+
+
+def is_answer(got, status, held):
+    return got.startswith(b"HTTP/1.1 " + status) and held in got
+
+
+def is_refused(got):
+    return got == b"" or got.startswith(b"HTTP/1.1 500 ") or got.endswith(b"0\x03\n\x01\x02")
+
+
+def served(t, base, at):
+    """All routes with one allocation refused: what was counted when it listened, and in the end."""
+    faults.copy(base, t.room / "ca.db")
+    env = faults.environment(count=t.room / "count", same=1, fail=f"alloc:{at}" if at else None)
+    with program.Opened(["serve", "ca.db", "--requests", "1000"], cwd=t.room, clock=t.room / "clock", faults=env) as desk:
+        first = faults.counted(t.room / "count")["alloc"]
+        if not desk.listens:
+            ended = desk.wait()
+            t.same((ended.status, ended.err), (1, b"F1 memory\n"), f"allocation {at}, before it listens")
+            return first, first
+        for number, (request, status, held) in enumerate(ROUTES):
+            got = desk.send(request)
+            if not is_answer(got, status, held):
+                t.true(at and is_refused(got), f"allocation {at}: {request[:40]}: {got!r}")
+                t.same(len(faults.tables(t.room / "ca.db")["request"]), 1, f"allocation {at}: requests that stand")
+                got = desk.send(request)
+                t.true(is_answer(got, status, held), f"allocation {at}: {request[:40]} again: {got!r}")
+        desk.end()
+    last = faults.counted(t.room / "count")["alloc"]
+    t.same(len(faults.tables(t.room / "ca.db")["request"]), 2, f"allocation {at}: requests in the end")
+    return first, last
+
+
+@each({f"part {it}": it for it in range(PARTS)}, seconds=15)
+def a_route_goes_on_after_a_refusal(t, part):
+    base = t.register("base.db", LINES)
+    (t.room / "clock").write_text(str(program.seconds_of(PAST_END)))
+    first, last = served(t, base, 0)
+    t.true(last > first + 100, f"{last - first} allocations of the routes")
+    # Of opening each 61st, of the routes each.
+    for at in [*faults.places(first, 0, 61), *faults.places(last, last, 1, first + 1)][part::PARTS]:
+        served(t, base, at)

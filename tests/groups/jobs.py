@@ -1,0 +1,343 @@
+"""An open desk as others meet it: its port, its counter, its clock, many lines at once, long requests; a script on a terminal;
+and causes of faults that want another user, a full disk or a clock that fails."""
+
+import contextlib
+import os
+import pty
+import re
+import shutil
+import socket
+import struct
+import subprocess
+import threading
+import time
+
+from lib import program
+from lib.trial import Skipped, each, need, test
+
+DAY = "2026-01-01T00:00:00Z"
+
+
+# The port
+
+def listeners(port):
+    """The local addresses, in the kernel's own table, at which somebody listens at a port: IPv4, then IPv6."""
+    found = []
+    for table in ("/proc/net/tcp", "/proc/net/tcp6"):
+        with contextlib.suppress(FileNotFoundError), open(table) as lines:
+            for line in list(lines)[1:]:
+                _, local, _, state, *_ = line.split()
+                if state == "0A" and int(local.split(":")[1], 16) == port:
+                    found.append(local.split(":")[0])
+    return found
+
+
+def own_addresses():
+    told = subprocess.run(["hostname", "-I"], capture_output=True, text=True).stdout.split()
+    return ["127.0.0.2", *[it for it in told if ":" not in it]]
+
+
+@each({"open": ("open", ()), "serve": ("serve", ("--requests", "5"))})
+def listens_at_127_0_0_1_alone(t, command, words):
+    t.register()
+    opened = t.open("ca.db", *words, command=command)
+    t.same(listeners(opened.port), ["%08X" % struct.unpack("=I", socket.inet_aton("127.0.0.1"))], "where it listens")
+    for address in own_addresses():
+        with socket.socket() as it:
+            it.settimeout(5)
+            t.true(it.connect_ex((address, opened.port)) != 0, f"it takes connections at {address}")
+    t.same(program.parted(opened.ask("GET", "/counts"))[0], 200)
+
+
+# The counter
+
+@test
+def the_counter_is_its_owners_alone(t):
+    t.register()
+    before = os.umask(0)
+    try:
+        t.open()
+    finally:
+        os.umask(before)
+    t.same("%o" % (os.stat(t.room / "counter").st_mode & 0o7777), "600")
+
+
+@test
+def a_live_counter_is_not_taken_over(t):
+    t.register()
+    t.register("other.db")
+    (t.room / "plain").write_text("left as it is")
+    opened = t.open()
+    t.same(t.counter().ask("subscriber acme"), "subscriber 1")
+    for path in ("counter", "plain"):
+        ran = t.desk("open", "other.db", "--port", program.free_port(), "--counter", path, timeout=30)
+        t.same((ran.status, ran.out, ran.err), (1, b"", b"F4 read\n"), f"a second desk at {path}")
+    t.same((t.room / "plain").read_text(), "left as it is")
+    # It is the first register that answers, at the socket's path too.
+    t.same(t.counter().ask("subscriber acme"), "E05 name-taken 1")
+    t.same(program.parted(opened.ask("GET", "/counts"))[0], 200)
+
+
+LINES = 20_000
+
+
+@test(seconds=4)
+def lines_in_one_piece_are_answered_in_order(t):
+    t.register()
+    t.clock(DAY)
+    t.open()
+    counter = t.counter()
+    given = b"".join(b"subscriber n%d\n" % it for it in range(1, LINES + 1))
+    # It reads no more while its replies are not taken: so they are taken while it writes.
+    writer = threading.Thread(target=counter.peer.sendall, args=(given,))
+    writer.start()
+    got = [counter.file.readline() for _ in range(LINES)]
+    writer.join(30)
+    t.same(next((at for at, it in enumerate(got, 1) if it != b"subscriber %d\n" % at), None), None, "the first line with another reply")
+
+
+@each({"16 kB": 16_000, "just over": 16_400, "64 kB": 65_600})
+def bytes_past_a_read_are_not_lost(t, size):
+    t.register()
+    t.open()
+    counter = t.counter()
+    count = size // 7 + 1
+    counter.peer.sendall(b"counts\n" * count)
+    t.same([counter.file.readline() for _ in range(count)], [b"good 0 revoked 0 expired 0\n"] * count)
+
+
+@test(seconds=2)
+def at_gets_all_replies_where_its_input_ended_at_once(t):
+    t.register()
+    t.clock(DAY)
+    t.open()
+    lines = [f"subscriber n{it}" for it in range(1, 3_001)] + ["revoke 9", "counts"]
+    wanted = [f"subscriber {it}" for it in range(1, 3_001)] + ["E17 no-request", "good 0 revoked 0 expired 0"]
+    ran = t.desk("at", "counter", given="\n".join(lines) + "\n")
+    t.same((ran.status, ran.err), (3, b"refused\n"), "status and standard error")
+    t.same(ran.lines, wanted)
+
+
+@test
+def at_ends_with_1_where_the_desk_ends_meanwhile(t):
+    t.register()
+    opened = t.open()
+    pipes = {it: subprocess.PIPE for it in ("stdin", "stdout", "stderr")}
+    peer = subprocess.Popen([program.program(), "at", "counter"], cwd=t.room, env=program.environment(), **pipes)
+    with peer:
+        peer.stdin.write(b"counts\n")
+        peer.stdin.flush()
+        # A reply comes as soon as its line is whole, though the input goes on.
+        t.same(peer.stdout.readline(), b"good 0 revoked 0 expired 0\n")
+        opened.end()
+        with contextlib.suppress(BrokenPipeError):
+            peer.stdin.write(b"counts\n")
+            peer.stdin.flush()
+        out, told = peer.communicate(timeout=30)
+    # Whether its write or its read meets the end first is the machine's.
+    t.same((peer.returncode, out), (1, b""), f"status and standard output, with {told!r} told")
+    t.true(told in (b"F4 read\n", b"F5 write\n"), f"told {told!r}")
+
+
+# The machine's clock, where nothing sets it
+
+def near(t, moment, what):
+    late = time.time() - moment
+    t.true(-2 <= late <= 30, f"{what} is {late:.0f} seconds behind the machine's clock")
+
+
+@test
+def the_moment_is_now(t):
+    t.register()
+    opened = t.open()
+    t.same(t.counter().ask("subscriber acme"), "subscriber 1")
+    _, lines, _ = program.parted(opened.ask("GET", "/counts"))
+    date = next(it for it in lines if it.startswith("Date: "))
+    near(t, time.mktime(time.strptime(date, "Date: %a, %d %b %Y %H:%M:%S GMT")) - time.timezone, "the moment of a response")
+    opened.end()
+    near(t, t.sql("ca.db", "SELECT last_at FROM office")[0][0], "the moment of a command at the counter")
+
+
+@test
+def a_clocked_script_runs_now(t):
+    t.register()
+    t.same(t.done("script", "ca.db", "--clock", given="subscriber acme"), "subscriber 1\n")
+    near(t, t.sql("ca.db", "SELECT last_at FROM office")[0][0], "the moment of a line")
+
+
+# Long requests
+
+def in_two(t, opened, given, at):
+    """Sends a request in two pieces, the second after the first was read."""
+    with opened.connect() as peer:
+        peer.sendall(given[:at])
+        time.sleep(0.2)
+        peer.sendall(given[at:])
+        return program.parted(program.read_all(peer))
+
+
+def head_of(size, first="GET /counts HTTP/1.1"):
+    """A head of so many bytes, its empty line among them."""
+    lines = f"{first}\r\nHost: ca.example\r\n"
+    return (lines + "X: " + "x" * (size - len(lines) - 7) + "\r\n\r\n").encode()
+
+
+@each({"8,192 bytes": (8_192, 200), "a byte more": (8_193, 431)})
+def a_long_head(t, size, status):
+    t.register()
+    opened = t.open()
+    given = head_of(size)
+    t.same(len(given), size)
+    for at in (10, 4_096, size - 1):
+        t.same(in_two(t, opened, given, at)[0], status, f"parted at {at}")
+
+
+@each({"65,536 bytes": (65_536, 200), "a byte more": (65_537, 413)})
+def a_long_body(t, size, status):
+    t.register()
+    opened = t.open()
+    head = f"POST /ocsp HTTP/1.1\r\nHost: ca.example\r\nContent-Type: application/ocsp-request\r\nContent-Length: {size}\r\n\r\n".encode()
+    for at in (len(head), len(head) + 1, len(head) + 32_768):
+        got, _, body = in_two(t, opened, head + bytes(size), at)
+        t.same(got, status, f"parted at {at}")
+        if status == 200:
+            # No request: malformedRequest (RFC 6960 2.3), unsigned.
+            t.same(body.hex(), "30030a0101")
+
+
+# The log
+
+@test
+def a_log_has_each_exchange(t):
+    t.register()
+    t.clock(DAY)
+    opened = t.open("ca.db", "--log")
+    counter = t.counter()
+    asked = ["subscriber acme", "order 1 30", f"register 1 05 {DAY} 2026-01-10T00:00:00Z", "request 05 asked", "revoke 1", "revoke 2"]
+    replies = ["subscriber 1", "order 1", "registered", "request 1 due 2026-01-02T00:00:00Z", "revoked", "E17 no-request"]
+    t.same([counter.ask(it) for it in asked], replies)
+    response = opened.ask("GET", "/counts")
+    told = opened.end().told
+    for line, reply in zip(asked, replies):
+        wanted = rf'{DAY} counter "{line}" "{reply}" {len(reply) + 1} \d+'
+        t.same(sum(1 for it in told if re.fullmatch(wanted, it)), 1, f"lines of {line!r} in {told}")
+    wanted = rf'{DAY} 127\.0\.0\.1:\d+ "GET /counts HTTP/1\.1" "HTTP/1\.1 200 OK" {len(response)} \d+'
+    t.same([bool(re.fullmatch(wanted, it)) for it in told if "counter" not in it], [True], f"lines of the request in {told}")
+
+
+@test
+def without_log_nothing_is_told(t):
+    t.register()
+    opened = t.open()
+    t.same(t.counter().ask("revoke 2"), "E17 no-request")
+    opened.ask("GET", "/counts")
+    t.same(opened.end().err, b"")
+
+
+# A script on a terminal
+
+@test(seconds=4)
+def a_long_script_tells_on_a_terminal_how_far_it_is(t):
+    t.register()
+    count = 2_000
+    half = f"{DAY} order 1 398\n".encode() * (count // 2)
+    ours, theirs = pty.openpty()
+    with open(t.room / "replies", "wb") as replies:
+        words = [program.program(), "script", "ca.db"]
+        job = subprocess.Popen(words, cwd=t.room, stdin=subprocess.PIPE, stdout=replies, stderr=theirs, env=program.environment())
+    os.close(theirs)
+    job.stdin.write(f"{DAY} subscriber acme\n".encode() + half)
+    job.stdin.flush()
+    # How far it is it tells behind a line, each second.
+    time.sleep(1.3)
+    job.stdin.write(half)
+    job.stdin.close()
+    told = b""
+    # The terminal's other side is closed when the program ends.
+    with contextlib.suppress(OSError):
+        while piece := os.read(ours, 4096):
+            told += piece
+    os.close(ours)
+    t.same(job.wait(60), 0)
+    t.true(re.search(rb"\d+ lines done, \d+ a second", told), f"it does not tell how far it is: {told!r}")
+    t.same((t.room / "replies").read_text(), "subscriber 1\n" + "".join(f"order {it}\n" for it in range(1, count + 1)))
+
+
+@test
+def nothing_is_told_where_standard_error_is_no_terminal(t):
+    t.register()
+    t.same(len(t.done("script", "ca.db", given=f"{DAY} subscriber acme\n" + f"{DAY} order 1 398\n" * 2_000).splitlines()), 2_001)
+
+
+# Causes
+
+A_LINE = b"2026-01-01T00:00:00Z counts\n"
+
+
+def as_nobody(t, *words):
+    """Runs the program as a user who has no rights here."""
+    if os.geteuid() == 0:
+        need("setpriv")
+        # The program is copied to where that user may come.
+        desk = t.room / "desk"
+        if not desk.exists():
+            shutil.copy(program.program(), desk)
+            os.chmod(desk, 0o755)
+            os.chmod(t.room, 0o755)
+        before = ["setpriv", "--reuid", "65534", "--regid", "65534", "--clear-groups", str(desk)]
+    else:
+        before = [program.program()]
+    return subprocess.run([*before, *words], cwd=t.room, input=A_LINE, capture_output=True, timeout=60, env=program.environment())
+
+
+@test
+def no_right_to_read(t):
+    t.register()
+    os.chmod(t.room / "ca.db", 0)
+    for command in ("crl", "script"):
+        for more, told in ((("--why",), b"F2 store\n  no right\n"), ((), b"F2 store\n")):
+            ran = as_nobody(t, command, "ca.db", *more)
+            t.same((ran.returncode, ran.stdout, ran.stderr), (1, b"", told), f"{command} {more}")
+
+
+@test
+def no_right_to_make(t):
+    folder = t.room / "closed"
+    folder.mkdir(mode=0o555)
+    ran = as_nobody(t, "init", "closed/ca.db", "--name", program.NAME, "--key", program.KEY, "--why")
+    t.same((ran.returncode, ran.stdout, ran.stderr), (1, b"", b"F2 store\n  no right\n"))
+    t.same(list(folder.iterdir()), [])
+
+
+@test
+def a_full_output(t):
+    for words, told in ((("--why",), b"F5 write\n  disk full\n"), ((), b"F5 write\n")):
+        with open("/dev/full", "wb") as full:
+            ran = subprocess.run([program.program(), "script", *words], input=A_LINE, stdout=full, stderr=subprocess.PIPE, cwd=t.room, timeout=60)
+        t.same((ran.returncode, ran.stderr), (1, told), f"script {words}")
+
+
+@test
+def a_full_disk(t):
+    if os.geteuid() != 0:
+        raise Skipped("a small file system wants root")
+    need("mount")
+    (t.room / "disk").mkdir()
+    if subprocess.run(["mount", "-t", "tmpfs", "-o", "size=64k", "tmpfs", t.room / "disk"], capture_output=True).returncode:
+        raise Skipped("no file system can be mounted here")
+    try:
+        ran = t.desk("init", "disk/ca.db", "--name", program.NAME, "--key", program.KEY, "--why")
+        t.same((ran.status, ran.out, ran.err), (1, b"", b"F2 store\n  disk full\n"))
+        t.same(list((t.room / "disk").iterdir()), [], "what is left on it")
+    finally:
+        subprocess.run(["umount", t.room / "disk"], check=True)
+
+
+@test
+def a_clock_that_fails(t):
+    t.register()
+    for more, told in ((("--why",), b"F4 read\n  clock\n"), ((), b"F4 read\n")):
+        opened = t.open("ca.db", "--requests", "1", *more, command="serve", faults={"FAULTS_FAIL": "clock:1+"})
+        opened.ask("GET", "/counts")
+        ended = opened.wait()
+        t.same((ended.status, ended.err), (1, told), f"serve {more}")

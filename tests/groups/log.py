@@ -1,0 +1,48 @@
+"""The log: one line an exchange, byte for byte, whatever came."""
+
+import re
+
+from lib.trial import test
+
+DAY = "2026-01-01T00:00:00Z"
+
+
+def told(t, *sent, lines=()):
+    """What the log has of these requests, and of these lines at the counter: without the peer and the microseconds."""
+    t.register()
+    t.clock(DAY)
+    desk = t.open("ca.db", "--log")
+    for it in sent:
+        desk.send(it)
+    if lines:
+        t.desk("at", "counter", given="".join(f"{it}\n" for it in lines))
+    return [re.sub(r" \d+$", "", re.sub(r"127\.0\.0\.1:\d+", "PEER", it)) for it in desk.end().told]
+
+
+@test
+def an_exchange_has_its_first_lines_and_its_bytes(t):
+    response = b"HTTP/1.1 404 Not Found\r\nDate: Thu, 01 Jan 2026 00:00:00 GMT\r\nContent-Type: application/json\r\nContent-Length: 22\r\nConnection: close\r\n\r\n"
+    size = len(response) + len(b'{"error":"E21 no-crl"}')
+    t.same(told(t, b"GET /crl HTTP/1.1\r\nHost: ca\r\n\r\n"), [f'{DAY} PEER "GET /crl HTTP/1.1" "HTTP/1.1 404 Not Found" {size}'])
+
+
+@test
+def nobody_puts_a_line_of_their_own_into_it(t):
+    lines = told(t, b'GET /"\\\x00\x7f\xff~ HTTP/1.1\r\n\r\n', b"\nGET /x HTTP/1.1\r\n\r\n", lines=["status \x1b[31m", 'x"'])
+    t.same(lines[0].split('" "')[0], f'{DAY} PEER "GET /\\x22\\x5c\\x00\\x7f\\xff~ HTTP/1.1')
+    t.same(lines[2:], [f'{DAY} counter "status \\x1b[31m" "E22 syntax" 11', f'{DAY} counter "x\\x22" "E22 syntax" 11'])
+    t.same(len(lines), 4, "lines")
+
+
+@test
+def a_long_line_is_told_as_far_as_256_bytes(t):
+    (line,) = told(t, b"GET /" + b"a" * 5_000 + b" HTTP/1.1\r\n\r\n")
+    t.same(line.split('"')[1], "GET /" + "a" * 251)
+
+
+@test
+def a_counter_s_line_and_its_reply(t):
+    t.same(
+        told(t, lines=["subscriber acme", "counts", "revoke 1"]),
+        [f'{DAY} counter "subscriber acme" "subscriber 1" 13', f'{DAY} counter "counts" "good 0 revoked 0 expired 0" 27', f'{DAY} counter "revoke 1" "E17 no-request" 15'],
+    )

@@ -1,0 +1,255 @@
+"""An index of `openssl ca` moved into a register by examples/from-openssl-index.py: what both say of each serial number is compared, the
+register's statuses with the index, its CRL with that of `openssl ca -gencrl`, and its OCSP answers with those of `openssl ocsp -index`."""
+
+import random
+import re
+import sys
+import time
+
+from lib import authority
+from lib.authority import DAY, EXAMPLES, Authority, body_of, listed, moment_of, openssl_time
+from lib.trial import each, test
+
+# How many lines the index has; at ten thousand it takes five times as long.
+LINES = 2_000
+MOVE = [sys.executable, EXAMPLES / "from-openssl-index.py"]
+REASONS = ["", "unspecified", "keyCompromise", "affiliationChanged", "superseded", "cessationOfOperation", "CACompromise", "certificateHold"]
+# What a CRL says of each of openssl's words, and what the register says in its place. 0 is no reason at all.
+THEIRS = {"": 0, "unspecified": 0, "keyCompromise": 1, "CACompromise": 2, "affiliationChanged": 3, "superseded": 4, "cessationOfOperation": 5,
+          "certificateHold": 6, "keyTime": 1, "CAkeyTime": 2, "holdInstruction": 6}
+OURS = THEIRS | {"CACompromise": 1, "certificateHold": 0, "CAkeyTime": 1, "holdInstruction": 0}
+CONFIG = """[ca]
+default_ca = it
+[it]
+dir = .
+database = index.txt
+new_certs_dir = newcerts
+serial = serial
+crlnumber = crlnumber
+certificate = ca.pem
+private_key = ca.key
+default_md = sha256
+default_crl_days = 8
+policy = any
+unique_subject = no
+[any]
+commonName = supplied
+"""
+
+
+def asn1(at):
+    return time.strftime("%y%m%d%H%M%SZ", time.gmtime(at))
+
+
+def drawn(count, now):
+    """Lines of an index: certificates of 365 days of the last three years, one in six revoked, some as they should not be."""
+    draw, made, serials = random.Random(5280), [], set()
+    while len(serials) < count:
+        serials.add(draw.randrange(1, 2 ** draw.choice([16, 63, 159])))
+    for at, serial in enumerate(sorted(serials, key=lambda serial: serial * 2654435761 % 2**32)):
+        # Not of the hour that runs: nothing ends while the test does.
+        begun = now - draw.randrange(3600, 3 * 365 * DAY) // 7200 * 7200 - 3600
+        holder = f"host{at % (count // 2 + 1)}.example"
+        made.append({"serial": serial, "begun": begun, "ends": begun + 365 * DAY, "revoked": None, "reason": "", "holder": holder})
+    for cert in draw.sample(made, count // 6):
+        cert["revoked"] = draw.randrange(cert["begun"], min(cert["ends"], now) + 1)
+        cert["reason"] = draw.choice(REASONS)
+        if draw.random() < 0.02:
+            cert["reason"] = draw.choice(["keyTime," + re.sub("[-:T]", "", moment_of(cert["begun"])), "holdInstruction,1.2.840.10040.2.1"])
+    odd = [cert for cert in made if cert["revoked"] is not None]
+    for cert in odd[:3]:
+        cert["revoked"] = cert["begun"] - DAY
+    for cert in [cert for cert in odd[3:] if cert["ends"] < now - 2 * DAY][:3]:
+        cert["revoked"] = cert["ends"] + DAY
+    for cert in [cert for cert in odd[3:] if cert["ends"] > now + 3 * DAY][:3]:
+        cert["revoked"] = now + 2 * DAY
+    return made
+
+
+def index_of(certs, now):
+    """The text of an index.txt, as `openssl ca` writes it."""
+    lines = []
+    for cert in certs:
+        state = "R" if cert["revoked"] is not None else ("E" if cert["ends"] < now and cert["serial"] % 3 else "V")
+        revoked = "" if cert["revoked"] is None else asn1(cert["revoked"]) + ("," + cert["reason"] if cert["reason"] else "")
+        serial = f"{cert['serial']:X}"
+        serial = serial.zfill(len(serial) + len(serial) % 2)
+        lines.append(f"{state}\t{asn1(cert['ends'])}\t{revoked}\t{serial}\tunknown\t/C=XX/O=Example/CN={cert['holder']}\n")
+    return "".join(lines)
+
+
+def reason_of(cert):
+    return OURS[cert["reason"].partition(",")[0]]
+
+
+def is_late(cert):
+    """Revoked after its end: what has ended is revoked no more."""
+    return cert["revoked"] is not None and cert["revoked"] > cert["ends"]
+
+
+def status_of(cert, now):
+    """The status line of the register: what the index says, but for what the register can't say."""
+    if cert["revoked"] is not None and not is_late(cert):
+        return f"revoked {moment_of(min(cert['revoked'], now))} reason {reason_of(cert)}"
+    return "expired" if cert["ends"] < now else "good"
+
+
+def answers(t, der):
+    """The answers of an OCSP response as openssl prints them: of each serial number its status, moment and reason."""
+    (t.room / "read.der").write_bytes(der)
+    text = t.tool("openssl", "ocsp", "-respin", "read.der", "-noverify", "-resp_text").decode()
+    said = {}
+    for part in text.split("Serial Number: ")[1:]:
+        serial, status = re.match(r"([0-9A-F]+)\s+Cert Status: (\w+)", part).groups()
+        at, reason = re.search(r"Revocation Time: (.*)", part), re.search(r"Revocation Reason: .*? \(0x(\w+)\)", part)
+        said.setdefault(int(serial, 16), (status, openssl_time(at[1]) if at else None, int(reason[1], 16) if reason else 0))
+    return said
+
+
+def make_ca(t, index=""):
+    """The folder of `openssl ca`: its configuration, its key, and its files."""
+    it = Authority(t)
+    (t.room / "newcerts").mkdir()
+    attributes = "unique_subject = no\n"
+    files = {"ca.cnf": CONFIG, "serial": "1000\n", "crlnumber": "2A\n", "index.txt": index, "index.txt.attr": attributes}
+    for name, text in files.items():
+        (t.room / name).write_text(text)
+    return it
+
+
+def moved(t, *words, status=0):
+    ran = t.tried(*MOVE, *words)
+    t.same(ran.returncode, status, f"status of from-openssl-index.py, which told {ran.stderr[-500:]!r}")
+    return ran.stdout.decode(), ran.stderr.decode().splitlines()
+
+
+def asked(t, lines, now, file="ca.db"):
+    return t.done("script", file, given="".join(f"{moment_of(now)} {line}\n" for line in lines)).splitlines()
+
+
+def differences(got, wanted):
+    """What is other than wanted, alone: of thousands it is what is to be seen."""
+    return {it: (got.get(it), wanted.get(it)) for it in got.keys() | wanted.keys() if got.get(it) != wanted.get(it)}
+
+
+@test(seconds=25)
+def an_index_of_many_lines(t):
+    now = authority.now()
+    certs = drawn(LINES, now)
+    it = make_ca(t, index_of(certs, now))
+    written, told = moved(t, "index.txt", "--days", "365", status=1)
+    t.same((written, "are on hold" in told[0]), ("", True), "certificates on hold are refused unless it is said what becomes of them")
+    script, told = moved(t, "index.txt", "--days", "365", "--hold", "revoke", "--crlnumber", "crlnumber", "--now", moment_of(now))
+    for word in ("on hold", "CACompromise", "invalidity", "still to come", "ended before"):
+        t.true(any(word in line for line in told), f"nothing is told of {word}")
+    lines = script.splitlines()
+    moments = [line[:20] for line in lines]
+    t.same((moments == sorted(moments), moments[-1] <= moment_of(now)), (True, True), "moments rise, and none is past now")
+    revoked = sum(1 for cert in certs if status_of(cert, now).startswith("revoked"))
+    t.same(told[-1], f"{LINES} lines of the index, {LINES} certificates, {revoked} revocations, {len(lines)} lines of the script")
+    file = it.register(authority.in_memory(t) / "ca.db")
+    replies = t.done("script", file, given=script).splitlines()
+    t.same((len(replies), [reply for reply in replies if re.match("[EF][0-9]", reply)]), (len(lines), []), "no line of the script is refused")
+    got = dict(zip((cert["serial"] for cert in certs), asked(t, [f"status {cert['serial']:x}" for cert in certs], now, file)))
+    t.same(differences(got, {cert["serial"]: status_of(cert, now) for cert in certs}), {}, "the status of each serial number")
+    said = [status_of(cert, now).split()[0] for cert in certs]
+    t.same(asked(t, ["counts"], now, file), [f"good {said.count('good')} revoked {said.count('revoked')} expired {said.count('expired')}"])
+    its_crl_is_that_of_gencrl(t, file, certs, now)
+    its_ocsp_is_that_of_openssl(t, file, it, certs, now)
+    t.same(t.done("audit", file), f"sound, {LINES} certificates, {revoked} revoked, {0x2A} CRLs\n")
+
+
+def its_crl_is_that_of_gencrl(t, file, certs, now):
+    # It draws the revoked from the index, also those who had ended.
+    pem = t.tool("openssl", "ca", "-config", "ca.cnf", "-gencrl", "-batch", "-out", "theirs.pem")
+    theirs = listed(t, t.tool("openssl", "crl", "-in", "theirs.pem", "-outform", "DER"))
+    t.same(asked(t, ["crl"], now, file)[0].split()[:2], ["crl", str(0x2A)], "the CRL has the number of openssl's next one")
+    ours = listed(t, t.done("crl", file).encode("latin-1"))
+    by_serial = {cert["serial"]: cert for cert in certs}
+    wanted = {serial: (min(at, now), reason_of(by_serial[serial])) for serial, (at, _) in theirs.items() if not is_late(by_serial[serial])}
+    t.true(len(wanted) > LINES // 8, f"{len(wanted)} entries are few: {pem[-200:]!r}")
+    t.same(differences(ours, wanted), {}, "its entries are those of openssl ca -gencrl, but for those that had ended")
+
+
+def its_ocsp_is_that_of_openssl(t, file, it, certs, now):
+    desk = t.open(file, "--requests", "1000", command="serve")
+    theirs, ours, size = {}, {}, 500
+    for first in range(0, len(certs), size):
+        request = it.asks(*(f"{cert['serial']:x}" for cert in certs[first : first + size]))
+        responder = ("-index", "index.txt", "-CA", it.pem, "-rsigner", it.pem, "-rkey", it.key)
+        t.tool("openssl", "ocsp", *responder, "-reqin", "asked.der", "-respout", "theirs.der")
+        theirs |= answers(t, (t.room / "theirs.der").read_bytes())
+        ours |= answers(t, body_of(t, desk.ask("POST", "/ocsp", request)))
+    desk.end()
+    t.same(len(ours), len(certs), "each serial number that was asked is answered")
+    by_serial = {cert["serial"]: cert for cert in certs}
+    compared = {serial: said for serial, said in theirs.items() if not is_late(by_serial[serial])}
+    wanted = {serial: (status, None if at is None else min(at, now), reason_of(by_serial[serial]) if status == "revoked" else 0)
+              for serial, (status, at, _) in compared.items()}
+    t.same(differences({serial: ours[serial] for serial in compared}, wanted), {}, "answers are those of openssl ocsp -index")
+    # It answers none of the lines E; the register answers good, as for each that was not revoked.
+    unanswered = {cert["serial"] for cert in certs} - theirs.keys()
+    t.same((len(unanswered) > 0, {ours[serial][0] for serial in unanswered}), (True, {"good"}), "what openssl leaves unanswered")
+
+
+@test(seconds=4)
+def a_small_ca_that_openssl_made(t):
+    """With notBefore from its certificates; what can't be carried over is told, a line each."""
+    it = make_ca(t)
+    for name, days in (("a", 90), ("b", 365), ("c", 30), ("d", 3650)):
+        key = authority.KEYS["ecdsa-sha256"]
+        t.tool("openssl", "req", "-newkey", *key, "-nodes", "-keyout", "x.key", "-out", "x.csr", "-subj", f"/CN={name} & sons")
+        t.tool("openssl", "ca", "-config", "ca.cnf", "-batch", "-in", "x.csr", "-out", "x.pem", "-days", days, "-notext")
+    t.tool("openssl", "ca", "-config", "ca.cnf", "-revoke", "newcerts/1001.pem", "-crl_reason", "superseded")
+    lines = (t.room / "index.txt").read_text()
+    first = lines.splitlines()[0]
+    # What no openssl wrote: a serial number that comes twice, and one that is too great.
+    (t.room / "odd.txt").write_text(lines + first + "\n" + first.replace("\t1000\t", "\t" + "F" * 40 + "\t") + "\n")
+    script, told = moved(t, "odd.txt", "--certs", "newcerts")
+    wanted = ["line 4, serial number 1003", "line 5, serial number 1000", "line 6, serial number " + "F" * 40]
+    t.same([line.split(": ")[0] for line in told[:-1]], wanted)
+    t.has(told[0], "3651 days")
+    it.register()
+    replies = t.done("script", "ca.db", given=script).splitlines()
+    wanted = [reply for number in (1, 2, 3) for reply in (f"subscriber {number}", f"order {number}", "registered")]
+    t.same([reply.partition(" due ")[0] for reply in replies], [*wanted, "request 1", "revoked"])
+    got = asked(t, ["status 1000", "status 1001", "status 1002", "status 1003"], authority.now())
+    t.same([reply.split()[0] for reply in got], ["good", "revoked", "good", "unknown"])
+    t.has(got[1], "reason 4")
+    for serial, wanted in (("1000", "Valid (V)"), ("1001", "Revoked (R)")):
+        # It tells the status on standard error, and ends with 1 whatever that is.
+        t.has(t.tried("openssl", "ca", "-config", "ca.cnf", "-status", serial).stderr.decode(), wanted)
+
+
+# A line that ends it with nothing written, and what is told.
+UNREADABLE = {
+    "too few fields": ("V\t26\n", "bad.txt:2: no line of an index"),
+    "another state": ("X\t260101000000Z\t\t06\tunknown\t/CN=a\n", "bad.txt:2: no line of an index"),
+    "a serial number that is none": ("V\t260101000000Z\t\t0G\tunknown\t/CN=a\n", "bad.txt:2: no line of an index"),
+    "a moment that is none": ("V\t261301000000Z\t\t06\tunknown\t/CN=a\n", "is no time; nothing was written"),
+    "revoked with no moment": ("R\t260101000000Z\t\t06\tunknown\t/CN=a\n", "bad.txt:2: a revoked line has a moment"),
+    "a moment and not revoked": ("V\t260101000000Z\t250101000000Z\t06\tunknown\t/CN=a\n", "bad.txt:2: a revoked line has a moment"),
+    "a reason that is none": ("R\t260101000000Z\t250601000000Z,boredom\t06\tunknown\t/CN=a\n", "bad.txt:2: the reason 'boredom' is none of"),
+    "on hold": ("R\t260101000000Z\t250601000000Z,certificateHold\t06\tunknown\t/CN=a\n", "1 certificates are on hold, the first at line 2"),
+}
+
+
+@each(UNREADABLE)
+def an_index_that_can_t_be_moved(t, line, wanted):
+    (t.room / "bad.txt").write_text("V\t260101000000Z\t\t05\tunknown\t/CN=first\n" + line)
+    script, told = moved(t, "bad.txt", "--days", "90", status=1)
+    t.same((script, len(told)), ("", 1), "nothing is written")
+    t.has(told[0], wanted)
+    t.has(told[0], "nothing was written")
+
+
+@test
+def holds_that_are_said_to_be_good(t):
+    (t.room / "index.txt").write_text("R\t260101000000Z\t251101000000Z,certificateHold\t05\tunknown\t/CN=a\n")
+    it = Authority(t)
+    for said, status in (("good", "good"), ("revoke", "revoked 2025-11-01T00:00:00Z reason 0")):
+        script, told = moved(t, "index.txt", "--days", "90", "--hold", said, "--now", "2025-12-01T00:00:00Z")
+        t.has(told[0], "line 1, serial number 05: it was on hold, and is ")
+        it.register(f"{said}.db")
+        t.done("script", f"{said}.db", given=script)
+        t.same(t.done("script", f"{said}.db", given="2025-12-01T00:00:00Z status 05\n"), f"{status}\n", said)

@@ -1,0 +1,153 @@
+"""examples/nginx.conf in Debian's nginx, before one desk: what is answered, who may post requests for revocation, what is kept and for how
+long, and how old an answer can be when a certificate was revoked."""
+
+import re
+import subprocess
+import time
+from concurrent.futures import ThreadPoolExecutor
+
+from lib import authority
+from lib.authority import Authority, first_day, path_of
+from lib.trial import need, test
+from lib.web_server import Front, certificates
+
+KEPT = 4
+ASK = '{"serial":"06","ground":"superseded"}'
+
+
+def opened(t, *names, seconds=KEPT):
+    """A CA, an open desk of which 05 is revoked and 06 good, and servers before it."""
+    need("nginx")
+    it = Authority(t)
+    certificates(t)
+    it.register()
+    t.done("script", "ca.db", given=first_day(authority.now()))
+    desk = t.open("ca.db", "--counter", "counter")
+    return it, desk, [Front(t, desk.port, name, seconds) for name in names]
+
+
+@test(seconds=6)
+def what_is_answered(t):
+    it, _, [front] = opened(t, "front")
+    for serial, told in (("05", "revoked"), ("06", "good"), ("07", "unknown")):
+        t.same(it.asked_by_openssl(serial, front.url("/ocsp")), told, f"{serial} by POST, with a nonce")
+        for way, path in (("", path_of(it.asks(serial))), (", slashes and all as they are", path_of(it.asks(serial), quoted=False))):
+            status, fields, body = front.ask(path)
+            got = (status, fields["Content-Type"], it.reads(serial, body, verify=False))
+            t.same(got, (200, "application/ocsp-response", told), f"{serial} by GET{way}")
+    for path in ("/crl", "/crl/1"):
+        status, fields, body = front.ask(path)
+        t.same((status, fields["Content-Type"], list(authority.listed(t, body))), (200, "application/pkix-crl", [5]), path)
+    t.same(front.ask("/crl/2")[::2], (404, b'{"error":"E21 no-crl"}'), "a CRL that is none yet")
+    t.same(front.ask("/status/06", tls=True)[::2], (200, b'{"status":"good"}'), "by https")
+    t.same(front.ask("/counts", tls=True)[::2], (200, b'{"expired":0,"good":1,"revoked":1}'))
+    status, fields, body = front.ask("/board/", tls=True)
+    t.same((status, fields["Content-Type"], b"One certificate" in body), (200, "text/html", True), "the board")
+    t.same(front.ask("/nowhere")[0], 404, "no route")
+    t.same(front.ask("/ocsp", "--data-binary", "@-", given=b"\0" * 65_537)[0], 413, "a body of 65,537 bytes")
+
+
+@test(seconds=5)
+def who_may_post_requests(t):
+    _, _, [front] = opened(t, "front")
+    shows = lambda name: ("--cert", f"{name}.pem", "--key", f"{name}.key")
+    counter = t.counter()
+    t.same(front.ask("/requests", "-d", ASK)[0], 403, "nobody by plain http")
+    t.same(front.ask("/requests", "-d", ASK, tls=True)[0], 403, "nobody without a certificate")
+    t.same(front.ask("/requests", *shows("stranger"), "-d", ASK, tls=True)[0], 400, "nobody with another certificate")
+    t.same(front.ask("/requests", *shows("office"), tls=True)[0], 403, "a clerk, but not by GET")
+    # None of these reached the desk: the next request is the second.
+    status, _, body = front.ask("/requests", *shows("office"), "-d", ASK, tls=True)
+    t.same((status, b'"request":2' in body), (200, True), f"a clerk, who is told {body!r}")
+    t.same(counter.ask("revoke 2"), "revoked", "and the office decides")
+
+
+@test(seconds=12)
+def what_is_kept_and_for_how_long(t):
+    it, _, [front, other] = opened(t, "front", "other")
+    path = path_of(it.asks("06"))
+    t.same([front.state(path), front.state(path)], ["MISS", "HIT"], "OCSP by GET")
+    t.same(front.state(path + "?x=1"), "HIT", "with a query behind it, it is the same")
+    t.same(other.state(path), "MISS", "the other server asks for itself")
+    t.same([front.state("/ocsp/AAAA"), front.state("/ocsp/AAAA")], ["MISS", "MISS"], "a refusal is not kept")
+    t.same(front.ask("/ocsp/AAAA")[1]["Cache-Control"], "no-store", "and readers are told so")
+    t.same(front.ask(path)[1]["Cache-Control"], f"public, max-age={KEPT}, no-transform, must-revalidate", "a good answer may be kept by readers")
+    t.same([front.state("/crl/1"), front.state("/crl/1")], ["MISS", "HIT"], "a CRL by number")
+    t.same(front.ask("/crl/1")[1]["Cache-Control"], "public, max-age=3600", "for an hour")
+    t.same([front.state("/crl"), front.state("/crl")], ["MISS", "HIT"], "the latest CRL")
+    before = front.asked_of_desk()
+    t.same([front.ask("/crl/2")[0], front.ask("/crl/2")[0], front.asked_of_desk() - before], [404, 404, 2], "one that is none yet is not kept")
+    for route in ("/status/06", "/counts"):
+        t.same(front.ask(route)[1]["Cache-Control"], "no-store", route)
+    # Two requests that differ in a slash alone are two (their base64 has any bytes).
+    t.same([front.state("/ocsp/a//b"), front.state("/ocsp/a/b")], ["MISS", "MISS"], "slashes are not merged")
+    time.sleep(KEPT + 1)
+    t.same([front.state(path), front.state(path)], ["EXPIRED", "HIT"], "then the desk is asked anew")
+    t.same(front.state("/crl/1"), "HIT", "but for a CRL by number")
+
+
+@test(seconds=12)
+def how_old_an_answer_can_be(t):
+    it, _, [front] = opened(t, "front")
+    path, counter = path_of(it.asks("06")), t.counter()
+    front.state("/crl")
+    told = lambda: it.reads("06", front.ask(path)[2], verify=False)
+    made = time.monotonic()
+    t.same(told(), "good")
+    t.same([counter.ask("request 06 superseded").split()[0], counter.ask("revoke 2"), counter.ask("crl")], ["request", "revoked", "crl 2 entries 2"])
+    status, fields, body = front.ask(path)
+    t.same((fields["X-Cache-Status"], it.reads("06", body, verify=False)), ("HIT", "good"), "right after the revocation a kept answer")
+    t.same(it.asked_by_openssl("06", front.url("/ocsp")), "revoked", "OCSP by POST, which is never kept")
+    # When the last old answer was asked for: when an answer was read says how busy the machine is too. nginx counts whole seconds.
+    last = made
+    while time.monotonic() < made + 60:
+        at = time.monotonic()
+        if told() != "good":
+            break
+        last = at
+        time.sleep(0.1)
+    t.true(last - made <= KEPT + 1.5, f"an answer of {last - made:.1f} s was given, and they are kept for {KEPT} s")
+    t.same(told(), "revoked", "then OCSP by GET")
+    authority.until(lambda: 6 in authority.listed(t, front.ask("/crl")[2]), "the latest CRL to list it", 10)
+
+
+@test(seconds=12)
+def an_old_answer_is_never_given_while_the_desk_is_away(t):
+    it, desk, [front] = opened(t, "front")
+    path = path_of(it.asks("06"))
+    t.same(front.state(path), "MISS")
+    desk.end()
+    t.same(front.ask("/ocsp", "--data-binary", "@-", given=it.asks("06"))[0], 502, "by POST")
+    time.sleep(KEPT + 1)
+    t.same(front.ask(path)[0], 502, "what was kept, once it is older than it may be")
+    t.open("ca.db", "--counter", "counter", "--port", desk.port)
+    t.same((front.ask(path)[0], it.asked_by_openssl("06", front.url("/ocsp"))), (200, "good"), "and once it is back")
+
+
+@test(seconds=5)
+def of_many_readers_one_goes_to_the_desk(t):
+    it, _, [front] = opened(t, "front", seconds=60)
+    before, path = front.asked_of_desk(), path_of(it.asks("06"))
+
+    def read(_):
+        told = subprocess.run(["curl", "-s", front.url(path)], capture_output=True, check=True)
+        return told.stdout
+
+    with ThreadPoolExecutor(16) as pool:
+        got = set(pool.map(read, range(48)))
+    t.same(len(got), 1, "answers that are one and the same")
+    t.same(it.reads("06", got.pop(), verify=False), "good")
+    t.same(front.asked_of_desk() - before, 1, "how often the desk was asked")
+
+
+@test(seconds=6)
+def two_servers_answer_as_many_as_wrk_asks(t):
+    need("wrk")
+    it, _, fronts = opened(t, "front", "other", seconds=60)
+    before, path = [front.asked_of_desk() for front in fronts], path_of(it.asks("06"))
+    asks = lambda front: t.tool("wrk", "-t", 1, "-c", 16, "-d", 1, front.url(path)).decode()
+    with ThreadPoolExecutor(2) as pool:
+        for told in pool.map(asks, fronts):
+            t.true(not re.search("Non-2xx|Socket errors", told), told)
+            t.true(float(re.search(r"Requests/sec:\s+([0-9.]+)", told)[1]) > 100, told)
+    t.same([front.asked_of_desk() - first for front, first in zip(fronts, before)], [1, 1], "how often each asked the desk")

@@ -1,0 +1,202 @@
+"""Peers of an open desk, of all kinds and many at once: nobody who is slow holds anybody up. And lines at the counter, beside them."""
+
+import resource
+import socket
+import threading
+import time
+
+from lib.program import Counter, parted, read_all
+from lib.trial import Skipped, test
+
+DAY = "2026-01-01T00:00:00Z"
+COUNTS = b"GET /counts HTTP/1.1\r\nHost: localhost\r\n\r\n"
+CRL = b"GET /crl/1 HTTP/1.1\r\nHost: localhost\r\n\r\n"
+LARGE = 12_000_000
+
+
+def opened(t, *words, command="open"):
+    """A desk whose CRL 1 is larger than what a socket holds; nothing but an audit looks into an older CRL."""
+    t.register(lines=f"{DAY} subscriber acme\n{DAY} order 1 398\n{DAY} register 1 05 {DAY} 2026-12-31T00:00:00Z\n{DAY} crl\n{DAY} crl\n")
+    t.sql("ca.db", f"UPDATE crl SET der = zeroblob({LARGE}) WHERE number = 1")
+    t.clock(DAY)
+    return t.open("ca.db", *words, command=command)
+
+
+def peer(t, desk, sent=b""):
+    made = t.enter_context(desk.connect())
+    made.sendall(sent)
+    return made
+
+
+def at_once(t, desk, beside):
+    """A request is answered within a second, or a few on a slow machine."""
+    began = time.perf_counter()
+    status = parted(desk.send(COUNTS))[0]
+    took = time.perf_counter() - began
+    t.true(status == 200 and took < 5, f"beside {beside}: {status} after {took:.1f} s")
+
+
+@test(seconds=4)
+def a_request_is_answered_among_200_peers_at_all_stages(t):
+    desk = opened(t)
+    kinds = [b"", b"GET /cou", b"G", b"\0\xff\0\r\n\r\n", b"half closed", b"gone", CRL, COUNTS + b"more" * 1_000]
+    for _ in range(25):
+        for sent in kinds:
+            made = peer(t, desk, sent)
+            if sent == b"half closed":
+                made.shutdown(socket.SHUT_WR)
+            elif sent == b"gone":
+                made.close()
+    at_once(t, desk, "200 peers")
+    with desk.connect() as slow:
+        for it in COUNTS:
+            slow.sendall(bytes([it]))
+            time.sleep(0.001)
+        t.same(parted(read_all(slow))[0], 200, "who sends one byte at a time")
+    t.same(t.done("at", "counter", given="status 05\n"), "good\n", "a line at the counter beside them")
+
+
+@test(seconds=4)
+def each_of_32_at_once_gets_the_answer_to_its_own_request(t):
+    desk = opened(t)
+    wrong = []
+
+    def ask(number):
+        wanted = b'{"status":"unknown"}' if number % 2 else b'{"error":"E22 syntax"}'
+        target = f"/status/7{number:02x}" if number % 2 else "/status/0"
+        for _ in range(30):
+            got = parted(desk.ask("GET", target))[2]
+            if got != wanted:
+                wrong.append((target, got))
+
+    askers = [threading.Thread(target=ask, args=(number,)) for number in range(32)]
+    for it in askers:
+        it.start()
+    for it in askers:
+        it.join()
+    t.same(wrong, [], "answers that are another's")
+
+
+@test(seconds=5)
+def more_peers_than_there_are_places(t):
+    _, hard = resource.getrlimit(resource.RLIMIT_NOFILE)
+    if hard < 2_000 and hard != resource.RLIM_INFINITY:
+        raise Skipped("the system has no descriptors for 1,100 connections: ulimit -n 2000")
+    resource.setrlimit(resource.RLIMIT_NOFILE, (2_000, hard))
+    desk = opened(t)
+    held = [peer(t, desk) for _ in range(1_100)]
+    at_once(t, desk, "1,100 silent peers")
+    held[0].settimeout(10)
+    t.same(read_all(held[0]), b"", "the oldest is let go, with no answer")
+    held[-1].settimeout(10)
+    held[-1].sendall(COUNTS)
+    t.same(parted(read_all(held[-1]))[0], 200, "the newest")
+
+
+@test(seconds=3)
+def a_large_answer_is_sent_as_its_peer_takes_it(t):
+    desk = opened(t)
+    slow = peer(t, desk, CRL)
+    time.sleep(0.2)
+    at_once(t, desk, "one that does not read")
+    got = 0
+    while piece := slow.recv(200_000):
+        got += len(piece)
+    t.true(got > LARGE, f"{got} bytes of more than {LARGE}")
+
+
+@test(seconds=3)
+def who_breaks_off_is_told_in_the_log(t):
+    desk = opened(t, "--log")
+    gone = peer(t, desk, CRL)
+    port = gone.getsockname()[1]
+    time.sleep(0.3)
+    # What comes to it is refused by a reset.
+    gone.setsockopt(socket.SOL_SOCKET, socket.SO_LINGER, b"\1\0\0\0\0\0\0\0")
+    gone.close()
+    time.sleep(0.5)
+    at_once(t, desk, "one that broke off")
+    told = desk.end().told
+    t.same([it for it in told if " lost " in it], [f"{DAY} 127.0.0.1:{port} lost broken"], "what was lost")
+
+
+@test(seconds=35)
+def who_is_not_whole_in_30_seconds_is_let_go(t):
+    desk = opened(t, "--log")
+    late = peer(t, desk, b"GET /coun")
+    port = late.getsockname()[1]
+    late.settimeout(60)
+    began = time.monotonic()
+    t.same(read_all(late), b"", "what it hears")
+    took = time.monotonic() - began
+    t.true(29 < took < 45, f"after {took:.0f} s")
+    t.true(f"{DAY} 127.0.0.1:{port} lost late" in desk.end().told, "the log does not tell it")
+
+
+@test(seconds=2)
+def so_many_are_served_and_no_more(t):
+    desk = opened(t, "--requests", 3, command="serve")
+    t.same([parted(desk.send(COUNTS))[0] for _ in range(3)], [200] * 3)
+    t.same(desk.wait().status, 0, "status")
+    with socket.socket() as one_more:
+        t.true(one_more.connect_ex(("127.0.0.1", desk.port)) != 0, "a fourth is answered")
+
+
+@test(seconds=2)
+def counters_wait_for_nobody_and_the_ninth_for_a_place(t):
+    desk = opened(t)
+    first, second = t.counter(), t.counter()
+    first.peer.sendall(b"status 7f")
+    t.same(second.ask("status 05"), "good", "while another is in mid-line")
+    first.peer.sendall(b"f\nstatus x\nstat")
+    t.same([first.file.readline(), first.file.readline()], [b"unknown\n", b"E22 syntax\n"], "in order")
+    idle = [t.counter() for _ in range(6)]
+    ninth = t.counter()
+    ninth.peer.sendall(b"status 05\n")
+    t.same([it.ask("status 06") for it in (second, *idle)], ["unknown"] * 7, "eight at once")
+    ninth.peer.settimeout(0.5)
+    try:
+        t.same(ninth.peer.recv(10), None, "the ninth is answered while all eight are there")
+    except TimeoutError:
+        pass
+    first.file.close()
+    first.peer.close()
+    ninth.peer.settimeout(10)
+    t.same(ninth.peer.recv(10), b"good\n", "the ninth, once one is gone")
+    t.true(desk.process.poll() is None, "the desk ended")
+
+
+@test(seconds=2)
+def a_line_that_is_not_whole_is_never_run(t):
+    desk = opened(t)
+    with Counter(t.room / "counter") as counter:
+        counter.ask("request 05 asked")
+        counter.peer.sendall(b"revoke 1")
+        counter.peer.shutdown(socket.SHUT_WR)
+        t.same(counter.file.read(), b"", "the reply to a line with no LF")
+    with Counter(t.room / "counter") as counter:
+        counter.peer.sendall(b"revoke 1")
+    time.sleep(0.2)
+    t.same(t.done("at", "counter", given="status 05\n"), "good\n")
+    at_once(t, desk, "a counter that was cut off")
+
+
+@test(seconds=3)
+def a_counter_that_does_not_read_is_held(t):
+    opened(t)
+    unread = t.counter()
+    unread.peer.settimeout(1)
+    try:
+        for _ in range(100_000):
+            unread.peer.sendall(b"status 7b\n")
+    except TimeoutError:
+        pass
+    t.same(t.done("at", "counter", given="status 05\n"), "good\n", "another counter")
+
+
+@test(seconds=2)
+def a_revocation_is_in_the_very_next_answers(t):
+    desk = opened(t)
+    t.same(t.done("at", "counter", given="request 05 key-compromise\nrevoke 1\n").splitlines()[1], "revoked")
+    t.same(parted(desk.ask("GET", "/status/05"))[2], b'{"at":"2026-01-01T00:00:00Z","reason":1,"status":"revoked"}')
+    t.same(parted(desk.ask("GET", "/counts"))[2], b'{"expired":0,"good":0,"revoked":1}')

@@ -1,0 +1,445 @@
+"""What holds the issuer's key, at a Unix socket: real keys and signatures of openssl under each algorithm, what is no signature, and signers
+that fail."""
+
+import socket
+import time
+from concurrent.futures import ThreadPoolExecutor
+
+from lib import authority, program
+from lib.authority import IDENTIFIERS, INTERNAL, KEYS, Authority, Peer, body_of, first_day, first_day_replies, moment_of
+from lib.program import ANY_SIGNATURE, P256_KEY
+from lib.trial import each, need, test
+
+MOMENT = "2026-01-01T00:00:00Z"
+ALGORITHMS = {it: it for it in KEYS}
+P256 = ("--signer", "ca.sign", "--algorithm", "ecdsa-sha256")
+
+
+def refused(t, words, what=""):
+    """A command that ends with `bad-signer` before it did anything."""
+    ran = t.desk(*words)
+    t.same((ran.status, ran.out, ran.err), (1, b"", b"bad-signer\n"), what or program.shown(words))
+
+
+def tried(t, lines, signing=P256, file="ca.db"):
+    """The replies to lines, all at one moment."""
+    return t.done("script", file, *signing, given="".join(f"{MOMENT} {it}\n" for it in lines)).splitlines()
+
+
+# Real keys
+
+
+@each(ALGORITHMS, seconds=8)
+def openssl_verifies_what_a_key_signed(t, algorithm):
+    it = Authority(t, algorithm)
+    it.register()
+    begun = authority.now()
+    signer = it.signer()
+    t.same(t.done("script", "ca.db", *it.signing(), given=first_day(begun)).splitlines(), first_day_replies(begun), "the first day")
+    crl = t.done("crl", "ca.db").encode("latin-1")
+    it.verifies(crl)
+    part, identifier, signature = authority.signed_part(crl)
+    t.same(identifier.hex().upper(), IDENTIFIERS[algorithm], "the CRL's AlgorithmIdentifier")
+    t.same(authority.values_of(authority.inside(crl, 0)[1])[1][2], identifier, "and the one inside of what is signed")
+    t.same(signer.asked, [part], "the bytes that were to be signed")
+    desk = t.open("ca.db", "--requests", "1000", *it.signing(), command="serve")
+    url = f"http://127.0.0.1:{desk.port}/ocsp"
+    for serial, told in (("05", "revoked"), ("06", "good"), ("07", "unknown")):
+        t.same(it.asked_by_openssl(serial, url, verify=True), told, f"OCSP of {serial} by POST")
+        response = body_of(t, desk.ask("GET", authority.path_of(it.asks(serial))))
+        t.same(it.reads(serial, response), told, f"OCSP of {serial} by GET")
+        part, identifier, _ = authority.signed_part(authority.basic_of(response))
+        t.same((identifier.hex().upper(), signer.asked[-1]), (IDENTIFIERS[algorithm], part), "what is signed of an answer, and how")
+    it.verifies(body_of(t, desk.ask("GET", "/crl"), "application/pkix-crl"), "GET /crl")
+
+
+@each(ALGORITHMS, seconds=4)
+def once_nothing_holds_the_key(t, algorithm):
+    it = Authority(t, algorithm)
+    it.register()
+    begun = authority.now()
+    with program.Signer(t.room / "ca.sign", it.sign):
+        t.done("script", "ca.db", *it.signing(), given=first_day(begun))
+    desk = t.open("ca.db", "--requests", "1000", *it.signing(), command="serve")
+    t.same(body_of(t, desk.ask("POST", "/ocsp", it.asks("05"))), INTERNAL, "OCSP that nobody signs")
+    t.same(body_of(t, desk.ask("GET", "/status/06"), "application/json"), b'{"status":"good"}', "the server goes on")
+    desk.end()
+    later = moment_of(begun + 3600)
+    lines = f"{later} crl\n{later} status 06\n"
+    t.same(t.done("script", "ca.db", *it.signing(), given=lines), "F3 signer\ngood\n", "a CRL that nobody signs")
+    ran = t.desk("crl", "ca.db", "--number", 2)
+    t.same((ran.status, ran.out, ran.err), (1, b"", b"E21 no-crl\n"), "none is recorded")
+    refused(t, ["script", "ca.db"], "a digest does not follow a key")
+    row = f"order,serial,notBefore,notAfter\n1,05,{moment_of(begun)},{moment_of(begun + 90 * authority.DAY)}\n"
+    t.same(t.done("import", "ca.db", "--now", later, given=row), "same\n", "an import signs nothing")
+    t.same(t.done("schedule", "ca.db", "1970-01-01T00:00:00Z=398"), "schedule set\n", "nor does a schedule")
+    # The number that failed is the next one's.
+    it.signer("again")
+    t.same(t.done("script", "ca.db", *it.signing("again"), given=f"{later} crl\n"), "crl 2 entries 1\n", "once it is back")
+
+
+@each({"by examples/signer.py": "signer.py", "by socat and openssl": "socat"}, seconds=4)
+def a_tool_that_signs_standard_input(t, tool):
+    need("python3" if tool == "signer.py" else "socat")
+    it = Authority(t)
+    it.register()
+    if tool == "signer.py":
+        authority.need_cryptography(t)
+        t.same(t.tool("python3", authority.EXAMPLES / "signer.py", it.key), b"ecdsa-sha256\n", "the name of the key's algorithm")
+        words = ["python3", authority.EXAMPLES / "signer.py", it.key, "ca.sign"]
+    else:
+        words = ["socat", "UNIX-LISTEN:ca.sign,fork,mode=600", "EXEC:openssl dgst -sha256 -sign ca.key"]
+    authority.started(t, words, t.room / "ca.sign")
+    t.same(t.room.joinpath("ca.sign").stat().st_mode & 0o777, 0o600, "who may have anything signed")
+    t.same(tried(t, ["crl", "crl"]), ["crl 1 entries 0", "crl 2 entries 0"])
+    it.verifies(t.done("crl", "ca.db").encode("latin-1"))
+
+
+@each(ALGORITHMS, seconds=4)
+def examples_signer_py_signs_under_each_algorithm(t, algorithm):
+    authority.need_cryptography(t)
+    it = Authority(t, algorithm)
+    it.register()
+    t.same(t.tool("python3", authority.EXAMPLES / "signer.py", it.key).decode(), f"{algorithm}\n")
+    authority.started(t, ["python3", authority.EXAMPLES / "signer.py", it.key, "ca.sign"], t.room / "ca.sign")
+    # With P-256 it draws eight nonces ahead: more than those.
+    t.same(tried(t, ["crl"] * 12, it.signing()), [f"crl {number} entries 0" for number in range(1, 13)])
+    for number in (1, 8, 12):
+        it.verifies(t.done("crl", "ca.db", "--number", number).encode("latin-1"), f"CRL {number}")
+
+
+# Long messages
+
+
+@test(seconds=20)
+def a_crl_of_3000_entries_is_sent_whole_and_verified(t):
+    """Over 100 kB, so far over what a buffer of 4,096 bytes has. The signer answers once the desk has told that no more comes."""
+    it = Authority(t)
+    file = it.register(authority.in_memory(t) / "ca.db")
+    signer = it.signer()
+    # Serial numbers of 19 octets, as they are drawn.
+    serials = [f"{(1 << 150) + (at * 0x9E3779B97F4A7C15F39CC0605CEDC835) % (1 << 149):038x}" for at in range(3000)]
+    begins, ends = MOMENT, "2026-03-01T00:00:00Z"
+    lines = [f"{begins} subscriber acme"]
+    for at, serial in enumerate(serials, 1):
+        lines += [f"{begins} order 1 398", f"{begins} register {at} {serial} {begins} {ends}"]
+        lines += [f"{begins} request {serial} superseded", f"{begins} revoke {at}"]
+    lines += [f"{begins} crl", f"{begins} crl"]
+    told = t.done("script", file, *it.signing(), given="\n".join(lines) + "\n").splitlines()
+    t.same(told[-2:], ["crl 1 entries 3000", "crl 2 entries 3000"])
+    crl = t.done("crl", file).encode("latin-1")
+    t.true(len(crl) > 100_000, f"the CRL has {len(crl)} bytes")
+    it.verifies(crl)
+    t.same(len(signer.asked), 2, "how often it was asked")
+    t.same(signer.asked[1], authority.signed_part(crl)[0], "what the signer got")
+    t.same(authority.listed(t, crl), {int(serial, 16): (program.seconds_of(begins), 4) for serial in serials})
+    desk = t.open(file, *it.signing())
+    t.same(body_of(t, desk.ask("GET", "/crl"), "application/pkix-crl") == crl, True, "GET /crl is the same")
+
+
+@each({f"{size} bytes": size for size in (4095, 4096, 4097, 8192, 20_000)}, seconds=2)
+def an_ocsp_answer_so_long_is_sent_whole(t, size):
+    """Of exactly so many bytes to be signed: each CertID that is asked adds some, and each octet of a serial number one."""
+    it = Authority(t)
+    it.register()
+    signer = it.signer()
+    desk = t.open("ca.db", *it.signing())
+
+    def answered(octets):
+        request = it.asks(*(f"{at:x}" + "5A" * more for at, more in enumerate(octets, 0x1101)))
+        response = body_of(t, desk.ask("POST", "/ocsp", request))
+        t.same(authority.answered_ids(response), authority.cert_ids(request), "the CertIDs")
+        t.same(signer.asked[-1], authority.signed_part(authority.basic_of(response))[0], "what the signer got")
+        t.same(it.reads("1101" + "5A" * octets[0], response), "unknown")
+        return len(signer.asked[-1])
+
+    count = (size - 150) // 103
+    lacking = size - answered([0] * count)
+    t.true(0 <= lacking <= 17 * count, f"{lacking} bytes are lacking with {count} serial numbers of two octets")
+    t.same(answered([lacking // count + (at < lacking % count) for at in range(count)]), size, "bytes")
+
+
+# Which socket
+
+
+@each({"script": "script", "serve": "serve", "open": "open"}, seconds=2)
+def only_the_socket_that_is_told_is_asked(t, command):
+    it = Authority(t)
+    it.register()
+    told, others = it.signer("told.sign"), [t.signer("other.sign"), t.signer("ca.sign")]
+    if command == "script":
+        t.same(tried(t, ["crl"], it.signing("told.sign")), ["crl 1 entries 0"])
+    else:
+        more = ("--requests", "9") if command == "serve" else ()
+        desk = t.open("ca.db", *more, *it.signing("told.sign"), command=command)
+        t.same(it.reads("05", body_of(t, desk.ask("POST", "/ocsp", it.asks("05")))), "unknown")
+        if command == "open":
+            t.same(t.counter().ask("crl"), "crl 1 entries 0")
+    t.same((len(told.asked), [other.asked for other in others]), ({"script": 1, "serve": 1, "open": 2}[command], [[], []]))
+
+
+# The forms of signatures and keys
+
+# An ECDSA signature is the DER of two positive INTEGERs below 2^256 or 2^384 (RFC 5480 appendix A, X.690 8.3, 10.1): whether it has that form
+# under P-256 and under P-384.
+ECDSA_FORMS = [
+    # r and s are 1; 127; 128; 2^15.
+    ("3006020101020101", True, True),
+    ("300602017F02017F", True, True),
+    ("30080202008002020080", True, True),
+    ("300A02030080000203008000", True, True),
+    # Neither may be 0 or negative, or have an octet too many.
+    ("3006020100020101", False, False),
+    ("3006020101020100", False, False),
+    ("3006020180020101", False, False),
+    ("30060201010201FF", False, False),
+    ("300702020001020101", False, False),
+    ("300702010102020001", False, False),
+    ("3007020200000201FF", False, False),
+    ("3004020002020101", False, False),
+    # One, three, other tags, lengths in more octets than they need, and bytes behind.
+    ("3003020101", False, False),
+    ("3009020101020101020101", False, False),
+    ("3106020101020101", False, False),
+    ("3006030101020101", False, False),
+    ("3006020101030101", False, False),
+    ("308106020101020101", False, False),
+    ("300702810101020101", False, False),
+    ("300602010102010100", False, False),
+    ("3005020101020101", False, False),
+    ("3007020101020101", False, False),
+    ("", False, False),
+    ("30", False, False),
+    ("3000", False, False),
+    # 2^256 - 1 and 2^256, 2^384 - 1 and 2^384.
+    ("3026022100" + "FF" * 32 + "020101", True, True),
+    ("3026022101" + "00" * 32 + "020101", False, True),
+    ("3026020101022101" + "00" * 32, False, True),
+    ("3036020101023100" + "FF" * 48, False, True),
+    ("3066023100" + "FF" * 48 + "023100" + "FF" * 48, False, True),
+    ("3036023101" + "00" * 48 + "020101", False, False),
+    ("3036020101023101" + "00" * 48, False, False),
+    # 4,096 bytes and one more.
+    ("07" * 4096, False, False),
+    ("07" * 4097, False, False),
+    ("3006020101020101" + "00" * 4090, False, False),
+]
+P384_KEY = "04" + "11" * 96
+RSA_2048_KEY = "3082010A0282010100" + "BF" * 256 + "0203010001"
+ED25519_KEY = "17" * 32
+
+
+def signatures_of_lengths(*lengths):
+    return ["07" * it for it in lengths]
+
+
+# The algorithm, the register's key, and the signatures that are and are not of their form.
+FORMS = {
+    "ecdsa-sha256": ("ecdsa-sha256", P256_KEY, [(it, fits) for it, fits, _ in ECDSA_FORMS]),
+    "ecdsa-sha384": ("ecdsa-sha384", P384_KEY, [(it, fits) for it, _, fits in ECDSA_FORMS]),
+    # As long as the modulus (RFC 8017 8.2.2), and 64 octets (RFC 8032 5.1.6).
+    "rsa-sha256": ("rsa-sha256", RSA_2048_KEY, [(it, len(it) == 512) for it in signatures_of_lengths(0, 63, 64, 65, 255, 256, 257, 4096, 4097)]),
+    "ed25519": ("ed25519", ED25519_KEY, [(it, len(it) == 128) for it in signatures_of_lengths(0, 63, 64, 65, 255, 256, 257, 4096, 4097)]),
+    # A modulus of one octet, of two, and of two octets that needs a third in DER (RFC 8017 A.1.1).
+    "a modulus of one octet": ("rsa-sha256", "300602010F020103", [(it, len(it) == 2) for it in signatures_of_lengths(0, 1, 2, 3, 4)]),
+    "a modulus with a zero octet": ("rsa-sha256", "3008020300FFFF020103", [(it, len(it) == 4) for it in signatures_of_lengths(0, 1, 2, 3, 4)]),
+    "a modulus of three octets": ("rsa-sha256", "3008020301FFFF020103", [(it, len(it) == 6) for it in signatures_of_lengths(0, 1, 2, 3, 4)]),
+}
+
+
+@each(FORMS, seconds=2)
+def what_is_no_signature_is_f3_and_the_next_command_goes_on(t, algorithm, key, rows):
+    t.register(key=key)
+    t.signer("ca.sign", lambda message, call: bytes.fromhex(rows[call - 1][0]) if call <= len(rows) else b"")
+    numbers = iter(range(1, len(rows) + 1))
+    wanted = [f"crl {next(numbers)} entries 0" if fits else "F3 signer" for _, fits in rows]
+    got = tried(t, ["crl"] * len(rows), ("--signer", "ca.sign", "--algorithm", algorithm))
+    t.same(list(zip((it for it, _ in rows), got)), list(zip((it for it, _ in rows), wanted)), "signatures and replies")
+    issued = sum(1 for _, fits in rows if fits)
+    t.same(t.sql("ca.db", "SELECT count(*) FROM crl"), [(issued,)], "CRLs that are recorded")
+    last = [it for it, fits in rows if fits][-1]
+    crl = t.done("crl", "ca.db", "--number", issued).encode("latin-1")
+    t.same(authority.signed_part(crl)[2].hex().upper(), last.upper(), "the signature that stands in the last one")
+
+
+@each(ALGORITHMS, seconds=4)
+def a_signature_of_openssl_cut_short_or_made_longer(t, algorithm):
+    it = Authority(t, algorithm)
+    it.register()
+    signature = it.sign(b"the bytes to be signed")
+    gives = [signature[:count] for count in range(len(signature))] + [signature + b"\0", signature]
+    t.signer("ca.sign", lambda message, call: gives[call - 1])
+    got = tried(t, ["crl"] * len(gives), it.signing())
+    t.same(got, ["F3 signer"] * (len(gives) - 1) + ["crl 1 entries 0"])
+
+
+@each(ALGORITHMS, seconds=4)
+def a_signature_of_one_algorithm_under_the_others(t, algorithm):
+    """What is below 2^256 is below 2^384: the form alone is looked at."""
+    own = Authority(t, algorithm)
+    own.register()
+    others = [Authority(t, it, name=it) for it in KEYS]
+    gives = [it.sign(b"the bytes to be signed") for it in others]
+    t.signer("ca.sign", lambda message, call: gives[call - 1])
+    fits = [it.algorithm == algorithm or (it.algorithm, algorithm) == ("ecdsa-sha256", "ecdsa-sha384") for it in others]
+    numbers = iter(range(1, 9))
+    t.same(tried(t, ["crl"] * len(gives), own.signing()), [f"crl {next(numbers)} entries 0" if it else "F3 signer" for it in fits])
+
+
+# Keys as a register has them, and whether they are of an algorithm: of a point its first octet and how many there are (SEC 1 2.3.3).
+POINTS = [
+    ("ecdsa-sha256", 4, 65, True), ("ecdsa-sha256", 2, 33, True), ("ecdsa-sha256", 3, 33, True), ("ecdsa-sha256", 4, 64, False),
+    ("ecdsa-sha256", 4, 66, False), ("ecdsa-sha256", 4, 33, False), ("ecdsa-sha256", 2, 65, False), ("ecdsa-sha256", 0, 1, False),
+    ("ecdsa-sha256", 6, 65, False), ("ecdsa-sha256", 4, 97, False), ("ecdsa-sha384", 4, 97, True), ("ecdsa-sha384", 2, 49, True),
+    ("ecdsa-sha384", 3, 49, True), ("ecdsa-sha384", 4, 65, False), ("ecdsa-sha384", 5, 97, False), ("ed25519", 4, 32, True),
+    ("ed25519", 4, 31, False), ("ed25519", 4, 33, False), ("rsa-sha256", 4, 65, False),
+]
+KEY_ROWS = [(algorithm, f"{first:02X}" + "00" * (count - 1), fits) for algorithm, first, count, fits in POINTS] + [
+    ("rsa-sha256", "300602010F020103", True), ("rsa-sha256", "3006020100020103", False), ("rsa-sha256", "300602010F020100", False),
+    ("rsa-sha256", "3003020105", False), ("rsa-sha256", "616263", False), ("rsa-sha256", RSA_2048_KEY, True), ("ecdsa-sha256", RSA_2048_KEY, False),
+    ("ed25519", RSA_2048_KEY, False), ("rsa-sha256", ED25519_KEY, False), ("ecdsa-sha384", P256_KEY, False), ("ecdsa-sha256", P384_KEY, False),
+]
+
+
+@each({f"{algorithm} {key[:20]} of {len(key) // 2} octets": (algorithm, key, fits) for algorithm, key, fits in KEY_ROWS}, seconds=1)
+def a_key_is_of_its_algorithm_or_bad_signer(t, algorithm, key, fits):
+    t.register(key=key)
+    words = ["script", "ca.db", "--signer", "ca.sign", "--algorithm", algorithm]
+    if fits:
+        t.same(t.done(*words, given=f"{MOMENT} counts\n"), "good 0 revoked 0 expired 0\n")
+    else:
+        refused(t, words)
+
+
+@each(ALGORITHMS, seconds=4)
+def each_command_wants_a_key_of_its_algorithm(t, algorithm):
+    it = Authority(t, algorithm)
+    it.register()
+    for other in KEYS:
+        if other != algorithm:
+            for words in (["script", "ca.db"], ["serve", "ca.db", "--port", program.free_port(), "--requests", 1],
+                          ["open", "ca.db", "--port", program.free_port(), "--counter", "counter"]):
+                refused(t, [*words, "--signer", "ca.sign", "--algorithm", other])
+    t.true(not (t.room / "counter").exists(), "no counter was made")
+
+
+# Signers that fail
+
+
+def gives(*pieces, pause=0.0):
+    """Reads all, and gives these, one after the other."""
+
+    def manner(peer, it):
+        program.read_all(peer)
+        for piece in pieces:
+            peer.sendall(piece)
+            time.sleep(pause)
+
+    return manner
+
+
+def reads_little(peer, it):
+    peer.recv(1)
+
+
+FAILING = {
+    "closes at once": lambda peer, it: None,
+    "closes when it has read a byte": reads_little,
+    "reads all and gives nothing": gives(),
+    "gives half of a signature": gives(ANY_SIGNATURE[:4]),
+    "gives a byte too many": gives(ANY_SIGNATURE + b"\0"),
+    "gives a signature twice": gives(ANY_SIGNATURE, ANY_SIGNATURE, pause=0.05),
+    "gives a megabyte": gives(b"\7" * 1_000_000),
+}
+
+
+@each(FAILING, seconds=2)
+def a_signer_that_fails_once(t, manner):
+    """The CRL is F3 with nothing recorded, an OCSP request internalError; the next command goes on with the same signer."""
+    t.register(key=P256_KEY)
+    well = gives(ANY_SIGNATURE)
+    t.enter_context(Peer(t.room / "ca.sign", lambda peer, it: (manner if it.asked % 2 else well)(peer, it)))
+    got = tried(t, ["crl", "crl", "crl", "subscriber acme", "crl"])
+    t.same(got, ["F3 signer", "crl 1 entries 0", "F3 signer", "subscriber 1", "crl 2 entries 0"])
+    t.same(t.sql("ca.db", "SELECT number FROM crl ORDER BY number"), [(1,), (2,)])
+    desk = t.open("ca.db", *P256)
+    request = bytes.fromhex("30423040303E303C303A300906052B0E03021A05000414" + "00" * 20 + "0414" + "00" * 20 + "020105")
+    t.same(body_of(t, desk.ask("POST", "/ocsp", request)), INTERNAL, "an answer that nobody signs")
+    t.same(body_of(t, desk.ask("POST", "/ocsp", request))[:2] == INTERNAL[:2], False, "the next one is signed")
+
+
+NOBODY = {"no such path": None, "a file": "file", "a socket at which nobody listens": "socket", "a folder": "folder"}
+
+
+@each(NOBODY, seconds=1)
+def nobody_is_at_the_signer_s_socket(t, what):
+    t.register(key=P256_KEY)
+    path = t.room / "ca.sign"
+    if what == "file":
+        path.write_text("precious")
+    elif what == "folder":
+        path.mkdir()
+    elif what == "socket":
+        with socket.socket(socket.AF_UNIX) as it:
+            it.bind(str(path))
+    t.same(tried(t, ["crl", "subscriber acme", "next-crl"]), ["F3 signer", "subscriber 1", "next-crl at-once"])
+    t.same(t.sql("ca.db", "SELECT count(*) FROM crl"), [(0,)])
+    if what == "file":
+        t.same(path.read_text(), "precious", "the file stays")
+
+
+@each({"byte by byte": gives(*(bytes([it]) for it in ANY_SIGNATURE), pause=0.002), "after a second": lambda peer, it: late(peer)}, seconds=3)
+def a_signer_that_takes_its_time(t, manner):
+    t.register(key=P256_KEY)
+    t.enter_context(Peer(t.room / "ca.sign", manner))
+    t.same(tried(t, ["crl"]), ["crl 1 entries 0"])
+
+
+def late(peer):
+    program.read_all(peer)
+    time.sleep(1)
+    peer.sendall(ANY_SIGNATURE)
+
+
+def hangs(peer, it):
+    it.ended.wait(40)
+
+
+def drips(peer, it):
+    """A byte each second: who waits ten seconds for each byte waits for ever."""
+    program.read_all(peer)
+    while not it.ended.wait(1):
+        peer.sendall(b"\7")
+
+
+@test(seconds=14)
+def a_signer_has_ten_seconds_in_all(t):
+    """Of a script and of an open desk, where the signer hangs and where it drips: all four at once."""
+    for name, manner in (("hangs", hangs), ("drips", drips)):
+        for command in ("script", "open"):
+            t.register(f"{name}-{command}.db", key=P256_KEY)
+            t.enter_context(Peer(t.room / f"{name}-{command}.sign", manner))
+    signing = lambda name: ("--signer", f"{name}.sign", "--algorithm", "ecdsa-sha256")
+
+    def by_script(name):
+        begun = time.monotonic()
+        ran = program.run(["script", f"{name}.db", *signing(name)], f"{MOMENT} crl\n{MOMENT} counts\n", cwd=t.room)
+        return ran.lines, time.monotonic() - begun
+
+    def by_open(name):
+        desk = t.open(f"{name}.db", *signing(name), "--counter", f"{name}.counter")
+        with program.Counter(t.room / f"{name}.counter") as counter:
+            begun = time.monotonic()
+            told = [counter.ask("crl"), counter.ask("counts")]
+            return told, time.monotonic() - begun
+
+    with ThreadPoolExecutor(4) as pool:
+        works = {
+            f"{it}-{command}": pool.submit(work, f"{it}-{command}")
+            for it in ("hangs", "drips") for command, work in (("script", by_script), ("open", by_open))
+        }
+        for name, work in works.items():
+            told, seconds = work.result()
+            t.same(told, ["F3 signer", "good 0 revoked 0 expired 0"], name)
+            # As long on a machine that is busy, and never less.
+            t.true(9.9 <= seconds < 20, f"{name} took {seconds:.1f} s in place of ten")

@@ -1,0 +1,252 @@
+"""The command line: each word and option, what help says, which words are refused, and how the ones that are taken show in what the program does."""
+
+import re
+
+from lib.program import KEY, NAME
+from lib.trial import each, test
+
+ISSUER = ("--name", NAME, "--key", KEY)
+SERVE, OPEN = ("serve", "none.db"), ("open", "none.db", "--counter", "S")
+SCHEDULE, FIRST_STEP = ("schedule", "none.db"), "1970-01-01T00:00:00Z=398"
+# A socket and an algorithm.
+BOTH = "--signer and --algorithm are given both or neither, and an algorithm is ecdsa-sha256, ecdsa-sha384, rsa-sha256 or ed25519"
+NUMBER, RANGE = "a number is 1 to 18 digits", "within the range"
+MOMENT, STEP = "a moment is written as", "a step is written as"
+
+
+def refused(t, *words):
+    """Runs words that are bad: status 2, nothing on standard output, no file made; what is told, which ends with the usage."""
+    ran = t.desk(*words)
+    told = ran.err.decode()
+    t.same((ran.status, ran.out), (2, b""), "status and standard output")
+    t.true(told.startswith("error: "), f"no error is told first: {told!r}")
+    t.true(re.search(r"^Usage: \S+", told, re.MULTILINE), f"no usage is told: {told!r}")
+    t.same(sorted(it.name for it in t.room.iterdir()), [], "files that were made")
+    return told
+
+
+UNKNOWN = {
+    "no word": (),
+    "another word": ("frobnicate",),
+    "help is no word": ("help",),
+    "version is no option": ("--version",),
+    "init alone": ("init",),
+    "init without a key": ("init", "none.db", "--name", NAME),
+    "init without a name": ("init", "none.db", "--key", KEY),
+    "init without a file": ("init", *ISSUER),
+    "init of two files": ("init", "none.db", "G", *ISSUER),
+    "script of two files": ("script", "none.db", "G"),
+    "import without a moment": ("import", "none.db"),
+    "import without a file": ("import", "--now", "2026-01-01T00:00:00Z"),
+    "crl without a file": ("crl",),
+    "crl with a number below 0": ("crl", "none.db", "--number", "-1"),
+    "crl with another option": ("crl", "none.db", "--nubmer", "1"),
+    "serve without requests": (*SERVE, "--port", "80"),
+    "serve without a port": (*SERVE, "--requests", "1"),
+    "open without a counter": ("open", "none.db", "--port", "80"),
+    "open without a port": ("open", "none.db", "--counter", "S"),
+    "open without a file": ("open", "--port", "80", "--counter", "S"),
+    "open with requests": (*OPEN, "--port", "80", "--requests", "1"),
+    "at without a socket": ("at",),
+    "at with two sockets": ("at", "S", "F"),
+    "schedule without a step": SCHEDULE,
+    "audit without a file": ("audit",),
+    "audit of two files": ("audit", "none.db", "G"),
+    "clock with a value": ("script", "none.db", "--clock=1"),
+    "strict with a value": ("script", "none.db", "--strict="),
+}
+
+
+@each({name: (words,) for name, words in UNKNOWN.items()})
+def words_that_are_refused(t, words):
+    refused(t, *words)
+
+
+@test
+def an_option_without_its_value_is_named(t):
+    # Here no usage follows, but where it is found.
+    ran = t.desk("init", "none.db", *ISSUER, "--days")
+    t.same((ran.status, ran.out), (2, b""), "status and standard output")
+    t.same(ran.told, ["error: a value is required for '--days <N>' but none was supplied", "", "For more information, try '--help'."])
+
+
+@each({
+    "another word": (("frobnicate",), "frobnicate"),
+    "what serve lacks": (("serve",), "--port <N>"),
+    "another option": (("crl", "none.db", "--nubmer", "1"), "unexpected argument '--nubmer'"),
+})
+def a_refusal_says_what_is_wrong(t, words, what):
+    t.has(refused(t, *words), what)
+
+
+# Words with one value that is out of its form or its range: the words before it, its option, the value, and what is told of it.
+VALUES = [
+    *[(("init", "none.db", *ISSUER), "--days", it, NUMBER) for it in ("x", "1.5", "", "0000000000000000398")],
+    (("init", "none.db", *ISSUER), "--crl-life", "8d", NUMBER),
+    (("init", "none.db", *ISSUER), "--ocsp-life", "+28800", NUMBER),
+    *[(("init", "none.db", *ISSUER), "--cap", it, NUMBER) for it in ("1234567890123456789", "1_000", "-")],
+    *[((*SERVE, "--requests=1"), "--port", it, RANGE) for it in ("0", "65536", "http", "0000000000000000080", "")],
+    *[((*SERVE, "--port=80"), "--requests", it, RANGE) for it in ("0", "1000001", "999999999999999999", "0000000000000000001", "")],
+    *[(OPEN, "--port", it, RANGE) for it in ("0", "65536", "http", "")],
+    *[(("import", "none.db"), "--now", it, MOMENT) for it in ("yesterday", "2026-01-01", "2026-02-29T00:00:00Z", "")],
+    *[(("crl", "none.db"), "--number", it, NUMBER) for it in ("", "x", "latest", "0000000000000000001")],
+]
+
+
+@each({f"{words[0]} {option}={value}": (words, option, value, why) for words, option, value, why in VALUES})
+def a_bad_value_is_named_with_its_option(t, words, option, value, why):
+    told = refused(t, *words, f"{option}={value}")
+    first = told.splitlines()[0]
+    t.true(first.startswith(f"error: invalid value '{value}' for '{option}': "), f"the value and its option are not named first: {first!r}")
+    t.has(first, why)
+
+
+STEPS = (
+    "", "=", "398", "1970-01-01T00:00:00Z", "1970-01-01T00:00:00Z=", "1970-01-01T00:00:00Z=398=2",
+    "1970-01-01T00:00:00Z=0000000000000000398", "now=200",
+)  # fmt: skip
+
+
+@each({it or "nothing": (it,) for it in STEPS})
+def a_bad_step_is_named_at_either_place(t, step):
+    for words in ((step, FIRST_STEP), (FIRST_STEP, step)):
+        told = refused(t, *SCHEDULE, *words)
+        t.has(told, f"error: invalid value '{step}' for 'MOMENT=DAYS': ")
+        t.has(told, STEP)
+
+
+SIGNER, SERVED = ("script", "none.db"), ("serve", "none.db", "--port=80", "--requests=1")
+
+
+@each({
+    "script without an algorithm": ((*SIGNER, "--signer", "ca.sign"), "'ca.sign' for '--signer'"),
+    "script without a socket": ((*SIGNER, "--algorithm", "ed25519"), "for '--algorithm'"),
+    "another algorithm": ((*SIGNER, "--signer", "ca.sign", "--algorithm", "ed448"), "'ed448' for '--algorithm'"),
+    "no name of one": (("script", "--signer=ca.sign", "--algorithm="), "'' for '--algorithm'"),
+    "in capitals": (("script", "--signer=ca.sign", "--algorithm=ECDSA-SHA256"), "'ECDSA-SHA256' for '--algorithm'"),
+    "serve without an algorithm": ((*SERVED, "--signer=ca.sign"), "'ca.sign' for '--signer'"),
+    "serve without a socket": ((*SERVED, "--algorithm=ed25519"), "for '--algorithm'"),
+    "serve with half a name": ((*SERVED, "--signer=ca.sign", "--algorithm=rsa"), "'rsa' for '--algorithm'"),
+    "open without an algorithm": ((*OPEN, "--port=80", "--signer=ca.sign"), "'ca.sign' for '--signer'"),
+})
+def a_socket_and_a_known_algorithm_are_given_both_or_neither(t, words, named):
+    told = refused(t, *words)
+    t.has(told, f"{named}: {BOTH}")
+
+
+@each({" ".join(it): it for it in (
+    ("import", "--signer=ca.sign"), ("crl", "--algorithm=ed25519"), ("schedule", "--signer=ca.sign"), ("import", "--clock"), ("import", "--strict"),
+)})
+def an_option_of_another_command_is_unexpected(t, command, option):
+    t.has(refused(t, command, "none.db", option), "unexpected argument")
+
+
+@each({it: it for it in ("--clock", "--strict")})
+def a_script_over_memory_is_not_clocked_and_not_strict(t, option):
+    t.has(refused(t, "script", option), "--clock and --strict want a FILE")
+
+
+@each({"script": (("script",),), "crl": (("crl",),), "import": (("import", "--now", "2026-01-01T00:00:00Z"),), "audit": (("audit",),)})
+def a_file_whose_name_is_no_text_is_refused(t, words):
+    # The byte FF, which is in no UTF-8.
+    t.has(refused(t, *words, "ca\udcff.db"), "no UTF-8")
+
+
+# What is told of each command.
+HELPED = {
+    "--help": ("init", "script", "import", "crl", "serve", "open", "at", "schedule", "audit"),
+    "-h": ("init", "script", "import", "crl", "serve", "open", "at", "schedule", "audit"),
+    "init --help": ("<FILE>", "--name <HEX>", "--key <HEX>", "--days <N>", "--crl-life <N>", "--ocsp-life <N>", "--cap <N>"),
+    "init -h": ("<FILE>", "--name <HEX>"),
+    "script --help": ("[FILE]", "--signer <SOCKET>", "--algorithm <NAME>", "--clock", "--strict", "desk script ca.db"),
+    "import --help": ("<FILE>", "--now <MOMENT>"),
+    "crl --help": ("<FILE>", "--number <N>"),
+    "serve --help": ("<FILE>", "--port <N>", "--requests <N>", "--signer <SOCKET>", "--algorithm <NAME>"),
+    "open --help": ("<FILE>", "--port <N>", "--counter <SOCKET>", "--signer <SOCKET>", "--algorithm <NAME>"),
+    "at --help": ("<SOCKET>", "desk at ca.counter"),
+    "schedule F --help": ("<FILE>", "<MOMENT=DAYS>..."),
+    "audit --help": ("<FILE>", "desk audit ca.db"),
+}
+
+
+@each({words: (words, parts) for words, parts in HELPED.items()})
+def help_is_printed_with_status_0(t, words, parts):
+    told = t.done(*words.split())
+    for it in (*parts, "Usage: "):
+        t.has(told, it)
+
+
+# Words that are taken: over a file that is not there they come to F2, which is status 1.
+TAKEN = {
+    "the lowest port and number": (*SERVE, "--port", "1", "--requests", "1"),
+    "the highest": (*SERVE, "--port", "65535", "--requests", "1000000"),
+    "ones between": (*SERVE, "--port", "8080", "--requests", "3"),
+    "options before the file": ("serve", "--requests=3", "--port=8080", "none.db"),
+    "open with its options before": ("open", "--counter=ca.counter", "none.db", "--port", "8080"),
+    "open at the highest port": (*OPEN, "--port", "65535"),
+    "a number of no digit but zeros": ("crl", "none.db", "--number", "000000000000000000"),
+    "the highest number of a CRL": ("crl", "none.db", "--number", "999999999999999999"),
+    "a script over a file": ("script", "реестр/центр 1.db"),
+    "strict, then clocked": ("script", "--strict", "--clock", "none.db"),
+    "clocked, then strict": ("script", "--clock", "--strict", "none.db"),
+    "a file behind --": ("script", "--clock", "--", "none.db"),
+    "strict before --": ("script", "--strict", "--", "none.db"),
+    "a schedule of 16 steps": (*SCHEDULE, FIRST_STEP, *[f"20{it}-01-01T00:00:00Z=0{it}" for it in range(27, 42)]),
+    **{
+        f"{command} and {name}": (command, "none.db", *more, "--signer", "ca.sign", "--algorithm", name)
+        for name in ("ecdsa-sha256", "ecdsa-sha384", "rsa-sha256", "ed25519")
+        for command, more in (("script", ()), ("serve", ("--port=80", "--requests=1")), ("open", ("--port=80", "--counter=S")))
+    },
+}
+
+
+@each({name: (words,) for name, words in TAKEN.items()})
+def words_that_are_taken(t, words):
+    ran = t.desk(*words)
+    t.same((ran.status, ran.out, ran.err), (1, b"", b"F2 store\n"), "status, standard output and standard error")
+    t.same(sorted(it.name for it in t.room.iterdir()), [], "files that were made")
+
+
+def terms(t):
+    return t.sql("ca.db", "SELECT hex(name), hex(pubkey), days, crl_life, ocsp_life, cap FROM office")
+
+
+@test
+def init_has_its_values(t):
+    words = ("--cap=7", f"--key={KEY}", "ca.db", "--days", "90", "--crl-life", "60", "--ocsp-life", "000000000000028800", "--name", NAME)
+    t.same(t.done("init", *words), "created\n")
+    t.same(terms(t), [(NAME, KEY, 90, 60, 28_800, 7)])
+
+
+@test
+def init_leaves_the_rest_as_usual(t):
+    t.same(t.done("init", "ca.db", "--name", NAME, "--key", KEY), "created\n")
+    t.same(terms(t), [(NAME, KEY, 398, 691_200, 345_600, 1_000_000)])
+
+
+@test
+def a_schedule_has_its_steps(t):
+    t.register()
+    t.same(t.done("schedule", "ca.db", "1970-01-01T00:00:00Z=398", "2026-03-15T00:00:00Z=0200"), "schedule set\n")
+    t.same(t.sql("ca.db", "SELECT from_at, days FROM longest ORDER BY from_at"), [(0, 398), (1_773_532_800, 200)])
+
+
+@test
+def an_import_has_its_moment(t):
+    t.register(lines="2026-01-01T00:00:00Z subscriber acme\n2026-01-01T00:00:00Z order 1 398\n")
+    row = "order,serial,notBefore,notAfter\n1,05,2026-01-01T00:00:00Z,2026-12-31T00:00:00Z\n"
+    t.same(t.done("import", "ca.db", "--now", "2026-01-01T00:00:07Z", given=row), "registered\n")
+    t.same(t.sql("ca.db", "SELECT last_at FROM office"), [(1_767_225_607,)])
+
+
+@test
+def a_crl_is_that_of_its_number(t):
+    t.register(options=("--crl-life", "60"), lines="".join(f"2026-01-0{it}T00:00:00Z crl\n" for it in range(1, 5)))
+    for words, number in (((), 4), (("--number", "3"), 3), (("--number=000000000000000003",), 3), (("--number", "1"), 1)):
+        ran = t.desk("crl", "ca.db", *words)
+        t.same((ran.status, ran.err), (0, b""), f"status and standard error of {words}")
+        told = t.tool("openssl", "crl", "-inform", "DER", "-noout", "-crlnumber", "-lastupdate", "-nextupdate", given=ran.out).decode().splitlines()
+        t.same(told, [f"crlNumber=0x{number:02X}", f"lastUpdate=Jan  {number} 00:00:00 2026 GMT", f"nextUpdate=Jan  {number} 00:01:00 2026 GMT"])
+    for number in ("0", "5", "999999999999999999"):
+        ran = t.desk("crl", "ca.db", "--number", number)
+        t.same((ran.status, ran.out, ran.err), (1, b"", b"E21 no-crl\n"), f"number {number}")

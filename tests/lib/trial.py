@@ -1,0 +1,152 @@
+"""What a test is given: a folder of its own, the program, and comparisons that tell what was given, wanted and got."""
+
+import contextlib
+import shutil
+import sqlite3
+import subprocess
+from pathlib import Path
+
+from . import program
+
+# Debian's package of each tool that a group may need.
+PACKAGES = {
+    "openssl": "openssl", "curl": "curl", "cc": "gcc", "nginx": "nginx-light", "wrk": "wrk", "socat": "socat", "chromium": "chromium",
+    "debootstrap": "debootstrap", "dpkg-deb": "dpkg", "systemd-nspawn": "systemd-container", "sqlite3": "sqlite3",
+}
+
+
+class Failed(Exception):
+    """A test that came to something else than what was wanted."""
+
+
+class Skipped(Exception):
+    """A test that can't run here, and why."""
+
+
+def test(function=None, *, seconds=1):
+    """Marks a function of a group as a test; `seconds` is about how long it takes, so that the long ones start first."""
+    if function is None:
+        return lambda it: test(it, seconds=seconds)
+    function.seconds = seconds
+    return function
+
+
+def each(rows, *, seconds=1):
+    """Marks a function as a test of each row of a table: a name, and what the function is given behind `t`."""
+
+    def marked(function):
+        function.rows, function.seconds = dict(rows), seconds
+        return function
+
+    return marked
+
+
+def need(*tools):
+    """Skips the test where a tool is missing."""
+    for tool in tools:
+        if not shutil.which(tool):
+            raise Skipped(f"no {tool} here: apt install {PACKAGES.get(tool, tool)}")
+
+
+class Trial(contextlib.ExitStack):
+    """One test: `room` is its folder, where the program runs."""
+
+    def __init__(self, room):
+        super().__init__()
+        self.room, self.given = Path(room), []
+        self._clock = None
+
+    # What was done
+
+    def note(self, text):
+        self.given.append(text)
+
+    def clock(self, moment):
+        """Sets the machine's clock, for what is started afterwards and for what runs already under a clock that was set."""
+        self._clock = self.room / "clock"
+        self._clock.write_text(str(moment if isinstance(moment, int) else program.seconds_of(moment)))
+        self.note(f"clock {moment}")
+
+    def desk(self, *words, given=b"", **how):
+        """Runs the program to its end."""
+        how.setdefault("clock", self._clock)
+        text = given if isinstance(given, str) else given.decode("latin-1")
+        self.note(program.shown(words) + (f"  < {show(text, 600)}" if text else ""))
+        return program.run(words, given, cwd=self.room, **how)
+
+    def done(self, *words, given=b"", **how):
+        """Runs the program, and wants status 0 with nothing on standard error; what it printed."""
+        ran = self.desk(*words, given=given, **how)
+        self.same((ran.status, ran.err), (0, b""), "status and standard error")
+        return ran.out.decode("latin-1")
+
+    def register(self, file="ca.db", lines="", name=program.NAME, key=program.KEY, options=()):
+        """Makes a register, and runs lines over it that are all accepted; its path."""
+        self.same(self.done("init", file, "--name", name, "--key", key, *options), "created\n")
+        if lines:
+            told = self.done("script", file, given=lines)
+            self.same([it for it in told.splitlines() if it[:1] in "EF"], [], "refusals")
+        return self.room / file
+
+    def open(self, file="ca.db", *words, command="open", **how):
+        """Opens a register until the test ends; `desk open` wants a counter, which is `counter` where none is named."""
+        how.setdefault("clock", self._clock)
+        if command == "open" and "--counter" not in words:
+            words = (*words, "--counter", "counter")
+        self.note(program.shown([command, file, *words]))
+        opened = self.enter_context(program.Opened([command, file, *words], cwd=self.room, **how))
+        if not opened.listens:
+            ended = opened.wait()
+            raise Failed(f"{program.shown(opened.words)} does not listen: status {ended.status}, {ended.err!r}")
+        return opened
+
+    def counter(self, path="counter"):
+        return self.enter_context(program.Counter(self.room / path))
+
+    def signer(self, path="ca.sign", answer=None):
+        """What signs at a socket, until the test ends."""
+        words = (self.room / path,) if answer is None else (self.room / path, answer)
+        return self.enter_context(program.Signer(*words))
+
+    def sql(self, file, statement, *values):
+        """Runs a statement over a register that is closed, by Python's own SQLite; its rows."""
+        self.note(f"sql {file} {statement}")
+        with contextlib.closing(sqlite3.connect(self.room / file)) as it:
+            rows = it.execute(statement, values).fetchall()
+            it.commit()
+        return rows
+
+    def tool(self, *words, given=b"", timeout=60, **how):
+        """Runs another program, as openssl, and wants status 0; what it printed, standard error behind it."""
+        ran = self.tried(*words, given=given, timeout=timeout, **how)
+        self.same(ran.returncode, 0, f"status of {words[0]}, which printed {(ran.stdout + ran.stderr)[-2000:]!r}")
+        return ran.stdout + ran.stderr
+
+    def tried(self, *words, given=b"", timeout=60, **how):
+        """Runs another program, however it ends."""
+        need(str(words[0]))
+        words = [str(it) for it in words]
+        self.note(" ".join(words))
+        if isinstance(given, str):
+            given = given.encode()
+        return subprocess.run(words, input=given, capture_output=True, cwd=self.room, timeout=timeout, **how)
+
+    # What came of it
+
+    def same(self, got, wanted, what=""):
+        if got != wanted:
+            raise Failed(f"{what + ': ' if what else ''}\n    wanted {show(wanted)}\n    got    {show(got)}")
+
+    def has(self, got, part, what=""):
+        if part not in got:
+            raise Failed(f"{what + ': ' if what else ''}\n    wanted {show(part)} in it\n    got    {show(got)}")
+
+    def true(self, holds, what):
+        if not holds:
+            raise Failed(what)
+
+
+def show(value, most=4_000):
+    """A value as text, of which the middle is left out where it is long."""
+    text = repr(value)
+    return text if len(text) <= most else f"{text[: most // 2]} .. {text[-most // 2 :]} ({len(text)} characters)"

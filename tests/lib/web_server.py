@@ -1,0 +1,105 @@
+"""Debian's nginx with examples/nginx.conf before a desk, in the test's folder: its own certificates, log and kept answers, and ports of its own."""
+
+import os
+import re
+import subprocess
+import urllib.error
+import urllib.request
+
+from . import authority, program
+from .authority import EXAMPLES
+from .trial import need
+
+# Debian has it where not everybody looks.
+os.environ["PATH"] = os.environ.get("PATH", "") + ":/usr/sbin"
+
+# What a web server of the whole machine has besides a site: all of it in one folder.
+AROUND = """{user}pid {folder}/nginx.pid;
+error_log {folder}/error.log;
+worker_processes 2;
+events {{ worker_connections 1024; }}
+http {{
+    types {{ text/html html; }}
+    client_body_temp_path {folder}/body;
+    proxy_temp_path {folder}/proxy;
+    fastcgi_temp_path {folder}/fastcgi;
+    scgi_temp_path {folder}/scgi;
+    uwsgi_temp_path {folder}/uwsgi;
+    include {folder}/desk.conf;
+}}
+"""
+
+
+def certificates(t):
+    """Those of the server, of a clerk of the office, and of a stranger."""
+    for name, subject in (("desk", "/CN=localhost"), ("office", "/CN=clerk"), ("stranger", "/CN=stranger")):
+        authority.certificate(t, name, subject)
+
+
+class Front:
+    """A server before the desk at a port; the example's 60 seconds may be fewer."""
+
+    def __init__(self, t, desk_port, name="front", seconds=60):
+        need("nginx")
+        self.t, self.seconds = t, seconds
+        self.folder, self.port, self.tls_port = t.room / name, program.free_port(), program.free_port()
+        (self.folder / "share").mkdir(parents=True)
+        (self.folder / "share/board").symlink_to(EXAMPLES / "board")
+        for it in ("desk.pem", "desk.key", "office.pem"):
+            (self.folder / it).write_bytes((t.room / it).read_bytes())
+        (self.folder / "desk.conf").write_text(self.site(desk_port))
+        user = "user root;\n" if os.getuid() == 0 else ""
+        (self.folder / "nginx.conf").write_text(AROUND.format(user=user, folder=self.folder))
+        words = ["nginx", "-c", self.folder / "nginx.conf", "-e", self.folder / "error.log", "-g", "daemon off;"]
+        t.note(" ".join(map(str, words)))
+        process = subprocess.Popen([*map(str, words)], cwd=self.folder, stdin=subprocess.DEVNULL)
+        t.callback(authority.end, process)
+        authority.until(self.answers, f"nginx at {self.port}: {self.told()}")
+
+    def site(self, desk_port):
+        """The example with names of this folder in the place of the machine's; each must be there."""
+        text = (EXAMPLES / "nginx.conf").read_text()
+        for was, now in (
+            (r"/var/cache/nginx/desk", f"{self.folder}/cache"), (r"/var/log/nginx", str(self.folder)),
+            (r"/etc/nginx/(?=\w+\.(pem|key))", f"{self.folder}/"), (r"/usr/share/durshavon", f"{self.folder}/share"),
+            (r"127\.0\.0\.1:8080", f"127.0.0.1:{desk_port}"),
+            (r"listen 80;", f"listen 127.0.0.1:{self.port};"), (r"listen 443 ssl;", f"listen 127.0.0.1:{self.tls_port} ssl;"),
+            (r"200 60s;", f"200 {self.seconds}s;"), (r"max-age=60\b", f"max-age={self.seconds}"),
+        ):
+            text, count = re.subn(was, now, text)
+            self.t.true(count, f"examples/nginx.conf has no {was}")
+        return text
+
+    def told(self):
+        log = self.folder / "error.log"
+        return log.read_text()[-500:] if log.exists() else ""
+
+    def answers(self):
+        try:
+            urllib.request.urlopen(f"http://127.0.0.1:{self.port}/nowhere", timeout=5).close()
+        except urllib.error.HTTPError:
+            return True
+        except OSError:
+            return False
+        return True
+
+    def url(self, path, tls=False):
+        return f"https://127.0.0.1:{self.tls_port}{path}" if tls else f"http://127.0.0.1:{self.port}{path}"
+
+    def ask(self, path, *words, tls=False, given=b""):
+        """By curl: the status, the fields of the head by name, and the body."""
+        (self.t.room / "body").unlink(missing_ok=True)
+        told = self.t.tool("curl", "-s", "-k", "-D", "head", "-o", "body", "-w", "%{http_code}", *words, self.url(path, tls), given=given)
+        lines = (self.t.room / "head").read_bytes().decode("latin-1").split("\r\n")
+        fields = dict(line.split(": ", 1) for line in lines if ": " in line)
+        body = self.t.room / "body"
+        return int(told), fields, body.read_bytes() if body.exists() else b""
+
+    def state(self, path):
+        """Whether the answer was kept (HIT), or the desk was asked (MISS, EXPIRED)."""
+        return self.ask(path)[1].get("X-Cache-Status")
+
+    def asked_of_desk(self):
+        """How many requests went to the desk, by the log: each line has what the kept answers said before the seconds."""
+        lines = (self.folder / "desk.log").read_text().splitlines()
+        return sum(1 for line in lines if line.split()[-2] not in ("HIT", "-"))
