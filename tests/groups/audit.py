@@ -58,6 +58,45 @@ BROKEN = {
     "a column besides": ("ALTER TABLE crl ADD COLUMN note TEXT", "schema: "),
     "a column of another name": ("ALTER TABLE subscriber RENAME COLUMN name TO label", "schema: "),
 }
+# Over two certificates of which one is revoked and on CRL 1: a statement, and the line that is told.
+TOLD = [
+    ("UPDATE subscriber SET name = ''", "subscriber 1: a value that no register writes, or no such row"),
+    ("UPDATE orders SET days = -1 WHERE id = 2", "orders 2: a value that no register writes, or no such row"),
+    ("UPDATE cert SET not_before = -1", "cert 1: a value that no register writes, or no such row"),
+    ("UPDATE cert SET not_after = -1 WHERE order_id = 2", "cert 2: a value that no register writes, or no such row"),
+    ("UPDATE request SET ground = 12", "request 1: a value that no register writes, or no such row"),
+    ("UPDATE request SET declined = 2 WHERE id = 2", "request 2: a value that no register writes, or no such row"),
+    ("UPDATE request SET received = 253401436800", "request 1: a value that no register writes, or no such row"),
+    ("UPDATE revocation SET reason = 256", "revocation 1: a value that no register writes, or no such row"),
+    ("UPDATE crl SET this_update = 253401436800", "crl 1: a value that no register writes, or no such row"),
+    ("UPDATE standing SET state = 'Q'", "standing 1: a value that no register writes, or no such row"),
+    ("UPDATE kept SET n_revoked = -1", "kept 1: a value that no register writes, or no such row"),
+    ("DELETE FROM kept", "kept 1: a value that no register writes, or no such row"),
+    ("UPDATE listed SET reason = 256", "listed 1: a value that no register writes, or no such row"),
+    ("UPDATE office SET cap = 1", "orders 2: more rows than the policy's cap"),
+    ("UPDATE office SET last_at = 1767225600", "request 1: its moment is after the last accepted one"),
+    ("INSERT INTO subscriber VALUES (3, 'b')", "subscriber 2: its number is not one more than that before it"),
+    ("INSERT INTO orders VALUES (4, 1, 10)", "orders 3: its number is not one more than that before it"),
+    ("UPDATE request SET received = 1767312001 WHERE id = 2", "request 2: its moment is after the last accepted one"),
+    ("UPDATE revocation SET at = 1767312001", "revocation 1: its moment is after the last accepted one"),
+    ("UPDATE revocation SET at = 1768003201", "revocation 1: its moment is after the end of the certificate"),
+    ("UPDATE revocation SET first_crl = 0", "revocation 1: its first CRL is neither issued nor the next"),
+    ("UPDATE revocation SET first_crl = 3", "revocation 1: its first CRL is neither issued nor the next"),
+    ("UPDATE revocation SET at = 1767311999, first_crl = 2", "revocation 1: its first CRL is not the first one after it"),
+    ("UPDATE revocation SET request = 2", "revocation 1: no such request for this serial number"),
+    ("UPDATE crl SET this_update = 1767312001", "crl 1: its moment is after the last accepted one"),
+    ("INSERT INTO crl VALUES (3, 1767312000, x'00')", "crl 2: its number is not one more than that before it"),
+    ("INSERT INTO crl VALUES (2, 1767311999, x'00')", "crl 2: its thisUpdate is before that of the CRL before it"),
+    ("UPDATE kept SET n_good = 2", "kept 1: not the counts of the letters"),
+    ("UPDATE standing SET state = 'X'", "standing 1: not what follows from the records, or a row before it is missing"),
+    ("UPDATE standing SET not_after = 1 WHERE state = 'G'", "standing 2: not what follows from the records, or a row before it is missing"),
+    ("DELETE FROM standing WHERE state = 'G'", "standing 2: not what follows from the records, or a row before it is missing"),
+    ("UPDATE listed SET last_listed = 1", "listed 1: not what follows from the records, or a row before it is missing"),
+    ("UPDATE listed SET at = 1767311999", "listed 1: not what follows from the records, or a row before it is missing"),
+    ("UPDATE listed SET first_crl = 2", "listed 1: not what follows from the records, or a row before it is missing"),
+    ("DELETE FROM listed", "listed 1: not what follows from the records, or a row before it is missing"),
+    ("DELETE FROM standing WHERE state = 'R'; INSERT INTO standing SELECT serial, 1768003200, 'R' FROM revocation", "standing 1: its number is not one more than that before it"),
+]  # fmt: skip
 # What no command opens: a row that refers to none, or breaks a CHECK.
 DAMAGED = {
     "a certificate whose order is missing": "DELETE FROM orders",
@@ -73,6 +112,8 @@ NO_OFFICE = {
     "an empty key": "UPDATE office SET pubkey = x''",
     "a Name that is none": "UPDATE office SET name = x'00'",
     "a schedule that begins later": "UPDATE longest SET from_at = 5",
+    "a cap below 0": "UPDATE office SET cap = -1",
+    "a last moment past the clock's end": "UPDATE office SET last_at = 253401436800",
     "no office": "DELETE FROM office",
 }
 
@@ -137,6 +178,34 @@ def a_broken_row_is_told(t, statements, row):
     status, printed, told = audited(t)
     t.same((status, told), (1, "broken\n"))
     t.true(printed.startswith(f"broken: {row}") and printed.count("\n") == 1, f"{printed!r} does not name {row}")
+
+
+FULL = "".join(
+    f"{it}\n"
+    for it in (
+        "2026-01-01T00:00:00Z subscriber acme", "2026-01-01T00:00:00Z order 1 10", "2026-01-01T00:00:00Z register 1 05 2026-01-01T00:00:00Z 2026-01-10T00:00:00Z",
+        "2026-01-01T00:00:00Z order 1 10", "2026-01-01T00:00:00Z register 2 06 2026-01-01T00:00:00Z 2026-01-10T00:00:00Z",
+        "2026-01-02T00:00:00Z request 05 superseded", "2026-01-02T00:00:00Z request 06 superseded", "2026-01-02T00:00:00Z revoke 1", "2026-01-02T00:00:00Z crl",
+    )
+)  # fmt: skip
+
+
+@each({statement: (statement, line) for statement, line in TOLD})
+def each_broken_row_has_its_line(t, statement, line):
+    t.register(lines=FULL)
+    alter(t, statement)
+    t.same(audited(t), (1, f"broken: {line}\n", "broken\n"))
+
+
+@test(seconds=5)
+def each_octet_before_the_signature_counts(t):
+    t.register(lines=FULL)
+    (der,) = t.sql("ca.db", "SELECT der FROM crl")[0]
+    t.same(len(der), 184, "bytes of CRL 1")
+    for at in range(len(der) - 20):
+        other = der[:at] + bytes([der[at] ^ (1 << at % 8)]) + der[at + 1 :]
+        t.sql("ca.db", "UPDATE crl SET der = ?", other)
+        t.same(audited(t), (1, "broken: crl 1: its bytes are not those of what the records list\n", "broken\n"), f"a bit of octet {at}")
 
 
 @each(DAMAGED)

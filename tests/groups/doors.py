@@ -122,14 +122,15 @@ def many_lines_in_one_write_are_all_answered_in_order(t):
         sent = 0
         text = "".join(f"{it}\n" for it in lines).encode()
         counter.peer.setblocking(False)
-        replies = b""
+        replies, heard = b"", time.monotonic()
         while replies.count(b"\n") < len(lines):
             with contextlib.suppress(BlockingIOError):
                 sent += counter.peer.send(text[sent:]) if sent < len(text) else 0
             with contextlib.suppress(BlockingIOError):
                 got = counter.peer.recv(65_536)
                 t.true(got, f"the counter ended behind {replies.count(10)} of {len(lines)} replies")
-                replies += got
+                replies, heard = replies + got, time.monotonic()
+            t.true(time.monotonic() - heard < 20, f"no reply came for 20 s, behind {replies.count(10)} of {len(lines)}")
             time.sleep(0.0002)
     wanted = b"".join(b"good\n" if serial == 5 else b"unknown\n" for serial in range(1, 20_001))
     t.true(replies == wanted, "a reply is another, or in another place")

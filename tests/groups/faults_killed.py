@@ -43,7 +43,14 @@ def ended_while_fed(t, words, lines, ended, how, after):
     return int(whole[-1].split()[1]) if whole else 0
 
 
-@each({"a script, by SIGKILL": ("script", signal.SIGKILL), "an open desk, by SIGKILL": ("open", signal.SIGKILL), "an open desk, by SIGTERM": ("open", signal.SIGTERM)}, seconds=6)
+ENDS = {
+    "a script, by SIGKILL": ("script", signal.SIGKILL),
+    "an open desk, by SIGKILL": ("open", signal.SIGKILL),
+    "an open desk, by SIGTERM": ("open", signal.SIGTERM),
+}
+
+
+@each(ENDS, seconds=6)
 def what_was_answered_stands(t, command, how):
     t.register()
     draw, most = random.Random(20260101), 0
