@@ -275,6 +275,15 @@ def a_bit_of_a_crl_s_bytes_is_told(t, lines, number):
     t.same(audited(t), (0, sound(t), ""), "another signature")
 
 
+@test(seconds=2)
+def bytes_of_a_crl_that_end_before(t):
+    made(t, FIRST_DAY)
+    der = t.sql("ca.db", "SELECT der FROM crl WHERE number = 2")[0][0]
+    for end in [*range(0, len(der), 7), len(der) - 21, len(der) - 20, len(der) - 1]:
+        t.sql("ca.db", "UPDATE crl SET der = ? WHERE number = 2", der[:end])
+        t.same(audited(t), (1, "broken: crl 2: its bytes are not those of what the records list\n", "broken\n"), f"the first {end} octets")
+
+
 @test
 def other_files_are_told(t):
     made(t, FIRST_DAY, "newer.db")
@@ -295,3 +304,20 @@ def a_large_register_is_found_sound(t):
     registers.make(t.room / "ca.db", records, 1)
     t.done("script", "ca.db", given="")
     t.same(audited(t), (0, f"sound, 5000 certificates, {len(records.revocations)} revoked, {len(records.crls)} CRLs\n", ""))
+
+
+@test(seconds=15)
+def a_file_of_more_than_50_mb_is_counted_and_found_sound(t):
+    """A register of sound rows that another program wrote is opened, answers, takes rows, and is audited."""
+    records = registers.Records(135_000, 60)
+    registers.make(t.room / "ca.db", records, 3)
+    t.true((t.room / "ca.db").stat().st_size > 50_000_000, "the file is not large")
+    good, revoked, expired = registers.expected(records)["kept"][0][1:]
+    last = program.moment_of(records.last)
+    gone = records.revocations[0][0]
+    first, end = records.listed()[gone][2], records.listed()[gone][4]
+    listing = f"listing first {first}" + (f" last {end}" if end else "")
+    asked = ["counts", "order 1 398", f"register 135001 05 {last} {last}", "status 05", f"listing {gone.hex()}"]
+    told = t.done("script", "ca.db", given="".join(f"{last} {it}\n" for it in asked)).splitlines()
+    t.same(told, [f"good {good} revoked {revoked} expired {expired}", "order 135001", "registered", "good", listing])
+    t.same(t.done("audit", "ca.db"), f"sound, 135001 certificates, {revoked} revoked, 60 CRLs\n")

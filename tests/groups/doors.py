@@ -47,7 +47,7 @@ def a_counter_at_which_somebody_answers_is_not_taken_over(t):
     t.register(lines=ENTERED)
     t.register("other.db")
     t.open()
-    ran = t.desk("open", "other.db", "--port", free_port(), "--counter", "counter")
+    ran = t.desk("open", "other.db", "--port", free_port(), "--counter", "counter", timeout=15)
     t.same((ran.status, ran.out, ran.err), (1, b"", b"F4 read\n"), "the second desk at the same counter")
     t.same(t.done("at", "counter", given="status 05\n"), "good\n", "the first one")
 

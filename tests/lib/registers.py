@@ -1,9 +1,10 @@
-"""Registers made by Python's sqlite3, as a program of versions 1 and 2 left them, and what must stand in them once they were opened."""
+"""Registers of any size made by Python's sqlite3, as a program of version 1, 2 or 3 left them, and what must stand in them once they were opened."""
 
 import hashlib
 import random
 import sqlite3
 import time
+from functools import cache
 
 from .program import KEY as KEY_HEX
 from .program import NAME
@@ -83,6 +84,15 @@ CREATE TABLE listed (
 ) STRICT;
 """
 
+THIRD = """
+CREATE TABLE longest (
+    from_at INTEGER PRIMARY KEY,
+    days INTEGER NOT NULL
+) STRICT;
+CREATE INDEX crl_at ON crl (number, this_update);
+CREATE INDEX standing_due ON standing (state, not_after);
+"""
+
 RECORDS = ["subscriber", "orders", "cert", "request", "revocation", "crl"]
 
 
@@ -109,6 +119,7 @@ def integer(octets):
     return tlv(2, b"\0" + digits if digits[0] >= 128 else digits)
 
 
+@cache
 def entry(serial, at, reason):
     """Returns one of the revokedCertificates (RFC 5280 5.1.2.6)."""
     return tlv(0x30, integer(serial), utc(at), tlv(0x30, extension(b"\x55\x1d\x15", tlv(10, bytes([reason])))))
@@ -171,11 +182,11 @@ class Records:
 
 
 def make(path, records, version):
-    """A register of an older version; where it is version 2, half of what it keeps is missing."""
+    """A register of a version; where it is version 2, half of what it keeps is missing, and the other half is wrong."""
     with sqlite3.connect(path) as db:
         # On one line each, as the program wrote them: the texts stand in the file.
-        texts = " ".join((FIRST + (SECOND if version == 2 else "")).split()).replace("( ", "(").replace(" )", ")")
-        db.executescript("PRAGMA journal_mode = DELETE;" + texts)
+        texts = " ".join("".join((FIRST, SECOND, THIRD)[:version]).split()).replace("( ", "(").replace(" )", ")")
+        db.executescript("PRAGMA journal_mode = DELETE; PRAGMA cache_size = -200000;" + texts)
         office = (1, version, bytes.fromhex(NAME), KEY, 398, 691200, 345600, 1000000, records.last)
         db.execute("INSERT INTO office VALUES (?, ?, ?, ?, ?, ?, ?, ?, ?)", office)
         db.execute("INSERT INTO subscriber VALUES (1, 'acme')")
@@ -189,7 +200,19 @@ def make(path, records, version):
             db.executemany("INSERT INTO standing VALUES (?, ?, ?)", rows[::2])
             rows = [(serial, *row[:4], 1) for serial, row in records.listed().items()]
             db.executemany("INSERT INTO listed VALUES (?, ?, ?, ?, ?, ?)", rows[::2])
+        elif version == 3:
+            put_beside(db, records)
     db.close()
+
+
+def put_beside(db, records):
+    """What version 3 keeps beside the records, in their order."""
+    letters, listed = records.standing(), records.listed()
+    db.executemany("INSERT INTO standing VALUES (?, ?, ?)", [(cert[0], cert[3], letters[cert[0]]) for cert in records.certs])
+    db.executemany("INSERT INTO listed VALUES (?, ?, ?, ?, ?, ?)", [(row[0], *listed[row[0]]) for row in records.revocations])
+    for table in ("kept", "longest"):
+        for row in expected(records)[table]:
+            db.execute(f"INSERT INTO {table} VALUES ({', '.join('?' * len(row))})", row)
 
 
 def rows_of(path):
