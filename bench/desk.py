@@ -1,6 +1,7 @@
 #!/usr/bin/env python3
 """Measures the built program from outside, over registers in files of any size: opening, and each kind of line, in microseconds a line (a script of so many lines,
-less the opening), with the peak of its memory; and a CRL of so many entries. It prints tables as docs/PERFORMANCE.md has them.
+less the opening), with the peak of its memory; a CRL of so many entries; an audit; and how long registers of versions 1 and 2 take to be made newer.
+It prints tables as docs/PERFORMANCE.md has them.
 
 Usage: bench/desk.py [NUMBER OF CERTIFICATES ..]     (1000 10000 100000 where none is given; DESK names another program)
 The files lie in the folder that DESK_BENCH_FOLDER names, or else in that of temporary files; /dev/shm has them in memory.
@@ -14,6 +15,11 @@ import tempfile
 import time
 
 TOP = os.path.dirname(os.path.dirname(os.path.abspath(__file__)))
+sys.path.insert(0, f"{TOP}/tests")
+sys.dont_write_bytecode = True
+
+from lib import registers  # noqa: E402
+
 DESK = os.path.abspath(os.environ.get("DESK", f"{TOP}/crates/reg_desk/out/reg_desk"))
 NAME, KEY = "300D310B300906035504030C024341", "616263"
 DAY, END = "2026-01-01T00:00:00Z", "2026-12-31T23:59:59Z"
@@ -92,6 +98,24 @@ def measured(path, folder, before, lines):
     return max(0.0, min(took))
 
 
+def audited(path):
+    """The seconds of an audit, which finds the register sound."""
+    began = time.perf_counter()
+    subprocess.run([DESK, "audit", path], check=True, stdout=subprocess.DEVNULL)
+    return time.perf_counter() - began
+
+
+def made_newer(folder, records, version):
+    """The seconds of the first opening of a register of an older version."""
+    path = f"{folder}/older.db"
+    registers.make(path, records, version)
+    took = script(path, [])[0]
+    for end in ("", "-wal"):
+        if os.path.exists(path + end):
+            os.remove(path + end)
+    return took
+
+
 def main():
     sizes = [int(it) for it in sys.argv[1:]] or [1_000, 10_000, 100_000]
     found, peaks = {}, []
@@ -104,6 +128,10 @@ def main():
                 found.setdefault(kind, []).append(measured(path, folder, before, lines))
             der = subprocess.run([DESK, "crl", path], capture_output=True, check=True).stdout
             found.setdefault("bytes of the CRL", []).append(len(der))
+            found.setdefault("`audit`, ms", []).append(min(audited(path) for _ in range(ROUNDS)) * 1e3)
+            records = registers.Records(size)
+            for version in (1, 2):
+                found.setdefault(f"version {version} made newer, ms", []).append(made_newer(folder, records, version) * 1e3)
             peaks.append(resource.getrusage(resource.RUSAGE_CHILDREN).ru_maxrss / 1024)
             os.remove(path)
     print("| Microseconds a line | " + " | ".join(f"{it:,}" for it in sizes) + " |")

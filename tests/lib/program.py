@@ -1,12 +1,15 @@
 """The program `desk` as a user has it: run with words and an input, or kept open and asked over HTTP and at its counter."""
 
 import contextlib
+import fcntl
 import os
+import random
 import re
 import shlex
 import signal
 import socket
 import subprocess
+import tempfile
 import threading
 import time
 from dataclasses import dataclass, field
@@ -82,11 +85,30 @@ def run(words, given=b"", cwd=None, timeout=60, **how):
     return Ran(ran.returncode, ran.stdout, ran.stderr, words)
 
 
+# Below the ports that the system gives to who connects.
+FIRST_PORT, PORTS = 10_240, 22_000
+
+
+def next_port():
+    """A port that no test beside this one was given: they count in one file."""
+    path = Path(os.environ.get("DESK_TESTS_FOLDER") or tempfile.gettempdir()) / "ports"
+    with open(path, "a+") as it:
+        fcntl.flock(it, fcntl.LOCK_EX)
+        it.seek(0)
+        at = int(it.read() or random.randrange(PORTS)) + 1
+        it.seek(0)
+        it.truncate()
+        it.write(str(at))
+    return FIRST_PORT + at % PORTS
+
+
 def free_port():
-    """A port of 127.0.0.1 that nobody listens at."""
-    with socket.socket() as it:
-        it.bind(("127.0.0.1", 0))
-        return it.getsockname()[1]
+    """A port of 127.0.0.1 that nobody listens at, another one each time."""
+    while True:
+        port = next_port()
+        with socket.socket() as it, contextlib.suppress(OSError):
+            it.bind(("127.0.0.1", port))
+            return port
 
 
 class Opened:

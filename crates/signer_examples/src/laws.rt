@@ -10,6 +10,7 @@ impl SignsCrls for AnyBytes {
     ghost signed = { λ signer list bytes. Unit {0} };
 }
 
+// Generic laws, at a type.
 #[test]
 fn the_laws_at_a_signer() {
     laws::headline::<AnyBytes>();

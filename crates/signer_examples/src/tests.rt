@@ -23,6 +23,7 @@ const ROOM: usize = 4_097;
 /// A long answer that is no signature.
 const LONG: [u8; 4096] = [7; 4096];
 
+// By itself: the program shows an identifier only in what a key of its algorithm signed.
 #[test]
 fn names_and_identifiers_are_those_of_the_standards(rt: HostRuntime) -> Result<(), Fail> {
     for vector in VECTORS {
@@ -49,6 +50,7 @@ fn names_and_identifiers_are_those_of_the_standards(rt: HostRuntime) -> Result<(
     Ok(())
 }
 
+// Each key and signature under each of the other algorithms, cut at each octet: thousands of signers, from outside.
 #[test]
 fn keys_and_signatures_of_openssl_have_their_forms(rt: HostRuntime) -> Result<(), Fail> {
     for vector in VECTORS {
@@ -82,6 +84,7 @@ fn keys_and_signatures_of_openssl_have_their_forms(rt: HostRuntime) -> Result<()
     Ok(())
 }
 
+// At the bounds of both curves, under no key: a register wants one.
 #[test]
 fn signatures_of_ecdsa_are_two_positive_integers_in_der(rt: HostRuntime) -> Result<(), Fail> {
     for (text, of_256, of_384) in [
@@ -160,6 +163,7 @@ fn signatures_of_ecdsa_are_two_positive_integers_in_der(rt: HostRuntime) -> Resu
     Ok(())
 }
 
+// Moduli of one and two octets, which are keys here and nowhere else.
 #[test]
 fn signatures_of_other_algorithms_are_told_by_their_length(rt: HostRuntime) -> Result<(), Fail> {
     let rsa_key = bytes_of(rt.alloc(), RSA_KEY)?;
@@ -197,6 +201,7 @@ fn signatures_of_other_algorithms_are_told_by_their_length(rt: HostRuntime) -> R
     Ok(())
 }
 
+// The forms alone: what is no key at all can be no register's.
 #[test]
 fn keys_have_the_forms_of_their_algorithms(rt: HostRuntime) -> Result<(), Fail> {
     for (algorithm, first, count, is_key) in [
@@ -258,6 +263,7 @@ fn scripted(
     Ok(DeviceSigner::new(device, vector.algorithm)?)
 }
 
+// A device of the tests, generic code at a type that is no socket.
 #[test]
 fn a_signer_wants_a_key_of_its_algorithm(rt: HostRuntime) -> Result<(), Fail> {
     for vector in VECTORS {
@@ -307,6 +313,7 @@ fn ask<S: Signer>(
     (signed, signer.failures())
 }
 
+// The count of failures, which nothing prints.
 #[test]
 fn what_is_no_signature_is_a_failure_that_is_counted(rt: HostRuntime) -> Result<(), Fail> {
     for vector in VECTORS {
@@ -366,6 +373,7 @@ fn peer(alloc: Global, journal: &Rc<Journal>, manner: Manner) -> Result<SocketDe
     Ok(SocketDevice::new(peer, String::from_str(alloc, "ca.sign")?, Vec::new(alloc)))
 }
 
+// How many bytes are read of a peer that says too much, and how often it is connected to.
 #[test]
 fn an_exchange_writes_all_and_reads_to_the_end(rt: HostRuntime) -> Result<(), Fail> {
     let message = vec![in rt.alloc(); 9; 100_000]?;
@@ -404,6 +412,7 @@ fn an_exchange_writes_all_and_reads_to_the_end(rt: HostRuntime) -> Result<(), Fa
     Ok(())
 }
 
+// Each call of a connection, by its number; the next exchange is another connection.
 #[test]
 fn an_exchange_that_fails_at_any_call_is_a_failure(rt: HostRuntime) -> Result<(), Fail> {
     let signature = bytes_of(rt.alloc(), ED25519_SIGNATURE)?;
@@ -442,6 +451,7 @@ fn an_exchange_that_fails_at_any_call_is_a_failure(rt: HostRuntime) -> Result<()
     Ok(())
 }
 
+// The bounds of the ten seconds, and a clock that goes back.
 #[test]
 fn an_exchange_has_ten_seconds_in_all(rt: HostRuntime) -> Result<(), Fail> {
     let began = Instant::now(&Ticking {
@@ -483,6 +493,7 @@ fn ticking(step: u64) -> Ticking {
     }
 }
 
+// How long each read and write is told to wait, by a clock of the tests.
 #[test]
 fn a_peer_that_is_slow_at_each_byte_gets_no_more_time(rt: HostRuntime) -> Result<(), Fail> {
     let clock = ticking(4_000);
@@ -521,6 +532,7 @@ fn a_peer_that_is_slow_at_each_byte_gets_no_more_time(rt: HostRuntime) -> Result
     Ok(())
 }
 
+// The waits behind a signal, by a clock of the tests.
 #[test]
 fn a_signal_ends_no_exchange_and_gives_no_more_time(rt: HostRuntime) -> Result<(), Fail> {
     let clock = ticking(1_000);
@@ -546,6 +558,7 @@ fn a_signal_ends_no_exchange_and_gives_no_more_time(rt: HostRuntime) -> Result<(
     Ok(())
 }
 
+// The length of a piece, which a socket hides.
 #[test]
 fn a_write_is_handed_no_more_than_a_piece(rt: HostRuntime) -> Result<(), Fail> {
     for (length, longest) in [

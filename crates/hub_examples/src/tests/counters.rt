@@ -20,6 +20,7 @@ static LINES: [Step; 13] = [
     SeesLines(4),
 ];
 
+// Turns, which are the hub's own.
 #[test]
 fn lines_are_answered_in_order_one_a_turn(rt: HostRuntime) -> Result<(), Fail> {
     play(&rt, "hub_examples.lines", 1_000, &LINES)
@@ -37,6 +38,7 @@ static UNREAD: [Step; 9] = [
     SeesLines(3),
 ];
 
+// How many lines were told meanwhile.
 #[test]
 fn a_counter_that_does_not_read_holds_one_reply(rt: HostRuntime) -> Result<(), Fail> {
     play(&rt, "hub_examples.replies", 1_000, &UNREAD)

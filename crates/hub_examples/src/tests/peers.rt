@@ -22,6 +22,7 @@ static HALF: [Step; 10] = [
     Gets(0, b""),
 ];
 
+// The millisecond at which it ends.
 #[test]
 fn a_request_has_30_seconds_to_be_whole(rt: HostRuntime) -> Result<(), Fail> {
     play(&rt, "hub_examples.half", 1_000, &HALF)
@@ -38,6 +39,7 @@ static UNREAD: [Step; 8] = [
     SeesLost(true, Some(Lost::Late)),
 ];
 
+// The millisecond at which it ends.
 #[test]
 fn an_answer_has_30_seconds_to_be_taken(rt: HostRuntime) -> Result<(), Fail> {
     play(&rt, "hub_examples.unread", 1_000, &UNREAD)
@@ -55,6 +57,7 @@ static FOLLOWED: [Step; 9] = [
     Sees(1, 0),
 ];
 
+// The second, and that the peer has its place until then.
 #[test]
 fn what_follows_a_request_is_dropped_for_a_second(rt: HostRuntime) -> Result<(), Fail> {
     play(&rt, "hub_examples.followed", 1_000, &FOLLOWED)
@@ -74,6 +77,7 @@ static OLDEST: [Step; 11] = [
     Gets(1, b"answer GET /second HTTP/1.1\r\n\r\n"),
 ];
 
+// Two places, where the program has a thousand.
 #[test]
 fn where_all_places_are_taken_the_oldest_is_let_go(rt: HostRuntime) -> Result<(), Fail> {
     play(&rt, "hub_examples.oldest", 2, &OLDEST)
@@ -94,6 +98,7 @@ static ANSWERED_FIRST: [Step; 12] = [
     Gets(0, b"answer GET /first HTTP/1.1\r\n\r\n"),
 ];
 
+// Two places, where the program has a thousand.
 #[test]
 fn who_has_its_answer_is_let_go_before_the_oldest(rt: HostRuntime) -> Result<(), Fail> {
     play(&rt, "hub_examples.answered", 2, &ANSWERED_FIRST)
@@ -116,6 +121,7 @@ static WAITING: [Step; 13] = [
     SeesLost(false, Some(Lost::Crowded)),
 ];
 
+// Which answers are held, and the reason that is told.
 #[test]
 fn answers_that_wait_hold_64_mib_together(rt: HostRuntime) -> Result<(), Fail> {
     play(&rt, "hub_examples.waiting", 1_000, &WAITING)

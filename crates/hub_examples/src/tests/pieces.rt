@@ -68,6 +68,7 @@ fn wire_of(
     }
 }
 
+// How many bytes are held at each end of a read.
 #[test]
 fn bytes_are_taken_in_until_they_are_whole(rt: HostRuntime) -> Result<(), Fail> {
     let request: &[u8] = b"GET /counts HTTP/1.1\r\n\r\n";
@@ -90,6 +91,7 @@ fn bytes_are_taken_in_until_they_are_whole(rt: HostRuntime) -> Result<(), Fail> 
     Ok(())
 }
 
+// How many bytes are left at each end of a write.
 #[test]
 fn a_text_is_sent_on_as_it_is_taken(rt: HostRuntime) -> Result<(), Fail> {
     let text: &[u8] = b"abcdef";
