@@ -236,3 +236,145 @@ def a_reader_gets_the_old_one_or_the_new_one(t):
         ended.set()
         reader.join()
     t.same((len(crls), seen <= crls), (5, True), "CRLs, and whether nothing else was read")
+
+
+# register-pem.sh
+
+
+def issued(t, it, name, serial, subject="/CN=acme", days=90):
+    """A certificate of the CA, as NAME.pem."""
+    t.tool("openssl", "req", "-new", "-utf8", "-key", it.key, "-subj", subject, "-out", "x.csr")
+    t.tool("openssl", "x509", "-req", "-in", "x.csr", "-CA", it.pem, "-CAkey", it.key, "-set_serial", f"0x{serial}", "-days", days, "-out", f"{name}.pem")
+    told = t.tool("openssl", "x509", "-in", f"{name}.pem", "-noout", "-dates").decode()
+    return [authority.openssl_time(re.search(rf"not{which}=(.*)", told)[1]) for which in ("Before", "After")]
+
+
+CONFIG = """[ca]
+default_ca = it
+[it]
+database = index.txt
+new_certs_dir = .
+serial = serial
+default_md = sha256
+policy = any
+[any]
+commonName = supplied
+"""
+
+
+def ended(t, it):
+    """A certificate of January 2020, as ended.pem."""
+    for name, text in (("ca.cnf", CONFIG), ("index.txt", ""), ("serial", "14\n")):
+        (t.room / name).write_text(text)
+    t.tool("openssl", "req", "-new", "-key", it.key, "-subj", "/CN=acme", "-out", "x.csr")
+    words = ("-batch", "-notext", "-cert", it.pem, "-keyfile", it.key, "-startdate", "200101000000Z", "-enddate", "200131000000Z")
+    t.tool("openssl", "ca", "-config", "ca.cnf", *words, "-in", "x.csr", "-out", "ended.pem")
+
+
+def unsigned_desk(t, *lines):
+    it = Authority(t)
+    it.register()
+    desk = t.open("ca.db", "--counter", "counter")
+    if lines:
+        told_at_counter(t, *lines)
+    return it, desk
+
+
+def register_pem(t, *words, **how):
+    return played(t, "register-pem.sh", *words, **how)
+
+
+def rows(t, table):
+    return t.sql("ca.db", f"SELECT * FROM {table} ORDER BY rowid")
+
+
+@test(seconds=3)
+def certificates_are_registered_at_the_counter(t):
+    it, desk = unsigned_desk(t, "subscriber first", "order 1 398")
+    days = {name: issued(t, it, name, *more) for name, *more in
+            (("a", "05", "/O=Example/CN=a & sons, Zürich", 90), ("b", "7FFFFFFF00AA", "/CN=b.example", 397), ("c", "06", "/CN=first", 1))}
+    wanted = ["a.pem: serial number 05 registered, order 2 of subscriber 2", "b.pem: serial number 7FFFFFFF00AA registered, order 3 of subscriber 3",
+              "c.pem: serial number 06 registered, order 4 of subscriber 1"]
+    t.same(register_pem(t, "-c", "counter", "-a", "ca.pem", "a.pem", "b.pem", "c.pem"), (0, "\n".join([*wanted, ""]), []))
+    t.same(told_at_counter(t, "status 05", "status 7fffffff00aa", "status 6"), ["good"] * 3)
+    ran = register_pem(t, "-c", "counter", "a.pem", "b.pem")
+    t.same(ran, (3, "", ["a.pem: serial number 05 is not registered anew, status: good",
+                         "b.pem: serial number 7FFFFFFF00AA is not registered anew, status: good"]), "once more")
+    # As DER, under a subscriber who is named.
+    issued(t, it, "d", "08", "/CN=d")
+    t.tool("openssl", "x509", "-in", "d.pem", "-outform", "DER", "-out", "d.der")
+    t.same(register_pem(t, "-c", "counter", "-s", "b.example", "d.der")[1], "d.der: serial number 08 registered, order 5 of subscriber 3\n")
+    desk.end()
+    t.same([name for _, name in rows(t, "subscriber")], ["first", "a-sons-Z-rich", "b.example"])
+    # Both ends of a validity are counted, so `-days 90` has 91.
+    t.same(rows(t, "orders"), [(1, 1, 398), (2, 2, 91), (3, 3, 398), (4, 1, 2), (5, 3, 91)])
+    held = {order: (begins, ends) for _, order, begins, ends in rows(t, "cert")}
+    t.same([held[order] for order in (2, 3, 4)], [tuple(days[name]) for name in "abc"], "validities")
+    t.same(t.done("audit", "ca.db"), "sound, 4 certificates, 0 revoked, 0 CRLs\n")
+
+
+@test(seconds=3)
+def what_is_refused_is_told_and_the_others_are_registered(t):
+    it, desk = unsigned_desk(t)
+    issued(t, it, "long", "11", days=3650)
+    issued(t, it, "good", "12")
+    issued(t, it, "nameless", "13", "/O=Example")
+    stranger = Authority(t, name="other", subject="/CN=T")
+    issued(t, stranger, "strange", "15")
+    (t.room / "text.pem").write_text("no certificate\n")
+    ended(t, it)
+    names = ["long.pem", "strange.pem", "text.pem", "nowhere.pem", "nameless.pem", "ended.pem", "good.pem"]
+    status, out, told = register_pem(t, "-c", "counter", "-a", "ca.pem", *names)
+    t.same((status, out), (3, "good.pem: serial number 12 registered, order 1 of subscriber 1\n"))
+    wanted = ["long.pem: order of 3651 days: E07 bad-days 398", "strange.pem: not signed by ca.pem", "text.pem: openssl can't read it",
+              "nowhere.pem: openssl can't read it", "nameless.pem: it has no common name: give -s NAME", "ended.pem: it ended, 2020-01-31T00:00:00Z"]
+    t.same(told, wanted)
+    t.same(register_pem(t, "-c", "counter", "-s", "two words", "nameless.pem"), (3, "", ["nameless.pem: subscriber two words: E22 syntax"]))
+    t.same(register_pem(t, "-c", "counter", "-s", "a+b", "nameless.pem"), (3, "", ["nameless.pem: subscriber a+b: E04 bad-name"]))
+    desk.end()
+    t.same((len(rows(t, "orders")), len(rows(t, "cert"))), (1, 1), "orders and certificates")
+
+
+@test(seconds=2)
+def an_order_that_stays_without_its_certificate_is_told(t):
+    """Where fewer days are allowed now than there were, the order is accepted and the certificate is not."""
+    it = Authority(t)
+    it.register()
+    t.done("schedule", "ca.db", "1970-01-01T00:00:00Z=398", "2026-03-15T00:00:00Z=47")
+    begins, ends = map(moment_of, issued(t, it, "a", "05"))
+    desk = t.open("ca.db", "--counter", "counter")
+    wanted = f"a.pem: register 1 05 {begins} {ends}: E12 too-long (order 1 stays without a certificate)"
+    t.same(register_pem(t, "-c", "counter", "a.pem"), (3, "", [wanted]))
+    desk.end()
+    t.same((len(rows(t, "orders")), len(rows(t, "cert"))), (1, 0), "orders and certificates")
+
+
+@test(seconds=2)
+def nobody_at_the_counter(t):
+    it = Authority(t)
+    issued(t, it, "a", "05")
+    fails(t, register_pem(t, "-c", "counter", "a.pem", "a.pem"), "a.pem: status 05: no reply at counter")
+    t.register("other.db")
+    desk = t.open("other.db", "--counter", "counter")
+    desk.end()
+    fails(t, register_pem(t, "-c", "counter", "a.pem"), "a.pem: status 05: no reply at counter")
+
+
+@test(seconds=3)
+def certificates_as_lines_of_a_script(t):
+    it = Authority(t)
+    it.register()
+    t.done("script", "ca.db", "--clock", given="subscriber acme\norder 1 30\n")
+    at = {name: [moment_of(one) for one in issued(t, it, name, serial, days=days)] for name, serial, days in (("a", "05", 90), ("b", "06", 30))}
+    ended(t, it)
+    status, lines, told = register_pem(t, "-o", "2", "-n", "1", "-a", "ca.pem", "a.pem", "ended.pem", "b.pem")
+    t.same((status, told), (3, ["ended.pem: it ended, 2020-01-31T00:00:00Z"]), "one is left out")
+    t.same(lines.splitlines(), ["order 1 91", f"register 2 05 {at['a'][0]} {at['a'][1]}", "order 1 31", f"register 3 06 {at['b'][0]} {at['b'][1]}"])
+    t.same(t.done("script", "ca.db", "--clock", "--strict", given=lines), "order 2\nregistered\norder 3\nregistered\n")
+    # Where the number of the next order is another one, nothing is registered.
+    issued(t, it, "c", "07")
+    for number, refusal in (("3", "E09 order-filled"), ("9", "E08 no-order")):
+        _, lines, _ = register_pem(t, "-o", number, "-n", "1", "c.pem")
+        ran = t.desk("script", "ca.db", "--clock", "--strict", given=lines)
+        t.same((ran.status, ran.lines[1:]), (3, [refusal]))
+    t.same(t.done("audit", "ca.db"), "sound, 2 certificates, 0 revoked, 0 CRLs\n")
