@@ -378,3 +378,161 @@ def certificates_as_lines_of_a_script(t):
         ran = t.desk("script", "ca.db", "--clock", "--strict", given=lines)
         t.same((ran.status, ran.lines[1:]), (3, [refusal]))
     t.same(t.done("audit", "ca.db"), "sound, 2 certificates, 0 revoked, 0 CRLs\n")
+
+
+# Words that can't be read.
+WORDS = {
+    "register-pem.sh": ([], ["-c", "counter"], ["a.pem"], ["-o", "1", "a.pem"], ["-n", "1", "a.pem"], ["-c", "counter", "-o", "1", "-n", "1", "a.pem"],
+                        ["-o", "one", "-n", "1", "a.pem"], ["-o", "1", "-n", "1", "-s", "acme", "a.pem"], ["-x", "a.pem"]),
+    "publish-crl.sh": ([], ["http://127.0.0.1:1/crl", "www"], ["a", "b", "c", "d"]),
+    "backup.sh": ([], ["ca.db"], ["ca.db", "copies", "7"]),
+}
+
+
+@each({script: (script, rows) for script, rows in WORDS.items()})
+def words_that_can_t_be_read(t, script, rows):
+    for words in rows:
+        status, out, told = played(t, script, *words)
+        t.same((status, out), (2, ""), f"status and output of {words}")
+        t.true(any(re.match(f"[uU]sage: .*{script} ", line) for line in told), f"told of {words}: {told}")
+
+
+# backup.sh
+
+ENTERED = "2026-01-01T00:00:00Z subscriber acme\n2026-01-01T00:00:00Z order 1 398\n"
+REGISTERED = ENTERED + "2026-01-01T00:00:00Z register 1 05 2026-01-01T00:00:00Z 2026-12-31T00:00:00Z\n2026-01-01T00:00:00Z crl\n"
+
+
+def back_up(t, register="ca.db", folder="copies", **how):
+    return played(t, "backup.sh", register, folder, **how)
+
+
+def register_and_copies(t, *older):
+    """A closed register, and a folder with copies of these names."""
+    t.register(lines=REGISTERED)
+    (t.room / "copies").mkdir()
+    for name in older:
+        shutil.copytree(t.room, t.room / "copies" / name, ignore=lambda folder, names: [it for it in names if not it.startswith("ca.db")])
+    return t.room / "copies"
+
+
+def names(folder):
+    return sorted(it.name for it in folder.iterdir())
+
+
+@test(seconds=2)
+def a_copy_of_a_closed_register(t):
+    copies = register_and_copies(t)
+    before = {name: (t.room / name).read_bytes() for name in ("ca.db", "ca.db-wal") if (t.room / name).exists()}
+    status, out, told = back_up(t)
+    t.same((status, told), (0, []))
+    [copy] = copies.iterdir()
+    t.same(out, f"copies/{copy.name}: sound, 1 certificates, 0 revoked, 1 CRLs\n")
+    t.true(re.fullmatch(r"ca\.db-\d{8}T\d{6}Z", copy.name), copy.name)
+    t.same({name: (t.room / name).read_bytes() for name in before}, before, "the register itself")
+    modes = {it.name: "%o" % (it.stat().st_mode & 0o777) for it in [copy, *copy.iterdir()]}
+    t.same({mode for name, mode in modes.items() if name.startswith("ca.db") and name != copy.name}, {"600"}, "modes of its files")
+    t.same(modes[copy.name], "700")
+    # It is a register: one goes back to it by copying its files.
+    replies = t.done("script", copy / "ca.db", given="2026-01-02T00:00:00Z status 05\n2026-01-02T00:00:00Z counts\n")
+    t.same(replies, "good\ngood 1 revoked 0 expired 0\n")
+
+
+@test(seconds=2)
+def seven_are_kept(t):
+    copies = register_and_copies(t, *(f"ca.db-2026010{day}T000000Z" for day in range(1, 9)), "other.db-20250101T000000Z")
+    t.same(back_up(t)[0], 0)
+    kept = names(copies)
+    t.same(kept[:6], [f"ca.db-2026010{day}T000000Z" for day in range(3, 9)], "six older ones")
+    t.same((len(kept), kept[-1]), (8, "other.db-20250101T000000Z"), "and the new one; what is of another register stays")
+
+
+@test(seconds=2)
+def the_new_one_stays_whatever_the_clock_says(t):
+    copies = register_and_copies(t, *(f"ca.db-209{year}0101T000000Z" for year in range(8)))
+    status, out, _ = back_up(t)
+    new = out.partition(":")[0].removeprefix("copies/")
+    t.same((status, names(copies)), (0, [new, *(f"ca.db-209{year}0101T000000Z" for year in range(2, 8))]))
+
+
+def an_open_one(t):
+    t.open("ca.db", "--counter", "counter")
+    return back_up(t)
+
+
+def a_broken_one(t):
+    t.sql("ca.db", "DELETE FROM standing")
+    return back_up(t)
+
+
+def a_cut_one(t):
+    text = (t.room / "ca.db").read_bytes()
+    (t.room / "ca.db").write_bytes(text[: len(text) // 2])
+    return back_up(t)
+
+
+def written_meanwhile(t):
+    """The register is written between the copies of its two files, as by a program that was just opened."""
+    (t.room / "tools").mkdir()
+    (t.room / "tools/cp").write_text(f'#!/bin/sh\n{shutil.which("cp")} "$@" && echo x >>"{t.room}/ca.db-wal"\n')
+    os.chmod(t.room / "tools/cp", 0o755)
+    return back_up(t, path=t.room / "tools")
+
+
+def held(t):
+    folder = os.open(t.room / "copies", os.O_RDONLY)
+    t.callback(os.close, folder)
+    fcntl.flock(folder, fcntl.LOCK_EX)
+    return back_up(t)
+
+
+def without_a_right(t):
+    if os.geteuid():
+        raise Skipped("another user wants root")
+    os.chmod(t.room / "copies", 0o755)
+    return back_up(t, before=as_nobody(t, "backup.sh"))
+
+
+def without_the_program(t):
+    ran = t.tried("env", "DESK=nowhere", EXAMPLES / "backup.sh", "ca.db", "copies")
+    return ran.returncode, ran.stdout.decode(), ran.stderr.decode().splitlines()
+
+
+def an_older_one(t):
+    """Of version 2, which an audit does not look at: another command is to open it first."""
+    for name in ("ca.db", "ca.db-wal"):
+        (t.room / name).unlink(missing_ok=True)
+    registers.make(t.room / "ca.db", registers.Records(50), 2)
+    return back_up(t)
+
+
+NO_COPIES = {
+    "a register that is open": (an_open_one, "ca.db is open in process "),
+    "one with a row that is missing": (a_broken_one, "the copy of ca.db is not kept: desk audit: broken: standing 1"),
+    "half of its file": (a_cut_one, "the copy of ca.db is not kept: desk audit: "),
+    "one of an older version": (an_older_one, "the copy of ca.db is not kept: desk audit: old-version"),
+    "no program": (without_the_program, "the copy of ca.db is not kept: desk audit: "),
+    "no register": (lambda t: back_up(t, "nowhere.db"), "nowhere.db is no file"),
+    "written while it is copied": (written_meanwhile, "ca.db was written while it was copied"),
+    "another run": (held, "another run holds copies"),
+    "no right": (without_a_right, "nothing can be written in copies"),
+}
+
+
+@each(NO_COPIES, seconds=2)
+def no_copy_goes_where_it_fails(t, fail, told):
+    copies = register_and_copies(t, *(f"ca.db-2026010{day}T000000Z" for day in range(1, 9)))
+    before = contents(copies)
+    fails(t, fail(t), told)
+    t.same(contents(copies), before, "copies")
+    t.same(len(names(copies)), 8, "nothing else lies there")
+
+
+@test(seconds=2)
+def a_full_disk_of_copies(t):
+    register_and_copies(t)
+    folder = small_disk(t, 16)
+    fails(t, back_up(t, folder=folder), "ca.db can't be copied into ")
+    t.same(names(folder), [], "nothing is left")
+    fails(t, back_up(t, folder="nowhere"), "nowhere is no folder that can be read")
+
