@@ -438,6 +438,33 @@ def a_copy_of_a_closed_register(t):
     t.same(replies, "good\ngood 1 revoked 0 expired 0\n")
 
 
+@test(seconds=3)
+def a_copy_of_an_open_register_comes_from_a_snapshot(t):
+    need("mkfs.btrfs", "mount")
+    if os.geteuid():
+        raise Skipped("a file system with snapshots wants root")
+    with open(t.room / "disk.img", "wb") as disk:
+        disk.truncate(128 * 2**20)
+    t.tool("mkfs.btrfs", "-q", "disk.img")
+    for folder in ("srv", "copies"):
+        (t.room / folder).mkdir()
+    if t.tried("mount", "-o", "loop", "disk.img", "srv").returncode:
+        raise Skipped("no btrfs can be mounted here")
+    t.callback(subprocess.run, ["umount", t.room / "srv"], check=True)
+    t.tool("btrfs", "subvolume", "create", "srv/ca")
+    t.register("srv/ca/ca.db", REGISTERED)
+    t.clock("2026-01-02T00:00:00Z")
+    desk = t.open("srv/ca/ca.db", "--counter", "counter")
+    told_at_counter(t, "request 05 superseded", "revoke 1")
+    t.tool("btrfs", "subvolume", "snapshot", "-r", "srv/ca", "srv/ca-now")
+    told_at_counter(t, "crl")
+    status, out, told = back_up(t, "srv/ca-now/ca.db")
+    t.same((status, out.partition(": ")[2], told), (0, "sound, 1 certificates, 1 revoked, 1 CRLs\n", []), "as it was at the snapshot")
+    fails(t, back_up(t, "srv/ca/ca.db"), "srv/ca/ca.db is open in process ")
+    t.same(told_at_counter(t, "crl"), ["crl 3 entries 1"], "the desk goes on")
+    desk.end()
+
+
 @test(seconds=2)
 def seven_are_kept(t):
     copies = register_and_copies(t, *(f"ca.db-2026010{day}T000000Z" for day in range(1, 9)), "other.db-20250101T000000Z")
