@@ -13,7 +13,6 @@ register=$1
 folder=$2
 desk=${DESK:-desk}
 name=$(basename "$register")
-umask 077
 
 fail() {
     echo "backup: $1" >&2

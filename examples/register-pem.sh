@@ -29,7 +29,7 @@ refuse() { echo "$certificate: $1" >&2; worst=3; }
 # Asks a line at the counter: its reply is in `reply`.
 say() {
     status=0
-    reply=$(echo "$1" | "$desk" at "$counter" 2>/dev/null) || status=$?
+    reply=$(printf '%s\n' "$1" | "$desk" at "$counter" 2>/dev/null) || status=$?
     case $status in 0 | 3) ;; *) echo "$certificate: $1: ${reply:-no reply at $counter}" >&2; exit 1 ;; esac
 }
 

@@ -13,12 +13,10 @@ from lib.authority import DAY, EXAMPLES, Authority, body_of, moment_of
 from lib.trial import Skipped, each, need, test
 
 
-def played(t, script, *words, before=(), path=None, given=b""):
+def played(t, script, *words, before=(), more=None):
     """Plays a script of examples/, whose `desk` is the program that is tested; its status, what it printed, and the lines that it told."""
-    env = dict(os.environ, DESK=program.program(), TZ="America/New_York")
-    if path:
-        env["PATH"] = f"{path}:{env['PATH']}"
-    ran = t.tried(*before, EXAMPLES / script if not before else t.room / script, *words, env=env, given=given)
+    env = {**os.environ, "DESK": program.program(), "TZ": "America/New_York", **(more or {})}
+    ran = t.tried(*before, EXAMPLES / script if not before else t.room / script, *words, env=env)
     return ran.returncode, ran.stdout.decode(), ran.stderr.decode().splitlines()
 
 
@@ -117,6 +115,15 @@ def other_authority(subject):
     return lambda t, desk: (Authority(t, name="other", subject=subject), publish(t, desk, ca="other.pem"))[1]
 
 
+def trusted_elsewhere(t, desk):
+    """The CA's certificate is one that the machine trusts, and another one is named."""
+    (t.room / "trusted").mkdir()
+    shutil.copy(t.room / "ca.pem", t.room / "trusted")
+    t.tool("openssl", "rehash", "trusted")
+    Authority(t, name="other", subject="/CN=U")
+    return publish(t, desk, ca="other.pem", more={"SSL_CERT_DIR": str(t.room / "trusted")})
+
+
 def garbage(t, desk):
     (t.room / "garbage.pem").write_text("no certificate\n")
     return publish(t, desk, ca="garbage.pem")
@@ -131,6 +138,7 @@ def gone(t, desk):
 FAILURES = {
     "a CA of the same name with another key": (other_authority("/CN=T"), "is not verified by other.pem: verify failure"),
     "a CA of another name": (other_authority("/CN=U"), "is not verified by other.pem: Error getting CRL issuer certificate"),
+    "a CA that the machine trusts, and not the one that is named": (trusted_elsewhere, "is not verified by other.pem: Error getting"),
     "no certificate of the CA": (lambda t, desk: publish(t, desk, ca="nowhere.pem"), "nowhere.pem can't be read"),
     "what is no certificate": (garbage, "is not verified by garbage.pem: "),
     "nobody at the port": (gone, "curl: (7) Failed to connect"),
@@ -438,6 +446,17 @@ def a_copy_of_a_closed_register(t):
     t.same(replies, "good\ngood 1 revoked 0 expired 0\n")
 
 
+@test(seconds=2)
+def a_copy_of_a_register_whose_desk_was_ended(t):
+    """What was answered last is in its -wal alone."""
+    register_and_copies(t)
+    t.clock("2026-01-02T00:00:00Z")
+    desk = t.open("ca.db", "--counter", "counter")
+    told_at_counter(t, "request 05 superseded", "revoke 1")
+    desk.end()
+    t.has(back_up(t)[1], ": sound, 1 certificates, 1 revoked, 1 CRLs\n")
+
+
 @test(seconds=3)
 def a_copy_of_an_open_register_comes_from_a_snapshot(t):
     need("mkfs.btrfs", "mount")
@@ -503,7 +522,7 @@ def written_meanwhile(t):
     (t.room / "tools").mkdir()
     (t.room / "tools/cp").write_text(f'#!/bin/sh\n{shutil.which("cp")} "$@" && echo x >>"{t.room}/ca.db-wal"\n')
     os.chmod(t.room / "tools/cp", 0o755)
-    return back_up(t, path=t.room / "tools")
+    return back_up(t, more={"PATH": f"{t.room}/tools:{os.environ['PATH']}"})
 
 
 def held(t):
@@ -521,8 +540,7 @@ def without_a_right(t):
 
 
 def without_the_program(t):
-    ran = t.tried("env", "DESK=nowhere", EXAMPLES / "backup.sh", "ca.db", "copies")
-    return ran.returncode, ran.stdout.decode(), ran.stderr.decode().splitlines()
+    return back_up(t, more={"DESK": "nowhere"})
 
 
 def an_older_one(t):
