@@ -238,11 +238,18 @@ def booted(t, root):
         if answered is not None:
             t.same(answered, b'{"expired":0,"good":0,"revoked":1}', "desk@ca.service, asked over HTTP")
             inside = Path(f"/proc/{machine.pid}/task/{machine.pid}/children").read_text().split()[0]
-            systemctl = ("nsenter", "-t", inside, "-a", "systemctl", "start")
-            t.tool(*systemctl, "desk-crl@ca.service")
+            at = ("nsenter", "-t", inside, "-a")
+            t.tool(*at, "systemctl", "start", "desk-crl@ca.service")
             authority.until(lambda: published(root), "the CRL that desk-crl@ca.service has published")
             # Once more by itself, which fails where the unit does.
-            t.tool(*systemctl, "desk-publish@ca.service")
+            t.tool(*at, "systemctl", "start", "desk-publish@ca.service")
+            # A copy: it is refused while the service runs.
+            copy = (*at, "/usr/lib/durshavon/backup.sh", REGISTER, "/srv")
+            t.same(t.tried(*copy).returncode, 1, "status of backup.sh while the register is open")
+            t.tool(*at, "systemctl", "stop", "desk@ca.service")
+            t.has(t.tool(*copy).decode(), ": sound, 1 certificates, 1 revoked, 1 CRLs\n", "a copy of what was stopped")
+            t.tool(*at, "systemctl", "start", "desk@ca.service")
+            authority.until(lambda: asked_of(port), "desk@ca.service to answer again")
         t.note(f"systemd-nspawn started it: {answered is not None}")
     finally:
         # It has the root shut down in order.
