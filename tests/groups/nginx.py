@@ -40,6 +40,7 @@ def what_is_answered(t):
         t.same((status, fields["Content-Type"], list(authority.listed(t, body))), (200, "application/pkix-crl", [5]), path)
     t.same(front.ask("/crl/2")[::2], (404, b'{"error":"E21 no-crl"}'), "a CRL that is none yet")
     t.same(front.ask("/status/06", tls=True)[::2], (200, b'{"status":"good"}'), "by https")
+    t.same([front.ask(path)[0] for path in ("/status/06", "/counts", "/board/")], [404] * 3, "the same over plain http")
     t.same(front.ask("/counts", tls=True)[::2], (200, b'{"expired":0,"good":1,"revoked":1}'))
     status, fields, body = front.ask("/board/", tls=True)
     t.same((status, fields["Content-Type"], b"One certificate" in body), (200, "text/html", True), "the board")
@@ -119,7 +120,7 @@ def what_is_kept_and_for_how_long(t):
     before = front.asked_of_desk()
     t.same([front.ask("/crl/2")[0], front.ask("/crl/2")[0], front.asked_of_desk() - before], [404, 404, 2], "one that is none yet is not kept")
     for route in ("/status/06", "/counts"):
-        t.same(front.ask(route)[1]["Cache-Control"], "no-store", route)
+        t.same(front.ask(route, tls=True)[1]["Cache-Control"], "no-store", route)
     # Two requests that differ in a slash alone are two (their base64 has any bytes).
     t.same([front.state("/ocsp/a//b"), front.state("/ocsp/a/b")], ["MISS", "MISS"], "slashes are not merged")
     time.sleep(KEPT + 1)
