@@ -69,7 +69,7 @@ zipped usr/share/man/man5/desk-script.5.gz <"$manual/desk-script.5"
 rm -r "$manual"
 
 documents=usr/share/doc/durshavon
-for name in README.md docs/OPERATIONS.md docs/RULES.md docs/MODEL.md docs/PERFORMANCE.md docs/PROOFS.md; do
+for name in README.md CHANGELOG.md SECURITY.md docs/OPERATIONS.md docs/RULES.md docs/MODEL.md docs/PERFORMANCE.md docs/PROOFS.md; do
     put 0644 "$name" "$documents/$(basename "$name")"
 done
 tools/copyright.py "$kit" >"$root/$documents/copyright"
