@@ -245,10 +245,12 @@ def the_way_out_of_a_digest(t):
 
 @test
 def each_line_that_may_sign_is_told_of_the_signer(t):
-    """No line of the document opens a register without a signer: what it signs would be sealed by a digest."""
-    found = re.findall(r"\bdesk (?:script|open|serve) ca\.db[^`\n|]*", document())
+    """No line of the document, nor of what is beside the examples and the units, opens a register without a signer: a digest would seal what it issues."""
+    files = [it for folder in ("examples", "packaging") for it in sorted((program.TOP / folder).iterdir()) if it.is_file()]
+    texts = [document(), *(it.read_text(encoding="utf-8") for it in files)]
+    found = [line for text in texts for line in re.findall(r"\bdesk (?:script|open|serve) ca\.db[^`\n|]*", text)]
     t.true(len(found) > 8, f"few lines: {found}")
-    t.same([it for it in found if "$SIGNER" not in it], [], "lines with no signer")
+    t.same([it for it in found if "$SIGNER" not in it and "--signer" not in it], [], "lines with no signer")
 
 
 @test
