@@ -67,7 +67,7 @@ class Root:
 def built(t):
     """The package's path. It is made beside the program that is tested, in a folder that has what tools/package.sh wants of this repository."""
     folder = authority.stood_in(t)
-    for it in (".git", "LICENSE", "crates.txt"):
+    for it in (".git", "LICENSE", "crates.txt", "CHANGELOG.md", "SECURITY.md"):
         (folder / it).symlink_to(TOP / it)
     # git follows no link to this one.
     (folder / ".gitignore").write_bytes((TOP / ".gitignore").read_bytes())
@@ -325,7 +325,7 @@ def behind(t, root, machine, port):
     """What the units do besides, in the machine that runs: CRLs are published, and copies taken of a register that is closed alone."""
     authority.until(lambda: published(root), "the CRL that desk-crl@ca.service has published")
     inside = Path(f"/proc/{machine.pid}/task/{machine.pid}/children").read_text().split()[0]
-    at = ("nsenter", "-t", inside, "-a")
+    at = ("env", "-u", "DESK", "nsenter", "-t", inside, "-a")
     # Once more by itself, which fails where the unit does.
     t.tool(*at, "systemctl", "start", "desk-publish@ca.service")
     copy = (*at, "/usr/lib/durshavon/backup.sh", REGISTER, "/srv/copies")
