@@ -7,8 +7,8 @@ use Rattle.std.proofs.KnownBytes.{Appends-nil, Appends-trans, Consumes-nil, Cons
 use Rattle.reg_core.specs.Records.{Records}
 use Rattle.reg_core.specs.declared.refusal.Fault.TheVariants as fault
 use Rattle.reg_crl.specs.Signing.{Identity}
-use Rattle.reg_office.specs.Calls.{Signs}
-use Rattle.reg_office.specs.Leads.{Leads}
+use Rattle.reg_calls.specs.Steps.{Signs}
+use Rattle.reg_calls.specs.Leads.{Leads}
 use Rattle.reg_jobs.specs.declared.failure.Failure.{Failure}
 use Rattle.reg_jobs.specs.declared.failure.Failure.TheVariants as failure
 use Rattle.reg_lines.specs.Script.{HasNoLf, IsWhole}

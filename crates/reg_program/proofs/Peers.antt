@@ -6,8 +6,8 @@ use Rattle.reg_core.specs.declared.refusal.Fault.{Fault}
 use Rattle.reg_core.specs.declared.refusal.Fault.TheVariants as fault
 use Rattle.reg_crl.specs.Signing.{Identity}
 use Rattle.reg_faces.specs.Faces.{Lines}
-use Rattle.reg_office.specs.Calls.{Signs, Runs, Asks, Ocsps, Crls}
-use Rattle.reg_office.specs.Leads.{Leads}
+use Rattle.reg_calls.specs.Steps.{Signs, Runs, Asks, Ocsps, Crls}
+use Rattle.reg_calls.specs.Leads.{Leads}
 use Rattle.reg_faces.proofs.Exchanges.{read_is_not_write, memory_is_not_write}
 use Rattle.reg_faces.proofs.Steps.{follows, runs, stays}
 use Rattle.reg_http.specs.Served.{ServingEnds}

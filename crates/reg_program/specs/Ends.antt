@@ -10,8 +10,8 @@ use Rattle.reg_core.specs.declared.refusal.Fault.{Fault}
 use Rattle.reg_core.specs.declared.refusal.Fault.TheVariants as fault
 use Rattle.reg_crl.specs.Signing.{Identity}
 use Rattle.reg_faces.specs.Faces.{Lines}
-use Rattle.reg_office.specs.Calls.{Crls}
-use Rattle.reg_faces.specs.declared.keeper.Keeper.{Ghosts as Keeper}
+use Rattle.reg_calls.specs.Steps.{Crls}
+use Rattle.reg_calls.specs.declared.keeper.Keeper.{Ghosts as Keeper}
 use Rattle.reg_hub.specs.Exchange.{Input}
 use Rattle.reg_jobs.specs.Checks.{WritesIssuer, IsNoOffice, IsNoSchedule, terms_of}
 use Rattle.reg_jobs.specs.Endings.{store_failure}

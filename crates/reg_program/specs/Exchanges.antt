@@ -7,7 +7,7 @@ use Rattle.reg_core.specs.declared.refusal.Fault.{Fault}
 use Rattle.reg_core.specs.declared.refusal.Fault.TheVariants as fault
 use Rattle.reg_crl.specs.Signing.{Identity}
 use Rattle.reg_faces.specs.Faces.{Lines}
-use Rattle.reg_office.specs.Calls.{Signs, Runs, Asks, Ocsps, Crls}
+use Rattle.reg_calls.specs.Steps.{Signs, Runs, Asks, Ocsps, Crls}
 use Rattle.reg_heads.specs.Response.{memory_text}
 use Rattle.reg_http.specs.Served.{ServingEnds}
 use Rattle.reg_lines.specs.Script.{ScriptEnds}

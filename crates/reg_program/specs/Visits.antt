@@ -3,8 +3,8 @@ use Rattle.std.specs.Prelude.{◌≡◌, ℕ, List, Result, Ok, Err}
 use Rattle.reg_core.specs.Records.{Records}
 use Rattle.reg_core.specs.declared.refusal.Fault.{Fault}
 use Rattle.reg_crl.specs.Signing.{Identity}
-use Rattle.reg_office.specs.Leads.{Leads}
-use Rattle.reg_faces.specs.declared.keeper.Keeper.{Ghosts as Keeper}
+use Rattle.reg_calls.specs.Leads.{Leads}
+use Rattle.reg_calls.specs.declared.keeper.Keeper.{Ghosts as Keeper}
 use Rattle.reg_jobs.specs.declared.failure.Failure.{Failure}
 use Rattle.reg_jobs.specs.declared.failure.Failure.TheVariants as failure
 use Rattle.reg_program.specs.Failing.{IsMaking, IsOpening}

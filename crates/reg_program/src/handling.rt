@@ -3,15 +3,16 @@
 ghost use Rattle.std.specs.Prelude.{◌≡◌, ◌⊎◌, ◌++◌, ◌∷◌, [], ℕ, List, Some, IfOk, OnOk, OnErr};
 ghost use Rattle.reg_core.specs.Lines.{fault_line};
 ghost use Rattle.reg_faces.specs.Faces.{Lines};
-ghost use Rattle.reg_office.specs.Leads.{Leads};
+ghost use Rattle.reg_calls.specs.Leads.{Leads};
 ghost use Rattle.reg_lines.specs.Script.{ScriptEnds};
 ghost use Rattle.reg_heads.specs.Response.{memory_text};
 ghost use Rattle.reg_program.specs.Exchanges.{Entry, EntryAt, Exchange, ExchangeAt, LineRuns, Replied, Responded, line_at};
 
 use crate::front::Front;
 use crate::logging::{began, log_answer, log_line, log_lost};
+use reg_calls::Keeper;
 use reg_core::{Fault, Moment};
-use reg_faces::{Keeper, run_script, serve_one};
+use reg_faces::{run_script, serve_one};
 use reg_heads::write_memory_fault;
 use reg_hub::{Handler, Lost, Stopped};
 use std::alloc::{AllocError, Global};
@@ -45,7 +46,7 @@ pub(crate) struct LinedDesk<K: Keeper> {
 }
 
 impl<'a, K: Keeper, F: Front> Handler for ServedDesk<'a, K, F> {
-    ghost use Rattle.reg_office.specs.Leads.{Leads};
+    ghost use Rattle.reg_calls.specs.Leads.{Leads};
     ghost use Rattle.reg_program.specs.Exchanges.{Exchange, NoEntry};
 
     ghost answers = { λ s request text t. Leads K.is_clean K.stands
@@ -67,7 +68,7 @@ impl<'a, K: Keeper, F: Front> Handler for ServedDesk<'a, K, F> {
 }
 
 impl<'a, K: Keeper, F: Front> Handler for OpenDesk<'a, K, F> {
-    ghost use Rattle.reg_office.specs.Leads.{Leads};
+    ghost use Rattle.reg_calls.specs.Leads.{Leads};
     ghost use Rattle.reg_program.specs.Exchanges.{Exchange, Entry};
 
     ghost answers = { λ s request text t. Leads K.is_clean K.stands
@@ -90,7 +91,7 @@ impl<'a, K: Keeper, F: Front> Handler for OpenDesk<'a, K, F> {
 }
 
 impl<K: Keeper> Handler for LinedDesk<K> {
-    ghost use Rattle.reg_office.specs.Leads.{Leads};
+    ghost use Rattle.reg_calls.specs.Leads.{Leads};
     ghost use Rattle.reg_program.specs.Exchanges.{LineRuns, NoEntry};
 
     ghost answers = { NoEntry };

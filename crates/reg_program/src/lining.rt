@@ -1,7 +1,7 @@
 //! The job `script` line by line: each line at the moment of the clock, or all of them up to the first refusal.
 
 ghost use Rattle.std.specs.Prelude.{◌≡◌, ℕ, ◌≤◌, ◌<◌, List, length, take};
-ghost use Rattle.reg_office.specs.Leads.{Leads};
+ghost use Rattle.reg_calls.specs.Leads.{Leads};
 ghost use Rattle.reg_program.specs.Ends.{LinesAt};
 ghost use Rattle.reg_program.specs.Exchanges.{Entry, LineRuns};
 ghost use Rattle.reg_program.specs.Lined.{EndsOrNot, LinesEnd, NextEnds, Passed, TellEnds};
@@ -12,8 +12,8 @@ use crate::front::Front;
 use crate::handling::{LinedDesk, OpenDesk};
 use crate::place::Place;
 use crate::telling::say;
+use reg_calls::Keeper;
 use reg_core::Fault;
-use reg_faces::Keeper;
 use reg_hub::Handler;
 use reg_jobs::Failure;
 use reg_lines::{LONGEST_LINE, MOST_LINES};

@@ -1,7 +1,7 @@
 //! The job `open`: a register that is kept open, for peers and for lines at a counter.
 
 ghost use Rattle.std.specs.Prelude.{◌≡◌, ◌⊎◌, ℕ, List, OnOk, IfErr};
-ghost use Rattle.reg_office.specs.Leads.{Leads};
+ghost use Rattle.reg_calls.specs.Leads.{Leads};
 ghost use Rattle.reg_hub.specs.Exchange.{Input};
 ghost use Rattle.reg_program.specs.Ends.{OpenAt};
 ghost use Rattle.reg_program.specs.Serving.{OpenedAt, Opens, loopback};
@@ -10,8 +10,8 @@ use crate::front::Front;
 use crate::handling::OpenDesk;
 use crate::place::Place;
 use crate::serving::{LOOPBACK, hub_over, serve_hub};
+use reg_calls::Keeper;
 use reg_core::Fault;
-use reg_faces::Keeper;
 use reg_hub::Hub;
 use reg_jobs::Failure;
 use reg_words::KeyHolder;

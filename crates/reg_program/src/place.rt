@@ -1,8 +1,8 @@
 //! A place where registers lie.
 
+use reg_calls::Keeper;
 use reg_core::{Memory, Policy, Schedule};
 use reg_der::Issuer;
-use reg_faces::Keeper;
 use reg_jobs::Failure;
 use reg_store::StoreFault;
 use reg_verdict::Verdict;
@@ -12,7 +12,7 @@ use std::alloc::Global;
 /// A register that was opened: it keeps records, and its schedule can be set.
 pub trait Register: Keeper {
     ghost use Rattle.std.specs.Prelude.{IfErr};
-    ghost use Rattle.reg_office.specs.Leads.{Leads};
+    ghost use Rattle.reg_calls.specs.Leads.{Leads};
     ghost use Rattle.reg_program.specs.Schedules.{Reschedules};
     ghost use Rattle.reg_tables.specs.Stays.{IsCallFault};
 

@@ -1,7 +1,7 @@
 //! The job `serve`: HTTP on the loopback interface, many peers at once.
 
 ghost use Rattle.std.specs.Prelude.{◌≡◌, ◌≢◌, ◌⊎◌, ◌++◌, ◌∷◌, [], ℕ, List, decimal, OnOk, IfErr, MatchResult};
-ghost use Rattle.reg_office.specs.Leads.{Leads};
+ghost use Rattle.reg_calls.specs.Leads.{Leads};
 ghost use Rattle.reg_hub.specs.Exchange.{Input, Handles, asked_in};
 ghost use Rattle.reg_program.specs.Ends.{Says, ServeAt};
 ghost use Rattle.reg_program.specs.Serving.{Served, ServedAt, Serves, listening, loopback};
@@ -12,8 +12,8 @@ use crate::handling::ServedDesk;
 use crate::place::Place;
 use crate::telling::say;
 use mio::net::{TcpListener, UnixListener};
+use reg_calls::Keeper;
 use reg_core::{Decimal, Fault};
-use reg_faces::Keeper;
 use reg_hub::{Handler, Hub, MOST_CALLERS};
 use reg_jobs::Failure;
 use reg_words::KeyHolder;

@@ -1,6 +1,6 @@
 //! An office that keeps records.
 
-use reg_calls::Calls;
+use crate::calls::Calls;
 
 /// An office that keeps records: each of its calls is a step of the records that stand in it. It has no call of its own.
 pub trait Keeper: Calls {
@@ -13,8 +13,8 @@ pub trait Keeper: Calls {
     ghost use Rattle.reg_core.specs.declared.refusal.Fault.{Fault};
     ghost use Rattle.reg_core.specs.declared.refusal.Fault.TheVariants.{Signer};
     ghost use Rattle.reg_crl.specs.Signing.{Identity};
-    ghost use Rattle.reg_office.specs.Calls.{Runs, Asks, Ocsps, Crls};
-    ghost use Rattle.reg_office.specs.Leads.{Leads};
+    ghost use Rattle.reg_calls.specs.Steps.{Runs, Asks, Ocsps, Crls};
+    ghost use Rattle.reg_calls.specs.Leads.{Leads};
 
     /// The medium has returned all that was written to it.
     ghost is_clean: { Self → Type 0 };

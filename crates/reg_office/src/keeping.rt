@@ -1,8 +1,8 @@
 //! The office over a store, as a keeper of records.
 
-use crate::keeper::Keeper;
+use crate::office::Office;
+use reg_calls::Keeper;
 use reg_crl::Signer;
-use reg_office::Office;
 use sqlite::Alter;
 
 impl<C: Alter, S: Signer> Keeper for Office<C, S> {

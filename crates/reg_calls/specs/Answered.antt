@@ -3,14 +3,13 @@ use Rattle.std.specs.Prelude.{◌≡◌, ℕ, ◌<◌, List, Option, Some, None,
 use Rattle.reg_core.specs.Checks.{clock_end}
 use Rattle.reg_core.specs.Crls.{latest}
 use Rattle.reg_core.specs.Queries.{answer, listing}
-use Rattle.reg_core.specs.Records.{Records, Crl, certificate_in}
+use Rattle.reg_core.specs.Records.{Records, Crl, certificate_in, crl_in}
 use Rattle.reg_core.specs.declared.command.Listing.{Listing}
 use Rattle.reg_core.specs.declared.command.Query.{Query}
 use Rattle.reg_core.specs.declared.command.Reply.{Reply}
 use Rattle.reg_core.specs.declared.refusal.Refusal.TheVariants.{NoCrl, UnknownSerial}
 use Rattle.reg_core.specs.declared.refusal.Fault.{Fault}
 use Rattle.reg_core.specs.declared.refusal.Fault.TheVariants.{Refused, Memory, Store, Signer, Read, Write}
-use Rattle.reg_tables.specs.Tables.{crl_in}
 
 -- a query's outcome: its answer; or, below the clock's end, want of memory or a failure of the store
 abbrev pub IsAnswered : Records → ℕ → Query → Result Reply Fault → Type 0
