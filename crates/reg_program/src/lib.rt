@@ -3,6 +3,7 @@
 
 mod asking;
 mod counter;
+mod desk;
 mod files;
 mod front;
 mod handling;
@@ -15,15 +16,18 @@ mod memory;
 mod opening;
 mod performing;
 mod place;
+mod progress;
 mod serving;
 mod signing;
 mod telling;
 mod watching;
 
 pub use asking::talk;
+pub use desk::run_desk;
 pub use files::FileOffice;
 pub use front::Front;
 pub use machine::Machine;
-pub use performing::{perform, perform_at};
+pub use performing::perform;
 pub use place::{Place, Register};
 pub use signing::FileSigner;
+pub use telling::Causes;

@@ -10,7 +10,17 @@ use reg_causes::Cause;
 use reg_core::Fault;
 use reg_jobs::Failure;
 use reg_wire::write_whole;
+use std::cell::Cell;
 use std::io::Write;
+
+/// Where the cause of the call that failed last is noted, and whether it is told.
+#[derive(Clone, Copy)]
+pub struct Causes<'a> {
+    /// Where causes are noted.
+    pub noted: &'a Cell<Option<Cause>>,
+    /// Whether a fault's line is followed by its cause.
+    pub is_told: bool,
+}
 
 /// Says a text of the job.
 ///
