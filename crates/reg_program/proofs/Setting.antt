@@ -11,7 +11,7 @@ use Rattle.reg_crl.specs.Signing.{Identity}
 use Rattle.reg_calls.specs.Steps.{Signs}
 use Rattle.reg_office.proofs.Standing.{stands_on}
 use Rattle.reg_office.specs.Stands.{Stands}
-use Rattle.reg_program.specs.Schedules.{Reschedules}
+use Rattle.reg_jobs.specs.Schedules.{Reschedules}
 use Rattle.reg_tables.specs.Stays.{Stays}
 use Rattle.reg_tables.specs.declared.fault.StoreFault.{StoreFault}
 

@@ -1,9 +1,9 @@
 //! The program as the machine runs it: its words, standard input and output, and the exit status.
 
-use crate::progress::{Counted, tell_opening};
-use crate::telling::Causes;
 use crate::machine::Machine;
 use crate::performing::perform;
+use crate::progress::{Counted, tell_opening};
+use reg_jobs::Causes;
 use reg_words::{Job, Usage, no_text, read_words};
 use std::cell::Cell;
 use std::io::{ErrorKind, IsTerminal};

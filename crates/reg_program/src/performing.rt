@@ -1,20 +1,17 @@
 //! A job is done, and told.
 
 ghost use Rattle.std.specs.Prelude.{◌≡◌, Result};
-ghost use Rattle.reg_jobs.specs.Endings.{status};
-ghost use Rattle.reg_jobs.specs.declared.failure.Failure.{Failure as Failing};
-ghost use Rattle.reg_program.specs.Ends.{Ends};
-ghost use Rattle.reg_program.specs.Told.{Explains, Tells};
+ghost use Rattle.reg_endings.specs.Endings.{status};
+ghost use Rattle.reg_endings.specs.declared.failure.Failure.{Failure as Failing};
+ghost use Rattle.reg_jobs.specs.Ends.{Ends};
+ghost use Rattle.reg_jobs.specs.Told.{Explains, Tells};
 
-use crate::asking::at;
-use crate::front::Front;
-use crate::jobs::{NewOffice, audit, crl, import_rows, init, schedule, script, script_in_memory};
-use crate::lining::script_by_lines;
-use crate::opening::hold_open;
-use crate::place::Place;
-use crate::serving::serve;
-use crate::telling::{Causes, explain, tell};
-use reg_jobs::{Failure, status_of};
+use crate::memory::script_in_memory;
+use reg_endings::{Failure, status_of};
+use reg_jobs::{
+    Causes, Front, NewOffice, Place, at, audit, crl, explain, hold_open, import_rows, init, schedule,
+    script, script_by_lines, serve, tell,
+};
 use reg_words::Job;
 use std::io::{Read, Write};
 

@@ -1,6 +1,6 @@
 use Rattle.std.proofs.Common.{None}
 use Rattle.reg_program.proofs.Opened.{settled_opened, settled_not}
-use Rattle.reg_program.specs.Failing.{IsOpening}
+use Rattle.reg_jobs.specs.Failing.{IsOpening}
 use Rattle.reg_program.proofs.files.open_register.Goals as goal
 
 pub returns-clause-ok : goal.returns-clause-ok

@@ -1,6 +1,6 @@
 use Rattle.std.proofs.Common.{Some}
 use Rattle.reg_program.proofs.Opened.{settled_opened, settled_not}
-use Rattle.reg_program.specs.Failing.{IsOpening}
+use Rattle.reg_jobs.specs.Failing.{IsOpening}
 use Rattle.reg_program.proofs.files.open_register_to_sign.Goals as goal
 
 pub returns-clause-ok : goal.returns-clause-ok
