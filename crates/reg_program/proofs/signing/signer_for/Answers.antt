@@ -1,0 +1,42 @@
+use Rattle.std.proofs.Common.{◌∙◌, ap}
+use Rattle.std.specs.Prelude.{option_map}
+use Rattle.std.proofs.lemmas.Result.{IfOk-weaker}
+use Rattle.sqlite.specs.Held.{state}
+use Rattle.reg_core.specs.Records.{Crl}
+use Rattle.reg_tables.proofs.Staying.{looked_shows, looked_then}
+use Rattle.reg_office.proofs.Composing.{was_clean}
+use Rattle.reg_program.proofs.signing.signer_for.Goals as goal
+
+pub returns-in-Some-clause-looked : goal.returns-in-Some-clause-looked
+returns-in-Some-clause-looked g c = looked_then c.latest_crl.ensures.looked c.signer_after.ensures.looked
+
+pub returns-in-Some-clause-told : goal.returns-in-Some-clause-told
+returns-in-Some-clause-told g c =
+    IfOk-weaker c.signer_after.result _ _ (λ signer told. λ records shown clean.
+    told records (looked_shows c.latest_crl.ensures.looked records shown) clean)
+    c.signer_after.ensures.told
+
+pub returns-in-Some-clause-follows : goal.returns-in-Some-clause-follows
+returns-in-Some-clause-follows g c =
+    IfOk-weaker c.signer_after.result _ _ (λ signer follows. λ records shown sound clean crl is other under.
+    let clean_1 = was_clean (state g.C.Store c.latest_crl.new.store) (state g.C.Store c.signer_after.new.store) c.signer_after.ensures.looked.survives.clean clean in
+    let latest_is = c.in_ok-latest.ensures.found records shown sound clean_1 in
+    follows crl.bytes (latest_is ∙ ap (option_map (λ (crl : Crl). crl.bytes)) is) other under)
+    c.signer_after.ensures.follows
+
+pub returns-in-None-clause-looked : goal.returns-in-None-clause-looked
+returns-in-None-clause-looked g c = looked_then c.latest_crl.ensures.looked c.signer_after.ensures.looked
+
+pub returns-in-None-clause-told : goal.returns-in-None-clause-told
+returns-in-None-clause-told g c =
+    IfOk-weaker c.signer_after.result _ _ (λ signer told. λ records shown clean.
+    (c.holder_of-told.result, told records (looked_shows c.latest_crl.ensures.looked records shown) clean))
+    c.signer_after.ensures.told
+
+pub returns-in-None-clause-follows : goal.returns-in-None-clause-follows
+returns-in-None-clause-follows g c =
+    IfOk-weaker c.signer_after.result _ _ (λ signer follows. λ records shown sound clean crl is other under.
+    let clean_1 = was_clean (state g.C.Store c.latest_crl.new.store) (state g.C.Store c.signer_after.new.store) c.signer_after.ensures.looked.survives.clean clean in
+    let latest_is = c.in_ok-latest.ensures.found records shown sound clean_1 in
+    follows crl.bytes (latest_is ∙ ap (option_map (λ (crl : Crl). crl.bytes)) is) other under)
+    c.signer_after.ensures.follows
