@@ -15,7 +15,7 @@ use std::alloc::Global;
 use std::collections::BTreeMap;
 
 /// The state of a certificate at the last accepted moment.
-#[derive(Clone, Copy, Debug, PartialEq, Eq)]
+#[derive(Clone, Copy, PartialEq, Eq)]
 pub enum Letter {
     Good,
     Revoked,
@@ -23,7 +23,7 @@ pub enum Letter {
 }
 
 /// A certificate's state letter.
-#[derive(Clone, Copy, Debug)]
+#[derive(Clone, Copy)]
 pub struct Standing {
     pub serial: Serial,
     pub not_after: Moment,
@@ -31,7 +31,7 @@ pub struct Standing {
 }
 
 /// What CRLs list of a revocation: its certificate's notAfter, and the last CRL that lists it, where that has been issued.
-#[derive(Clone, Copy, Debug)]
+#[derive(Clone, Copy)]
 pub struct Listed {
     pub serial: Serial,
     pub at: Moment,
@@ -42,7 +42,7 @@ pub struct Listed {
 }
 
 /// The rows of the tables that are kept beside the records, each table's in the order of its rowids.
-#[derive(Clone, Copy, Debug)]
+#[derive(Clone, Copy)]
 pub struct Beside<'a> {
     pub letters: &'a [Standing],
     pub counts: Counts,

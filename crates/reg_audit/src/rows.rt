@@ -23,7 +23,7 @@ use std::alloc::Global;
 use std::collections::BTreeMap;
 
 /// The rows of the tables of the records, each table's in the order of its rowids, the CRLs without their bytes.
-#[derive(Clone, Copy, Debug)]
+#[derive(Clone, Copy)]
 pub struct Rows<'a> {
     /// The most rows of a table, by the policy.
     pub cap: u64,

@@ -7,7 +7,7 @@ use reg_core::Memory;
 use std::alloc::{AllocError, AllocFailed};
 
 /// A table of a register.
-#[derive(Clone, Copy, Debug, PartialEq, Eq)]
+#[derive(Clone, Copy, PartialEq, Eq)]
 pub enum Table {
     Office,
     Subscriber,
@@ -22,7 +22,7 @@ pub enum Table {
 }
 
 /// What is wrong with a row.
-#[derive(Clone, Copy, Debug, PartialEq, Eq)]
+#[derive(Clone, Copy, PartialEq, Eq)]
 pub enum Why {
     /// The last accepted moment is past the clock's end.
     PastClockEnd,
@@ -67,7 +67,7 @@ pub enum Why {
 }
 
 /// A row that breaks a rule: its place in its table, from 1 on, and why.
-#[derive(Clone, Copy, Debug, PartialEq, Eq)]
+#[derive(Clone, Copy, PartialEq, Eq)]
 pub struct Broken {
     pub table: Table,
     pub row: u64,
@@ -75,7 +75,7 @@ pub struct Broken {
 }
 
 /// Why a check came to no end, or found a row that breaks a rule.
-#[derive(Clone, Copy, Debug, PartialEq, Eq)]
+#[derive(Clone, Copy, PartialEq, Eq)]
 pub enum Stop {
     /// Memory could not be had.
     Memory,

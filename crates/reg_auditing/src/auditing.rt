@@ -26,7 +26,7 @@ use sqlite::{Alter, Connection};
 use std::alloc::Global;
 
 /// How many rows an audit found well: those of certificates, of revocations and of CRLs.
-#[derive(Clone, Copy, Debug, PartialEq, Eq)]
+#[derive(Clone, Copy, PartialEq, Eq)]
 pub struct Audited {
     pub certificates: usize,
     pub revoked: usize,

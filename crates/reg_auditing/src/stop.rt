@@ -7,7 +7,7 @@ use reg_tables::CallFault;
 use std::alloc::AllocFailed;
 
 /// Why an audit comes to no good end.
-#[derive(Clone, Copy, Debug, PartialEq, Eq)]
+#[derive(Clone, Copy, PartialEq, Eq)]
 pub enum AuditStop {
     /// Memory could not be had.
     Memory,

@@ -39,7 +39,7 @@ pub(crate) trait OfRow: Copy {
 }
 
 /// The cap and the last accepted moment.
-#[derive(Clone, Copy, Debug)]
+#[derive(Clone, Copy)]
 pub(crate) struct OfficeRow {
     pub(crate) cap: u64,
     pub(crate) last: Moment,

@@ -7,7 +7,7 @@ use reg_core::{Fault, Label};
 use reg_tables::StoreFault;
 
 /// Why a job is not done.
-#[derive(Clone, Copy, Debug, PartialEq, Eq)]
+#[derive(Clone, Copy, PartialEq, Eq)]
 pub enum Failure {
     /// A refusal of the register, or a fault of memory, store, signer, input or output.
     Fault(Fault),

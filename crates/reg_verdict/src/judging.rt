@@ -25,7 +25,7 @@ use sqlite::{Alter, Connection};
 use std::alloc::Global;
 
 /// What an audit says of a register.
-#[derive(Clone, Copy, Debug, PartialEq, Eq)]
+#[derive(Clone, Copy, PartialEq, Eq)]
 pub enum Verdict {
     /// The rows that are looked at are those of sound records: how many there are.
     Sound(Audited),

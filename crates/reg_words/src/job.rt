@@ -17,7 +17,7 @@ pub struct KeyHolder<'a> {
 }
 
 /// How the lines of a script are run that is run line by line.
-#[derive(Clone, Copy, Debug, PartialEq, Eq)]
+#[derive(Clone, Copy, PartialEq, Eq)]
 pub struct Way {
     /// A line has no moment: the machine's clock tells it.
     pub is_clocked: bool,
