@@ -1,17 +1,17 @@
 #!/usr/bin/env python3
-"""Measures the built program from outside, over registers in files of any size: opening, and each kind of line, in microseconds a line (a script of so many lines,
-less the opening), with the peak of its memory; a CRL of so many entries; an audit; and how long registers of versions 1 and 2 take to be made newer.
+"""Measures the built program from outside, over registers in files of any size: opening, and each kind of line, in microseconds a line (from the first of so many
+lines to the reply to the last, of a script that has the register open), with its memory; a CRL of so many entries; an audit; and how long registers of versions 1 and 2 take to be made newer.
 It prints tables as docs/PERFORMANCE.md has them.
 
 Usage: bench/desk.py [NUMBER OF CERTIFICATES ..]     (1000 10000 100000 where none is given; DESK names another program)
 The files lie in the folder that DESK_BENCH_FOLDER names, or else in that of temporary files; /dev/shm has them in memory.
 """
 import os
-import resource
 import shutil
 import subprocess
 import sys
 import tempfile
+import threading
 import time
 
 TOP = os.path.dirname(os.path.dirname(os.path.abspath(__file__)))
@@ -86,16 +86,55 @@ def copied(path, folder):
     return other
 
 
+class Script:
+    """`desk script` over a register's file, which is open once this is made."""
+
+    def __init__(self, path):
+        self.process = subprocess.Popen([DESK, "script", path], stdin=subprocess.PIPE, stdout=subprocess.PIPE)
+        self.ask(["counts"])
+
+    def ask(self, lines):
+        """The seconds until all of these lines are answered."""
+        text = "".join(f"{DAY} {it}\n" for it in lines).encode()
+        feeder = threading.Thread(target=self.feed, args=(text,))
+        began = time.perf_counter()
+        feeder.start()
+        for line in lines:
+            reply = self.process.stdout.readline()
+            if reply[:1] in (b"E", b"F", b""):
+                raise SystemExit(f"bench/desk.py: {line}: {reply.decode()!r}")
+        took = time.perf_counter() - began
+        feeder.join()
+        return took
+
+    def feed(self, text):
+        self.process.stdin.write(text)
+        self.process.stdin.flush()
+
+    def peak(self):
+        """The most memory that it had so far, in MiB."""
+        with open(f"/proc/{self.process.pid}/status") as lines:
+            return next(int(it.split()[1]) for it in lines if it.startswith("VmHWM")) / 1024
+
+    def __enter__(self):
+        return self
+
+    def __exit__(self, *_):
+        self.process.stdin.close()
+        self.process.wait()
+        self.process.stdout.close()
+
+
 def measured(path, folder, before, lines):
-    """The least microseconds of a line, over copies of the register."""
-    took = []
+    """The least microseconds of a line, over copies of the register, and the most memory."""
+    took, peak = [], 0
     for _ in range(ROUNDS):
-        other = copied(path, folder)
-        if before:
-            script(other, before)
-        opening = min(script(other, [])[0] for _ in range(2))
-        took.append((script(other, lines)[0] - opening) / len(lines) * 1e6)
-    return max(0.0, min(took))
+        with Script(copied(path, folder)) as desk:
+            if before:
+                desk.ask(before)
+            took.append(desk.ask(lines) / len(lines) * 1e6)
+            peak = max(peak, desk.peak())
+    return min(took), peak
 
 
 def audited(path):
@@ -122,23 +161,25 @@ def main():
     with tempfile.TemporaryDirectory(prefix="desk-bench-", dir=os.environ.get("DESK_BENCH_FOLDER")) as folder:
         for size in sizes:
             path = f"{folder}/{size}.db"
-            requests = make(path, size)
+            requests, most = make(path, size), 0
             found.setdefault("opening, ms", []).append(min(script(path, [])[0] for _ in range(ROUNDS)) * 1e3)
             for kind, (before, lines) in kinds(size, requests).items():
-                found.setdefault(kind, []).append(measured(path, folder, before, lines))
+                took, peak = measured(path, folder, before, lines)
+                found.setdefault(kind, []).append(took)
+                most = max(most, peak)
             der = subprocess.run([DESK, "crl", path], capture_output=True, check=True).stdout
             found.setdefault("bytes of the CRL", []).append(len(der))
             found.setdefault("`audit`, ms", []).append(min(audited(path) for _ in range(ROUNDS)) * 1e3)
             records = registers.Records(size)
             for version in (1, 2):
                 found.setdefault(f"version {version} made newer, ms", []).append(made_newer(folder, records, version) * 1e3)
-            peaks.append(resource.getrusage(resource.RUSAGE_CHILDREN).ru_maxrss / 1024)
+            peaks.append(most)
             os.remove(path)
     print("| Microseconds a line | " + " | ".join(f"{it:,}" for it in sizes) + " |")
     print("|---|" + "---|" * len(sizes))
     for kind, row in found.items():
         print(f"| {kind} | " + " | ".join(f"{it:,.0f}" if it >= 10 else f"{it:.1f}" for it in row) + " |")
-    print("| peak memory so far, MiB | " + " | ".join(f"{it:.0f}" for it in peaks) + " |")
+    print("| most memory of a script, MiB | " + " | ".join(f"{it:.0f}" for it in peaks) + " |")
 
 
 if __name__ == "__main__":
