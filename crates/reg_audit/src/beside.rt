@@ -9,8 +9,9 @@ ghost use Rattle.reg_migration.specs.Refilled.{last_in};
 ghost use Rattle.reg_audit.specs.Beside.{letter_by, standing_by, end_by, listed_with, counted, same_letter};
 ghost use Rattle.reg_audit.specs.Stops.{IsBroken};
 
-use crate::stop::{Stop, Table, Why, broken_at};
+use crate::stop::{Stop, broken_at};
 use reg_core::{CertRow, Counts, CrlRow, Moment, RevocationRow, Serial, Status, status_of};
+use reg_findings::{Table, Why};
 use std::alloc::Global;
 use std::collections::BTreeMap;
 

@@ -15,10 +15,11 @@ use crate::index::{
     revocations_by_serial,
 };
 use crate::relations::{certificates_exist, orders_exist, revocations_fit, subscribers_exist};
-use crate::stop::{Stop, Table, Why, broken_at, within_cap};
+use crate::stop::{Stop, broken_at, within_cap};
 use reg_core::{
     CertRow, CrlRow, Moment, OrderRow, RequestRow, RevocationRow, Serial, SubscriberRow,
 };
+use reg_findings::{Table, Why};
 use std::alloc::Global;
 use std::collections::BTreeMap;
 

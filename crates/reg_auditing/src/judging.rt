@@ -11,8 +11,8 @@ ghost use Rattle.reg_auditing.specs.Said.{IsReadOf, IsReadFrom, AreRead, AreRead
 ghost use Rattle.reg_auditing.specs.Stops.{IsBroken};
 ghost use Rattle.reg_auditing.specs.Values.{HasValues};
 
-use crate::auditing::Audited;
 use crate::stop::AuditStop;
+use reg_findings::Audited;
 use crate::tables::{
     certificates, counts, crls, letters, listings, office, orders, requests, revocations,
     subscribers,

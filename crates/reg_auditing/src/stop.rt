@@ -2,7 +2,8 @@
 
 ghost use Rattle.std.specs.Prelude.{◌≡◌, ◌⊎◌};
 
-use reg_audit::{Broken, Stop};
+use reg_audit::Stop;
+use reg_findings::Broken;
 use reg_tables::CallFault;
 use std::alloc::AllocFailed;
 

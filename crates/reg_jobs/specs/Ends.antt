@@ -21,10 +21,10 @@ use Rattle.reg_lines.specs.Import.{ImportEnds}
 use Rattle.reg_lines.specs.Script.{ScriptEnds}
 use Rattle.reg_tables.specs.Stays.{IsCallFault}
 use Rattle.reg_tables.specs.declared.fault.StoreFault.{StoreFault}
-use Rattle.reg_verdict.specs.Lines.{broken_text, sound_text}
-use Rattle.reg_verdict.specs.declared.lines.TheConstants.{OTHER_SCHEMA}
-use Rattle.reg_verdict.specs.declared.judging.Verdict.{Verdict}
-use Rattle.reg_verdict.specs.declared.judging.Verdict.TheVariants as verdict
+use Rattle.reg_findings.specs.Lines.{broken_text, sound_text}
+use Rattle.reg_findings.specs.declared.lines.TheConstants.{OTHER_SCHEMA}
+use Rattle.reg_findings.specs.declared.verdict.Verdict.{Verdict}
+use Rattle.reg_findings.specs.declared.verdict.Verdict.TheVariants as verdict
 use Rattle.reg_wire.specs.Put.{AppendsFront}
 use Rattle.reg_wire.specs.Run.{Answered}
 use Rattle.reg_words.specs.declared.job.Job.{Job}

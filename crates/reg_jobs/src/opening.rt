@@ -12,8 +12,8 @@ use crate::place::Place;
 use crate::serving::{LOOPBACK, hub_over, serve_hub};
 use reg_calls::Keeper;
 use reg_core::Fault;
-use reg_hub::Hub;
 use reg_endings::Failure;
+use reg_hub::Hub;
 use reg_words::KeyHolder;
 use std::io::Write;
 

@@ -4,8 +4,8 @@ use reg_calls::Keeper;
 use reg_core::{Memory, Policy, Schedule};
 use reg_der::Issuer;
 use reg_endings::Failure;
+use reg_findings::Verdict;
 use reg_tables::StoreFault;
-use reg_verdict::Verdict;
 use reg_words::KeyHolder;
 use std::alloc::Global;
 
@@ -36,7 +36,7 @@ pub trait Place {
     ghost use Rattle.reg_endings.specs.declared.failure.Failure.{Failure as Failing};
     ghost use Rattle.reg_jobs.specs.Failing.{IsMaking, IsOpening};
     ghost use Rattle.reg_jobs.specs.Signing.{Signing};
-    ghost use Rattle.reg_verdict.specs.declared.judging.Verdict.{Verdict as Verdicts};
+    ghost use Rattle.reg_findings.specs.declared.verdict.Verdict.{Verdict as Verdicts};
 
     /// What is opened: a register.
     type Opened: Register + Drop;

@@ -14,8 +14,8 @@ use crate::telling::say;
 use mio::net::{TcpListener, UnixListener};
 use reg_calls::Keeper;
 use reg_core::{Decimal, Fault};
-use reg_hub::{Handler, Hub, MOST_CALLERS};
 use reg_endings::Failure;
+use reg_hub::{Handler, Hub, MOST_CALLERS};
 use reg_words::KeyHolder;
 use std::io::{ErrorKind, Write};
 

@@ -15,7 +15,7 @@ use Rattle.reg_tables.specs.Shows.{AreBoth}
 use Rattle.reg_auditing.specs.Complete.{ShowsSound}
 use Rattle.reg_verdict.specs.Presumed.{IsPresumed}
 use Rattle.reg_verdict.specs.Verdicts.{CountedBy, IsSound}
-use Rattle.reg_verdict.specs.declared.judging.Verdict.{Verdict}
+use Rattle.reg_findings.specs.declared.verdict.Verdict.{Verdict}
 use Rattle.reg_program.specs.Files.{IsAudited, IsOpenedFrom}
 use Rattle.reg_jobs.specs.Signing.{Signing}
 

@@ -2,10 +2,10 @@
 
 ghost use Rattle.std.specs.Prelude.{◌≡◌, ◌++◌, IfOk};
 ghost use Rattle.std.specs.Fmt.{decimal};
-ghost use Rattle.reg_verdict.specs.Lines.{broken_text, sound_text, table_name, why_text};
+ghost use Rattle.reg_findings.specs.Lines.{broken_text, sound_text, table_name, why_text};
 
-use reg_audit::{Broken, Table, Why};
-use reg_auditing::Audited;
+use crate::finding::{Broken, Table, Why};
+use crate::verdict::Audited;
 use reg_core::Decimal;
 use std::alloc::{AllocError, Global};
 

@@ -1,12 +1,12 @@
 -- The lines that tell what an audit says.
 use Rattle.std.specs.Prelude.{ℕ, List, ◌++◌, codes}
 use Rattle.std.specs.Fmt.{decimal}
-use Rattle.reg_audit.specs.declared.stop.Broken.{Broken}
-use Rattle.reg_audit.specs.declared.stop.Table.{Table}
-use Rattle.reg_audit.specs.declared.stop.Table.TheVariants as table
-use Rattle.reg_audit.specs.declared.stop.Why.{Why}
-use Rattle.reg_audit.specs.declared.stop.Why.TheVariants as why
-use Rattle.reg_auditing.specs.declared.auditing.Audited.{Audited}
+use Rattle.reg_findings.specs.declared.finding.Broken.{Broken}
+use Rattle.reg_findings.specs.declared.finding.Table.{Table}
+use Rattle.reg_findings.specs.declared.finding.Table.TheVariants as table
+use Rattle.reg_findings.specs.declared.finding.Why.{Why}
+use Rattle.reg_findings.specs.declared.finding.Why.TheVariants as why
+use Rattle.reg_findings.specs.declared.verdict.Audited.{Audited}
 
 -- a table by its name
 unfoldable pub table_name : Table → List ℕ
