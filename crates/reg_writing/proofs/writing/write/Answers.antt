@@ -3,8 +3,8 @@ use Rattle.sqlite_value.specs.Order.{Row}
 use Rattle.sqlite.specs.declared.error.Error.{Error}
 use Rattle.sqlite.specs.Held.{state}
 use Rattle.sqlite.specs.State.{State, ExecutesInside}
-use Rattle.reg_changes.specs.Ran.{Ran}
-use Rattle.reg_changes.proofs.writing.write.Goals as goal
+use Rattle.reg_writing.specs.Ran.{Ran}
+use Rattle.reg_writing.proofs.writing.write.Goals as goal
 
 inside : (b : Bool) (count : ℕ) (e : Error) → (b ≡ false → Ok count ≡ Err e) → IsTrue b
 inside true count e fails = refl

@@ -7,7 +7,7 @@ use Rattle.sqlite.specs.State.{HasCleanDisk}
 use Rattle.reg_core.specs.Records.{Records}
 use Rattle.reg_tables.specs.Columns.{Columns}
 use Rattle.reg_tables.specs.Shows.{ShowsBoth}
-use Rattle.reg_changes.proofs.Moving.{was_clean}
+use Rattle.reg_writing.proofs.Moving.{was_clean}
 
 -- the disk was clean as the transaction began, if it is after a step
 pub clean_before : {S : Type 0} (g : Ghosts S) (was begun entered : Held S) → begun ≡ record was { in_transaction = true } → doubt (state g begun).is_clean ≤ doubt (state g entered).is_clean → HasCleanDisk (state g entered)

@@ -1,14 +1,14 @@
 use Rattle.std.proofs.Common.{[], ◌∷◌, subst}
 use Rattle.sqlite.specs.Held.{state}
-use Rattle.reg_changes.specs.Ran.{Ran}
-use Rattle.reg_changes.specs.declared.texts.TheConstants.{PUT_STEP}
+use Rattle.reg_writing.specs.Ran.{Ran}
+use Rattle.reg_writing.specs.declared.texts.TheConstants.{PUT_STEP}
 use Rattle.reg_tables.specs.Schema.{register_schema}
-use Rattle.reg_changes.proofs.Keeping.{inserts_keep}
-use Rattle.reg_changes.proofs.Meaning.{put_step_means}
-use Rattle.reg_changes.proofs.Params.{number_is, moment_is}
-use Rattle.reg_changes.proofs.Stages.{puts_step}
-use Rattle.reg_changes.proofs.Obeying.{step_obeys}
-use Rattle.reg_changes.proofs.scheduling.put_step.Goals as goal
+use Rattle.reg_writing.proofs.Keeping.{inserts_keep}
+use Rattle.reg_writing.proofs.Meaning.{put_step_means}
+use Rattle.reg_writing.proofs.Params.{number_is, moment_is}
+use Rattle.reg_writing.proofs.Stages.{puts_step}
+use Rattle.reg_writing.proofs.Obeying.{step_obeys}
+use Rattle.reg_writing.proofs.scheduling.put_step.Goals as goal
 
 pub returns-clause-ok : goal.returns-clause-ok
 returns-clause-ok g c clean base steps earlier before =

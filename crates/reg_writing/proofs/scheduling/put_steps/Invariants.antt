@@ -5,10 +5,10 @@ use Rattle.sqlite.specs.State.{HasCleanDisk}
 use Rattle.sqlite_trees.specs.Tree.{Trees}
 use Rattle.reg_core.specs.Schedule.{Ascends}
 use Rattle.reg_tables.specs.Schema.{register_schema}
-use Rattle.reg_changes.specs.Ran.{HasSchema}
-use Rattle.reg_changes.specs.Staged.{IsStaged}
+use Rattle.reg_writing.specs.Ran.{HasSchema}
+use Rattle.reg_writing.specs.Staged.{IsStaged}
 use Rattle.reg_tables.specs.Stays.{Stepped}
-use Rattle.reg_changes.proofs.scheduling.put_steps.Given as goal
+use Rattle.reg_writing.proofs.scheduling.put_steps.Given as goal
 
 abbrev pub invariant-loop-step : goal.invariant-loop-step
 invariant-loop-step g l =

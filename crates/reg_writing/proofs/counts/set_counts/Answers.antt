@@ -1,14 +1,14 @@
 use Rattle.std.proofs.Common.{[], ◌∷◌, subst}
 use Rattle.sqlite.specs.Held.{state}
-use Rattle.reg_changes.specs.Ran.{Ran}
-use Rattle.reg_changes.specs.declared.texts.TheConstants.{SET_COUNTS}
+use Rattle.reg_writing.specs.Ran.{Ran}
+use Rattle.reg_writing.specs.declared.texts.TheConstants.{SET_COUNTS}
 use Rattle.reg_tables.specs.Schema.{register_schema}
-use Rattle.reg_changes.proofs.Keeping.{updates_keep}
-use Rattle.reg_changes.proofs.Meaning.{set_counts_means}
-use Rattle.reg_changes.proofs.Params.{number_is}
-use Rattle.reg_changes.proofs.Sweeping.{sets_counts}
-use Rattle.reg_changes.proofs.Obeying.{counts_obey}
-use Rattle.reg_changes.proofs.steps.set_counts.Goals as goal
+use Rattle.reg_writing.proofs.Keeping.{updates_keep}
+use Rattle.reg_writing.proofs.Meaning.{set_counts_means}
+use Rattle.reg_writing.proofs.Params.{number_is}
+use Rattle.reg_writing.proofs.Counting.{sets_counts}
+use Rattle.reg_writing.proofs.Obeying.{counts_obey}
+use Rattle.reg_writing.proofs.counts.set_counts.Goals as goal
 
 pub returns-clause-ok : goal.returns-clause-ok
 returns-clause-ok g c clean records columns before =

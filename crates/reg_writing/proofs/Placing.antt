@@ -70,3 +70,8 @@ put_behind {A} stored key first new xs earlier = put_last (stored new) (map stor
     below_all : (those : List A) → AllByRecursion (λ x. key x < key new) those → AllByRecursion (Below (stored new)) (map stored those)
     below_all [] all = tt
     below_all (x ∷ those) all = (ap₂ value_cmp (first x) (first new) ∙ less (key x) (key new) all.0, below_all those all.1)
+
+-- what holds of each and of one more
+pub pushed : {A : Type 0} (P : A → Type 0) (xs : List A) (x : A) → AllByRecursion P xs → P x → AllByRecursion P (xs ++ x ∷ [])
+pushed P [] x all here = (here, tt)
+pushed P (y ∷ xs) x all here = (all.0, pushed P xs x all.1 here)

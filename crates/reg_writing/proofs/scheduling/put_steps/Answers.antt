@@ -3,10 +3,10 @@ use Rattle.std.proofs.lemmas.List.{take_more}
 use Rattle.sqlite.specs.Held.{state}
 use Rattle.sqlite.specs.State.{HasCleanDisk}
 use Rattle.reg_tables.proofs.Staying.{stepped_then}
-use Rattle.reg_changes.specs.Staged.{IsStaged, AreBefore}
-use Rattle.reg_changes.proofs.Moving.{was_clean}
-use Rattle.reg_changes.proofs.Stages.{earlier_steps, take_whole}
-use Rattle.reg_changes.proofs.scheduling.put_steps.Goals as goal
+use Rattle.reg_writing.specs.Staged.{IsStaged, AreBefore}
+use Rattle.reg_writing.proofs.Moving.{was_clean}
+use Rattle.reg_writing.proofs.Stages.{earlier_steps, take_whole}
+use Rattle.reg_writing.proofs.scheduling.put_steps.Goals as goal
 
 pub loop-step-preserved : goal.loop-step-preserved
 loop-step-preserved g c =

@@ -16,8 +16,8 @@ use Rattle.sqlite.specs.Rows.{Part, Task}
 use Rattle.sqlite.specs.State.{State, mode_of, Writes}
 use Rattle.sqlite.proofs.Callers.{runs_as, statement_of}
 use Rattle.reg_tables.specs.Reading.{command_of}
-use Rattle.reg_changes.specs.Ran.{Ran}
-use Rattle.reg_changes.proofs.Edits.{went, same_value}
+use Rattle.reg_writing.specs.Ran.{Ran}
+use Rattle.reg_writing.proofs.Edits.{went, same_value}
 
 -- what a place that names a table does
 at_table : {A : Type 0} (found : Option Table) (P : Table → Part A) (x : A) (Q : Type 0) → ((table : Table) → P table (Ok x) → Q) → AtPlace P found (Ok x) → Q

@@ -1,5 +1,6 @@
 -- One step of a transaction after another, and its end.
-use Rattle.std.proofs.Common.{◌≡◌, ◌≤◌, inr, true, false, Result, Ok, Err, OnOk, IsTrue, refl, sym, subst, ◌∙◌, arith}
+use Rattle.std.proofs.Common.{◌≡◌, ◌≤◌, ℕ, List, inr, true, false, Result, Ok, Err, OnOk, IsTrue, refl, sym, subst, ◌∙◌, arith}
+use Rattle.sqlite_value.specs.Order.{Row}
 use Rattle.sqlite_trees.specs.View.{doubt}
 use Rattle.sqlite_trees.specs.declared.store.Store.{Ghosts}
 use Rattle.sqlite.specs.Effect.{Database}
@@ -10,7 +11,11 @@ use Rattle.reg_tables.specs.Columns.{Columns}
 use Rattle.reg_tables.specs.Shows.{Holds, ShowsBoth, AreBoth}
 use Rattle.reg_tables.specs.Kept.{Kept, ShowsKept}
 use Rattle.reg_tables.specs.Stays.{Moves, Stays}
-use Rattle.reg_changes.specs.Ran.{Before, Moved}
+use Rattle.reg_writing.specs.Ran.{Ran, Before, Moved}
+
+-- a statement that ran is a step, to tables of which this holds
+pub moves : (sql : List ℕ) (params : Row) (old new : State) (count : ℕ) (P : Database → Type 0) → Ran sql params old new count → P new.now → Moves old new P
+moves sql params old new count P ran holds = record { was_open = ran.was_open; is_open = ran.is_open; committed = ran.committed; under_way = ran.under_way; tables = holds }
 
 -- a step after steps
 pub moves_on : (a b c : State) (P Q : Database → Type 0) → Moves a b P → Moves b c Q → Moves a c Q

@@ -29,9 +29,9 @@ use Rattle.sqlite.specs.Rows.{Task, Written, stamped, count_of, rowids_for}
 use Rattle.sqlite.specs.declared.run.Mode.{Mode}
 use Rattle.sqlite.proofs.Callers.{one_step}
 use Rattle.reg_tables.proofs.Queries.{selects, no_limit, passes, shows, given}
-use Rattle.reg_changes.proofs.Meaning.{updates, inserts, deletes}
-use Rattle.reg_changes.specs.Steps.{turned}
-use Rattle.reg_changes.proofs.Turning.{IsKeyed, rows_turned, rows_gone}
+use Rattle.reg_writing.proofs.Meaning.{updates, inserts, deletes}
+use Rattle.reg_writing.specs.Steps.{turned}
+use Rattle.reg_writing.proofs.Turning.{IsKeyed, rows_turned, rows_gone}
 
 -- a part that gave a value did not stop on the way
 pub went : {B E R : Type 0} {b : B} {Stops : E → Type 0} → ((stop : E) × Stops stop × (Ok b ≡ Err stop)) ⊎ R → R

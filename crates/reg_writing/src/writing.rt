@@ -6,7 +6,7 @@ ghost use Rattle.sqlite.specs.Held.{state};
 ghost use Rattle.sqlite.specs.State.{HasCleanDisk};
 ghost use Rattle.reg_tables.specs.Rows.{ground_place};
 ghost use Rattle.reg_tables.specs.Stays.{Stepped};
-ghost use Rattle.reg_changes.specs.Ran.{Ran};
+ghost use Rattle.reg_writing.specs.Ran.{Ran};
 
 use reg_core::{Ground, Moment};
 use reg_tables::CallFault;
@@ -36,7 +36,7 @@ pub fn sql_moment(moment: Moment) -> ValueRef<'static>
 }
 
 /// The flag as SQL has it, 0 or 1.
-pub(crate) fn sql_flag(flag: bool) -> ValueRef<'static>
+pub fn sql_flag(flag: bool) -> ValueRef<'static>
     ensures { result ≡ ValueRef.Int (pos (cond flag 1 0)) }
 {
     ValueRef::Int(if flag { 1 } else { 0 })
@@ -50,7 +50,7 @@ pub fn sql_reason(reason: u8) -> ValueRef<'static>
 }
 
 /// The ground as its place in the list of grounds.
-pub(crate) fn sql_ground(ground: Ground) -> ValueRef<'static>
+pub fn sql_ground(ground: Ground) -> ValueRef<'static>
     ensures { result ≡ ValueRef.Int (pos (ground_place ground)) }
 {
     ValueRef::Int(match ground {
