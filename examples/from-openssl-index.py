@@ -9,7 +9,8 @@ The script is for a new register: it counts its ids from 1, and tells each event
 revocation of last year stands in the register with last year's moment. What can't be carried over is told on standard error, a line each.
 
 A line of an index has no notBefore. With --certs it is read from the certificates (DIR/SERIAL.pem, as `openssl ca` leaves them; a folder of
-10,000 takes a minute or so), with --days N it is N days before notAfter, which is what `openssl ca -days N` made.
+10,000 takes a minute or so), with --days N it is N days before notAfter, which is what `openssl ca -days N` made. Where that lies after today, the
+certificate was made for more than N days: it is told, and left out, as its notBefore is not known.
 
 A certificate on hold is neither good nor revoked, and a register has no hold: --hold says what becomes of it. Without it nothing is written
 where the index has one.
@@ -135,6 +136,8 @@ class Mover:
             return self.tell(line, "left out: another line has the serial number")
         not_before = started(self.words.certs, line.serial) if self.words.certs else line.not_after - self.words.days * DAY
         days = (line.not_after - not_before) // DAY + 1
+        if not self.words.certs and not_before > self.words.now:
+            return self.tell(line, self.begins_unknown(line, not_before))
         if not_before > line.not_after:
             return self.tell(line, "left out: it ends before it begins")
         if days > LONGEST_DAYS:
@@ -145,6 +148,12 @@ class Mover:
         # Registered when it began; before that, where it was revoked before that or has not begun yet.
         at = min(not_before, self.words.now) if line.revoked is None else min(not_before, self.words.now, max(line.revoked, 0))
         return Cert(line, not_before, at)
+
+    def begins_unknown(self, line, not_before):
+        """What is told of a certificate that was made for more days than --days says; where it is revoked, no CRL of the register lists it."""
+        loss = "" if line.revoked is None else "it is revoked, and the register does not say so; "
+        begins = f"{self.words.days} days before its end are {moment(not_before)}, which is still to come"
+        return f"left out: its notBefore is not known, {begins}; {loss}say --certs, or the days that it was made for"
 
     def revocation_of(self, cert):
         """When a certificate is revoked and on which ground, or None."""

@@ -1,6 +1,6 @@
 #!/usr/bin/env bash
 # Makes a Debian package of the program, in the folder that is given (out/package): the program with its launcher, the manual pages desk(1) and
-# desk-script(5), units of systemd that serve a register and issue its CRLs, completion for bash, the board, documents and examples.
+# desk-script(5), units of systemd that serve a register, issue and publish its CRLs, completion for bash, the board, documents and examples.
 # The program is built first, where it is not built yet (./desk does that). Prints the package's path.
 #
 # Usage, from the repository's root: tools/package.sh [FOLDER]
@@ -52,9 +52,14 @@ if [ -e examples/issue-due-crl.sh ]; then
     put 0755 examples/issue-due-crl.sh usr/lib/durshavon/issue-due-crl.sh
     put 0644 packaging/desk-crl@.service lib/systemd/system/desk-crl@.service
     put 0644 packaging/desk-crl@.timer lib/systemd/system/desk-crl@.timer
+    put 0755 examples/publish-crl.sh usr/lib/durshavon/publish-crl.sh
+    put 0644 packaging/desk-publish@.service lib/systemd/system/desk-publish@.service
 else
     echo "package: examples/issue-due-crl.sh is not there, so no timer for CRLs is packed" >&2
 fi
+for name in register-pem.sh backup.sh; do
+    put 0755 "examples/$name" "usr/lib/durshavon/$name"
+done
 
 manual=$(mktemp -d)
 tools/man.py "$root/usr/lib/durshavon/desk" "$manual"
@@ -64,7 +69,7 @@ zipped usr/share/man/man5/desk-script.5.gz <"$manual/desk-script.5"
 rm -r "$manual"
 
 documents=usr/share/doc/durshavon
-for name in README.md docs/OPERATIONS.md docs/RULES.md docs/MODEL.md docs/PERFORMANCE.md docs/PROOFS.md; do
+for name in README.md CHANGELOG.md SECURITY.md docs/OPERATIONS.md docs/RULES.md docs/MODEL.md docs/PERFORMANCE.md docs/PROOFS.md; do
     put 0644 "$name" "$documents/$(basename "$name")"
 done
 tools/copyright.py "$kit" >"$root/$documents/copyright"
@@ -94,7 +99,7 @@ Priority: optional
 Maintainer: $maintainer
 Installed-Size: $(du -sk --exclude=DEBIAN "$root" | cut -f1)
 Depends: libc6 (>= $glibc), passwd
-Suggests: nginx-light | nginx, openssl, python3
+Suggests: nginx-light | nginx, openssl, curl, python3
 Description: certificate register with CRLs and OCSP
  The register and status desk of one certification authority: it records the
  certificates that were issued, takes requests for their revocation with the

@@ -26,7 +26,7 @@ class Browser:
         self.read, theirs_out = os.pipe()
         for it in (theirs_in, theirs_out):
             os.set_inheritable(it, True)
-        words = ["chromium", "--headless=new", "--no-sandbox", "--disable-gpu", "--hide-scrollbars", "--remote-debugging-pipe",
+        words = ["chromium", "--headless=new", "--no-sandbox", "--disable-gpu", "--hide-scrollbars", "--ignore-certificate-errors", "--remote-debugging-pipe",
                  f"--user-data-dir={t.room}/chromium", "about:blank"]
         self.chromium = subprocess.Popen(
             ["bash", "-c", f'exec "$@" 3<&{theirs_in} 4>&{theirs_out}', "bash", *words], close_fds=False, stdin=subprocess.DEVNULL,
@@ -140,7 +140,7 @@ def the_board_shows_what_the_desk_says(t):
     desk = t.open("ca.db", "--requests", "1000", command="serve")
     front = Front(t, desk.port, seconds=1)
     browser = Browser(t)
-    browser.ask("Page.navigate", url=front.url("/board/"))
+    browser.ask("Page.navigate", url=front.url("/board/", tls=True))
     loaded(browser)
     wanted = {"good": "1", "revoked": "4", "expired": "1", "issuer": "Example CA", "number": "9", "entries": "2",
               "this": shown(days.after(39)), "next": shown(days.after(47))}

@@ -63,6 +63,18 @@ def a_first_write_that_fails_is_told(t, words):
         t.true(count["met"], "it was met")
 
 
+# An error of the system, and the line behind that of the fault where --why asks for it.
+CAUSES = {"ENOSPC": b"  disk full\n", "EACCES": b"  no right\n", "EPIPE": b"", "EIO": b"", "ECONNRESET": b""}
+
+
+@each({it: (it, line) for it, line in CAUSES.items()})
+def an_error_of_the_system_has_its_cause_or_none(t, error, line):
+    t.register(lines=ENTERED + f"{DAY_1} crl\n")
+    for words, given in ((["script"], f"{DAY_1} counts\n"), (["script", "ca.db"], f"{DAY_1} counts\n"), (["crl", "ca.db"], "")):
+        ran, count = faults.run(t, [*words, "--why"], given, only="stdout", fail=f"write:1={error}")
+        t.same((ran.status, ran.out, ran.err, count["met"]), (1, b"", b"F5 write\n" + line, 1), " ".join(words))
+
+
 @test
 def where_nothing_can_be_told_the_status_stays(t):
     t.register(lines=ENTERED)

@@ -8,6 +8,7 @@ from lib.trial import Failed, each, test
 
 DAY = "2026-01-01T00:00:00Z"
 LATER = "2026-01-02T00:00:00Z"
+SOON = "2026-01-02T00:00:01Z"
 # Each of so many, and then each one of so many.
 EACH, STRIDE = 200, 37
 PARTS = 4
@@ -41,6 +42,36 @@ def a_script_of_the_other_commands_goes_on_after_a_refusal(t, part):
     course = course_of(t, CHANGES, (1, 0, 0), REGISTERED)
     faults.copy(course.base, t.room / "ca.db")
     last = faults.total(t, ["script", "ca.db"], "alloc", script(CHANGES))
+    for at in part_of(last, part):
+        course.round(MEMORY, 0, f"allocation {at}", fail=f"alloc:{at}")
+
+
+# What these two leave out: the other queries, and lines that are refused.
+QUERIES = [
+    (f"{SOON} overdue", "overdue 1 first 1"),
+    (f"{SOON} status 05", f"revoked {DAY} reason 0"),
+    (f"{SOON} status 06", "good"),
+    (f"{SOON} listing 05", "listing first 1"),
+    (f"{SOON} next-crl", "next-crl 2026-01-08T00:00:00Z"),
+    (f"{SOON} order 1 399", "E07 bad-days 398"),
+    (f"{SOON} subscriber acme", "E05 name-taken 1"),
+    (f"{SOON} revoke 2", f"E19 revoked-before {DAY}"),
+    (f"{SOON} nonsense", "E22 syntax"),
+]
+BEFORE = "".join(
+    f"{DAY} {it}\n"
+    for it in (
+        "subscriber acme", "order 1 398", "order 1 398", f"register 1 05 {DAY} 2026-01-10T00:00:00Z", f"register 2 06 {DAY} 2026-01-10T00:00:00Z",
+        "request 06 asked", "request 05 asked", "revoke 2", "crl",
+    )
+)  # fmt: skip
+
+
+@each({f"part {it}": it for it in range(PARTS)}, seconds=15)
+def a_script_of_queries_and_refusals_goes_on_after_a_refusal(t, part):
+    course = Course(t, t.register("base.db", BEFORE), QUERIES, (2, 1, 1))
+    faults.copy(course.base, t.room / "ca.db")
+    last = faults.total(t, ["script", "ca.db"], "alloc", script(QUERIES))
     for at in part_of(last, part):
         course.round(MEMORY, 0, f"allocation {at}", fail=f"alloc:{at}")
 

@@ -191,6 +191,25 @@ def a_clock_that_can_not_be_read_ends_an_open_desk(t):
     t.true(len(seen) > 2 and 4 in seen, f"the clock failed behind {seen} replies")
 
 
+@test(seconds=2)
+def a_clock_that_can_not_be_read_ends_a_clocked_script(t):
+    """Behind the replies before it; what was answered stands, and no line behind it is run."""
+    base, asked = t.register("base.db", text(REGISTERED)), ["counts", "request 05 superseded", "revoke 2", "revoke 1", "status 05"]
+    replies = ["good 1 revoked 0 expired 0", "request 1 due 2026-01-03T00:00:00Z", "E17 no-request", "revoked", f"revoked {DAY_2} reason 4"]
+    (t.room / "clock").write_text(str(program.seconds_of(DAY_2)))
+    seen = set()
+    for at in range(1, 12):
+        faults.copy(base, t.room / "ca.db")
+        given = "".join(f"{it}\n" for it in asked)
+        ran, count = faults.run(t, ["script", "ca.db", "--clock"], given, clock=t.room / "clock", fail=f"clock:{at}+")
+        t.same((ran.status, ran.err), (1, b"F4 read\n") if count["met"] else (0, b""), f"look {at}: its end")
+        t.same(ran.lines, replies[: len(ran.lines)], f"look {at}: what was answered")
+        stand = faults.sound_run(t, ["script", "ca.db"], f"{DAY_2} status 05\n").out.decode()
+        t.same(stand, f"{replies[4]}\n" if len(ran.lines) > 3 else "good\n", f"look {at}: what stands")
+        seen.add(len(ran.lines))
+    t.same(seen, set(range(len(asked) + 1)), "behind how many replies it failed")
+
+
 @each({"before 1970": (-1, f"E01 clock-back {DAY_1}"), "past 9999": (253_402_300_800, "E02 clock-end")}, seconds=1)
 def a_clock_out_of_range_is_refused(t, seconds, wanted):
     t.register(lines=text(REGISTERED))

@@ -29,6 +29,7 @@ ROUTES = [
     (b"GET /nowhere HTTP/1.1\r\n\r\n", b"404", b'{"error":"404"}'),
     (b"POST /requests HTTP/1.1\r\nContent-Length: %d\r\n\r\n%s" % (len(BODY), BODY), b"200", b'{"due":"2026-01-11T00:00:01Z","request":2}'),
 ]
+NO_MEMORY = b"HTTP/1.1 500 Internal Server Error\r\nConnection: close\r\nContent-Length: 0\r\n\r\n"
 PARTS = 8
 
 
@@ -37,7 +38,9 @@ def is_answer(got, status, held):
 
 
 def is_refused(got):
-    return got == b"" or got.startswith(b"HTTP/1.1 500 ") or got.endswith(b"0\x03\n\x01\x02")
+    """Without memory for anything else it is a constant text, with no moment."""
+    told = b"\r\n\r\n" + b'{"error":"F1 memory"}'
+    return got in (b"", NO_MEMORY) or (got.startswith(b"HTTP/1.1 500 ") and got.endswith(told)) or got.endswith(b"0\x03\n\x01\x02")
 
 
 def served(t, base, at):

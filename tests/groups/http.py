@@ -3,7 +3,7 @@
 import base64
 import time
 
-from lib.program import parted
+from lib.program import parted, read_all
 from lib.trial import each, test
 
 DAY, LATER = "2026-01-01T00:00:00Z", "2026-01-02T00:00:00Z"
@@ -232,6 +232,18 @@ def a_request_in_pieces_has_the_same_answer(t, size):
         while piece := peer.recv(65_536):
             got += piece
     t.same(got, whole)
+
+
+@test(seconds=4)
+def a_body_of_65536_bytes_comes_one_at_a_time(t):
+    desk = opened(t)
+    with desk.connect() as peer:
+        peer.setsockopt(6, 1, 1)
+        peer.sendall(b"POST /ocsp HTTP/1.1\r\nContent-Length: 65536\r\n\r\n")
+        for _ in range(65_536):
+            peer.sendall(b"x")
+        status, _, body = parted(read_all(peer))
+    t.same((status, body), (200, MALFORMED))
 
 
 @test

@@ -1,7 +1,10 @@
 """The log: one line an exchange, byte for byte, whatever came."""
 
 import re
+import socket
+import time
 
+from lib.program import Counter
 from lib.trial import test
 
 DAY = "2026-01-01T00:00:00Z"
@@ -46,3 +49,47 @@ def a_counter_s_line_and_its_reply(t):
         told(t, lines=["subscriber acme", "counts", "revoke 1"]),
         [f'{DAY} counter "subscriber acme" "subscriber 1" 13', f'{DAY} counter "counts" "good 0 revoked 0 expired 0" 27', f'{DAY} counter "revoke 1" "E17 no-request" 15'],
     )
+
+
+def within(t, desk, holds, what):
+    """Waits until the log has what is wanted."""
+    for _ in range(200):
+        desk.told.flush()
+        told = (t.room / f"told-{desk.port}").read_text("latin-1").splitlines()
+        if holds(told):
+            return told
+        time.sleep(0.05)
+    t.true(False, f"{what}: {told}")
+
+
+@test
+def who_breaks_off_has_a_line_behind_that_of_its_exchange(t):
+    t.register()
+    t.clock(DAY)
+    desk = t.open("ca.db", "--log")
+    with desk.connect() as peer:
+        port = peer.getsockname()[1]
+        peer.sendall(b"GET /counts")
+        time.sleep(0.2)
+        # It goes by a reset.
+        peer.setsockopt(socket.SOL_SOCKET, socket.SO_LINGER, b"\1\0\0\0\0\0\0\0")
+    told = within(t, desk, lambda it: len(it) >= 2, "lines")
+    t.same([re.sub(r" \d+$", "", it) for it in told], [f'{DAY} 127.0.0.1:{port} "GET /counts" "" 0', f"{DAY} 127.0.0.1:{port} lost broken"])
+
+
+@test(seconds=3)
+def a_counter_that_goes_with_a_reply_unsent_is_lost(t):
+    t.register()
+    t.clock(DAY)
+    desk = t.open("ca.db", "--log")
+    with Counter(t.room / "counter") as counter:
+        t.same(counter.ask("counts"), "good 0 revoked 0 expired 0")
+    with Counter(t.room / "counter") as counter:
+        counter.peer.settimeout(1)
+        try:
+            while True:
+                counter.peer.sendall(b"counts\n")
+        except TimeoutError:
+            pass
+    told = within(t, desk, lambda it: it[-1].endswith("lost broken"), "the counter that went")
+    t.same([it for it in told if " lost " in it], [f"{DAY} counter lost broken"], "what was lost: not the counter that had its reply")

@@ -253,3 +253,28 @@ def holds_that_are_said_to_be_good(t):
         it.register(f"{said}.db")
         t.done("script", f"{said}.db", given=script)
         t.same(t.done("script", f"{said}.db", given="2025-12-01T00:00:00Z status 05\n"), f"{status}\n", said)
+
+
+@test
+def a_certificate_whose_assumed_start_lies_after_today(t):
+    """It was made for more days than are said: it is told, and left out, and the others are carried over."""
+    lines = ["V\t260301000000Z\t\t05\tunknown\t/CN=a\n", "V\t261130000000Z\t\t06\tunknown\t/CN=b\n",
+             "R\t261130000001Z\t251101000000Z,superseded\t07\tunknown\t/CN=c\n", "V\t260301000001Z\t\t08\tunknown\t/CN=d\n"]
+    (t.room / "index.txt").write_text("".join(lines))
+    script, told = moved(t, "index.txt", "--days", "90", "--now", "2025-12-01T00:00:00Z")
+    unknown = "left out: its notBefore is not known, 90 days before its end are"
+    said = "say --certs, or the days that it was made for"
+    # The first begins today, and the last a second later.
+    t.same(told, [f"line 2, serial number 06: {unknown} 2026-09-01T00:00:00Z, which is still to come; {said}",
+                  f"line 3, serial number 07: {unknown} 2026-09-01T00:00:01Z, which is still to come; "
+                  f"it is revoked, and the register does not say so; {said}",
+                  f"line 4, serial number 08: {unknown} 2025-12-01T00:00:01Z, which is still to come; {said}",
+                  "4 lines of the index, 1 certificates, 0 revocations, 3 lines of the script"])
+    t.same(script.splitlines()[-1], "2025-12-01T00:00:00Z register 1 05 2025-12-01T00:00:00Z 2026-03-01T00:00:00Z")
+    Authority(t).register()
+    t.done("script", "ca.db", given=script)
+    asks = "".join(f"2025-12-01T00:00:00Z status 0{serial}\n" for serial in (5, 6, 7, 8))
+    t.same(t.done("script", "ca.db", given=asks), "good\nunknown\nunknown\nunknown\n")
+    # Said as it was made for, each is carried over.
+    script, told = moved(t, "index.txt", "--days", "365", "--now", "2025-12-01T00:00:00Z")
+    t.same(told, ["4 lines of the index, 4 certificates, 1 revocations, 14 lines of the script"])

@@ -8,7 +8,7 @@ from concurrent.futures import ThreadPoolExecutor
 
 from lib import authority
 from lib.authority import Authority, first_day, path_of
-from lib.trial import need, test
+from lib.trial import each, need, test
 from lib.web_server import Front, certificates
 
 KEPT = 4
@@ -40,11 +40,53 @@ def what_is_answered(t):
         t.same((status, fields["Content-Type"], list(authority.listed(t, body))), (200, "application/pkix-crl", [5]), path)
     t.same(front.ask("/crl/2")[::2], (404, b'{"error":"E21 no-crl"}'), "a CRL that is none yet")
     t.same(front.ask("/status/06", tls=True)[::2], (200, b'{"status":"good"}'), "by https")
+    t.same([front.ask(path)[0] for path in ("/status/06", "/counts", "/board/")], [404] * 3, "the same over plain http")
     t.same(front.ask("/counts", tls=True)[::2], (200, b'{"expired":0,"good":1,"revoked":1}'))
     status, fields, body = front.ask("/board/", tls=True)
     t.same((status, fields["Content-Type"], b"One certificate" in body), (200, "text/html", True), "the board")
     t.same(front.ask("/nowhere")[0], 404, "no route")
     t.same(front.ask("/ocsp", "--data-binary", "@-", given=b"\0" * 65_537)[0], 413, "a body of 65,537 bytes")
+
+
+# Where certificates that openssl's CA issued say that it is asked by POST.
+OLD_URLS = {"with a slash": "/", "with none": ""}
+
+
+@each(OLD_URLS, seconds=5)
+def ocsp_at_the_url_of_an_older_certificate(t, end):
+    it, _, [front] = opened(t, "front")
+    for serial, told in (("05", "revoked"), ("06", "good"), ("07", "unknown")):
+        t.same(it.asked_by_openssl(serial, f"http://127.0.0.1:{front.port}{end}"), told, f"{serial} by POST, with a nonce")
+        # What is behind `/ocsp` of the desk stands behind the URL as it is, with its slash and one more (RFC 6960 A.1).
+        for way, path in (("quoted", path_of(it.asks(serial))), ("as it is", path_of(it.asks(serial), quoted=False))):
+            status, fields, body = front.ask(end + path.removeprefix("/ocsp"))
+            t.same((status, fields["Content-Type"], it.reads(serial, body, verify=False)), (200, "application/ocsp-response", told), f"{serial} by GET, {way}")
+
+
+@test(seconds=5)
+def the_urls_of_older_certificates(t):
+    it, desk, [front] = opened(t, "front")
+    status, fields, crl = front.ask("/ca.crl")
+    t.same((status, fields["Content-Type"], list(authority.listed(t, crl))), (200, "application/pkix-crl", [5]), "the CRL by a file's name")
+    t.same(front.state("/crl"), "HIT", "is kept as /crl")
+    # Base64 with slashes and signs of its own, until one has them.
+    path = next(path for path in (path_of(it.asks(f"{serial:x}"), quoted=False) for serial in range(0xFFF0, 0xFFFFF)) if "/" in path[6:] and "+" in path)
+    old = path.removeprefix("/ocsp")
+    states = [front.state(one) for one in (old, old, "/" + old, path, old + "?x=1")]
+    t.same(states, ["MISS", "HIT", "HIT", "HIT", "HIT"], f"{old}, with two slashes, as /ocsp, with a query")
+    t.same(front.ask(old)[1]["Cache-Control"], f"public, max-age={KEPT}, no-transform, must-revalidate")
+    t.same([front.ask("/MAAA")[2].hex(), front.state("/MAAA"), front.ask("/MAAA")[1]["Cache-Control"]], ["30030a0101", "MISS", "no-store"],
+           "a refusal is not kept")
+    for path in ("/", "/%4DFQ", "/ca.pem", "/mfQ", "/ca.crl/1"):
+        t.same(front.ask(path)[0], 404, f"GET {path}")
+    t.same(front.ask("/", "--data-binary", "@-", given=b"\0" * 65_537)[0], 413, "a body of 65,537 bytes")
+    t.same(front.ask("/ca.crl", "-d", "x")[0], 405, "POST of the CRL")
+    t.same(front.ask("/ca.crl.pem")[0], 404, "the PEM, where none is published")
+    (front.folder / "share/ca.crl.pem").write_bytes(t.tool("openssl", "crl", "-inform", "DER", given=crl))
+    status, fields, pem = front.ask("/ca.crl.pem")
+    t.same((status, fields["Content-Type"], t.tool("openssl", "crl", "-outform", "DER", given=pem) == crl), (200, "application/x-pem-file", True))
+    desk.end()
+    t.same((front.ask("/ca.crl.pem")[0], front.ask("/", "--data-binary", "@-", given=it.asks("06"))[0]), (200, 502), "while the desk is away")
 
 
 @test(seconds=5)
@@ -78,7 +120,7 @@ def what_is_kept_and_for_how_long(t):
     before = front.asked_of_desk()
     t.same([front.ask("/crl/2")[0], front.ask("/crl/2")[0], front.asked_of_desk() - before], [404, 404, 2], "one that is none yet is not kept")
     for route in ("/status/06", "/counts"):
-        t.same(front.ask(route)[1]["Cache-Control"], "no-store", route)
+        t.same(front.ask(route, tls=True)[1]["Cache-Control"], "no-store", route)
     # Two requests that differ in a slash alone are two (their base64 has any bytes).
     t.same([front.state("/ocsp/a//b"), front.state("/ocsp/a/b")], ["MISS", "MISS"], "slashes are not merged")
     time.sleep(KEPT + 1)

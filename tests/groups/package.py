@@ -19,6 +19,8 @@ from lib.program import TOP
 from lib.trial import Skipped, need, test
 
 REGISTER = "/var/lib/durshavon/ca.db"
+PUBLISHED = "/var/lib/durshavon-crl/ca"
+SIGNING = ("--signer", "/srv/ca.sign", "--algorithm", "ecdsa-sha256")
 DEBIAN = "bookworm"
 
 
@@ -33,9 +35,11 @@ class Root:
         self.t, kept = t, os.environ.get("PACKAGE_ROOT")
         self.path = Path(kept or t.room / "root")
         if not (self.path / "usr/bin/dpkg").exists():
-            ran = t.tried("debootstrap", "--variant=minbase", "--include=dbus,systemd,systemd-sysv", DEBIAN, self.path, timeout=900)
+            ran = t.tried("debootstrap", "--variant=minbase", "--include=dbus,systemd,systemd-sysv,curl,openssl", DEBIAN, self.path, timeout=900)
             if ran.returncode:
                 raise Skipped(f"debootstrap could not fetch a Debian: {ran.stdout.decode('latin-1').splitlines()[-1:]}")
+        if not (self.path / "usr/bin/curl").exists():
+            raise Skipped(f"the Debian that is kept has no curl and openssl: remove {self.path}")
 
     def words(self, words, user=None):
         """What runs a program in the root, with a /proc of its own; `desk` is the one that was installed there."""
@@ -129,11 +133,27 @@ def unit_words(root, name, port):
     return line.replace("%i", "ca").replace("${PORT}", str(port)).replace(" $OPTIONS", "").split()
 
 
+def signer(t, root, it):
+    """What signs with the CA's key, at a socket in the root that its users reach."""
+    path = root.path / SIGNING[1].lstrip("/")
+    path.unlink(missing_ok=True)
+    t.enter_context(program.Signer(path, it.sign))
+    os.chmod(path, 0o666)
+
+
+def publishes(root, it):
+    """What its unit has: the CA's certificate, and the folder, which systemd makes."""
+    shutil.copy(it.pem, root.path / "etc/durshavon/ca.pem")
+    root.run("install", "-d", "-m", "0755", "-o", "durshavon", "-g", "durshavon", PUBLISHED)
+
+
 def served(t, root, it):
-    """By the words of its unit, and a CRL that is due by those of the timer's."""
+    """By the words of its unit; a CRL that is due by those of the timer's, and published by those of the unit behind it."""
     port = program.free_port()
+    signer(t, root, it)
+    publishes(root, it)
     root.run("install", "-d", "-m", "0700", "-o", "durshavon", "-g", "durshavon", "/run/durshavon", "/run/durshavon/ca")
-    words = ["chroot", root.path, *as_user("durshavon"), *unit_words(root, "desk@.service", port)]
+    words = ["chroot", root.path, *as_user("durshavon"), *unit_words(root, "desk@.service", port), *SIGNING]
     t.note(" ".join(map(str, words)))
     desk = subprocess.Popen([*map(str, words)], stdin=subprocess.DEVNULL, stdout=subprocess.PIPE, stderr=subprocess.STDOUT)
     with contextlib.ExitStack() as running:
@@ -143,10 +163,21 @@ def served(t, root, it):
         t.same(it.asked_by_openssl("05", f"http://127.0.0.1:{port}/ocsp"), "revoked")
         root.owner(*unit_words(root, "desk-crl@.service", port))
         with urllib.request.urlopen(f"http://127.0.0.1:{port}/crl") as answer:
-            t.same(list(authority.listed(t, answer.read())), [5], "a CRL that was due was issued at the counter")
+            crl = answer.read()
+        t.same(list(authority.listed(t, crl)), [5], "a CRL that was due was issued at the counter")
+        told = root.owner(*unit_words(root, "desk-publish@.service", port))
+        t.same((told, published(root)), (f"crl 1 published in {PUBLISHED}\n", crl), "and published")
     later = moment_of(authority.now() + 1)
-    told = root.owner("desk", "script", REGISTER, given=f"{later} status 05\n")
+    told = root.owner("desk", "script", REGISTER, *SIGNING, given=f"{later} status 05\n")
     t.same(told.split()[0], "revoked", "ended by SIGTERM, all that was answered stands")
+    root.run("rm", "-rf", "/srv/copies")
+    root.run("install", "-d", "-m", "0700", "-o", "durshavon", "/srv/copies")
+    t.has(root.owner("/usr/lib/durshavon/backup.sh", REGISTER, "/srv/copies"), ": sound, 1 certificates, 1 revoked, 1 CRLs\n", "a copy of it")
+
+
+def published(root):
+    path = root.path / PUBLISHED.lstrip("/") / "ca.crl"
+    return path.read_bytes() if path.exists() else None
 
 
 def documented(t, root):
@@ -191,7 +222,8 @@ def booted(t, root):
         return
     port = program.free_port()
     conf = root.path / "etc/durshavon/ca.conf"
-    conf.write_text(f"PORT={port}\n")
+    conf.write_text(f"PORT={port}\nOPTIONS={' '.join(SIGNING)}\n")
+    root.run("rm", "-rf", PUBLISHED)
     root.tried("systemctl", "enable", "desk@ca.service")
     words = ["systemd-nspawn", "--quiet", "--register=no", "--keep-unit", "--settings=no", "--timezone=off", "--resolv-conf=off"]
     words += ["-D", str(root.path), "--boot"]
@@ -205,6 +237,19 @@ def booted(t, root):
         answered = asked_of(port)
         if answered is not None:
             t.same(answered, b'{"expired":0,"good":0,"revoked":1}', "desk@ca.service, asked over HTTP")
+            inside = Path(f"/proc/{machine.pid}/task/{machine.pid}/children").read_text().split()[0]
+            at = ("nsenter", "-t", inside, "-a")
+            t.tool(*at, "systemctl", "start", "desk-crl@ca.service")
+            authority.until(lambda: published(root), "the CRL that desk-crl@ca.service has published")
+            # Once more by itself, which fails where the unit does.
+            t.tool(*at, "systemctl", "start", "desk-publish@ca.service")
+            # A copy: it is refused while the service runs.
+            copy = (*at, "/usr/lib/durshavon/backup.sh", REGISTER, "/srv")
+            t.same(t.tried(*copy).returncode, 1, "status of backup.sh while the register is open")
+            t.tool(*at, "systemctl", "stop", "desk@ca.service")
+            t.has(t.tool(*copy).decode(), ": sound, 1 certificates, 1 revoked, 1 CRLs\n", "a copy of what was stopped")
+            t.tool(*at, "systemctl", "start", "desk@ca.service")
+            authority.until(lambda: asked_of(port), "desk@ca.service to answer again")
         t.note(f"systemd-nspawn started it: {answered is not None}")
     finally:
         # It has the root shut down in order.
@@ -217,6 +262,7 @@ def booted(t, root):
     t.same(asked_of(port), None, "shut down, nothing answers any more")
     root.tried("systemctl", "disable", "desk@ca.service")
     conf.unlink()
+    (root.path / "etc/durshavon/ca.pem").unlink()
 
 
 def removed(t, root):

@@ -1,5 +1,6 @@
 """Peers of an open desk, of all kinds and many at once: nobody who is slow holds anybody up. And lines at the counter, beside them."""
 
+import re
 import resource
 import socket
 import threading
@@ -77,6 +78,20 @@ def each_of_32_at_once_gets_the_answer_to_its_own_request(t):
     t.same(wrong, [], "answers that are another's")
 
 
+@test
+def pieces_of_several_requests_are_not_mixed_up(t):
+    """Three that are sent a piece of each in turn, and ended in the other order."""
+    desk = opened(t)
+    wanted = {"/status/05": b'{"status":"good"}', "/status/06": b'{"status":"unknown"}', "/status/0": b'{"error":"E22 syntax"}'}
+    peers = {target: peer(t, desk, b"GET ") for target in wanted}
+    for target, it in peers.items():
+        it.sendall(target.encode())
+        time.sleep(0.02)
+    for target, it in reversed(peers.items()):
+        it.sendall(b" HTTP/1.1\r\n\r\n")
+        t.same(parted(read_all(it))[2], wanted[target], target)
+
+
 @test(seconds=5)
 def more_peers_than_there_are_places(t):
     _, hard = resource.getrlimit(resource.RLIMIT_NOFILE)
@@ -123,14 +138,19 @@ def who_breaks_off_is_told_in_the_log(t):
 @test(seconds=35)
 def who_is_not_whole_in_30_seconds_is_let_go(t):
     desk = opened(t, "--log")
-    late = peer(t, desk, b"GET /coun")
-    port = late.getsockname()[1]
-    late.settimeout(60)
     began = time.monotonic()
-    t.same(read_all(late), b"", "what it hears")
-    took = time.monotonic() - began
-    t.true(29 < took < 45, f"after {took:.0f} s")
-    t.true(f"{DAY} 127.0.0.1:{port} lost late" in desk.end().told, "the log does not tell it")
+    both = {sent: peer(t, desk, sent) for sent in (b"GET /coun", b"")}
+    ports = {sent: late.getsockname()[1] for sent, late in both.items()}
+    for sent, late in both.items():
+        late.settimeout(60)
+        t.same(read_all(late), b"", f"what it hears that sent {sent!r}")
+        took = time.monotonic() - began
+        t.true(29 < took < 45, f"after {took:.0f} s")
+    told = [re.sub(r" \d+$", "", it) for it in desk.end().told]
+    # A line of the exchange, which had no answer, and one of its end; whether one that sent nothing had an exchange is left open.
+    half = f"{DAY} 127.0.0.1:{ports[b'GET /coun']}"
+    t.same([it for it in told if it.startswith(half)], [f'{half} "GET /coun" "" 0', f"{half} lost late"], "the log of half a request")
+    t.true(f"{DAY} 127.0.0.1:{ports[b'']} lost late" in told, f"the log does not tell of who was silent: {told}")
 
 
 @test(seconds=2)
@@ -140,6 +160,17 @@ def so_many_are_served_and_no_more(t):
     t.same(desk.wait().status, 0, "status")
     with socket.socket() as one_more:
         t.true(one_more.connect_ex(("127.0.0.1", desk.port)) != 0, "a fourth is answered")
+
+
+@test
+def half_a_request_is_one_of_so_many(t):
+    desk = opened(t, "--requests", 2, command="serve")
+    half = peer(t, desk, b"GET /status/05 HTTP/1.1\r\n")
+    half.shutdown(socket.SHUT_WR)
+    t.same(read_all(half), b"", "what it hears")
+    t.same(desk.process.poll(), None, "it runs on")
+    t.same(parted(desk.send(COUNTS))[0], 200, "the second")
+    t.same(desk.wait().status, 0, "status")
 
 
 @test(seconds=2)

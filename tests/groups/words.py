@@ -136,6 +136,7 @@ def a_socket_and_a_known_algorithm_are_given_both_or_neither(t, words, named):
 
 @each({" ".join(it): it for it in (
     ("import", "--signer=ca.sign"), ("crl", "--algorithm=ed25519"), ("schedule", "--signer=ca.sign"), ("import", "--clock"), ("import", "--strict"),
+    ("crl", "--log"), ("script", "--log"), ("at", "--log"),
 )})
 def an_option_of_another_command_is_unexpected(t, command, option):
     t.has(refused(t, command, "none.db", option), "unexpected argument")

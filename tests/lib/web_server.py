@@ -62,6 +62,7 @@ class Front:
         for was, now in (
             (r"/var/cache/nginx/desk", f"{self.folder}/cache"), (r"/var/log/nginx", str(self.folder)),
             (r"/etc/nginx/(?=\w+\.(pem|key))", f"{self.folder}/"), (r"/usr/share/durshavon", f"{self.folder}/share"),
+            (r"/var/lib/durshavon-crl/ca\b", f"{self.folder}/share"),
             (r"127\.0\.0\.1:8080", f"127.0.0.1:{desk_port}"),
             (r"listen 80;", f"listen 127.0.0.1:{self.port};"), (r"listen 443 ssl;", f"listen 127.0.0.1:{self.tls_port} ssl;"),
             (r"200 60s;", f"200 {self.seconds}s;"), (r"max-age=60\b", f"max-age={self.seconds}"),

@@ -1,0 +1,81 @@
+#!/bin/sh
+# Registers certificates that were issued, as openssl reads them (of a file with several, the first): each gets an order of as many days as it is valid,
+# and is registered under it. With -c at the counter of an open desk, and a line is printed for each; with -o as lines for `desk script FILE --clock
+# --strict`, which ends where a line is refused. A certificate that has ended, or whose serial number stands registered, gets no order.
+#
+# Usage: register-pem.sh -c SOCKET [-s NAME] [-a CA.pem] CERTIFICATE ..
+#        register-pem.sh -o ORDER -n SUBSCRIBER [-a CA.pem] CERTIFICATE .. | desk script ca.db --clock --strict
+#   -s  the subscriber's name, who is entered where nobody has it; left out, it is the common name of each certificate, in the letters that a name may have
+#   -o  the number that the register's next order gets;  -n  the subscriber's number
+#   -a  certificates that this CA did not sign are refused here (a serial number that was registered can't be taken back)
+# DESK names the program, where it is not the `desk` of PATH. Exit status: 0 where all were registered, or all lines were printed; 3 where one was
+# refused, which is told on standard error with the reply, and the others went on; 1 where nobody answers at the counter; 2 where the words are wrong.
+set -eu
+export LC_ALL=C
+desk=${DESK:-desk}
+counter='' name='' order='' subscriber='' authority='' worst=0
+usage() { sed -n 's/^# \(Usage: \| \{7\}\)register-pem/\1register-pem/p' "$0" >&2; exit 2; }
+while getopts c:s:o:n:a: option; do
+    case $option in
+    c) counter=$OPTARG ;; s) name=$OPTARG ;; o) order=$OPTARG ;; n) subscriber=$OPTARG ;; a) authority=$OPTARG ;; *) usage ;;
+    esac
+done
+shift $((OPTIND - 1))
+case $#:${counter:+c}${name:+s}${order:+o}${subscriber:+n} in 0:*) usage ;; *:c | *:cs | *:on) ;; *) usage ;; esac
+case $order$subscriber in *[!0-9]*) usage ;; esac
+
+refuse() { echo "$certificate: $1" >&2; worst=3; }
+
+# Asks a line at the counter: its reply is in `reply`.
+say() {
+    status=0
+    reply=$(printf '%s\n' "$1" | "$desk" at "$counter" 2>/dev/null) || status=$?
+    case $status in 0 | 3) ;; *) echo "$certificate: $1: ${reply:-no reply at $counter}" >&2; exit 1 ;; esac
+}
+
+field() { echo "$text" | sed -n "s/^$1=//p"; }
+moment() { date -u -d "$1" +%Y-%m-%dT%H:%M:%SZ; }
+
+is_signed() { openssl verify -CAfile "$authority" -no-CApath -no-CAstore -partial_chain -no_check_time "$certificate" >/dev/null 2>&1; }
+
+common_name() {
+    openssl x509 -in "$certificate" -noout -subject -nameopt multiline,utf8,-esc_msb | sed -n 's/^ *commonName *= //p' | head -n 1 | tr -d '\n' |
+        tr -cs 'A-Za-z0-9._-' '-' | sed 's/^-*//; s/-*$//' | cut -c 1-64
+}
+
+# The number of a subscriber of that name, who is entered where nobody has it.
+find_subscriber() {
+    [ -n "$1" ] || { refuse "it has no common name: give -s NAME"; return 1; }
+    say "subscriber $1"
+    case $reply in
+    "subscriber "* | "E05 name-taken "*) subscriber=${reply##* } ;;
+    *) refuse "subscriber $1: $reply"; return 1 ;;
+    esac
+}
+
+at_counter() {
+    say "status $serial"
+    [ "$reply" = unknown ] || { refuse "serial number $serial is not registered anew, status: $reply"; return 0; }
+    find_subscriber "${name:-$(common_name)}" || return 0
+    say "order $subscriber $days"
+    case $reply in "order "*) order=${reply#order } ;; *) refuse "order of $days days: $reply"; return 0 ;; esac
+    say "register $order $serial $from $until"
+    [ "$reply" = registered ] || { refuse "register $order $serial $from $until: $reply (order $order stays without a certificate)"; return 0; }
+    echo "$certificate: serial number $serial registered, order $order of subscriber $subscriber"
+}
+
+for certificate in "$@"; do
+    text=$(openssl x509 -in "$certificate" -noout -serial -startdate -enddate 2>/dev/null) || { refuse "openssl can't read it"; continue; }
+    [ -z "$authority" ] || is_signed || { refuse "not signed by $authority"; continue; }
+    serial=$(field serial) from=$(moment "$(field notBefore)") until=$(moment "$(field notAfter)")
+    openssl x509 -in "$certificate" -noout -checkend 0 >/dev/null || { refuse "it ended, $until"; continue; }
+    # Both ends counted (docs/RULES.md).
+    days=$((($(date -d "$until" +%s) - $(date -d "$from" +%s)) / 86400 + 1))
+    if [ -n "$counter" ]; then
+        at_counter
+    else
+        printf 'order %s %s\nregister %s %s %s %s\n' "$subscriber" "$days" "$order" "$serial" "$from" "$until"
+        order=$((order + 1))
+    fi
+done
+exit "$worst"

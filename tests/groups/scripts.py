@@ -1,0 +1,583 @@
+"""The scripts of examples/ that an operator's cron runs or who registers certificates: what each prints, its exit status, and that nothing of what
+was there is lost where it fails."""
+
+import fcntl
+import os
+import re
+import shutil
+import subprocess
+import threading
+
+from lib import authority, program, registers
+from lib.authority import DAY, EXAMPLES, Authority, body_of, moment_of
+from lib.trial import Skipped, each, need, test
+
+
+def played(t, script, *words, before=(), more=None):
+    """Plays a script of examples/, whose `desk` is the program that is tested; its status, what it printed, and the lines that it told."""
+    env = {**os.environ, "DESK": program.program(), "TZ": "America/New_York", **(more or {})}
+    ran = t.tried(*before, EXAMPLES / script if not before else t.room / script, *words, env=env)
+    return ran.returncode, ran.stdout.decode(), ran.stderr.decode().splitlines()
+
+
+def fails(t, ran, told, status=1):
+    """It printed nothing, and told one line with this in it."""
+    t.same((ran[0], ran[1], len(ran[2])), (status, "", 1), f"status, output and lines told, of which {ran[2]!r}")
+    t.has(ran[2][0], told)
+
+
+def as_nobody(t, script):
+    """What runs a script, which is copied to where that user may come, as a user who has no rights here."""
+    if os.geteuid():
+        return ("env",)
+    need("setpriv")
+    shutil.copy(EXAMPLES / script, t.room / script)
+    os.chmod(t.room / script, 0o755)
+    os.chmod(t.room, 0o755)
+    return ("setpriv", "--reuid", "65534", "--regid", "65534", "--clear-groups")
+
+
+def small_disk(t, size):
+    """A folder of so many kB, with a file system of its own."""
+    if os.geteuid():
+        raise Skipped("a small file system wants root")
+    need("mount")
+    folder = t.room / "disk"
+    folder.mkdir()
+    if subprocess.run(["mount", "-t", "tmpfs", "-o", f"size={size}k", "tmpfs", folder], capture_output=True).returncode:
+        raise Skipped("no file system can be mounted here")
+    t.callback(subprocess.run, ["umount", folder], check=True)
+    return folder
+
+
+def contents(folder):
+    """All that is in a folder: of each file its bytes and its place on the disk."""
+    return {it.relative_to(folder): (it.stat().st_ino, it.read_bytes()) for it in sorted(folder.rglob("*")) if it.is_file()}
+
+
+# publish-crl.sh
+
+
+def open_desk(t, *lines):
+    """A CA with an open desk, whose key signs, and the folder `www`; at its counter these lines are accepted."""
+    it = Authority(t)
+    it.register()
+    it.signer()
+    desk = t.open("ca.db", "--counter", "counter", *it.signing())
+    (t.room / "www").mkdir()
+    told_at_counter(t, *lines)
+    return it, desk
+
+
+def told_at_counter(t, *lines):
+    return t.done("at", "counter", given="".join(f"{line}\n" for line in lines)).splitlines()
+
+
+def publish(t, desk, path="/crl", folder="www", ca="ca.pem", **how):
+    return played(t, "publish-crl.sh", f"http://127.0.0.1:{desk.port}{path}", folder, ca, **how)
+
+
+def published(t, it, desk, number):
+    """What is published is the desk's latest CRL, in both forms, for everybody to read, and verifies."""
+    crl = body_of(t, desk.ask("GET", "/crl"), "application/pkix-crl")
+    t.same((t.room / "www/ca.crl").read_bytes(), crl, "ca.crl")
+    t.same(t.tool("openssl", "crl", "-in", "www/ca.crl.pem", "-outform", "DER"), crl, "ca.crl.pem")
+    t.has(t.tool("openssl", "crl", "-in", "www/ca.crl.pem", "-noout", "-crlnumber").decode(), f"{number:X}\n")
+    it.verifies(crl)
+    t.same({path.name: "%o" % (path.stat().st_mode & 0o777) for path in (t.room / "www").iterdir()}, {"ca.crl": "644", "ca.crl.pem": "644"})
+
+
+@test(seconds=3)
+def a_crl_is_published_where_it_is_another(t):
+    it, desk = open_desk(t, "crl")
+    t.same(publish(t, desk), (0, "crl 1 published in www\n", []), "the first one")
+    published(t, it, desk, 1)
+    before = contents(t.room / "www")
+    t.same(publish(t, desk), (0, "", []), "the same again")
+    t.same(contents(t.room / "www"), before, "what is the same stays as it is")
+    now = authority.now()
+    told_at_counter(t, "subscriber acme", "order 1 30", f"register 1 05 {moment_of(now)} {moment_of(now + DAY)}", "request 05 superseded", "revoke 1", "crl")
+    t.same(publish(t, desk), (0, "crl 2 published in www\n", []), "a newer one")
+    published(t, it, desk, 2)
+    t.same(list(authority.listed(t, (t.room / "www/ca.crl").read_bytes())), [5])
+    (t.room / "www/ca.crl.pem").unlink()
+    t.same(publish(t, desk), (0, "crl 2 published in www\n", []), "where one of the two is missing")
+    published(t, it, desk, 2)
+    # What a run left that was killed.
+    (t.room / "www/.publish-crl.abc").mkdir()
+    (t.room / "www/.publish-crl.abc/ca.crl").write_text("half")
+    t.same(publish(t, desk), (0, "", []))
+    t.same(len(list((t.room / "www").iterdir())), 2, "files in the folder")
+
+
+def other_authority(subject):
+    """Publishes by the certificate of another CA, of this name."""
+    return lambda t, desk: (Authority(t, name="other", subject=subject), publish(t, desk, ca="other.pem"))[1]
+
+
+def trusted_elsewhere(t, desk):
+    """The CA's certificate is one that the machine trusts, and another one is named."""
+    (t.room / "trusted").mkdir()
+    shutil.copy(t.room / "ca.pem", t.room / "trusted")
+    t.tool("openssl", "rehash", "trusted")
+    Authority(t, name="other", subject="/CN=U")
+    return publish(t, desk, ca="other.pem", more={"SSL_CERT_DIR": str(t.room / "trusted")})
+
+
+def garbage(t, desk):
+    (t.room / "garbage.pem").write_text("no certificate\n")
+    return publish(t, desk, ca="garbage.pem")
+
+
+def gone(t, desk):
+    desk.end()
+    return publish(t, desk)
+
+
+# What fails where CRL 2 is published and 3 is the latest, and what is told.
+FAILURES = {
+    "a CA of the same name with another key": (other_authority("/CN=T"), "is not verified by other.pem: verify failure"),
+    "a CA of another name": (other_authority("/CN=U"), "is not verified by other.pem: Error getting CRL issuer certificate"),
+    "a CA that the machine trusts, and not the one that is named": (trusted_elsewhere, "is not verified by other.pem: Error getting"),
+    "no certificate of the CA": (lambda t, desk: publish(t, desk, ca="nowhere.pem"), "nowhere.pem can't be read"),
+    "what is no certificate": (garbage, "is not verified by garbage.pem: "),
+    "nobody at the port": (gone, "curl: (7) Failed to connect"),
+    "an older CRL": (lambda t, desk: publish(t, desk, "/crl/1"), "/crl/1 is no newer than number 2 in www: was the register set back?"),
+    "a CRL that is none yet": (lambda t, desk: publish(t, desk, "/crl/9"), '/crl/9: 404 {"error":"E21 no-crl"}'),
+    "what is no CRL": (lambda t, desk: publish(t, desk, "/counts"), "/counts: openssl reads no CRL there"),
+    "another scheme": (lambda t, desk: played(t, "publish-crl.sh", "gopher://127.0.0.1:1/", "www", "ca.pem"), "curl: ("),
+}
+
+
+@each(FAILURES, seconds=2)
+def what_is_published_stays_where_it_fails(t, fail, told):
+    _, desk = open_desk(t, "crl", "crl")
+    publish(t, desk)
+    told_at_counter(t, "crl")
+    before = contents(t.room / "www")
+    fails(t, fail(t, desk), told)
+    t.same(contents(t.room / "www"), before, "what is published")
+
+
+@test(seconds=2)
+def a_folder_that_is_none_or_not_to_be_written(t):
+    _, desk = open_desk(t, "crl")
+    fails(t, publish(t, desk, folder="nowhere"), "nowhere is no folder that can be read")
+    fails(t, publish(t, desk, folder="ca.db"), "ca.db is no folder that can be read")
+    publish(t, desk)
+    told_at_counter(t, "crl")
+    before = contents(t.room / "www")
+    os.chmod(t.room / "www", 0o555)
+    if not os.geteuid():
+        fails(t, publish(t, desk, before=as_nobody(t, "publish-crl.sh")), "nothing can be written in www")
+    t.same(contents(t.room / "www"), before, "what is published")
+
+
+@test(seconds=2)
+def a_disk_that_is_full(t):
+    _, desk = open_desk(t, "crl")
+    # A page of each file, in both copies, has no room.
+    folder = small_disk(t, 12)
+    t.same(publish(t, desk, folder=folder)[0], 0)
+    (folder / "filler").write_bytes(bytes(4_096))
+    told_at_counter(t, "crl")
+    before = contents(folder)
+    t.same(publish(t, desk, folder=folder)[:2], (1, ""), "status and output")
+    t.same(contents(folder), before, "what is published")
+
+
+@test(seconds=2)
+def a_crl_that_has_ended(t):
+    begun = authority.now() - 9 * DAY
+    t.clock(moment_of(begun))
+    _, desk = open_desk(t, "crl")
+    fails(t, publish(t, desk), f"CRL 1 of http://127.0.0.1:{desk.port}/crl has ended, ")
+    t.same(contents(t.room / "www"), {})
+    told_at_counter(t, "crl")
+    t.clock(moment_of(begun + 9 * DAY))
+    told_at_counter(t, "crl")
+    t.same(publish(t, desk)[1], "crl 3 published in www\n")
+
+
+@test(seconds=3)
+def a_register_that_was_set_back(t):
+    """Two CRLs of one number: the one that was published stays."""
+    it, desk = open_desk(t, "crl")
+    desk.end()
+    for name in ("ca.db", "ca.db-wal"):
+        if (t.room / name).exists():
+            shutil.copy(t.room / name, t.room / f"before-{name}")
+    t.clock(moment_of(authority.now() + 60))
+    desk = t.open("ca.db", "--counter", "counter", *it.signing())
+    told_at_counter(t, "crl")
+    publish(t, desk)
+    desk.end()
+    t.clock(moment_of(authority.now() + 3600))
+    desk = t.open("before-ca.db", "--counter", "counter", *it.signing())
+    t.same(told_at_counter(t, "crl"), ["crl 2 entries 0"])
+    before = contents(t.room / "www")
+    fails(t, publish(t, desk), "is no newer than number 2 in www: was the register set back?")
+    t.same(contents(t.room / "www"), before)
+    told_at_counter(t, "crl")
+    t.same(publish(t, desk)[1], "crl 3 published in www\n", "a greater number is taken again")
+
+
+@test(seconds=3)
+def a_reader_gets_the_old_one_or_the_new_one(t):
+    _, desk = open_desk(t, "crl")
+    publish(t, desk)
+    crls, seen, ended = set(), set(), threading.Event()
+
+    def read():
+        while not ended.is_set():
+            seen.add((t.room / "www/ca.crl").read_bytes())
+
+    crls.add((t.room / "www/ca.crl").read_bytes())
+    reader = threading.Thread(target=read)
+    reader.start()
+    try:
+        for _ in range(4):
+            told_at_counter(t, "crl")
+            t.same(publish(t, desk)[0], 0)
+            crls.add((t.room / "www/ca.crl").read_bytes())
+    finally:
+        ended.set()
+        reader.join()
+    t.same((len(crls), seen <= crls), (5, True), "CRLs, and whether nothing else was read")
+
+
+# register-pem.sh
+
+
+def issued(t, it, name, serial, subject="/CN=acme", days=90):
+    """A certificate of the CA, as NAME.pem."""
+    t.tool("openssl", "req", "-new", "-utf8", "-key", it.key, "-subj", subject, "-out", "x.csr")
+    t.tool("openssl", "x509", "-req", "-in", "x.csr", "-CA", it.pem, "-CAkey", it.key, "-set_serial", f"0x{serial}", "-days", days, "-out", f"{name}.pem")
+    told = t.tool("openssl", "x509", "-in", f"{name}.pem", "-noout", "-dates").decode()
+    return [authority.openssl_time(re.search(rf"not{which}=(.*)", told)[1]) for which in ("Before", "After")]
+
+
+CONFIG = """[ca]
+default_ca = it
+[it]
+database = index.txt
+new_certs_dir = .
+serial = serial
+default_md = sha256
+policy = any
+[any]
+commonName = supplied
+"""
+
+
+def ended(t, it):
+    """A certificate of January 2020, as ended.pem."""
+    for name, text in (("ca.cnf", CONFIG), ("index.txt", ""), ("serial", "14\n")):
+        (t.room / name).write_text(text)
+    t.tool("openssl", "req", "-new", "-key", it.key, "-subj", "/CN=acme", "-out", "x.csr")
+    words = ("-batch", "-notext", "-cert", it.pem, "-keyfile", it.key, "-startdate", "200101000000Z", "-enddate", "200131000000Z")
+    t.tool("openssl", "ca", "-config", "ca.cnf", *words, "-in", "x.csr", "-out", "ended.pem")
+
+
+def unsigned_desk(t, *lines):
+    it = Authority(t)
+    it.register()
+    desk = t.open("ca.db", "--counter", "counter")
+    if lines:
+        told_at_counter(t, *lines)
+    return it, desk
+
+
+def register_pem(t, *words, **how):
+    return played(t, "register-pem.sh", *words, **how)
+
+
+def rows(t, table):
+    return t.sql("ca.db", f"SELECT * FROM {table} ORDER BY rowid")
+
+
+@test(seconds=3)
+def certificates_are_registered_at_the_counter(t):
+    it, desk = unsigned_desk(t, "subscriber first", "order 1 398")
+    days = {name: issued(t, it, name, *more) for name, *more in
+            (("a", "05", "/O=Example/CN=a & sons, Zürich", 90), ("b", "7FFFFFFF00AA", "/CN=b.example", 397), ("c", "06", "/CN=first", 1))}
+    wanted = ["a.pem: serial number 05 registered, order 2 of subscriber 2", "b.pem: serial number 7FFFFFFF00AA registered, order 3 of subscriber 3",
+              "c.pem: serial number 06 registered, order 4 of subscriber 1"]
+    t.same(register_pem(t, "-c", "counter", "-a", "ca.pem", "a.pem", "b.pem", "c.pem"), (0, "\n".join([*wanted, ""]), []))
+    t.same(told_at_counter(t, "status 05", "status 7fffffff00aa", "status 6"), ["good"] * 3)
+    ran = register_pem(t, "-c", "counter", "a.pem", "b.pem")
+    t.same(ran, (3, "", ["a.pem: serial number 05 is not registered anew, status: good",
+                         "b.pem: serial number 7FFFFFFF00AA is not registered anew, status: good"]), "once more")
+    # As DER, under a subscriber who is named.
+    issued(t, it, "d", "08", "/CN=d")
+    t.tool("openssl", "x509", "-in", "d.pem", "-outform", "DER", "-out", "d.der")
+    t.same(register_pem(t, "-c", "counter", "-s", "b.example", "d.der")[1], "d.der: serial number 08 registered, order 5 of subscriber 3\n")
+    desk.end()
+    t.same([name for _, name in rows(t, "subscriber")], ["first", "a-sons-Z-rich", "b.example"])
+    # Both ends of a validity are counted, so `-days 90` has 91.
+    t.same(rows(t, "orders"), [(1, 1, 398), (2, 2, 91), (3, 3, 398), (4, 1, 2), (5, 3, 91)])
+    held = {order: (begins, ends) for _, order, begins, ends in rows(t, "cert")}
+    t.same([held[order] for order in (2, 3, 4)], [tuple(days[name]) for name in "abc"], "validities")
+    t.same(t.done("audit", "ca.db"), "sound, 4 certificates, 0 revoked, 0 CRLs\n")
+
+
+@test(seconds=3)
+def what_is_refused_is_told_and_the_others_are_registered(t):
+    it, desk = unsigned_desk(t)
+    issued(t, it, "long", "11", days=3650)
+    issued(t, it, "good", "12")
+    issued(t, it, "nameless", "13", "/O=Example")
+    stranger = Authority(t, name="other", subject="/CN=T")
+    issued(t, stranger, "strange", "15")
+    (t.room / "text.pem").write_text("no certificate\n")
+    ended(t, it)
+    names = ["long.pem", "strange.pem", "text.pem", "nowhere.pem", "nameless.pem", "ended.pem", "good.pem"]
+    status, out, told = register_pem(t, "-c", "counter", "-a", "ca.pem", *names)
+    t.same((status, out), (3, "good.pem: serial number 12 registered, order 1 of subscriber 1\n"))
+    wanted = ["long.pem: order of 3651 days: E07 bad-days 398", "strange.pem: not signed by ca.pem", "text.pem: openssl can't read it",
+              "nowhere.pem: openssl can't read it", "nameless.pem: it has no common name: give -s NAME", "ended.pem: it ended, 2020-01-31T00:00:00Z"]
+    t.same(told, wanted)
+    t.same(register_pem(t, "-c", "counter", "-s", "two words", "nameless.pem"), (3, "", ["nameless.pem: subscriber two words: E22 syntax"]))
+    t.same(register_pem(t, "-c", "counter", "-s", "a+b", "nameless.pem"), (3, "", ["nameless.pem: subscriber a+b: E04 bad-name"]))
+    desk.end()
+    t.same((len(rows(t, "orders")), len(rows(t, "cert"))), (1, 1), "orders and certificates")
+
+
+@test(seconds=2)
+def an_order_that_stays_without_its_certificate_is_told(t):
+    """Where fewer days are allowed now than there were, the order is accepted and the certificate is not."""
+    it = Authority(t)
+    it.register()
+    t.done("schedule", "ca.db", "1970-01-01T00:00:00Z=398", "2026-03-15T00:00:00Z=47")
+    begins, ends = map(moment_of, issued(t, it, "a", "05"))
+    desk = t.open("ca.db", "--counter", "counter")
+    wanted = f"a.pem: register 1 05 {begins} {ends}: E12 too-long (order 1 stays without a certificate)"
+    t.same(register_pem(t, "-c", "counter", "a.pem"), (3, "", [wanted]))
+    desk.end()
+    t.same((len(rows(t, "orders")), len(rows(t, "cert"))), (1, 0), "orders and certificates")
+
+
+@test(seconds=2)
+def nobody_at_the_counter(t):
+    it = Authority(t)
+    issued(t, it, "a", "05")
+    fails(t, register_pem(t, "-c", "counter", "a.pem", "a.pem"), "a.pem: status 05: no reply at counter")
+    t.register("other.db")
+    desk = t.open("other.db", "--counter", "counter")
+    desk.end()
+    fails(t, register_pem(t, "-c", "counter", "a.pem"), "a.pem: status 05: no reply at counter")
+
+
+@test(seconds=3)
+def certificates_as_lines_of_a_script(t):
+    it = Authority(t)
+    it.register()
+    t.done("script", "ca.db", "--clock", given="subscriber acme\norder 1 30\n")
+    at = {name: [moment_of(one) for one in issued(t, it, name, serial, days=days)] for name, serial, days in (("a", "05", 90), ("b", "06", 30))}
+    ended(t, it)
+    status, lines, told = register_pem(t, "-o", "2", "-n", "1", "-a", "ca.pem", "a.pem", "ended.pem", "b.pem")
+    t.same((status, told), (3, ["ended.pem: it ended, 2020-01-31T00:00:00Z"]), "one is left out")
+    t.same(lines.splitlines(), ["order 1 91", f"register 2 05 {at['a'][0]} {at['a'][1]}", "order 1 31", f"register 3 06 {at['b'][0]} {at['b'][1]}"])
+    t.same(t.done("script", "ca.db", "--clock", "--strict", given=lines), "order 2\nregistered\norder 3\nregistered\n")
+    # Where the number of the next order is another one, nothing is registered.
+    issued(t, it, "c", "07")
+    for number, refusal in (("3", "E09 order-filled"), ("9", "E08 no-order")):
+        _, lines, _ = register_pem(t, "-o", number, "-n", "1", "c.pem")
+        ran = t.desk("script", "ca.db", "--clock", "--strict", given=lines)
+        t.same((ran.status, ran.lines[1:]), (3, [refusal]))
+    t.same(t.done("audit", "ca.db"), "sound, 2 certificates, 0 revoked, 0 CRLs\n")
+
+
+# Words that can't be read.
+WORDS = {
+    "register-pem.sh": ([], ["-c", "counter"], ["a.pem"], ["-o", "1", "a.pem"], ["-n", "1", "a.pem"], ["-c", "counter", "-o", "1", "-n", "1", "a.pem"],
+                        ["-o", "one", "-n", "1", "a.pem"], ["-o", "1", "-n", "1", "-s", "acme", "a.pem"], ["-x", "a.pem"]),
+    "publish-crl.sh": ([], ["http://127.0.0.1:1/crl", "www"], ["a", "b", "c", "d"]),
+    "backup.sh": ([], ["ca.db"], ["ca.db", "copies", "7"]),
+}
+
+
+@each({script: (script, rows) for script, rows in WORDS.items()})
+def words_that_can_t_be_read(t, script, rows):
+    for words in rows:
+        status, out, told = played(t, script, *words)
+        t.same((status, out), (2, ""), f"status and output of {words}")
+        t.true(any(re.match(f"[uU]sage: .*{script} ", line) for line in told), f"told of {words}: {told}")
+
+
+# backup.sh
+
+ENTERED = "2026-01-01T00:00:00Z subscriber acme\n2026-01-01T00:00:00Z order 1 398\n"
+REGISTERED = ENTERED + "2026-01-01T00:00:00Z register 1 05 2026-01-01T00:00:00Z 2026-12-31T00:00:00Z\n2026-01-01T00:00:00Z crl\n"
+
+
+def back_up(t, register="ca.db", folder="copies", **how):
+    return played(t, "backup.sh", register, folder, **how)
+
+
+def register_and_copies(t, *older):
+    """A closed register, and a folder with copies of these names."""
+    t.register(lines=REGISTERED)
+    (t.room / "copies").mkdir()
+    for name in older:
+        shutil.copytree(t.room, t.room / "copies" / name, ignore=lambda folder, names: [it for it in names if not it.startswith("ca.db")])
+    return t.room / "copies"
+
+
+def names(folder):
+    return sorted(it.name for it in folder.iterdir())
+
+
+@test(seconds=2)
+def a_copy_of_a_closed_register(t):
+    copies = register_and_copies(t)
+    before = {name: (t.room / name).read_bytes() for name in ("ca.db", "ca.db-wal") if (t.room / name).exists()}
+    status, out, told = back_up(t)
+    t.same((status, told), (0, []))
+    [copy] = copies.iterdir()
+    t.same(out, f"copies/{copy.name}: sound, 1 certificates, 0 revoked, 1 CRLs\n")
+    t.true(re.fullmatch(r"ca\.db-\d{8}T\d{6}Z", copy.name), copy.name)
+    t.same({name: (t.room / name).read_bytes() for name in before}, before, "the register itself")
+    modes = {it.name: "%o" % (it.stat().st_mode & 0o777) for it in [copy, *copy.iterdir()]}
+    t.same({mode for name, mode in modes.items() if name.startswith("ca.db") and name != copy.name}, {"600"}, "modes of its files")
+    t.same(modes[copy.name], "700")
+    # It is a register: one goes back to it by copying its files.
+    replies = t.done("script", copy / "ca.db", given="2026-01-02T00:00:00Z status 05\n2026-01-02T00:00:00Z counts\n")
+    t.same(replies, "good\ngood 1 revoked 0 expired 0\n")
+
+
+@test(seconds=2)
+def a_copy_of_a_register_whose_desk_was_ended(t):
+    """What was answered last is in its -wal alone."""
+    register_and_copies(t)
+    t.clock("2026-01-02T00:00:00Z")
+    desk = t.open("ca.db", "--counter", "counter")
+    told_at_counter(t, "request 05 superseded", "revoke 1")
+    desk.end()
+    t.has(back_up(t)[1], ": sound, 1 certificates, 1 revoked, 1 CRLs\n")
+
+
+@test(seconds=3)
+def a_copy_of_an_open_register_comes_from_a_snapshot(t):
+    need("mkfs.btrfs", "mount")
+    if os.geteuid():
+        raise Skipped("a file system with snapshots wants root")
+    with open(t.room / "disk.img", "wb") as disk:
+        disk.truncate(128 * 2**20)
+    t.tool("mkfs.btrfs", "-q", "disk.img")
+    for folder in ("srv", "copies"):
+        (t.room / folder).mkdir()
+    if t.tried("mount", "-o", "loop", "disk.img", "srv").returncode:
+        raise Skipped("no btrfs can be mounted here")
+    t.callback(subprocess.run, ["umount", t.room / "srv"], check=True)
+    t.tool("btrfs", "subvolume", "create", "srv/ca")
+    t.register("srv/ca/ca.db", REGISTERED)
+    t.clock("2026-01-02T00:00:00Z")
+    desk = t.open("srv/ca/ca.db", "--counter", "counter")
+    told_at_counter(t, "request 05 superseded", "revoke 1")
+    t.tool("btrfs", "subvolume", "snapshot", "-r", "srv/ca", "srv/ca-now")
+    told_at_counter(t, "crl")
+    status, out, told = back_up(t, "srv/ca-now/ca.db")
+    t.same((status, out.partition(": ")[2], told), (0, "sound, 1 certificates, 1 revoked, 1 CRLs\n", []), "as it was at the snapshot")
+    fails(t, back_up(t, "srv/ca/ca.db"), "srv/ca/ca.db is open in process ")
+    t.same(told_at_counter(t, "crl"), ["crl 3 entries 1"], "the desk goes on")
+    desk.end()
+
+
+@test(seconds=2)
+def seven_are_kept(t):
+    copies = register_and_copies(t, *(f"ca.db-2026010{day}T000000Z" for day in range(1, 9)), "other.db-20250101T000000Z")
+    t.same(back_up(t)[0], 0)
+    kept = names(copies)
+    t.same(kept[:6], [f"ca.db-2026010{day}T000000Z" for day in range(3, 9)], "six older ones")
+    t.same((len(kept), kept[-1]), (8, "other.db-20250101T000000Z"), "and the new one; what is of another register stays")
+
+
+@test(seconds=2)
+def the_new_one_stays_whatever_the_clock_says(t):
+    copies = register_and_copies(t, *(f"ca.db-209{year}0101T000000Z" for year in range(8)))
+    status, out, _ = back_up(t)
+    new = out.partition(":")[0].removeprefix("copies/")
+    t.same((status, names(copies)), (0, [new, *(f"ca.db-209{year}0101T000000Z" for year in range(2, 8))]))
+
+
+def an_open_one(t):
+    t.open("ca.db", "--counter", "counter")
+    return back_up(t)
+
+
+def a_broken_one(t):
+    t.sql("ca.db", "DELETE FROM standing")
+    return back_up(t)
+
+
+def a_cut_one(t):
+    text = (t.room / "ca.db").read_bytes()
+    (t.room / "ca.db").write_bytes(text[: len(text) // 2])
+    return back_up(t)
+
+
+def written_meanwhile(t):
+    """The register is written between the copies of its two files, as by a program that was just opened."""
+    (t.room / "tools").mkdir()
+    (t.room / "tools/cp").write_text(f'#!/bin/sh\n{shutil.which("cp")} "$@" && echo x >>"{t.room}/ca.db-wal"\n')
+    os.chmod(t.room / "tools/cp", 0o755)
+    return back_up(t, more={"PATH": f"{t.room}/tools:{os.environ['PATH']}"})
+
+
+def held(t):
+    folder = os.open(t.room / "copies", os.O_RDONLY)
+    t.callback(os.close, folder)
+    fcntl.flock(folder, fcntl.LOCK_EX)
+    return back_up(t)
+
+
+def without_a_right(t):
+    if os.geteuid():
+        raise Skipped("another user wants root")
+    os.chmod(t.room / "copies", 0o755)
+    return back_up(t, before=as_nobody(t, "backup.sh"))
+
+
+def without_the_program(t):
+    return back_up(t, more={"DESK": "nowhere"})
+
+
+def an_older_one(t):
+    """Of version 2, which an audit does not look at: another command is to open it first."""
+    for name in ("ca.db", "ca.db-wal"):
+        (t.room / name).unlink(missing_ok=True)
+    registers.make(t.room / "ca.db", registers.Records(50), 2)
+    return back_up(t)
+
+
+NO_COPIES = {
+    "a register that is open": (an_open_one, "ca.db is open in process "),
+    "one with a row that is missing": (a_broken_one, "the copy of ca.db is not kept: desk audit: broken: standing 1"),
+    "half of its file": (a_cut_one, "the copy of ca.db is not kept: desk audit: "),
+    "one of an older version": (an_older_one, "the copy of ca.db is not kept: desk audit: old-version"),
+    "no program": (without_the_program, "the copy of ca.db is not kept: desk audit: "),
+    "no register": (lambda t: back_up(t, "nowhere.db"), "nowhere.db is no file"),
+    "written while it is copied": (written_meanwhile, "ca.db was written while it was copied"),
+    "another run": (held, "another run holds copies"),
+    "no right": (without_a_right, "nothing can be written in copies"),
+}
+
+
+@each(NO_COPIES, seconds=2)
+def no_copy_goes_where_it_fails(t, fail, told):
+    copies = register_and_copies(t, *(f"ca.db-2026010{day}T000000Z" for day in range(1, 9)))
+    before = contents(copies)
+    fails(t, fail(t), told)
+    t.same(contents(copies), before, "copies")
+    t.same(len(names(copies)), 8, "nothing else lies there")
+
+
+@test(seconds=2)
+def a_full_disk_of_copies(t):
+    register_and_copies(t)
+    folder = small_disk(t, 16)
+    fails(t, back_up(t, folder=folder), "ca.db can't be copied into ")
+    t.same(names(folder), [], "nothing is left")
+    fails(t, back_up(t, folder="nowhere"), "nowhere is no folder that can be read")
+
