@@ -1,13 +1,14 @@
 //! What the words of a command line say.
 
-ghost use Rattle.std.specs.Prelude.{◌≡◌, codes, IfErr, IfOk, map, option_and_then};
-ghost use Rattle.clap.specs.Words.{found_of, rows_of, subcommand_rows_of, kind_of};
-ghost use Rattle.reg_words.specs.Jobs.{IsJobOf, IsUsageOf, Tells, job_in, init_of, script_by, script_of, import_of, crl_of, number_in, serve_of, open_of, at_of, schedule_of, audit_of};
+ghost use Rattle.std.specs.Prelude.{◌≡◌, codes, IfErr, IfOk, map};
+ghost use Rattle.clap.specs.Words.{app_of, found_of, rows_of, subcommand_rows_of, kind_of};
+ghost use Rattle.reg_words.specs.Desk.{desk_app};
+ghost use Rattle.reg_words.specs.Jobs.{IsNoOrder, IsOrderIn, IsOrderOf, IsUsageOf, Tells, is_given_behind, job_found, job_in, init_of, script_by, script_of, import_of, crl_of, number_in, serve_of, open_of, at_of, schedule_of, audit_of};
 
 use crate::desk::desk;
-use crate::job::{Job, KeyHolder, Usage, Way};
+use crate::job::{Job, KeyHolder, Order, Usage, Way};
 use crate::values::{
-    key_holder, moment, number_if_given, number_or, number_within, steps, way_of, word_of,
+    is_set, key_holder, moment, number_if_given, number_or, number_within, steps, way_of, word_of,
 };
 use crate::word::Word;
 use crate::wrong::{LAST_PORT, MOST_REQUESTS, wrong_text};
@@ -33,29 +34,68 @@ const TEXT_WANTED: &str = "a word is no UTF-8 text: the name of a FILE is to be 
 
 /// Reads the words of a command line, of which the first is the program's name.
 ///
-/// A job comes where clap accepts the words and each value is in its form and range, with options left out as in the
-/// usual policy. `Help` comes where clap answers help, `Bad` where clap finds another fault or where a value is out of
-/// its form or range, `Memory` where memory could not be had.
-pub fn read_words<'a, S: AsStr>(alloc: Global, words: &'a [S]) -> Result<Job<'a>, Usage>
-    ensures job { IfOk result (IsJobOf (map S.text words.entry.now)) }
+/// An order comes where clap accepts the words and each value is in its form and range, with options left out as in the
+/// usual policy. `Help` and `Version` come where clap answers them, `Bad` where clap finds another fault or where a value
+/// is out of its form or range, `Memory` where memory could not be had.
+pub fn read_words<'a, S: AsStr>(alloc: Global, words: &'a [S]) -> Result<Order<'a>, Usage>
+    ensures order { IfOk result (IsOrderOf (map S.text words.entry.now)) }
     ensures usage { IfErr result (IsUsageOf (map S.text words.entry.now)) }
 {
-    let Ok(mut desk) = desk(alloc) else {
-        return Err(Usage::Memory);
-    };
+    match desk(alloc) {
+        Ok(mut desk) => read_by(alloc, &mut desk, words),
+        Err(_) => Err(Usage::Memory),
+    }
+}
+
+/// Reads the words by the program's command line.
+fn read_by<'a, S: AsStr>(
+    alloc: Global,
+    desk: &mut Command<'a>,
+    words: &'a [S],
+) -> Result<Order<'a>, Usage>
+    requires { app_of desk.old ≡ desk_app }
+    ensures order { IfOk result (IsOrderOf (map S.text words.entry.now)) }
+    ensures usage { IfErr result (IsUsageOf (map S.text words.entry.now)) }
+{
     match desk.try_get_matches_from_mut(words) {
-        Ok(matches) => match read_job(alloc, &matches) {
-            Ok(Some(job)) => Ok(job),
-            Ok(None) => Err(bad_value(alloc, &mut desk, &matches)),
-            Err(_) => Err(Usage::Memory),
-        },
+        Ok(matches) => read_order(alloc, desk, &matches),
         Err(error) => Err(usage_of(alloc, &error)),
+    }
+}
+
+/// The order that the words say which clap took.
+fn read_order<'a>(
+    alloc: Global,
+    desk: &mut Command<'_>,
+    matches: &ArgMatches<'a>,
+) -> Result<Order<'a>, Usage>
+    ensures order { IfOk result (IsOrderIn (rows_of (found_of matches.now)) (subcommand_rows_of matches.now)) }
+    ensures usage { IfErr result (IsNoOrder (subcommand_rows_of matches.now)) }
+{
+    match read_job(alloc, matches) {
+        Ok(Some(job)) => Ok(Order {
+            job,
+            is_explained: is_set(matches, "why") || is_set_behind(matches, "why"),
+            has_log: is_set_behind(matches, "log"),
+        }),
+        Ok(None) => Err(bad_value(alloc, desk, matches)),
+        Err(_) => Err(Usage::Memory),
+    }
+}
+
+/// Whether an option that takes no value is given behind the command.
+fn is_set_behind(matches: &ArgMatches<'_>, id: &str) -> bool
+    ensures { result ≡ is_given_behind id.now (subcommand_rows_of matches.now) }
+{
+    match matches.subcommand() {
+        Some((_, given)) => is_set(given, id),
+        None => false,
     }
 }
 
 /// The job of the command that was named; `None` where a value of it is out of its form or range.
 fn read_job<'a>(alloc: Global, matches: &ArgMatches<'a>) -> Result<Option<Job<'a>>, AllocError>
-    ensures { IfOk result (λ job. job ≡ option_and_then (λ found. job_in found.0 found.1) (subcommand_rows_of matches.now)) }
+    ensures { IfOk result (λ job. job ≡ job_found (subcommand_rows_of matches.now)) }
 {
     match matches.subcommand() {
         Some((name, given)) => read_command(alloc, name, given),
@@ -254,6 +294,7 @@ fn usage_of(alloc: Global, error: &Error) -> Usage
     };
     match error.kind() {
         ErrorKind::DisplayHelp => Usage::Help(text),
+        ErrorKind::DisplayVersion => Usage::Version(text),
         ErrorKind::OutOfMemory => Usage::Memory,
         _ => Usage::Bad(text),
     }
