@@ -1,8 +1,9 @@
 //! The command line as clap reads it, made of the table.
 
 ghost use Rattle.std.specs.Prelude.{◌≡◌, IfOk, false, map};
-ghost use Rattle.clap.specs.Words.{app_of, fields_of, new_app, rule_of};
-ghost use Rattle.reg_words.specs.Desk.{must, may, needs, takes, flag, some, bare_app, desk_app, with_rules};
+ghost use Rattle.clap.specs.Words.{App, app_of, rule_of, with_subcommand};
+ghost use Rattle.clap.specs.declared.builder.command.Command.TheViews.{out-Command as fields_of};
+ghost use Rattle.reg_words.specs.Desk.{may, takes, flag, bare_app, desk_app, with_rules};
 ghost use Rattle.reg_words.specs.Table.{app_told, rule_told, with_entries};
 
 use crate::table::{BEFORE, COMMANDS, Entry, Part};

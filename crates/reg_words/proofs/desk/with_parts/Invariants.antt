@@ -1,5 +1,6 @@
 use Rattle.std.proofs.Common.{◌≡◌, false, drop, map}
-use Rattle.clap.specs.Words.{app_of, fields_of}
+use Rattle.clap.specs.Words.{app_of}
+use Rattle.clap.specs.declared.builder.command.Command.TheViews.{out-Command as fields_of}
 use Rattle.reg_words.specs.Desk.{with_rules}
 use Rattle.reg_words.specs.Table.{rule_told}
 use Rattle.reg_words.proofs.desk.with_parts.Given as goal
