@@ -1,5 +1,5 @@
 -- The rows of the table, added one after the other.
-use Rattle.std.proofs.Common.{◌≡◌, ℕ, suc, ◌+◌, ◌<◌, ◌≤◌, List, [], ◌∷◌, map, length, drop, get_or, refl, sym, ap, ◌∙◌, add-one, drop-cons, drop_of_length-le}
+use Rattle.std.proofs.Common.{◌≡◌, ℕ, ◌+◌, ◌<◌, ◌≤◌, List, map, length, drop, get_or, sym, ap, ◌∙◌, add-one, drop-cons, drop_of_length-le}
 use Rattle.clap.specs.Words.{App, with_rule, with_subcommand}
 use Rattle.reg_words.specs.Desk.{with_rules}
 use Rattle.reg_words.specs.Table.{app_told, rule_told, with_entries}
