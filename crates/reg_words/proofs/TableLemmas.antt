@@ -1,6 +1,10 @@
 -- The rows of the table, added one after the other.
 use Rattle.std.proofs.Common.{◌≡◌, ℕ, ◌+◌, ◌<◌, ◌≤◌, List, map, length, drop, get_or, sym, ap, ◌∙◌, add-one, drop-cons, drop_of_length-le}
-use Rattle.clap.specs.Words.{App, with_rule, with_subcommand}
+use Rattle.std.specs.Prelude.{◌||◌, false}
+use Rattle.clap.specs.Words.{AddsArg, App, Rule, app_of, rule_of, with_rule, with_subcommand}
+use Rattle.clap.specs.declared.builder.arg.Arg.{Arg}
+use Rattle.clap.specs.declared.builder.command.Command.{Command}
+use Rattle.clap.specs.declared.builder.command.Command.TheViews.{out-Command as fields_of}
 use Rattle.reg_words.specs.Desk.{with_rules}
 use Rattle.reg_words.specs.Table.{app_told, rule_told, with_entries}
 use Rattle.reg_words.specs.declared.table.Entry.{Entry}
@@ -31,3 +35,12 @@ one_entry app more whole entries at d within is so =
 -- none is left
 pub all_entries : (app whole : App) (entries : List Entry) (at : ℕ) → length entries ≤ at → with_entries app (drop at entries) ≡ whole → app ≡ whole
 all_entries app whole entries at past so = sym (ap (with_entries app) (drop_of_length-le entries past)) ∙ so
+
+-- what clap says of an argument that is added, where none is global
+pub rule_added : (old new : Command) (arg : Arg) {rule : Rule} → AddsArg old arg new → arg.global ≡ false → rule_of arg ≡ rule
+    → app_of new ≡ with_rule (app_of old) rule
+rule_added old new arg added local is = added.shape local ∙ ap (with_rule (app_of old)) is
+
+pub still_local : (old new : Command) (arg : Arg) → AddsArg old arg new → (fields_of old).has_globals ≡ false → arg.global ≡ false
+    → (fields_of new).has_globals ≡ false
+still_local old new arg added before local = added.globals ∙ ap (λ b. b || arg.global) before ∙ local

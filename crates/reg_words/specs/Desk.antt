@@ -80,8 +80,11 @@ bare_app = record (new_app (codes "desk")) {
   top = record ((new_app (codes "desk")).top) { has_version = true; subcommand_required = true; disable_help_subcommand = true };
 }
 
+-- `desk [--why]`
+abbrev pub begun_app : App
+begun_app = with_rules bare_app (flag (codes "why") ∷ [])
+
 -- `desk [--why] COMMAND ..`
 abbrev pub desk_app : App
 desk_app = with_subcommand (with_subcommand (with_subcommand (with_subcommand (with_subcommand (with_subcommand (with_subcommand (with_subcommand (with_subcommand
-    (with_rules bare_app (flag (codes "why") ∷ []))
-    init_app.top) script_app.top) import_app.top) crl_app.top) serve_app.top) open_app.top) at_app.top) schedule_app.top) audit_app.top
+    begun_app init_app.top) script_app.top) import_app.top) crl_app.top) serve_app.top) open_app.top) at_app.top) schedule_app.top) audit_app.top

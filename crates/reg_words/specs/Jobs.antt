@@ -12,6 +12,7 @@ use Rattle.reg_words.specs.declared.job.Job.{Job}
 use Rattle.reg_words.specs.declared.job.Job.TheVariants.{Init, Script, Lines, Import, Crl, Serve, Open, At, Schedule, Audit}
 use Rattle.reg_words.specs.declared.job.KeyHolder.{KeyHolder}
 use Rattle.reg_words.specs.declared.job.Order.{Order}
+use Rattle.reg_words.specs.declared.reading.Terms.{Terms}
 use Rattle.reg_words.specs.declared.job.Usage.{Usage}
 use Rattle.reg_words.specs.declared.job.Way.{Way}
 use Rattle.reg_words.specs.declared.job.Usage.TheVariants.{Help, Version, Bad, Memory}
@@ -58,17 +59,23 @@ abbrev pub script_by : Option Text → Option KeyHolder → Way → Option Job
 script_by None signer way = if way.is_clocked || way.is_strict then None else Some (Script None signer)
 script_by (Some file) signer way = if way.is_clocked || way.is_strict then Some (Lines file signer way) else Some (Script (Some file) signer)
 
--- each command by its words and options; the days and lives that `init` leaves out are those of the usual policy
+-- what an issuer is to keep to; what is left out is as in the usual policy
+unfoldable pub terms_of : List Row → Option Terms
+terms_of rows = do
+  days ← given_or 398 (codes "days") rows
+  crl_life ← given_or 691200 (codes "crl-life") rows
+  ocsp_life ← given_or 345600 (codes "ocsp-life") rows
+  cap ← given_or 1000000 (codes "cap") rows
+  Some (record { days = days; crl_life = crl_life; ocsp_life = ocsp_life; cap = cap })
+
+-- each command by its words and options
 unfoldable pub init_of : List Row → Option Job
 init_of rows = do
   file ← first_of (codes "file") rows
   name ← first_of (codes "name") rows
   key ← first_of (codes "key") rows
-  days ← given_or 398 (codes "days") rows
-  crl_life ← given_or 691200 (codes "crl-life") rows
-  ocsp_life ← given_or 345600 (codes "ocsp-life") rows
-  cap ← given_or 1000000 (codes "cap") rows
-  Some (Init file name key days crl_life ocsp_life cap)
+  terms ← terms_of rows
+  Some (Init file name key terms.days terms.crl_life terms.ocsp_life terms.cap)
 
 unfoldable pub script_of : List Row → Option Job
 script_of rows = do
@@ -119,19 +126,23 @@ audit_of rows = do
   file ← first_of (codes "file") rows
   Some (Audit file)
 
--- the job of a command, by its name and what was found for its words and options
+-- the job of a command, by its name and what was found for its words and options: one of the last five, and any
+unfoldable pub further_job_in : Text → List Row → Option Job
+further_job_in name rows =
+    if bytes_eq name (codes "serve") then serve_of rows
+    else if bytes_eq name (codes "open") then open_of rows
+    else if bytes_eq name (codes "at") then at_of rows
+    else if bytes_eq name (codes "schedule") then schedule_of rows
+    else if bytes_eq name (codes "audit") then audit_of rows
+    else None
+
 unfoldable pub job_in : Text → List Row → Option Job
 job_in name rows =
     if bytes_eq name (codes "init") then init_of rows
     else if bytes_eq name (codes "script") then script_of rows
     else if bytes_eq name (codes "import") then import_of rows
     else if bytes_eq name (codes "crl") then crl_of rows
-    else if bytes_eq name (codes "serve") then serve_of rows
-    else if bytes_eq name (codes "open") then open_of rows
-    else if bytes_eq name (codes "at") then at_of rows
-    else if bytes_eq name (codes "schedule") then schedule_of rows
-    else if bytes_eq name (codes "audit") then audit_of rows
-    else None
+    else further_job_in name rows
 
 -- the job of the command that was named, by its name and rows
 abbrev pub job_found : Option (Text × List Row) → Option Job

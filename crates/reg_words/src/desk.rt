@@ -3,7 +3,7 @@
 ghost use Rattle.std.specs.Prelude.{◌≡◌, IfOk, false, map};
 ghost use Rattle.clap.specs.Words.{App, app_of, rule_of, with_subcommand};
 ghost use Rattle.clap.specs.declared.builder.command.Command.TheViews.{out-Command as fields_of};
-ghost use Rattle.reg_words.specs.Desk.{may, takes, flag, bare_app, desk_app, with_rules};
+ghost use Rattle.reg_words.specs.Desk.{may, takes, flag, bare_app, begun_app, desk_app, with_rules};
 ghost use Rattle.reg_words.specs.Table.{app_told, rule_told, with_entries};
 
 use crate::table::{BEFORE, COMMANDS, Entry, Part};
@@ -17,8 +17,27 @@ const VERSION: &str = "0.1";
 pub(crate) fn desk<'a>(alloc: Global) -> Result<Command<'a>, AllocError>
     ensures { IfOk result (λ made. app_of made ≡ desk_app) }
 {
-    let desk = with_parts(alloc, bare(alloc), &BEFORE)?;
-    with_commands(alloc, desk, &COMMANDS)
+    match begun(alloc) {
+        Ok(desk) => whole(alloc, desk),
+        Err(error) => Err(error),
+    }
+}
+
+/// The command line with all commands. Nothing may fail here beside: the table is a long constant, and each further step costs the prover seconds.
+fn whole<'a>(alloc: Global, begun: Command<'a>) -> Result<Command<'a>, AllocError>
+    requires app { app_of begun ≡ begun_app }
+    requires local { (fields_of begun).has_globals ≡ false }
+    ensures { IfOk result (λ made. app_of made ≡ desk_app) }
+{
+    with_commands(alloc, begun, &COMMANDS)
+}
+
+/// The command line with no command yet.
+fn begun<'a>(alloc: Global) -> Result<Command<'a>, AllocError>
+    ensures app { IfOk result (λ made. app_of made ≡ begun_app) }
+    ensures local { IfOk result (λ made. (fields_of made).has_globals ≡ false) }
+{
+    with_parts(alloc, bare(alloc), &BEFORE)
 }
 
 /// The command line with no option and no command yet.
@@ -63,7 +82,10 @@ fn with_command<'a>(
         → IfOk result (λ made. app_of made ≡ with_subcommand (app_of desk.entry) sub.top) }
     ensures local { IfOk result (λ made. (fields_of made).has_globals ≡ false) }
 {
-    desk.subcommand(command?)
+    match command {
+        Ok(command) => desk.subcommand(command),
+        Err(error) => Err(error),
+    }
 }
 
 /// A command of the table.

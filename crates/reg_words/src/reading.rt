@@ -3,7 +3,7 @@
 ghost use Rattle.std.specs.Prelude.{◌≡◌, codes, IfErr, IfOk, map};
 ghost use Rattle.clap.specs.Words.{app_of, found_of, rows_of, subcommand_rows_of, kind_of};
 ghost use Rattle.reg_words.specs.Desk.{desk_app};
-ghost use Rattle.reg_words.specs.Jobs.{IsNoOrder, IsOrderIn, IsOrderOf, IsUsageOf, Tells, is_given_behind, job_found, job_in, init_of, script_by, script_of, import_of, crl_of, number_in, serve_of, open_of, at_of, schedule_of, audit_of};
+ghost use Rattle.reg_words.specs.Jobs.{IsNoOrder, IsOrderIn, IsOrderOf, IsUsageOf, Tells, is_given_behind, job_found, job_in, further_job_in, init_of, terms_of, script_by, script_of, import_of, crl_of, number_in, serve_of, open_of, at_of, schedule_of, audit_of};
 
 use crate::desk::desk;
 use crate::job::{Job, KeyHolder, Order, Usage, Way};
@@ -16,6 +16,15 @@ use clap::error::ErrorKind;
 use clap::{ArgMatches, Command, Error};
 use std::alloc::{AllocError, Global};
 use std::convert::AsStr;
+
+/// What a new register is to keep to.
+#[derive(Clone, Copy)]
+struct Terms {
+    days: u64,
+    crl_life: u64,
+    ocsp_life: u64,
+    cap: u64,
+}
 
 /// The most days of validity of the usual policy.
 const USUAL_DAYS: u64 = 398;
@@ -103,6 +112,7 @@ fn read_job<'a>(alloc: Global, matches: &ArgMatches<'a>) -> Result<Option<Job<'a
     }
 }
 
+/// The job of a command by its name.
 #[tactic(auto, unfolding(crate::specs::Jobs::job_in))]
 fn read_command<'a>(
     alloc: Global,
@@ -119,7 +129,21 @@ fn read_command<'a>(
         Ok(read_import(given))
     } else if name == "crl" {
         Ok(read_crl(given))
-    } else if name == "serve" {
+    } else {
+        read_further(alloc, name, given)
+    }
+}
+
+/// The same of the last five.
+#[tactic(auto, unfolding(crate::specs::Jobs::further_job_in))]
+fn read_further<'a>(
+    alloc: Global,
+    name: &str,
+    given: &ArgMatches<'a>,
+) -> Result<Option<Job<'a>>, AllocError>
+    ensures { IfOk result (λ job. job ≡ further_job_in name.now (rows_of (found_of given.now))) }
+{
+    if name == "serve" {
         Ok(read_serve(given))
     } else if name == "open" {
         Ok(read_open(given))
@@ -138,10 +162,26 @@ fn read_command<'a>(
 fn read_init<'a>(given: &ArgMatches<'a>) -> Option<Job<'a>>
     ensures { result ≡ init_of (rows_of (found_of given.now)) }
 {
+    let file = word_of(given, "file")?;
+    let name = word_of(given, "name")?;
+    let key = word_of(given, "key")?;
+    let terms = read_terms(given)?;
     Some(Job::Init {
-        file: word_of(given, "file")?,
-        name: word_of(given, "name")?,
-        key: word_of(given, "key")?,
+        file,
+        name,
+        key,
+        days: terms.days,
+        crl_life: terms.crl_life,
+        ocsp_life: terms.ocsp_life,
+        cap: terms.cap,
+    })
+}
+
+#[tactic(auto, unfolding(crate::specs::Jobs::terms_of))]
+fn read_terms(given: &ArgMatches<'_>) -> Option<Terms>
+    ensures { result ≡ terms_of (rows_of (found_of given.now)) }
+{
+    Some(Terms {
         days: number_or(given, "days", USUAL_DAYS)?,
         crl_life: number_or(given, "crl-life", USUAL_CRL_LIFE)?,
         ocsp_life: number_or(given, "ocsp-life", USUAL_OCSP_LIFE)?,
