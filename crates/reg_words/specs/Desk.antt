@@ -84,7 +84,14 @@ bare_app = record (new_app (codes "desk")) {
 abbrev pub begun_app : App
 begun_app = with_rules bare_app (flag (codes "why") ∷ [])
 
+-- the same with `init`, `script`, `import` and `crl`
+abbrev pub issuing_app : App
+issuing_app = with_subcommand (with_subcommand (with_subcommand (with_subcommand begun_app init_app.top) script_app.top) import_app.top) crl_app.top
+
+-- the same with `serve`, `open` and `at`
+abbrev pub serving_app : App
+serving_app = with_subcommand (with_subcommand (with_subcommand issuing_app serve_app.top) open_app.top) at_app.top
+
 -- `desk [--why] COMMAND ..`
 abbrev pub desk_app : App
-desk_app = with_subcommand (with_subcommand (with_subcommand (with_subcommand (with_subcommand (with_subcommand (with_subcommand (with_subcommand (with_subcommand
-    begun_app init_app.top) script_app.top) import_app.top) crl_app.top) serve_app.top) open_app.top) at_app.top) schedule_app.top) audit_app.top
+desk_app = with_subcommand (with_subcommand serving_app schedule_app.top) audit_app.top

@@ -126,15 +126,19 @@ audit_of rows = do
   file ← first_of (codes "file") rows
   Some (Audit file)
 
--- the job of a command, by its name and what was found for its words and options: one of the last five, and any
-unfoldable pub further_job_in : Text → List Row → Option Job
-further_job_in name rows =
+-- the job of a command, by its name and what was found for its words and options
+unfoldable pub keeping_job_in : Text → List Row → Option Job
+keeping_job_in name rows =
+    if bytes_eq name (codes "schedule") then schedule_of rows
+    else if bytes_eq name (codes "audit") then audit_of rows
+    else None
+
+unfoldable pub serving_job_in : Text → List Row → Option Job
+serving_job_in name rows =
     if bytes_eq name (codes "serve") then serve_of rows
     else if bytes_eq name (codes "open") then open_of rows
     else if bytes_eq name (codes "at") then at_of rows
-    else if bytes_eq name (codes "schedule") then schedule_of rows
-    else if bytes_eq name (codes "audit") then audit_of rows
-    else None
+    else keeping_job_in name rows
 
 unfoldable pub job_in : Text → List Row → Option Job
 job_in name rows =
@@ -142,7 +146,7 @@ job_in name rows =
     else if bytes_eq name (codes "script") then script_of rows
     else if bytes_eq name (codes "import") then import_of rows
     else if bytes_eq name (codes "crl") then crl_of rows
-    else further_job_in name rows
+    else serving_job_in name rows
 
 -- the job of the command that was named, by its name and rows
 abbrev pub job_found : Option (Text × List Row) → Option Job

@@ -3,10 +3,10 @@
 ghost use Rattle.std.specs.Prelude.{◌≡◌, IfOk, false, map};
 ghost use Rattle.clap.specs.Words.{App, app_of, rule_of, with_subcommand};
 ghost use Rattle.clap.specs.declared.builder.command.Command.TheViews.{out-Command as fields_of};
-ghost use Rattle.reg_words.specs.Desk.{may, takes, flag, bare_app, begun_app, desk_app, with_rules};
+ghost use Rattle.reg_words.specs.Desk.{may, takes, flag, bare_app, begun_app, issuing_app, serving_app, desk_app, with_rules};
 ghost use Rattle.reg_words.specs.Table.{app_told, rule_told, with_entries};
 
-use crate::table::{BEFORE, COMMANDS, Entry, Part};
+use crate::table::{BEFORE, Entry, ISSUING, KEEPING, Part, SERVING};
 use clap::{Arg, ArgAction, Command};
 use std::alloc::{AllocError, Global};
 
@@ -17,19 +17,10 @@ const VERSION: &str = "0.1";
 pub(crate) fn desk<'a>(alloc: Global) -> Result<Command<'a>, AllocError>
     ensures { IfOk result (λ made. app_of made ≡ desk_app) }
 {
-    match begun(alloc) {
-        Ok(desk) => whole(alloc, desk),
-        Err(error) => Err(error),
-    }
-}
-
-/// The command line with all commands. Nothing may fail here beside: the table is a long constant, and each further step costs the prover seconds.
-fn whole<'a>(alloc: Global, begun: Command<'a>) -> Result<Command<'a>, AllocError>
-    requires app { app_of begun ≡ begun_app }
-    requires local { (fields_of begun).has_globals ≡ false }
-    ensures { IfOk result (λ made. app_of made ≡ desk_app) }
-{
-    with_commands(alloc, begun, &COMMANDS)
+    let desk = begun(alloc)?;
+    let desk = with_issuing(alloc, desk)?;
+    let desk = with_serving(alloc, desk)?;
+    with_keeping(alloc, desk)
 }
 
 /// The command line with no command yet.
@@ -38,6 +29,35 @@ fn begun<'a>(alloc: Global) -> Result<Command<'a>, AllocError>
     ensures local { IfOk result (λ made. (fields_of made).has_globals ≡ false) }
 {
     with_parts(alloc, bare(alloc), &BEFORE)
+}
+
+/// The command line with the first commands.
+fn with_issuing<'a>(alloc: Global, desk: Command<'a>) -> Result<Command<'a>, AllocError>
+    requires app { app_of desk ≡ begun_app }
+    requires local { (fields_of desk).has_globals ≡ false }
+    ensures app { IfOk result (λ made. app_of made ≡ issuing_app) }
+    ensures local { IfOk result (λ made. (fields_of made).has_globals ≡ false) }
+{
+    with_commands(alloc, desk, &ISSUING)
+}
+
+/// The command line with those that serve, too.
+fn with_serving<'a>(alloc: Global, desk: Command<'a>) -> Result<Command<'a>, AllocError>
+    requires app { app_of desk ≡ issuing_app }
+    requires local { (fields_of desk).has_globals ≡ false }
+    ensures app { IfOk result (λ made. app_of made ≡ serving_app) }
+    ensures local { IfOk result (λ made. (fields_of made).has_globals ≡ false) }
+{
+    with_commands(alloc, desk, &SERVING)
+}
+
+/// The command line with all.
+fn with_keeping<'a>(alloc: Global, desk: Command<'a>) -> Result<Command<'a>, AllocError>
+    requires app { app_of desk ≡ serving_app }
+    requires local { (fields_of desk).has_globals ≡ false }
+    ensures { IfOk result (λ made. app_of made ≡ desk_app) }
+{
+    with_commands(alloc, desk, &KEEPING)
 }
 
 /// The command line with no option and no command yet.
@@ -62,7 +82,8 @@ fn with_commands<'a>(
     commands: &[Entry],
 ) -> Result<Command<'a>, AllocError>
     requires { (fields_of desk).has_globals ≡ false }
-    ensures { IfOk result (λ made. app_of made ≡ with_entries (app_of desk.entry) commands.now) }
+    ensures app { IfOk result (λ made. app_of made ≡ with_entries (app_of desk.entry) commands.now) }
+    ensures local { IfOk result (λ made. (fields_of made).has_globals ≡ false) }
 {
     let mut desk = desk;
     for entry in commands {

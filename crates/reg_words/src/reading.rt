@@ -3,7 +3,7 @@
 ghost use Rattle.std.specs.Prelude.{◌≡◌, codes, IfErr, IfOk, map};
 ghost use Rattle.clap.specs.Words.{app_of, found_of, rows_of, subcommand_rows_of, kind_of};
 ghost use Rattle.reg_words.specs.Desk.{desk_app};
-ghost use Rattle.reg_words.specs.Jobs.{IsNoOrder, IsOrderIn, IsOrderOf, IsUsageOf, Tells, is_given_behind, job_found, job_in, further_job_in, init_of, terms_of, script_by, script_of, import_of, crl_of, number_in, serve_of, open_of, at_of, schedule_of, audit_of};
+ghost use Rattle.reg_words.specs.Jobs.{IsNoOrder, IsOrderIn, IsOrderOf, IsUsageOf, Tells, is_given_behind, job_found, job_in, serving_job_in, keeping_job_in, init_of, terms_of, script_by, script_of, import_of, crl_of, number_in, serve_of, open_of, at_of, schedule_of, audit_of};
 
 use crate::desk::desk;
 use crate::job::{Job, KeyHolder, Order, Usage, Way};
@@ -130,18 +130,18 @@ fn read_command<'a>(
     } else if name == "crl" {
         Ok(read_crl(given))
     } else {
-        read_further(alloc, name, given)
+        read_serving(alloc, name, given)
     }
 }
 
-/// The same of the last five.
-#[tactic(auto, unfolding(crate::specs::Jobs::further_job_in))]
-fn read_further<'a>(
+/// The same of a command that serves, or one behind those.
+#[tactic(auto, unfolding(crate::specs::Jobs::serving_job_in))]
+fn read_serving<'a>(
     alloc: Global,
     name: &str,
     given: &ArgMatches<'a>,
 ) -> Result<Option<Job<'a>>, AllocError>
-    ensures { IfOk result (λ job. job ≡ further_job_in name.now (rows_of (found_of given.now))) }
+    ensures { IfOk result (λ job. job ≡ serving_job_in name.now (rows_of (found_of given.now))) }
 {
     if name == "serve" {
         Ok(read_serve(given))
@@ -149,7 +149,21 @@ fn read_further<'a>(
         Ok(read_open(given))
     } else if name == "at" {
         Ok(read_at(given))
-    } else if name == "schedule" {
+    } else {
+        read_keeping(alloc, name, given)
+    }
+}
+
+/// The same of a command that looks after a register.
+#[tactic(auto, unfolding(crate::specs::Jobs::keeping_job_in))]
+fn read_keeping<'a>(
+    alloc: Global,
+    name: &str,
+    given: &ArgMatches<'a>,
+) -> Result<Option<Job<'a>>, AllocError>
+    ensures { IfOk result (λ job. job ≡ keeping_job_in name.now (rows_of (found_of given.now))) }
+{
+    if name == "schedule" {
         read_schedule(alloc, given)
     } else if name == "audit" {
         Ok(read_audit(given))

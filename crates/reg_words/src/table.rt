@@ -87,8 +87,10 @@ const CAUSE_ANYWHERE: &str =
 /// What stands before a command.
 pub(crate) const BEFORE: [Part; 1] = [Part::Flag("why", CAUSE_ANYWHERE)];
 
-/// The commands, as help lists them.
-pub(crate) const COMMANDS: [Entry; 9] = [
+// The commands stand in three tables, since a long constant costs the prover seconds; help lists them in this order.
+
+/// The commands that make a register, run lines over it, and write what it issued.
+pub(crate) const ISSUING: [Entry; 4] = [
     Entry {
         name: "init",
         about: "Make a new register in a file.",
@@ -137,6 +139,10 @@ pub(crate) const COMMANDS: [Entry; 9] = [
             Part::Flag("why", CAUSE),
         ],
     },
+];
+
+/// The commands that answer while they run, and the one that asks such a one.
+pub(crate) const SERVING: [Entry; 3] = [
     Entry {
         name: "serve",
         about: "Answer OCSP, CRLs and status over HTTP on 127.0.0.1, by the machine's clock.",
@@ -174,6 +180,10 @@ pub(crate) const COMMANDS: [Entry; 9] = [
             Part::Flag("why", CAUSE),
         ],
     },
+];
+
+/// The commands that look after a register.
+pub(crate) const KEEPING: [Entry; 2] = [
     Entry {
         name: "schedule",
         about: "Set how many days a certificate may be valid, by the moment from which it is valid.",
