@@ -87,7 +87,7 @@ const CAUSE_ANYWHERE: &str =
 /// What stands before a command.
 pub(crate) const BEFORE: [Part; 1] = [Part::Flag("why", CAUSE_ANYWHERE)];
 
-// The commands stand in three tables, since a long constant costs the prover seconds; help lists them in this order.
+// The commands stand in three tables, since a long constant costs the prover seconds in each function that names it. Help lists them in this order.
 
 /// The commands that make a register, run lines over it, and write what it issued.
 pub(crate) const ISSUING: [Entry; 4] = [
@@ -141,7 +141,7 @@ pub(crate) const ISSUING: [Entry; 4] = [
     },
 ];
 
-/// The commands that answer while they run, and the one that asks such a one.
+/// The commands that serve, and the one that tells lines to an open desk.
 pub(crate) const SERVING: [Entry; 3] = [
     Entry {
         name: "serve",
