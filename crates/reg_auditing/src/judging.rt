@@ -12,13 +12,13 @@ ghost use Rattle.reg_auditing.specs.Stops.{IsBroken};
 ghost use Rattle.reg_auditing.specs.Values.{HasValues};
 
 use crate::stop::AuditStop;
-use reg_findings::Audited;
 use crate::tables::{
     certificates, counts, crls, letters, listings, office, orders, requests, revocations,
     subscribers,
 };
 use crate::texts::What;
 use reg_audit::{Beside, Rows, check};
+use reg_findings::Audited;
 use sqlite::Row;
 use std::alloc::Global;
 

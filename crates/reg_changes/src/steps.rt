@@ -12,7 +12,9 @@ ghost use Rattle.reg_writing.specs.Ran.{Before, Moved};
 ghost use Rattle.reg_changes.specs.Steps.{swept, ended_by, revoked_at, good_at, with_good, with_unlisted, marked};
 
 use crate::texts;
-use reg_core::{CertRow, CrlRow, Moment, OrderRow, RequestRow, RevocationRow, Serial, SubscriberRow};
+use reg_core::{
+    CertRow, CrlRow, Moment, OrderRow, RequestRow, RevocationRow, Serial, SubscriberRow,
+};
 use reg_tables::CallFault;
 use reg_writing::writing::{sql_flag, sql_ground, sql_moment, sql_number, sql_reason, write};
 use sqlite::types::ValueRef;

@@ -9,8 +9,8 @@ ghost use Rattle.reg_jobs.specs.Told.{Explains, Tells};
 use crate::memory::script_in_memory;
 use reg_endings::{Failure, status_of};
 use reg_jobs::{
-    Causes, Front, NewOffice, Place, at, audit, crl, explain, hold_open, import_rows, init, schedule,
-    script, script_by_lines, serve, tell,
+    Causes, Front, NewOffice, Place, at, audit, crl, explain, hold_open, import_rows, init,
+    schedule, script, script_by_lines, serve, tell,
 };
 use reg_words::Job;
 use std::io::{Read, Write};
