@@ -50,6 +50,15 @@ def an_open_desk_in_pieces(t, size):
     t.same(ran.lines, ["good", "request 1 due 2026-01-03T00:00:00Z", "revoked", f"revoked {LATER} reason 0"], "the counter in pieces")
 
 
+@each({"one byte": 1, "two bytes": 2}, seconds=2)
+def a_line_at_the_counter_is_answered_however_many_reads_it_takes(t, size):
+    t.register()
+    t.open(faults=faults.environment(only=WIRES, short=size))
+    with t.counter() as counter:
+        for length in range(40):
+            t.same(counter.ask("x" * length), "E22 syntax", f"a line of {length} bytes")
+
+
 @each({"one byte": 1, "4,095 bytes": 4_095}, seconds=2)
 def a_register_s_file_in_pieces_is_a_failure_that_loses_nothing(t, size):
     base = t.register("base.db", "".join(f"{asked}\n" for asked, _ in REGISTERED))

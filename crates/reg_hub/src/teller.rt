@@ -61,18 +61,30 @@ impl<S: Link> Teller<S> {
     /// Takes in what came, until a line is whole.
     fn take(&mut self, room: &mut [u8]) -> Next {
         for _ in 0..MOST_READS {
-            if line_end(self.came.as_slice()).is_some() {
-                return Next::Due;
-            }
-            // A line that is not whole is none.
-            if self.has_ended || self.came.len() >= LONGEST_LINE {
-                return Next::Gone;
+            if let Some(next) = self.after_reading() {
+                return next;
             }
             if !self.take_once(room) {
-                break;
+                return Next::Waits(Interest::READABLE);
             }
         }
-        Next::Waits(Interest::READABLE)
+        // The last read may have brought the end of a line, behind which nothing comes before it is answered.
+        match self.after_reading() {
+            Some(next) => next,
+            None => Next::Waits(Interest::READABLE),
+        }
+    }
+
+    /// What is to be done where nothing more is to be read; `None` where a line is not whole yet.
+    fn after_reading(&self) -> Option<Next> {
+        if line_end(self.came.as_slice()).is_some() {
+            return Some(Next::Due);
+        }
+        // A line that is not whole is none.
+        if self.has_ended || self.came.len() >= LONGEST_LINE {
+            return Some(Next::Gone);
+        }
+        None
     }
 
     /// Takes in what one read gives; whether more may have come.
