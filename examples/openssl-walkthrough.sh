@@ -28,7 +28,7 @@ openssl x509 -in acme.pem -noout -serial -dates
 
 step "What holds its key signs behind a socket: any tool that signs standard input"
 if command -v socat >/dev/null; then
-    socat UNIX-LISTEN:ca.sign,fork,mode=600 EXEC:'openssl dgst -sha256 -sign ca.key' &
+    socat -t 10 UNIX-LISTEN:ca.sign,fork,mode=600 EXEC:'openssl dgst -sha256 -sign ca.key' &
 else
     "$signer" ca.key ca.sign &
 fi

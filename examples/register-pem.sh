@@ -4,7 +4,7 @@
 # --strict`, which ends where a line is refused. A certificate that has ended, or whose serial number stands registered, gets no order.
 #
 # Usage: register-pem.sh -c SOCKET [-s NAME] [-a CA.pem] CERTIFICATE ..
-#        register-pem.sh -o ORDER -n SUBSCRIBER [-a CA.pem] CERTIFICATE .. | desk script ca.db --clock --strict
+#        register-pem.sh -o ORDER -n SUBSCRIBER [-a CA.pem] CERTIFICATE .. | desk script ca.db --clock --strict --signer SOCKET --algorithm NAME
 #   -s  the subscriber's name, who is entered where nobody has it; left out, it is the common name of each certificate, in the letters that a name may have
 #   -o  the number that the register's next order gets;  -n  the subscriber's number
 #   -a  certificates that this CA did not sign are refused here (a serial number that was registered can't be taken back)

@@ -4,22 +4,25 @@
 For each signature the desk connects to the socket, writes the bytes to be signed and says that no more comes; the signature goes
 back, and the connection ends. One line of socat does the same, and starts openssl anew for each signature:
 
-    socat UNIX-LISTEN:ca.sign,fork,mode=600 EXEC:'openssl dgst -sha256 -sign ca.key'
+    socat -t 10 UNIX-LISTEN:ca.sign,fork,mode=600 EXEC:'openssl dgst -sha256 -sign ca.key'
 
-This program keeps the key in memory, and is for load tests and for showing how a key signs: a key that matters belongs into hardware.
+This program keeps the key in memory: a key that matters belongs into hardware (examples/pkcs11-signer.sh).
 Whoever can connect to the socket can have anything signed: it is made with mode 600, and belongs into a folder that the desk's user
-alone can enter.
+alone can enter. With --only-ours it signs CRLs and answers of OCSP of the CA whose certificate is given, and nothing else: what is refused
+is told on standard error, and its connection ends with no signature (examples/only_ours.py has what is looked at).
 
 With P-256 it draws nonces before their messages come, by the system's libcrypto (OpenSSL), since nearly all of a signature's work
 depends on the nonce alone. Some are in memory at any time, and so is the key: never copy a machine, nor set it back, with its memory
 while this runs, for then one nonce may sign two messages, which gives the key away.
 
-Usage: examples/signer.py KEY.pem SOCKET
-       examples/signer.py KEY.pem              prints the NAME of the key's algorithm, and ends
+Usage: examples/signer.py [--only-ours CA.pem] KEY.pem SOCKET
+       examples/signer.py [--only-ours CA.pem] KEY.pem --inherited     at the socket that systemd made for it (sd_listen_fds(3))
+       examples/signer.py KEY.pem                                      prints the NAME of the key's algorithm, and ends
 
 The key is one of P-256, P-384, RSA of 2,048 bits or more, or Ed25519, in PEM and without a passphrase.
 It wants the package `cryptography` (Debian: python3-cryptography).
 """
+import argparse
 import ctypes
 import ctypes.util
 import hashlib
@@ -31,12 +34,18 @@ import sys
 
 from cryptography.hazmat.primitives import hashes
 from cryptography.hazmat.primitives.asymmetric import ec, ed25519, padding, rsa, utils
-from cryptography.hazmat.primitives.serialization import Encoding, NoEncryption, PrivateFormat, load_pem_private_key
+from cryptography.hazmat.primitives.serialization import (
+    Encoding, NoEncryption, PrivateFormat, PublicFormat, load_der_public_key, load_pem_private_key,
+)
+
+# Nothing is written beside the module that is read.
+sys.dont_write_bytecode = True
+from only_ours import LONGEST, Refused, check, issuer_of  # noqa: E402
 
 # How many seconds a read may wait, as long as the desk waits.
 PATIENCE = 10
-# The longest message: the desk signs CRLs of 2^27 bytes at most.
-LONGEST = 1 << 27
+# The first descriptor that systemd hands over (sd_listen_fds(3)).
+HANDED_OVER = 3
 # How many nonces are drawn at most.
 POOL = 8
 # How often a peer is looked for before it is waited for, a hundred microseconds or two: who wants many signatures is back by then, and to be
@@ -120,6 +129,24 @@ def signer_of(key):
     sys.exit(f"no algorithm for a key of the kind {type(key).__name__}")
 
 
+def guarded(sign, path, key):
+    """What signs for the CA of this certificate alone, whose key has to be this one."""
+    try:
+        issuer = issuer_of(path)
+        theirs = load_der_public_key(issuer.public)
+    except (OSError, ValueError, Refused) as why:
+        sys.exit(f"{path}: no certificate of a CA: {why}")
+    spelled = [it.public_bytes(Encoding.DER, PublicFormat.SubjectPublicKeyInfo) for it in (theirs, key.public_key())]
+    if spelled[0] != spelled[1]:
+        sys.exit(f"{path} is the certificate of another key")
+
+    def sign_ours(message):
+        check(message, issuer)
+        return sign(message)
+
+    return sign_ours
+
+
 def soon(call, at, patience, meanwhile):
     """What a call gives that never waits. While it has nothing, what is to be done meanwhile is done; then it is called some times more,
     and then waited for."""
@@ -155,8 +182,10 @@ def answer(connection, sign):
         if message is not None:
             # A new socket has room for more than this.
             os.write(connection, sign(message))
+    except Refused as why:
+        print(f"refused to sign {len(message)} bytes: {why}", file=sys.stderr, flush=True)
     except OSError as error:
-        print(f"a connection failed: {error}", file=sys.stderr)
+        print(f"a connection failed: {error}", file=sys.stderr, flush=True)
     finally:
         os.close(connection)
 
@@ -177,24 +206,54 @@ def listen(path):
     return listener
 
 
-def main():
-    if len(sys.argv) not in (2, 3):
-        sys.exit(__doc__)
-    with open(sys.argv[1], "rb") as file:
-        name, sign, draw = signer_of(load_pem_private_key(file.read(), None))
-    if len(sys.argv) == 2:
-        print(name)
-        return
-    listener = listen(sys.argv[2])
+def handed_over():
+    """The socket that systemd made, and listens at until somebody comes."""
+    if (os.environ.get("LISTEN_PID"), os.environ.get("LISTEN_FDS")) != (str(os.getpid()), "1"):
+        sys.exit("no socket was handed over: --inherited is for a unit of systemd with a socket")
+    listener = socket.socket(fileno=HANDED_OVER)
+    listener.setblocking(False)
+    return listener
+
+
+def serve(listener, sign, draw):
     for ending in (signal.SIGTERM, signal.SIGINT):
         signal.signal(ending, lambda *_: sys.exit(0))
-    print(f"{name} at {sys.argv[2]}", flush=True)
+    while True:
+        connection, _ = soon(listener._accept, listener, None, draw)
+        answer(connection, sign)
+
+
+def read_words():
+    parser = argparse.ArgumentParser(usage=__doc__.partition("Usage: ")[2].partition("\n\n")[0])
+    parser.add_argument("--only-ours", metavar="CA.pem")
+    parser.add_argument("--inherited", action="store_true")
+    parser.add_argument("key", metavar="KEY.pem")
+    parser.add_argument("socket", metavar="SOCKET", nargs="?")
+    words = parser.parse_args()
+    if words.socket and words.inherited:
+        parser.error("SOCKET and --inherited are one too many")
+    return words
+
+
+def main():
+    words = read_words()
+    with open(words.key, "rb") as file:
+        key = load_pem_private_key(file.read(), None)
+    name, sign, draw = signer_of(key)
+    if words.only_ours:
+        sign = guarded(sign, words.only_ours, key)
+    if words.inherited:
+        print(f"{name} at a socket that was handed over", flush=True)
+        serve(handed_over(), sign, draw)
+    if not words.socket:
+        print(name)
+        return
+    listener = listen(words.socket)
+    print(f"{name} at {words.socket}", flush=True)
     try:
-        while True:
-            connection, _ = soon(listener._accept, listener, None, draw)
-            answer(connection, sign)
+        serve(listener, sign, draw)
     finally:
-        os.remove(sys.argv[2])
+        os.remove(words.socket)
 
 
 main()

@@ -1,6 +1,6 @@
 #!/usr/bin/env bash
 # Makes a Debian package of the program, in the folder that is given (out/package): the program with its launcher, the manual pages desk(1) and
-# desk-script(5), units of systemd that serve a register, issue and publish its CRLs, completion for bash, the board, documents and examples.
+# desk-script(5), units of systemd that serve a register, sign for it, issue and publish its CRLs, completion for bash, the board, documents and examples.
 # The program is built first, where it is not built yet (./desk does that). Prints the package's path.
 #
 # Usage, from the repository's root: tools/package.sh [FOLDER]
@@ -61,6 +61,14 @@ for name in register-pem.sh backup.sh; do
     put 0755 "examples/$name" "usr/lib/durshavon/$name"
 done
 
+# What signs, behind a socket of its own, as a user of its own.
+for name in desk-signer@.socket desk-signer@.service; do
+    put 0644 "packaging/$name" "lib/systemd/system/$name"
+done
+for name in signer.py only_ours.py pkcs11-signer.sh issuer-words.sh; do
+    put 0755 "examples/$name" "usr/lib/durshavon/$name"
+done
+
 manual=$(mktemp -d)
 tools/man.py "$root/usr/lib/durshavon/desk" "$manual"
 mkdir -p "$root/usr/share/man/man1" "$root/usr/share/man/man5"
@@ -72,6 +80,7 @@ documents=usr/share/doc/durshavon
 for name in README.md CHANGELOG.md SECURITY.md docs/OPERATIONS.md docs/RULES.md docs/MODEL.md docs/PERFORMANCE.md docs/PROOFS.md; do
     put 0644 "$name" "$documents/$(basename "$name")"
 done
+put 0644 packaging/README.Debian "$documents/README.Debian"
 tools/copyright.py "$kit" >"$root/$documents/copyright"
 printf 'durshavon (%s) unstable; urgency=low\n\n  * Commit %s.\n\n -- %s  %s\n' "$version" "$commit" "$maintainer" \
     "$(date -u -R -d "@$SOURCE_DATE_EPOCH")" | zipped "$documents/changelog.gz"
@@ -99,7 +108,7 @@ Priority: optional
 Maintainer: $maintainer
 Installed-Size: $(du -sk --exclude=DEBIAN "$root" | cut -f1)
 Depends: libc6 (>= $glibc), passwd
-Suggests: nginx-light | nginx, openssl, curl, python3
+Suggests: nginx-light | nginx, opensc, openssl, curl, python3, python3-cryptography, socat
 Description: certificate register with CRLs and OCSP
  The register and status desk of one certification authority: it records the
  certificates that were issued, takes requests for their revocation with the

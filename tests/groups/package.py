@@ -1,27 +1,30 @@
 """The Debian package of tools/package.sh as one who installs it: built twice, looked through by lintian, installed into a fresh root of
-Debian, run and served there by the words of its units, started by systemd where systemd-nspawn can, and removed, which leaves the
-registers. For root; it fetches a Debian of some 100 MB by debootstrap, which PACKAGE_ROOT=FOLDER keeps for the next time."""
+Debian, its first steps typed there (README.Debian) with what its units say in place of systemd, and again with systemd where
+systemd-nspawn can start it, and removed, which leaves the registers and the keys. For root; it fetches a Debian of some 100 MB by
+debootstrap, which PACKAGE_ROOT=FOLDER keeps for the next time."""
 
 import contextlib
 import gzip
 import os
 import re
+import shlex
 import shutil
+import socket
 import stat
 import subprocess
 import time
-import urllib.request
 from pathlib import Path
 
 from lib import authority, program
 from lib.authority import EXAMPLES, Authority, moment_of
 from lib.program import TOP
-from lib.trial import Skipped, need, test
+from lib.trial import Failed, Skipped, need, test
 
-REGISTER = "/var/lib/durshavon/ca.db"
-PUBLISHED = "/var/lib/durshavon-crl/ca"
-SIGNING = ("--signer", "/srv/ca.sign", "--algorithm", "ecdsa-sha256")
+REGISTER, KEY = "/var/lib/durshavon/ca.db", "/var/lib/durshavon-signer/ca.key"
+SOCKET, PUBLISHED = "/run/durshavon-signer/ca.sign", "/var/lib/durshavon-crl/ca"
 DEBIAN = "bookworm"
+# What the root has besides: systemd, and what the first steps have apt install, with what debootstrap does not find that this stands on.
+MORE = "dbus,systemd,systemd-sysv,python3-cffi-backend,python3-cryptography,openssl,curl"
 
 
 def as_user(user):
@@ -35,11 +38,11 @@ class Root:
         self.t, kept = t, os.environ.get("PACKAGE_ROOT")
         self.path = Path(kept or t.room / "root")
         if not (self.path / "usr/bin/dpkg").exists():
-            ran = t.tried("debootstrap", "--variant=minbase", "--include=dbus,systemd,systemd-sysv,curl,openssl", DEBIAN, self.path, timeout=900)
+            ran = t.tried("debootstrap", "--variant=minbase", f"--include={MORE}", DEBIAN, self.path, timeout=900)
             if ran.returncode:
                 raise Skipped(f"debootstrap could not fetch a Debian: {ran.stdout.decode('latin-1').splitlines()[-1:]}")
-        if not (self.path / "usr/bin/curl").exists():
-            raise Skipped(f"the Debian that is kept has no curl and openssl: remove {self.path}")
+        if self.tried("python3", "-c", "import cryptography").returncode:
+            raise Skipped(f"{self.path} has not all of {MORE}: remove it, and another is fetched")
 
     def words(self, words, user=None):
         """What runs a program in the root, with a /proc of its own; `desk` is the one that was installed there."""
@@ -64,7 +67,7 @@ class Root:
 def built(t):
     """The package's path. It is made beside the program that is tested, in a folder that has what tools/package.sh wants of this repository."""
     folder = authority.stood_in(t)
-    for it in (".git", "LICENSE", "crates.txt"):
+    for it in (".git", "LICENSE", "crates.txt", "CHANGELOG.md", "SECURITY.md"):
         (folder / it).symlink_to(TOP / it)
     # git follows no link to this one.
     (folder / ".gitignore").write_bytes((TOP / ".gitignore").read_bytes())
@@ -94,10 +97,10 @@ def the_package(t):
     root = Root(t)
     it = Authority(t)
     installed(t, root, deb)
-    first_days(t, root, it)
-    served(t, root, it)
+    cleared(root)
+    first_steps(t, root, it)
     documented(t, root)
-    booted(t, root)
+    booted(t, root, it)
     removed(t, root)
 
 
@@ -117,67 +120,135 @@ def installed(t, root, deb):
     t.same(root.run("stat", "-c", "%a %U %G", "/var/lib/durshavon").strip(), "700 durshavon durshavon", "the folder of registers")
 
 
-def first_days(t, root, it):
-    root.owner("rm", "-f", REGISTER, REGISTER + "-wal")
-    t.same(root.owner("desk", "init", REGISTER, *it.words()), "created\n", "a register of the user durshavon")
-    now = authority.now()
-    registers = f"register 1 05 {moment_of(now)} {moment_of(now + 90 * authority.DAY)}"
-    lines = ["subscriber acme", "order 1 398", registers, "request 05 superseded", "revoke 1"]
-    told = root.owner("desk", "script", REGISTER, given="".join(f"{moment_of(now)} {line}\n" for line in lines)).splitlines()
-    t.same([line.partition(" due ")[0] for line in told], ["subscriber 1", "order 1", "registered", "request 1", "revoked"])
+def cleared(root):
+    """A root in which nothing was done before: it may be one that was kept."""
+    for it in (REGISTER, REGISTER + "-wal", KEY, SOCKET, "/etc/durshavon/ca.conf", "/etc/durshavon/ca.pem", "/run/durshavon/ca/counter"):
+        (root.path / it[1:]).unlink(missing_ok=True)
+    for it in (PUBLISHED, "/srv/copies"):
+        shutil.rmtree(root.path / it[1:], ignore_errors=True)
 
 
-def unit_words(root, name, port):
-    text = (root.path / "lib/systemd/system" / name).read_text()
-    line = re.search(r"^ExecStart=(.*)$", text, re.MULTILINE)[1]
-    return line.replace("%i", "ca").replace("${PORT}", str(port)).replace(" $OPTIONS", "").split()
+def steps(t, port):
+    """The lines of the first steps, which docs/OPERATIONS.md has too; but for the port, and for apt: the package and what it wants are there."""
+    lines = [line for line in (TOP / "packaging/README.Debian").read_text().splitlines(keepends=True) if line.startswith("    ")]
+    t.has((TOP / "docs/OPERATIONS.md").read_text(), "".join(lines), "docs/OPERATIONS.md has the lines of README.Debian")
+    first, *lines = [line.strip().replace("8080", str(port)) for line in lines]
+    t.same(first, "apt install ./durshavon_VERSION_amd64.deb python3-cryptography openssl curl")
+    return lines
 
 
-def signer(t, root, it):
-    """What signs with the CA's key, at a socket in the root that its users reach."""
-    path = root.path / SIGNING[1].lstrip("/")
-    path.unlink(missing_ok=True)
-    t.enter_context(program.Signer(path, it.sign))
-    os.chmod(path, 0o666)
+class Units:
+    """What `systemctl` has the units do, as far as their own words say it, where no systemd runs."""
+
+    def __init__(self, t, root, running):
+        self.t, self.root, self.running = t, root, running
+
+    def told(self, unit, setting):
+        """A setting of a unit for the register `ca`."""
+        text = (self.root.path / "lib/systemd/system" / unit.replace("@ca.", "@.")).read_text()
+        return re.search(rf"^{setting}=(.*)$", text, re.MULTILINE)[1].replace("%i", "ca")
+
+    def words(self, unit):
+        """The words of a service, with the variables of its register's file."""
+        said = dict(line.split("=", 1) for line in (self.root.path / "etc/durshavon/ca.conf").read_text().splitlines())
+        words = self.told(unit, "ExecStart").replace("${PORT}", said["PORT"]).replace("$OPTIONS", said["OPTIONS"].strip('"'))
+        return shlex.split(words)
+
+    def start(self, unit):
+        if unit.endswith(".timer"):
+            return
+        if unit.endswith(".socket"):
+            self.listen(unit)
+        elif self.told(unit, "Type") == "oneshot":
+            self.once(unit)
+        else:
+            for part in ("", "/ca"):
+                self.root.run("install", "-d", "-m", "0700", "-o", "durshavon", "-g", "durshavon", f"/run/durshavon{part}")
+            self.keep(self.words(unit), self.told(unit, "User"))
+
+    def once(self, unit):
+        """What it prints, with that of the unit that it has started behind it."""
+        if "publish" in unit:
+            self.root.run("install", "-d", "-m", "0755", "-o", "durshavon", "-g", "durshavon", PUBLISHED)
+        told = self.root.run(*self.words(unit), user=self.told(unit, "User"))
+        return told + (self.once(self.told(unit, "Wants")) if "-crl@" in unit else "")
+
+    def keep(self, words, user, **how):
+        words = ["chroot", self.root.path, *as_user(user), *words]
+        self.t.note(" ".join(map(str, words)))
+        nothing = subprocess.DEVNULL
+        process = subprocess.Popen([*map(str, words)], stdin=nothing, stdout=nothing, stderr=nothing, **how)
+        self.running.callback(authority.end, process)
+
+    def listen(self, unit):
+        """The socket of a unit, handed over to its service as systemd does."""
+        path, user = self.told(unit, "ListenStream"), self.told(unit, "SocketUser")
+        self.root.run("install", "-d", "-m", self.told(unit, "DirectoryMode"), os.path.dirname(path))
+        listener = self.running.enter_context(socket.socket(socket.AF_UNIX))
+        listener.bind(str(self.root.path) + path)
+        listener.listen(64)
+        self.root.run("chown", user, path)
+        self.root.run("chmod", self.told(unit, "SocketMode"), path)
+        service, at = unit.replace(".socket", ".service"), listener.fileno()
+        handed = ["bash", "-c", 'exec 3<&"$0"; export LISTEN_PID=$$ LISTEN_FDS=1; exec "$@"', at]
+        self.keep([*handed, *self.words(service)], self.told(service, "User"), pass_fds=[at])
+
+    def typed(self, line):
+        words = shlex.split(line)
+        for unit in (it for it in words if "@" in it):
+            self.start(unit)
 
 
-def publishes(root, it):
-    """What its unit has: the CA's certificate, and the folder, which systemd makes."""
-    shutil.copy(it.pem, root.path / "etc/durshavon/ca.pem")
-    root.run("install", "-d", "-m", "0755", "-o", "durshavon", "-g", "durshavon", PUBLISHED)
-
-
-def served(t, root, it):
-    """By the words of its unit; a CRL that is due by those of the timer's, and published by those of the unit behind it."""
+def first_steps(t, root, it):
+    """Typed line by line; then a day's work at the counter, and what openssl says."""
     port = program.free_port()
-    signer(t, root, it)
-    publishes(root, it)
-    root.run("install", "-d", "-m", "0700", "-o", "durshavon", "-g", "durshavon", "/run/durshavon", "/run/durshavon/ca")
-    words = ["chroot", root.path, *as_user("durshavon"), *unit_words(root, "desk@.service", port), *SIGNING]
-    t.note(" ".join(map(str, words)))
-    desk = subprocess.Popen([*map(str, words)], stdin=subprocess.DEVNULL, stdout=subprocess.PIPE, stderr=subprocess.STDOUT)
+    for made in (it.pem, it.key):
+        shutil.copy(made, root.path / "root")
+    told = ""
     with contextlib.ExitStack() as running:
-        running.callback(desk.stdout.close)
-        running.callback(authority.end, desk)
-        t.same(desk.stdout.readline(), b"listening %d\n" % port, "its first line")
-        t.same(it.asked_by_openssl("05", f"http://127.0.0.1:{port}/ocsp"), "revoked")
-        root.owner(*unit_words(root, "desk-crl@.service", port))
-        with urllib.request.urlopen(f"http://127.0.0.1:{port}/crl") as answer:
-            crl = answer.read()
-        t.same(list(authority.listed(t, crl)), [5], "a CRL that was due was issued at the counter")
-        told = root.owner(*unit_words(root, "desk-publish@.service", port))
-        t.same((told, published(root)), (f"crl 1 published in {PUBLISHED}\n", crl), "and published")
+        units = Units(t, root, running)
+        for line in steps(t, port):
+            if line.startswith("systemctl "):
+                units.typed(line)
+            else:
+                ran = root.tried("timeout", "60", "bash", "-c", f"cd /root; {line}")
+                told += (ran.stdout + ran.stderr).decode()
+                t.same(ran.returncode, 0, f"status of {line}, which printed {told}")
+        t.same(told, "created\nverify OK\n", "what was printed")
+        crl = works(t, root, it, port)
+        told = units.once("desk-publish@ca.service")
+        t.same((told, published(root)), (f"crl 2 published in {PUBLISHED}\n", crl), "the CRL is published")
     later = moment_of(authority.now() + 1)
-    told = root.owner("desk", "script", REGISTER, *SIGNING, given=f"{later} status 05\n")
+    told = root.owner("desk", "script", REGISTER, *it.signing(SOCKET), given=f"{later} status 05\n")
     t.same(told.split()[0], "revoked", "ended by SIGTERM, all that was answered stands")
-    root.run("rm", "-rf", "/srv/copies")
     root.run("install", "-d", "-m", "0700", "-o", "durshavon", "/srv/copies")
-    t.has(root.owner("/usr/lib/durshavon/backup.sh", REGISTER, "/srv/copies"), ": sound, 1 certificates, 1 revoked, 1 CRLs\n", "a copy of it")
+    t.has(root.owner("/usr/lib/durshavon/backup.sh", REGISTER, "/srv/copies"), ": sound, 1 certificates, 1 revoked, 2 CRLs\n", "a copy of it")
 
 
 def published(root):
     path = root.path / PUBLISHED.lstrip("/") / "ca.crl"
     return path.read_bytes() if path.exists() else None
+
+
+def works(t, root, it, port):
+    """A revocation at the counter is in the next answer, which openssl verifies, and so is the CRL. Who may reach the key, and who its signer. The CRL."""
+    now = authority.now()
+    registers = f"register 1 05 {moment_of(now)} {moment_of(now + 90 * authority.DAY)}"
+    given = "".join(f"{line}\n" for line in ("subscriber acme", "order 1 398", registers, "request 05 superseded", "revoke 1", "crl"))
+    told = root.owner("desk", "at", "/run/durshavon/ca/counter", given=given).splitlines()
+    t.same([line.partition(" due ")[0] for line in told], ["subscriber 1", "order 1", "registered", "request 1", "revoked", "crl 2 entries 1"])
+    t.same(it.asked_by_openssl("05", f"http://127.0.0.1:{port}/ocsp", verify=True), "revoked")
+    crl = t.tool("curl", "-s", f"http://127.0.0.1:{port}/crl")
+    it.verifies(crl)
+    t.same(list(authority.listed(t, crl)), [5])
+    t.same(root.run("stat", "-c", "%a %U", KEY, os.path.dirname(KEY), SOCKET).split("\n")[:3], ["400 durshavon-signer", "700 durshavon-signer", "600 durshavon"])
+    asks = 'import socket, sys; s = socket.socket(socket.AF_UNIX); s.connect(sys.argv[1]); s.sendall(b"x"); s.shutdown(1); print(s.recv(9))'
+    t.same(root.owner("python3", "-c", asks, SOCKET), "b''\n", "the desk's user has nothing else signed")
+    for user in ("nobody", "durshavon-signer"):
+        t.same(root.tried("python3", "-c", asks, SOCKET, user=user).returncode, 1, f"{user} can't connect")
+    for user in ("nobody", "durshavon"):
+        t.same(root.tried("cat", KEY, user=user).stdout, b"", f"{user} can't read the key")
+    return crl
 
 
 def documented(t, root):
@@ -211,47 +282,33 @@ def documented(t, root):
         t.same(wrong, [], f"what systemd finds wrong with {unit.name}")
 
 
-def asked_of(port):
-    with contextlib.suppress(OSError), urllib.request.urlopen(f"http://127.0.0.1:{port}/counts", timeout=5) as answer:
-        return answer.read()
-    return None
-
-
-def booted(t, root):
-    """The service, where systemd-nspawn can start the root; some machines let it not."""
+def booted(t, root, it):
+    """The first steps again, as they stand, in a machine of their own, where systemd-nspawn can start one; some machines let it not."""
     if not shutil.which("systemd-nspawn"):
         return
+    cleared(root)
     port = program.free_port()
-    conf = root.path / "etc/durshavon/ca.conf"
-    conf.write_text(f"PORT={port}\nOPTIONS={' '.join(SIGNING)}\n")
-    root.run("rm", "-rf", PUBLISHED)
-    root.tried("systemctl", "enable", "desk@ca.service")
+    ending, told = root.path / "root/ended", root.path / "root/told"
+    for path in (ending, told):
+        path.unlink(missing_ok=True)
+    (root.path / "root/steps").write_text("\n".join(["cd /root", *steps(t, port), "touch ended", ""]))
+    unit = "[Service]\nType=oneshot\nExecStart=bash -c 'timeout 60 bash /root/steps >/root/told 2>&1'\n[Install]\nWantedBy=multi-user.target\n"
+    (root.path / "etc/systemd/system/steps.service").write_text(unit)
+    root.run("systemctl", "enable", "steps.service")
     words = ["systemd-nspawn", "--quiet", "--register=no", "--keep-unit", "--settings=no", "--timezone=off", "--resolv-conf=off"]
     words += ["-D", str(root.path), "--boot"]
     t.note(" ".join(words))
     with open(t.room / "boot.log", "wb") as log:
         machine = subprocess.Popen(words, stdin=subprocess.DEVNULL, stdout=log, stderr=subprocess.STDOUT)
     try:
-        last = time.monotonic() + 60
-        while machine.poll() is None and time.monotonic() < last and asked_of(port) is None:
-            time.sleep(0.3)
-        answered = asked_of(port)
-        if answered is not None:
-            t.same(answered, b'{"expired":0,"good":0,"revoked":1}', "desk@ca.service, asked over HTTP")
-            inside = Path(f"/proc/{machine.pid}/task/{machine.pid}/children").read_text().split()[0]
-            at = ("nsenter", "-t", inside, "-a")
-            t.tool(*at, "systemctl", "start", "desk-crl@ca.service")
-            authority.until(lambda: published(root), "the CRL that desk-crl@ca.service has published")
-            # Once more by itself, which fails where the unit does.
-            t.tool(*at, "systemctl", "start", "desk-publish@ca.service")
-            # A copy: it is refused while the service runs.
-            copy = (*at, "/usr/lib/durshavon/backup.sh", REGISTER, "/srv")
-            t.same(t.tried(*copy).returncode, 1, "status of backup.sh while the register is open")
-            t.tool(*at, "systemctl", "stop", "desk@ca.service")
-            t.has(t.tool(*copy).decode(), ": sound, 1 certificates, 1 revoked, 1 CRLs\n", "a copy of what was stopped")
-            t.tool(*at, "systemctl", "start", "desk@ca.service")
-            authority.until(lambda: asked_of(port), "desk@ca.service to answer again")
-        t.note(f"systemd-nspawn started it: {answered is not None}")
+        with contextlib.suppress(Failed):
+            authority.until(lambda: machine.poll() is not None or ending.exists(), "the first steps", 90 * program.PATIENCE)
+        t.note(f"systemd-nspawn started it: {told.exists()}")
+        if told.exists():
+            printed = [line for line in told.read_text().splitlines() if not line.startswith("Created symlink ")]
+            t.same(printed, ["created", "verify OK"], "what the first steps printed")
+            t.same(it.asked_by_openssl("05", f"http://127.0.0.1:{port}/ocsp", verify=True), "unknown", "desk@ca.service, asked over HTTP")
+            behind(t, root, machine, port)
     finally:
         # It has the root shut down in order.
         machine.terminate()
@@ -260,10 +317,25 @@ def booted(t, root):
         if machine.poll() is None:
             machine.kill()
             machine.wait()
-    t.same(asked_of(port), None, "shut down, nothing answers any more")
-    root.tried("systemctl", "disable", "desk@ca.service")
-    conf.unlink()
-    (root.path / "etc/durshavon/ca.pem").unlink()
+    with socket.socket() as peer:
+        t.true(peer.connect_ex(("127.0.0.1", port)) != 0, "shut down, nothing answers any more")
+    root.tried("systemctl", "disable", "steps.service", "desk@ca.service", "desk-signer@ca.socket", "desk-crl@ca.timer")
+
+
+def behind(t, root, machine, port):
+    """What the units do besides, in the machine that runs: CRLs are published, and copies taken of a register that is closed alone."""
+    authority.until(lambda: published(root), "the CRL that desk-crl@ca.service has published")
+    inside = Path(f"/proc/{machine.pid}/task/{machine.pid}/children").read_text().split()[0]
+    at = ("env", "-u", "DESK", "nsenter", "-t", inside, "-a")
+    # Once more by itself, which fails where the unit does.
+    t.tool(*at, "systemctl", "start", "desk-publish@ca.service")
+    copy = (*at, "/usr/lib/durshavon/backup.sh", REGISTER, "/srv/copies")
+    root.run("install", "-d", "-m", "0700", "/srv/copies")
+    t.same(t.tried(*copy).returncode, 1, "status of backup.sh while the register is open")
+    t.tool(*at, "systemctl", "stop", "desk@ca.service")
+    t.has(t.tool(*copy).decode(), ": sound, 0 certificates, 0 revoked, 1 CRLs\n", "a copy of what was stopped")
+    t.tool(*at, "systemctl", "start", "desk@ca.service")
+    authority.until(lambda: t.tried("curl", "-s", f"http://127.0.0.1:{port}/counts").returncode == 0, "desk@ca.service to answer again")
 
 
 def removed(t, root):
@@ -273,6 +345,8 @@ def removed(t, root):
             and ("durshavon" in it.name or (it.name.startswith("desk") and "systemd" in str(it)) or str(it).endswith("usr/bin/desk"))]
     t.same(left, [], "what is left of it")
     ran = root.tried("dpkg", "--purge", "durshavon")
-    t.has((ran.stdout + ran.stderr).decode(), f"the registers in {os.path.dirname(REGISTER)} stay", "purged, it tells of the registers")
-    t.same(sorted(it.name for it in (root.path / "var/lib/durshavon").iterdir()), ["ca.db", "ca.db-wal"], "and they do stay")
-    t.same(stat.S_IMODE((root.path / "var/lib/durshavon").stat().st_mode), 0o700, "for nobody else")
+    for what, path, names in (("registers", REGISTER, ["ca.db", "ca.db-wal"]), ("keys", KEY, ["ca.key"])):
+        folder = os.path.dirname(path)
+        t.has((ran.stdout + ran.stderr).decode(), f"the {what} in {folder} stay", f"purged, it tells of the {what}")
+        t.same(sorted(it.name for it in (root.path / folder[1:]).iterdir()), names, "and they do stay")
+        t.same(stat.S_IMODE((root.path / folder[1:]).stat().st_mode), 0o700, "for nobody else")

@@ -88,7 +88,7 @@ def a_tool_that_signs_standard_input(t, tool):
         t.same(t.tool("python3", authority.EXAMPLES / "signer.py", it.key), b"ecdsa-sha256\n", "the name of the key's algorithm")
         words = ["python3", authority.EXAMPLES / "signer.py", it.key, "ca.sign"]
     else:
-        words = ["socat", "UNIX-LISTEN:ca.sign,fork,mode=600", "EXEC:openssl dgst -sha256 -sign ca.key"]
+        words = ["socat", "-t", "10", "UNIX-LISTEN:ca.sign,fork,mode=600", "EXEC:openssl dgst -sha256 -sign ca.key"]
     authority.started(t, words, t.room / "ca.sign")
     t.same(t.room.joinpath("ca.sign").stat().st_mode & 0o777, 0o600, "who may have anything signed")
     t.same(tried(t, ["crl", "crl"]), ["crl 1 entries 0", "crl 2 entries 0"])

@@ -1,0 +1,299 @@
+#!/usr/bin/env python3
+"""Lets through what `desk` has signed for one issuer, a CRL or an answer of OCSP, and nothing else: so that who reaches a signer's
+socket can't have a certificate signed, nor anything that is read as one.
+
+It stands before any command that signs standard input, and gives it what it was given:
+
+    socat -t 10 UNIX-LISTEN:ca.sign,fork,mode=600 EXEC:'examples/only_ours.py ca.pem openssl dgst -sha256 -sign ca.key'
+
+(`examples/signer.py --only-ours ca.pem` looks at the same by itself.) What it refuses has no signature: the exit status is 1, standard
+error says why, and the desk says `F3 signer`, or answers internalError.
+
+It is let through exactly in the form in which the desk writes it, in DER (X.690 10, 11) and to its last octet:
+
+    TBSCertList (RFC 5280 5.1.2)    version 2, the key's algorithm, the issuer's name, the two moments, entries of a serial number, a
+                                    moment and a reason, the issuer's key identifier and the CRL's number
+    ResponseData (RFC 6960 4.2.1)   the responder by the SHA-1 of the issuer's key, the moment, the answers, the request's nonce; what
+                                    is told good or revoked is a certificate of the issuer
+
+It knows no register. Who reaches the socket can still have a CRL signed with no entry in it, and a revoked certificate told good.
+
+Usage: examples/only_ours.py CA.pem COMMAND WORD ..
+"""
+import base64
+import hashlib
+import itertools
+import re
+import subprocess
+import sys
+from collections import namedtuple
+
+INTEGER, BITS, OCTETS, IDENTIFIER, SEQUENCE = 0x02, 0x03, 0x04, 0x06, 0x30
+# The longest message: the desk signs CRLs of 2^27 bytes at most.
+LONGEST = 1 << 27
+
+# The AlgorithmIdentifier under which the desk has signatures of a key, by that of the key: RFC 5480 2.1.1 and RFC 5758 3.2 (P-256, P-384),
+# RFC 4055 1.2 and 5 (RSA), RFC 8410 3 (Ed25519).
+ALGORITHMS = {
+    bytes.fromhex("301306072A8648CE3D020106082A8648CE3D030107"): bytes.fromhex("300A06082A8648CE3D040302"),
+    bytes.fromhex("301006072A8648CE3D020106052B81040022"): bytes.fromhex("300A06082A8648CE3D040303"),
+    bytes.fromhex("300D06092A864886F70D0101010500"): bytes.fromhex("300D06092A864886F70D01010B0500"),
+    bytes.fromhex("300506032B6570"): bytes.fromhex("300506032B6570"),
+}
+# id-sha1 and id-sha256, their parameters left out or NULL (RFC 3370 2.1, RFC 5754 2.2).
+HASHES = {
+    hashlib.sha1: [bytes.fromhex("300706052B0E03021A"), bytes.fromhex("300906052B0E03021A0500")],
+    hashlib.sha256: [bytes.fromhex("300B0609608648016503040201"), bytes.fromhex("300D06096086480165030402010500")],
+}
+
+KEY_IDENTIFIER, CRL_NUMBER = bytes.fromhex("301F0603551D23041830168014"), bytes.fromhex("0603551D14")
+NONCE = bytes.fromhex("06092B0601050507300102")
+
+# Moments in seconds and UTC (RFC 5280 4.1.2.5), and the reasons of RFC 5280 5.3.1 but 0, which is left out.
+SECONDS = rb"(?:0[1-9]|1[0-2])(?:0[1-9]|[12]\d|3[01])(?:[01]\d|2[0-3])[0-5]\d[0-5]\dZ"
+UTC, GENERAL = rb"\x17\x0D\d\d" + SECONDS, rb"\x18\x0F\d{4}" + SECONDS
+REASON = rb"\x0A\x01[\x01-\x06\x08-\x0A]"
+
+
+class Refused(Exception):
+    """Bytes that are not to be signed, and why."""
+
+
+class Part:
+    """Octets that are read value by value: of DER a length has one form alone (X.690 10.1)."""
+
+    def __init__(self, octets, at=0, end=None):
+        self.octets, self.at, self.end = octets, at, len(octets) if end is None else end
+
+    def next_is(self, tag):
+        return self.at < self.end and self.octets[self.at] == tag
+
+    def inside(self, tag):
+        """The contents of the next value, which has this tag."""
+        if self.end - self.at < 2 or self.octets[self.at] != tag:
+            raise Refused(f"octet {self.at} begins no value with the tag {tag:02X}")
+        length, begin = self.octets[self.at + 1], self.at + 2
+        if length > 127:
+            more = self.octets[begin : begin + length - 128]
+            length, begin = int.from_bytes(more, "big"), begin + len(more)
+            if length < 128 or more[0] == 0:
+                raise Refused(f"octet {self.at + 1} begins a length that is not in DER")
+        if begin + length > self.end:
+            raise Refused(f"the value at octet {self.at} is longer than what holds it")
+        self.at = begin + length
+        return Part(self.octets, begin, self.at)
+
+    def any(self):
+        """A value with any tag of one octet."""
+        if self.at == self.end or self.octets[self.at] % 32 == 31:
+            raise Refused(f"octet {self.at} begins no value")
+        return self.inside(self.octets[self.at])
+
+    def whole(self, tag):
+        """The next value, with its tag and its length."""
+        begin = self.at
+        self.inside(tag)
+        return bytes(self.octets[begin : self.at])
+
+    def same(self, wanted, what):
+        """Goes over octets that have to be these."""
+        if self.octets[self.at : min(self.end, self.at + len(wanted))] != wanted:
+            raise Refused(f"no {what} at octet {self.at}")
+        self.at += len(wanted)
+
+    def fits(self, pattern, what):
+        """Goes over octets of this form."""
+        found = pattern.match(self.octets, self.at, self.end)
+        if not found:
+            raise Refused(f"no {what} at octet {self.at}")
+        self.at = found.end()
+
+    def number(self):
+        """An INTEGER, in the fewest octets that it has room in (X.690 8.3.2)."""
+        value = self.inside(INTEGER)
+        octets = bytes(self.octets[value.at : value.end])
+        number = int.from_bytes(octets, "big", signed=True)
+        if octets != number.to_bytes(max(number, ~number).bit_length() // 8 + 1, "big", signed=True):
+            raise Refused(f"octet {value.at} begins no number in DER")
+        return number
+
+    def ended(self):
+        if self.at != self.end:
+            raise Refused(f"octet {self.at} is one too many")
+
+
+# One of revokedCertificates, and what is said of one certificate
+
+
+def either(patterns):
+    return re.compile(b"|".join(patterns), re.DOTALL)
+
+
+def positive(count):
+    """An INTEGER above 0 of so many octets, with its tag and its length."""
+    small = rb"[\x01-\x7F].{%d}" % (count - 1)
+    contents = small if count == 1 else rb"(?:%s|\0[\x80-\xFF].{%d})" % (small, count - 2)
+    return re.escape(bytes([INTEGER, count])) + contents
+
+
+def entries():
+    """A serial number, its moment, and its reason where it has one, as one pattern for each length: a CRL has up to a million of these."""
+    moments = {15: UTC, 17: GENERAL}
+    reasons = {0: b"", 14: rb"\x30\x0C\x30\x0A\x06\x03\x55\x1D\x15\x04\x03" + REASON}
+    for count, (moment, at), (reason, why) in itertools.product(range(1, 21), moments.items(), reasons.items()):
+        yield re.escape(bytes([SEQUENCE, 2 + count + moment + reason])) + positive(count) + at + why
+
+
+MOMENT, GENERAL_MOMENT, ENTRY = either([UTC, GENERAL]), either([GENERAL]), either(entries())
+# good, revoked with and without a reason; unknown (RFC 6960 4.2.1).
+KNOWN = either([rb"\x80\x00", rb"\xA1\x11" + GENERAL, rb"\xA1\x16" + GENERAL + rb"\xA0\x03" + REASON])
+UNKNOWN = either([rb"\x82\x00"])
+HOLDS = either([GENERAL + rb"\xA0\x11" + GENERAL])
+
+
+# The issuer
+
+Issuer = namedtuple("Issuer", "name key_hash algorithm cert_ids public")
+
+
+def der_of(path):
+    """A certificate's DER, of a file that has it or its PEM (RFC 7468 5)."""
+    with open(path, "rb") as file:
+        octets = file.read()
+    found = re.search(rb"-----BEGIN CERTIFICATE-----(.*?)-----END CERTIFICATE-----", octets, re.DOTALL)
+    return base64.b64decode(found[1]) if found else octets
+
+
+def issuer_of(path):
+    """Who issues, by the certificate of a CA: its subject and its public key (RFC 5280 4.1)."""
+    part = Part(der_of(path)).inside(SEQUENCE).inside(SEQUENCE)
+    if part.next_is(0xA0):
+        part.inside(0xA0)
+    # The serial number, the algorithm, the issuer; the validity.
+    for tag in (INTEGER, SEQUENCE, SEQUENCE, SEQUENCE):
+        part.inside(tag)
+    name, public = part.whole(SEQUENCE), part.whole(SEQUENCE)
+    info = Part(public).inside(SEQUENCE)
+    algorithm = ALGORITHMS.get(info.whole(SEQUENCE))
+    if not algorithm:
+        raise Refused("its key is none of P-256, P-384, RSA and Ed25519")
+    bits = info.inside(BITS)
+    key = public[bits.at + 1 : bits.end]
+    cert_ids = tuple(it + b"".join(bytes([OCTETS, hashed(part).digest_size]) + hashed(part).digest() for part in (name, key))
+                     for hashed, identifiers in HASHES.items() for it in identifiers)
+    return Issuer(name, hashlib.sha1(key).digest(), algorithm, cert_ids, public)
+
+
+# What is to be signed
+
+
+def read_crl(part, issuer):
+    """The contents of a TBSCertList (RFC 5280 5.1.2)."""
+    part.same(b"\x02\x01\x01" + issuer.algorithm, "version 2 with the algorithm of the issuer's key")
+    part.same(issuer.name, "name of the issuer")
+    part.fits(MOMENT, "thisUpdate")
+    part.fits(MOMENT, "nextUpdate")
+    if part.next_is(SEQUENCE):
+        listed = part.inside(SEQUENCE)
+        listed.fits(ENTRY, "entry")
+        while listed.at < listed.end:
+            listed.fits(ENTRY, "entry")
+    tagged = part.inside(0xA0)
+    part.ended()
+    extensions = tagged.inside(SEQUENCE)
+    tagged.ended()
+    extensions.same(KEY_IDENTIFIER + issuer.key_hash, "key identifier of the issuer")
+    extension = extensions.inside(SEQUENCE)
+    extensions.ended()
+    extension.same(CRL_NUMBER, "CRL number")
+    value = extension.inside(OCTETS)
+    extension.ended()
+    if value.number() < 1:
+        raise Refused("a CRL's number is 1 at least")
+    value.ended()
+
+
+def read_cert_id(part):
+    """A CertID (RFC 6960 4.1.1), which is repeated as it was asked: the hash algorithm, two hashes and a serial number."""
+    algorithm = part.inside(SEQUENCE)
+    identifier = algorithm.inside(IDENTIFIER)
+    if identifier.at == identifier.end:
+        raise Refused(f"octet {identifier.at} begins no identifier")
+    if algorithm.at < algorithm.end:
+        algorithm.any()
+    algorithm.ended()
+    part.inside(OCTETS)
+    part.inside(OCTETS)
+    part.number()
+    part.ended()
+
+
+def read_single(part, issuer):
+    """A SingleResponse (RFC 6960 4.2.1)."""
+    asked = part.inside(SEQUENCE)
+    is_ours = asked.octets.startswith(issuer.cert_ids, asked.at, asked.end)
+    read_cert_id(asked)
+    if part.next_is(0x82):
+        part.fits(UNKNOWN, "status")
+    elif is_ours:
+        part.fits(KNOWN, "status")
+    else:
+        raise Refused("a status is told of a certificate that is not the issuer's")
+    part.fits(HOLDS, "thisUpdate and nextUpdate")
+    part.ended()
+
+
+def read_nonce(part):
+    """responseExtensions, with the nonce alone (RFC 6960 4.4.1)."""
+    extensions = part.inside(SEQUENCE)
+    part.ended()
+    extension = extensions.inside(SEQUENCE)
+    extensions.ended()
+    extension.same(NONCE, "nonce")
+    extension.inside(OCTETS)
+    extension.ended()
+
+
+def read_answer(part, issuer):
+    """The contents of a ResponseData (RFC 6960 4.2.1)."""
+    part.same(b"\xA2\x16\x04\x14" + issuer.key_hash, "responder by the hash of the issuer's key")
+    part.fits(GENERAL_MOMENT, "producedAt")
+    answers = part.inside(SEQUENCE)
+    read_single(answers.inside(SEQUENCE), issuer)
+    while answers.at < answers.end:
+        read_single(answers.inside(SEQUENCE), issuer)
+    if part.at < part.end:
+        read_nonce(part.inside(0xA1))
+    part.ended()
+
+
+def check(message, issuer):
+    """Refuses all but a CRL and an answer of OCSP of this issuer."""
+    outer = Part(message)
+    part = outer.inside(SEQUENCE)
+    outer.ended()
+    # A TBSCertList begins with its version, a TBSCertificate of version 1 with its serial number, which its validity tells from the moments here.
+    if part.next_is(INTEGER):
+        read_crl(part, issuer)
+    else:
+        read_answer(part, issuer)
+
+
+def main():
+    if len(sys.argv) < 3:
+        print(__doc__, file=sys.stderr)
+        sys.exit(2)
+    try:
+        issuer = issuer_of(sys.argv[1])
+    except (OSError, ValueError, Refused) as why:
+        sys.exit(f"{sys.argv[1]}: no certificate of a CA: {why}")
+    message = sys.stdin.buffer.read(LONGEST + 1)
+    try:
+        check(message, issuer)
+    except Refused as why:
+        sys.exit(f"refused to have {len(message)} bytes signed: {why}")
+    sys.exit(subprocess.run(sys.argv[2:], input=message, check=False).returncode)
+
+
+if __name__ == "__main__":
+    main()

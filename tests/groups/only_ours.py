@@ -1,0 +1,328 @@
+"""A signer that signs what the desk has signed for one issuer, and nothing else: examples/signer.py --only-ours, and examples/only_ours.py before
+openssl. What is signed comes from the program itself; what is refused, from openssl and by hand."""
+
+import random
+import socket
+import subprocess
+import sys
+
+from lib import authority, program
+from lib.authority import EXAMPLES, INTERNAL, KEYS, Authority, body_of, inside, moment_of, values_of
+from lib.registers import tlv
+from lib.trial import each, test
+
+ALGORITHMS = {it: it for it in KEYS}
+FILTER = [sys.executable, EXAMPLES / "only_ours.py"]
+INTEGER, OCTETS, SEQUENCE, UTC, GENERAL = 0x02, 0x04, 0x30, 0x17, 0x18
+
+
+def signature(path, message):
+    """What comes back for a message: nothing where it is refused."""
+    with socket.socket(socket.AF_UNIX) as peer:
+        peer.settimeout(20 * program.PATIENCE)
+        peer.connect(str(path))
+        peer.sendall(message)
+        peer.shutdown(socket.SHUT_WR)
+        return program.read_all(peer)
+
+
+def guard(t, it, path="guarded.sign"):
+    """The signer, and where it tells what it refused."""
+    authority.need_cryptography(t)
+    process = authority.started(t, ["python3", EXAMPLES / "signer.py", "--only-ours", it.pem, it.key, path], t.room / path)
+    return t.room / path, process
+
+
+def to_be_signed(t, it):
+    """What the program has signed: CRLs with and without entries, and answers with and without a nonce."""
+    file = it.register(f"{it.name}.db")
+    signer = it.signer(f"{it.name}.asked")
+    begun = authority.now()
+    begins, ends = moment_of(begun), moment_of(begun + 90 * authority.DAY)
+    lines = ["crl", "subscriber acme"]
+    for order, (serial, ground) in enumerate((("05", "key-compromise"), ("80", "asked"), ("7f" + "00" * 19, "misuse"), ("06", None)), 1):
+        lines += ["order 1 398", f"register {order} {serial} {begins} {ends}"]
+        lines += [f"request {serial} {ground}", f"revoke {order}"] if ground else []
+    lines += ["crl"]
+    told = t.done("script", file, *it.signing(signer.path), given="".join(f"{begins} {line}\n" for line in lines)).splitlines()
+    t.same((told[0], told[-1]), ("crl 1 entries 0", "crl 2 entries 3"))
+    desk = t.open(file.name, *it.signing(signer.path), "--counter", f"{it.name}.counter")
+    for words, how in ((["05"], {}), (["05", "06", "80", "07"], {"nonce": True}), (["-sha256", "5"], {}), (["-sha384", "5", "-sha1", "6"], {"nonce": True})):
+        serials = [word if word.startswith("-") else f"0x{word}" for word in words]
+        asked = [more for word in serials for more in ((word,) if word.startswith("-") else ("-serial", word))]
+        request = it.asks(more=asked, **how)
+        body_of(t, desk.ask("POST", "/ocsp", request))
+    desk.end()
+    return signer.asked
+
+
+def refused(t, path, message, what):
+    t.same(signature(path, message), b"", f"{what} is refused")
+
+
+@each(ALGORITHMS, seconds=6)
+def what_the_desk_has_signed_is_signed(t, algorithm):
+    """Through the signer, of each algorithm, openssl verifies CRLs and answers; and each is let through to a command as it came."""
+    it = Authority(t, algorithm)
+    path, _ = guard(t, it)
+    it.register()
+    begun = authority.now()
+    signing = ("--signer", path.name, "--algorithm", algorithm)
+    t.same(t.done("script", "ca.db", *signing, given=authority.first_day(begun)).splitlines(), authority.first_day_replies(begun))
+    it.verifies(t.done("crl", "ca.db").encode("latin-1"))
+    desk = t.open("ca.db", *signing)
+    for serial, told in (("05", "revoked"), ("06", "good"), ("07", "unknown")):
+        t.same(it.asked_by_openssl(serial, f"http://127.0.0.1:{desk.port}/ocsp", verify=True), told, serial)
+    it.name = "asked"
+    messages = to_be_signed(t, it)
+    t.same(len(messages), 6, "CRLs and answers")
+    for message in messages:
+        t.true(signature(path, message) != b"", f"{message.hex()} is signed")
+        t.same(t.tool(*FILTER, it.pem, "cat", given=message), message, "the command has what came, to the last octet")
+
+
+@test(seconds=10)
+def what_is_none_of_the_issuer_s_is_refused(t):
+    """And F3 to the desk whose CRL it is, internalError to who asks OCSP; the signer goes on."""
+    it, other, twin = Authority(t), Authority(t, name="other", subject="/CN=Other"), Authority(t, name="twin")
+    path, process = guard(t, it)
+    ours = to_be_signed(t, it)
+    for foreign, what in ((other, "another issuer"), (twin, "another key under the issuer's name")):
+        for message in to_be_signed(t, foreign):
+            refused(t, path, message, f"a CRL or an answer of {what}")
+        t.same(t.done("script", f"{foreign.name}.db", *it.signing(path.name), "--clock", given="crl\n"), "F3 signer\n", f"a CRL of {what}")
+        desk = t.open(f"{foreign.name}.db", *it.signing(path.name), "--counter", f"{foreign.name}.counter")
+        t.same(body_of(t, desk.ask("POST", "/ocsp", foreign.asks("05"))), INTERNAL, f"an answer of {what}")
+    # What openssl signs: certificates, of which one begins as a CRL does; a request for one; CRLs of other forms; and an answer by another responder.
+    t.tool("openssl", "req", "-new", "-key", other.key, "-subj", "/CN=T", "-out", "x.csr")
+    t.tool("openssl", "x509", "-req", "-in", "x.csr", "-CA", it.pem, "-CAkey", it.key, "-set_serial", "1", "-days", "90", "-out", "v1.pem")
+    request = t.tool("openssl", "req", "-in", "x.csr", "-outform", "DER")
+    first = t.tool("openssl", "x509", "-in", "v1.pem", "-outform", "DER")
+    t.same(inside(first, 0, 0)[2], b"\x02\x01\x01", "a certificate of version 1 and serial number 1 begins as a CRL")
+    certificate = t.tool("openssl", "x509", "-in", it.pem, "-outform", "DER")
+    for message, what in (
+        (inside(certificate, 0)[2], "a TBSCertificate"), (inside(first, 0)[2], "a TBSCertificate of version 1"), (certificate, "a certificate"),
+        (inside(request, 0)[2], "a CertificationRequestInfo"), (b"", "nothing"), (b"0", "one octet"), (b"hello", "a text"),
+        (it.pem.read_bytes(), "a PEM"), (random.Random(1).randbytes(500), "random bytes"), (bytes(150), "zeros"),
+    ):
+        refused(t, path, message, what)
+    for message in ours:
+        t.true(signature(path, message) != b"", "what is ours is signed all the while")
+    process.terminate()
+    process.wait(20)
+    told = process.stderr.read().decode().splitlines()
+    t.true(len(told) > 20 and all(line.startswith("refused to sign ") for line in told), f"what is told of each: {told}")
+
+
+def is_refused(t, it, message, what):
+    """By the filter, which a command stands behind that must not run."""
+    ran = t.tried(*FILTER, it.pem, "touch", "ran", given=message)
+    t.same((ran.returncode, ran.stdout, (t.room / "ran").exists()), (1, b"", False), f"{what}: status, output, whether the command ran")
+    t.has(ran.stderr, b"refused to have ", what)
+
+
+def crl_of(parts, extensions):
+    """A TBSCertList of the parts of another, with these extensions."""
+    return tlv(SEQUENCE, *parts[:-1], tlv(0xA0, tlv(SEQUENCE, *extensions)))
+
+
+def whole(value):
+    return [it[2] for it in values_of(value)]
+
+
+@test(seconds=8)
+def crls_of_other_forms(t):
+    """What a CRL of this issuer may have by RFC 5280 5 and the desk never writes, and what is no DER."""
+    it = Authority(t)
+    _, crl = to_be_signed(t, it)[:2]
+    parts = whole(inside(crl)[1])
+    version, algorithm, name, this, following, entries, _ = parts
+    extensions = whole(inside(crl, 6, 0)[1])
+    identifier, number = extensions
+    t.same(t.tool(*FILTER, it.pem, "cat", given=crl_of(parts, extensions)), crl, "put together again it is the same")
+    delta = tlv(SEQUENCE, bytes.fromhex("0603551D1B"), bytes.fromhex("0101FF"), tlv(OCTETS, b"\x02\x01\x01"))
+    distribution = tlv(SEQUENCE, bytes.fromhex("0603551D1C"), bytes.fromhex("0101FF"), tlv(OCTETS, tlv(SEQUENCE, b"\x84\x01\xFF")))
+    row = lambda *parts: tlv(SEQUENCE, tlv(SEQUENCE, *parts))
+    at = tlv(UTC, b"260101000000Z")
+    serial = b"\x02\x01\x05"
+    put = lambda place, value: crl_of([*parts[:place], value, *parts[place + 1 :]], extensions)
+    others = {
+        "a delta CRL": crl_of(parts, [*extensions, delta]),
+        "an indirect CRL": crl_of(parts, [*extensions, distribution]),
+        "with no number": crl_of(parts, [identifier]),
+        "with no key identifier": crl_of(parts, [number]),
+        "with its extensions in another order": crl_of(parts, [number, identifier]),
+        "with a number twice": crl_of(parts, [identifier, number, number]),
+        "number 0": crl_of(parts, [identifier, number[:-1] + b"\0"]),
+        "another key's identifier": crl_of(parts, [identifier[:-1] + bytes([identifier[-1] ^ 1]), number]),
+        "with no extensions": tlv(SEQUENCE, *parts[:-1]),
+        "version 1": tlv(SEQUENCE, *parts[1:]),
+        "version 3": put(0, b"\x02\x01\x02"),
+        "another algorithm": put(1, bytes.fromhex("300A06082A8648CE3D040303")),
+        "another name": put(2, name[:-1] + b"U"),
+        "no nextUpdate": tlv(SEQUENCE, *parts[:4], *parts[5:]),
+        "a validity in place of thisUpdate": tlv(SEQUENCE, version, algorithm, name, tlv(SEQUENCE, this, following), *parts[5:]),
+        "a moment with a zone": put(3, tlv(UTC, b"2601010000+0000")),
+        "a moment without seconds": put(3, tlv(UTC, b"2601010000Z")),
+        "the 13th month": put(3, tlv(UTC, b"261301000000Z")),
+        "a fraction of a second": put(3, tlv(GENERAL, b"20500101000000.5Z")),
+        "no entries, and their list": put(5, tlv(SEQUENCE)),
+        "serial number 0": put(5, row(b"\x02\x01\0", at)),
+        "a negative serial number": put(5, row(b"\x02\x01\x80", at)),
+        "a serial number with an octet too many": put(5, row(b"\x02\x02\0\x05", at)),
+        "a serial number of 21 octets": put(5, row(tlv(INTEGER, b"\1" * 21), at)),
+        "an entry with no moment": put(5, row(serial)),
+        "an entry with another issuer": put(5, row(serial, at, tlv(SEQUENCE, tlv(SEQUENCE, bytes.fromhex("0603551D1D"), b"\x01\x01\xFF",
+                                                                                    tlv(OCTETS, tlv(SEQUENCE, tlv(0xA4, name))))))),
+        "reason 0": put(5, row(serial, at, tlv(SEQUENCE, tlv(SEQUENCE, bytes.fromhex("0603551D15"), tlv(OCTETS, b"\x0A\x01\0"))))),
+        "reason 11": put(5, row(serial, at, tlv(SEQUENCE, tlv(SEQUENCE, bytes.fromhex("0603551D15"), tlv(OCTETS, b"\x0A\x01\x0B"))))),
+        "entries twice": tlv(SEQUENCE, *parts[:5], entries, *parts[5:]),
+        "a set in place of a sequence": b"\x31" + crl[1:],
+        "a length in an octet too many": b"\x30\x82\0" + crl[2:] if crl[1] == 0x81 else b"\x30\x83\0" + crl[2:],
+        "a length that is left open": b"\x30\x80" + crl[3 if crl[1] == 0x81 else 4 :] + b"\0\0",
+        "an octet behind it": crl + b"\0",
+        "another CRL behind it": crl + crl,
+        "an octet too few": crl[:-1],
+        "half": crl[: len(crl) // 2],
+    }
+    for what, message in others.items():
+        is_refused(t, it, message, what)
+
+
+@test(seconds=8)
+def answers_of_other_forms(t):
+    """What an answer may have by RFC 6960 4.2.1 and the desk never writes, and statuses of another issuer's certificates."""
+    it = Authority(t)
+    answer = to_be_signed(t, it)[3]
+    responder, produced, answers, nonce = whole(inside(answer)[1])
+    singles = whole(inside(answers)[1])
+    asked, status, this, following = whole(inside(singles[0])[1])
+    t.same(len(singles), 4, "answers")
+    put = lambda *singles: tlv(SEQUENCE, responder, produced, tlv(SEQUENCE, *singles))
+    one = lambda *parts: put(tlv(SEQUENCE, *parts))
+    for what, message in {"with its nonce": answer, "without": put(*singles), "one of them": put(singles[2])}.items():
+        t.same(t.tool(*FILTER, it.pem, "cat", given=message), message, what)
+    hashed, name_hash, key_hash, serial = whole(inside(asked)[1])
+    foreign = [tlv(SEQUENCE, hashed, bytes([*name_hash[:-1], name_hash[-1] ^ 1]), key_hash, serial),
+               tlv(SEQUENCE, hashed, name_hash, bytes([*key_hash[:-1], key_hash[-1] ^ 1]), serial)]
+    good, unknown = b"\x80\0", b"\x82\0"
+    for cert_id in foreign:
+        t.same(len(t.tool(*FILTER, it.pem, "cat", given=one(cert_id, unknown, this, following))) > 0, True, "another issuer's is unknown")
+    name = inside(t.tool("openssl", "x509", "-in", it.pem, "-outform", "DER"), 0, 5)[2]
+    others = {
+        "another's is good": one(foreign[0], good, this, following),
+        "another key's is good": one(foreign[1], good, this, following),
+        "another's is revoked": one(foreign[0], status, this, following),
+        "another responder": tlv(SEQUENCE, bytes([*responder[:-1], responder[-1] ^ 1]), produced, answers),
+        "a responder by its name": tlv(SEQUENCE, tlv(0xA1, name), produced, answers),
+        "a version that is written": tlv(SEQUENCE, tlv(0xA0, b"\x02\x01\0"), responder, produced, answers),
+        "no answers": put(),
+        "no moment": tlv(SEQUENCE, responder, answers),
+        "a moment as a UTCTime": tlv(SEQUENCE, responder, tlv(UTC, b"260101000000Z"), answers),
+        "no nextUpdate": one(asked, good, this),
+        "another status": one(asked, b"\x83\0", this, following),
+        "good, and something in it": one(asked, b"\x80\1\0", this, following),
+        "unknown, and something in it": one(asked, b"\x82\1\0", this, following),
+        "an extension of one answer": one(asked, good, this, following, tlv(0xA1, tlv(SEQUENCE, tlv(SEQUENCE, b"\x06\x01\x2A", tlv(OCTETS))))),
+        "a CertID with more in it": one(tlv(SEQUENCE, hashed, name_hash, key_hash, serial, serial), unknown, this, following),
+        "a CertID with less": one(tlv(SEQUENCE, hashed, name_hash, serial), unknown, this, following),
+        "a CertID with a serial number in an octet too many": one(tlv(SEQUENCE, hashed, name_hash, key_hash, b"\x02\x02\0\x05"), good, this, following),
+        "two extensions": tlv(SEQUENCE, responder, produced, answers, tlv(0xA1, tlv(SEQUENCE, *whole(inside(nonce, 0)[1]) * 2))),
+        "another extension": tlv(SEQUENCE, responder, produced, answers, tlv(0xA1, tlv(SEQUENCE, tlv(SEQUENCE, b"\x06\x01\x2A", tlv(OCTETS))))),
+        "an octet behind it": answer + b"\0",
+        "an octet within, behind all": tlv(SEQUENCE, responder, produced, answers, nonce, b"\0"),
+        "an octet too few": answer[:-1],
+        "another answer behind it": answer * 2,
+    }
+    for what, message in others.items():
+        is_refused(t, it, message, what)
+
+
+@test(seconds=3)
+def an_octet_of_what_tells_the_issuer_is_changed(t):
+    """Each octet up to the moments, and of the key's identifier and of the responder: none may be another."""
+    it = Authority(t)
+    sys.path.insert(0, str(EXAMPLES))
+    try:
+        import only_ours
+    finally:
+        sys.path.remove(str(EXAMPLES))
+    issuer = only_ours.issuer_of(it.pem)
+    messages = to_be_signed(t, it)
+    crl, answer = messages[1], messages[2]
+    key_hash = issuer.key_hash
+
+    def is_let_through(message):
+        try:
+            only_ours.check(message, issuer)
+        except only_ours.Refused:
+            return False
+        return True
+
+    t.same([is_let_through(it) for it in messages], [True] * len(messages))
+    fixed = [(crl, at) for at in range(crl.index(issuer.name) + len(issuer.name))]
+    fixed += [(message, message.index(key_hash) + at) for message in (crl, answer) for at in range(len(key_hash))]
+    for message, at in fixed:
+        for bit in range(8):
+            changed = message[:at] + bytes([message[at] ^ 1 << bit]) + message[at + 1 :]
+            t.true(not is_let_through(changed), f"octet {at} of {message.hex()} may be another: {changed[at]:02x}")
+    # Of what is cut short or longer, nothing.
+    for message in messages:
+        t.same([at for at in range(len(message)) if is_let_through(message[:at])], [], "cut short")
+        t.true(not is_let_through(message + b"\0"), "longer")
+
+
+@test(seconds=3)
+def a_crl_of_many_entries(t):
+    """Over 100 kB, signed whole and in time."""
+    it = Authority(t)
+    path, _ = guard(t, it)
+    crl = to_be_signed(t, it)[1]
+    parts = whole(inside(crl)[1])
+    entries = b"".join(tlv(SEQUENCE, tlv(INTEGER, (2**150 + 7919 * at).to_bytes(19, "big")), tlv(UTC, b"260101000000Z")) for at in range(20_000))
+    message = tlv(SEQUENCE, *parts[:5], tlv(SEQUENCE, entries), parts[6])
+    t.true(signature(path, message) != b"", "it is signed")
+    refused(t, path, tlv(SEQUENCE, *parts[:5], tlv(SEQUENCE, entries[:-1]), parts[6]), "one whose last entry is cut short")
+
+
+@test(seconds=2)
+def a_certificate_of_another_key_is_not_taken(t):
+    authority.need_cryptography(t)
+    it, other = Authority(t), Authority(t, name="other")
+    for pem, told in ((other.pem, b"is the certificate of another key"), (it.key, b"no certificate of a CA"), ("nowhere.pem", b"no certificate of a CA")):
+        ran = t.tried("python3", EXAMPLES / "signer.py", "--only-ours", pem, it.key, "ca.sign")
+        t.same((ran.returncode, (t.room / "ca.sign").exists()), (1, False), f"{pem}: status, whether it listens")
+        t.has(ran.stderr, told)
+    der = t.tool("openssl", "x509", "-in", it.pem, "-outform", "DER")
+    (t.room / "ca.der").write_bytes(der)
+    t.same(t.tool("python3", EXAMPLES / "signer.py", "--only-ours", "ca.der", it.key), b"ecdsa-sha256\n", "the certificate in DER")
+
+
+@test(seconds=2)
+def a_socket_that_is_handed_over(t):
+    """As systemd hands it over, to one process: descriptor 3, with its number and that of the process in the environment."""
+    authority.need_cryptography(t)
+    it = Authority(t)
+    message = to_be_signed(t, it)[0]
+    words = [sys.executable, str(EXAMPLES / "signer.py"), "--only-ours", str(it.pem), str(it.key), "--inherited"]
+    with socket.socket(socket.AF_UNIX) as listener:
+        listener.bind(str(t.room / "handed.sign"))
+        listener.listen(8)
+        process = handed(words, listener)
+        t.callback(authority.end, process)
+        t.true(signature(t.room / "handed.sign", message) != b"", "it signs")
+        refused(t, t.room / "handed.sign", b"hello", "a text")
+    process.terminate()
+    t.same(process.wait(20), 0, "ended by SIGTERM")
+    t.true((t.room / "handed.sign").exists(), "the socket stays, which is not its own")
+    ran = t.tried(*words)
+    t.same((ran.returncode, b"no socket was handed over" in ran.stderr), (1, True), "with none")
+    ran = t.tried(*words, "ca.sign")
+    t.same(ran.returncode, 2, "a path besides")
+
+
+def handed(words, listener):
+    """A process that has the socket as descriptor 3. The shell has the number that the process keeps."""
+    script = 'exec 3<&"$0"; export LISTEN_PID=$$ LISTEN_FDS=1; exec "$@"'
+    at, nothing = listener.fileno(), subprocess.DEVNULL
+    return subprocess.Popen(["bash", "-c", script, str(at), *words], pass_fds=[at], stdin=nothing, stdout=nothing, stderr=subprocess.PIPE)

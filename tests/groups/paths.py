@@ -1,0 +1,263 @@
+"""Types what docs/OPERATIONS.md says: each path from nothing to a CRL that a key signed, and each signer that it names. The lines are typed into
+a folder like that of the repository, as they stand but for ports, and end in `verify OK` and `Response verify OK` of openssl."""
+
+import os
+import re
+import shutil
+import sys
+
+from lib import authority, program
+from lib.authority import KEYS, Authority, moment_of
+from lib.trial import Failed, each, need, test
+
+# What `openssl ca` wants to be told, for a CA in demoCA.
+CONFIG = """[ca]
+default_ca = it
+[it]
+dir = demoCA
+database = demoCA/index.txt
+new_certs_dir = demoCA/newcerts
+serial = demoCA/serial
+crlnumber = demoCA/crlnumber
+certificate = demoCA/cacert.pem
+private_key = demoCA/private/cakey.pem
+default_md = sha256
+default_crl_days = 8
+policy = any
+[any]
+commonName = supplied
+"""
+
+
+def document():
+    return (program.TOP / "docs/OPERATIONS.md").read_text(encoding="utf-8")
+
+
+def blocks(heading):
+    """The blocks of lines of a section."""
+    found = re.search(rf"^##+ {re.escape(heading)}\n(.*?)(?=^##+ |\Z)", document(), re.MULTILINE | re.DOTALL)
+    if not found:
+        raise Failed(f"docs/OPERATIONS.md has no section {heading!r}")
+    return [[line[4:] for line in it.splitlines()] for it in re.findall(r"(?:^    [^\n]*\n)+", found[1], re.MULTILINE)]
+
+
+def block(heading, beginning):
+    """The block of a section whose first line begins so."""
+    for lines in blocks(heading):
+        if lines[0].startswith(beginning):
+            return lines
+    raise Failed(f"{heading!r} has no lines that begin with {beginning!r}")
+
+
+def folder_of(t, algorithm="ecdsa-sha256"):
+    """A folder like the repository's, whose `./desk` is the program that is tested, with a CA's certificate in ca.pem and its key in ca.key."""
+    top = authority.stood_in(t)
+    it = Authority(t, algorithm)
+    for made in (it.pem, it.key):
+        shutil.copy(made, top)
+    return top
+
+
+def typed(t, top, lines):
+    """What bash prints that is typed these lines; what they started is ended behind them."""
+    env = {**os.environ, "TZ": "America/New_York"}
+    env.pop("LD_PRELOAD", None)
+    script = "\n".join([f"cd {top}", *lines, "jobs -p | xargs -r kill", "wait"])
+    ran = t.tried("timeout", int(50 * program.PATIENCE), "bash", "-c", script, env=env, timeout=60 * program.PATIENCE)
+    told = (ran.stdout + ran.stderr).decode()
+    t.true(ran.returncode != 124, f"it did not come to an end: {told}")
+    return told
+
+
+def ends_well(t, told, crls=1, answers=0, replies=("created\n", "crl 1 entries 0\n")):
+    """CRLs and answers that openssl verifies, the replies that come before, and no refusal nor fault."""
+    t.same(len(re.findall(r"^verify OK$", told, re.MULTILINE)), crls, f"CRLs that verify, in {told}")
+    t.same(told.count("Response verify OK"), answers, f"answers that verify, in {told}")
+    for reply in replies:
+        t.has(told, reply)
+    t.same(re.findall(r"^(?:[EF][0-9]+ .*|bad-.*|refused.*)$", told, re.MULTILINE), [], f"refusals and faults, in {told}")
+
+
+def office(port):
+    """The office is opened by the document's own line, tells a status, and issues a CRL."""
+    opens = block("The day of an office that is open", "./desk open ca.db")[0].replace("8080", port).replace("/run/ca/", "")
+    return [
+        f"{opens} &",
+        "until [ -S counter ]; do sleep 0.1; done",
+        f"openssl ocsp -issuer ca.pem -serial 5 -url http://127.0.0.1:{port}/ocsp -CAfile ca.pem",
+        "./desk at counter <<< crl",
+        f"curl -s http://127.0.0.1:{port}/crl | openssl crl -inform DER -noout -verify -CAfile ca.pem",
+    ]
+
+
+@test(seconds=3)
+def setting_up(t):
+    """And the day of an office behind it, with the line for cron."""
+    need("curl", "bash")
+    authority.need_cryptography(t)
+    port = str(program.free_port())
+    cron = block("The day of an office that is open", "0 * * * *")[0]
+    t.has(cron, "0 * * * *  /srv/durshavon/examples/issue-due-crl.sh /run/ca/counter")
+    issues = "DESK=./desk " + cron.split("  ")[1].replace("/srv/durshavon/", "").replace("/run/ca/", "")
+    told = typed(t, folder_of(t), [*block("Setting up", "./desk init"), *office(port), issues, 'echo "cron $?"'])
+    ends_well(t, told, crls=2, answers=1, replies=("created\n", "crl 1 entries 0\n", "crl 2 entries 0\n", "cron 0\n"))
+
+
+# A line of the section "Signatures", by what it has in it.
+SIGNERS = {"openssl behind socat": "openssl dgst", "examples/signer.py": "examples/signer.py"}
+
+
+def started(heading, part):
+    """The line that starts a signer, and waits for its socket."""
+    lines = [line for lines in blocks(heading) for line in lines if part in line and "ca.sign" in line]
+    if len(lines) != 1:
+        raise Failed(f"{heading!r} has {len(lines)} lines with {part!r}")
+    return [f"{lines[0]} &", "until [ -S ca.sign ]; do sleep 0.1; done"]
+
+
+def register_by(signer):
+    """The lines of "Setting up", with this in place of its signer."""
+    lines = block("Setting up", "./desk init")
+    begin = next(at for at, line in enumerate(lines) if line.startswith("examples/signer.py"))
+    return [lines[0], *signer, 'SIGNER="--signer ca.sign --algorithm ecdsa-sha256"', *lines[begin + 3 :]]
+
+
+@each(SIGNERS, seconds=2)
+def a_signer_of_the_document(t, part):
+    need("bash", "curl", *(["socat"] if part.startswith("openssl") else []))
+    if part.endswith(".py"):
+        authority.need_cryptography(t)
+    told = typed(t, folder_of(t), [*register_by(started("Signatures", part)), *office(str(program.free_port()))])
+    ends_well(t, told, crls=2, answers=1)
+
+
+@each({"-t 10, as it stands": True, "without -t 10": False}, seconds=4)
+def a_signer_behind_socat_that_takes_a_second(t, patient):
+    """The document's line, whose command sleeps first. Without -t 10 socat is gone before the signature is there."""
+    need("bash", "socat")
+    top = folder_of(t)
+    (top / "slowly").write_text("#!/bin/sh\nsleep 1\nexec openssl dgst -sha256 -sign ca.key\n")
+    (top / "slowly").chmod(0o755)
+    line, *rest = started("Signatures", "openssl dgst")
+    t.has(line, "socat -t 10 UNIX-LISTEN:")
+    line = line.replace("openssl dgst -sha256 -sign ca.key", "./slowly")
+    if patient:
+        ends_well(t, typed(t, top, register_by([line, *rest])))
+    else:
+        told = typed(t, top, register_by([line.replace("-t 10 ", ""), *rest]))
+        t.has(told, "F3 signer\n")
+        t.true("verify OK" not in told, f"nothing was signed, in {told}")
+
+
+@test(seconds=3)
+def only_ours_before_openssl(t):
+    need("bash", "curl", "socat")
+    told = typed(t, folder_of(t), [*register_by(started("Only what the desk has signed", "examples/only_ours.py")), *office(str(program.free_port()))])
+    ends_well(t, told, crls=2, answers=1)
+
+
+@each({it: it for it in ("ecdsa-sha256", "ecdsa-sha384", "rsa-sha256")}, seconds=4)
+def a_key_in_a_token(t, algorithm):
+    """The recipe with SoftHSM2, with a key of each kind: the CRL, and an answer of OCSP."""
+    need("bash", "curl", "socat", "softhsm2-util", "pkcs11-tool")
+    lines = block("A key in hardware", "ALGORITHM=")
+    t.has(lines[0], "ALGORITHM=ecdsa-sha256 ")
+    lines[0] = lines[0].replace("ecdsa-sha256", algorithm)
+    top = folder_of(t, algorithm)
+    # From here on the token alone has the key.
+    given = next(at for at, line in enumerate(lines) if "--import ca.key" in line)
+    lines.insert(given + 1, "rm ca.key")
+    told = typed(t, top, [*lines, *office(str(program.free_port()))])
+    ends_well(t, told, crls=2, answers=1)
+    t.same((top / "ca.pin").stat().st_mode & 0o777, 0o600, "the file of the PIN")
+
+
+@test(seconds=2)
+def a_token_that_does_not_sign(t):
+    """A wrong PIN, a key or a token that is not there, a key of another kind: nothing is printed, and the status is not 0."""
+    need("softhsm2-util", "pkcs11-tool")
+    lines = block("A key in hardware", "ALGORITHM=")
+    top = folder_of(t)
+    until = next(at for at, line in enumerate(lines) if line.startswith("SIGN="))
+    env = {**os.environ, "SOFTHSM2_CONF": str(top / "softhsm2.conf")}
+    typed(t, top, lines[:until])
+    module = re.search(r"MODULE=(\S+)", lines[0])[1]
+    (top / "wrong.pin").write_text("1174\n")
+    for what, words in {
+        "the key": ("ecdsa-sha256", module, "ca", "01", top / "ca.pin"),
+        "another PIN": ("ecdsa-sha256", module, "ca", "01", top / "wrong.pin"),
+        "no such file of a PIN": ("ecdsa-sha256", module, "ca", "01", top / "no.pin"),
+        "no such key": ("ecdsa-sha256", module, "ca", "02", top / "ca.pin"),
+        "no such token": ("ecdsa-sha256", module, "other", "01", top / "ca.pin"),
+        "no such module": ("ecdsa-sha256", "/nowhere.so", "ca", "01", top / "ca.pin"),
+        "a key of another kind": ("rsa-sha256", module, "ca", "01", top / "ca.pin"),
+        "no such algorithm": ("ed25519", module, "ca", "01", top / "ca.pin"),
+    }.items():
+        ran = t.tried("sh", authority.EXAMPLES / "pkcs11-signer.sh", *words, given=b"x" * 5000, env=env)
+        t.same((ran.returncode == 0, ran.stdout != b""), (what == "the key", what == "the key"), what)
+
+
+@test(seconds=6)
+def coming_from_openssl_ca(t):
+    need("bash", "curl")
+    authority.need_cryptography(t)
+    top = folder_of(t)
+    made = top / "demoCA"
+    for folder in (made, made / "newcerts", made / "private"):
+        folder.mkdir()
+    shutil.move(top / "ca.key", made / "private/cakey.pem")
+    shutil.copy(top / "ca.pem", made / "cacert.pem")
+    for name, text in {"serial": "05\n", "crlnumber": "01\n", "index.txt": "", "index.txt.attr": "unique_subject = no\n", "ca.cnf": CONFIG}.items():
+        (made / name).write_text(text)
+    openssl = lambda *words: t.tool("env", "-C", top, "openssl", *words)
+    for name in ("a", "b"):
+        openssl("req", "-newkey", *KEYS["ecdsa-sha256"], "-nodes", "-keyout", "x.key", "-out", "x.csr", "-subj", f"/CN={name}.example")
+        openssl("ca", "-config", "demoCA/ca.cnf", "-batch", "-in", "x.csr", "-out", f"{name}.pem", "-days", "90", "-notext")
+    openssl("ca", "-config", "demoCA/ca.cnf", "-revoke", "a.pem", "-crl_reason", "superseded")
+    for _ in range(3):
+        openssl("ca", "-config", "demoCA/ca.cnf", "-gencrl", "-out", "theirs.pem")
+    lines = [*block("Coming from openssl ca", "examples/from-openssl-index.py"), *office(str(program.free_port()))]
+    told = typed(t, top, lines)
+    ends_well(t, told, crls=2, answers=1, replies=("created\n", "crl 4 entries 1\n", "5: revoked\n", "crl 5 entries 1\n"))
+    # The CRLs that the moved script issues are signed too: no digest stands in the register.
+    for number in (1, 2, 3):
+        crl = program.run(["crl", "ca.db", "--number", number], cwd=top).out
+        t.has(t.tool("openssl", "crl", "-inform", "DER", "-noout", "-verify", "-CAfile", top / "ca.pem", given=crl), b"verify OK", f"CRL {number}")
+
+
+@test(seconds=4)
+def the_way_out_of_a_digest(t):
+    """A register whose CRL was sealed by a digest takes no signer; a new one of the same lines does."""
+    it = Authority(t)
+    it.signer()
+    begun = authority.now()
+    for file in ("sealed.db", "signed.db"):
+        it.register(file)
+    day = authority.first_day(begun)
+    t.same(t.done("script", "sealed.db", given=day).splitlines(), authority.first_day_replies(begun))
+    for words in (["script", "sealed.db"], ["open", "sealed.db", "--port", program.free_port(), "--counter", "counter"]):
+        ran = t.desk(*words, *it.signing())
+        t.same((ran.status, ran.out, ran.err), (1, b"", b"bad-signer\n"), "a signer where a digest was")
+    t.same(t.done("script", "signed.db", *it.signing(), given=day).splitlines(), authority.first_day_replies(begun))
+    it.verifies(t.done("crl", "signed.db").encode("latin-1"))
+    t.same(t.done("script", "signed.db", *it.signing(), given=f"{moment_of(begun)} status 05\n").split()[0], "revoked")
+
+
+@test
+def each_line_that_may_sign_is_told_of_the_signer(t):
+    """No line of the document, nor of what is beside the examples and the units, opens a register without a signer: a digest would seal what it issues."""
+    files = [it for folder in ("examples", "packaging") for it in sorted((program.TOP / folder).iterdir()) if it.is_file()]
+    texts = [document(), *(it.read_text(encoding="utf-8") for it in files)]
+    found = [line for text in texts for line in re.findall(r"\bdesk (?:script|open|serve) ca\.db[^`\n|]*", text)]
+    t.true(len(found) > 8, f"few lines: {found}")
+    t.same([it for it in found if "$SIGNER" not in it and "--signer" not in it], [], "lines with no signer")
+
+
+@test
+def words_that_examples_can_t_read(t):
+    (t.room / "no.pem").write_text("no certificate\n")
+    only_ours = [sys.executable, authority.EXAMPLES / "only_ours.py"]
+    for words, status in (([*only_ours], 2), ([*only_ours, "ca.pem"], 2), ([*only_ours, "no.pem", "cat"], 1), ([*only_ours, "nowhere.pem", "cat"], 1),
+                          (["sh", authority.EXAMPLES / "pkcs11-signer.sh"], 2)):
+        ran = t.tried(*words, given=b"x")
+        t.same((ran.returncode, ran.stdout), (status, b""), " ".join(map(str, words[1:])))
