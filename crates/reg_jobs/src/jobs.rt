@@ -10,7 +10,7 @@ ghost use Rattle.reg_jobs.specs.Visits.{ending_of};
 ghost use Rattle.reg_tables.specs.Stays.{IsCallFault};
 ghost use Rattle.reg_findings.specs.Lines.{broken_text, sound_text};
 
-use crate::place::{Place, Register};
+use crate::place::Place;
 use crate::telling::say;
 use reg_calls::{Calls, Keeper};
 use reg_core::{Fault, Moment, Policy};
@@ -183,7 +183,7 @@ pub fn schedule<P: Place, W: Write>(
 {
     let schedule = schedule_of(steps)?;
     let mut register = place.open(path)?;
-    let set = register.set_schedule(alloc, schedule);
+    let set = place.set_schedule(alloc, &mut register, schedule);
     place.close(path, register);
     tell_set(writer, set)
 }

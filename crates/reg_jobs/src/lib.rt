@@ -17,6 +17,6 @@ pub use front::Front;
 pub use jobs::{NewOffice, audit, crl, ended, import_rows, init, schedule, script};
 pub use lining::script_by_lines;
 pub use opening::hold_open;
-pub use place::{Place, Register};
+pub use place::Place;
 pub use serving::serve;
 pub use telling::{Causes, explain, tell};

@@ -9,37 +9,23 @@ use reg_tables::StoreFault;
 use reg_words::KeyHolder;
 use std::alloc::Global;
 
-/// A register that was opened: it keeps records, and its schedule can be set.
-pub trait Register: Keeper {
-    ghost use Rattle.std.specs.Prelude.{IfErr};
-    ghost use Rattle.reg_calls.specs.Leads.{Leads};
-    ghost use Rattle.reg_jobs.specs.Schedules.{Reschedules};
-    ghost use Rattle.reg_tables.specs.Stays.{IsCallFault};
-
-    /// Sets the schedule of longest validities.
-    ///
-    /// # Errors
-    ///
-    /// `Memory`, `Store`. Nothing has changed then.
-    fn set_schedule(&mut self, alloc: Global, schedule: Schedule) -> Result<(), StoreFault>
-        ensures moves { Leads Self.is_clean Self.stands (λ identity. Reschedules schedule result) self.old self.new }
-        ensures faults { IfErr result IsCallFault };
-}
-
 /// A place where registers lie, each at a path. Who is handed no more than the place can tell only by a call of it that a
 /// register was opened, made or closed. Each call that may change the place is stated by a relation of the place before and
 /// after it: so a clause that leads from one place to another by such calls says that nothing else was done there.
 pub trait Place {
-    ghost use Rattle.std.specs.Prelude.{◌≡◌, ℕ, List, Some, None, IsTrue, IsFalse, OnOk, OnErr, IfOk, IfErr};
+    ghost use Rattle.std.specs.Prelude.{◌≡◌, ℕ, List, Some, None, IsTrue, IsFalse, OnErr, IfOk, IfErr};
+    ghost use Rattle.reg_calls.specs.Leads.{Leads};
     ghost use Rattle.reg_core.specs.Records.{no_records};
     ghost use Rattle.reg_crl.specs.Signing.{Identity};
     ghost use Rattle.reg_endings.specs.declared.failure.Failure.{Failure as Failing};
     ghost use Rattle.reg_jobs.specs.Failing.{IsMaking, IsOpening};
+    ghost use Rattle.reg_jobs.specs.Schedules.{Reschedules};
     ghost use Rattle.reg_jobs.specs.Signing.{Signing};
     ghost use Rattle.reg_findings.specs.declared.verdict.Verdict.{Verdict as Verdicts};
+    ghost use Rattle.reg_tables.specs.Stays.{IsCallFault};
 
-    /// What is opened: a register.
-    type Opened: Register + Drop;
+    /// What is opened: an office that keeps the records of a register.
+    type Opened: Keeper + Drop;
 
     /// Something lies at the path, or may.
     ghost lies: { Self → List ℕ → Type 0 };
@@ -123,6 +109,20 @@ pub trait Place {
         ensures stands { IfOk result (λ register. (identity : Identity) × Self.Opened.stands identity register (no_records issuer policy)) }
         ensures err { IfErr result (λ why. unmade self.old path.now why self.new) }
         ensures faults { IfErr result IsMaking };
+
+    /// Sets the schedule of longest validities of a register that was opened.
+    ///
+    /// # Errors
+    ///
+    /// `Memory`, `Store`. Nothing has changed then.
+    fn set_schedule(
+        &self,
+        alloc: Global,
+        register: &mut Self::Opened,
+        schedule: Schedule,
+    ) -> Result<(), StoreFault>
+        ensures moves { Leads Self.Opened.is_clean Self.Opened.stands (λ identity. Reschedules schedule result) register.old register.new }
+        ensures faults { IfErr result IsCallFault };
 
     /// Audits the register that lies at a path, and changes nothing of it: one of an older version is not made newer.
     ///

@@ -12,21 +12,24 @@ ghost use Rattle.reg_migration.specs.declared.version.Earlier.{Earlier};
 ghost use Rattle.reg_jobs.specs.Failing.{IsMaking, IsOpening};
 ghost use Rattle.reg_program.specs.Files.{IsAudited, IsOpenedFrom, IsMadeFrom, Showed};
 ghost use Rattle.reg_jobs.specs.Signing.{Follows, IsSigning};
+ghost use Rattle.reg_calls.specs.Leads.{Leads};
+ghost use Rattle.reg_jobs.specs.Schedules.{Reschedules};
+ghost use Rattle.reg_office.specs.Calls.{StandsFor};
 ghost use Rattle.reg_office.specs.Stands.{Stands};
 ghost use Rattle.reg_tables.specs.Kept.{ShowsKept};
 ghost use Rattle.reg_tables.specs.Schema.{no_schema};
+ghost use Rattle.reg_tables.specs.Stays.{IsCallFault};
 
 use crate::machine::Machine;
 use crate::signing::{FileSigner, signer_for};
 use crate::watching::Teller;
-use reg_calls::Keeper;
 use reg_core::{Fault, Memory, Policy, Schedule};
 use reg_crl::Signer;
 use reg_der::Issuer;
 use reg_endings::Failure;
 use reg_files::{Unlaid, absent, claim_file, open_file, remove_file};
 use reg_findings::Verdict;
-use reg_jobs::{Place, Register};
+use reg_jobs::Place;
 use reg_office::Office;
 use reg_signer::KeyOrDigest;
 use reg_store::{Store, StoreFault};
@@ -39,12 +42,6 @@ use std::fs;
 
 /// An office over a register's file, with its checks for damage, and what holds the key or a digest as its signer.
 pub type FileOffice = Office<FileStore<FileFrom<Unknown>>, FileSigner>;
-
-impl<C: Alter, S: Signer> Register for Office<C, S> {
-    fn set_schedule(&mut self, alloc: Global, schedule: Schedule) -> Result<(), StoreFault> {
-        self.set_schedule(alloc, schedule)
-    }
-}
 
 /// The machine's files, as a place where registers lie. No state of theirs stands in the handle, so its relations read none.
 impl<'a> Place for Machine<'a> {
@@ -108,6 +105,15 @@ impl<'a> Place for Machine<'a> {
             return Err(Failure::Fault(Fault::Store));
         }
         make_register(self, path, issuer, policy)
+    }
+
+    fn set_schedule(
+        &self,
+        alloc: Global,
+        register: &mut FileOffice,
+        schedule: Schedule,
+    ) -> Result<(), StoreFault> {
+        reschedule(alloc, register, schedule)
     }
 
     fn audit(&mut self, path: &str) -> Result<Verdict, Failure> {
@@ -186,6 +192,20 @@ fn open_register(
     present(machine, path)?;
     let connection = open_noted(machine, path)?;
     settled(office_over(&machine.rt, connection, signing))
+}
+
+/// Sets the schedule of an office.
+fn reschedule<C: Alter, S: Signer>(
+    alloc: Global,
+    office: &mut Office<C, S>,
+    schedule: Schedule,
+) -> Result<(), StoreFault>
+    ensures moves { Leads (λ office. HasCleanDisk (state C.Store office.store))
+        (λ identity office records. StandsFor C.Store S.signs (office.store, S.identity office.signer) identity records)
+        (λ identity. Reschedules schedule result) office.old office.new }
+    ensures faults { IfErr result IsCallFault }
+{
+    office.set_schedule(alloc, schedule)
 }
 
 /// What an audit says of the register in a file.

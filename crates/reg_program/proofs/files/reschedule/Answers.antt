@@ -1,6 +1,6 @@
 use Rattle.std.proofs.Common.{ap}
 use Rattle.reg_program.proofs.Setting.{schedule_moves}
-use Rattle.reg_program.proofs.files.OfficeRegister.set_schedule.Goals as goal
+use Rattle.reg_program.proofs.files.reschedule.Goals as goal
 
 pub returns-clause-moves : goal.returns-clause-moves
 returns-clause-moves g c =
