@@ -1,5 +1,5 @@
 -- The steps that turn letters, marks and the last moment.
-use Rattle.std.proofs.Common.{◌≡◌, ◌+◌, ℕ, pos, Bool, true, false, cond, List, [], ◌∷◌, map, length, filter, codes, Option, Some, None, is_none, IsTrue, refl, sym, ap, ap₂, subst, ◌∙◌, arith}
+use Rattle.std.proofs.Common.{◌≡◌, ◌+◌, ℕ, pos, Bool, true, false, cond, ◌&&◌, List, [], ◌∷◌, map, length, filter, codes, Option, Some, None, is_none, IsTrue, refl, sym, ap, ap₂, subst, ◌∙◌, arith}
 use Rattle.std.specs.Prelude.{nat_lt, ◌==◌}
 use Rattle.std.specs.List.{AllByRecursion}
 use Rattle.sqlite_value.specs.declared.value.Value.TheVariants.{Null, Int, Text}
