@@ -7,4 +7,9 @@ commit=$(git rev-parse --short=7 HEAD 2>/dev/null || echo unknown)
 [ -z "$(git status --porcelain 2>/dev/null)" ] || commit="$commit, changed since"
 rt=$(command -v rt || echo /opt/rattle/bin/rt)
 echo "desk $version (commit $commit)"
-echo "each function proved and built by Rattle: $("$rt" --version 2>/dev/null || echo unknown)"
+toolchain=$("$rt" --version 2>/dev/null || echo unknown)
+if [ -x crates/reg_desk/out/reg_desk ]; then
+    echo "each function proved and built by Rattle: $toolchain"
+else
+    echo "not built here; ./desk build proves each function and builds it, by Rattle: $toolchain"
+fi

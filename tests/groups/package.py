@@ -69,6 +69,9 @@ def built(t):
     folder = authority.stood_in(t)
     for it in (".git", "LICENSE", "crates.txt", "CHANGELOG.md", "SECURITY.md"):
         (folder / it).symlink_to(TOP / it)
+    # tools/version.sh reads the version there.
+    (folder / "crates").mkdir()
+    (folder / "crates/reg_words").symlink_to(TOP / "crates/reg_words")
     # git follows no link to this one.
     (folder / ".gitignore").write_bytes((TOP / ".gitignore").read_bytes())
     made = folder / "crates/reg_desk/out"
