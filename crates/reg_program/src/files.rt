@@ -184,7 +184,7 @@ fn open_register(
     path: &str,
     signing: Option<&Option<KeyHolder<'_>>>,
 ) -> Result<FileOffice, Failure>
-    ensures ok { IfOk result (λ register. IsOpenedFrom (option_map (λ told. told.now) signing) register.store
+    ensures ok { IfOk result (λ register. IsOpenedFrom (option_map (λ told. told.now) signing.entry) register.store
         (⟦<FileSigner as Signer>⟧.identity register.signer)) }
     ensures err { IfErr result IsOpening }
 {
@@ -255,7 +255,7 @@ fn office_over<C: Alter>(
         → ShowsKept C.Store office.store records) }
     ensures clean { IfOk result (λ office. doubt (state C.Store connection).is_clean ≤ doubt (state C.Store office.store).is_clean) }
     ensures told { IfOk result (λ office. (records : Records) → Showed C.Store connection records → HasCleanDisk (state C.Store office.store)
-        → IsSigning (option_map (λ told. told.now) signing) records.issuer.key (⟦<FileSigner as Signer>⟧.identity office.signer)) }
+        → IsSigning (option_map (λ told. told.now) signing.entry) records.issuer.key (⟦<FileSigner as Signer>⟧.identity office.signer)) }
     ensures follows { IfOk result (λ office. (records : Records) → Showed C.Store connection records → SoundRows records
         → HasCleanDisk (state C.Store office.store) → Follows records (⟦<FileSigner as Signer>⟧.identity office.signer).algorithm) }
     ensures err { IfErr result (λ left. IsOpening left.0) }

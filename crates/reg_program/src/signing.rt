@@ -36,7 +36,7 @@ pub(crate) fn signer_for<C: Alter>(
     signing: Option<&Option<KeyHolder<'_>>>,
 ) -> Result<FileSigner, Failure>
     ensures told { IfOk result (λ signer. (records : Records) → Shows C.Store store.old records → HasCleanDisk (state C.Store store.new)
-        → IsSigning (option_map (λ told. told.now) signing) records.issuer.key (⟦<FileSigner as Signer>⟧.identity signer)) }
+        → IsSigning (option_map (λ told. told.now) signing.entry) records.issuer.key (⟦<FileSigner as Signer>⟧.identity signer)) }
     ensures follows { IfOk result (λ signer. (records : Records) → Shows C.Store store.old records → SoundRows records
         → HasCleanDisk (state C.Store store.new) → Follows records (⟦<FileSigner as Signer>⟧.identity signer).algorithm) }
     ensures looked { Looked C.Store store.old store.new }

@@ -24,19 +24,19 @@ returns-in-Some-clause-follows g c =
     follows crl.bytes (latest_is ∙ ap (option_map (λ (crl : Crl). crl.bytes)) is) other under)
     c.signer_after.ensures.follows
 
-pub returns-in-None-clause-looked : goal.returns-in-None-clause-looked
-returns-in-None-clause-looked g c = looked_then c.latest_crl.ensures.looked c.signer_after.ensures.looked
+pub returns-clause-looked : goal.returns-clause-looked
+returns-clause-looked g c = looked_then c.latest_crl.ensures.looked c.signer_after-in-None.ensures.looked
 
-pub returns-in-None-clause-told : goal.returns-in-None-clause-told
-returns-in-None-clause-told g c =
-    IfOk-weaker c.signer_after.result _ _ (λ signer told. λ records shown clean.
+pub returns-clause-told : goal.returns-clause-told
+returns-clause-told g c =
+    IfOk-weaker c.signer_after-in-None.result _ _ (λ signer told. λ records shown clean.
     (c.holder_of-told.result, told records (looked_shows c.latest_crl.ensures.looked records shown) clean))
-    c.signer_after.ensures.told
+    c.signer_after-in-None.ensures.told
 
-pub returns-in-None-clause-follows : goal.returns-in-None-clause-follows
-returns-in-None-clause-follows g c =
-    IfOk-weaker c.signer_after.result _ _ (λ signer follows. λ records shown sound clean crl is other under.
-    let clean_1 = was_clean (state g.C.Store c.latest_crl.new.store) (state g.C.Store c.signer_after.new.store) c.signer_after.ensures.looked.survives.clean clean in
+pub returns-clause-follows : goal.returns-clause-follows
+returns-clause-follows g c =
+    IfOk-weaker c.signer_after-in-None.result _ _ (λ signer follows. λ records shown sound clean crl is other under.
+    let clean_1 = was_clean (state g.C.Store c.latest_crl.new.store) (state g.C.Store c.signer_after-in-None.new.store) c.signer_after-in-None.ensures.looked.survives.clean clean in
     let latest_is = c.in_ok-latest.ensures.found records shown sound clean_1 in
     follows crl.bytes (latest_is ∙ ap (option_map (λ (crl : Crl). crl.bytes)) is) other under)
-    c.signer_after.ensures.follows
+    c.signer_after-in-None.ensures.follows
