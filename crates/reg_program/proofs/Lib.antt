@@ -2,3 +2,4 @@ pub mod Clean
 pub mod Holding
 pub mod Opened
 pub mod Setting
+pub mod Signers

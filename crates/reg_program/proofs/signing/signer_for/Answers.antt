@@ -5,6 +5,7 @@ use Rattle.sqlite.specs.Held.{state}
 use Rattle.reg_core.specs.Records.{Crl}
 use Rattle.reg_tables.proofs.Staying.{looked_shows, looked_then}
 use Rattle.reg_office.proofs.Composing.{was_clean}
+use Rattle.reg_program.proofs.Signers.{as_found, as_told}
 use Rattle.reg_program.proofs.signing.signer_for.Goals as goal
 
 pub returns-in-Some-clause-looked : goal.returns-in-Some-clause-looked
@@ -13,7 +14,7 @@ returns-in-Some-clause-looked g c = looked_then c.latest_crl.ensures.looked c.si
 pub returns-in-Some-clause-told : goal.returns-in-Some-clause-told
 returns-in-Some-clause-told g c =
     IfOk-weaker c.signer_after.result _ _ (λ signer told. λ records shown clean.
-    told records (looked_shows c.latest_crl.ensures.looked records shown) clean)
+    as_told (λ told. told.now) c.args.signing _ _ _ c.in-Some.is (told records (looked_shows c.latest_crl.ensures.looked records shown) clean))
     c.signer_after.ensures.told
 
 pub returns-in-Some-clause-follows : goal.returns-in-Some-clause-follows
@@ -30,7 +31,7 @@ returns-clause-looked g c = looked_then c.latest_crl.ensures.looked c.signer_aft
 pub returns-clause-told : goal.returns-clause-told
 returns-clause-told g c =
     IfOk-weaker c.signer_after-in-None.result _ _ (λ signer told. λ records shown clean.
-    (c.holder_of-told.result, told records (looked_shows c.latest_crl.ensures.looked records shown) clean))
+    as_found (λ told. told.now) c.args.signing _ _ _ c.in-None.is (told records (looked_shows c.latest_crl.ensures.looked records shown) clean))
     c.signer_after-in-None.ensures.told
 
 pub returns-clause-follows : goal.returns-clause-follows
