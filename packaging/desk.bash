@@ -19,8 +19,7 @@ _desk() {
     --*:?*) COMPREPLY=() ;;
     *)
         if [[ $cur == -* ]]; then
-            [[ ${COMP_WORDS[at]} != serve && ${COMP_WORDS[at]} != open ]] || help+=$'\n  --log'
-            mapfile -t COMPREPLY < <(compgen -W "$(grep -oE -- '^ +(-., )?--[a-z-]+' <<<"$help" | grep -oE -- '--[a-z-]+') --why" -- "$cur")
+            mapfile -t COMPREPLY < <(compgen -W "$(grep -oE -- '^ +(-., )?--[a-z-]+' <<<"$help" | grep -oE -- '--[a-z-]+')" -- "$cur")
         else
             mapfile -t COMPREPLY < <(compgen -f -- "$cur")
         fi

@@ -176,7 +176,7 @@ def desk_page(desk):
     each = {name: parts(told(desk, name)) for name in commands}
     out = ["'\\\" t", *head("DESK", 1, "Certificate register"), ".SH NAME", "desk \\- " + inline(" ".join(top["about"]).rstrip("."))]
     out += [".SH SYNOPSIS", ".nf", *[escaped(each[name]["usage"][0]) for name in commands], ".fi", ".SH DESCRIPTION", inline(" ".join(top["about"]))]
-    out += after(top["after"]) + [".SH COMMANDS"]
+    out += after(top["after"]) + [".SH OPTIONS", *words(top.get("options", [])), ".SH COMMANDS"]
     for name in commands:
         said = each[name]
         out += [f'.SS "{escaped(said["usage"][0])}"', inline(" ".join(said["about"]))]

@@ -69,6 +69,9 @@ def built(t):
     folder = authority.stood_in(t)
     for it in (".git", "LICENSE", "crates.txt", "CHANGELOG.md", "SECURITY.md"):
         (folder / it).symlink_to(TOP / it)
+    # tools/version.sh reads the version there.
+    (folder / "crates").mkdir()
+    (folder / "crates/reg_words").symlink_to(TOP / "crates/reg_words")
     # git follows no link to this one.
     (folder / ".gitignore").write_bytes((TOP / ".gitignore").read_bytes())
     made = folder / "crates/reg_desk/out"
@@ -111,7 +114,7 @@ def installed(t, root, deb):
     verified = root.tried("dpkg", "--verify", "durshavon").stdout.decode().splitlines()
     # A small root may leave documents out.
     t.same([line for line in verified if not re.search("/usr/share/(doc|man)/", line)], [], "files other than as they were packed")
-    t.has(root.run("desk", "--help"), "Usage: desk <COMMAND>")
+    t.has(root.run("desk", "--help"), "Usage: desk [OPTIONS] <COMMAND>")
     t.same(root.run("desk", "--version").splitlines()[0].split()[:2], ["desk", "0.1"], "desk --version")
     replies = root.run("desk", "script", given=(EXAMPLES / "first-day.txt").read_bytes())
     t.same(replies, (EXAMPLES / "first-day.replies.txt").read_text(), "a first day, byte for byte")
@@ -273,6 +276,7 @@ def documented(t, root):
     t.same(sorted(completed("desk", "s")), [it for it in commands if it.startswith("s")], "desk s..")
     t.has(" ".join(completed("desk", "init", "ca.db", "--")), "--name --key --days --crl-life --ocsp-life --cap")
     t.has(" ".join(completed("desk", "--why", "script", "ca.db", "--")), "--signer --algorithm")
+    t.has(" ".join(completed("desk", "open", "ca.db", "--")), "--log --why")
     t.has(" ".join(completed("desk", "import", "ca.db", "--now", "")), time.strftime("%Y-%m-%dT", time.gmtime()))
     t.has(completed("desk", "script", "durs"), "durshavon.deb")
     for unit in sorted((root.path / "lib/systemd/system").glob("desk*@.*")):

@@ -2,7 +2,7 @@
 
 import re
 
-from lib.program import KEY, NAME
+from lib.program import KEY, NAME, TOP
 from lib.trial import each, test
 
 ISSUER = ("--name", NAME, "--key", KEY)
@@ -29,7 +29,11 @@ UNKNOWN = {
     "no word": (),
     "another word": ("frobnicate",),
     "help is no word": ("help",),
-    "version is no option": ("--version",),
+    "version is an option of no command": ("crl", "none.db", "--version"),
+    "--why with a value": ("crl", "none.db", "--why=1"),
+    "--why twice": ("crl", "none.db", "--why", "--why"),
+    "--log before a command": ("--log", *SERVE, "--port", "80", "--requests", "1"),
+    "--log twice": (*SERVE, "--port", "80", "--requests", "1", "--log", "--log"),
     "init alone": ("init",),
     "init without a key": ("init", "none.db", "--name", NAME),
     "init without a name": ("init", "none.db", "--key", KEY),
@@ -136,7 +140,7 @@ def a_socket_and_a_known_algorithm_are_given_both_or_neither(t, words, named):
 
 @each({" ".join(it): it for it in (
     ("import", "--signer=ca.sign"), ("crl", "--algorithm=ed25519"), ("schedule", "--signer=ca.sign"), ("import", "--clock"), ("import", "--strict"),
-    ("crl", "--log"), ("script", "--log"), ("at", "--log"),
+    ("crl", "--log"), ("script", "--log"), ("at", "--log"), ("audit", "--log"),
 )})
 def an_option_of_another_command_is_unexpected(t, command, option):
     t.has(refused(t, command, "none.db", option), "unexpected argument")
@@ -153,20 +157,28 @@ def a_file_whose_name_is_no_text_is_refused(t, words):
     t.has(refused(t, *words, "ca\udcff.db"), "no UTF-8")
 
 
+@each({it: it for it in ("--version", "-V")})
+def the_version_is_told(t, word):
+    ran = t.desk(word)
+    newest = re.search(r"^## (\d\S*)$", (TOP / "CHANGELOG.md").read_text(), re.MULTILINE)[1]
+    t.same((ran.status, ran.out.decode(), ran.err), (0, f"desk {newest}\n", b""), "status, standard output and standard error: as CHANGELOG.md has it")
+
+
 # What is told of each command.
 HELPED = {
-    "--help": ("init", "script", "import", "crl", "serve", "open", "at", "schedule", "audit"),
+    "--help": ("init", "script", "import", "crl", "serve", "open", "at", "schedule", "audit", "--why", "-V, --version"),
     "-h": ("init", "script", "import", "crl", "serve", "open", "at", "schedule", "audit"),
-    "init --help": ("<FILE>", "--name <HEX>", "--key <HEX>", "--days <N>", "--crl-life <N>", "--ocsp-life <N>", "--cap <N>"),
+    "init --help": ("<FILE>", "--name <HEX>", "--key <HEX>", "--days <N>", "--crl-life <N>", "--ocsp-life <N>", "--cap <N>", "--why"),
     "init -h": ("<FILE>", "--name <HEX>"),
-    "script --help": ("[FILE]", "--signer <SOCKET>", "--algorithm <NAME>", "--clock", "--strict", "desk script ca.db"),
-    "import --help": ("<FILE>", "--now <MOMENT>"),
-    "crl --help": ("<FILE>", "--number <N>"),
-    "serve --help": ("<FILE>", "--port <N>", "--requests <N>", "--signer <SOCKET>", "--algorithm <NAME>"),
-    "open --help": ("<FILE>", "--port <N>", "--counter <SOCKET>", "--signer <SOCKET>", "--algorithm <NAME>"),
-    "at --help": ("<SOCKET>", "desk at ca.counter"),
-    "schedule F --help": ("<FILE>", "<MOMENT=DAYS>..."),
-    "audit --help": ("<FILE>", "desk audit ca.db"),
+    "script --help": ("[FILE]", "--signer <SOCKET>", "--algorithm <NAME>", "--clock", "--strict", "--why", "desk script ca.db"),
+    "import --help": ("<FILE>", "--now <MOMENT>", "--why"),
+    "crl --help": ("<FILE>", "--number <N>", "--why"),
+    "serve --help": ("<FILE>", "--port <N>", "--requests <N>", "--signer <SOCKET>", "--algorithm <NAME>", "--log", "--why"),
+    "open --help": ("<FILE>", "--port <N>", "--counter <SOCKET>", "--signer <SOCKET>", "--algorithm <NAME>", "--log", "--why"),
+    "at --help": ("<SOCKET>", "--why", "desk at ca.counter"),
+    "schedule F --help": ("<FILE>", "<MOMENT=DAYS>...", "--why"),
+    "audit --help": ("<FILE>", "--why", "desk audit ca.db"),
+    "--why audit --help": ("<FILE>", "--why", "desk audit ca.db"),
 }
 
 

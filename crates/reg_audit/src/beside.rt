@@ -9,13 +9,14 @@ ghost use Rattle.reg_migration.specs.Refilled.{last_in};
 ghost use Rattle.reg_audit.specs.Beside.{letter_by, standing_by, end_by, listed_with, counted, same_letter};
 ghost use Rattle.reg_audit.specs.Stops.{IsBroken};
 
-use crate::stop::{Stop, Table, Why, broken_at};
+use crate::stop::{Stop, broken_at};
 use reg_core::{CertRow, Counts, CrlRow, Moment, RevocationRow, Serial, Status, status_of};
+use reg_findings::{Table, Why};
 use std::alloc::Global;
 use std::collections::BTreeMap;
 
 /// The state of a certificate at the last accepted moment.
-#[derive(Clone, Copy, Debug, PartialEq, Eq)]
+#[derive(Clone, Copy, PartialEq, Eq)]
 pub enum Letter {
     Good,
     Revoked,
@@ -23,7 +24,7 @@ pub enum Letter {
 }
 
 /// A certificate's state letter.
-#[derive(Clone, Copy, Debug)]
+#[derive(Clone, Copy)]
 pub struct Standing {
     pub serial: Serial,
     pub not_after: Moment,
@@ -31,7 +32,7 @@ pub struct Standing {
 }
 
 /// What CRLs list of a revocation: its certificate's notAfter, and the last CRL that lists it, where that has been issued.
-#[derive(Clone, Copy, Debug)]
+#[derive(Clone, Copy)]
 pub struct Listed {
     pub serial: Serial,
     pub at: Moment,
@@ -42,7 +43,7 @@ pub struct Listed {
 }
 
 /// The rows of the tables that are kept beside the records, each table's in the order of its rowids.
-#[derive(Clone, Copy, Debug)]
+#[derive(Clone, Copy)]
 pub struct Beside<'a> {
     pub letters: &'a [Standing],
     pub counts: Counts,

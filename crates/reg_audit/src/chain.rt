@@ -5,8 +5,9 @@ ghost use Rattle.std.specs.List.{AllByRecursion};
 ghost use Rattle.reg_core.specs.Sound.{NumberedFrom, NeverFalls};
 ghost use Rattle.reg_audit.specs.Stops.{IsBroken};
 
-use crate::stop::{Stop, Table, Why, broken_at};
+use crate::stop::{Stop, broken_at};
 use reg_core::{CrlRow, Moment, OrderRow, RequestRow, SubscriberRow};
+use reg_findings::{Table, Why};
 
 /// A row with an id, or with a CRL number.
 pub(crate) trait Numbered {

@@ -11,7 +11,8 @@ ghost use Rattle.reg_audit.specs.Stops.{IsBroken};
 
 use crate::beside::{Beside, check_counts, listings, same_rows, standings};
 use crate::rows::{Found, Rows, check_rows};
-use crate::stop::{Stop, Table};
+use crate::stop::Stop;
+use reg_findings::Table;
 use std::alloc::Global;
 
 /// Whether what is kept beside the records follows from them.

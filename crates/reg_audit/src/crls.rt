@@ -12,10 +12,11 @@ ghost use Rattle.reg_audit.specs.Crls.{IsCrlOf, Lists, signature_at, lists, entr
 ghost use Rattle.reg_audit.specs.Stops.{IsBroken};
 
 use crate::beside::Listed;
-use crate::stop::{Stop, Table, Why, broken_at};
+use crate::stop::{Stop, broken_at};
 use reg_core::{CrlRow, Entry, Moment};
 use reg_crl::{crl_tbs, crl_whole};
 use reg_der::{Issuer, take};
+use reg_findings::{Table, Why};
 use std::alloc::Global;
 
 /// The most octets of a signature.

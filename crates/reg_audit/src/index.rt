@@ -6,8 +6,9 @@ ghost use Rattle.std.specs.Ordering.{nat_cmp};
 ghost use Rattle.reg_core.specs.Sound.{KeysDiffer};
 ghost use Rattle.reg_audit.specs.Stops.{IsBroken};
 
-use crate::stop::{Stop, Table, Why, broken_at};
+use crate::stop::{Stop, broken_at};
 use reg_core::{CertRow, RevocationRow, Serial, SubscriberRow};
+use reg_findings::{Table, Why};
 use std::alloc::Global;
 use std::collections::{BTreeMap, BTreeSet};
 

@@ -14,4 +14,4 @@ pub use beside::{Beside, Letter, Listed, Standing};
 pub use checking::check;
 pub use crls::check_crl;
 pub use rows::Rows;
-pub use stop::{Broken, Stop, Table, Why};
+pub use stop::Stop;

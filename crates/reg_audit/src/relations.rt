@@ -9,10 +9,11 @@ ghost use Rattle.reg_core.specs.Sound.{NumberedFrom};
 ghost use Rattle.reg_audit.specs.Read.{AreAround, FitsIn};
 ghost use Rattle.reg_audit.specs.Stops.{IsBroken};
 
-use crate::stop::{Stop, Table, Why, broken_at};
+use crate::stop::{Stop, broken_at};
 use reg_core::{
     CertRow, CrlRow, Moment, OrderRow, RequestRow, RevocationRow, Serial, SubscriberRow,
 };
+use reg_findings::{Table, Why};
 use std::collections::BTreeMap;
 
 /// Whether an id is one of so many, from 1 on.

@@ -15,15 +15,16 @@ use crate::index::{
     revocations_by_serial,
 };
 use crate::relations::{certificates_exist, orders_exist, revocations_fit, subscribers_exist};
-use crate::stop::{Stop, Table, Why, broken_at, within_cap};
+use crate::stop::{Stop, broken_at, within_cap};
 use reg_core::{
     CertRow, CrlRow, Moment, OrderRow, RequestRow, RevocationRow, Serial, SubscriberRow,
 };
+use reg_findings::{Table, Why};
 use std::alloc::Global;
 use std::collections::BTreeMap;
 
 /// The rows of the tables of the records, each table's in the order of its rowids, the CRLs without their bytes.
-#[derive(Clone, Copy, Debug)]
+#[derive(Clone, Copy)]
 pub struct Rows<'a> {
     /// The most rows of a table, by the policy.
     pub cap: u64,

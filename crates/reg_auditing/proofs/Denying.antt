@@ -11,7 +11,7 @@ use Rattle.sqlite_trees.proofs.ListLemmas.{IsPermutation-filter}
 use Rattle.reg_core.specs.Calendar.{clock_end}
 use Rattle.reg_core.specs.Crls.{row_of, cert_list}
 use Rattle.reg_core.specs.Policy.{IsPolicy}
-use Rattle.reg_core.specs.Records.{Records, Crl}
+use Rattle.reg_core.specs.Records.{Records, Crl, crl_in}
 use Rattle.reg_core.specs.Sound.{NumberedFrom, KeysDiffer, CrlsSigned, SoundRows}
 use Rattle.reg_core.specs.declared.rows.CrlRow.{CrlRow}
 use Rattle.reg_laws.proofs.Kept.{revocations_within}
@@ -19,7 +19,6 @@ use Rattle.reg_laws.proofs.Lists.{all_map, all_weaker, each_found}
 use Rattle.reg_tables.specs.Columns as column
 use Rattle.reg_tables.specs.Columns.{Columns}
 use Rattle.reg_tables.specs.Kept.{Kept, listed_of}
-use Rattle.reg_tables.specs.Tables.{crl_in}
 use Rattle.reg_audit.proofs.Following.{keys_made}
 use Rattle.reg_audit.specs.Beside.{listed_in}
 use Rattle.reg_audit.specs.declared.beside.Listed.{Listed}

@@ -6,12 +6,11 @@ use Rattle.std.specs.List.Sorted.{IsPermutation}
 use Rattle.std.proofs.lemmas.List.{take_more}
 use Rattle.reg_core.specs.Crls.{row_of, cert_list}
 use Rattle.reg_core.specs.Issuer.{Issuer}
-use Rattle.reg_core.specs.Records.{Records, Crl}
+use Rattle.reg_core.specs.Records.{Records, Crl, crl_in}
 use Rattle.reg_core.specs.Sound.{NumberedFrom, KeysDiffer, CrlsSigned}
 use Rattle.reg_laws.proofs.Lists.{all_push, all_weaker, numbered_above, each_found}
 use Rattle.reg_tables.specs.Columns.{Columns}
 use Rattle.reg_tables.specs.Kept.{Kept, listed_of}
-use Rattle.reg_tables.specs.Tables.{crl_in}
 use Rattle.reg_audit.specs.Beside.{listed_in}
 use Rattle.reg_audit.specs.Crls.{Lists}
 use Rattle.reg_audit.specs.declared.beside.Listed.{Listed}

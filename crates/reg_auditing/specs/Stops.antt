@@ -2,10 +2,10 @@
 use Rattle.std.specs.Prelude.{◌≢◌}
 use Rattle.reg_core.specs.Records.{Records}
 use Rattle.reg_core.specs.Sound.{Sound, SoundRows}
-use Rattle.reg_audit.specs.declared.stop.Broken.{Broken as Row}
+use Rattle.reg_findings.specs.declared.finding.Broken.{Broken as Row}
 use Rattle.reg_audit.specs.declared.stop.Stop.{Stop}
 use Rattle.reg_audit.specs.declared.stop.Stop.TheVariants as found
-use Rattle.reg_audit.specs.declared.stop.Why.TheVariants.{OtherBytes}
+use Rattle.reg_findings.specs.declared.finding.Why.TheVariants.{OtherBytes}
 use Rattle.reg_tables.specs.Columns.{Columns}
 use Rattle.reg_tables.specs.Kept.{Kept}
 use Rattle.reg_tables.specs.declared.fault.CallFault.{CallFault}

@@ -22,16 +22,9 @@ use crate::stop::AuditStop;
 use crate::stored::check_crls;
 use crate::texts::What;
 use crate::watch::{Unwatched, Watch};
+use reg_findings::Audited;
 use sqlite::{Alter, Connection};
 use std::alloc::Global;
-
-/// How many rows an audit found well: those of certificates, of revocations and of CRLs.
-#[derive(Clone, Copy, Debug, PartialEq, Eq)]
-pub struct Audited {
-    pub certificates: usize,
-    pub revoked: usize,
-    pub crls: usize,
-}
 
 /// What is read, in this order.
 const WHOLE: [What; 10] = [

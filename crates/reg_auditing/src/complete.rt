@@ -20,11 +20,12 @@ use crate::stop::AuditStop;
 use crate::texts::What;
 use crate::typed::OfRow;
 use crate::values::{moment_at, number_at};
-use reg_audit::{Broken, Listed, Standing, Table, Why};
+use reg_audit::{Listed, Standing};
 use reg_core::{
     CertRow, Counts, CrlRow, Moment, OrderRow, Policy, RequestRow, RevocationRow, Schedule,
     SubscriberRow,
 };
+use reg_findings::{Broken, Table, Why};
 use sqlite::Row;
 use std::alloc::Global;
 

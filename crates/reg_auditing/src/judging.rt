@@ -11,7 +11,6 @@ ghost use Rattle.reg_auditing.specs.Said.{IsReadOf, IsReadFrom, AreRead, AreRead
 ghost use Rattle.reg_auditing.specs.Stops.{IsBroken};
 ghost use Rattle.reg_auditing.specs.Values.{HasValues};
 
-use crate::auditing::Audited;
 use crate::stop::AuditStop;
 use crate::tables::{
     certificates, counts, crls, letters, listings, office, orders, requests, revocations,
@@ -19,6 +18,7 @@ use crate::tables::{
 };
 use crate::texts::What;
 use reg_audit::{Beside, Rows, check};
+use reg_findings::Audited;
 use sqlite::Row;
 use std::alloc::Global;
 

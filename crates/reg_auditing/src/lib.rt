@@ -13,6 +13,6 @@ mod typed;
 mod values;
 mod watch;
 
-pub use auditing::{Audited, audit};
+pub use auditing::audit;
 pub use stop::AuditStop;
 pub use watch::{Unwatched, Watch};

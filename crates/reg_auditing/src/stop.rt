@@ -2,12 +2,13 @@
 
 ghost use Rattle.std.specs.Prelude.{◌≡◌, ◌⊎◌};
 
-use reg_audit::{Broken, Stop};
+use reg_audit::Stop;
+use reg_findings::Broken;
 use reg_tables::CallFault;
 use std::alloc::AllocFailed;
 
 /// Why an audit comes to no good end.
-#[derive(Clone, Copy, Debug, PartialEq, Eq)]
+#[derive(Clone, Copy, PartialEq, Eq)]
 pub enum AuditStop {
     /// Memory could not be had.
     Memory,

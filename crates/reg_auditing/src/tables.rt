@@ -12,8 +12,9 @@ ghost use Rattle.reg_auditing.specs.declared.texts.What.TheVariants.{Office as O
 
 use crate::stop::AuditStop;
 use crate::typed::{OfficeRow, only, typed};
-use reg_audit::{Listed, Standing, Table};
+use reg_audit::{Listed, Standing};
 use reg_core::{CertRow, Counts, CrlRow, OrderRow, RequestRow, RevocationRow, SubscriberRow};
+use reg_findings::Table;
 use sqlite::Row;
 use std::alloc::Global;
 

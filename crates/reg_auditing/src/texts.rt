@@ -60,7 +60,7 @@ pub(crate) const TERMS: &str =
 pub(crate) const STEPS: &str = "SELECT from_at, days FROM longest ORDER BY from_at";
 
 /// What is read by one statement.
-#[derive(Clone, Copy, Debug)]
+#[derive(Clone, Copy)]
 pub(crate) enum What {
     Office,
     Subscribers,

@@ -9,10 +9,11 @@ use crate::values::{
     clock_moment_at, flag_at, ground_at, label_at, letter_at, moment_at, number_at,
     number_or_null_at, reason_at, serial_at,
 };
-use reg_audit::{Broken, Listed, Standing, Table, Why};
+use reg_audit::{Listed, Standing};
 use reg_core::{
     CertRow, Counts, CrlRow, Moment, OrderRow, RequestRow, RevocationRow, SubscriberRow,
 };
+use reg_findings::{Broken, Table, Why};
 use sqlite::Row;
 use std::alloc::Global;
 
@@ -39,7 +40,7 @@ pub(crate) trait OfRow: Copy {
 }
 
 /// The cap and the last accepted moment.
-#[derive(Clone, Copy, Debug)]
+#[derive(Clone, Copy)]
 pub(crate) struct OfficeRow {
     pub(crate) cap: u64,
     pub(crate) last: Moment,

@@ -2,5 +2,7 @@
 #![tactic(auto)]
 
 mod calls;
+mod keeper;
 
 pub use calls::Calls;
+pub use keeper::Keeper;

@@ -9,7 +9,7 @@ use sqlite_std_file::OpenError;
 use std::io::ErrorKind;
 
 /// Why a call of the machine failed.
-#[derive(Clone, Copy, Debug, PartialEq, Eq)]
+#[derive(Clone, Copy, PartialEq, Eq)]
 pub enum Cause {
     /// Nothing lies at the path.
     NoFile,

@@ -1,18 +1,15 @@
 -- The days of the office stay over a change.
-use Rattle.std.proofs.Common.{◌≡◌, ◌≤◌, ℕ, Result, Ok, Err, OnOk, refl, sym, ap, ◌∙◌}
+use Rattle.std.proofs.Common.{◌≡◌, ℕ, Result, Ok, Err, OnOk, refl, sym, ap, ◌∙◌}
 use Rattle.sqlite_value.specs.declared.value.Value.TheVariants.{Int}
-use Rattle.sqlite_trees.specs.View.{doubt}
 use Rattle.sqlite_trees.specs.declared.store.Store.{Ghosts}
 use Rattle.sqlite.specs.Effect.{Database}
-use Rattle.sqlite.specs.Held.{Held, state}
+use Rattle.sqlite.specs.Held.{Held}
 use Rattle.reg_core.specs.Records.{Records}
 use Rattle.reg_core.specs.declared.change.Change.{Change}
 use Rattle.reg_core.specs.declared.change.Change.TheVariants.{Touch, Subscriber, Order, Certificate, Request, Decline, Revocation, Crl as NewCrl}
 use Rattle.reg_tables.specs.Columns.{Columns, office_days}
 use Rattle.reg_tables.specs.Rows.{number}
 use Rattle.reg_tables.specs.Shows.{Holds, ShowsBoth, AreBoth, HasOfficeDays, KeepsOfficeDays}
-use Rattle.reg_tables.specs.Stays.{Stays}
-use Rattle.reg_tables.proofs.Staying.{stays_holds}
 use Rattle.reg_changes.specs.Beside.{beside}
 
 -- no change turns the days that are kept
@@ -37,10 +34,6 @@ AreBothOf records columns days db = AreBoth db records columns × (office_days (
 
 pub shows_days : {S : Type 0} (g : Ghosts S) (h : Held S) (records : Records) (columns : Columns) (days : ℕ) → ShowsBoth g h records columns → HasOfficeDays g h days → Holds g h (AreBothOf records columns days)
 shows_days g h records columns days both has = record { saved = both.saved; tables = λ clean up. (both.tables clean up, has.tables clean up) }
-
--- a look-up leaves them
-pub stays_days : {S : Type 0} (g : Ghosts S) (old new : Held S) → doubt (state g old).is_clean ≤ doubt (state g new).is_clean → Stays (state g old) (state g new) → KeepsOfficeDays g old new
-stays_days g old new forgets stays days = stays_holds g old new (λ db. office_days (db.trees 0) ≡ number days) forgets stays
 
 -- and so does a call after another
 pub keeps_days_then : {S A E : Type 0} (g : Ghosts S) (a b c : Held S) (r : Result A E) → KeepsOfficeDays g a b → OnOk r (KeepsOfficeDays g b c) → OnOk r (KeepsOfficeDays g a c)

@@ -26,9 +26,11 @@ use Rattle.reg_tables.specs.Kept.{letter_of, standing_of, not_after_of, listed_o
 use Rattle.reg_laws.proofs.Lists.{all_push, all_weaker, all_join, find_none, find_front, find_back, find_past, some_and_of}
 use Rattle.reg_laws.proofs.Listed.{past_end_is}
 use Rattle.reg_laws.proofs.Listings.{last_stays, last_added, first_by_next, last_new, last_kept}
-use Rattle.reg_changes.specs.Steps.{turned, lettered, swept, ended_by, is_good_at, good_at, revoked_at, has_passed, last_at, with_good, marked, with_counts, shifted}
+use Rattle.reg_writing.specs.Steps.{turned, with_counts}
+use Rattle.reg_changes.specs.Steps.{lettered, swept, ended_by, is_good_at, good_at, revoked_at, has_passed, last_at, with_good, marked, shifted}
 use Rattle.reg_changes.specs.Beside.{after, end_by}
-use Rattle.reg_changes.proofs.Letters.{letter_counts, counts_swept, counts_good, counts_revoked, ended_enough, map_same, found_each, counts_stand}
+use Rattle.reg_writing.proofs.Letters.{letter_counts, map_same, found_each, counts_stand}
+use Rattle.reg_changes.proofs.Letters.{counts_swept, counts_good, counts_revoked, ended_enough}
 
 -- ---- time passes
 

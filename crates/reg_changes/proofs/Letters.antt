@@ -1,42 +1,14 @@
 -- The letters and their counts, as time passes, as a certificate is new and as one is revoked.
-use Rattle.std.proofs.Common.{◌≡◌, ◌+◌, ◌-◌, ◌≤◌, ℕ, Bool, true, false, cond, ◌&&◌, List, [], ◌∷◌, ◌++◌, map, filter, length, Option, Some, None, refl, sym, ap, ap₂, subst, ◌∙◌, arith}
-use Rattle.std.specs.Prelude.{nat_lt}
-use Rattle.std.specs.List.{AllByRecursion}
-use Rattle.std.specs.List.Sorted.{IsPermutation}
+use Rattle.std.proofs.Common.{◌≡◌, ◌+◌, ◌-◌, ◌≤◌, ℕ, Bool, true, false, cond, ◌&&◌, List, [], ◌∷◌, ◌++◌, map, filter, length, refl, sym, ap, ◌∙◌, arith}
 use Rattle.std.proofs.lemmas.List.{length-map}
-use Rattle.std.proofs.lemmas.List.Sorted.{length_permutation}
-use Rattle.sqlite_trees.proofs.ListLemmas.{filter-map, IsPermutation-filter}
-use Rattle.reg_core.specs.Records.{Records, certificate_in, revocation_in}
-use Rattle.reg_core.specs.Sound.{SoundRows}
-use Rattle.reg_core.specs.Status as core
-use Rattle.reg_core.specs.Status.{status, status_by, counts, registered}
+use Rattle.sqlite_trees.proofs.ListLemmas.{filter-map}
 use Rattle.reg_core.specs.declared.command.Counts.{Counts}
-use Rattle.reg_core.specs.declared.command.Status.{Status}
-use Rattle.reg_core.specs.declared.command.Status.TheVariants.{Good, Expired}
-use Rattle.reg_core.specs.declared.rows.CertRow.{CertRow}
-use Rattle.reg_core.specs.declared.rows.RevocationRow.{RevocationRow}
 use Rattle.reg_tables.specs.Columns.{Letter, good, revoked, expired, is_good_letter, ends_before, Standing}
-use Rattle.reg_tables.specs.Kept.{letter_of, standing_of}
 use Rattle.reg_laws.proofs.CountFacts.{one_if, sum_of_two, same_length}
-use Rattle.reg_laws.proofs.Lists.{all_any, all_weaker, each_found}
-use Rattle.reg_changes.specs.Steps.{turned, lettered, is_good_at, shifted}
-
-abbrev pub is_revoked : Letter → Bool
-is_revoked good = false
-is_revoked revoked = true
-is_revoked expired = false
-
-abbrev pub is_expired : Letter → Bool
-is_expired good = false
-is_expired revoked = false
-is_expired expired = true
-
-abbrev with_letter : (Letter → Bool) → List Standing → ℕ
-with_letter test rows = length (filter (λ (row : Standing). test row.letter) rows)
-
--- how many rows have each letter
-abbrev pub letter_counts : List Standing → Counts
-letter_counts rows = record { good = with_letter is_good_letter rows; revoked = with_letter is_revoked rows; expired = with_letter is_expired rows }
+use Rattle.reg_laws.proofs.Lists.{all_any}
+use Rattle.reg_writing.specs.Steps.{turned}
+use Rattle.reg_changes.specs.Steps.{lettered, is_good_at, shifted}
+use Rattle.reg_writing.proofs.Letters.{is_revoked, is_expired, with_letter, letter_counts, same_counts}
 
 -- ---- some good ones are turned
 
@@ -100,9 +72,6 @@ ended_good now row h = good_letter row.letter (and_first _ _ h)
 at_good : (serial : ℕ) (row : Standing) → is_good_at serial row ≡ true → row.letter ≡ good
 at_good serial row h = good_letter row.letter (and_second _ _ h)
 
-same_counts : (a b : Counts) → a.good ≡ b.good → a.revoked ≡ b.revoked → a.expired ≡ b.expired → a ≡ b
-same_counts a b p q r = λ i. record { good = p i; revoked = q i; expired = r i }
-
 -- ---- the counts as they move
 
 -- as time passes
@@ -155,57 +124,3 @@ counts_revoked ended serial base rows is one enough =
 -- no more than the good ones end
 pub ended_enough : (now : ℕ) (rows : List Standing) → length (filter (ends_before now) rows) ≤ with_letter is_good_letter rows
 ended_enough now rows = let good_ones = fewer (ends_before now) expired (ended_good now) is_good_letter refl refl rows in omega arith
-
--- ---- the letters of the records
-
-pub map_same : {A B : Type 0} (f g : A → B) (xs : List A) → AllByRecursion (λ x. f x ≡ g x) xs → map f xs ≡ map g xs
-map_same f g [] all = refl
-map_same f g (x ∷ xs) all = ap₂ ◌∷◌ all.0 (map_same f g xs all.1)
-
--- each certificate is found by its serial number
-pub found_each : (records : Records) → SoundRows records → AllByRecursion (λ (row : CertRow). certificate_in records.certificates row.serial ≡ Some row) records.certificates
-found_each records sound = each_found (λ (row : CertRow). row.serial) records.certificates sound.certificates.serials_differ
-
--- the letters of the records are counted as their statuses are
-letter_good : (moment : ℕ) (row : CertRow) (revocation : Option RevocationRow) → is_good_letter (letter_of (status_by moment (Some row) revocation)) ≡ core.is_good (status_by moment (Some row) revocation)
-letter_good moment row (Some revocation) = refl
-letter_good moment row None = go (nat_lt row.not_after moment)
-  where
-    go : (b : Bool) → is_good_letter (letter_of (cond b Expired Good)) ≡ core.is_good (cond b Expired Good)
-    go true = refl
-    go false = refl
-
-letter_revoked : (moment : ℕ) (row : CertRow) (revocation : Option RevocationRow) → is_revoked (letter_of (status_by moment (Some row) revocation)) ≡ core.is_revoked (status_by moment (Some row) revocation)
-letter_revoked moment row (Some revocation) = refl
-letter_revoked moment row None = go (nat_lt row.not_after moment)
-  where
-    go : (b : Bool) → is_revoked (letter_of (cond b Expired Good)) ≡ core.is_revoked (cond b Expired Good)
-    go true = refl
-    go false = refl
-
-letter_expired : (moment : ℕ) (row : CertRow) (revocation : Option RevocationRow) → is_expired (letter_of (status_by moment (Some row) revocation)) ≡ core.is_expired (status_by moment (Some row) revocation)
-letter_expired moment row (Some revocation) = refl
-letter_expired moment row None = go (nat_lt row.not_after moment)
-  where
-    go : (b : Bool) → is_expired (letter_of (cond b Expired Good)) ≡ core.is_expired (cond b Expired Good)
-    go true = refl
-    go false = refl
-
-module _ (records : Records) (found : AllByRecursion (λ (row : CertRow). certificate_in records.certificates row.serial ≡ Some row) records.certificates) (letters : List Standing)
-    (stand : IsPermutation (map (standing_of records) records.certificates) letters) where
-  counted_by : (test : Letter → Bool) (of : Status → Bool) → ((row : CertRow) (revocation : Option RevocationRow) → test (letter_of (status_by records.last (Some row) revocation)) ≡ of (status_by records.last (Some row) revocation))
-      → with_letter test letters ≡ length (registered of records records.last)
-  counted_by test of same =
-      let those = map (standing_of records) records.certificates in
-      length_permutation _ _ (IsPermutation-filter (λ (row : Standing). test row.letter) those letters stand)
-      ∙ ap length (filter-map (λ (row : Standing). test row.letter) (standing_of records) records.certificates) ∙ length-map _ _
-      ∙ same_length (λ row. test (standing_of records row).letter) (λ (row : CertRow). of (status records row.serial records.last)) records.certificates
-      (all_weaker (λ (row : CertRow). certificate_in records.certificates row.serial ≡ Some row) (λ (row : CertRow). test (standing_of records row).letter ≡ of (status records row.serial records.last))
-      (λ row is.
-      let P : Option CertRow → Type 0 = λ known. test (letter_of (status_by records.last known (revocation_in records.revocations row.serial))) ≡ of (status_by records.last known (revocation_in records.revocations row.serial)) in
-      subst P (sym is) (same row (revocation_in records.revocations row.serial)))
-      records.certificates found)
-
-  -- the letters count the statuses at the last accepted moment
-  pub counts_stand : letter_counts letters ≡ counts records records.last
-  counts_stand = same_counts _ _ (counted_by is_good_letter core.is_good (letter_good records.last)) (counted_by is_revoked core.is_revoked (letter_revoked records.last)) (counted_by is_expired core.is_expired (letter_expired records.last))

@@ -8,7 +8,7 @@ use Rattle.reg_core.specs.declared.change.Change.TheVariants.{Touch, Subscriber,
 use Rattle.reg_core.specs.declared.rows.CertRow.{CertRow}
 use Rattle.reg_tables.specs.Columns.{Columns}
 use Rattle.reg_changes.specs.Beside.{TurnsOne, beside}
-use Rattle.reg_changes.specs.Ran.{Before, Moved}
+use Rattle.reg_writing.specs.Ran.{Before, Moved}
 
 -- a change at the last accepted moment, and then the moment
 pub moment_set : (records : Records) (now : ℕ) (change : Change) → touched (changed_by records records.last change) now ≡ changed_by records now change

@@ -1,38 +1,15 @@
 -- What the texts mean over the tables of a register.
-use Rattle.std.proofs.Common.{◌≡◌, ℕ, pos, List, [], ◌∷◌, codes, refl}
+use Rattle.std.proofs.Common.{ℕ, pos, List, [], ◌∷◌, codes, refl}
 use Rattle.sqlite_value.specs.declared.value.Value.TheVariants.{Null, Int, Text}
 use Rattle.sqlite_value.specs.declared.keys.Collation.TheVariants.{Binary}
 use Rattle.sqlite_sql.specs.Term.{Term, lit, col, op2}
 use Rattle.sqlite_sql.specs.declared.ops.BinaryOp.TheVariants.{Compare, Is}
 use Rattle.sqlite_sql.specs.declared.ops.CompareOp.TheVariants.{Eq, Lt}
-use Rattle.sqlite_schema.specs.declared.command.Command.{Command}
-use Rattle.sqlite_schema.specs.declared.command.Command.TheVariants.{Insert, Update, Delete}
-use Rattle.sqlite_schema.specs.declared.command.Source.TheVariants.{Values}
-use Rattle.sqlite.specs.Given.{IsPlain}
 use Rattle.sqlite.specs.Listing.{understood}
 use Rattle.sqlite_tied.specs.Compute.{everything}
 use Rattle.reg_tables.specs.Schema.{register_schema}
-use Rattle.reg_tables.specs.Reading.{command_of}
-use Rattle.reg_tables.proofs.Queries.{selects, no_limit}
-use Rattle.reg_changes.specs.declared.texts.TheConstants.{SWEEP, MARK_REVOKED, SET_COUNTS, SET_LAST, PUT_SUBSCRIBER, PUT_ORDER, PUT_CERT, PUT_LETTER, PUT_REQUEST, SET_DECLINED, PUT_REVOCATION, PUT_LISTED, PUT_CRL, MARK_LISTED, CLEAR_STEPS, PUT_STEP}
-
--- an UPDATE of a table: which rows, and what it makes of their columns
-abbrev pub updates : ℕ → ℕ → List Term → List Term → Command
-updates place tree filter columns =
-    Update place (record { lets = []; body = selects tree filter (col 1 0 ∷ col 1 0 ∷ columns) [] no_limit })
-
--- an INSERT of one row: its rowid or NULL, and its columns
-abbrev pub inserts : ℕ → List Term → ℕ → Command
-inserts place terms width = Insert place (Values terms width)
-
--- a DELETE of all rows of a table
-abbrev pub deletes : ℕ → ℕ → Command
-deletes place tree = Delete place (record { lets = []; body = selects tree [] (col 1 0 ∷ []) [] no_limit })
-
--- a text that writes means one statement
-pub record IsWriting (text : List ℕ) (command : Command) : Type 0 where
-  pub plain : IsPlain (understood register_schema text)
-  pub is : command_of (understood register_schema text) ≡ command
+use Rattle.reg_changes.specs.declared.texts.TheConstants.{SWEEP, MARK_REVOKED, SET_LAST, PUT_SUBSCRIBER, PUT_ORDER, PUT_CERT, PUT_LETTER, PUT_REQUEST, SET_DECLINED, PUT_REVOCATION, PUT_LISTED, PUT_CRL, MARK_LISTED, CLEAR_STEPS}
+use Rattle.reg_writing.proofs.Meaning.{updates, inserts, deletes, IsWriting}
 
 abbrev pub equals : Term → Term → Term
 equals a b = op2 (Compare Eq Binary) a b
@@ -50,10 +27,6 @@ sweep_means = record { plain = (refl, refl); is = refl }
 pub mark_revoked_means : IsWriting MARK_REVOKED.now (updates 7 12 (equals (col 1 1) (col 0 0) ∷ equals (col 1 3) (text (codes "G")) ∷ []) (col 1 1 ∷ col 1 2 ∷ text (codes "R") ∷ []))
 unfolding understood everything register_schema
 mark_revoked_means = record { plain = (refl, refl); is = refl }
-
-pub set_counts_means : IsWriting SET_COUNTS.now (updates 8 14 [] (lit Null ∷ col 0 0 ∷ col 0 1 ∷ col 0 2 ∷ []))
-unfolding understood everything register_schema
-set_counts_means = record { plain = (refl, refl); is = refl }
 
 pub set_last_means : IsWriting SET_LAST.now (updates 0 0 [] (lit Null ∷ col 1 2 ∷ col 1 3 ∷ col 1 4 ∷ col 1 5 ∷ col 1 6 ∷ col 1 7 ∷ col 1 8 ∷ col 0 0 ∷ []))
 unfolding understood everything register_schema
@@ -98,10 +71,6 @@ put_crl_means = record { plain = (refl, refl); is = refl }
 pub mark_listed_means : IsWriting MARK_LISTED.now (updates 9 15 (op2 (Is Binary) (col 1 6) (lit Null) ∷ below (col 1 5) (col 0 1) ∷ []) (col 1 1 ∷ col 1 2 ∷ col 1 3 ∷ col 1 4 ∷ col 1 5 ∷ col 0 0 ∷ []))
 unfolding understood everything register_schema
 mark_listed_means = record { plain = (refl, refl); is = refl }
-
-pub put_step_means : IsWriting PUT_STEP.now (inserts 10 (col 0 0 ∷ lit Null ∷ col 0 1 ∷ []) 3)
-unfolding understood everything register_schema
-put_step_means = record { plain = (refl, refl); is = refl }
 
 pub clear_steps_means : IsWriting CLEAR_STEPS.now (deletes 10 17)
 unfolding understood everything register_schema

@@ -1,34 +1,21 @@
--- After a statement that writes, the tables obey the register's schema.
-use Rattle.std.proofs.Common.{◌≡◌, ℕ, List, [], ◌∷◌, None, IsTrue}
+-- After a statement of a change, the tables obey the register's schema.
+use Rattle.std.proofs.Common.{◌≡◌, ℕ, [], ◌∷◌, IsTrue}
 use Rattle.sqlite_value.specs.declared.value.Value.TheVariants.{Null}
 use Rattle.sqlite_value.specs.Order.{Row}
 use Rattle.sqlite_sql.specs.Term.{lit, col}
-use Rattle.sqlite_schema.specs.declared.command.Command.{Command}
 use Rattle.sqlite.specs.Effect.{IsDatabase}
-use Rattle.sqlite.specs.Listing.{understood}
-use Rattle.sqlite.specs.State.{State, Runs}
-use Rattle.sqlite.proofs.Callers.{runs_as, statement_of}
+use Rattle.sqlite.specs.State.{State}
 use Rattle.reg_tables.specs.Schema.{register_schema}
-use Rattle.reg_changes.specs.Ran.{Ran}
-use Rattle.reg_changes.specs.declared.texts.TheConstants.{SET_COUNTS, SET_LAST, CLEAR_STEPS, PUT_STEP}
-use Rattle.reg_changes.proofs.Meaning.{IsWriting, updates, inserts, deletes, set_counts_means, set_last_means, clear_steps_means, put_step_means}
-
--- whatever the text, if its command is one that writes
-pub obeys : (sql : List ℕ) (params : Row) (old new : State) (count : ℕ) (command : Command) → ((text : List ℕ) → Runs old new None command text params count → IsDatabase new.now) → IsWriting sql command
-    → Ran sql params old new count → (IsTrue old.is_open → old.now.schema ≡ register_schema) → IsDatabase new.now
-obeys sql params old new count command writes means ran schema =
-    writes (statement_of sql (understood register_schema sql)) (runs_as sql params old new register_schema (schema ran.was_open) command means.is means.plain count ran.ran)
+use Rattle.reg_writing.specs.Ran.{Ran}
+use Rattle.reg_changes.specs.declared.texts.TheConstants.{SET_LAST, CLEAR_STEPS}
+use Rattle.reg_writing.proofs.Meaning.{updates, deletes}
+use Rattle.reg_changes.proofs.Meaning.{set_last_means, clear_steps_means}
+use Rattle.reg_writing.proofs.Obeying.{obeys}
 
 module _ (params : Row) (old new : State) (count : ℕ) where
-  pub counts_obey : Ran SET_COUNTS.now params old new count → (IsTrue old.is_open → old.now.schema ≡ register_schema) → IsDatabase new.now
-  counts_obey = obeys SET_COUNTS.now params old new count (updates 8 14 [] (lit Null ∷ col 0 0 ∷ col 0 1 ∷ col 0 2 ∷ [])) (λ text w. w.sound) set_counts_means
-
   pub last_obeys : Ran SET_LAST.now params old new count → (IsTrue old.is_open → old.now.schema ≡ register_schema) → IsDatabase new.now
   last_obeys =
       obeys SET_LAST.now params old new count (updates 0 0 [] (lit Null ∷ col 1 2 ∷ col 1 3 ∷ col 1 4 ∷ col 1 5 ∷ col 1 6 ∷ col 1 7 ∷ col 1 8 ∷ col 0 0 ∷ [])) (λ text w. w.sound) set_last_means
 
   pub cleared_obeys : Ran CLEAR_STEPS.now params old new count → (IsTrue old.is_open → old.now.schema ≡ register_schema) → IsDatabase new.now
   cleared_obeys = obeys CLEAR_STEPS.now params old new count (deletes 10 17) (λ text w. w.sound) clear_steps_means
-
-  pub step_obeys : Ran PUT_STEP.now params old new count → (IsTrue old.is_open → old.now.schema ≡ register_schema) → IsDatabase new.now
-  step_obeys = obeys PUT_STEP.now params old new count (inserts 10 (col 0 0 ∷ lit Null ∷ col 0 1 ∷ []) 3) (λ text w. w.sound) put_step_means

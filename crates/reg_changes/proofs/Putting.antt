@@ -1,6 +1,5 @@
 -- The steps that put a row into a table.
 use Rattle.std.proofs.Common.{◌≡◌, ◌+◌, ℕ, List, [], ◌∷◌, ◌++◌, map, length, cond, None, codes, IsTrue, refl, ap, ◌∙◌, arith}
-use Rattle.std.specs.List.{AllByRecursion}
 use Rattle.sqlite_value.specs.declared.value.Value.TheVariants.{Null, Text, Blob}
 use Rattle.sqlite_trees.specs.Tree.{put_row}
 use Rattle.sqlite_sql.specs.Term.{lit, col, eval_all}
@@ -22,19 +21,16 @@ use Rattle.reg_tables.specs.Rows.{number, serial_value, ground_place, counted_ro
 use Rattle.reg_tables.specs.Columns.{good, Standing, Listed, Columns, stored_standing, stored_listed, office_days}
 use Rattle.reg_tables.specs.Shows.{AreBoth}
 use Rattle.reg_tables.specs.Stays.{Moves}
-use Rattle.reg_changes.specs.Ran.{Ran}
+use Rattle.reg_writing.specs.Ran.{Ran}
 use Rattle.reg_changes.specs.Steps.{with_good, with_unlisted}
 use Rattle.reg_changes.specs.declared.texts.TheConstants.{PUT_SUBSCRIBER, PUT_ORDER, PUT_CERT, PUT_LETTER, PUT_REQUEST, PUT_REVOCATION, PUT_LISTED, PUT_CRL}
 use Rattle.reg_changes.proofs.Meaning.{text, put_subscriber_means, put_order_means, put_cert_means, put_letter_means, put_request_means, put_revocation_means, put_listed_means, put_crl_means}
-use Rattle.reg_changes.proofs.Placing.{counted_put, stored_put, mapped_push}
-use Rattle.reg_changes.proofs.Edits.{cast_int, cast_null}
-use Rattle.reg_changes.proofs.Registers.{puts_row, puts_spares}
-use Rattle.reg_changes.proofs.Spared.{rows_spared, columns_spared, letters_are, listings_are, subscriber_more, order_more, certificate_more, request_more, revocation_more, crl_more}
-use Rattle.reg_changes.proofs.Sweeping.{moves}
-
-pub pushed : {A : Type 0} (P : A → Type 0) (xs : List A) (x : A) → AllByRecursion P xs → P x → AllByRecursion P (xs ++ x ∷ [])
-pushed P [] x all here = (here, tt)
-pushed P (y ∷ xs) x all here = (all.0, pushed P xs x all.1 here)
+use Rattle.reg_writing.proofs.Placing.{counted_put, stored_put, mapped_push, pushed}
+use Rattle.reg_writing.proofs.Edits.{cast_int, cast_null}
+use Rattle.reg_writing.proofs.Registers.{puts_row, puts_spares}
+use Rattle.reg_writing.proofs.Spared.{rows_spared, columns_spared, letters_are, listings_are}
+use Rattle.reg_changes.proofs.Spared.{subscriber_more, order_more, certificate_more, request_more, revocation_more, crl_more}
+use Rattle.reg_writing.proofs.Moving.{moves}
 
 next_numbered : {A : Type 0} (key : A → ℕ) (from : ℕ) (xs : List A) (x : A) → NumberedFrom key from xs → key x ≡ from + length xs → NumberedFrom key from (xs ++ x ∷ [])
 next_numbered key from [] x numbered is = (omega arith, tt)

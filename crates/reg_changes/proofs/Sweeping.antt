@@ -1,4 +1,4 @@
--- The steps that turn letters, marks, counts and the last moment.
+-- The steps that turn letters, marks and the last moment.
 use Rattle.std.proofs.Common.{◌≡◌, ◌+◌, ℕ, pos, Bool, true, false, cond, ◌&&◌, List, [], ◌∷◌, map, length, filter, codes, Option, Some, None, is_none, IsTrue, refl, sym, ap, ap₂, subst, ◌∙◌, arith}
 use Rattle.std.specs.Prelude.{nat_lt, ◌==◌}
 use Rattle.std.specs.List.{AllByRecursion}
@@ -12,32 +12,31 @@ use Rattle.sqlite_sql.specs.Term.{Term, lit, col, op2}
 use Rattle.sqlite_sql.specs.Ops.{binary, is_true, from_truth}
 use Rattle.sqlite_sql.specs.declared.ops.BinaryOp.TheVariants.{Is}
 use Rattle.sqlite_sql.specs.declared.ops.CompareOp.TheVariants.{Eq}
-use Rattle.sqlite.specs.Effect.{Database}
 use Rattle.sqlite.specs.State.{State}
 use Rattle.reg_core.specs.Changes.{touched, with_declined, declined_if}
 use Rattle.reg_core.specs.Records.{Records}
 use Rattle.reg_core.specs.Serial.{IsSerial}
 use Rattle.reg_core.specs.Sound.{NumberedFrom}
-use Rattle.reg_core.specs.declared.command.Counts.{Counts}
 use Rattle.reg_core.specs.declared.rows.RequestRow.{RequestRow}
-use Rattle.reg_tables.specs.Schema.{register_schema, standing, kept, listed, office, request}
+use Rattle.reg_tables.specs.Schema.{register_schema, standing, listed, office, request}
 use Rattle.reg_tables.specs.Rows.{number, serial_value, counted_rows, stored_office, stored_request}
-use Rattle.reg_tables.specs.Columns.{Letter, good, revoked, expired, is_good_letter, ends_before, letter_text, Standing, Listed, Columns, stored_standing, stored_counts, stored_listed, number_or_null, office_days}
+use Rattle.reg_tables.specs.Columns.{Letter, good, revoked, expired, is_good_letter, ends_before, letter_text, Standing, Listed, Columns, stored_standing, stored_listed, number_or_null, office_days}
 use Rattle.reg_tables.specs.Shows.{AreBoth}
 use Rattle.reg_tables.specs.Stays.{Moves}
 use Rattle.reg_tables.proofs.Compares.{compares, and_true, eq_number, lt_number, eq_text, eq_serial}
 use Rattle.reg_tables.proofs.Queries.{passes, all_of}
-use Rattle.reg_changes.specs.Ran.{Ran}
-use Rattle.reg_changes.specs.Steps.{turned, lettered, swept, ended_by, is_good_at, revoked_at, good_at, has_passed, last_at, marked, with_counts}
-use Rattle.reg_changes.specs.declared.texts.TheConstants.{SWEEP, MARK_REVOKED, SET_COUNTS, SET_LAST, SET_DECLINED, MARK_LISTED}
-use Rattle.reg_changes.proofs.Meaning.{IsWriting, updates, equals, below, text, sweep_means, mark_revoked_means, set_counts_means, set_last_means, set_declined_means, mark_listed_means}
-use Rattle.reg_changes.proofs.Turning.{IsKeyed, behind_table, behind_keyed, behind_turned, behind_passing, stored_table, stored_keyed, stored_turned}
-use Rattle.reg_changes.proofs.Edits.{made, Turns, cast_int, cast_null}
-use Rattle.reg_changes.proofs.Registers.{turns_rows, turns_spares}
-use Rattle.reg_changes.proofs.Spared.{rows_spared, columns_spared, letters_are, counts_are, listings_are, last_is, request_declined}
-
-pub moves : (sql : List ℕ) (params : Row) (old new : State) (count : ℕ) (P : Database → Type 0) → Ran sql params old new count → P new.now → Moves old new P
-moves sql params old new count P ran holds = record { was_open = ran.was_open; is_open = ran.is_open; committed = ran.committed; under_way = ran.under_way; tables = holds }
+use Rattle.reg_writing.specs.Ran.{Ran}
+use Rattle.reg_writing.specs.Steps.{turned}
+use Rattle.reg_changes.specs.Steps.{lettered, swept, ended_by, is_good_at, revoked_at, good_at, has_passed, last_at, marked}
+use Rattle.reg_changes.specs.declared.texts.TheConstants.{SWEEP, MARK_REVOKED, SET_LAST, SET_DECLINED, MARK_LISTED}
+use Rattle.reg_writing.proofs.Meaning.{IsWriting, updates}
+use Rattle.reg_changes.proofs.Meaning.{equals, below, text, sweep_means, mark_revoked_means, set_last_means, set_declined_means, mark_listed_means}
+use Rattle.reg_writing.proofs.Turning.{IsKeyed, behind_table, behind_keyed, behind_turned, behind_passing, stored_table, stored_keyed, stored_turned}
+use Rattle.reg_writing.proofs.Edits.{made, Turns, cast_int, cast_null}
+use Rattle.reg_writing.proofs.Registers.{turns_rows, turns_spares}
+use Rattle.reg_writing.proofs.Spared.{rows_spared, columns_spared, letters_are, listings_are}
+use Rattle.reg_changes.proofs.Spared.{last_is, request_declined}
+use Rattle.reg_writing.proofs.Moving.{moves}
 
 -- a property that does not depend on what is turned stays
 pub all_turned : {A : Type 0} (P : A → Type 0) (q : A → Bool) (g : A → A) → ((x : A) → P x → P (g x)) → (xs : List A) → AllByRecursion P xs → AllByRecursion P (map (turned q g) xs)
@@ -154,24 +153,7 @@ marks_listed old new records columns n now count ran before =
     (op2 (Is Binary) (col 1 6) (lit Null) ∷ below (col 1 5) (col 0 1) ∷ []) (col 1 1 ∷ col 1 2 ∷ col 1 3 ∷ col 1 4 ∷ col 1 5 ∷ col 0 0 ∷ []) (has_passed now) (last_at n) mark_listed_means
     (λ id row its. passed_test n now id row) (λ id row. simp cast_int) (λ row its. its)
 
--- ---- tables of one row
-
-pub sets_counts : (old new : State) (records : Records) (columns : Columns) (counts : Counts) (count : ℕ) → Ran SET_COUNTS.now (number counts.good ∷ number counts.revoked ∷ number counts.expired ∷ []) old new count
-    → (IsTrue old.is_open → AreBoth old.now records columns) → Moves old new (λ db. AreBoth db records (with_counts counts columns))
-unfolding register_schema
-sets_counts old new records columns counts count ran before =
-    let params = number counts.good ∷ number counts.revoked ∷ number counts.expired ∷ [] in
-    let those = lit Null ∷ col 0 0 ∷ col 0 1 ∷ col 0 2 ∷ [] in
-    let both = before ran.was_open in
-    let was = both.kept.counts in
-    let turns : Turns register_schema kept (passes [] params) (made kept those params) old.now.trees new.now count =
-    turns_rows SET_COUNTS.now params old new count ran both.shown.schema 8 kept refl [] those set_counts_means refl (subst IsTable (sym was) (tt, tt)) (subst (AllByRecursion IsKeyed) (sym was) (refl, tt)) in
-    let rows : new.now.trees 14 ≡ stored_counts counts ∷ [] = turns.rows ∙ ap (map (turned (passes [] params) (made kept those params))) was ∙ simp (cast_int, cast_null) in
-    let spares = turns_spares kept _ _ old.now.trees new.now count turns in
-    moves SET_COUNTS.now params old new count _ ran (record {
-      shown = record { schema = turns.keeps_schema; rows = rows_spared 14 old.now.trees new.now.trees records spares refl refl refl refl refl refl refl refl both.shown.rows };
-      kept = counts_are old.now.trees new.now.trees columns counts spares both.kept rows;
-    })
+-- ---- a table of one row
 
 pub sets_last : (old new : State) (records : Records) (columns : Columns) (now count : ℕ) → Ran SET_LAST.now (number now ∷ []) old new count
     → (IsTrue old.is_open → AreBoth old.now records columns) → Moves old new (λ db. AreBoth db (touched records now) columns)

@@ -1,8 +1,7 @@
--- What a stop may find in a register's file.
+-- What a stop may find in a register's file once a change was begun.
 use Rattle.std.specs.Prelude.{◌≡◌, ◌≤◌, ℕ, List}
 use Rattle.sqlite_trees.specs.Tree.{Trees}
 use Rattle.sqlite_trees.specs.declared.store.Store.{Ghosts}
-use Rattle.sqlite_catalog.specs.Listing.{IsSound}
 use Rattle.sqlite.specs.Held.{Held}
 use Rattle.reg_core.specs.declared.change.Change.{Change}
 use Rattle.reg_core.specs.Changes.{Fits, changed_by, with_crl, with_schedule}
@@ -11,22 +10,10 @@ use Rattle.reg_core.specs.Records.{Records}
 use Rattle.reg_core.specs.declared.rows.CrlRow.{CrlRow}
 use Rattle.reg_core.specs.Sound.{SoundRows}
 use Rattle.reg_tables.specs.Columns.{Columns}
-use Rattle.reg_tables.specs.Kept.{Kept, ShowsKept}
-use Rattle.reg_tables.specs.Schema.{register_schema}
-use Rattle.reg_tables.specs.Shows.{AreBoth, ShowsBoth}
+use Rattle.reg_tables.specs.Kept.{ShowsKept}
+use Rattle.reg_tables.specs.Shows.{ShowsBoth}
 use Rattle.reg_changes.specs.Beside.{after}
-
--- as a register's tables these rows show the records, and these columns beside them
-abbrev pub AreRowsOf : Records → Columns → Trees → Type 0
-AreRowsOf records columns trees = AreBoth (record { schema = register_schema; trees = trees }) records columns
-
--- the rows list a register's tables and indexes, and obey them: an opening finds the register's schema there
-abbrev pub AreARegisters : Trees → Type 0
-AreARegisters trees = IsSound register_schema trees
-
--- as a register's tables these rows show the records, and what is kept beside them stands for these records
-abbrev pub IsAtRest : Records → Trees → Type 0
-IsAtRest records trees = (columns : Columns) × AreRowsOf records columns trees × Kept columns records × AreARegisters trees
+use Rattle.reg_writing.specs.AtRest.{AreRowsOf, AreARegisters, IsAtRest}
 
 -- the rows of the tables as a change leaves them: the records are those after it, with what follows from them
 abbrev pub IsChanged : {S : Type 0} → Ghosts S → Held S → ℕ → Change → Trees → Type 0

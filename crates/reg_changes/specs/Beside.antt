@@ -5,7 +5,8 @@ use Rattle.reg_core.specs.declared.change.Change.{Change}
 use Rattle.reg_core.specs.declared.change.Change.TheVariants.{Certificate, Revocation, Crl as NewCrl}
 use Rattle.reg_tables.specs.Columns.{Columns}
 use Rattle.reg_tables.specs.Kept.{not_after_of}
-use Rattle.reg_changes.specs.Steps.{swept, ended_by, revoked_at, good_at, with_good, with_unlisted, marked, with_counts, shifted}
+use Rattle.reg_writing.specs.Steps.{with_counts}
+use Rattle.reg_changes.specs.Steps.{swept, ended_by, revoked_at, good_at, with_good, with_unlisted, marked, shifted}
 
 -- how many good certificates it takes
 abbrev pub lost : Change → ℕ

@@ -1,12 +1,9 @@
 -- What the steps of a change make of what is kept beside the records.
-use Rattle.std.specs.Prelude.{ℕ, ◌+◌, ◌-◌, Bool, cond, ◌&&◌, ◌==◌, nat_lt, [], ◌∷◌, ◌++◌, map, filter, length, is_none, Some, None}
+use Rattle.std.specs.Prelude.{ℕ, ◌+◌, ◌-◌, Bool, ◌&&◌, ◌==◌, nat_lt, [], ◌∷◌, ◌++◌, map, filter, length, is_none, Some, None}
 use Rattle.reg_core.specs.declared.command.Counts.{Counts}
 use Rattle.reg_core.specs.declared.rows.RevocationRow.{RevocationRow}
 use Rattle.reg_tables.specs.Columns.{Letter, good, revoked, expired, is_good_letter, ends_before, Standing, Listed, Columns}
-
--- what passes the test is turned, and all else stays
-abbrev pub turned : {A : Type 0} → (A → Bool) → (A → A) → A → A
-turned test turn x = cond (test x) (turn x) x
+use Rattle.reg_writing.specs.Steps.{turned}
 
 -- the row with another letter
 abbrev pub lettered : Letter → Standing → Standing
@@ -55,10 +52,6 @@ last_at number row = record row { last = Some number }
 -- a CRL is the last that lists what ended before it
 abbrev pub marked : ℕ → ℕ → Columns → Columns
 marked number now columns = record columns { listed = map (turned (has_passed now) (last_at number)) columns.listed }
-
--- other counts
-abbrev pub with_counts : Counts → Columns → Columns
-with_counts counts columns = record columns { counts = counts }
 
 -- the counts once some good ones have ended, some are revoked, and some are new
 abbrev pub shifted : Counts → ℕ → ℕ → ℕ → Counts

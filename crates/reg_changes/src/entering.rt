@@ -9,16 +9,18 @@ ghost use Rattle.reg_core.specs.Changes.{Fits, changed_by, touched, with_certifi
 ghost use Rattle.reg_core.specs.Sound.{SoundRows};
 ghost use Rattle.reg_tables.specs.Columns.{Columns};
 ghost use Rattle.reg_tables.specs.Stays.{Stepped};
-ghost use Rattle.reg_changes.specs.Ran.{Before, Moved};
-ghost use Rattle.reg_changes.specs.Steps.{swept, revoked_at, good_at, with_good, with_unlisted, marked, with_counts, shifted};
+ghost use Rattle.reg_writing.specs.Ran.{Before, Moved};
+ghost use Rattle.reg_writing.specs.Steps.{with_counts};
+ghost use Rattle.reg_changes.specs.Steps.{swept, revoked_at, good_at, with_good, with_unlisted, marked, shifted};
 ghost use Rattle.reg_changes.specs.Beside.{TurnsOne, lost, added, beside, after};
 
 use crate::steps::{
     mark_listed, mark_revoked, put_cert, put_crl, put_letter, put_listed, put_order, put_request,
-    put_revocation, put_subscriber, set_counts, set_declined, set_last, sweep,
+    put_revocation, put_subscriber, set_declined, set_last, sweep,
 };
 use reg_core::{CertRow, Change, Counts, CrlRow, Moment, RevocationRow};
 use reg_tables::CallFault;
+use reg_writing::set_counts;
 use sqlite::{Alter, Transaction};
 
 /// The counts once some good ones have ended, and a change is made. `Store` where the good ones are fewer than what is taken

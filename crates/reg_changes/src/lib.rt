@@ -6,7 +6,6 @@ mod entering;
 mod scheduling;
 pub mod steps;
 mod texts;
-pub mod writing;
 
 pub use applying::apply;
-pub use scheduling::{put_steps, set_schedule};
+pub use scheduling::set_schedule;

@@ -7,17 +7,16 @@ ghost use Rattle.sqlite.specs.State.{HasCleanDisk};
 ghost use Rattle.reg_core.specs.Records.{Records};
 ghost use Rattle.reg_core.specs.Changes.{touched, with_subscriber, with_order, with_certificate, with_request, with_declined, with_revocation, with_crl};
 ghost use Rattle.reg_tables.specs.Columns.{Columns};
-ghost use Rattle.reg_tables.specs.Schema.{register_schema};
 ghost use Rattle.reg_tables.specs.Stays.{Stepped};
-ghost use Rattle.reg_changes.specs.Ran.{Before, HasSchema, Moved};
-ghost use Rattle.reg_changes.specs.Steps.{swept, ended_by, revoked_at, good_at, with_good, with_unlisted, marked, with_counts};
+ghost use Rattle.reg_writing.specs.Ran.{Before, Moved};
+ghost use Rattle.reg_changes.specs.Steps.{swept, ended_by, revoked_at, good_at, with_good, with_unlisted, marked};
 
 use crate::texts;
-use crate::writing::{sql_flag, sql_ground, sql_moment, sql_number, sql_reason, write};
 use reg_core::{
-    CertRow, Counts, CrlRow, Moment, OrderRow, RequestRow, RevocationRow, Serial, SubscriberRow,
+    CertRow, CrlRow, Moment, OrderRow, RequestRow, RevocationRow, Serial, SubscriberRow,
 };
 use reg_tables::CallFault;
+use reg_writing::writing::{sql_flag, sql_ground, sql_moment, sql_number, sql_reason, write};
 use sqlite::types::ValueRef;
 use sqlite::{Alter, Transaction};
 
@@ -56,23 +55,6 @@ pub(crate) fn mark_listed<S: Alter>(
     let number = sql_number(number)?;
     let this_update = sql_moment(this_update);
     write(tx, texts::MARK_LISTED, &[number, this_update])?;
-    Ok(())
-}
-
-/// Sets the counts.
-pub fn set_counts<S: Alter>(tx: &mut Transaction<'_, S>, counts: Counts) -> Result<(), CallFault>
-    ensures ok { HasCleanDisk (state S.Store tx.new.conn.now) → (records : Records) → (columns : Columns) → Before (state S.Store tx.old.conn.now) records columns
-        → OnOk result (Moved (state S.Store tx.old.conn.now) (state S.Store tx.new.conn.now) records (with_counts counts columns)) }
-    ensures database { HasCleanDisk (state S.Store tx.new.conn.now) → (records : Records) → (columns : Columns) → Before (state S.Store tx.old.conn.now) records columns
-        → OnOk result (IsDatabase (state S.Store tx.new.conn.now).now) }
-    ensures inside { HasCleanDisk (state S.Store tx.new.conn.now) → OnOk result (tx.new.conn.now.in_transaction ≡ true) }
-    ensures schema { HasCleanDisk (state S.Store tx.new.conn.now) → HasSchema register_schema (state S.Store tx.old.conn.now) → OnOk result (HasSchema register_schema (state S.Store tx.new.conn.now)) }
-    ensures stepped { Stepped S.Store tx.old tx.new }
-{
-    let good = sql_number(counts.good)?;
-    let revoked = sql_number(counts.revoked)?;
-    let expired = sql_number(counts.expired)?;
-    write(tx, texts::SET_COUNTS, &[good, revoked, expired])?;
     Ok(())
 }
 

@@ -9,9 +9,6 @@ pub(crate) const SWEEP: &str =
 pub(crate) const MARK_REVOKED: &str =
     "UPDATE standing SET state = 'R' WHERE serial = ?1 AND state = 'G'";
 
-/// The counts of the state letters.
-pub(crate) const SET_COUNTS: &str = "UPDATE kept SET n_good = ?1, n_revoked = ?2, n_expired = ?3";
-
 /// The last accepted moment.
 pub(crate) const SET_LAST: &str = "UPDATE office SET last_at = ?1";
 
@@ -53,6 +50,3 @@ pub(crate) const MARK_LISTED: &str =
 
 /// The schedule has no step.
 pub(crate) const CLEAR_STEPS: &str = "DELETE FROM longest";
-
-/// One step more of the schedule.
-pub(crate) const PUT_STEP: &str = "INSERT INTO longest (from_at, days) VALUES (?1, ?2)";

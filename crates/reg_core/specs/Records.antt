@@ -67,3 +67,7 @@ request_in rows id = find (λ row. row.id == id) rows
 -- the revocation of a serial number
 abbrev pub revocation_in : List RevocationRow → ℕ → Option RevocationRow
 revocation_in rows serial = find (λ row. row.serial == serial) rows
+
+-- the CRL with a number (RFC 5280 5.2.3)
+abbrev pub crl_in : List Crl → ℕ → Option Crl
+crl_in crls number = find (λ crl. crl.number == number) crls

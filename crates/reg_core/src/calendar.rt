@@ -9,7 +9,7 @@ use jiff::ToSpan;
 use jiff::civil::{Date, date};
 
 /// A date of the Gregorian calendar with a time of day in UTC, without leap seconds.
-#[derive(Clone, Copy, Debug, PartialEq, Eq)]
+#[derive(Clone, Copy, PartialEq, Eq)]
 pub struct Civil {
     /// 1970 to 9999.
     pub year: u16,

@@ -3,7 +3,7 @@
 use crate::rows::{CertRow, CrlRow, OrderRow, RequestRow, RevocationRow, SubscriberRow};
 
 /// What an accepted command changes in the records. Each change also sets the last accepted moment.
-#[derive(Clone, Copy, Debug)]
+#[derive(Clone, Copy)]
 pub enum Change<'a> {
     /// The last accepted moment alone.
     Touch,

@@ -6,7 +6,7 @@ use crate::refusal::Fault;
 use crate::serial::Serial;
 
 /// What changes the register.
-#[derive(Clone, Copy, Debug, PartialEq, Eq)]
+#[derive(Clone, Copy, PartialEq, Eq)]
 pub enum Command {
     /// Enters a subscriber.
     Subscriber {
@@ -42,7 +42,7 @@ pub enum Command {
 }
 
 /// What asks the register and leaves it as it is.
-#[derive(Clone, Copy, Debug, PartialEq, Eq)]
+#[derive(Clone, Copy, PartialEq, Eq)]
 pub enum Query {
     /// The status of a serial number.
     Status(Serial),
@@ -57,7 +57,7 @@ pub enum Query {
 }
 
 /// The status of a serial number at a moment.
-#[derive(Clone, Copy, Debug, PartialEq, Eq)]
+#[derive(Clone, Copy, PartialEq, Eq)]
 pub enum Status {
     /// No certificate has the serial number.
     Unknown,
@@ -70,7 +70,7 @@ pub enum Status {
 }
 
 /// How many registered certificates have each status.
-#[derive(Clone, Copy, Debug, PartialEq, Eq)]
+#[derive(Clone, Copy, PartialEq, Eq)]
 pub struct Counts {
     pub good: u64,
     pub revoked: u64,
@@ -78,7 +78,7 @@ pub struct Counts {
 }
 
 /// The CRLs that list a revoked serial number.
-#[derive(Clone, Copy, Debug, PartialEq, Eq)]
+#[derive(Clone, Copy, PartialEq, Eq)]
 pub struct Listing {
     /// The number of the first CRL that can list it.
     pub first: u64,
@@ -87,7 +87,7 @@ pub struct Listing {
 }
 
 /// The requests whose limit has passed: at least one.
-#[derive(Clone, Copy, Debug, PartialEq, Eq)]
+#[derive(Clone, Copy, PartialEq, Eq)]
 pub struct Overdue {
     pub count: u64,
     /// The least id.
@@ -95,7 +95,7 @@ pub struct Overdue {
 }
 
 /// The answer of an accepted command, or of a query.
-#[derive(Clone, Copy, Debug, PartialEq, Eq)]
+#[derive(Clone, Copy, PartialEq, Eq)]
 pub enum Reply {
     /// The id of the subscriber that was entered.
     Subscriber { id: u64 },

@@ -6,7 +6,7 @@ ghost use Rattle.reg_core.specs.Grounds.{ground_or_refusal, limit_of, reason_of}
 use crate::refusal::Refusal;
 
 /// A ground of revocation.
-#[derive(Clone, Copy, Debug, PartialEq, Eq)]
+#[derive(Clone, Copy, PartialEq, Eq)]
 pub enum Ground {
     /// The subscriber asks for it.
     Asked,

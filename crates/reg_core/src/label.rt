@@ -12,7 +12,7 @@ use std::marker::Model;
 const MAX_BYTES: usize = 64;
 
 /// A short text: 1 to 64 bytes of any value. Contracts see the list of its bytes.
-#[derive(Clone, Copy, Debug, Eq)]
+#[derive(Clone, Copy, Eq)]
 pub struct Label {
     /// The text, then zeros.
     bytes: [u8; MAX_BYTES],

@@ -7,7 +7,7 @@ use std::marker::Model;
 
 /// A moment in whole seconds since 1970-01-01T00:00:00Z, from 0 to 253,402,300,799
 /// (9999-12-31T23:59:59Z, RFC 5280 4.1.2.5). Contracts see the number of seconds.
-#[derive(Clone, Copy, Debug, PartialEq, Eq, PartialOrd, Ord)]
+#[derive(Clone, Copy, PartialEq, Eq, PartialOrd, Ord)]
 pub struct Moment {
     seconds: u64,
 }

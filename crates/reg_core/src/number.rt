@@ -41,7 +41,7 @@ pub(crate) fn read_digits(digits: &[u8], base: u32) -> Option<u128>
 }
 
 /// The decimal text of a `u64`, held in place: it takes no memory. Contracts see the list of its bytes.
-#[derive(Clone, Copy, Debug)]
+#[derive(Clone, Copy)]
 pub struct Decimal {
     /// Zeros, then the text.
     bytes: [u8; DECIMAL_ROOM],

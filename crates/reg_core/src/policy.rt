@@ -18,7 +18,7 @@ const SHORTEST_OCSP_LIFE: u64 = 28_800;
 const LARGEST_CAP: u64 = 1_000_000;
 
 /// The terms of an office. Contracts see the record of them.
-#[derive(Clone, Copy, Debug, PartialEq, Eq)]
+#[derive(Clone, Copy, PartialEq, Eq)]
 pub struct Policy {
     schedule: Schedule,
     /// Seconds from a CRL's thisUpdate to its nextUpdate.

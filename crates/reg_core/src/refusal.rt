@@ -9,7 +9,7 @@ use crate::moment::Moment;
 use crate::number::Decimal;
 
 /// A refusal: the register stays as it is.
-#[derive(Clone, Copy, Debug, PartialEq, Eq)]
+#[derive(Clone, Copy, PartialEq, Eq)]
 pub enum Refusal {
     /// E01: the moment is before the last accepted one.
     ClockBack { last: Moment },
@@ -59,7 +59,7 @@ pub enum Refusal {
 
 /// What a command or query comes to where it has no reply: a refusal, or a fault of memory, of the store, of the
 /// signer, of the input or of the output.
-#[derive(Clone, Copy, Debug, PartialEq, Eq)]
+#[derive(Clone, Copy, PartialEq, Eq)]
 pub enum Fault {
     Refused(Refusal),
     /// F1: memory was refused.

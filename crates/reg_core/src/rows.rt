@@ -11,7 +11,7 @@ use crate::policy::Policy;
 use crate::serial::Serial;
 
 /// A subscriber: one who orders certificates.
-#[derive(Clone, Copy, Debug, PartialEq, Eq)]
+#[derive(Clone, Copy, PartialEq, Eq)]
 pub struct SubscriberRow {
     /// 1, 2, 3 and so on, in the order of entry.
     pub id: u64,
@@ -19,7 +19,7 @@ pub struct SubscriberRow {
 }
 
 /// An order of one certificate.
-#[derive(Clone, Copy, Debug, PartialEq, Eq)]
+#[derive(Clone, Copy, PartialEq, Eq)]
 pub struct OrderRow {
     /// 1, 2, 3 and so on, in the order of entry.
     pub id: u64,
@@ -30,7 +30,7 @@ pub struct OrderRow {
 }
 
 /// A registered certificate: its serial number and its validity (RFC 5280 4.1.2.2, 4.1.2.5).
-#[derive(Clone, Copy, Debug, PartialEq, Eq)]
+#[derive(Clone, Copy, PartialEq, Eq)]
 pub struct CertRow {
     pub serial: Serial,
     /// The id of the order that it fills.
@@ -41,7 +41,7 @@ pub struct CertRow {
 }
 
 /// A request for revocation.
-#[derive(Clone, Copy, Debug, PartialEq, Eq)]
+#[derive(Clone, Copy, PartialEq, Eq)]
 pub struct RequestRow {
     /// 1, 2, 3 and so on, in the order of entry.
     pub id: u64,
@@ -62,7 +62,7 @@ impl RequestRow {
 }
 
 /// A revocation.
-#[derive(Clone, Copy, Debug, PartialEq, Eq)]
+#[derive(Clone, Copy, PartialEq, Eq)]
 pub struct RevocationRow {
     pub serial: Serial,
     /// The moment of revocation (revocationDate, RFC 5280 5.1.2.6).
@@ -76,7 +76,7 @@ pub struct RevocationRow {
 }
 
 /// An issued CRL, without its bytes.
-#[derive(Clone, Copy, Debug, PartialEq, Eq)]
+#[derive(Clone, Copy, PartialEq, Eq)]
 pub struct CrlRow {
     /// The CRL number (RFC 5280 5.2.3): 1, 2, 3 and so on.
     pub number: u64,
@@ -85,7 +85,7 @@ pub struct CrlRow {
 }
 
 /// One entry of a CRL (revokedCertificates, RFC 5280 5.1.2.6).
-#[derive(Clone, Copy, Debug, PartialEq, Eq)]
+#[derive(Clone, Copy, PartialEq, Eq)]
 pub struct Entry {
     pub serial: Serial,
     /// revocationDate.
@@ -95,7 +95,7 @@ pub struct Entry {
 }
 
 /// What each decision looks at first: the clock, the policy, and how full the table is.
-#[derive(Clone, Copy, Debug, PartialEq, Eq)]
+#[derive(Clone, Copy, PartialEq, Eq)]
 pub struct Head {
     /// The moment of the command.
     pub now: Moment,

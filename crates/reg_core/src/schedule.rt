@@ -16,7 +16,7 @@ const MAX_DAYS: u64 = 398;
 /// A schedule of longest validities, as the CA/Browser Forum Baseline Requirements 6.3.2 lower it by date:
 /// 1 to 16 steps, each a moment and the days of validity from it on, the first at moment 0, moments strictly
 /// ascending, days 1 to 398. Contracts see the list of the steps.
-#[derive(Clone, Copy, Debug)]
+#[derive(Clone, Copy)]
 pub struct Schedule {
     /// The steps, then steps of no days at moment 0.
     steps: [(Moment, u64); MAX_STEPS],

@@ -26,7 +26,7 @@ const MOST_DIGITS: usize = 2 * BYTES;
 const LOW_DIGITS: usize = 2 * LOW_BYTES;
 
 /// A certificate's serial number, from 1 to 2^159 - 1 (RFC 5280 4.1.2.2). Contracts see the number.
-#[derive(Clone, Copy, Debug)]
+#[derive(Clone, Copy)]
 pub struct Serial {
     /// The bits above the lowest 128.
     high: u32,

@@ -15,7 +15,7 @@ const ALGORITHM: [u8; 11] = [
 
 /// A signer without a key: its seal is the SHA-1 of the message, which anyone can make. It is a checksum and no
 /// signature in the sense of cryptography. Its count of failures stays 0.
-#[derive(Clone, Copy, Debug, PartialEq, Eq)]
+#[derive(Clone, Copy, PartialEq, Eq)]
 pub struct DigestSeal;
 
 impl Signer for DigestSeal {

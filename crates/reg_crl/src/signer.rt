@@ -7,7 +7,7 @@ use reg_core::{Fault, SignsCrls};
 use std::alloc::{AllocError, Global};
 
 /// Why nothing was signed.
-#[derive(Clone, Copy, Debug, PartialEq, Eq)]
+#[derive(Clone, Copy, PartialEq, Eq)]
 pub enum SignFault {
     /// What signs failed, and the signer counted the failure.
     Device,

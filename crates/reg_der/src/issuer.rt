@@ -20,7 +20,7 @@ const LONGEST_NAME: usize = 1_024;
 const LONGEST_KEY: usize = 2_048;
 
 /// Why a name and a key make no issuer.
-#[derive(Clone, Copy, Debug, PartialEq, Eq)]
+#[derive(Clone, Copy, PartialEq, Eq)]
 pub enum IssuerFault {
     /// The name isn't one DER SEQUENCE with contents, or has more than 1,024 bytes.
     BadName,
@@ -39,7 +39,7 @@ impl From<AllocError> for IssuerFault {
 }
 
 /// The issuer of CRLs and OCSP responses. Contracts see its name and its key, as lists of bytes.
-#[derive(Debug, Drop)]
+#[derive(Drop)]
 pub struct Issuer {
     /// The DER value of the Name.
     name: Vec<u8>,

@@ -6,7 +6,7 @@ ghost use Rattle.reg_der.specs.Der.{IsTlv};
 ghost use Rattle.reg_der.specs.Reading.{Gives, Parts, long_at, length_at, counted_at, value_at};
 
 /// A value as it stands in the bytes that it was taken from.
-#[derive(Clone, Copy, Debug)]
+#[derive(Clone, Copy)]
 pub struct Tlv<'a> {
     /// The tag octet.
     pub tag: u8,

@@ -11,8 +11,8 @@ use Rattle.reg_crl.specs.Signing.{Identity}
 use Rattle.reg_lines.specs.Answer.{Answer, came_to, responded}
 use Rattle.reg_lines.specs.ByCalls.{ByCalls}
 use Rattle.reg_lines.specs.Meaning.{Meaning, tells, asks, asks_ocsp}
-use Rattle.reg_office.specs.Calls.{Signs, Runs, Asks, Ocsps}
-use Rattle.reg_office.specs.Leads.{Leads}
+use Rattle.reg_calls.specs.Steps.{Signs, Runs, Asks, Ocsps}
+use Rattle.reg_calls.specs.Leads.{Leads}
 use Rattle.reg_faces.specs.Faces.{Lines}
 
 module _ {S : Type 0} (is_clean : S → Type 0) (stands : Identity → S → Records → Type 0) (signs : Signs)

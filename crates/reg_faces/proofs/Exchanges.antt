@@ -14,7 +14,7 @@ use Rattle.reg_heads.specs.Response.{Response}
 use Rattle.reg_http.specs.RespondsTo.{RespondsTo}
 use Rattle.reg_http.specs.Asked.{Asked, refused as refuses, only, unread, malformed, ocsp_of, crl_of, status_of, counts_of, request_of, asked as asks_for}
 use Rattle.reg_http.specs.Served.{ServingEnds, Responds}
-use Rattle.reg_office.specs.Leads.{Leads}
+use Rattle.reg_calls.specs.Leads.{Leads}
 use Rattle.reg_faces.proofs.Steps.{stays, follows}
 
 module _ {S I R : Type 0} (is_clean : S → Type 0) (stands : I → S → R → Type 0)

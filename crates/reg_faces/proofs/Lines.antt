@@ -9,7 +9,7 @@ use Rattle.reg_lines.specs.Answer.{Answer, Replies, came_to}
 use Rattle.reg_lines.specs.Import.{Row, RowReplies, ImportEnds, data_rows}
 use Rattle.reg_lines.specs.Meaning.{Meaning, tells}
 use Rattle.reg_lines.specs.Script.{Finished, ScriptEnds, StoppedAtRead, StoppedAtWrite, line_of, pieces}
-use Rattle.reg_office.specs.Leads.{Leads}
+use Rattle.reg_calls.specs.Leads.{Leads}
 use Rattle.reg_faces.proofs.Steps.{stays, follows, chains, runs}
 
 module _ {S I R : Type 0} (is_clean : S → Type 0) (stands : I → S → R → Type 0)

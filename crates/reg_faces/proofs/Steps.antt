@@ -1,7 +1,7 @@
 -- Calls one after the other, and steps that say less.
 use Rattle.std.proofs.Common.{◌≡◌, List, [], ◌∷◌, refl, sym, subst}
 use Rattle.reg_wire.specs.Run.{Answered}
-use Rattle.reg_office.specs.Leads.{Leads}
+use Rattle.reg_calls.specs.Leads.{Leads}
 
 module _ {S I R : Type 0} (is_clean : S → Type 0) (stands : I → S → R → Type 0) where
   -- an office that stays as it is

@@ -10,7 +10,7 @@ use Rattle.reg_laws.specs.Import.{IsFault}
 use Rattle.reg_lines.specs.Import.{AllRan}
 use Rattle.reg_lines.specs.Replies.{outcome_line, with_lf}
 use Rattle.reg_faces.specs.Faces.{Lines}
-use Rattle.reg_office.specs.Calls.{Signs}
+use Rattle.reg_calls.specs.Steps.{Signs}
 
 -- the reply tells a fault of memory, store, signer, input or output
 abbrev pub TellsFault : List ℕ → Type 0

@@ -1,9 +1,9 @@
 //! The faces over an office that keeps records, stated by these.
 
 ghost use Rattle.std.specs.Prelude.{◌≡◌, ◌≢◌, IfErr, IfOk, OnErr};
-ghost use Rattle.reg_office.specs.Leads.{Leads};
+ghost use Rattle.reg_calls.specs.Leads.{Leads};
 ghost use Rattle.reg_faces.specs.Faces.{Lines, CountsFailure, AddsARequestAtMost};
-ghost use Rattle.reg_office.specs.Calls.{Runs, Asks, Ocsps, Crls};
+ghost use Rattle.reg_calls.specs.Steps.{Runs, Asks, Ocsps, Crls};
 ghost use Rattle.reg_heads.specs.Response.{shown};
 ghost use Rattle.reg_http.specs.RespondsTo.{RespondsTo};
 ghost use Rattle.reg_http.specs.Asked.{asked};
@@ -11,8 +11,8 @@ ghost use Rattle.reg_http.specs.Served.{ServingEnds};
 ghost use Rattle.reg_lines.specs.Import.{ImportEnds};
 ghost use Rattle.reg_lines.specs.Script.{ScriptEnds};
 
-use crate::keeper::Keeper;
 use http::Method;
+use reg_calls::Keeper;
 use reg_core::{Fault, Memory, Moment};
 use reg_heads::Answer;
 use std::alloc::Global;

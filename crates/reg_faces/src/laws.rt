@@ -2,7 +2,7 @@
 
 ghost use Rattle.reg_faces.specs.Twice.{ImportsTwice};
 
-use crate::keeper::Keeper;
+use reg_calls::Keeper;
 
 /// A text that comes twice at one moment, with nothing between, adds no certificate the second time, whoever keeps the
 /// records and signs, where each import ran whole and no reply of the first told a fault (of memory, store or signer). And

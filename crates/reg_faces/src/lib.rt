@@ -2,9 +2,6 @@
 #![tactic(auto)]
 
 mod faces;
-mod keeper;
-mod keeping;
 pub mod laws;
 
 pub use faces::{answer, import, run_script, serve_one};
-pub use keeper::Keeper;

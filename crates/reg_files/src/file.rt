@@ -33,7 +33,7 @@ const MOST_PAGES: usize = 131_072;
 const OWNER_ALONE: u32 = 0o600;
 
 /// Why a file is not opened: the fault, and its cause where that is known.
-#[derive(Clone, Copy, Debug, PartialEq, Eq)]
+#[derive(Clone, Copy, PartialEq, Eq)]
 pub struct Unopened {
     /// The fault.
     pub fault: Fault,
@@ -147,7 +147,7 @@ fn pages_for(rt: &HostRuntime, path: &str) -> usize
 }
 
 /// Why no file was laid.
-#[derive(Clone, Copy, Debug, PartialEq, Eq)]
+#[derive(Clone, Copy, PartialEq, Eq)]
 pub enum Unlaid {
     /// Memory was wanting.
     Memory,

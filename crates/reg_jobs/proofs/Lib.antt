@@ -1,0 +1,5 @@
+pub mod Fates
+pub mod LineByLine
+pub mod Peers
+pub mod Pieces
+pub mod Talking

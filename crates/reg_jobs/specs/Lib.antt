@@ -1,2 +1,12 @@
-pub mod Checks
-pub mod Endings
+pub mod Asking
+pub mod Digest
+pub mod Ends
+pub mod Exchanges
+pub mod Failing
+pub mod Lined
+pub mod Sample
+pub mod Schedules
+pub mod Serving
+pub mod Signing
+pub mod Told
+pub mod Visits

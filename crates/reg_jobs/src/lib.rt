@@ -1,8 +1,22 @@
-//! What a job of the program needs before a register is opened, and how a job ends.
+//! The jobs of the program `desk` but what they stand on: each over any place where registers lie, and any front.
 #![tactic(auto)]
 
-mod checks;
-mod failure;
+mod asking;
+mod front;
+mod handling;
+mod jobs;
+mod lining;
+mod logging;
+mod opening;
+mod place;
+mod serving;
+mod telling;
 
-pub use checks::{issuer_of, office_of, policy_of, schedule_of};
-pub use failure::{Failure, status_of};
+pub use asking::{at, talk};
+pub use front::Front;
+pub use jobs::{NewOffice, audit, crl, ended, import_rows, init, schedule, script};
+pub use lining::script_by_lines;
+pub use opening::hold_open;
+pub use place::Place;
+pub use serving::serve;
+pub use telling::{Causes, explain, tell};

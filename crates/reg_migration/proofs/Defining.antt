@@ -18,9 +18,9 @@ use Rattle.sqlite.specs.Listing.{understood}
 use Rattle.sqlite.proofs.Callers.{runs_as}
 use Rattle.sqlite.proofs.Callers as callers
 use Rattle.reg_tables.specs.Stays.{Moves}
-use Rattle.reg_changes.specs.Ran.{Ran}
-use Rattle.reg_changes.proofs.Edits.{went, same_value}
-use Rattle.reg_changes.proofs.Putting.{pushed}
+use Rattle.reg_writing.specs.Ran.{Ran}
+use Rattle.reg_writing.proofs.Edits.{went, same_value}
+use Rattle.reg_writing.proofs.Placing.{pushed}
 use Rattle.reg_migration.specs.Makes.{DefinesTable, DefinesIndex}
 use Rattle.reg_migration.specs.Rows.{HasRows, HadRows}
 

@@ -21,11 +21,11 @@ use Rattle.sqlite.proofs.Callers.{runs_as, statement_of}
 use Rattle.reg_tables.specs.Reading.{command_of}
 use Rattle.reg_tables.specs.Schema.{standing, kept, listed}
 use Rattle.reg_tables.specs.Stays.{Moves}
-use Rattle.reg_changes.specs.Ran.{HasSchema, Ran}
-use Rattle.reg_changes.proofs.Edits.{Empties, does_empty}
-use Rattle.reg_changes.proofs.Keeping.{deletes_keep}
-use Rattle.reg_changes.proofs.Meaning.{deletes}
-use Rattle.reg_changes.proofs.Turning.{IsKeyed}
+use Rattle.reg_writing.specs.Ran.{HasSchema, Ran}
+use Rattle.reg_writing.proofs.Edits.{Empties, does_empty}
+use Rattle.reg_writing.proofs.Keeping.{deletes_keep}
+use Rattle.reg_writing.proofs.Meaning.{deletes}
+use Rattle.reg_writing.proofs.Turning.{IsKeyed}
 use Rattle.reg_migration.specs.Older.{kept_tables}
 use Rattle.reg_migration.specs.Rows.{IsNumbered, HasRows, HadRows, with_rows}
 use Rattle.reg_migration.specs.declared.texts.TheConstants.{CLEAR_STANDING, CLEAR_KEPT, CLEAR_LISTED}

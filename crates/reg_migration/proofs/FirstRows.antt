@@ -28,13 +28,13 @@ use Rattle.reg_tables.specs.Schema.{register_schema, office, kept}
 use Rattle.reg_tables.specs.Shows.{AreRows, AreColumns, AreBoth}
 use Rattle.reg_tables.specs.Stays.{Moves}
 use Rattle.reg_tables.proofs.Queries.{passes}
-use Rattle.reg_changes.specs.Ran.{Ran}
-use Rattle.reg_changes.specs.Staged.{IsStaged, table_trees}
-use Rattle.reg_changes.specs.Steps.{turned}
-use Rattle.reg_changes.proofs.Edits.{Turns, made, cast_int, cast_null}
-use Rattle.reg_changes.proofs.Meaning.{updates, inserts, IsWriting}
-use Rattle.reg_changes.proofs.Registers.{Spares, turns_rows, puts_row}
-use Rattle.reg_changes.proofs.Turning.{IsKeyed}
+use Rattle.reg_writing.specs.Ran.{Ran}
+use Rattle.reg_writing.specs.Staged.{IsStaged, table_trees}
+use Rattle.reg_writing.specs.Steps.{turned}
+use Rattle.reg_writing.proofs.Edits.{Turns, made, cast_int, cast_null}
+use Rattle.reg_writing.proofs.Meaning.{updates, inserts, IsWriting}
+use Rattle.reg_writing.proofs.Registers.{Spares, turns_rows, puts_row}
+use Rattle.reg_writing.proofs.Turning.{IsKeyed}
 use Rattle.reg_migration.specs.Older.{older_schema, stored_older, IsShownByOlder}
 use Rattle.reg_migration.specs.Refilled.{no_columns, no_counts}
 use Rattle.reg_migration.specs.Rows.{HasRows, HadRows, with_rows, records_alone}

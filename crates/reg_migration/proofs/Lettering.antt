@@ -59,11 +59,11 @@ use Rattle.reg_tables.specs.Stays.{Moves}
 use Rattle.reg_tables.proofs.Compares.{and_true, compares, lt_number, eq_serial}
 use Rattle.reg_tables.proofs.Queries.{Given, picked, kept_behind, no_limit}
 use Rattle.reg_tables.proofs.Sorting.{ascending_key}
-use Rattle.reg_changes.specs.Ran.{Ran}
-use Rattle.reg_changes.proofs.Edits.{went, same_value, cast_int, cast_null}
-use Rattle.reg_changes.proofs.Letters.{found_each}
-use Rattle.reg_changes.proofs.Placing.{counted_put}
-use Rattle.reg_changes.proofs.Spared.{rows_spared, letters_are}
+use Rattle.reg_writing.specs.Ran.{Ran}
+use Rattle.reg_writing.proofs.Edits.{went, same_value, cast_int, cast_null}
+use Rattle.reg_writing.proofs.Letters.{found_each}
+use Rattle.reg_writing.proofs.Placing.{counted_put}
+use Rattle.reg_writing.proofs.Spared.{rows_spared, letters_are}
 use Rattle.reg_migration.specs.Refilled.{with_letters}
 use Rattle.reg_migration.specs.declared.texts.TheConstants.{FILL_LETTERS}
 use Rattle.reg_migration.proofs.Defining.{moves_to}

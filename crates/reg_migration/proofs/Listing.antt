@@ -17,13 +17,12 @@ use Rattle.reg_tables.specs.Rows.{number, serial_value, counted_rows}
 use Rattle.reg_tables.specs.Columns.{Columns, Listed, stored_listed, number_or_null}
 use Rattle.reg_tables.specs.Shows.{AreBoth}
 use Rattle.reg_tables.specs.Stays.{Moves}
-use Rattle.reg_changes.specs.Ran.{Ran}
-use Rattle.reg_changes.proofs.Edits.{cast_int, cast_null}
-use Rattle.reg_changes.proofs.Meaning.{inserts, IsWriting}
-use Rattle.reg_changes.proofs.Placing.{counted_put, mapped_push}
-use Rattle.reg_changes.proofs.Putting.{pushed}
-use Rattle.reg_changes.proofs.Registers.{puts_row, puts_spares}
-use Rattle.reg_changes.proofs.Spared.{rows_spared, listings_are}
+use Rattle.reg_writing.specs.Ran.{Ran}
+use Rattle.reg_writing.proofs.Edits.{cast_int, cast_null}
+use Rattle.reg_writing.proofs.Meaning.{inserts, IsWriting}
+use Rattle.reg_writing.proofs.Placing.{counted_put, mapped_push, pushed}
+use Rattle.reg_writing.proofs.Registers.{puts_row, puts_spares}
+use Rattle.reg_writing.proofs.Spared.{rows_spared, listings_are}
 use Rattle.reg_migration.specs.Refilled.{with_listed}
 use Rattle.reg_migration.specs.declared.texts.TheConstants.{PUT_LISTING}
 use Rattle.reg_migration.proofs.Defining.{moves_to}

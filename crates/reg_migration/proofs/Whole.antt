@@ -15,8 +15,8 @@ use Rattle.reg_core.specs.Status.{counts}
 use Rattle.reg_tables.specs.Columns.{Columns}
 use Rattle.reg_tables.specs.Kept.{Kept, ShowsKept, standing_of, listed_of}
 use Rattle.reg_tables.specs.Shows.{HasOfficeDays, Holds, Shows}
-use Rattle.reg_changes.specs.AtRest.{IsAtRest}
-use Rattle.reg_changes.proofs.Resting.{resting, rests_sound}
+use Rattle.reg_writing.specs.AtRest.{IsAtRest}
+use Rattle.reg_writing.proofs.Resting.{resting, rests_sound}
 use Rattle.reg_migration.specs.Refilled.{HasKept}
 
 abbrev columns_of : Records → Columns

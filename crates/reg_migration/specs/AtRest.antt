@@ -6,7 +6,7 @@ use Rattle.sqlite.specs.Held.{Held}
 use Rattle.reg_core.specs.Records.{Records}
 use Rattle.reg_core.specs.Schedule.{one_step}
 use Rattle.reg_core.specs.Sound.{SoundRows}
-use Rattle.reg_changes.specs.AtRest.{IsAtRest}
+use Rattle.reg_writing.specs.AtRest.{IsAtRest}
 use Rattle.reg_migration.specs.Older.{ShowsOlder}
 use Rattle.reg_migration.specs.declared.version.Earlier.{Earlier}
 

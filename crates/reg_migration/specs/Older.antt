@@ -16,7 +16,7 @@ use Rattle.reg_core.specs.Sound.{NumberedFrom}
 use Rattle.reg_tables.specs.Schema.{record_tables}
 use Rattle.reg_tables.specs.Rows.{number, counted_rows, stored_subscriber, stored_order, stored_certificate, stored_request, stored_revocation, stored_crl}
 use Rattle.reg_tables.specs.Shows.{HaveSerials, Holds}
-pub use Rattle.reg_schema.specs.Whole.{kept_tables}
+pub use Rattle.reg_tables.specs.Schema.{kept_tables}
 use Rattle.reg_migration.specs.Rows.{IsNumbered}
 use Rattle.reg_migration.specs.declared.version.Earlier.{Earlier}
 use Rattle.reg_migration.specs.declared.version.Earlier.TheVariants.{First, Second}

@@ -13,7 +13,7 @@ ghost use Rattle.reg_tables.specs.Rows.{stored_office};
 ghost use Rattle.reg_tables.specs.Schema.{register_schema};
 ghost use Rattle.reg_tables.specs.Shows.{AreBoth};
 ghost use Rattle.reg_tables.specs.Stays.{Moves, Stepped};
-ghost use Rattle.reg_changes.specs.Ran.{HasSchema};
+ghost use Rattle.reg_writing.specs.Ran.{HasSchema};
 ghost use Rattle.reg_migration.specs.Older.{older_schema, stored_older, IsShownByOlder};
 ghost use Rattle.reg_migration.specs.Refilled.{no_columns, no_counts};
 ghost use Rattle.reg_migration.specs.Rows.{HasRows, HadRows, with_rows};
@@ -21,10 +21,10 @@ ghost use Rattle.reg_migration.specs.Rows.{HasRows, HadRows, with_rows};
 use crate::making::make_missing;
 use crate::texts;
 use crate::version::Earlier;
-use reg_changes::put_steps;
-use reg_changes::writing::write;
 use reg_core::Moment;
 use reg_tables::CallFault;
+use reg_writing::put_steps;
+use reg_writing::writing::write;
 use sqlite::{Alter, Transaction};
 
 /// Sets the version to the program's.

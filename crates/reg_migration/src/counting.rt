@@ -7,7 +7,7 @@ ghost use Rattle.reg_core.specs.Records.{Records};
 ghost use Rattle.reg_tables.specs.Columns.{Letter, Columns, letter_text};
 ghost use Rattle.reg_tables.specs.Rows.{number};
 ghost use Rattle.reg_tables.specs.Stays.{Stepped};
-ghost use Rattle.reg_changes.specs.Ran.{Before};
+ghost use Rattle.reg_writing.specs.Ran.{Before};
 ghost use Rattle.reg_migration.specs.Refilled.{with_letter, letter_counts};
 
 use crate::asking::ask;

@@ -10,15 +10,15 @@ ghost use Rattle.sqlite_schema.specs.declared.schema.Index.{Index};
 ghost use Rattle.sqlite_catalog.specs.Change.{next_tree, created, indexed};
 ghost use Rattle.reg_tables.specs.Schema.{record_tables, register_schema};
 ghost use Rattle.reg_tables.specs.Stays.{Moves, Stepped};
-ghost use Rattle.reg_changes.specs.Ran.{HasSchema};
+ghost use Rattle.reg_writing.specs.Ran.{HasSchema};
 ghost use Rattle.reg_migration.specs.Makes.{DefinesTable, DefinesIndex};
 ghost use Rattle.reg_migration.specs.Older.{kept_tables, older_schema, HasBeside};
 ghost use Rattle.reg_migration.specs.Rows.{HasRows, HadRows, records_alone};
 
 use crate::texts;
 use crate::version::Earlier;
-use reg_changes::writing::write;
 use reg_tables::{CallFault, schema};
+use reg_writing::writing::write;
 use sqlite::{Alter, Transaction};
 
 /// Makes one table or index.

@@ -10,7 +10,7 @@ ghost use Rattle.reg_core.specs.Sound.{SoundRows};
 ghost use Rattle.reg_tables.specs.Kept.{ShowsKept};
 ghost use Rattle.reg_tables.specs.Schema.{register_schema};
 ghost use Rattle.reg_tables.specs.Stays.{IsRegister, Stays, Stepped};
-ghost use Rattle.reg_changes.specs.Ran.{HasSchema};
+ghost use Rattle.reg_writing.specs.Ran.{HasSchema};
 ghost use Rattle.reg_migration.specs.AtRest.{IsMigrated};
 ghost use Rattle.reg_migration.specs.Older.{older_schema, IsShownByOlder, ShowsOlder};
 ghost use Rattle.reg_migration.specs.Refilled.{HasKept, HasGreatestDays};

@@ -10,16 +10,16 @@ ghost use Rattle.reg_tables.specs.Columns.{Columns, Standing};
 ghost use Rattle.reg_tables.specs.Kept.{standing_of};
 ghost use Rattle.reg_tables.specs.Schema.{register_schema};
 ghost use Rattle.reg_tables.specs.Stays.{Stepped};
-ghost use Rattle.reg_changes.specs.Ran.{Before, HasSchema, Moved};
+ghost use Rattle.reg_writing.specs.Ran.{Before, HasSchema, Moved};
 ghost use Rattle.reg_migration.specs.Refilled.{no_columns, with_letters, HasKept, HasGreatestDays};
 
 use crate::counting::counts;
 use crate::relisting::relist;
 use crate::texts;
-use reg_changes::steps::set_counts;
-use reg_changes::writing::{sql_moment, write};
 use reg_core::Moment;
 use reg_tables::CallFault;
+use reg_writing::set_counts;
+use reg_writing::writing::{sql_moment, write};
 use sqlite::{Alter, Transaction};
 
 /// Puts in the letter of each certificate at the last accepted moment.

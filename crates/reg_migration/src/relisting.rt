@@ -11,14 +11,14 @@ ghost use Rattle.reg_core.specs.Sound.{NumberedFrom, NeverFalls, SoundRows};
 ghost use Rattle.reg_tables.specs.Columns.{Columns, number_or_null};
 ghost use Rattle.reg_tables.specs.Schema.{register_schema};
 ghost use Rattle.reg_tables.specs.Stays.{Stepped};
-ghost use Rattle.reg_changes.specs.Ran.{Before, HasSchema, Moved};
+ghost use Rattle.reg_writing.specs.Ran.{Before, HasSchema, Moved};
 ghost use Rattle.reg_migration.specs.Refilled.{last_in, listed_by, with_listed, HasRelisted};
 
 use crate::asking::{crls, end_of, revocations};
 use crate::texts;
-use reg_changes::writing::{sql_moment, sql_number, sql_reason, write};
 use reg_core::{CrlRow, Moment, RevocationRow};
 use reg_tables::CallFault;
+use reg_writing::writing::{sql_moment, sql_number, sql_reason, write};
 use sqlite::types::ValueRef;
 use sqlite::{Alter, Transaction};
 

@@ -1,7 +1,7 @@
 //! The versions of the tables before the program's.
 
 /// A version of the tables that is older than the program's.
-#[derive(Clone, Copy, Debug, PartialEq, Eq)]
+#[derive(Clone, Copy, PartialEq, Eq)]
 pub enum Earlier {
     /// Version 1: the tables of the records alone.
     First,

@@ -1,7 +1,7 @@
 //! What an OCSP request asks.
 
 /// What an OCSP request asks (RFC 6960 4.1.1), in slices of the request's bytes.
-#[derive(Debug, Drop)]
+#[derive(Drop)]
 pub struct Asked<'a> {
     /// The certificates that it asks for, in order: one at least.
     pub ids: Vec<CertId<'a>>,
@@ -10,7 +10,7 @@ pub struct Asked<'a> {
 }
 
 /// A certificate by its issuer's hashes and its serial number (CertID, RFC 6960 4.1.1).
-#[derive(Clone, Copy, Debug)]
+#[derive(Clone, Copy)]
 pub struct CertId<'a> {
     /// The whole value, which the answer repeats.
     pub raw: &'a [u8],

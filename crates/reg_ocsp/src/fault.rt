@@ -6,7 +6,7 @@ ghost use Rattle.reg_ocsp.specs.declared.fault.AskFault.TheVariants.{Memory};
 use std::alloc::{AllocError, AllocFailed};
 
 /// Why a request could not be read.
-#[derive(Clone, Copy, Debug, PartialEq, Eq)]
+#[derive(Clone, Copy, PartialEq, Eq)]
 pub enum AskFault {
     /// The bytes are no OCSP request (RFC 6960 4.1.1).
     Malformed,

@@ -22,7 +22,7 @@ use std::alloc::Global;
 const BASIC: [u8; 9] = [0x2B, 0x06, 0x01, 0x05, 0x05, 0x07, 0x30, 0x01, 0x01];
 
 /// Why a request gets no answer (OCSPResponseStatus, RFC 6960 4.2.1).
-#[derive(Clone, Copy, Debug, PartialEq, Eq)]
+#[derive(Clone, Copy, PartialEq, Eq)]
 pub enum RefusalStatus {
     /// malformedRequest (1): the request is none.
     Malformed,

@@ -19,7 +19,7 @@ use Rattle.reg_ocsp.specs.Matching.{IsMatch}
 use Rattle.reg_ocsp.specs.Request.{Id}
 use Rattle.reg_ocsp.specs.Response.{Answer, cert_status}
 use Rattle.reg_office.specs.Agreement.{Agrees, OcspAgrees}
-use Rattle.reg_office.specs.Ocsp.{IsAnswer, IsTold}
+use Rattle.reg_calls.specs.Ocsp.{IsAnswer, IsTold}
 
 -- a CertID names one certificate of the issuer at most
 one_match : (issuer : core.Issuer) (id : Id) (first second : ℕ) → IsMatch issuer id first → IsMatch issuer id second → first ≡ second

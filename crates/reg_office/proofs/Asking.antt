@@ -15,7 +15,7 @@ use Rattle.reg_core.specs.declared.refusal.Refusal.TheVariants.{ClockEnd, ClockB
 use Rattle.reg_core.specs.declared.refusal.Fault.{Fault}
 use Rattle.reg_core.specs.declared.refusal.Fault.TheVariants.{Refused, Memory, Store, Signer, Read, Write}
 use Rattle.reg_laws.proofs.Decided.{says}
-use Rattle.reg_office.specs.Answered.{IsAnswered, IsListed}
+use Rattle.reg_calls.specs.Answered.{IsAnswered, IsListed}
 
 -- no check of the first ones applies: the first of the others
 first_none :

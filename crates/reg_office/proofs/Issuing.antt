@@ -7,7 +7,7 @@ use Rattle.reg_core.specs.Changes.{with_crl}
 use Rattle.reg_core.specs.Checks.{clock_end}
 use Rattle.reg_core.specs.Crls.{CertList, cert_list, content, entries, latest, row_of}
 use Rattle.reg_core.specs.Issuer.{Issuer}
-use Rattle.reg_core.specs.Records.{Records, Crl}
+use Rattle.reg_core.specs.Records.{Records, Crl, crl_in}
 use Rattle.reg_core.specs.Sound.{NumberedFrom}
 use Rattle.reg_core.specs.Step.{refusal}
 use Rattle.reg_core.specs.declared.rows.CrlRow.{CrlRow}
@@ -22,8 +22,7 @@ use Rattle.reg_laws.proofs.CountFacts.{same_number, other_numbers, find_here, fi
 use Rattle.reg_laws.proofs.Decided.{AcceptsCrl}
 use Rattle.reg_laws.proofs.Entries.{entries_length}
 use Rattle.reg_tables.specs.Kept.{ShowsKept}
-use Rattle.reg_tables.specs.Tables.{crl_in}
-use Rattle.reg_office.specs.Answered.{IsGiven}
+use Rattle.reg_calls.specs.Answered.{IsGiven}
 use Rattle.reg_office.specs.Faults.{IsSigningFault}
 use Rattle.reg_office.specs.Happened.{Happened}
 

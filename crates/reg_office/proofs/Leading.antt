@@ -14,10 +14,11 @@ use Rattle.reg_core.specs.declared.refusal.Fault.{Fault}
 use Rattle.reg_core.specs.declared.refusal.Fault.TheVariants.{Signer}
 use Rattle.reg_crl.specs.Signing.{Identity, signed_by}
 use Rattle.reg_laws.specs.Run.{Happens}
-use Rattle.reg_office.specs.Calls.{Signs, StandsFor, LeadsOver, Runs, Ocsps}
+use Rattle.reg_calls.specs.Steps.{Signs, Runs, Ocsps}
+use Rattle.reg_office.specs.Calls.{StandsFor, LeadsOver}
 use Rattle.reg_office.specs.Faults.{IsTableFault}
 use Rattle.reg_office.specs.Stands.{Stands, CameTo}
-use Rattle.reg_office.specs.Ocsp.{IsOcspReply}
+use Rattle.reg_calls.specs.Ocsp.{IsOcspReply}
 use Rattle.reg_office.proofs.Composing.{was_clean}
 
 -- The calls of an office: its store and who signs, before and after.

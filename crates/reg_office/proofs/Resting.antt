@@ -16,7 +16,7 @@ use Rattle.reg_core.specs.declared.rows.CrlRow.{CrlRow}
 use Rattle.reg_core.specs.declared.rows.Entry.{Entry}
 use Rattle.reg_laws.proofs.Decided.{Accepts, AcceptsCrl}
 use Rattle.reg_crl.specs.Signing.{Identity, signed_by}
-use Rattle.reg_changes.specs.AtRest.{IsAtRest}
+use Rattle.reg_writing.specs.AtRest.{IsAtRest}
 use Rattle.reg_laws.proofs.Runs.{step_keeps_sound}
 use Rattle.reg_office.specs.AtRest.{IsStepped, IsDone}
 use Rattle.reg_office.specs.Happened.{unsigned}

@@ -23,7 +23,7 @@ use Rattle.reg_laws.specs.Headline.{KeepsSound, ListsRevoked, lists, ToldByCrls,
 use Rattle.reg_laws.specs.Revocations.{IsRevocationBy}
 use Rattle.reg_laws.proofs.Lists.{all_weaker, all_found, key_found, some_at}
 use Rattle.reg_office.specs.Agreement.{OcspAgrees}
-use Rattle.reg_office.specs.Answered.{IsAnswered}
+use Rattle.reg_calls.specs.Answered.{IsAnswered}
 use Rattle.reg_office.specs.Shown.{SoundRun, AcceptedRevocation, IsReached, revoked_at, ListedThroughFirstPast, IsShownEverywhere}
 use Rattle.reg_office.proofs.ShownByCrls.{NotPast, ToldOf, listed_through}
 use Rattle.reg_office.proofs.ShownByOcsp.{on_clock, ocsp_tells}

@@ -12,7 +12,7 @@ use Rattle.reg_ocsp.specs.Matching.{IsMatch}
 use Rattle.reg_ocsp.specs.Request.{Id}
 use Rattle.reg_ocsp.specs.Response.{Answer}
 use Rattle.reg_office.specs.Agreement.{Agrees, OcspAgrees}
-use Rattle.reg_office.specs.Ocsp.{IsOcspReply, IsReadReply, IsResponse, IsTimely}
+use Rattle.reg_calls.specs.Ocsp.{IsOcspReply, IsReadReply, IsResponse, IsTimely}
 use Rattle.reg_office.specs.Shown.{IsReached, OcspTells, ResponseTells}
 
 -- the clock refuses no moment that is reached

@@ -12,7 +12,7 @@ use Rattle.reg_core.specs.declared.command.Reply.{Reply}
 use Rattle.reg_core.specs.declared.refusal.Fault.{Fault}
 use Rattle.reg_crl.specs.Signing.{Identity, signed_by}
 use Rattle.reg_tables.specs.Kept.{ShowsKept}
-use Rattle.reg_changes.specs.AtRest.{IsAtRest}
+use Rattle.reg_writing.specs.AtRest.{IsAtRest}
 use Rattle.reg_laws.specs.Run.{Happens, Run}
 use Rattle.reg_office.specs.Stands.{Stands, CameTo}
 

@@ -2,12 +2,9 @@ pub mod Agreement
 pub mod AtRest
 pub mod Faults
 pub mod Happened
-pub mod Leads
-pub mod Ocsp
 pub mod OpenedAgain
 pub mod Shown
 pub mod Stands
-pub mod Answered
 pub mod Calls
 pub mod Cases
 pub mod Decisions

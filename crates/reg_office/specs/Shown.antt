@@ -29,8 +29,8 @@ use Rattle.reg_ocsp.specs.Matching.{IsMatch}
 use Rattle.reg_ocsp.specs.Request.{Id, IsRequest}
 use Rattle.reg_ocsp.specs.Response.{refusal_response}
 use Rattle.reg_ocsp.specs.declared.response.RefusalStatus.TheVariants.{Malformed, Internal}
-use Rattle.reg_office.specs.Ocsp.{HasNoReading, IsOcspReply, IsResponse}
-use Rattle.reg_office.specs.Answered.{IsAnswered}
+use Rattle.reg_calls.specs.Ocsp.{HasNoReading, IsOcspReply, IsResponse}
+use Rattle.reg_calls.specs.Answered.{IsAnswered}
 
 -- A RUN, AND THE REVOCATIONS THAT IT ACCEPTED
 

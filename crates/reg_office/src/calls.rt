@@ -10,7 +10,8 @@ use std::alloc::Global;
 impl<C: Alter, S: Signer> Calls for Office<C, S> {
     ghost use Rattle.std.specs.Prelude.{◌<◌, IsErrOf};
     ghost use Rattle.reg_core.specs.declared.refusal.Fault.TheVariants.{Signer as SignerFailed};
-    ghost use Rattle.reg_office.specs.Calls.{LeadsOver, Runs, Asks, Ocsps, Crls};
+    ghost use Rattle.reg_calls.specs.Steps.{Runs, Asks, Ocsps, Crls};
+    ghost use Rattle.reg_office.specs.Calls.{LeadsOver};
 
     /// A fault of the signer comes only where it counted a failure.
     ghost runs = { λ s now command outcome t.

@@ -17,7 +17,7 @@ ghost use Rattle.reg_core.specs.Crls.{EntriesAscend};
 ghost use Rattle.reg_core.specs.declared.refusal.Fault.TheVariants.{Signer as SignerFailed};
 ghost use Rattle.reg_crl.specs.Signing.{signed_by};
 ghost use Rattle.reg_tables.specs.Shows.{Shows};
-ghost use Rattle.reg_office.specs.Answered.{IsGiven};
+ghost use Rattle.reg_calls.specs.Answered.{IsGiven};
 
 use crate::heads::{head_at, latest_crl};
 use reg_core::{CrlRow, Entry, Fault, Moment, Refusal, Reply, decide_crl};

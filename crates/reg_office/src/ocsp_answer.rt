@@ -11,7 +11,7 @@ ghost use Rattle.reg_ocsp.specs.declared.response.RefusalStatus.TheVariants.{Mal
 ghost use Rattle.reg_ocsp.specs.Views.{ids_seen};
 ghost use Rattle.reg_tables.specs.Shows.{Shows};
 ghost use Rattle.reg_tables.specs.Stays.{Looked};
-ghost use Rattle.reg_office.specs.Ocsp.{HasNoReading, IsOcspData, IsOcspReply, IsResponse, response_signed_by};
+ghost use Rattle.reg_calls.specs.Ocsp.{HasNoReading, IsOcspData, IsOcspReply, IsResponse, response_signed_by};
 
 use crate::ocsp_faults::ResponseFault;
 use crate::statuses::answers;

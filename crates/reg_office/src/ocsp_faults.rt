@@ -10,7 +10,7 @@ use reg_tables::StoreFault;
 use std::alloc::AllocError;
 
 /// Why a request that was read gets no response.
-#[derive(Clone, Copy, Debug, PartialEq, Eq)]
+#[derive(Clone, Copy, PartialEq, Eq)]
 pub(crate) enum ResponseFault {
     /// The clock refuses the moment.
     Clock,

@@ -14,9 +14,9 @@ ghost use Rattle.reg_changes.specs.AtRest.{IsScheduled};
 ghost use Rattle.reg_tables.specs.Stays.{Changed, IsCallFault, Looked, Stays};
 ghost use Rattle.reg_ocsp.specs.Response.{refusal_response};
 ghost use Rattle.reg_ocsp.specs.declared.response.RefusalStatus.TheVariants.{Malformed, Internal};
-ghost use Rattle.reg_office.specs.Ocsp.{HasNoReading, IsOcspReply};
+ghost use Rattle.reg_calls.specs.Ocsp.{HasNoReading, IsOcspReply};
 ghost use Rattle.reg_office.specs.AtRest.{Does};
-ghost use Rattle.reg_office.specs.Answered.{IsAnswered, IsGiven};
+ghost use Rattle.reg_calls.specs.Answered.{IsAnswered, IsGiven};
 ghost use Rattle.reg_office.specs.Faults.{IsOfficeFault, IsTableFault};
 ghost use Rattle.reg_office.specs.Stands.{Stands, CameTo};
 

@@ -11,7 +11,7 @@ ghost use Rattle.reg_core.specs.Status as status;
 ghost use Rattle.reg_tables.specs.Kept.{ShowsKept};
 ghost use Rattle.reg_tables.specs.Shows.{Shows};
 ghost use Rattle.reg_tables.specs.Stays.{Looked};
-ghost use Rattle.reg_office.specs.Answered.{IsAnswered, IsListed};
+ghost use Rattle.reg_calls.specs.Answered.{IsAnswered, IsListed};
 ghost use Rattle.reg_office.specs.Faults.{IsStoreFault, IsTableFault};
 
 use crate::heads::latest_crl;

@@ -24,7 +24,7 @@ use reg_store::{Store, Table};
 use sqlite::Alter;
 
 /// A request, with the certificate and the revocation of its serial number.
-#[derive(Clone, Copy, Debug, PartialEq, Eq)]
+#[derive(Clone, Copy, PartialEq, Eq)]
 pub(crate) struct Case {
     request: Option<RequestRow>,
     certificate: Option<CertRow>,

@@ -9,7 +9,7 @@ ghost use Rattle.reg_core.specs.Status as spec;
 ghost use Rattle.reg_ocsp.specs.Views.{id_seen};
 ghost use Rattle.reg_tables.specs.Shows.{Shows};
 ghost use Rattle.reg_tables.specs.Stays.{Looked};
-ghost use Rattle.reg_office.specs.Ocsp.{IsTold};
+ghost use Rattle.reg_calls.specs.Ocsp.{IsTold};
 
 use crate::ocsp_faults::ResponseFault;
 use reg_core::{Moment, Serial, Status, status_of};

@@ -25,12 +25,12 @@ use Rattle.reg_tables.specs.Columns.{stored_counts, office_days}
 use Rattle.reg_tables.specs.Kept.{Kept}
 use Rattle.reg_tables.specs.Shows.{AreRows, AreColumns, AreBoth}
 use Rattle.reg_tables.specs.Stays.{Moves}
-use Rattle.reg_changes.specs.Ran.{Ran}
-use Rattle.reg_changes.specs.Staged.{IsStaged, table_trees}
-use Rattle.reg_changes.proofs.Edits.{cast_int, cast_null}
-use Rattle.reg_changes.proofs.Meaning.{inserts, IsWriting}
-use Rattle.reg_changes.proofs.Obeying.{obeys}
-use Rattle.reg_changes.proofs.Registers.{puts_row, puts_spares}
+use Rattle.reg_writing.specs.Ran.{Ran}
+use Rattle.reg_writing.specs.Staged.{IsStaged, table_trees}
+use Rattle.reg_writing.proofs.Edits.{cast_int, cast_null}
+use Rattle.reg_writing.proofs.Meaning.{inserts, IsWriting}
+use Rattle.reg_writing.proofs.Obeying.{obeys}
+use Rattle.reg_writing.proofs.Registers.{puts_row, puts_spares}
 use Rattle.reg_opening.specs.Blank.{IsBlank, BlankBefore}
 use Rattle.reg_migration.specs.Refilled.{no_columns, no_counts}
 use Rattle.reg_opening.specs.Filled.{HasOffice, HasCounts}

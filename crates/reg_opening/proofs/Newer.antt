@@ -12,8 +12,8 @@ use Rattle.reg_tables.specs.Kept.{ShowsKept}
 use Rattle.reg_tables.specs.Shows.{HasOfficeDays}
 use Rattle.reg_tables.specs.Stays.{Stays}
 use Rattle.reg_tables.proofs.Staying.{stays_holds}
-use Rattle.reg_changes.specs.AtRest.{IsAtRest}
-use Rattle.reg_changes.proofs.Moving.{was_clean}
+use Rattle.reg_writing.specs.AtRest.{IsAtRest}
+use Rattle.reg_writing.proofs.Moving.{was_clean}
 use Rattle.reg_migration.specs.AtRest.{IsMigrated}
 use Rattle.reg_migration.specs.Older.{IsShownByOlder, ShowsOlder}
 use Rattle.reg_migration.specs.declared.version.Earlier.{Earlier}

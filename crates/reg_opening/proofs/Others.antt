@@ -6,7 +6,7 @@ use Rattle.sqlite.specs.State.{State, HasCleanDisk}
 use Rattle.reg_core.specs.Records.{Records}
 use Rattle.reg_tables.specs.Schema.{register_schema}
 use Rattle.reg_tables.specs.Stays.{IsRegister, Stays}
-use Rattle.reg_changes.specs.Ran.{HasSchema}
+use Rattle.reg_writing.specs.Ran.{HasSchema}
 use Rattle.reg_migration.specs.Older.{older_schema}
 use Rattle.reg_migration.specs.declared.version.Earlier.{Earlier}
 use Rattle.reg_opening.specs.Compared.{says}

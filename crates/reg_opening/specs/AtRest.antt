@@ -8,7 +8,7 @@ use Rattle.reg_core.specs.Policy.{Terms}
 use Rattle.reg_core.specs.Records.{Records, no_records}
 use Rattle.reg_core.specs.Sound.{SoundRows}
 use Rattle.reg_tables.specs.Schema.{no_schema}
-use Rattle.reg_changes.specs.AtRest.{IsAtRest}
+use Rattle.reg_writing.specs.AtRest.{IsAtRest}
 use Rattle.reg_migration.specs.Older.{ShowsOlder}
 use Rattle.reg_migration.specs.declared.version.Earlier.{Earlier}
 use Rattle.reg_opening.specs.Said.{IsOlder}

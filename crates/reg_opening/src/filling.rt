@@ -15,12 +15,12 @@ ghost use Rattle.reg_migration.specs.Refilled.{no_columns};
 ghost use Rattle.reg_opening.specs.Filled.{HasOffice, HasCounts};
 
 use crate::texts;
-use reg_changes::put_steps;
-use reg_changes::writing::{sql_number, write};
 use reg_core::Policy;
 use reg_der::Issuer;
 use reg_migration::texts::PUT_COUNTS;
 use reg_tables::CallFault;
+use reg_writing::put_steps;
+use reg_writing::writing::{sql_number, write};
 use sqlite::types::ValueRef;
 use sqlite::{Alter, Transaction};
 

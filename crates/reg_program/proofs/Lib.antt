@@ -1,9 +1,5 @@
 pub mod Clean
-pub mod Fates
 pub mod Holding
-pub mod LineByLine
 pub mod Opened
-pub mod Peers
-pub mod Pieces
 pub mod Setting
-pub mod Talking
+pub mod Signers

@@ -14,13 +14,13 @@ use Rattle.reg_core.specs.Sound.{SoundRows}
 use Rattle.reg_migration.specs.Older.{ShowsOlder}
 use Rattle.reg_migration.specs.declared.version.Earlier.{Earlier}
 use Rattle.reg_crl.specs.Signing.{Identity, signed_by}
-use Rattle.reg_jobs.specs.declared.failure.Failure.{Failure}
+use Rattle.reg_endings.specs.declared.failure.Failure.{Failure}
 use Rattle.reg_laws.proofs.Runs.{created_sound}
 use Rattle.reg_office.specs.Stands.{Stands}
 use Rattle.reg_tables.specs.Kept.{ShowsKept}
 use Rattle.reg_tables.specs.Schema.{no_schema}
 use Rattle.reg_program.specs.Files.{IsConnection, IsOpenedFrom, IsMadeFrom, Showed}
-use Rattle.reg_program.specs.Signing.{Follows, IsSigning, Signing}
+use Rattle.reg_jobs.specs.Signing.{Follows, IsSigning, Signing}
 
 -- the records of one that was made
 pub made_stands : {C : Type 0} (g : Ghosts C) (signs : Identity → List ℕ → List ℕ → Type 0) (identity : Identity) (store register : Held C)

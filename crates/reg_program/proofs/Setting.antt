@@ -8,10 +8,10 @@ use Rattle.reg_office.proofs.Composing.{was_clean}
 use Rattle.reg_core.specs.Changes.{with_schedule}
 use Rattle.reg_core.specs.Records.{Records}
 use Rattle.reg_crl.specs.Signing.{Identity}
-use Rattle.reg_office.specs.Calls.{Signs}
+use Rattle.reg_calls.specs.Steps.{Signs}
 use Rattle.reg_office.proofs.Standing.{stands_on}
 use Rattle.reg_office.specs.Stands.{Stands}
-use Rattle.reg_program.specs.Schedules.{Reschedules}
+use Rattle.reg_jobs.specs.Schedules.{Reschedules}
 use Rattle.reg_tables.specs.Stays.{Stays}
 use Rattle.reg_tables.specs.declared.fault.StoreFault.{StoreFault}
 

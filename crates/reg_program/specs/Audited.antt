@@ -15,9 +15,9 @@ use Rattle.reg_tables.specs.Shows.{AreBoth}
 use Rattle.reg_auditing.specs.Complete.{ShowsSound}
 use Rattle.reg_verdict.specs.Presumed.{IsPresumed}
 use Rattle.reg_verdict.specs.Verdicts.{CountedBy, IsSound}
-use Rattle.reg_verdict.specs.declared.judging.Verdict.{Verdict}
+use Rattle.reg_findings.specs.declared.verdict.Verdict.{Verdict}
 use Rattle.reg_program.specs.Files.{IsAudited, IsOpenedFrom}
-use Rattle.reg_program.specs.Signing.{Signing}
+use Rattle.reg_jobs.specs.Signing.{Signing}
 
 -- an audit of a file that said that all is sound, with a disk that returned what was written, and where what is presumed of the
 -- connection and of the file holds

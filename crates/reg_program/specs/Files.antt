@@ -20,9 +20,9 @@ use Rattle.reg_auditing.specs.Complete.{ShowsSound}
 use Rattle.reg_auditing.specs.Stored.{IsSomeCrl}
 use Rattle.reg_verdict.specs.Presumed.{IsPresumed}
 use Rattle.reg_verdict.specs.Verdicts.{CountedBy, DeniedBy, IsSound, TellsOf}
-use Rattle.reg_verdict.specs.declared.judging.Verdict.{Verdict}
+use Rattle.reg_findings.specs.declared.verdict.Verdict.{Verdict}
 use Rattle.reg_crl.specs.Signing.{Identity}
-use Rattle.reg_program.specs.Signing.{Follows, IsSigning, Signing}
+use Rattle.reg_jobs.specs.Signing.{Follows, IsSigning, Signing}
 
 -- tables showed the records of a register, of this program's version or of an older one
 abbrev pub Showed : {C : Type 0} → Ghosts C → Held C → Records → Type 0

@@ -1,14 +1,2 @@
-pub mod Asking
 pub mod Audited
-pub mod Digest
-pub mod Ends
-pub mod Exchanges
-pub mod Failing
 pub mod Files
-pub mod Lined
-pub mod Sample
-pub mod Schedules
-pub mod Serving
-pub mod Signing
-pub mod Told
-pub mod Visits

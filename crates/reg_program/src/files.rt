@@ -1,6 +1,6 @@
 //! Registers in files: made, opened and closed.
 
-ghost use Rattle.std.specs.Prelude.{◌≡◌, ◌≤◌, ◌⊎◌, false, Some, None, IfOk, IfErr, IsFalse, IsTrue, MatchResult, OnErr};
+ghost use Rattle.std.specs.Prelude.{◌≡◌, ◌≤◌, ◌⊎◌, false, IfOk, IfErr, IsFalse, IsTrue, MatchResult, OnErr, option_map};
 ghost use Rattle.sqlite.specs.Files.{file_state, over_files, IsOpened};
 ghost use Rattle.sqlite.specs.Held.{state, IsNew};
 ghost use Rattle.sqlite.specs.State.{HasCleanDisk};
@@ -9,27 +9,31 @@ ghost use Rattle.reg_core.specs.Records.{Records, no_records};
 ghost use Rattle.reg_core.specs.Sound.{SoundRows};
 ghost use Rattle.reg_migration.specs.Older.{ShowsOlder};
 ghost use Rattle.reg_migration.specs.declared.version.Earlier.{Earlier};
-ghost use Rattle.reg_program.specs.Failing.{IsMaking, IsOpening};
+ghost use Rattle.reg_jobs.specs.Failing.{IsMaking, IsOpening};
 ghost use Rattle.reg_program.specs.Files.{IsAudited, IsOpenedFrom, IsMadeFrom, Showed};
-ghost use Rattle.reg_program.specs.Signing.{Follows, IsSigning, identity_told};
+ghost use Rattle.reg_jobs.specs.Signing.{Follows, IsSigning};
+ghost use Rattle.reg_calls.specs.Leads.{Leads};
+ghost use Rattle.reg_jobs.specs.Schedules.{Reschedules};
+ghost use Rattle.reg_office.specs.Calls.{StandsFor};
 ghost use Rattle.reg_office.specs.Stands.{Stands};
 ghost use Rattle.reg_tables.specs.Kept.{ShowsKept};
 ghost use Rattle.reg_tables.specs.Schema.{no_schema};
+ghost use Rattle.reg_tables.specs.Stays.{IsCallFault};
 
 use crate::machine::Machine;
-use crate::place::{Place, Register};
-use crate::signing::{FileSigner, signer_found, signer_over};
+use crate::signing::{FileSigner, signer_for};
 use crate::watching::Teller;
 use reg_core::{Fault, Memory, Policy, Schedule};
 use reg_crl::Signer;
 use reg_der::Issuer;
-use reg_faces::Keeper;
+use reg_endings::Failure;
 use reg_files::{Unlaid, absent, claim_file, open_file, remove_file};
-use reg_jobs::Failure;
+use reg_findings::Verdict;
+use reg_jobs::Place;
 use reg_office::Office;
 use reg_signer::KeyOrDigest;
 use reg_store::{Store, StoreFault};
-use reg_verdict::{Verdict, judge};
+use reg_verdict::judge;
 use reg_words::KeyHolder;
 use sqlite::{Alter, Connection, FileFrom, FileStore};
 use sqlite_disk::{Disk, Unknown};
@@ -38,12 +42,6 @@ use std::fs;
 
 /// An office over a register's file, with its checks for damage, and what holds the key or a digest as its signer.
 pub type FileOffice = Office<FileStore<FileFrom<Unknown>>, FileSigner>;
-
-impl<C: Alter, S: Signer> Register for Office<C, S> {
-    fn set_schedule(&mut self, alloc: Global, schedule: Schedule) -> Result<(), StoreFault> {
-        self.set_schedule(alloc, schedule)
-    }
-}
 
 /// The machine's files, as a place where registers lie. No state of theirs stands in the handle, so its relations read none.
 impl<'a> Place for Machine<'a> {
@@ -89,9 +87,7 @@ impl<'a> Place for Machine<'a> {
     }
 
     fn open(&mut self, path: &str) -> Result<FileOffice, Failure> {
-        // To open a path where no file is would make one.
-        present(self, path)?;
-        open_register(self, path)
+        open_register(self, path, None)
     }
 
     fn open_to_sign(
@@ -99,8 +95,7 @@ impl<'a> Place for Machine<'a> {
         path: &str,
         signer: &Option<KeyHolder<'_>>,
     ) -> Result<FileOffice, Failure> {
-        present(self, path)?;
-        open_register_to_sign(self, path, signer)
+        open_register(self, path, Some(signer))
     }
 
     fn make(&mut self, path: &str, issuer: Issuer, policy: Policy) -> Result<FileOffice, Failure> {
@@ -110,6 +105,15 @@ impl<'a> Place for Machine<'a> {
             return Err(Failure::Fault(Fault::Store));
         }
         make_register(self, path, issuer, policy)
+    }
+
+    fn set_schedule(
+        &self,
+        alloc: Global,
+        register: &mut FileOffice,
+        schedule: Schedule,
+    ) -> Result<(), StoreFault> {
+        reschedule(alloc, register, schedule)
     }
 
     fn audit(&mut self, path: &str) -> Result<Verdict, Failure> {
@@ -174,26 +178,34 @@ fn make_register(
     settled(made_over(connection, issuer, policy, KeyOrDigest::digest()))
 }
 
-/// Opens the register of a file, where nothing will be signed.
-fn open_register(machine: &Machine<'_>, path: &str) -> Result<FileOffice, Failure>
-    ensures ok { IfOk result (λ register. IsOpenedFrom None register.store (⟦<FileSigner as Signer>⟧.identity register.signer)) }
-    ensures err { IfErr result IsOpening }
-{
-    let connection = open_noted(machine, path)?;
-    settled(found_over(&machine.rt, connection))
-}
-
-/// Opens the register of a file, with who signs.
-fn open_register_to_sign(
+/// Opens the register of a file for these signatures; `None` where nothing will be signed.
+fn open_register(
     machine: &Machine<'_>,
     path: &str,
-    signer: &Option<KeyHolder<'_>>,
+    signing: Option<&Option<KeyHolder<'_>>>,
 ) -> Result<FileOffice, Failure>
-    ensures ok { IfOk result (λ register. IsOpenedFrom (Some signer.now) register.store (⟦<FileSigner as Signer>⟧.identity register.signer)) }
+    ensures ok { IfOk result (λ register. IsOpenedFrom (option_map (λ told. told.now) signing.entry) register.store
+        (⟦<FileSigner as Signer>⟧.identity register.signer)) }
     ensures err { IfErr result IsOpening }
 {
+    // To open a path where no file is would make one.
+    present(machine, path)?;
     let connection = open_noted(machine, path)?;
-    settled(signed_over(&machine.rt, connection, signer))
+    settled(office_over(&machine.rt, connection, signing))
+}
+
+/// Sets the schedule of an office.
+fn reschedule<C: Alter, S: Signer>(
+    alloc: Global,
+    office: &mut Office<C, S>,
+    schedule: Schedule,
+) -> Result<(), StoreFault>
+    ensures moves { Leads (λ office. HasCleanDisk (state C.Store office.store))
+        (λ identity office records. StandsFor C.Store S.signs (office.store, S.identity office.signer) identity records)
+        (λ identity. Reschedules schedule result) office.old office.new }
+    ensures faults { IfErr result IsCallFault }
+{
+    office.set_schedule(alloc, schedule)
 }
 
 /// What an audit says of the register in a file.
@@ -231,10 +243,11 @@ fn made_over<C: Alter, S: Signer + Drop>(
     }
 }
 
-/// The office over the register of a database, where nothing will be signed; where there is none, why, and the connection back.
-fn found_over<C: Alter>(
+/// The office over the register of a database, for these signatures; where there is none, why, and the connection back.
+fn office_over<C: Alter>(
     rt: &HostRuntime,
     connection: Connection<C>,
+    signing: Option<&Option<KeyHolder<'_>>>,
 ) -> Result<Office<C, FileSigner>, (Failure, Connection<C>)>
     requires { connection.in_transaction ≡ false }
     ensures kept { IfOk result (λ office. (records : Records) → ShowsKept C.Store connection records → ShowsKept C.Store office.store records) }
@@ -242,7 +255,7 @@ fn found_over<C: Alter>(
         → ShowsKept C.Store office.store records) }
     ensures clean { IfOk result (λ office. doubt (state C.Store connection).is_clean ≤ doubt (state C.Store office.store).is_clean) }
     ensures told { IfOk result (λ office. (records : Records) → Showed C.Store connection records → HasCleanDisk (state C.Store office.store)
-        → IsSigning None records.issuer.key (⟦<FileSigner as Signer>⟧.identity office.signer)) }
+        → IsSigning (option_map (λ told. told.now) signing.entry) records.issuer.key (⟦<FileSigner as Signer>⟧.identity office.signer)) }
     ensures follows { IfOk result (λ office. (records : Records) → Showed C.Store connection records → SoundRows records
         → HasCleanDisk (state C.Store office.store) → Follows records (⟦<FileSigner as Signer>⟧.identity office.signer).algorithm) }
     ensures err { IfErr result (λ left. IsOpening left.0) }
@@ -250,36 +263,7 @@ fn found_over<C: Alter>(
     match Store::open(connection) {
         Ok(store) => {
             let mut store = store;
-            match signer_found(rt, &mut store) {
-                Ok(signer) => Ok(Office::new(store, signer)),
-                Err(why) => Err((why, store.into_connection())),
-            }
-        }
-        Err(unopened) => Err((Failure::from(unopened.fault), unopened.connection)),
-    }
-}
-
-/// The office over the register of a database, with who signs; where there is none, why, and the connection back.
-fn signed_over<C: Alter>(
-    rt: &HostRuntime,
-    connection: Connection<C>,
-    signer: &Option<KeyHolder<'_>>,
-) -> Result<Office<C, FileSigner>, (Failure, Connection<C>)>
-    requires { connection.in_transaction ≡ false }
-    ensures kept { IfOk result (λ office. (records : Records) → ShowsKept C.Store connection records → ShowsKept C.Store office.store records) }
-    ensures migrated { IfOk result (λ office. (version : Earlier) → (records : Records) → ShowsOlder version C.Store connection records → SoundRows records
-        → ShowsKept C.Store office.store records) }
-    ensures clean { IfOk result (λ office. doubt (state C.Store connection).is_clean ≤ doubt (state C.Store office.store).is_clean) }
-    ensures told { IfOk result (λ office. (records : Records) → Showed C.Store connection records → HasCleanDisk (state C.Store office.store)
-        → ⟦<FileSigner as Signer>⟧.identity office.signer ≡ identity_told signer.now records.issuer.key) }
-    ensures follows { IfOk result (λ office. (records : Records) → Showed C.Store connection records → SoundRows records
-        → HasCleanDisk (state C.Store office.store) → Follows records (⟦<FileSigner as Signer>⟧.identity office.signer).algorithm) }
-    ensures err { IfErr result (λ left. IsOpening left.0) }
-{
-    match Store::open(connection) {
-        Ok(store) => {
-            let mut store = store;
-            match signer_over(rt, &mut store, signer) {
+            match signer_for(rt, &mut store, signing) {
                 Ok(signer) => Ok(Office::new(store, signer)),
                 Err(why) => Err((why, store.into_connection())),
             }

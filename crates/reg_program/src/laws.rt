@@ -7,7 +7,7 @@ use sqlite_disk::Disk;
 
 /// The register in a file that an audit found sound stands.
 ///
-/// Where [`Place::audit`](crate::Place::audit) of the machine's files answered `Sound`, there are records that the file's tables
+/// Where [`Place::audit`](reg_jobs::Place::audit) of the machine's files answered `Sound`, there are records that the file's tables
 /// show, sound and with what is kept beside them as it follows from them; and in an office that opens the file afterwards with
 /// these tables they stand, so that the clauses of [`reg_office::Office`] and its laws hold of them. Nothing more is asked of the
 /// rows than what no audit can find: that each of `listed` has its last column (`IsPresumed`). The law rests besides on the

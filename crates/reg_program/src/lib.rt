@@ -1,29 +1,20 @@
-//! The jobs of the program `desk`: each over standard input and output, a register's file, and the loopback interface.
+//! The program `desk` on a machine: its files, clock, ports and sockets as a place and a front of jobs.
 #![tactic(auto)]
 
-mod asking;
 mod counter;
+mod desk;
 mod files;
 mod front;
-mod handling;
-mod jobs;
 pub mod laws;
-mod lining;
-mod logging;
 mod machine;
 mod memory;
-mod opening;
 mod performing;
-mod place;
-mod serving;
+mod progress;
 mod signing;
-mod telling;
 mod watching;
 
-pub use asking::talk;
+pub use desk::run_desk;
 pub use files::FileOffice;
-pub use front::Front;
 pub use machine::Machine;
-pub use performing::{perform, perform_at};
-pub use place::{Place, Register};
+pub use performing::perform;
 pub use signing::FileSigner;

@@ -1,20 +1,27 @@
-//! A new register in memory.
+//! A script over a new register in memory.
 
 ghost use Rattle.std.specs.Prelude.{IfErr, IfOk};
+ghost use Rattle.reg_core.specs.Records.{Records};
+ghost use Rattle.reg_faces.specs.Faces.{Lines};
+ghost use Rattle.reg_lines.specs.Script.{ScriptEnds};
+ghost use Rattle.reg_jobs.specs.Ends.{ScriptInMemory};
 ghost use Rattle.sqlite.specs.Steps.{over_memory};
 ghost use Rattle.reg_office.specs.Stands.{Stands};
-ghost use Rattle.reg_program.specs.Digest.{digest, digests};
-ghost use Rattle.reg_program.specs.Failing.{IsMaking};
-ghost use Rattle.reg_program.specs.Sample.{sample_records};
+ghost use Rattle.reg_jobs.specs.Digest.{digest, digests};
+ghost use Rattle.reg_jobs.specs.Failing.{IsMaking};
+ghost use Rattle.reg_jobs.specs.Sample.{sample_records};
 
 use reg_core::{Fault, Policy};
 use reg_crl::DigestSeal;
 use reg_der::Issuer;
-use reg_jobs::Failure;
+use reg_endings::Failure;
+use reg_faces::run_script;
+use reg_jobs::ended;
 use reg_office::Office;
 use reg_store::Store;
 use sqlite::{Connection, MemStore};
 use std::alloc::Global;
+use std::io::{Read, Write};
 
 /// The Name of a sample issuer: the common name CA (RFC 5280 4.1.2.4).
 const NAME: [u8; 15] = *b"\x30\x0D\x31\x0B\x30\x09\x06\x03\x55\x04\x03\x0C\x02CA";
@@ -23,13 +30,40 @@ const NAME: [u8; 15] = *b"\x30\x0D\x31\x0B\x30\x09\x06\x03\x55\x04\x03\x0C\x02CA
 const KEY: [u8; 3] = *b"abc";
 
 /// The office over a register in memory, with the digest as its signer.
-pub(crate) type MemoryOffice = Office<MemStore, DigestSeal>;
+type MemoryOffice = Office<MemStore, DigestSeal>;
+
+/// Runs the script of standard input over a new register in memory, of a sample issuer whose key nothing holds.
+pub(crate) fn script_in_memory<R: Read, W: Write>(
+    alloc: Global,
+    reader: &mut R,
+    writer: &mut W,
+) -> Result<(), Failure>
+    ensures { ScriptInMemory R.remaining W.contents reader.old reader.new writer.old writer.new result }
+{
+    let mut fresh = office_in_memory(alloc)?;
+    let ran = run_in_memory(alloc, reader, writer, &mut fresh);
+    ended(ran)
+}
+
+/// Runs the script of standard input over a register in memory that has the sample's records.
+fn run_in_memory<R: Read, W: Write>(
+    alloc: Global,
+    reader: &mut R,
+    writer: &mut W,
+    office: &mut MemoryOffice,
+) -> Result<(), Fault>
+    requires { Stands over_memory digests office.old.store digest sample_records }
+    ensures { (after : Records) × ScriptEnds (Lines digests digest) R.remaining W.contents sample_records after
+        reader.old reader.new writer.old writer.new result }
+{
+    run_script(alloc, reader, writer, office)
+}
 
 /// The office over a new register in memory, of a sample issuer and under the usual policy.
 ///
 /// # Errors
 /// `Memory`, and `Store` where the database fails.
-pub(crate) fn office_in_memory(alloc: Global) -> Result<MemoryOffice, Failure>
+fn office_in_memory(alloc: Global) -> Result<MemoryOffice, Failure>
     ensures ok { IfOk result (λ office. Stands over_memory digests office.store digest sample_records) }
     ensures err { IfErr result IsMaking }
 {

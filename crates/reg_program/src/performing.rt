@@ -1,34 +1,29 @@
 //! A job is done, and told.
 
 ghost use Rattle.std.specs.Prelude.{◌≡◌, Result};
-ghost use Rattle.reg_jobs.specs.Endings.{status};
-ghost use Rattle.reg_jobs.specs.declared.failure.Failure.{Failure as Failing};
-ghost use Rattle.reg_program.specs.Ends.{Ends};
-ghost use Rattle.reg_program.specs.Told.{Explains, Tells};
+ghost use Rattle.reg_endings.specs.Endings.{status};
+ghost use Rattle.reg_endings.specs.declared.failure.Failure.{Failure as Failing};
+ghost use Rattle.reg_jobs.specs.Ends.{Ends};
+ghost use Rattle.reg_jobs.specs.Told.{Explains, Tells};
 
-use crate::asking::at;
-use crate::files::FileOffice;
-use crate::front::Front;
-use crate::jobs::{NewOffice, audit, crl, import_rows, init, schedule, script, script_in_memory};
-use crate::lining::script_by_lines;
-use crate::machine::Machine;
-use crate::opening::hold_open;
-use crate::place::Place;
-use crate::serving::serve;
-use crate::telling::{explain, tell};
-use reg_causes::Cause;
-use reg_faces::Keeper;
-use reg_jobs::{Failure, status_of};
+use crate::memory::script_in_memory;
+use reg_endings::{Failure, status_of};
+use reg_jobs::{
+    Causes, Front, NewOffice, Place, at, audit, crl, explain, hold_open, import_rows, init,
+    schedule, script, script_by_lines, serve, tell,
+};
 use reg_words::Job;
-use std::cell::Cell;
 use std::io::{Read, Write};
 
-/// Does a job over standard input and output and the machine, as [`perform_at`] says. Where that is asked for, the line of a fault
-/// is followed by one that tells its cause, where that was noted: by a call of the machine, or by the reader or the writer.
-pub fn perform<'a, R: Read, W: Write, E: Write>(
-    noted: &Cell<Option<Cause>>,
-    is_explained: bool,
-    machine: &mut Machine<'a>,
+/// Does a job over standard input and output, the registers of a place, and a front with a clock and ports, and gives its exit
+/// status: 0 where it is done; 3 where a reply at a counter, or in a strict script, was a refusal or a fault; else 1; with one line
+/// on standard error. Where that is asked for, the line of a fault is followed by one that tells its cause, where that was noted: by a
+/// call of the machine, or by the reader or the writer.
+pub fn perform<P: Place, F: Front, R: Read, W: Write, E: Write>(
+    rt: &HostRuntime,
+    causes: &Causes<'_>,
+    front: &F,
+    place: &mut P,
     job: &Job<'_>,
     reader: &mut R,
     writer: &mut W,
@@ -36,25 +31,16 @@ pub fn perform<'a, R: Read, W: Write, E: Write>(
 ) -> u8
     ensures { (ending : Result (Unit {0}) Failing)
         × Ends R.remaining W.contents reader.old reader.new writer.old writer.new
-        ⟦<Machine<'a> as Place>⟧ (record {
-          is_clean = ⟦<FileOffice as Keeper>⟧.is_clean;
-          stands = ⟦<FileOffice as Keeper>⟧.stands;
-          signs = ⟦<FileOffice as Keeper>⟧.signs;
-          failures = ⟦<FileOffice as Keeper>⟧.failures;
-        })
-        machine.old machine.new ⟦<Machine<'a> as Front>⟧ job.now ending
-        × (result ≡ status ending) × Explains is_explained ending (E.contents errors.old) (E.contents errors.new) }
+        P.Place P.Opened.Keeper.own place.old place.new F.Front job.now ending
+        × (result ≡ status ending) × Explains causes.now.is_told ending (E.contents errors.old) (E.contents errors.new) }
 {
-    let front = *machine;
-    let status = perform_at(&front.rt, &front, machine, job, reader, writer, errors);
-    explain(errors, is_explained, status, noted.get());
+    let status = perform_at(rt, front, place, job, reader, writer, errors);
+    explain(errors, causes.is_told, status, causes.noted.get());
     status
 }
 
-/// Does a job over standard input and output, the registers of a place, and a front with a clock and ports, and gives its exit
-/// status: 0 where it is done; 3 where a reply at a counter, or in a strict script, was a refusal or a fault; else 1; with one line
-/// on standard error.
-pub fn perform_at<P: Place, F: Front, R: Read, W: Write, E: Write>(
+/// Does a job, and gives its exit status; why it is not done is told in one line.
+fn perform_at<P: Place, F: Front, R: Read, W: Write, E: Write>(
     rt: &HostRuntime,
     front: &F,
     place: &mut P,

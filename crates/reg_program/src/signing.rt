@@ -6,8 +6,8 @@ ghost use Rattle.sqlite.specs.State.{HasCleanDisk};
 ghost use Rattle.reg_core.specs.Crls.{latest};
 ghost use Rattle.reg_core.specs.Records.{Records};
 ghost use Rattle.reg_core.specs.Sound.{SoundRows};
-ghost use Rattle.reg_program.specs.Failing.{IsOpening};
-ghost use Rattle.reg_program.specs.Signing.{Follows, IsSigning, identity_told};
+ghost use Rattle.reg_jobs.specs.Failing.{IsOpening};
+ghost use Rattle.reg_jobs.specs.Signing.{Follows, IsSigning, identity_told};
 ghost use Rattle.reg_signer.specs.Forms.{identity_of};
 ghost use Rattle.reg_signer.specs.Signed.{IsCrlUnder};
 ghost use Rattle.reg_tables.specs.Shows.{Shows};
@@ -15,7 +15,7 @@ ghost use Rattle.reg_tables.specs.Stays.{IsCallFault, Looked};
 
 use reg_core::Fault;
 use reg_crl::Signer;
-use reg_jobs::Failure;
+use reg_endings::Failure;
 use reg_signer::{Algorithm, BadSigner, DeviceSigner, KeyOrDigest, SocketDevice, crl_algorithm};
 use reg_store::{Store, StoreFault};
 use reg_words::{KeyHolder, Word};
@@ -24,46 +24,32 @@ use sqlite::Alter;
 /// What holds the key signs, behind a socket of the machine, or a digest seals.
 pub type FileSigner = KeyOrDigest<SocketDevice<HostRuntime>>;
 
-/// Who signs for the register of a store, as it is told.
+/// Who signs for the register of a store: as it is told; or, where nothing will be signed, as the latest CRL tells, with nobody who
+/// would answer.
 ///
 /// # Errors
-/// `BadSigner` where the latest CRL is signed under another algorithm, or the issuer's key is none of the algorithm; `Memory`,
-/// `Store`.
-pub(crate) fn signer_over<C: Alter>(
+/// `BadSigner` where the latest CRL is signed under another algorithm, or under one that is not known here, or the issuer's key is
+/// none of the algorithm; `Memory`, `Store`.
+pub(crate) fn signer_for<C: Alter>(
     rt: &HostRuntime,
     store: &mut Store<C>,
-    told: &Option<KeyHolder<'_>>,
+    signing: Option<&Option<KeyHolder<'_>>>,
 ) -> Result<FileSigner, Failure>
     ensures told { IfOk result (λ signer. (records : Records) → Shows C.Store store.old records → HasCleanDisk (state C.Store store.new)
-        → ⟦<FileSigner as Signer>⟧.identity signer ≡ identity_told told.now records.issuer.key) }
+        → IsSigning (option_map (λ told. told.now) signing.entry) records.issuer.key (⟦<FileSigner as Signer>⟧.identity signer)) }
     ensures follows { IfOk result (λ signer. (records : Records) → Shows C.Store store.old records → SoundRows records
         → HasCleanDisk (state C.Store store.new) → Follows records (⟦<FileSigner as Signer>⟧.identity signer).algorithm) }
     ensures looked { Looked C.Store store.old store.new }
     ensures faults { IfErr result IsOpening }
 {
     let latest = latest_crl(store)?;
-    signer_after(rt, store, &latest, told)
-}
-
-/// Who signs for the register of a store where nothing will be signed: as the latest CRL tells, with nobody who would answer.
-///
-/// # Errors
-/// `BadSigner` where the latest CRL is signed under an algorithm that is not known here, or the issuer's key is none of the
-/// algorithm; `Memory`, `Store`.
-pub(crate) fn signer_found<C: Alter>(
-    rt: &HostRuntime,
-    store: &mut Store<C>,
-) -> Result<FileSigner, Failure>
-    ensures told { IfOk result (λ signer. (records : Records) → Shows C.Store store.old records → HasCleanDisk (state C.Store store.new)
-        → IsSigning None records.issuer.key (⟦<FileSigner as Signer>⟧.identity signer)) }
-    ensures follows { IfOk result (λ signer. (records : Records) → Shows C.Store store.old records → SoundRows records
-        → HasCleanDisk (state C.Store store.new) → Follows records (⟦<FileSigner as Signer>⟧.identity signer).algorithm) }
-    ensures looked { Looked C.Store store.old store.new }
-    ensures faults { IfErr result IsOpening }
-{
-    let latest = latest_crl(store)?;
-    let told = holder_of(&latest);
-    signer_after(rt, store, &latest, &told)
+    match signing {
+        Some(told) => signer_after(rt, store, &latest, told),
+        None => {
+            let told = holder_of(&latest);
+            signer_after(rt, store, &latest, &told)
+        }
+    }
 }
 
 /// Who would sign as the latest CRL was signed: at a path where no socket can be. `None` where a digest seals, and where the

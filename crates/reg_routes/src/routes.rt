@@ -10,11 +10,11 @@ use matchit::{InsertError, Router};
 use std::alloc::Global;
 
 /// Memory for the router was refused.
-#[derive(Clone, Copy, Debug, PartialEq, Eq)]
+#[derive(Clone, Copy, PartialEq, Eq)]
 pub struct NoMemory;
 
 /// A route, with the part of the path that it names.
-#[derive(Clone, Copy, Debug)]
+#[derive(Clone, Copy)]
 pub enum Route<'p> {
     /// `/ocsp`
     Ocsp,
@@ -35,7 +35,7 @@ pub enum Route<'p> {
 }
 
 /// What the router keeps of each route.
-#[derive(Clone, Copy, Debug)]
+#[derive(Clone, Copy)]
 enum Which {
     Ocsp,
     OcspRest,

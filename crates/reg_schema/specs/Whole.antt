@@ -4,8 +4,7 @@ use Rattle.sqlite_value.specs.Keys.{plain}
 use Rattle.sqlite_schema.specs.declared.schema.Index.{Index}
 use Rattle.sqlite_schema.specs.declared.schema.Schema.{Schema}
 use Rattle.sqlite_schema.specs.declared.schema.Table.{Table}
-use Rattle.sqlite_catalog.specs.Change.{created}
-use Rattle.reg_tables.specs.Schema.{office, subscriber, orders, cert, request, revocation, crl, standing, kept, listed, longest, record_tables, register_schema}
+use Rattle.reg_tables.specs.Schema.{office, subscriber, orders, cert, request, revocation, crl, standing, kept, listed, longest, record_tables, kept_tables, register_schema}
 use Rattle.reg_schema.specs.declared.versions.Version.{Version}
 use Rattle.reg_schema.specs.declared.versions.Version.TheVariants.{First, Second, Third}
 
@@ -65,10 +64,6 @@ revocation_indexes version = key_of_revocation_1_index ∷ key_of_revocation_2_i
 
 abbrev pub all_indexes : Version → List Index
 all_indexes version = key_of_subscriber_1_index ∷ key_of_cert_1_index ∷ key_of_cert_2_index ∷ revocation_indexes version
-
--- the tables of the records, and then those that are kept beside them
-abbrev pub kept_tables : Schema
-kept_tables = created (created (created record_tables standing) kept) listed
 
 -- the schema of a register of a version
 abbrev pub version_schema : Version → Schema

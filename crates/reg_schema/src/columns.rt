@@ -8,7 +8,7 @@ use sqlite_value::keys::Collation;
 use sqlite_value::value::Value;
 
 /// What a column of a register's table is: its name, its type, and whether it may be NULL.
-#[derive(Clone, Copy, Debug)]
+#[derive(Clone, Copy)]
 pub(crate) struct Form<'a> {
     pub(crate) name: &'a [u8],
     pub(crate) kind: Kind,

@@ -6,7 +6,7 @@ ghost use Rattle.reg_schema.specs.Forms.{index_by};
 use sqlite_schema::schema::Index;
 
 /// What an index of a register is: its name, its tree and that of its table, the places of its columns, and whether it is UNIQUE.
-#[derive(Clone, Copy, Debug)]
+#[derive(Clone, Copy)]
 pub(crate) struct IndexForm<'a> {
     pub(crate) name: &'a [u8],
     pub(crate) tree: u32,

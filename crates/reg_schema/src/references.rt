@@ -7,7 +7,7 @@ use sqlite_schema::schema::{Action, Reference};
 use sqlite_value::value::Bytes;
 
 /// What a reference of a register's table is: the place of its column, and the column of another table that it refers to.
-#[derive(Clone, Copy, Debug)]
+#[derive(Clone, Copy)]
 pub(crate) struct Refers<'a> {
     pub(crate) place: usize,
     pub(crate) parent: &'a [u8],

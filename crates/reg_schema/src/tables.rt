@@ -11,7 +11,7 @@ use sqlite_schema::schema::{Stamps, Table};
 
 /// What a table of a register is: its name and tree, its columns, the one that is its rowid, the place of its PRIMARY KEY, those of what is
 /// UNIQUE, whether there is one row alone, and its references.
-#[derive(Clone, Copy, Debug)]
+#[derive(Clone, Copy)]
 pub(crate) struct TableForm<'a> {
     pub(crate) name: &'a [u8],
     pub(crate) tree: u32,

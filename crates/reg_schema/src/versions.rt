@@ -1,7 +1,7 @@
 //! The versions of a register's tables.
 
 /// A version of a register's tables.
-#[derive(Clone, Copy, Debug, PartialEq, Eq)]
+#[derive(Clone, Copy, PartialEq, Eq)]
 pub enum Version {
     /// Version 1: the tables of the records alone.
     First,

@@ -1,7 +1,7 @@
 //! What holds a key.
 
 /// A device gave no answer: it is not there, it failed or ended early, it took too long, or its answer is too long.
-#[derive(Clone, Copy, Debug, PartialEq, Eq)]
+#[derive(Clone, Copy, PartialEq, Eq)]
 pub struct DeviceFault;
 
 /// A device that holds a key and signs with it: a security module, a smart card, another process.

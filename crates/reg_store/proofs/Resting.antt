@@ -11,8 +11,8 @@ use Rattle.reg_core.specs.Sound.{SoundRows}
 use Rattle.reg_tables.specs.Kept.{ShowsKept}
 use Rattle.reg_tables.specs.Shows.{IsShownBy, Shows}
 use Rattle.reg_tables.proofs.Staying.{kept_shows}
-use Rattle.reg_changes.specs.AtRest.{AreARegisters, IsAtRest}
-use Rattle.reg_changes.proofs.Resting.{resting, rests_sound}
+use Rattle.reg_writing.specs.AtRest.{AreARegisters, IsAtRest}
+use Rattle.reg_writing.proofs.Resting.{resting, rests_sound}
 use Rattle.reg_migration.specs.Older.{number_of, older_schema, IsShownByOlder, ShowsOlder}
 use Rattle.reg_migration.specs.declared.version.Earlier.{Earlier}
 use Rattle.reg_migration.specs.declared.version.Earlier.TheVariants.{First, Second}

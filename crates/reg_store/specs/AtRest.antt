@@ -12,7 +12,8 @@ use Rattle.reg_core.specs.Sound.{SoundRows}
 use Rattle.reg_tables.specs.Kept.{ShowsKept}
 use Rattle.reg_tables.specs.Schema.{no_schema}
 use Rattle.reg_tables.specs.Shows.{Shows}
-use Rattle.reg_changes.specs.AtRest.{IsAtRest, IsScheduled}
+use Rattle.reg_writing.specs.AtRest.{IsAtRest}
+use Rattle.reg_changes.specs.AtRest.{IsScheduled}
 use Rattle.reg_migration.specs.Older.{older_schema, IsShownByOlder, ShowsOlder}
 use Rattle.reg_migration.specs.declared.version.Earlier.{Earlier}
 use Rattle.reg_opening.specs.AtRest.{IsCreated, IsOpened}

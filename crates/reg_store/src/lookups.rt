@@ -6,13 +6,13 @@ ghost use Rattle.sqlite.specs.State.{HasCleanDisk};
 ghost use Rattle.reg_core.specs.Crls.{EntriesAscend, entries, latest, row_of};
 ghost use Rattle.reg_core.specs.Due.{overdue, overdue_report, earliest, unlisted};
 ghost use Rattle.reg_core.specs.Queries.{listing};
-ghost use Rattle.reg_core.specs.Records.{Records, certificate_in, certificate_of_order, order_in, request_in, revocation_in, subscriber_in, subscriber_named};
+ghost use Rattle.reg_core.specs.Records.{Records, certificate_in, certificate_of_order, order_in, request_in, revocation_in, subscriber_in, subscriber_named, crl_in};
 ghost use Rattle.reg_core.specs.Sound.{SoundRows};
 ghost use Rattle.reg_core.specs.Status as status;
 ghost use Rattle.reg_tables.specs.Kept.{ShowsKept};
 ghost use Rattle.reg_tables.specs.Shows.{Shows};
 ghost use Rattle.reg_tables.specs.Stays.{IsCallFault, Looked};
-ghost use Rattle.reg_tables.specs.Tables.{crl_in, rows_of};
+ghost use Rattle.reg_tables.specs.Tables.{rows_of};
 
 use crate::store::Store;
 use reg_core::{

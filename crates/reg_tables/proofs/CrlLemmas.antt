@@ -13,12 +13,11 @@ use Rattle.sqlite_resolve.specs.Compile.{first}
 use Rattle.sqlite_tied.specs.Compute.{everything}
 use Rattle.reg_core.specs.Calendar.{clock_end}
 use Rattle.reg_core.specs.Crls.{latest, row_of}
-use Rattle.reg_core.specs.Records.{Records, Crl}
+use Rattle.reg_core.specs.Records.{Records, Crl, crl_in}
 use Rattle.reg_core.specs.declared.rows.CrlRow.{CrlRow}
 use Rattle.reg_tables.specs.Schema.{register_schema}
 use Rattle.reg_tables.specs.Rows.{number, stored_crl}
 use Rattle.reg_tables.specs.Shows.{IsShownBy}
-use Rattle.reg_tables.specs.Tables.{crl_in}
 use Rattle.reg_tables.specs.Failing.{IsAsked}
 use Rattle.reg_tables.specs.Reading.{IsReading, command_of, shown_crl}
 use Rattle.reg_tables.specs.declared.statements.TheConstants.{LATEST_CRL, CRL_BYTES}

@@ -163,6 +163,10 @@ no_schema = record { tables = []; indexes = []; views = [] }
 abbrev pub record_tables : Schema
 record_tables = created (created (created (created (created (created (created no_schema office) subscriber) orders) cert) request) revocation) crl
 
+-- and then those that are kept beside them
+abbrev pub kept_tables : Schema
+kept_tables = created (created (created record_tables standing) kept) listed
+
 -- then the tables that are kept beside them, then the schedule
 abbrev pub all_tables : Schema
 all_tables = created (created (created (created record_tables standing) kept) listed) longest

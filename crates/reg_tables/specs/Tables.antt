@@ -1,8 +1,8 @@
 -- How many rows a table of the records has.
-use Rattle.std.specs.Prelude.{◌≡◌, ◌≤◌, ◌==◌, ℕ, List, [], ◌∷◌, length, find, Option}
+use Rattle.std.specs.Prelude.{◌≡◌, ◌≤◌, ℕ, List, [], ◌∷◌, length}
 use Rattle.sqlite_value.specs.Order.{Row, column}
 use Rattle.sqlite.specs.State.{State}
-use Rattle.reg_core.specs.Records.{Records, Crl}
+use Rattle.reg_core.specs.Records.{Records}
 use Rattle.reg_tables.specs.Reading.{Answers}
 use Rattle.reg_tables.specs.Rows.{number}
 use Rattle.reg_tables.specs.declared.sizes.Table.{Table}
@@ -15,10 +15,6 @@ rows_of records Orders = length records.orders
 rows_of records Certs = length records.certificates
 rows_of records Requests = length records.requests
 rows_of records Crls = length records.crls
-
--- the CRL with a number (RFC 5280 5.2.3)
-abbrev pub crl_in : List Crl → ℕ → Option Crl
-crl_in crls number = find (λ crl. crl.number == number) crls
 
 -- the number of the one row that is shown, or 0 where none is
 pub record IsNumberShown (n : ℕ) (rows : List Row) : Type 0 where

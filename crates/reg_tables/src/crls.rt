@@ -4,11 +4,10 @@ ghost use Rattle.std.specs.Prelude.{◌≡◌, option_map, IfOk};
 ghost use Rattle.sqlite.specs.Held.{state};
 ghost use Rattle.sqlite.specs.State.{HasCleanDisk};
 ghost use Rattle.reg_core.specs.Crls.{latest, row_of};
-ghost use Rattle.reg_core.specs.Records.{Records};
+ghost use Rattle.reg_core.specs.Records.{Records, crl_in};
 ghost use Rattle.reg_tables.specs.Failing.{Blamed};
 ghost use Rattle.reg_tables.specs.Shows.{Shows};
 ghost use Rattle.reg_tables.specs.Stays.{Looked};
-ghost use Rattle.reg_tables.specs.Tables.{crl_in};
 
 use crate::fault::CallFault;
 use crate::reading::{at_most_one, read};

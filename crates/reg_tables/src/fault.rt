@@ -8,7 +8,7 @@ use sqlite::{Error, ErrorCode};
 use std::alloc::{AllocError, AllocFailed};
 
 /// Why a call on an open register fails.
-#[derive(Clone, Copy, Debug, PartialEq, Eq)]
+#[derive(Clone, Copy, PartialEq, Eq)]
 pub enum CallFault {
     /// Memory could not be had.
     Memory,
@@ -17,7 +17,7 @@ pub enum CallFault {
 }
 
 /// Why a store fails: a call on it, or that it is made or opened.
-#[derive(Clone, Copy, Debug, PartialEq, Eq)]
+#[derive(Clone, Copy, PartialEq, Eq)]
 pub enum StoreFault {
     /// Memory could not be had.
     Memory,

@@ -19,7 +19,7 @@ use crate::values::number_at;
 use sqlite::{Alter, Connection};
 
 /// The tables of the records that have a cap.
-#[derive(Clone, Copy, Debug, PartialEq, Eq)]
+#[derive(Clone, Copy, PartialEq, Eq)]
 pub enum Table {
     Subscribers,
     Orders,

@@ -8,7 +8,7 @@ use Rattle.reg_tables.specs.Columns.{Columns}
 use Rattle.reg_tables.specs.Schema.{register_schema}
 use Rattle.reg_tables.specs.Stays.{IsRegister}
 use Rattle.reg_tables.specs.declared.fault.StoreFault.{StoreFault}
-use Rattle.reg_auditing.specs.declared.auditing.Audited.{Audited}
+use Rattle.reg_findings.specs.declared.verdict.Audited.{Audited}
 use Rattle.reg_auditing.specs.declared.stop.AuditStop.{AuditStop}
 use Rattle.reg_auditing.specs.declared.stop.AuditStop.TheVariants as stop
 use Rattle.reg_auditing.specs.Numbers.{AreNumbersOf}
@@ -16,7 +16,7 @@ use Rattle.reg_auditing.specs.Stops.{IsDenied}
 use Rattle.reg_opening.specs.Examined.{SaysFound}
 use Rattle.reg_opening.specs.declared.opening.Older.{Older}
 use Rattle.reg_verdict.specs.Verdicts.{CountedBy, DeniedBy, IsSound, verdict_of}
-use Rattle.reg_verdict.specs.declared.judging.Verdict.{Verdict}
+use Rattle.reg_findings.specs.declared.verdict.Verdict.{Verdict}
 
 module _ (P : Type 0) where
   well_said : (audited : Result Audited AuditStop) → IfOk audited (λ _. P) → IfOk (verdict_of audited) (λ verdict. IsSound verdict → P)

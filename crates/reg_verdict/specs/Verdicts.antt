@@ -8,13 +8,13 @@ use Rattle.reg_tables.specs.declared.fault.StoreFault.{StoreFault}
 use Rattle.reg_tables.specs.declared.fault.StoreFault.TheVariants as fault
 use Rattle.reg_opening.specs.Examined.{SaysFound}
 use Rattle.reg_opening.specs.declared.opening.Older.{Older as OlderOffice}
-use Rattle.reg_auditing.specs.declared.auditing.Audited.{Audited}
+use Rattle.reg_findings.specs.declared.verdict.Audited.{Audited}
 use Rattle.reg_auditing.specs.Numbers.{AreNumbersOf}
 use Rattle.reg_auditing.specs.Stops.{Denies}
 use Rattle.reg_auditing.specs.declared.stop.AuditStop.{AuditStop}
 use Rattle.reg_auditing.specs.declared.stop.AuditStop.TheVariants as stop
-use Rattle.reg_verdict.specs.declared.judging.Verdict.{Verdict}
-use Rattle.reg_verdict.specs.declared.judging.Verdict.TheVariants.{Sound, Broken, Older, OtherSchema}
+use Rattle.reg_findings.specs.declared.verdict.Verdict.{Verdict}
+use Rattle.reg_findings.specs.declared.verdict.Verdict.TheVariants.{Sound, Broken, Older, OtherSchema}
 
 -- rows that were found well, or one that was not; else why there is no verdict
 abbrev pub verdict_of : Result Audited AuditStop → Result Verdict StoreFault

@@ -16,26 +16,13 @@ ghost use Rattle.reg_auditing.specs.Stored.{IsSomeCrl};
 ghost use Rattle.reg_verdict.specs.Presumed.{IsOverRegister, IsPresumed};
 ghost use Rattle.reg_verdict.specs.Verdicts.{CountedBy, DeniedBy, IsSound, TellsOf, verdict_of};
 
-use reg_audit::Broken;
-use reg_auditing::{AuditStop, Audited, Watch, audit};
+use reg_auditing::{AuditStop, Watch, audit};
+use reg_findings::{Audited, Verdict};
 use reg_opening::examine;
 use reg_schema::is_register;
 use reg_tables::StoreFault;
 use sqlite::{Alter, Connection};
 use std::alloc::Global;
-
-/// What an audit says of a register.
-#[derive(Clone, Copy, Debug, PartialEq, Eq)]
-pub enum Verdict {
-    /// The rows that are looked at are those of sound records: how many there are.
-    Sound(Audited),
-    /// A row breaks a rule.
-    Broken(Broken),
-    /// The register is of version 1 or 2: its rows are not looked at.
-    Older,
-    /// The tables, columns or indexes are not those of a register: its rows are not looked at.
-    OtherSchema,
-}
 
 /// What an audit of tables of the program's version says.
 fn said(audited: Result<Audited, AuditStop>) -> Result<Verdict, StoreFault>

@@ -2,7 +2,5 @@
 #![tactic(auto)]
 
 mod judging;
-mod lines;
 
-pub use judging::{Verdict, judge};
-pub use lines::{OTHER_SCHEMA, broken_line, sound_line};
+pub use judging::judge;

@@ -8,11 +8,11 @@ ghost use Rattle.reg_wire.specs.Fill.{Fills, FillsShort, FillsTo};
 use std::io::Read;
 
 /// The reader failed, or it ended before the buffer was whole.
-#[derive(Clone, Copy, Debug, PartialEq, Eq)]
+#[derive(Clone, Copy, PartialEq, Eq)]
 pub struct ReadFault;
 
 /// Where a reading up to a mark came to rest. `held` counts the bytes at the front of the buffer.
-#[derive(Clone, Copy, Debug, PartialEq, Eq)]
+#[derive(Clone, Copy, PartialEq, Eq)]
 pub enum Reached {
     /// The first mark of the held bytes ends at `end`: the first `end` bytes end with it.
     Mark { end: usize, held: usize },

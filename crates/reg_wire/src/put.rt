@@ -7,7 +7,7 @@ ghost use Rattle.reg_wire.specs.Put.{AppendsFront};
 use std::io::Write;
 
 /// The writer failed, or took no byte of what was left.
-#[derive(Clone, Copy, Debug, PartialEq, Eq)]
+#[derive(Clone, Copy, PartialEq, Eq)]
 pub struct WriteFault;
 
 /// Writes all of the bytes, in as many writes as the writer needs. No bytes need no write.

@@ -1,7 +1,7 @@
 -- What clap says of the command line as a whole.
-use Rattle.std.proofs.Common.{◌≡◌, ◌⊎◌, true, List, [], Option, Some, None, refl, sym, ap, ◌∙◌, subst, inl, inr}
-use Rattle.std.specs.Prelude.{option_map, option_and_then}
-use Rattle.clap.specs.Words.{App, HasKind, HasMatchesOf, IsAmong, Row, Text, fault_of, is_simple, is_simple_and_free, subcommand_of}
+use Rattle.std.proofs.Common.{◌≡◌, ◌⊎◌, true, List, [], Option, Some, None, Bor, refl, sym, ap, ◌∙◌, subst, inl, inr}
+use Rattle.std.specs.Prelude.{option_map}
+use Rattle.clap.specs.Words.{App, HasKind, HasMatchesOf, IsAmong, Row, Text, fault_of, is_simple, is_simple_and_free, matches_of, subcommand_of}
 use Rattle.clap.specs.declared.error.Error.{Error}
 use Rattle.clap.specs.declared.error.kind.ErrorKind.{ErrorKind}
 use Rattle.clap.specs.declared.error.kind.ErrorKind.TheVariants.{OutOfMemory, ValueValidation}
@@ -11,10 +11,10 @@ use Rattle.clap.specs.Words.{found_of, rows_of, subcommand_name_of, subcommand_r
 use Rattle.clap.specs.declared.parser.matches.ArgMatches.{ArgMatches}
 use Rattle.clap.specs.declared.parser.matches.ArgMatches.TheViews.{out-ArgMatches, out-SubCommand}
 use Rattle.reg_words.specs.Desk.{desk_app}
-use Rattle.reg_words.specs.Jobs.{IsAccepted, IsUsageOf, Tells, job_in, job_of}
-use Rattle.reg_words.specs.declared.job.Job.{Job}
+use Rattle.reg_words.specs.Jobs.{IsAccepted, IsNoOrder, IsOrderIn, IsOrderOf, IsUsageOf, Tells, job_found}
+use Rattle.reg_words.specs.declared.job.Order.{Order}
 use Rattle.reg_words.specs.declared.job.Usage.{Usage}
-use Rattle.reg_words.specs.declared.job.Usage.TheVariants.{Help, Bad, Memory}
+use Rattle.reg_words.specs.declared.job.Usage.TheVariants.{Help, Version, Bad, Memory}
 
 -- clap's clauses are exact for this command line
 pub simple : is_simple desk_app ≡ true
@@ -30,18 +30,21 @@ pub tells_usage : (words : List Text) (kind : ErrorKind) (usage : Usage) → Tel
     → (kind ≡ OutOfMemory) ⊎ IsAmong kind (fault_of desk_app words) → IsUsageOf words usage
 tells_usage words kind (Help text) help (inl none) = cc (sym help ∙ none)
 tells_usage words kind (Help text) help (inr among) = subst (λ k. IsAmong k (fault_of desk_app words)) help among
-tells_usage words kind (Bad text) other (inl none) = absurd (other.1 none)
-tells_usage words kind (Bad text) other (inr among) = inl (kind, other.0, among)
+tells_usage words kind (Version text) version (inl none) = cc (sym version ∙ none)
+tells_usage words kind (Version text) version (inr among) = subst (λ k. IsAmong k (fault_of desk_app words)) version among
+tells_usage words kind (Bad text) other (inl none) = absurd (other.2 none)
+tells_usage words kind (Bad text) other (inr among) = inl (kind, other.0, other.1, among)
 tells_usage words kind Memory none how = tt
 
 -- and where clap took the words
-pub tells_bad_value : (words : List Text) (usage : Usage) → Tells ValueValidation usage → IsAccepted words → job_of words ≡ None → IsUsageOf words usage
-tells_bad_value words (Help text) help accepted none = cc help
-tells_bad_value words (Bad text) other accepted none = inr (accepted, none)
-tells_bad_value words Memory free accepted none = tt
+pub tells_no_order : (found : Option (Text × List Row)) (usage : Usage) → Tells ValueValidation usage → job_found found ≡ None → IsNoOrder found usage
+tells_no_order found (Help text) help none = cc help
+tells_no_order found (Version text) version none = cc version
+tells_no_order found (Bad text) other none = none
+tells_no_order found Memory free none = tt
 
 -- a name and rows, told apart, are those of the subcommand
-pub both_told : {X : Type 0} (name : X → Text) (rows : X → List Row) (found : Option X) (told : Option (Text × List Row))
+both_told : {X : Type 0} (name : X → Text) (rows : X → List Row) (found : Option X) (told : Option (Text × List Row))
     → option_map name found ≡ option_map (λ p. p.0) told → option_map rows found ≡ option_map (λ p. p.1) told
     → option_map (λ x. (name x, rows x)) found ≡ told
 both_told name rows None None named rowed = refl
@@ -57,9 +60,17 @@ fused f g None = refl
 fused f g (Some x) = refl
 
 -- the name of the subcommand is that of its rows
-pub by_name : (m : ArgMatches) → subcommand_name_of m ≡ option_map (λ p. p.0) (subcommand_rows_of m)
+by_name : (m : ArgMatches) → subcommand_name_of m ≡ option_map (λ p. p.0) (subcommand_rows_of m)
 by_name m =
     fused (λ b. (out-SubCommand (box_value b)).name.now) (λ b. rows_of (found_of (out-SubCommand (box_value b)).matches)) (out-ArgMatches m).subcommand
+
+-- the name and the rows of what `subcommand` answers are those behind the command
+pub behind : (found : Option (Bor Text × Bor ArgMatches)) (m : ArgMatches) → option_map (λ (p : Bor Text × Bor ArgMatches). p.0.now) found ≡ subcommand_name_of m
+    → option_map (λ (p : Bor Text × Bor ArgMatches). rows_of (found_of p.1.now)) found ≡ option_map (λ (p : Text × List Row). p.1) (subcommand_rows_of m)
+    → option_map (λ (p : Bor Text × Bor ArgMatches). (p.0.now, rows_of (found_of p.1.now))) found ≡ subcommand_rows_of m
+behind found m name rows =
+    both_told (λ (p : Bor Text × Bor ArgMatches). p.0.now) (λ (p : Bor Text × Bor ArgMatches). rows_of (found_of p.1.now))
+    found (subcommand_rows_of m) (name ∙ by_name m) rows
 
 -- what clap's clauses say of a command line that is the program's
 pub accepted : (app : App) (words : List Text) → app ≡ desk_app → (is_simple_and_free app ≡ true → fault_of app words ≡ []) → IsAccepted words
@@ -69,8 +80,27 @@ pub refused : (app : App) (words : List Text) (error : Error) → app ≡ desk_a
     → HasKind (fault_of desk_app words) error
 refused app words error is fails = subst (λ a. HasKind (fault_of a words) error) is (fails (ap is_simple_and_free is ∙ simple_and_free))
 
-pub says : (app : App) (words : List Text) (m : ArgMatches) (job : Option Job) → app ≡ desk_app → HasMatchesOf app words m
-    → job ≡ option_and_then (λ found. job_in found.0 found.1) (subcommand_rows_of m) → job_of words ≡ job
-says app words m job is has read =
-    let told : subcommand_rows_of m ≡ subcommand_of desk_app words = (has (ap is_simple is ∙ simple)).1 ∙ ap (λ a. subcommand_of a words) is in
-    sym (read ∙ ap (option_and_then (λ found. job_in found.0 found.1)) told)
+-- what it found before the command and behind it
+rows_before : (app : App) (words : List Text) (m : ArgMatches) → app ≡ desk_app → HasMatchesOf app words m
+    → rows_of (found_of m) ≡ matches_of desk_app words
+rows_before app words m is has = (has (ap is_simple is ∙ simple)).0 ∙ ap (λ a. matches_of a words) is
+
+rows_behind : (app : App) (words : List Text) (m : ArgMatches) → app ≡ desk_app → HasMatchesOf app words m
+    → subcommand_rows_of m ≡ subcommand_of desk_app words
+rows_behind app words m is has = (has (ap is_simple is ∙ simple)).1 ∙ ap (λ a. subcommand_of a words) is
+
+-- so what was read of it is what the words say
+pub orders : (app : App) (words : List Text) (m : ArgMatches) (order : Order) → app ≡ desk_app → (is_simple_and_free app ≡ true → fault_of app words ≡ [])
+    → HasMatchesOf app words m → IsOrderIn (rows_of (found_of m)) (subcommand_rows_of m) order → IsOrderOf words order
+orders app words m order is clean has read =
+    let whole : IsOrderIn (matches_of desk_app words) (subcommand_of desk_app words) order =
+    subst (λ before. IsOrderIn before (subcommand_of desk_app words) order) (rows_before app words m is has)
+    (subst (λ found. IsOrderIn (rows_of (found_of m)) found order) (rows_behind app words m is has) read) in
+    ((accepted app words is clean, whole.0), whole.1, whole.2)
+
+pub no_order : (app : App) (words : List Text) (m : ArgMatches) (usage : Usage) → app ≡ desk_app → (is_simple_and_free app ≡ true → fault_of app words ≡ [])
+    → HasMatchesOf app words m → IsNoOrder (subcommand_rows_of m) usage → IsUsageOf words usage
+no_order app words m (Help text) is clean has never = absurd never
+no_order app words m (Version text) is clean has never = absurd never
+no_order app words m (Bad text) is clean has none = inr (accepted app words is clean, sym (ap job_found (rows_behind app words m is has)) ∙ none)
+no_order app words m Memory is clean has free = tt

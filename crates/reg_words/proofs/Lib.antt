@@ -1,3 +1,4 @@
 pub mod DeskLemmas
 pub mod Moments
 pub mod StepTexts
+pub mod TableLemmas

@@ -1,4 +1,4 @@
--- The command line of the program in clap's own terms: its commands, and the words and options of each.
+-- The command line of the program in clap's own terms: its commands, and the words and options of each. `--why` stands before a command or behind it.
 use Rattle.std.specs.Prelude.{Some, true, List, [], ◌∷◌, codes}
 use Rattle.clap.specs.Lexer.{usize_max}
 use Rattle.clap.specs.Words.{App, Rule, Text, new_app, new_rule, with_rule, with_subcommand}
@@ -33,54 +33,65 @@ abbrev pub with_rules : App → List Rule → App
 with_rules app [] = app
 with_rules app (rule ∷ rest) = with_rules (with_rule app rule) rest
 
--- `init FILE --name HEX --key HEX [--days N] [--crl-life N] [--ocsp-life N] [--cap N]`
+-- `init FILE --name HEX --key HEX [--days N] [--crl-life N] [--ocsp-life N] [--cap N] [--why]`
 abbrev pub init_app : App
 init_app = with_rules (new_app (codes "init"))
     (must (codes "file") ∷ needs (codes "name") ∷ needs (codes "key") ∷ takes (codes "days")
-    ∷ takes (codes "crl-life") ∷ takes (codes "ocsp-life") ∷ takes (codes "cap") ∷ [])
+    ∷ takes (codes "crl-life") ∷ takes (codes "ocsp-life") ∷ takes (codes "cap") ∷ flag (codes "why") ∷ [])
 
--- `script [FILE] [--signer SOCKET --algorithm NAME] [--clock] [--strict]`
+-- `script [FILE] [--signer SOCKET --algorithm NAME] [--clock] [--strict] [--why]`
 abbrev pub script_app : App
 script_app = with_rules (new_app (codes "script"))
-    (may (codes "file") ∷ takes (codes "signer") ∷ takes (codes "algorithm") ∷ flag (codes "clock") ∷ flag (codes "strict") ∷ [])
+    (may (codes "file") ∷ takes (codes "signer") ∷ takes (codes "algorithm") ∷ flag (codes "clock") ∷ flag (codes "strict") ∷ flag (codes "why") ∷ [])
 
--- `import FILE --now MOMENT`
+-- `import FILE --now MOMENT [--why]`
 abbrev pub import_app : App
-import_app = with_rules (new_app (codes "import")) (must (codes "file") ∷ needs (codes "now") ∷ [])
+import_app = with_rules (new_app (codes "import")) (must (codes "file") ∷ needs (codes "now") ∷ flag (codes "why") ∷ [])
 
--- `crl FILE [--number N]`
+-- `crl FILE [--number N] [--why]`
 abbrev pub crl_app : App
-crl_app = with_rules (new_app (codes "crl")) (must (codes "file") ∷ takes (codes "number") ∷ [])
+crl_app = with_rules (new_app (codes "crl")) (must (codes "file") ∷ takes (codes "number") ∷ flag (codes "why") ∷ [])
 
--- `serve FILE --port N --requests N [--signer SOCKET --algorithm NAME]`
+-- `serve FILE --port N --requests N [--signer SOCKET --algorithm NAME] [--log] [--why]`
 abbrev pub serve_app : App
 serve_app = with_rules (new_app (codes "serve"))
-    (must (codes "file") ∷ needs (codes "port") ∷ needs (codes "requests") ∷ takes (codes "signer") ∷ takes (codes "algorithm") ∷ [])
+    (must (codes "file") ∷ needs (codes "port") ∷ needs (codes "requests") ∷ takes (codes "signer") ∷ takes (codes "algorithm") ∷ flag (codes "log") ∷ flag (codes "why") ∷ [])
 
--- `open FILE --port N --counter SOCKET [--signer SOCKET --algorithm NAME]`
+-- `open FILE --port N --counter SOCKET [--signer SOCKET --algorithm NAME] [--log] [--why]`
 abbrev pub open_app : App
 open_app = with_rules (new_app (codes "open"))
-    (must (codes "file") ∷ needs (codes "port") ∷ needs (codes "counter") ∷ takes (codes "signer") ∷ takes (codes "algorithm") ∷ [])
+    (must (codes "file") ∷ needs (codes "port") ∷ needs (codes "counter") ∷ takes (codes "signer") ∷ takes (codes "algorithm") ∷ flag (codes "log") ∷ flag (codes "why") ∷ [])
 
--- `at SOCKET`
+-- `at SOCKET [--why]`
 abbrev pub at_app : App
-at_app = with_rules (new_app (codes "at")) (must (codes "counter") ∷ [])
+at_app = with_rules (new_app (codes "at")) (must (codes "counter") ∷ flag (codes "why") ∷ [])
 
--- `schedule FILE MOMENT=DAYS ..`
+-- `schedule FILE MOMENT=DAYS .. [--why]`
 abbrev pub schedule_app : App
-schedule_app = with_rules (new_app (codes "schedule")) (must (codes "file") ∷ some (codes "steps") ∷ [])
+schedule_app = with_rules (new_app (codes "schedule")) (must (codes "file") ∷ some (codes "steps") ∷ flag (codes "why") ∷ [])
 
--- `audit FILE`
+-- `audit FILE [--why]`
 abbrev pub audit_app : App
-audit_app = with_rules (new_app (codes "audit")) (must (codes "file") ∷ [])
+audit_app = with_rules (new_app (codes "audit")) (must (codes "file") ∷ flag (codes "why") ∷ [])
 
--- one of the commands is wanted, and help is `--help` alone
+-- one of the commands is wanted, there is a version, and help is `--help` alone
 abbrev pub bare_app : App
 bare_app = record (new_app (codes "desk")) {
-  top = record ((new_app (codes "desk")).top) { subcommand_required = true; disable_help_subcommand = true };
+  top = record ((new_app (codes "desk")).top) { has_version = true; subcommand_required = true; disable_help_subcommand = true };
 }
 
--- `desk COMMAND ..`
+-- `desk [--why]`
+abbrev pub begun_app : App
+begun_app = with_rules bare_app (flag (codes "why") ∷ [])
+
+-- the same with `init`, `script`, `import` and `crl`
+abbrev pub issuing_app : App
+issuing_app = with_subcommand (with_subcommand (with_subcommand (with_subcommand begun_app init_app.top) script_app.top) import_app.top) crl_app.top
+
+-- the same with `serve`, `open` and `at`
+abbrev pub serving_app : App
+serving_app = with_subcommand (with_subcommand (with_subcommand issuing_app serve_app.top) open_app.top) at_app.top
+
+-- `desk [--why] COMMAND ..`
 abbrev pub desk_app : App
-desk_app = with_subcommand (with_subcommand (with_subcommand (with_subcommand (with_subcommand (with_subcommand (with_subcommand (with_subcommand (with_subcommand
-    bare_app init_app.top) script_app.top) import_app.top) crl_app.top) serve_app.top) open_app.top) at_app.top) schedule_app.top) audit_app.top
+desk_app = with_subcommand (with_subcommand serving_app schedule_app.top) audit_app.top

@@ -1,9 +1,9 @@
 -- What the words of a command line say.
 use Rattle.std.specs.Prelude.{◌≡◌, ◌≢◌, ◌⊎◌, ◌||◌, ℕ, Bool, false, List, [], codes, bytes_eq, if◌then◌else◌, Option, Some, None, option_map, option_and_then}
 use Rattle.std.specs.Option.{option_map_or}
-use Rattle.clap.specs.Words.{IsAmong, Row, Text, all_of, fault_of, first_of, subcommand_of}
+use Rattle.clap.specs.Words.{IsAmong, Row, Text, all_of, fault_of, first_of, matches_of, subcommand_of}
 use Rattle.clap.specs.declared.error.kind.ErrorKind.{ErrorKind}
-use Rattle.clap.specs.declared.error.kind.ErrorKind.TheVariants.{DisplayHelp, OutOfMemory}
+use Rattle.clap.specs.declared.error.kind.ErrorKind.TheVariants.{DisplayHelp, DisplayVersion, OutOfMemory}
 use Rattle.reg_core.specs.Number.{number_of}
 use Rattle.reg_words.specs.Desk.{desk_app}
 use Rattle.reg_words.specs.Values.{moment_of, steps_of, within}
@@ -11,9 +11,11 @@ use Rattle.reg_signer.specs.Algorithms.{algorithm_named}
 use Rattle.reg_words.specs.declared.job.Job.{Job}
 use Rattle.reg_words.specs.declared.job.Job.TheVariants.{Init, Script, Lines, Import, Crl, Serve, Open, At, Schedule, Audit}
 use Rattle.reg_words.specs.declared.job.KeyHolder.{KeyHolder}
+use Rattle.reg_words.specs.declared.job.Order.{Order}
+use Rattle.reg_words.specs.declared.reading.Terms.{Terms}
 use Rattle.reg_words.specs.declared.job.Usage.{Usage}
 use Rattle.reg_words.specs.declared.job.Way.{Way}
-use Rattle.reg_words.specs.declared.job.Usage.TheVariants.{Help, Bad, Memory}
+use Rattle.reg_words.specs.declared.job.Usage.TheVariants.{Help, Version, Bad, Memory}
 
 -- the second step, if the first gave a value
 infixl 10 ◌>>=◌
@@ -57,17 +59,23 @@ abbrev pub script_by : Option Text → Option KeyHolder → Way → Option Job
 script_by None signer way = if way.is_clocked || way.is_strict then None else Some (Script None signer)
 script_by (Some file) signer way = if way.is_clocked || way.is_strict then Some (Lines file signer way) else Some (Script (Some file) signer)
 
--- each command by its words and options; the days and lives that `init` leaves out are those of the usual policy
+-- what an issuer is to keep to; what is left out is as in the usual policy
+unfoldable pub terms_of : List Row → Option Terms
+terms_of rows = do
+  days ← given_or 398 (codes "days") rows
+  crl_life ← given_or 691200 (codes "crl-life") rows
+  ocsp_life ← given_or 345600 (codes "ocsp-life") rows
+  cap ← given_or 1000000 (codes "cap") rows
+  Some (record { days = days; crl_life = crl_life; ocsp_life = ocsp_life; cap = cap })
+
+-- each command by its words and options
 unfoldable pub init_of : List Row → Option Job
 init_of rows = do
   file ← first_of (codes "file") rows
   name ← first_of (codes "name") rows
   key ← first_of (codes "key") rows
-  days ← given_or 398 (codes "days") rows
-  crl_life ← given_or 691200 (codes "crl-life") rows
-  ocsp_life ← given_or 345600 (codes "ocsp-life") rows
-  cap ← given_or 1000000 (codes "cap") rows
-  Some (Init file name key days crl_life ocsp_life cap)
+  terms ← terms_of rows
+  Some (Init file name key terms.days terms.crl_life terms.ocsp_life terms.cap)
 
 unfoldable pub script_of : List Row → Option Job
 script_of rows = do
@@ -119,22 +127,46 @@ audit_of rows = do
   Some (Audit file)
 
 -- the job of a command, by its name and what was found for its words and options
+unfoldable pub keeping_job_in : Text → List Row → Option Job
+keeping_job_in name rows =
+    if bytes_eq name (codes "schedule") then schedule_of rows
+    else if bytes_eq name (codes "audit") then audit_of rows
+    else None
+
+unfoldable pub serving_job_in : Text → List Row → Option Job
+serving_job_in name rows =
+    if bytes_eq name (codes "serve") then serve_of rows
+    else if bytes_eq name (codes "open") then open_of rows
+    else if bytes_eq name (codes "at") then at_of rows
+    else keeping_job_in name rows
+
 unfoldable pub job_in : Text → List Row → Option Job
 job_in name rows =
     if bytes_eq name (codes "init") then init_of rows
     else if bytes_eq name (codes "script") then script_of rows
     else if bytes_eq name (codes "import") then import_of rows
     else if bytes_eq name (codes "crl") then crl_of rows
-    else if bytes_eq name (codes "serve") then serve_of rows
-    else if bytes_eq name (codes "open") then open_of rows
-    else if bytes_eq name (codes "at") then at_of rows
-    else if bytes_eq name (codes "schedule") then schedule_of rows
-    else if bytes_eq name (codes "audit") then audit_of rows
-    else None
+    else serving_job_in name rows
+
+-- the job of the command that was named, by its name and rows
+abbrev pub job_found : Option (Text × List Row) → Option Job
+job_found found = option_and_then (λ found. job_in found.0 found.1) found
+
+-- whether an option that takes no value is given behind the command
+abbrev pub is_given_behind : Text → Option (Text × List Row) → Bool
+is_given_behind id found = option_map_or (λ found. is_given id found.1) found false
 
 -- the job that words say which clap accepts
 abbrev pub job_of : List Text → Option Job
-job_of words = option_and_then (λ found. job_in found.0 found.1) (subcommand_of desk_app words)
+job_of words = job_found (subcommand_of desk_app words)
+
+-- whether words ask for the cause of a fault, by `--why` before the command or behind it
+abbrev pub asks_why : List Text → Bool
+asks_why words = is_given (codes "why") (matches_of desk_app words) || is_given_behind (codes "why") (subcommand_of desk_app words)
+
+-- whether words ask for a log, by `--log` behind the command
+abbrev pub asks_log : List Text → Bool
+asks_log words = is_given_behind (codes "log") (subcommand_of desk_app words)
 
 -- clap accepts the words
 abbrev pub IsAccepted : List Text → Type 0
@@ -144,17 +176,35 @@ IsAccepted words = fault_of desk_app words ≡ []
 abbrev pub IsJobOf : List Text → Job → Type 0
 IsJobOf words job = IsAccepted words × (job_of words ≡ Some job)
 
--- what is answered for an error of a kind: help for help, and bad words for the rest, unless memory runs out
+-- clap accepts the words, and they say the job and what is told beside it
+abbrev pub IsOrderOf : List Text → Order → Type 0
+IsOrderOf words order = IsJobOf words order.job × (order.is_explained ≡ asks_why words) × (order.has_log ≡ asks_log words)
+
+-- the same, of what was found before the command and behind it
+abbrev pub IsOrderIn : List Row → Option (Text × List Row) → Order → Type 0
+IsOrderIn before found order = (job_found found ≡ Some order.job)
+    × (order.is_explained ≡ (is_given (codes "why") before || is_given_behind (codes "why") found)) × (order.has_log ≡ is_given_behind (codes "log") found)
+
+-- what is answered for an error of a kind: help for help, the version for the version, and bad words for the rest, unless memory runs out
 abbrev pub Tells : ErrorKind → Usage → Type 0
 Tells kind (Help text) = kind ≡ DisplayHelp
-Tells kind (Bad text) = (kind ≢ DisplayHelp) × (kind ≢ OutOfMemory)
+Tells kind (Version text) = kind ≡ DisplayVersion
+Tells kind (Bad text) = (kind ≢ DisplayHelp) × (kind ≢ DisplayVersion) × (kind ≢ OutOfMemory)
 Tells kind Memory = Unit {0}
 
--- help, where clap answers help; bad words, where clap finds another fault or a value is out of its form or range;
+-- help or the version, where clap answers it; bad words, where clap finds another fault or a value is out of its form or range;
 -- memory may run out at any words
 abbrev pub IsUsageOf : List Text → Usage → Type 0
 IsUsageOf words (Help text) = IsAmong DisplayHelp (fault_of desk_app words)
+IsUsageOf words (Version text) = IsAmong DisplayVersion (fault_of desk_app words)
 IsUsageOf words (Bad text) =
-    ((kind : ErrorKind) × (kind ≢ DisplayHelp) × IsAmong kind (fault_of desk_app words))
+    ((kind : ErrorKind) × (kind ≢ DisplayHelp) × (kind ≢ DisplayVersion) × IsAmong kind (fault_of desk_app words))
     ⊎ (IsAccepted words × (job_of words ≡ None))
 IsUsageOf words Memory = Unit {0}
+
+-- what is answered where clap takes the words and they say no order
+abbrev pub IsNoOrder : Option (Text × List Row) → Usage → Type 0
+IsNoOrder found (Help text) = ⊥
+IsNoOrder found (Version text) = ⊥
+IsNoOrder found (Bad text) = job_found found ≡ None
+IsNoOrder found Memory = Unit {0}

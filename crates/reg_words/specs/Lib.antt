@@ -1,4 +1,5 @@
 pub mod Desk
 pub mod Jobs
 pub mod Statuses
+pub mod Table
 pub mod Values

@@ -17,7 +17,7 @@ pub struct KeyHolder<'a> {
 }
 
 /// How the lines of a script are run that is run line by line.
-#[derive(Clone, Copy, Debug, PartialEq, Eq)]
+#[derive(Clone, Copy, PartialEq, Eq)]
 pub struct Way {
     /// A line has no moment: the machine's clock tells it.
     pub is_clocked: bool,
@@ -92,11 +92,24 @@ pub enum Job<'a> {
     },
 }
 
-/// Why there is no job.
+/// A job, and what is told beside it.
+#[derive(Drop)]
+pub struct Order<'a> {
+    /// The job.
+    pub job: Job<'a>,
+    /// The cause of a fault is told, where it is known.
+    pub is_explained: bool,
+    /// Each exchange is told, where the job serves.
+    pub has_log: bool,
+}
+
+/// Why there is no order.
 #[derive(Drop)]
 pub enum Usage {
     /// Help was asked for: its text, for standard output.
     Help(String),
+    /// The version was asked for: its text, for standard output.
+    Version(String),
     /// The words can't be read: what is wrong, for standard error.
     Bad(String),
     /// Memory could not be had.
@@ -104,12 +117,12 @@ pub enum Usage {
 }
 
 impl Usage {
-    /// The exit status: 0 where help was asked for, 2 where the words can't be read, 1 for want of memory.
+    /// The exit status: 0 where help or the version was asked for, 2 where the words can't be read, 1 for want of memory.
     pub fn status(&self) -> u8
         ensures { result ≡ usage_status self.now }
     {
         match self {
-            Usage::Help(_) => 0,
+            Usage::Help(_) | Usage::Version(_) => 0,
             Usage::Bad(_) => 2,
             Usage::Memory => 1,
         }

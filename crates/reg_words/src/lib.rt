@@ -4,10 +4,11 @@
 mod desk;
 mod job;
 mod reading;
+mod table;
 mod values;
 mod word;
 mod wrong;
 
-pub use job::{Job, KeyHolder, Usage, Way};
+pub use job::{Job, KeyHolder, Order, Usage, Way};
 pub use reading::{no_text, read_words};
 pub use word::{Steps, Word};

@@ -1,13 +1,14 @@
 //! What the words of a command line say.
 
-ghost use Rattle.std.specs.Prelude.{◌≡◌, codes, IfErr, IfOk, map, option_and_then};
-ghost use Rattle.clap.specs.Words.{found_of, rows_of, subcommand_rows_of, kind_of};
-ghost use Rattle.reg_words.specs.Jobs.{IsJobOf, IsUsageOf, Tells, job_in, init_of, script_by, script_of, import_of, crl_of, number_in, serve_of, open_of, at_of, schedule_of, audit_of};
+ghost use Rattle.std.specs.Prelude.{◌≡◌, codes, IfErr, IfOk, map};
+ghost use Rattle.clap.specs.Words.{app_of, found_of, rows_of, subcommand_rows_of, kind_of};
+ghost use Rattle.reg_words.specs.Desk.{desk_app};
+ghost use Rattle.reg_words.specs.Jobs.{IsNoOrder, IsOrderIn, IsOrderOf, IsUsageOf, Tells, is_given_behind, job_found, job_in, serving_job_in, keeping_job_in, init_of, terms_of, script_by, script_of, import_of, crl_of, number_in, serve_of, open_of, at_of, schedule_of, audit_of};
 
 use crate::desk::desk;
-use crate::job::{Job, KeyHolder, Usage, Way};
+use crate::job::{Job, KeyHolder, Order, Usage, Way};
 use crate::values::{
-    key_holder, moment, number_if_given, number_or, number_within, steps, way_of, word_of,
+    is_set, key_holder, moment, number_if_given, number_or, number_within, steps, way_of, word_of,
 };
 use crate::word::Word;
 use crate::wrong::{LAST_PORT, MOST_REQUESTS, wrong_text};
@@ -15,6 +16,15 @@ use clap::error::ErrorKind;
 use clap::{ArgMatches, Command, Error};
 use std::alloc::{AllocError, Global};
 use std::convert::AsStr;
+
+/// What a new register is to keep to.
+#[derive(Clone, Copy)]
+struct Terms {
+    days: u64,
+    crl_life: u64,
+    ocsp_life: u64,
+    cap: u64,
+}
 
 /// The most days of validity of the usual policy.
 const USUAL_DAYS: u64 = 398;
@@ -33,29 +43,68 @@ const TEXT_WANTED: &str = "a word is no UTF-8 text: the name of a FILE is to be 
 
 /// Reads the words of a command line, of which the first is the program's name.
 ///
-/// A job comes where clap accepts the words and each value is in its form and range, with options left out as in the
-/// usual policy. `Help` comes where clap answers help, `Bad` where clap finds another fault or where a value is out of
-/// its form or range, `Memory` where memory could not be had.
-pub fn read_words<'a, S: AsStr>(alloc: Global, words: &'a [S]) -> Result<Job<'a>, Usage>
-    ensures job { IfOk result (IsJobOf (map S.text words.entry.now)) }
+/// An order comes where clap accepts the words and each value is in its form and range, with options left out as in the
+/// usual policy. `Help` and `Version` come where clap answers them, `Bad` where clap finds another fault or where a value
+/// is out of its form or range, `Memory` where memory could not be had.
+pub fn read_words<'a, S: AsStr>(alloc: Global, words: &'a [S]) -> Result<Order<'a>, Usage>
+    ensures order { IfOk result (IsOrderOf (map S.text words.entry.now)) }
     ensures usage { IfErr result (IsUsageOf (map S.text words.entry.now)) }
 {
-    let Ok(mut desk) = desk(alloc) else {
-        return Err(Usage::Memory);
-    };
+    match desk(alloc) {
+        Ok(mut desk) => read_by(alloc, &mut desk, words),
+        Err(_) => Err(Usage::Memory),
+    }
+}
+
+/// Reads the words by the program's command line.
+fn read_by<'a, S: AsStr>(
+    alloc: Global,
+    desk: &mut Command<'a>,
+    words: &'a [S],
+) -> Result<Order<'a>, Usage>
+    requires { app_of desk.old ≡ desk_app }
+    ensures order { IfOk result (IsOrderOf (map S.text words.entry.now)) }
+    ensures usage { IfErr result (IsUsageOf (map S.text words.entry.now)) }
+{
     match desk.try_get_matches_from_mut(words) {
-        Ok(matches) => match read_job(alloc, &matches) {
-            Ok(Some(job)) => Ok(job),
-            Ok(None) => Err(bad_value(alloc, &mut desk, &matches)),
-            Err(_) => Err(Usage::Memory),
-        },
+        Ok(matches) => read_order(alloc, desk, &matches),
         Err(error) => Err(usage_of(alloc, &error)),
+    }
+}
+
+/// The order that the words say which clap took.
+fn read_order<'a>(
+    alloc: Global,
+    desk: &mut Command<'_>,
+    matches: &ArgMatches<'a>,
+) -> Result<Order<'a>, Usage>
+    ensures order { IfOk result (IsOrderIn (rows_of (found_of matches.now)) (subcommand_rows_of matches.now)) }
+    ensures usage { IfErr result (IsNoOrder (subcommand_rows_of matches.now)) }
+{
+    match read_job(alloc, matches) {
+        Ok(Some(job)) => Ok(Order {
+            job,
+            is_explained: is_set(matches, "why") || is_set_behind(matches, "why"),
+            has_log: is_set_behind(matches, "log"),
+        }),
+        Ok(None) => Err(bad_value(alloc, desk, matches)),
+        Err(_) => Err(Usage::Memory),
+    }
+}
+
+/// Whether an option that takes no value is given behind the command.
+fn is_set_behind(matches: &ArgMatches<'_>, id: &str) -> bool
+    ensures { result ≡ is_given_behind id.now (subcommand_rows_of matches.now) }
+{
+    match matches.subcommand() {
+        Some((_, given)) => is_set(given, id),
+        None => false,
     }
 }
 
 /// The job of the command that was named; `None` where a value of it is out of its form or range.
 fn read_job<'a>(alloc: Global, matches: &ArgMatches<'a>) -> Result<Option<Job<'a>>, AllocError>
-    ensures { IfOk result (λ job. job ≡ option_and_then (λ found. job_in found.0 found.1) (subcommand_rows_of matches.now)) }
+    ensures { IfOk result (λ job. job ≡ job_found (subcommand_rows_of matches.now)) }
 {
     match matches.subcommand() {
         Some((name, given)) => read_command(alloc, name, given),
@@ -63,6 +112,7 @@ fn read_job<'a>(alloc: Global, matches: &ArgMatches<'a>) -> Result<Option<Job<'a
     }
 }
 
+/// The job of a command by its name.
 #[tactic(auto, unfolding(crate::specs::Jobs::job_in))]
 fn read_command<'a>(
     alloc: Global,
@@ -79,13 +129,41 @@ fn read_command<'a>(
         Ok(read_import(given))
     } else if name == "crl" {
         Ok(read_crl(given))
-    } else if name == "serve" {
+    } else {
+        read_serving(alloc, name, given)
+    }
+}
+
+/// The same of a command that serves, or one behind those.
+#[tactic(auto, unfolding(crate::specs::Jobs::serving_job_in))]
+fn read_serving<'a>(
+    alloc: Global,
+    name: &str,
+    given: &ArgMatches<'a>,
+) -> Result<Option<Job<'a>>, AllocError>
+    ensures { IfOk result (λ job. job ≡ serving_job_in name.now (rows_of (found_of given.now))) }
+{
+    if name == "serve" {
         Ok(read_serve(given))
     } else if name == "open" {
         Ok(read_open(given))
     } else if name == "at" {
         Ok(read_at(given))
-    } else if name == "schedule" {
+    } else {
+        read_keeping(alloc, name, given)
+    }
+}
+
+/// The same of a command that looks after a register.
+#[tactic(auto, unfolding(crate::specs::Jobs::keeping_job_in))]
+fn read_keeping<'a>(
+    alloc: Global,
+    name: &str,
+    given: &ArgMatches<'a>,
+) -> Result<Option<Job<'a>>, AllocError>
+    ensures { IfOk result (λ job. job ≡ keeping_job_in name.now (rows_of (found_of given.now))) }
+{
+    if name == "schedule" {
         read_schedule(alloc, given)
     } else if name == "audit" {
         Ok(read_audit(given))
@@ -98,10 +176,26 @@ fn read_command<'a>(
 fn read_init<'a>(given: &ArgMatches<'a>) -> Option<Job<'a>>
     ensures { result ≡ init_of (rows_of (found_of given.now)) }
 {
+    let file = word_of(given, "file")?;
+    let name = word_of(given, "name")?;
+    let key = word_of(given, "key")?;
+    let terms = read_terms(given)?;
     Some(Job::Init {
-        file: word_of(given, "file")?,
-        name: word_of(given, "name")?,
-        key: word_of(given, "key")?,
+        file,
+        name,
+        key,
+        days: terms.days,
+        crl_life: terms.crl_life,
+        ocsp_life: terms.ocsp_life,
+        cap: terms.cap,
+    })
+}
+
+#[tactic(auto, unfolding(crate::specs::Jobs::terms_of))]
+fn read_terms(given: &ArgMatches<'_>) -> Option<Terms>
+    ensures { result ≡ terms_of (rows_of (found_of given.now)) }
+{
+    Some(Terms {
         days: number_or(given, "days", USUAL_DAYS)?,
         crl_life: number_or(given, "crl-life", USUAL_CRL_LIFE)?,
         ocsp_life: number_or(given, "ocsp-life", USUAL_OCSP_LIFE)?,
@@ -254,6 +348,7 @@ fn usage_of(alloc: Global, error: &Error) -> Usage
     };
     match error.kind() {
         ErrorKind::DisplayHelp => Usage::Help(text),
+        ErrorKind::DisplayVersion => Usage::Version(text),
         ErrorKind::OutOfMemory => Usage::Memory,
         _ => Usage::Bad(text),
     }

@@ -97,7 +97,7 @@ pub(crate) fn way_of(matches: &ArgMatches<'_>) -> Way
 }
 
 /// Whether an option is given that takes no value.
-fn is_set(matches: &ArgMatches<'_>, id: &str) -> bool
+pub(crate) fn is_set(matches: &ArgMatches<'_>, id: &str) -> bool
     ensures { result ≡ is_given id.now (rows_of (found_of matches.now)) }
 {
     match text_of(matches, id) {

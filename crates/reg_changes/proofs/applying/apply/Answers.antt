@@ -3,11 +3,13 @@ use Rattle.sqlite.specs.Held.{state}
 use Rattle.sqlite.proofs.StateLemmas.{survives_then}
 use Rattle.reg_core.specs.Changes.{changed_by}
 use Rattle.reg_tables.proofs.Staying.{kept_shows, both_shows, shows_register, stays_both}
-use Rattle.reg_changes.specs.AtRest.{AreRowsOf, IsChanged, IsEntered}
+use Rattle.reg_writing.specs.AtRest.{AreRowsOf}
+use Rattle.reg_changes.specs.AtRest.{IsChanged, IsEntered}
 use Rattle.reg_changes.specs.Beside.{after, end_by}
-use Rattle.reg_changes.proofs.Days.{stays_days, keeps_days_then}
+use Rattle.reg_writing.proofs.Days.{stays_days}
+use Rattle.reg_changes.proofs.Days.{keeps_days_then}
 use Rattle.reg_changes.proofs.Law.{kept_change}
-use Rattle.reg_changes.proofs.Moving.{ok_kept_by, was_clean}
+use Rattle.reg_writing.proofs.Moving.{ok_kept_by, was_clean}
 use Rattle.reg_changes.proofs.applying.apply.Goals as goal
 
 pub returns-clause-ok : goal.returns-clause-ok

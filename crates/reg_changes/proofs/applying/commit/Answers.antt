@@ -11,10 +11,11 @@ use Rattle.reg_tables.proofs.Staying.{stays_both, shows_register, both_shows}
 use Rattle.reg_changes.specs.AtRest.{IsEntered}
 use Rattle.reg_changes.specs.Beside.{after}
 use Rattle.reg_changes.specs.Steps.{swept}
-use Rattle.reg_changes.proofs.Committing.{clean_before, shows_back}
-use Rattle.reg_changes.proofs.Days.{AreBothOf, shows_days, same_days, stays_days, beside_days}
-use Rattle.reg_changes.proofs.Moving.{commits, commits_by, was_clean, begun_before}
-use Rattle.reg_changes.proofs.Resting.{leaves_first, resting, rests_sound, survives_commit}
+use Rattle.reg_writing.proofs.Committing.{clean_before, shows_back}
+use Rattle.reg_writing.proofs.Days.{stays_days}
+use Rattle.reg_changes.proofs.Days.{AreBothOf, shows_days, same_days, beside_days}
+use Rattle.reg_writing.proofs.Moving.{commits, commits_by, was_clean, begun_before}
+use Rattle.reg_writing.proofs.Resting.{leaves_first, resting, rests_sound, survives_commit}
 use Rattle.reg_changes.proofs.applying.commit.Goals as goal
 
 pub returns-clause-ok : goal.returns-clause-ok

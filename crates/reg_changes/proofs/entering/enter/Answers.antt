@@ -3,10 +3,11 @@ use Rattle.sqlite.specs.Held.{state}
 use Rattle.sqlite.specs.State.{HasCleanDisk}
 use Rattle.reg_core.specs.Changes.{touched, changed_by}
 use Rattle.reg_changes.specs.Beside.{TurnsOne, lost, added, beside, after}
-use Rattle.reg_changes.specs.Ran.{Moved}
-use Rattle.reg_changes.specs.Steps.{swept, ended_by, with_counts, shifted}
+use Rattle.reg_writing.specs.Ran.{Moved}
+use Rattle.reg_writing.specs.Steps.{with_counts}
+use Rattle.reg_changes.specs.Steps.{swept, ended_by, shifted}
 use Rattle.reg_changes.proofs.Making.{moment_set}
-use Rattle.reg_changes.proofs.Moving.{moved_here, moves_on, ok_if, ok_then_on, was_clean}
+use Rattle.reg_writing.proofs.Moving.{moved_here, moves_on, ok_if, ok_then_on, was_clean}
 use Rattle.reg_changes.proofs.entering.enter.Goals as goal
 
 pub returns-clause-ok : goal.returns-clause-ok

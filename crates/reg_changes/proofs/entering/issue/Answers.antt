@@ -1,7 +1,7 @@
 use Rattle.sqlite.specs.Held.{state}
 use Rattle.sqlite.specs.State.{HasCleanDisk}
 use Rattle.reg_core.specs.Changes.{with_crl}
-use Rattle.reg_changes.proofs.Moving.{ok_then_on, was_clean}
+use Rattle.reg_writing.proofs.Moving.{ok_then_on, was_clean}
 use Rattle.reg_changes.proofs.entering.issue.Goals as goal
 
 pub returns-clause-ok : goal.returns-clause-ok

@@ -5,9 +5,9 @@ use Rattle.reg_core.specs.Changes.{changed_by}
 use Rattle.reg_core.specs.declared.change.Change.{Change}
 use Rattle.reg_core.specs.declared.change.Change.TheVariants.{Subscriber, Order, Certificate, Request, Decline, Revocation, Crl}
 use Rattle.reg_changes.specs.Beside.{beside}
-use Rattle.reg_changes.specs.Ran.{Moved}
+use Rattle.reg_writing.specs.Ran.{Moved}
 use Rattle.reg_changes.proofs.Making.{makes, turns, first_ok, second_ok}
-use Rattle.reg_changes.proofs.Moving.{ok_if}
+use Rattle.reg_writing.proofs.Moving.{ok_if}
 use Rattle.reg_changes.proofs.entering.put.Goals as goal
 
 pub returns-in-Touch-clause-ok : goal.returns-in-Touch-clause-ok

@@ -3,7 +3,7 @@ use Rattle.sqlite.specs.Held.{state}
 use Rattle.sqlite.specs.State.{HasCleanDisk}
 use Rattle.reg_core.specs.Changes.{with_revocation}
 use Rattle.reg_changes.specs.Steps.{with_unlisted}
-use Rattle.reg_changes.proofs.Moving.{moves_on, was_clean}
+use Rattle.reg_writing.proofs.Moving.{moves_on, was_clean}
 use Rattle.reg_changes.proofs.entering.revoke.Goals as goal
 
 pub returns-then-branch-eq1-clause-ok : goal.returns-then-branch-eq1-clause-ok

@@ -8,9 +8,9 @@ use Rattle.reg_tables.specs.Columns.{office_days}
 use Rattle.reg_tables.specs.Rows.{number}
 use Rattle.reg_tables.specs.Shows.{Shows, ShowsBoth, IsShownBy, AreBoth, HasOfficeDays}
 use Rattle.reg_changes.specs.AtRest.{IsScheduled}
-use Rattle.reg_changes.proofs.Committing.{clean_before}
-use Rattle.reg_changes.proofs.Moving.{begun_before, commits_by, was_clean}
-use Rattle.reg_changes.proofs.Resting.{resting, rests_sound, survives_commit}
+use Rattle.reg_writing.proofs.Committing.{clean_before}
+use Rattle.reg_writing.proofs.Moving.{begun_before, commits_by, was_clean}
+use Rattle.reg_writing.proofs.Resting.{resting, rests_sound, survives_commit}
 use Rattle.reg_changes.proofs.Stages.{staged_first, staged_shows, staged_both, kept_schedule}
 use Rattle.reg_changes.proofs.scheduling.set_schedule.Goals as goal
 

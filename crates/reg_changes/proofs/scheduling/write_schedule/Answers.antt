@@ -1,8 +1,8 @@
 use Rattle.std.proofs.Common.{IsTrue, OnOk, subst}
 use Rattle.sqlite.specs.Held.{state}
 use Rattle.reg_core.specs.Schedule.{IsSchedule}
-use Rattle.reg_changes.specs.Staged.{IsStaged}
-use Rattle.reg_changes.proofs.Moving.{was_clean, ok_if}
+use Rattle.reg_writing.specs.Staged.{IsStaged}
+use Rattle.reg_writing.proofs.Moving.{was_clean, ok_if}
 use Rattle.reg_changes.proofs.scheduling.write_schedule.Goals as goal
 
 pub returns-clause-ok : goal.returns-clause-ok

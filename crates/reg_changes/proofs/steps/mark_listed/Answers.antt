@@ -1,8 +1,8 @@
 use Rattle.std.proofs.Common.{[], ◌∷◌, subst}
 use Rattle.sqlite.specs.Held.{state}
-use Rattle.reg_changes.specs.Ran.{Ran}
+use Rattle.reg_writing.specs.Ran.{Ran}
 use Rattle.reg_changes.specs.declared.texts.TheConstants.{MARK_LISTED}
-use Rattle.reg_changes.proofs.Params.{number_is, moment_is}
+use Rattle.reg_writing.proofs.Params.{number_is, moment_is}
 use Rattle.reg_changes.proofs.Sweeping.{marks_listed}
 use Rattle.reg_changes.proofs.steps.mark_listed.Goals as goal
 

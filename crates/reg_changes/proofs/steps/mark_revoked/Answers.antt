@@ -1,9 +1,9 @@
 use Rattle.std.proofs.Common.{[], ◌∷◌, ap, subst}
 use Rattle.sqlite_value.specs.declared.value.Value.TheVariants.{Blob}
 use Rattle.sqlite.specs.Held.{state}
-use Rattle.reg_changes.specs.Ran.{Ran}
+use Rattle.reg_writing.specs.Ran.{Ran}
 use Rattle.reg_changes.specs.declared.texts.TheConstants.{MARK_REVOKED}
-use Rattle.reg_changes.proofs.Params.{ok_then}
+use Rattle.reg_writing.proofs.Params.{ok_then}
 use Rattle.reg_changes.proofs.Sweeping.{marks_revoked}
 use Rattle.reg_changes.proofs.steps.mark_revoked.Goals as goal
 

@@ -1,8 +1,8 @@
 use Rattle.std.proofs.Common.{[], ◌∷◌, subst}
 use Rattle.sqlite.specs.Held.{state}
-use Rattle.reg_changes.specs.Ran.{Ran}
+use Rattle.reg_writing.specs.Ran.{Ran}
 use Rattle.reg_changes.specs.declared.texts.TheConstants.{PUT_ORDER}
-use Rattle.reg_changes.proofs.Params.{number_is}
+use Rattle.reg_writing.proofs.Params.{number_is}
 use Rattle.reg_changes.proofs.Putting.{puts_order}
 use Rattle.reg_changes.proofs.steps.put_order.Goals as goal
 

@@ -1,9 +1,9 @@
 use Rattle.std.proofs.Common.{[], ◌∷◌, ap, subst}
 use Rattle.sqlite_value.specs.declared.value.Value.TheVariants.{Blob}
 use Rattle.sqlite.specs.Held.{state}
-use Rattle.reg_changes.specs.Ran.{Ran}
+use Rattle.reg_writing.specs.Ran.{Ran}
 use Rattle.reg_changes.specs.declared.texts.TheConstants.{PUT_REVOCATION}
-use Rattle.reg_changes.proofs.Params.{number_is, moment_is}
+use Rattle.reg_writing.proofs.Params.{number_is, moment_is}
 use Rattle.reg_changes.proofs.Putting.{puts_revocation}
 use Rattle.reg_changes.proofs.steps.put_revocation.Goals as goal
 

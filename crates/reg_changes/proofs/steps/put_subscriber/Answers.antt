@@ -1,9 +1,9 @@
 use Rattle.std.proofs.Common.{[], ◌∷◌, ap, subst}
 use Rattle.sqlite_value.specs.declared.value.Value.TheVariants.{Text}
 use Rattle.sqlite.specs.Held.{state}
-use Rattle.reg_changes.specs.Ran.{Ran}
+use Rattle.reg_writing.specs.Ran.{Ran}
 use Rattle.reg_changes.specs.declared.texts.TheConstants.{PUT_SUBSCRIBER}
-use Rattle.reg_changes.proofs.Params.{number_is}
+use Rattle.reg_writing.proofs.Params.{number_is}
 use Rattle.reg_changes.proofs.Putting.{puts_subscriber}
 use Rattle.reg_changes.proofs.steps.put_subscriber.Goals as goal
 

@@ -1,8 +1,8 @@
 use Rattle.std.proofs.Common.{[], ◌∷◌, subst}
 use Rattle.sqlite.specs.Held.{state}
-use Rattle.reg_changes.specs.Ran.{Ran}
+use Rattle.reg_writing.specs.Ran.{Ran}
 use Rattle.reg_changes.specs.declared.texts.TheConstants.{SET_DECLINED}
-use Rattle.reg_changes.proofs.Params.{number_is}
+use Rattle.reg_writing.proofs.Params.{number_is}
 use Rattle.reg_changes.proofs.Sweeping.{sets_declined}
 use Rattle.reg_changes.proofs.steps.set_declined.Goals as goal
 

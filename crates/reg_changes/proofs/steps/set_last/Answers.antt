@@ -1,8 +1,8 @@
 use Rattle.std.proofs.Common.{[], ◌∷◌, subst}
 use Rattle.sqlite.specs.Held.{state}
-use Rattle.reg_changes.specs.Ran.{Ran}
+use Rattle.reg_writing.specs.Ran.{Ran}
 use Rattle.reg_changes.specs.declared.texts.TheConstants.{SET_LAST}
-use Rattle.reg_changes.proofs.Params.{moment_is}
+use Rattle.reg_writing.proofs.Params.{moment_is}
 use Rattle.reg_changes.proofs.Sweeping.{sets_last}
 use Rattle.reg_changes.proofs.Obeying.{last_obeys}
 use Rattle.reg_changes.proofs.steps.set_last.Goals as goal

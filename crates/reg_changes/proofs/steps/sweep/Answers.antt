@@ -1,8 +1,8 @@
 use Rattle.std.proofs.Common.{[], ◌∷◌, subst}
 use Rattle.sqlite.specs.Held.{state}
-use Rattle.reg_changes.specs.Ran.{Ran}
+use Rattle.reg_writing.specs.Ran.{Ran}
 use Rattle.reg_changes.specs.declared.texts.TheConstants.{SWEEP}
-use Rattle.reg_changes.proofs.Params.{moment_is, ok_then}
+use Rattle.reg_writing.proofs.Params.{moment_is, ok_then}
 use Rattle.reg_changes.proofs.Sweeping.{sweeps}
 use Rattle.reg_changes.proofs.steps.sweep.Goals as goal
 

@@ -1,5 +1,5 @@
 use Rattle.std.proofs.lemmas.Result.{IfOk-weaker}
-use Rattle.reg_office.specs.Calls.{Runs, Asks, Ocsps, Crls}
+use Rattle.reg_calls.specs.Steps.{Runs, Asks, Ocsps, Crls}
 use Rattle.reg_faces.proofs.Added.{answer_adds}
 use Rattle.reg_faces.proofs.Exchanges.{answer_moves}
 use Rattle.reg_faces.proofs.Steps.{follows}

@@ -1,4 +1,4 @@
-use Rattle.reg_office.specs.Calls.{Runs, Asks, Ocsps, Crls}
+use Rattle.reg_calls.specs.Steps.{Runs, Asks, Ocsps, Crls}
 use Rattle.reg_faces.proofs.Exchanges.{served_moves, stays_silent, read_is_not_write, memory_is_not_write}
 use Rattle.reg_faces.proofs.faces.serve_one.Goals as goal
 

@@ -2,7 +2,7 @@ use Rattle.std.proofs.Common.{IsTrue, refl}
 use Rattle.sqlite.specs.Held.{state}
 use Rattle.sqlite.specs.State.{HasCleanDisk}
 use Rattle.reg_tables.specs.Shows.{AreBoth}
-use Rattle.reg_changes.proofs.Moving.{was_clean}
+use Rattle.reg_writing.proofs.Moving.{was_clean}
 use Rattle.reg_migration.specs.Refilled.{no_columns}
 use Rattle.reg_migration.proofs.FirstRows.{older_has, staged_first, begun_both, first_rows}
 use Rattle.reg_migration.proofs.Steps.{ok_on}

@@ -1,7 +1,7 @@
 use Rattle.sqlite.specs.Held.{state}
 use Rattle.reg_migration.proofs.FirstRows.{puts_counts}
 use Rattle.reg_tables.specs.Schema.{register_schema}
-use Rattle.reg_changes.proofs.Keeping.{inserts_keep}
+use Rattle.reg_writing.proofs.Keeping.{inserts_keep}
 use Rattle.reg_migration.proofs.FirstRows.{put_counts_means}
 use Rattle.reg_migration.proofs.beginning.put_counts.Goals as goal
 

@@ -1,7 +1,7 @@
 use Rattle.sqlite.specs.Held.{state}
 use Rattle.reg_migration.proofs.FirstRows.{sets_version}
 use Rattle.reg_tables.specs.Schema.{register_schema}
-use Rattle.reg_changes.proofs.Keeping.{updates_keep}
+use Rattle.reg_writing.proofs.Keeping.{updates_keep}
 use Rattle.reg_migration.proofs.FirstRows.{set_version_means}
 use Rattle.reg_migration.proofs.beginning.set_version.Goals as goal
 

@@ -4,8 +4,8 @@ use Rattle.sqlite.specs.Held.{state}
 use Rattle.sqlite.specs.State.{HasCleanDisk}
 use Rattle.reg_tables.specs.Columns.{Letter, good, revoked, expired, letter_text, is_good_letter}
 use Rattle.reg_tables.specs.Shows.{AreBoth}
-use Rattle.reg_changes.specs.Ran.{Before}
-use Rattle.reg_changes.proofs.Moving.{was_clean}
+use Rattle.reg_writing.specs.Ran.{Before}
+use Rattle.reg_writing.proofs.Moving.{was_clean}
 use Rattle.reg_migration.specs.Refilled.{is_revoked, is_expired}
 use Rattle.reg_migration.proofs.Steps.{unchanged_before}
 use Rattle.reg_migration.proofs.counting.counts.Goals as goal

@@ -2,7 +2,7 @@ use Rattle.std.proofs.Common.{[], refl, sym, subst}
 use Rattle.std.specs.List.{AllByRecursion}
 use Rattle.sqlite.specs.Held.{state}
 use Rattle.sqlite.specs.State.{HasCleanDisk}
-use Rattle.reg_changes.proofs.Moving.{moves_on, was_clean}
+use Rattle.reg_writing.proofs.Moving.{moves_on, was_clean}
 use Rattle.reg_migration.specs.Older.{kept_tables}
 use Rattle.reg_migration.specs.Rows.{IsNumbered, HasRows, with_rows, records_alone}
 use Rattle.reg_migration.proofs.Defining.{has_same, moves_weaker}

@@ -4,8 +4,8 @@ use Rattle.sqlite.specs.State.{HasCleanDisk}
 use Rattle.sqlite_catalog.specs.Change.{created}
 use Rattle.reg_tables.specs.Schema.{record_tables, standing, kept, listed}
 use Rattle.reg_tables.specs.Stays.{Moves}
-use Rattle.reg_changes.specs.Ran.{HasSchema}
-use Rattle.reg_changes.proofs.Moving.{moves_on, ok_then_on, was_clean}
+use Rattle.reg_writing.specs.Ran.{HasSchema}
+use Rattle.reg_writing.proofs.Moving.{moves_on, ok_then_on, was_clean}
 use Rattle.reg_migration.specs.Older.{kept_tables}
 use Rattle.reg_migration.specs.Rows.{HasRows, HadRows, records_alone}
 use Rattle.reg_migration.proofs.Defining.{has_same}

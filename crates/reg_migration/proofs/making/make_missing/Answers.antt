@@ -1,5 +1,5 @@
 use Rattle.sqlite.specs.Held.{state}
-use Rattle.reg_changes.proofs.Moving.{ok_then_on, was_clean}
+use Rattle.reg_writing.proofs.Moving.{ok_then_on, was_clean}
 use Rattle.reg_migration.proofs.making.make_missing.Goals as goal
 
 pub returns-clause-ok : goal.returns-clause-ok

@@ -4,8 +4,8 @@ use Rattle.sqlite.specs.State.{HasCleanDisk}
 use Rattle.sqlite_catalog.specs.Change.{indexed}
 use Rattle.reg_tables.specs.Schema.{all_tables, register_schema, crl, standing, longest, crl_at, standing_due}
 use Rattle.reg_tables.specs.Stays.{Moves}
-use Rattle.reg_changes.specs.Ran.{HasSchema}
-use Rattle.reg_changes.proofs.Moving.{moves_on, ok_then_on, was_clean}
+use Rattle.reg_writing.specs.Ran.{HasSchema}
+use Rattle.reg_writing.proofs.Moving.{moves_on, ok_then_on, was_clean}
 use Rattle.reg_migration.specs.Older.{kept_tables}
 use Rattle.reg_migration.specs.Rows.{HasRows, HadRows, records_alone, with_rows}
 use Rattle.reg_migration.proofs.SchemaTexts.{longest_defined, crl_at_defined, standing_due_defined}

@@ -1,5 +1,5 @@
 use Rattle.sqlite.specs.Held.{state}
-use Rattle.reg_changes.proofs.Moving.{was_clean}
+use Rattle.reg_writing.proofs.Moving.{was_clean}
 use Rattle.reg_migration.proofs.migrating.make_newer.Goals as goal
 
 pub returns-clause-ok : goal.returns-clause-ok

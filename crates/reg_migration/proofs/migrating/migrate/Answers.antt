@@ -6,16 +6,16 @@ use Rattle.sqlite.specs.State.{HasCleanDisk, Survives}
 use Rattle.reg_core.specs.Schedule.{greatest_of}
 use Rattle.reg_tables.specs.Kept.{ShowsKept}
 use Rattle.reg_tables.specs.Shows.{HasOfficeDays, Holds}
-use Rattle.reg_changes.proofs.Committing.{clean_before}
-use Rattle.reg_changes.proofs.Moving.{commits_by, was_clean}
-use Rattle.reg_changes.proofs.Resting.{survives_commit}
+use Rattle.reg_writing.proofs.Committing.{clean_before}
+use Rattle.reg_writing.proofs.Moving.{commits_by, was_clean}
+use Rattle.reg_writing.proofs.Resting.{survives_commit}
 use Rattle.reg_migration.specs.AtRest.{IsMigrated}
 use Rattle.reg_migration.specs.Older.{older_schema, IsShownByOlder}
 use Rattle.reg_migration.specs.Refilled.{HasKept, HasGreatestDays}
 use Rattle.reg_migration.proofs.Whole.{kept_whole, kept_rests}
 use Rattle.reg_tables.specs.Schema.{register_schema}
 use Rattle.reg_tables.specs.Stays.{IsRegister}
-use Rattle.reg_changes.specs.Ran.{HasSchema}
+use Rattle.reg_writing.specs.Ran.{HasSchema}
 use Rattle.reg_migration.proofs.migrating.migrate.Goals as goal
 
 pub returns-clause-ok : goal.returns-clause-ok

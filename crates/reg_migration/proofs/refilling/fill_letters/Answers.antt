@@ -2,12 +2,12 @@ use Rattle.std.proofs.Common.{◌≡◌, [], ◌∷◌, ap, sym, subst, ◌∙�
 use Rattle.sqlite_value.specs.Order.{Row}
 use Rattle.sqlite.specs.Held.{state}
 use Rattle.reg_tables.specs.Rows.{number}
-use Rattle.reg_changes.specs.Ran.{Ran}
-use Rattle.reg_changes.proofs.Params.{moment_is}
+use Rattle.reg_writing.specs.Ran.{Ran}
+use Rattle.reg_writing.proofs.Params.{moment_is}
 use Rattle.reg_migration.specs.declared.texts.TheConstants.{FILL_LETTERS}
 use Rattle.reg_migration.proofs.Lettering.{fills_letters}
 use Rattle.reg_tables.specs.Schema.{register_schema}
-use Rattle.reg_changes.proofs.Keeping.{inserts_keep}
+use Rattle.reg_writing.proofs.Keeping.{inserts_keep}
 use Rattle.reg_migration.proofs.Lettering.{fill_means, fill_plain}
 use Rattle.reg_migration.proofs.refilling.fill_letters.Goals as goal
 

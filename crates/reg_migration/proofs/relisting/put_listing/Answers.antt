@@ -2,13 +2,13 @@ use Rattle.std.proofs.Common.{[], ◌∷◌, ap, subst, ◌∙◌}
 use Rattle.sqlite_value.specs.declared.value.Value.TheVariants.{Blob}
 use Rattle.sqlite.specs.Held.{state}
 use Rattle.reg_tables.specs.Columns.{number_or_null}
-use Rattle.reg_changes.specs.Ran.{Ran}
-use Rattle.reg_changes.proofs.Params.{number_is, moment_is}
+use Rattle.reg_writing.specs.Ran.{Ran}
+use Rattle.reg_writing.proofs.Params.{number_is, moment_is}
 use Rattle.reg_migration.specs.Refilled.{listed_by}
 use Rattle.reg_migration.specs.declared.texts.TheConstants.{PUT_LISTING}
 use Rattle.reg_migration.proofs.Listing.{puts_listing}
 use Rattle.reg_tables.specs.Schema.{register_schema}
-use Rattle.reg_changes.proofs.Keeping.{inserts_keep}
+use Rattle.reg_writing.proofs.Keeping.{inserts_keep}
 use Rattle.reg_migration.proofs.Listing.{put_listing_means}
 use Rattle.reg_migration.proofs.relisting.put_listing.Goals as goal
 

@@ -7,8 +7,8 @@ use Rattle.reg_core.specs.declared.rows.CrlRow.{CrlRow}
 use Rattle.reg_core.specs.Sound.{NumberedFrom, NeverFalls}
 use Rattle.reg_laws.proofs.Lists.{some_and_of}
 use Rattle.reg_tables.proofs.Staying.{stepped_then}
-use Rattle.reg_changes.specs.Ran.{Moved}
-use Rattle.reg_changes.proofs.Moving.{was_clean}
+use Rattle.reg_writing.specs.Ran.{Moved}
+use Rattle.reg_writing.proofs.Moving.{was_clean}
 use Rattle.reg_migration.specs.Refilled.{listed_by, with_listed, HasRelisted}
 use Rattle.reg_migration.proofs.Refills.{rows_numbered, rows_rise, relisted_more}
 use Rattle.reg_migration.proofs.relisting.relist_each.Goals as goal

@@ -6,7 +6,7 @@ use Rattle.reg_core.specs.Records.{Records}
 use Rattle.reg_core.specs.Sound.{SoundRows}
 use Rattle.reg_tables.specs.Schema.{register_schema}
 use Rattle.reg_tables.specs.Stays.{Stepped}
-use Rattle.reg_changes.specs.Ran.{HasSchema}
+use Rattle.reg_writing.specs.Ran.{HasSchema}
 use Rattle.reg_migration.specs.Refilled.{HasRelisted}
 use Rattle.reg_migration.proofs.relisting.relist_each.Given as goal
 

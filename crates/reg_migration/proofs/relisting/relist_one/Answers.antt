@@ -5,8 +5,8 @@ use Rattle.reg_core.specs.Records.{certificate_in}
 use Rattle.reg_core.specs.declared.rows.CertRow.{CertRow}
 use Rattle.reg_laws.proofs.Lists.{some_weaker}
 use Rattle.reg_tables.specs.Shows.{AreBoth}
-use Rattle.reg_changes.specs.Ran.{Before, Moved}
-use Rattle.reg_changes.proofs.Moving.{was_clean}
+use Rattle.reg_writing.specs.Ran.{Before, Moved}
+use Rattle.reg_writing.proofs.Moving.{was_clean}
 use Rattle.reg_migration.specs.Refilled.{listed_by, with_listed}
 use Rattle.reg_migration.proofs.Steps.{unchanged_before, unchanged_moves, ok_by}
 use Rattle.reg_tables.specs.Schema.{register_schema}

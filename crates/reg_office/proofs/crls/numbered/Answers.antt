@@ -1,7 +1,6 @@
 use Rattle.std.specs.Prelude.{option_map, Vec}
 use Rattle.std.proofs.Common.{ℕ, refl, sym, ap, ◌∙◌, Global}
-use Rattle.reg_core.specs.Records.{Crl}
-use Rattle.reg_tables.specs.Tables.{crl_in}
+use Rattle.reg_core.specs.Records.{Crl, crl_in}
 use Rattle.reg_office.proofs.Issuing.{none_mapped}
 use Rattle.reg_office.proofs.crls.numbered.Goals as goal
 

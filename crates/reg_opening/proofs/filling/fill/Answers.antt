@@ -4,8 +4,8 @@ use Rattle.sqlite.specs.Held.{state}
 use Rattle.sqlite.specs.State.{HasCleanDisk}
 use Rattle.reg_core.specs.Records.{no_records}
 use Rattle.reg_tables.specs.Shows.{AreBoth}
-use Rattle.reg_changes.specs.Staged.{IsStaged}
-use Rattle.reg_changes.proofs.Moving.{was_clean}
+use Rattle.reg_writing.specs.Staged.{IsStaged}
+use Rattle.reg_writing.proofs.Moving.{was_clean}
 use Rattle.reg_migration.specs.Refilled.{no_columns}
 use Rattle.reg_migration.proofs.Steps.{ok_by}
 use Rattle.reg_opening.proofs.FirstRows.{staged_first, filled}

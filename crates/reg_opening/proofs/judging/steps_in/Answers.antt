@@ -1,6 +1,6 @@
 use Rattle.std.proofs.Common.{◌≡◌, ◌<◌, ◌+◌, ℕ, take, get_or, length, sym, ap, subst, ◌∙◌}
 use Rattle.reg_core.specs.Calendar.{IsMoment}
-use Rattle.reg_changes.proofs.Putting.{pushed}
+use Rattle.reg_writing.proofs.Placing.{pushed}
 use Rattle.reg_opening.specs.Said.{AreSteps, HaveMoments}
 use Rattle.reg_opening.proofs.Steps.{steps_at, steps_pushed, is_step}
 use Rattle.reg_opening.proofs.judging.steps_in.Goals as goal

@@ -3,7 +3,7 @@ use Rattle.sqlite.specs.Held.{state}
 use Rattle.sqlite.specs.State.{HasCleanDisk}
 use Rattle.sqlite_catalog.specs.Change.{created}
 use Rattle.reg_tables.specs.Schema.{no_schema, office, subscriber, orders, cert}
-use Rattle.reg_changes.proofs.Moving.{moves_on, ok_then_on, was_clean}
+use Rattle.reg_writing.proofs.Moving.{moves_on, ok_then_on, was_clean}
 use Rattle.reg_opening.specs.Blank.{no_rows}
 use Rattle.reg_opening.proofs.SchemaTexts.{office_defined, subscriber_defined, orders_defined, cert_defined}
 use Rattle.reg_opening.proofs.making.make_entry_tables.Goals as goal

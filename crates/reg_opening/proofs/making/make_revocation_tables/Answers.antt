@@ -4,7 +4,7 @@ use Rattle.sqlite.specs.State.{HasCleanDisk}
 use Rattle.sqlite_catalog.specs.Change.{created}
 use Rattle.reg_tables.specs.Schema.{request, revocation, crl}
 use Rattle.reg_opening.specs.Blank.{no_rows, entry_tables}
-use Rattle.reg_changes.proofs.Moving.{moves_on, ok_then_on, was_clean}
+use Rattle.reg_writing.proofs.Moving.{moves_on, ok_then_on, was_clean}
 use Rattle.reg_opening.proofs.SchemaTexts.{request_defined, revocation_defined, crl_defined}
 use Rattle.reg_opening.proofs.making.make_revocation_tables.Goals as goal
 

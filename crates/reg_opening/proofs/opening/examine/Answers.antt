@@ -1,8 +1,8 @@
 use Rattle.std.proofs.Common.{◌<◌, ℕ, IsTrue, rules, subst}
 use Rattle.sqlite.specs.Held.{state}
 use Rattle.sqlite.specs.State.{HasCleanDisk}
-use Rattle.reg_changes.proofs.Moving.{was_clean}
-use Rattle.reg_changes.proofs.Params.{ok_then}
+use Rattle.reg_writing.proofs.Moving.{was_clean}
+use Rattle.reg_writing.proofs.Params.{ok_then}
 use Rattle.reg_opening.specs.Said.{HasVersion, SaysNoRegister}
 use Rattle.reg_opening.specs.Examined.{SaysFound}
 use Rattle.reg_opening.proofs.FirstShown.{ok_on}

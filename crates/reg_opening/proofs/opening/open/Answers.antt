@@ -6,9 +6,9 @@ use Rattle.reg_tables.specs.declared.fault.CallFault.{CallFault}
 use Rattle.reg_tables.specs.Stays.{IsRegister}
 use Rattle.reg_tables.proofs.Staying.{kept_shows}
 use Rattle.reg_core.specs.Schedule.{greatest_of}
-use Rattle.reg_changes.proofs.Days.{stays_days}
-use Rattle.reg_changes.proofs.Moving.{was_clean}
-use Rattle.reg_changes.proofs.Resting.{leaves_less}
+use Rattle.reg_writing.proofs.Days.{stays_days}
+use Rattle.reg_writing.proofs.Moving.{was_clean}
+use Rattle.reg_writing.proofs.Resting.{leaves_less}
 use Rattle.reg_migration.specs.AtRest.{IsMigrated}
 use Rattle.reg_migration.specs.Older.{older_schema, ShowsOlder}
 use Rattle.reg_migration.proofs.Whole.{any_kept, any_days}

@@ -6,7 +6,7 @@ use Rattle.reg_tables.specs.Schema.{register_schema}
 use Rattle.reg_tables.specs.Shows.{IsShownBy}
 use Rattle.reg_tables.specs.Stays.{Stepped}
 use Rattle.reg_tables.proofs.Staying.{stepped_then}
-use Rattle.reg_changes.proofs.Moving.{was_clean}
+use Rattle.reg_writing.proofs.Moving.{was_clean}
 use Rattle.reg_opening.specs.Said.{SaysOffice, IsRead, IsRefused}
 use Rattle.reg_tables.specs.declared.statements.TheConstants.{STEPS}
 use Rattle.reg_opening.proofs.FirstShown.{ok_on}

@@ -1,6 +1,6 @@
 use Rattle.std.proofs.Common.{inl, inr, rules}
 use Rattle.sqlite.specs.Held.{state}
-use Rattle.reg_changes.proofs.Params.{ok_then}
+use Rattle.reg_writing.proofs.Params.{ok_then}
 use Rattle.reg_migration.specs.Older.{older_schema}
 use Rattle.reg_opening.proofs.QueryTexts.{older_query}
 use Rattle.reg_opening.proofs.OlderRead.{older_never, older_office, older_told, older_judged}

@@ -2,7 +2,7 @@ use Rattle.std.proofs.Common.{None, Some, IsTrue, inl, inr, rules, sym, subst, â
 use Rattle.sqlite.specs.Effect.{Database}
 use Rattle.sqlite.specs.Held.{state}
 use Rattle.sqlite.specs.State.{HasCleanDisk}
-use Rattle.reg_changes.proofs.Moving.{was_clean}
+use Rattle.reg_writing.proofs.Moving.{was_clean}
 use Rattle.reg_migration.specs.Older.{number_of, IsShownByOlder}
 use Rattle.reg_opening.specs.Said.{version_of, HasVersion, SaysNoOffice, SaysNoOlder}
 use Rattle.reg_opening.proofs.Newer.{never_some, same_some}

@@ -2,8 +2,8 @@ use Rattle.std.proofs.Common.{◌≡◌, inl, inr, rules, sym, subst}
 use Rattle.sqlite_value.specs.Order.{column}
 use Rattle.sqlite.specs.Held.{state}
 use Rattle.reg_tables.specs.Rows.{number}
-use Rattle.reg_changes.proofs.Moving.{ok_if}
-use Rattle.reg_changes.proofs.Params.{ok_then}
+use Rattle.reg_writing.proofs.Moving.{ok_if}
+use Rattle.reg_writing.proofs.Params.{ok_then}
 use Rattle.reg_opening.specs.Said.{IsOne, version_of, schema_of}
 use Rattle.reg_opening.proofs.QueryTexts.{version_query}
 use Rattle.reg_opening.proofs.OlderRead.{version_never, version_read, judged_version}

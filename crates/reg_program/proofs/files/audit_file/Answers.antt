@@ -1,4 +1,4 @@
-use Rattle.reg_program.proofs.Fates.{opened}
+use Rattle.reg_jobs.proofs.Fates.{opened}
 use Rattle.reg_program.proofs.files.audit_file.Goals as goal
 
 pub returns-in-Ok-clause-ok : goal.returns-in-Ok-clause-ok

@@ -1,4 +1,4 @@
-use Rattle.reg_program.proofs.Fates.{unmade}
+use Rattle.reg_jobs.proofs.Fates.{unmade}
 use Rattle.reg_program.proofs.Opened.{made_stands}
 use Rattle.reg_program.proofs.files.made_over.Goals as goal
 

@@ -1,13 +1,13 @@
-use Rattle.std.proofs.Common.{None}
+use Rattle.std.specs.Prelude.{option_map}
 use Rattle.reg_program.proofs.Opened.{settled_opened, settled_not}
-use Rattle.reg_program.specs.Failing.{IsOpening}
+use Rattle.reg_jobs.specs.Failing.{IsOpening}
 use Rattle.reg_program.proofs.files.open_register.Goals as goal
 
 pub returns-clause-ok : goal.returns-clause-ok
 returns-clause-ok c =
     let found = c.in_ok-connection.ensures in
-    settled_opened (λ office. office.store) (λ left. left.0) _ (record { fresh = found.fresh; whole = found.opened }) c.found_over.result _ c.settled.ensures
-    _ None c.found_over.ensures.kept c.found_over.ensures.migrated c.found_over.ensures.clean c.found_over.ensures.told c.found_over.ensures.follows
+    settled_opened (λ office. office.store) (λ left. left.0) _ (record { fresh = found.fresh; whole = found.opened }) c.office_over.result _ c.settled.ensures
+    _ (option_map (λ told. told.now) c.args.signing) c.office_over.ensures.kept c.office_over.ensures.migrated c.office_over.ensures.clean c.office_over.ensures.told c.office_over.ensures.follows
 
 pub returns-clause-err : goal.returns-clause-err
-returns-clause-err c = settled_not IsOpening (λ left. left.0) c.found_over.result _ c.found_over.ensures.err c.settled.ensures
+returns-clause-err c = settled_not IsOpening (λ left. left.0) c.office_over.result _ c.office_over.ensures.err c.settled.ensures

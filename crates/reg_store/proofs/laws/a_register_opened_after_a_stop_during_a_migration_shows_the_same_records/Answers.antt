@@ -5,7 +5,7 @@ use Rattle.sqlite_trees.specs.Props.{Trees-set}
 use Rattle.sqlite.specs.Effect.{Database}
 use Rattle.sqlite.specs.Held.{state}
 use Rattle.sqlite.specs.State.{HasCleanDisk}
-use Rattle.reg_changes.proofs.Moving.{was_clean}
+use Rattle.reg_writing.proofs.Moving.{was_clean}
 use Rattle.reg_migration.specs.Older.{IsShownByOlder, ShowsOlder}
 use Rattle.reg_opening.specs.AtRest.{IsOpened}
 use Rattle.reg_tables.proofs.Staying.{kept_shows}

@@ -2,7 +2,7 @@
 use Rattle.std.proofs.Common.{◌⊎◌, inl, inr}
 use Rattle.sqlite.specs.Held.{state}
 use Rattle.sqlite.specs.State.{HasCleanDisk}
-use Rattle.reg_changes.proofs.Moving.{was_clean}
+use Rattle.reg_writing.proofs.Moving.{was_clean}
 use Rattle.reg_opening.specs.AtRest.{IsOpened}
 use Rattle.reg_store.specs.AtRest.{IsUntouched}
 use Rattle.reg_store.proofs.Resting.{opened_rests, older_rests}

@@ -1,7 +1,7 @@
 -- What a stop found before the call is what was committed, and so rows of the records that were shown; the rest is what the call may commit.
 use Rattle.std.proofs.Common.{inl, inr}
 use Rattle.sqlite.specs.Held.{state}
-use Rattle.reg_changes.proofs.Moving.{was_clean}
+use Rattle.reg_writing.proofs.Moving.{was_clean}
 use Rattle.reg_store.proofs.Resting.{live_at_rest}
 use Rattle.reg_store.proofs.laws.a_stop_leaves_the_schedule_before_or_after.Goals as goal
 

@@ -2,9 +2,8 @@ use Rattle.std.proofs.Common.{◌≡◌, ℕ, List, Some, sym, ap, ◌∙◌, ar
 use Rattle.std.specs.Prelude.{option_map}
 use Rattle.sqlite.specs.Held.{state}
 use Rattle.sqlite_value.specs.Order.{Row, column}
-use Rattle.reg_core.specs.Records.{Crl}
+use Rattle.reg_core.specs.Records.{Crl, crl_in}
 use Rattle.reg_tables.specs.Rows.{number}
-use Rattle.reg_tables.specs.Tables.{crl_in}
 use Rattle.reg_tables.proofs.Greatest.{none_past}
 use Rattle.reg_tables.proofs.Staying.{shows_register, shown_then, past_maps}
 use Rattle.reg_tables.proofs.CrlLemmas.{reading_bytes, bytes_none, bytes_one, same_blob, asked_bytes, bytes_few}

@@ -1,5 +1,5 @@
 use Rattle.std.proofs.Common.{ap}
-use Rattle.reg_office.specs.Answered.{IsAnswered}
+use Rattle.reg_calls.specs.Answered.{IsAnswered}
 use Rattle.reg_office.proofs.Leading.{answer_leads, table_fault}
 use Rattle.reg_office.proofs.calls.OfficeCalls.ask.Goals as goal
 

@@ -1,6 +1,6 @@
 use Rattle.std.proofs.Common.{ap}
 use Rattle.reg_calls.specs.Items.{items_of}
-use Rattle.reg_office.specs.Answered.{IsGiven}
+use Rattle.reg_calls.specs.Answered.{IsGiven}
 use Rattle.reg_office.proofs.Leading.{answer_leads}
 use Rattle.reg_office.proofs.calls.OfficeCalls.crl_bytes.Goals as goal
 

@@ -2,7 +2,7 @@ use Rattle.std.proofs.Common.{refl, rules}
 use Rattle.std.specs.Prelude.{Err}
 use Rattle.reg_core.specs.declared.refusal.Fault.TheVariants.{Refused}
 use Rattle.reg_core.specs.declared.refusal.Refusal.TheVariants.{ClockEnd}
-use Rattle.reg_office.specs.Answered.{IsAnswered}
+use Rattle.reg_calls.specs.Answered.{IsAnswered}
 use Rattle.reg_office.proofs.Composing.{looked_none}
 use Rattle.reg_office.proofs.Standing.{stands_looked}
 use Rattle.reg_office.proofs.office.Office.ask.Goals as goal

@@ -1,0 +1,43 @@
+-- How a job of the program ends.
+use Rattle.std.specs.Prelude.{ℕ, List, codes, Result, Ok, Err}
+use Rattle.reg_core.specs.Lines.{fault_line}
+use Rattle.reg_endings.specs.declared.failure.Failure.{Failure}
+use Rattle.reg_endings.specs.declared.failure.Failure.TheVariants as failure
+use Rattle.reg_tables.specs.declared.fault.StoreFault.{StoreFault}
+use Rattle.reg_tables.specs.declared.fault.StoreFault.TheVariants as stored
+use Rattle.reg_core.specs.declared.refusal.Fault.TheVariants as fault
+
+-- the line of standard error that tells a failure, without its LF
+unfoldable pub failure_line : Failure → List ℕ
+failure_line (failure.Fault fault) = fault_line fault
+failure_line failure.NotEmpty = codes "not-empty"
+failure_line failure.NotARegister = codes "not-a-register"
+failure_line failure.NewVersion = codes "new-version"
+failure_line failure.OldVersion = codes "old-version"
+failure_line failure.BadIssuer = codes "bad-issuer"
+failure_line failure.BadPolicy = codes "bad-policy"
+failure_line failure.BadSigner = codes "bad-signer"
+failure_line failure.Refused = codes "refused"
+failure_line failure.Broken = codes "broken"
+
+-- the exit status: 0 where the job is done, 3 where a reply at a counter was a refusal or a fault, 1 where the job is not done
+abbrev pub status : {T : Type 0} → Result T Failure → ℕ
+status (Ok done) = 0
+status (Err failure.Refused) = 3
+status (Err (failure.Fault fault)) = 1
+status (Err failure.NotEmpty) = 1
+status (Err failure.NotARegister) = 1
+status (Err failure.NewVersion) = 1
+status (Err failure.OldVersion) = 1
+status (Err failure.BadIssuer) = 1
+status (Err failure.BadPolicy) = 1
+status (Err failure.BadSigner) = 1
+status (Err failure.Broken) = 1
+
+-- a register that can't be made, opened or changed, as the end of a job
+abbrev pub store_failure : StoreFault → Failure
+store_failure stored.Memory = failure.Fault fault.Memory
+store_failure stored.Store = failure.Fault fault.Store
+store_failure stored.NotEmpty = failure.NotEmpty
+store_failure stored.NotARegister = failure.NotARegister
+store_failure stored.NewVersion = failure.NewVersion

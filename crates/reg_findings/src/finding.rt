@@ -1,0 +1,69 @@
+//! A row that breaks a rule.
+
+/// A table of a register.
+#[derive(Clone, Copy, PartialEq, Eq)]
+pub enum Table {
+    Office,
+    Subscriber,
+    Orders,
+    Cert,
+    Request,
+    Revocation,
+    Crl,
+    Standing,
+    Kept,
+    Listed,
+}
+
+/// What is wrong with a row.
+#[derive(Clone, Copy, PartialEq, Eq)]
+pub enum Why {
+    /// The last accepted moment is past the clock's end.
+    PastClockEnd,
+    /// There are more rows than the policy's cap.
+    AboveCap,
+    /// Its id, or its CRL number (RFC 5280 5.2.3), is not one more than the one before.
+    OutOfOrder,
+    /// An earlier row has the same name.
+    SameName,
+    /// An earlier row has the same serial number (RFC 5280 4.1.2.2).
+    SameSerial,
+    /// An earlier row fills the same order.
+    SameOrder,
+    /// An earlier row was led to by the same request.
+    SameRequest,
+    /// There is no such subscriber.
+    NoSubscriber,
+    /// There is no such order.
+    NoOrder,
+    /// There is no such certificate.
+    NoCertificate,
+    /// There is no such request, or it is for another serial number.
+    NoRequest,
+    /// Its moment is after the last accepted one.
+    AfterLast,
+    /// Its moment is after the certificate's end.
+    AfterEnd,
+    /// Its first CRL is none of the issued ones, nor the next.
+    NoFirst,
+    /// A CRL before its first is after it, or one from its first on before it.
+    WrongFirst,
+    /// Its thisUpdate (RFC 5280 5.1.2.4) is before that of the CRL before.
+    BeforeThePrevious,
+    /// It does not follow from the records, or the row of a serial number before its own is missing.
+    NotKept,
+    /// Its bytes are not those of the CRL of what the records list (RFC 5280 5.1).
+    OtherBytes,
+    /// The counts are not those of the letters.
+    WrongCounts,
+    /// A value in it is none that a register writes.
+    NoValue,
+}
+
+/// A row that breaks a rule: its place in its table, from 1 on, and why.
+#[derive(Clone, Copy, PartialEq, Eq)]
+pub struct Broken {
+    pub table: Table,
+    pub row: u64,
+    pub why: Why,
+}

@@ -1,0 +1,335 @@
+-- A script that is run line by line.
+use Rattle.std.proofs.Common.{◌≡◌, ◌≢◌, ◌⊎◌, ℕ, ◌+◌, ◌-◌, ◌<◌, ◌≤◌, Bool, true, false, List, [], ◌∷◌, ◌++◌, length, take, drop, IsTrue, Option, Some, None, Result, Ok, Err, refl, sym, ap, ◌∙◌, subst, arith, inl, inr, length-append, length-take, length-drop, append-nil, append_assoc}
+use Rattle.std.specs.Io.KnownBytes.{Appends, Consumes, IsAtEnd}
+use Rattle.std.specs.List.{AllByRecursion, concat}
+use Rattle.std.proofs.lemmas.Bool.{false≢true}
+use Rattle.std.proofs.KnownBytes.{Appends-nil, Appends-trans, Consumes-nil, Consumes-trans}
+use Rattle.reg_core.specs.Records.{Records}
+use Rattle.reg_core.specs.declared.refusal.Fault.TheVariants as fault
+use Rattle.reg_crl.specs.Signing.{Identity}
+use Rattle.reg_calls.specs.Steps.{Signs}
+use Rattle.reg_calls.specs.Leads.{Leads}
+use Rattle.reg_endings.specs.declared.failure.Failure.{Failure}
+use Rattle.reg_endings.specs.declared.failure.Failure.TheVariants as failure
+use Rattle.reg_lines.specs.Script.{HasNoLf, IsWhole}
+use Rattle.reg_jobs.proofs.Pieces.{AreWhole, concat_push, turned, whole_at}
+use Rattle.reg_jobs.proofs.Talking.{all_push}
+use Rattle.reg_jobs.specs.Asking.{IsAccepted, IsOfTalk}
+use Rattle.reg_jobs.specs.Exchanges.{Entry, LineRuns}
+use Rattle.reg_jobs.specs.Lined.{AreLines, EndsOrNot, EndsRefused, Fails, IsLine, LineBy, LinesEnd, NextEnds, TellEnds, TellsLast, TellsNot, TellsWhole}
+use Rattle.reg_wire.proofs.PublicLaws.{answered_push, cut_at_mark, front_of_second, held_now, no_byte}
+use Rattle.reg_wire.specs.Fill.{FillsShort, FillsTo}
+use Rattle.reg_wire.specs.Put.{AppendsFront}
+use Rattle.reg_wire.specs.Run.{Answered}
+use Rattle.reg_wire.specs.declared.fill.Reached.TheVariants.{Mark, Full, End}
+
+-- ---- lines
+
+whole_push : (lines : List (List ℕ)) (line : List ℕ) → AreWhole lines → IsWhole line → AreWhole (lines ++ line ∷ [])
+whole_push [] line all one = (one, tt)
+whole_push (first ∷ rest) line all one = (all.0, whole_push rest line all.1 one)
+
+are_lines : (lines : List (List ℕ)) → AreWhole lines → AreLines lines
+are_lines [] all = tt
+are_lines (line ∷ []) all = inl all.0
+are_lines (line ∷ next ∷ rest) all = (all.0, are_lines (next ∷ rest) all.1)
+
+lines_push : (lines : List (List ℕ)) (line : List ℕ) → AreWhole lines → IsLine line → AreLines (lines ++ line ∷ [])
+lines_push [] line all is = is
+lines_push (first ∷ []) line all is = (all.0, is)
+lines_push (first ∷ next ∷ rest) line all is = (all.0, lines_push (next ∷ rest) line all.1 is)
+
+-- what was taken behind what was held, cut behind one line more
+joined : (lines : List (List ℕ)) (held took line rest : List ℕ) → held ++ took ≡ line ++ rest
+    → (concat lines ++ held) ++ took ≡ concat (lines ++ line ∷ []) ++ rest
+joined lines held took line rest cut =
+    append_assoc (concat lines) held took ∙ ap (λ l. concat lines ++ l) cut
+    ∙ sym (append_assoc (concat lines) line rest) ∙ ap (λ l. l ++ rest) (sym (concat_push lines line))
+
+-- the same where that is the last line
+last_joined : (lines : List (List ℕ)) (held took : List ℕ) → (concat lines ++ held) ++ took ≡ concat (lines ++ (held ++ took) ∷ [])
+last_joined lines held took = append_assoc (concat lines) held took ∙ sym (concat_push lines (held ++ took))
+
+-- and where there is none
+none_joined : (lines : List (List ℕ)) (held took : List ℕ) → held ++ took ≡ [] → (concat lines ++ held) ++ took ≡ concat lines
+none_joined lines held took none = append_assoc (concat lines) held took ∙ ap (λ l. concat lines ++ l) none ∙ append-nil (concat lines)
+
+module _ {H : Type 0} (tells : H → List ℕ → List ℕ → H → Type 0) (is_strict : Bool) where
+  -- ---- one line
+
+  pub tells_whole : (s t : H) (input left out out' : Option (List ℕ)) (before after rotated : List ℕ) (held end now : ℕ)
+      → FillsTo (10 ∷ []) input left before after held (Mark end now) → rotated ≡ drop end after ++ take end after
+      → TellEnds tells is_strict s t out out' (take end after) (Ok tt)
+      → (now - end ≤ length rotated) × TellsWhole tells is_strict s t out out' input left (take held before) (take (now - end) rotated)
+  tells_whole s t input left out out' before after rotated held end now to is told =
+      let within = to.fills.within in
+      let count = to.count in
+      let fits : now ≤ length after = omega arith in
+      let ordered : end ≤ now = to.rests.0 in
+      let moved : take (now - end) rotated ≡ drop end (take now after) = ap (take (now - end)) is ∙ turned after end now ordered fits in
+      let long : length rotated ≡ length (drop end after) + length (take end after) = ap length is ∙ length-append (drop end after) (take end after) in (
+        omega (arith, long, length-take end after, length-drop end after),
+        record {
+          took = to.took;
+          line = take end after;
+          consumed = to.fills.consumed;
+          cut = cut_at_mark (10 ∷ []) input left before after held end now to ∙ ap (λ l. take end after ++ l) (sym moved);
+          whole = whole_at input left before after held end now to;
+          told = told;
+        },
+      )
+
+  pub tells_not_whole : (s t : H) (input left out out' : Option (List ℕ)) (before after : List ℕ) (held end now : ℕ) (why : Failure)
+      → FillsTo (10 ∷ []) input left before after held (Mark end now) → TellEnds tells is_strict s t out out' (take end after) (Err why)
+      → TellsNot tells is_strict s t out out' input left (take held before) why
+  tells_not_whole s t input left out out' before after held end now why to told = record {
+    took = to.took;
+    consumed = to.fills.consumed;
+    failed = elim told [
+      | inl quiet ↦ inl quiet
+      | inr (reply, fails) ↦
+          inr (take end after, drop end (take now after), reply, cut_at_mark (10 ∷ []) input left before after held end now to, inl (whole_at input left before after held end now to), fails)
+    ];
+  }
+
+  pub tells_none : (s : H) (input left out : Option (List ℕ)) (before after : List ℕ) (held : ℕ)
+      → FillsTo (10 ∷ []) input left before after held (End 0) → TellsLast tells is_strict s s out out input left (take held before)
+  tells_none s input left out before after held to = record {
+    took = to.took;
+    consumed = to.fills.consumed;
+    at_end = to.rests.2;
+    told = inl (sym (held_now (10 ∷ []) input left before after held (End 0) to), refl, refl);
+  }
+
+  last_some : (after : List ℕ) (now : ℕ) → now < length after → now ≢ 0 → 0 < length (take now after)
+  last_some after now room some = omega (arith, length-take now after)
+
+  pub tells_last : (s t : H) (input left out out' : Option (List ℕ)) (before after : List ℕ) (held now : ℕ)
+      → FillsTo (10 ∷ []) input left before after held (End now) → now ≢ 0 → TellEnds tells is_strict s t out out' (take now after) (Ok tt)
+      → TellsLast tells is_strict s t out out' input left (take held before)
+  tells_last s t input left out out' before after held now to some told =
+      let same = held_now (10 ∷ []) input left before after held (End now) to in record {
+        took = to.took;
+        consumed = to.fills.consumed;
+        at_end = to.rests.2;
+        told = inr (
+          subst HasNoLf same (no_byte 10 (take now after) to.rests.1),
+          subst (λ (l : List ℕ). 0 < length l) same (last_some after now to.rests.0 some),
+          subst (λ l. TellEnds tells is_strict s t out out' l (Ok tt)) same told,
+        );
+      }
+
+  pub tells_not_last : (s t : H) (input left out out' : Option (List ℕ)) (before after : List ℕ) (held now : ℕ) (why : Failure)
+      → FillsTo (10 ∷ []) input left before after held (End now) → now ≢ 0 → TellEnds tells is_strict s t out out' (take now after) (Err why)
+      → TellsNot tells is_strict s t out out' input left (take held before) why
+  tells_not_last s t input left out out' before after held now why to some told =
+      let same = held_now (10 ∷ []) input left before after held (End now) to in record {
+        took = to.took;
+        consumed = to.fills.consumed;
+        failed = elim told [
+          | inl quiet ↦ inl quiet
+          | inr (reply, fails) ↦
+              inr (
+                take now after,
+                [],
+                reply,
+                sym same ∙ sym (append-nil (take now after)),
+                inr (no_byte 10 (take now after) to.rests.1, last_some after now to.rests.0 some),
+                fails,
+              )
+        ];
+      }
+
+  pub reads_full : (s : H) (input left out : Option (List ℕ)) (before after : List ℕ) (held : ℕ)
+      → FillsTo (10 ∷ []) input left before after held Full → TellsNot tells is_strict s s out out input left (take held before) (failure.Fault fault.Read)
+  reads_full s input left out before after held to =
+      record { took = to.took; consumed = to.fills.consumed; failed = inl (inl refl, refl, refl) }
+
+  pub reads_short : (s : H) (input left out : Option (List ℕ)) (before after : List ℕ) (held : ℕ)
+      → FillsShort (10 ∷ []) input left before after held → TellsNot tells is_strict s s out out input left (take held before) (failure.Fault fault.Read)
+  reads_short s input left out before after held to =
+      record { took = to.took; consumed = to.fills.consumed; failed = inl (inl refl, refl, refl) }
+
+  -- ---- one line after the other
+
+  -- the lines that were run so far, and the bytes that are held behind them
+  pub record Going (s t : H) (input input' out out' : Option (List ℕ)) (held : List ℕ) : Type 0 where
+    pub lines : List (List ℕ)
+    pub replies : List (List ℕ)
+    pub whole : AreWhole lines
+    pub consumed : Consumes input input' (concat lines ++ held)
+    pub answered : Answered tells s lines replies t
+    pub said : Appends out out' (concat replies)
+    pub passed : IsTrue is_strict → AllByRecursion IsAccepted replies
+
+  pub going_start : (s : H) (input out : Option (List ℕ)) → Going s s input input out out []
+  going_start s input out = record {
+    lines = [];
+    replies = [];
+    whole = tt;
+    consumed = Consumes-nil input;
+    answered = refl;
+    said = Appends-nil out;
+    passed = λ strict. tt;
+  }
+
+  -- a reply more was said
+  said_more : (out middle out' : Option (List ℕ)) (replies : List (List ℕ)) (reply : List ℕ) → Appends out middle (concat replies)
+      → Appends middle out' reply → Appends out out' (concat (replies ++ reply ∷ []))
+  said_more out middle out' replies reply first next =
+      subst (Appends out out') (sym (concat_push replies reply)) (Appends-trans out middle out' (concat replies) reply first next)
+
+  pub going_more : (s m t : H) (input between left out middle out' : Option (List ℕ)) (held rest : List ℕ)
+      → Going s m input between out middle held → TellsWhole tells is_strict m t middle out' between left held rest
+      → Going s t input left out out' rest
+  going_more s m t input between left out middle out' held rest g told =
+      let (reply, step, said, passes) = told.told in record {
+        lines = g.lines ++ told.line ∷ [];
+        replies = g.replies ++ reply ∷ [];
+        whole = whole_push g.lines told.line g.whole told.whole;
+        consumed = subst (Consumes input left) (joined g.lines held told.took told.line rest told.cut)
+            (Consumes-trans input between left (concat g.lines ++ held) told.took g.consumed told.consumed);
+        answered = answered_push tells s m t g.lines g.replies told.line reply g.answered step;
+        said = said_more out middle out' g.replies reply g.said said;
+        passed = λ strict. (all_push g.replies reply).1 (g.passed strict, passes strict);
+      }
+
+  -- ---- how it ends
+
+  abbrev pub Ran : H → H → Option (List ℕ) → Option (List ℕ) → Option (List ℕ) → Option (List ℕ) → Result (Unit {0}) Failure → Type 0
+  Ran s t input input' out out' result =
+      (lines : List (List ℕ)) × (replies : List (List ℕ)) × Answered tells s lines replies t × LinesEnd is_strict lines replies input input' out out' result
+
+  pub going_ended : (s m t : H) (input between left out middle out' : Option (List ℕ)) (held : List ℕ)
+      → Going s m input between out middle held → TellsLast tells is_strict m t middle out' between left held
+      → Ran s t input left out out' (Ok tt)
+  going_ended s m t input between left out middle out' held g last =
+      let consumed = Consumes-trans input between left (concat g.lines ++ held) last.took g.consumed last.consumed in
+      elim last.told [
+        | inl (none, same, quiet) ↦ (
+          g.lines,
+          g.replies,
+          subst (λ v. Answered tells s g.lines g.replies v) (sym same) g.answered,
+          (
+            are_lines g.lines g.whole,
+            subst (Consumes input left) (none_joined g.lines held last.took none) consumed,
+            last.at_end,
+            subst (λ o. Appends out o (concat g.replies)) (sym quiet) g.said,
+            g.passed,
+          ),
+        )
+        | inr (free, some, (reply, step, said, passes)) ↦ (
+          g.lines ++ (held ++ last.took) ∷ [],
+          g.replies ++ reply ∷ [],
+          answered_push tells s m t g.lines g.replies (held ++ last.took) reply g.answered step,
+          (
+            lines_push g.lines (held ++ last.took) g.whole (inr (free, some)),
+            subst (Consumes input left) (last_joined g.lines held last.took) consumed,
+            last.at_end,
+            said_more out middle out' g.replies reply g.said said,
+            (λ strict. (all_push g.replies reply).1 (g.passed strict, passes strict)),
+          ),
+        )
+      ]
+
+  -- no line is told any more
+  stopped : (s m t : H) (input between left out middle out' : Option (List ℕ)) (held took : List ℕ) (why : Failure)
+      → Going s m input between out middle held → Consumes between left took → IsOfTalk why → t ≡ m → out' ≡ middle
+      → Ran s t input left out out' (Err why)
+  stopped s m t input between left out middle out' held took why g more talk same quiet = (
+    g.lines,
+    g.replies,
+    subst (λ v. Answered tells s g.lines g.replies v) (sym same) g.answered,
+    (
+      are_lines g.lines g.whole,
+      (
+        held ++ took,
+        subst (Consumes input left) (append_assoc (concat g.lines) held took)
+            (Consumes-trans input between left (concat g.lines ++ held) took g.consumed more),
+      ),
+      inr (talk, inl (subst (λ o. Appends out o (concat g.replies)) (sym quiet) g.said)),
+    ),
+  )
+
+  pub going_failed : (s m t : H) (input between left out middle out' : Option (List ℕ)) (held : List ℕ) (why : Failure)
+      → Going s m input between out middle held → TellsNot tells is_strict m t middle out' between left held why
+      → Ran s t input left out out' (Err why)
+  going_failed s m t input between left out middle out' held why g not =
+      elim not.failed [
+        | inl (talk, same, quiet) ↦ stopped s m t input between left out middle out' held not.took why g not.consumed talk same quiet
+        | inr (line, rest, reply, cut, is, (step, how)) ↦ (
+          g.lines ++ line ∷ [],
+          g.replies ++ reply ∷ [],
+          answered_push tells s m t g.lines g.replies line reply g.answered step,
+          (
+            lines_push g.lines line g.whole is,
+            (
+              rest,
+              subst (Consumes input left) (joined g.lines held not.took line rest cut)
+                  (Consumes-trans input between left (concat g.lines ++ held) not.took g.consumed not.consumed),
+            ),
+            elim how [
+              | inl (refused, strict, said, bad) ↦
+                  inl (
+                    refused,
+                    strict,
+                    said_more out middle out' g.replies reply g.said said,
+                    record { accepted = g.replies; refused = reply; parts = refl; each = g.passed strict; last = bad },
+                  )
+              | inr (talk, inl said) ↦ inr (talk, inl (said_more out middle out' g.replies reply g.said said))
+              | inr (talk, inr front) ↦
+                  inr (
+                    talk,
+                    inr (subst (AppendsFront out out') (sym (concat_push g.replies reply))
+                        (front_of_second out middle out' (concat g.replies) reply g.said front)),
+                  )
+            ],
+          ),
+        )
+      ]
+
+  -- there was no memory for a line
+  pub no_room : (s : H) (input out : Option (List ℕ)) → Ran s s input input out out (Err (failure.Fault fault.Memory))
+  no_room s input out =
+      stopped s s s input input input out out out [] [] (failure.Fault fault.Memory) (going_start s input out) (Consumes-nil input) (inr (inr refl)) refl refl
+
+  -- the most lines were run, and bytes are held behind them
+  pub going_over : (s t : H) (input left out out' : Option (List ℕ)) (held : List ℕ) → Going s t input left out out' held
+      → Ran s t input left out out' (Err (failure.Fault fault.Read))
+  going_over s t input left out out' held g =
+      stopped s t t input left left out out' out' held [] (failure.Fault fault.Read) g (Consumes-nil left) (inl refl) refl refl
+
+  -- the most lines were run, nothing is held behind them, and a byte more was asked for
+  pub going_checked : (s t : H) (input between left out out' : Option (List ℕ)) (held : List ℕ) (result : Result (Unit {0}) Failure)
+      → Going s t input between out out' held → held ≡ [] → EndsOrNot between left result → Ran s t input left out out' result
+  going_checked s t input between left out out' held (Ok done) g none ends = (
+    g.lines,
+    g.replies,
+    g.answered,
+    (
+      are_lines g.lines g.whole,
+      subst (Consumes input left) (none_joined g.lines held [] (append-nil held ∙ none))
+          (Consumes-trans input between left (concat g.lines ++ held) [] g.consumed ends.0),
+      ends.1,
+      g.said,
+      g.passed,
+    ),
+  )
+  going_checked s t input between left out out' held (Err why) g none (is, took, consumed) =
+      stopped s t t input between left out out' out' held took why g consumed (inl is) refl refl
+
+-- ---- lines at the moment of the clock, or at their own
+
+module _ {S : Type 0} (is_clean : S → Type 0) (stands : Identity → S → Records → Type 0) (signs : Signs) (told : ℕ → Type 0) (s t : S)
+    (lines replies : List (List ℕ)) where
+  -- a run of lines, each by this
+  abbrev pub Runs : (Identity → Records → List ℕ → List ℕ → Records → Type 0) → Type 0
+  Runs line = Leads is_clean stands (λ identity before after. Answered (line identity) before lines replies after) s t
+
+  pub clocked : (is_clocked : Bool) → is_clocked ≡ true → Runs (Entry signs told) → Runs (LineBy is_clocked signs told)
+  clocked true is moved = moved
+  clocked false is moved = absurd (false≢true is)
+
+  pub unclocked : (is_clocked : Bool) → is_clocked ≡ false → Runs (LineRuns signs) → Runs (LineBy is_clocked signs told)
+  unclocked true is moved = absurd (false≢true (sym is))
+  unclocked false is moved = moved

@@ -1,0 +1,37 @@
+use Rattle.std.proofs.Common.{inr}
+use Rattle.reg_jobs.proofs.LineByLine.{clocked, unclocked}
+use Rattle.reg_jobs.proofs.lining.script_by_lines.Goals as goal
+
+pub returns-then-way : goal.returns-then-way
+returns-then-way g c =
+    let ran = c.run_clocked-ran.ensures in
+    inr (
+      ran.0,
+      ran.1,
+      record {
+        first = c.in_ok-office.office;
+        last = c.run_clocked-ran.new.opened.office;
+        between = c.open_to_sign.new.self;
+        opened = c.in_ok-office.ensures.ok;
+        moves = clocked g.P.Opened.Keeper.is_clean g.P.Opened.Keeper.stands g.P.Opened.Keeper.signs g.F.Front.told _ _ ran.0 ran.1 c.args.way.is_clocked c.if-way.true ran.2;
+        closed = c.close.ensures;
+      },
+      ran.3,
+    )
+
+pub returns : goal.returns
+returns g c =
+    let ran = c.run_unclocked-ran.ensures in
+    inr (
+      ran.0,
+      ran.1,
+      record {
+        first = c.in_ok-office.office;
+        last = c.run_unclocked-ran.new.lined.office;
+        between = c.open_to_sign.new.self;
+        opened = c.in_ok-office.ensures.ok;
+        moves = unclocked g.P.Opened.Keeper.is_clean g.P.Opened.Keeper.stands g.P.Opened.Keeper.signs g.F.Front.told _ _ ran.0 ran.1 c.args.way.is_clocked c.if-way.false ran.2;
+        closed = c.close-2.ensures;
+      },
+      ran.3,
+    )

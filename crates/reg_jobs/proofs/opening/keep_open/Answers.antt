@@ -1,0 +1,36 @@
+use Rattle.std.proofs.Common.{[], inl, inr, refl}
+use Rattle.reg_faces.proofs.Steps.{stays}
+use Rattle.reg_jobs.specs.Exchanges.{Entry, Exchange}
+use Rattle.reg_jobs.proofs.Fates.{unbound}
+use Rattle.reg_jobs.proofs.Peers.{exchanges_move}
+use Rattle.reg_jobs.proofs.opening.keep_open.Goals as goal
+
+pub returns-in-Err : goal.returns-in-Err
+returns-in-Err g c = (
+  [],
+  [],
+  stays g.K.Keeper.is_clean g.K.Keeper.stands _ _ refl,
+  inl (unbound c.in-Err.why c.in-Err.ensures.err, refl),
+)
+
+pub returns : goal.returns
+returns g c =
+    let ran = c.serve_hub.ensures in (
+      ran.0,
+      ran.1,
+      exchanges_move
+          (λ opened. g.K.Keeper.is_clean opened.office)
+          (λ identity opened records. g.K.Keeper.stands identity opened.office records)
+          _
+          _
+          (Exchange g.K.Keeper.signs g.F.Front.told)
+          (Entry g.K.Keeper.signs g.F.Front.told)
+          (λ s came text t moved. moved)
+          (λ s came text t moved. moved)
+          c.args.opened.now
+          c.serve_hub.new.handler
+          ran.0
+          ran.1
+          ran.2,
+      inr (c.in-Ok.ensures.ok.0, c.in-Ok.ensures.ok.1, ran.3),
+    )

@@ -1,0 +1,36 @@
+use Rattle.std.proofs.Common.{[], inl, inr, refl}
+use Rattle.reg_faces.proofs.Steps.{stays}
+use Rattle.reg_jobs.specs.Exchanges.{Exchange, NoEntry}
+use Rattle.reg_jobs.proofs.Fates.{unbound}
+use Rattle.reg_jobs.proofs.Peers.{exchanges_move}
+use Rattle.reg_jobs.proofs.serving.serve_desk.Goals as goal
+
+pub returns-in-Err : goal.returns-in-Err
+returns-in-Err g c = (
+  [],
+  [],
+  stays g.K.Keeper.is_clean g.K.Keeper.stands _ _ refl,
+  inl (unbound c.in-Err.why c.in-Err.ensures.err, refl),
+)
+
+pub returns : goal.returns
+returns g c =
+    let ran = rw c.from.ensures at c.serve_hub.ensures in (
+      ran.0,
+      ran.1,
+      exchanges_move
+          (λ served. g.K.Keeper.is_clean served.office)
+          (λ identity served records. g.K.Keeper.stands identity served.office records)
+          _
+          _
+          (Exchange g.K.Keeper.signs g.F.Front.told)
+          (λ identity. NoEntry)
+          (λ s came text t moved. moved)
+          (λ s came text t never. absurd never)
+          c.args.served.now
+          c.serve_hub.new.handler
+          ran.0
+          ran.1
+          ran.2,
+      inr (c.in-Ok.ensures.ok, ran.3),
+    )

@@ -1,0 +1,66 @@
+-- What a register is asked from outside: requests of peers, and lines at counters.
+use Rattle.std.specs.Prelude.{◌≡◌, ◌≢◌, ◌⊎◌, ℕ, List, ◌∷◌, [], ◌++◌, Option, Some, Result, Ok, Err, IfErr}
+use Rattle.reg_core.specs.Calendar.{moment_text}
+use Rattle.reg_core.specs.Lines.{fault_line}
+use Rattle.reg_core.specs.Records.{Records}
+use Rattle.reg_core.specs.declared.refusal.Fault.{Fault}
+use Rattle.reg_core.specs.declared.refusal.Fault.TheVariants as fault
+use Rattle.reg_crl.specs.Signing.{Identity}
+use Rattle.reg_faces.specs.Faces.{Lines}
+use Rattle.reg_calls.specs.Steps.{Signs, Runs, Asks, Ocsps, Crls}
+use Rattle.reg_heads.specs.Response.{memory_text}
+use Rattle.reg_http.specs.Served.{ServingEnds}
+use Rattle.reg_lines.specs.Script.{ScriptEnds}
+
+-- the answer to a request: what was written, where that is the whole response; else the constant text of want of memory, or nothing where
+-- there was no memory for that either; nothing where no whole request came. So no answer is cut.
+abbrev pub Responded : Result (Unit {0}) Fault → List ℕ → List ℕ → Type 0
+Responded (Ok done) written text = text ≡ written
+Responded (Err fault.Read) written text = text ≡ []
+Responded (Err fault.Memory) written text = (text ≡ memory_text) ⊎ (text ≡ [])
+Responded (Err fault.Write) written text = (text ≡ memory_text) ⊎ (text ≡ [])
+Responded (Err fault.Store) written text = (text ≡ memory_text) ⊎ (text ≡ [])
+Responded (Err fault.Signer) written text = (text ≡ memory_text) ⊎ (text ≡ [])
+Responded (Err (fault.Refused why)) written text = (text ≡ memory_text) ⊎ (text ≡ [])
+
+-- One HTTP exchange (RFC 9112) at a moment: the bytes that came from the peer, and the text that answers them. Where they were no whole
+-- request, or there was no memory for it, the records are as they were.
+pub record ExchangeAt (signs : Signs) (now : ℕ) (identity : Identity) (before : Records) (request text : List ℕ) (after : Records) : Type 0 where
+  pub left : List ℕ
+  pub written : List ℕ
+  pub result : Result (Unit {0}) Fault
+  pub ends : ServingEnds (Runs signs identity) Asks (Ocsps signs identity) Crls now before after (Some request) (Some left) (Some []) (Some written) result
+  pub silent : IfErr result (λ why. why ≢ fault.Write → after ≡ before)
+  pub responded : Responded result written text
+
+-- a line of a script, which is a line at a counter with a moment before it
+abbrev pub line_at : ℕ → List ℕ → List ℕ
+line_at now line = moment_text now ++ 32 ∷ line
+
+-- the reply to a line: what was written; where the run ended by a fault, the line of that, or nothing where there was no memory for it
+abbrev pub Replied : Result (Unit {0}) Fault → List ℕ → List ℕ → Type 0
+Replied (Ok done) written text = text ≡ written
+Replied (Err why) written text = (text ≡ fault_line why ++ 10 ∷ []) ⊎ (text ≡ [])
+
+-- One line: it ran as the script of that line alone.
+pub record LineRuns (signs : Signs) (identity : Identity) (before : Records) (line text : List ℕ) (after : Records) : Type 0 where
+  pub left : List ℕ
+  pub written : List ℕ
+  pub result : Result (Unit {0}) Fault
+  pub ends : ScriptEnds (Lines signs identity) (λ bytes. Some bytes) (λ bytes. Some bytes) before after line left [] written result
+  pub replied : Replied result written text
+
+-- one line without a moment, at a moment
+abbrev pub EntryAt : Signs → ℕ → Identity → Records → List ℕ → List ℕ → Records → Type 0
+EntryAt signs now identity before line text after = LineRuns signs identity before (line_at now line) text after
+
+-- the same at a moment that a clock told
+abbrev pub Exchange : Signs → (ℕ → Type 0) → Identity → Records → List ℕ → List ℕ → Records → Type 0
+Exchange signs told identity before request text after = (now : ℕ) × told now × ExchangeAt signs now identity before request text after
+
+abbrev pub Entry : Signs → (ℕ → Type 0) → Identity → Records → List ℕ → List ℕ → Records → Type 0
+Entry signs told identity before line text after = (now : ℕ) × told now × EntryAt signs now identity before line text after
+
+-- where there is no counter, no line comes
+abbrev pub NoEntry : {S : Type 0} → S → List ℕ → List ℕ → S → Type 0
+NoEntry before line text after = ⊥

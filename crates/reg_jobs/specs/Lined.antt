@@ -1,0 +1,105 @@
+-- A script that is run line by line.
+use Rattle.std.specs.Prelude.{◌≡◌, ◌⊎◌, ℕ, ◌≤◌, ◌<◌, Bool, true, false, List, [], ◌∷◌, ◌++◌, length, take, IsTrue, Option, Some, None, Result, Ok, Err}
+use Rattle.std.specs.Io.KnownBytes.{Appends, Consumes, IsAtEnd}
+use Rattle.std.specs.List.{AllByRecursion, concat}
+use Rattle.reg_core.specs.Records.{Records}
+use Rattle.reg_core.specs.declared.refusal.Fault.TheVariants as fault
+use Rattle.reg_crl.specs.Signing.{Identity}
+use Rattle.reg_calls.specs.Steps.{Signs}
+use Rattle.reg_endings.specs.declared.failure.Failure.{Failure}
+use Rattle.reg_endings.specs.declared.failure.Failure.TheVariants as failure
+use Rattle.reg_lines.specs.Script.{HasNoLf, IsWhole}
+use Rattle.reg_jobs.specs.Asking.{IsAccepted, IsOfTalk}
+use Rattle.reg_jobs.specs.Exchanges.{Entry, LineRuns}
+use Rattle.reg_wire.specs.Put.{AppendsFront}
+
+-- one line: at a moment that a clock told, or at its own
+abbrev pub LineBy : Bool → Signs → (ℕ → Type 0) → Identity → Records → List ℕ → List ℕ → Records → Type 0
+LineBy true signs told = Entry signs told
+LineBy false signs told = LineRuns signs
+
+-- some bytes with LF at their end alone, or without one
+abbrev pub IsLine : List ℕ → Type 0
+IsLine line = IsWhole line ⊎ (HasNoLf line × (0 < length line))
+
+-- lines of an input: each but the last ends with its LF
+abbrev pub AreLines : List (List ℕ) → Type 0
+AreLines [] = Unit {0}
+AreLines (line ∷ []) = IsLine line
+AreLines (line ∷ next ∷ rest) = IsWhole line × AreLines (next ∷ rest)
+
+-- replies of which the last is the first that is a refusal or a fault
+pub record EndsRefused (replies : List (List ℕ)) : Type 0 where
+  pub accepted : List (List ℕ)
+  pub refused : List ℕ
+  pub parts : replies ≡ accepted ++ refused ∷ []
+  pub each : AllByRecursion IsAccepted accepted
+  pub last : ¬ IsAccepted refused
+
+-- where a script is strict: a reply that lets it go on, and one that ends it
+abbrev pub Passed : Bool → List ℕ → Result (Unit {0}) Failure → Type 0
+Passed is_strict reply (Ok done) = IsTrue is_strict → IsAccepted reply
+Passed is_strict reply (Err why) = (why ≡ failure.Refused) × IsTrue is_strict × ¬ IsAccepted reply
+
+-- A handler that is told lines, and what was written: before and after.
+module _ {H : Type 0} (tells : H → List ℕ → List ℕ → H → Type 0) (is_strict : Bool) (s t : H) (out out' : Option (List ℕ)) where
+  -- it ends after this line was told and this reply came
+  abbrev pub Fails : List ℕ → List ℕ → Failure → Type 0
+  Fails line reply why = tells s line reply t
+      × (((why ≡ failure.Refused) × IsTrue is_strict × Appends out out' reply × (¬ IsAccepted reply))
+      ⊎ (IsOfTalk why × (Appends out out' reply ⊎ AppendsFront out out' reply)))
+
+  -- one line
+  abbrev pub TellEnds : List ℕ → Result (Unit {0}) Failure → Type 0
+  TellEnds line (Ok done) = (reply : List ℕ) × tells s line reply t × Appends out out' reply × (IsTrue is_strict → IsAccepted reply)
+  TellEnds line (Err why) = (IsOfTalk why × (t ≡ s) × (out' ≡ out)) ⊎ ((reply : List ℕ) × Fails line reply why)
+
+  -- What was read: before and after.
+  module _ (input input' : Option (List ℕ)) where
+    -- the next line of the input, of the bytes that were held and those that were taken; the others are held behind it
+    pub record TellsWhole (held left : List ℕ) : Type 0 where
+      pub took : List ℕ
+      pub line : List ℕ
+      pub consumed : Consumes input input' took
+      pub cut : held ++ took ≡ line ++ left
+      pub whole : IsWhole line
+      pub told : TellEnds line (Ok tt)
+
+    -- the input is at its end, and the bytes that are left were a line that was told, or there are none
+    pub record TellsLast (held : List ℕ) : Type 0 where
+      pub took : List ℕ
+      pub consumed : Consumes input input' took
+      pub at_end : IsAtEnd input'
+      pub told : ((held ++ took ≡ []) × (t ≡ s) × (out' ≡ out))
+          ⊎ (HasNoLf (held ++ took) × (0 < length (held ++ took)) × TellEnds (held ++ took) (Ok tt))
+
+    -- it ends early: no line was told, or this one was
+    pub record TellsNot (held : List ℕ) (why : Failure) : Type 0 where
+      pub took : List ℕ
+      pub consumed : Consumes input input' took
+      pub failed : (IsOfTalk why × (t ≡ s) × (out' ≡ out))
+          ⊎ ((line left reply : List ℕ) × (held ++ took ≡ line ++ left) × IsLine line × Fails line reply why)
+
+    -- the next line, with what is held at the front of the buffer before and after
+    abbrev pub NextEnds : List ℕ → List ℕ → Result (Option ℕ) Failure → Type 0
+    NextEnds held buffer (Ok (Some left)) = (left ≤ length buffer) × TellsWhole held (take left buffer)
+    NextEnds held buffer (Ok None) = TellsLast held
+    NextEnds held buffer (Err why) = TellsNot held why
+
+-- These lines of the input were run, and these are their replies. Done: the input was read to its end, all its lines were run, and all
+-- replies were said; where the script is strict, none was a refusal or a fault. Refused: the last reply is the first that was one, and
+-- no line after it was run. At a fault: all replies were said, or of the last one a front.
+abbrev pub LinesEnd : Bool → List (List ℕ) → List (List ℕ) → Option (List ℕ) → Option (List ℕ) → Option (List ℕ) → Option (List ℕ)
+    → Result (Unit {0}) Failure → Type 0
+LinesEnd is_strict lines replies input input' out out' (Ok done) =
+    AreLines lines × Consumes input input' (concat lines) × IsAtEnd input' × Appends out out' (concat replies)
+    × (IsTrue is_strict → AllByRecursion IsAccepted replies)
+LinesEnd is_strict lines replies input input' out out' (Err why) =
+    AreLines lines × ((left : List ℕ) × Consumes input input' (concat lines ++ left))
+    × (((why ≡ failure.Refused) × IsTrue is_strict × Appends out out' (concat replies) × EndsRefused replies)
+    ⊎ (IsOfTalk why × (Appends out out' (concat replies) ⊎ AppendsFront out out' (concat replies))))
+
+-- the input is at its end and nothing was taken; or a byte was, or a read failed
+abbrev pub EndsOrNot : Option (List ℕ) → Option (List ℕ) → Result (Unit {0}) Failure → Type 0
+EndsOrNot input input' (Ok done) = Consumes input input' [] × IsAtEnd input'
+EndsOrNot input input' (Err why) = (why ≡ failure.Fault fault.Read) × (took : List ℕ) × Consumes input input' took

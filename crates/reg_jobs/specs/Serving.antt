@@ -1,0 +1,71 @@
+-- Requests served over a register.
+use Rattle.std.specs.Prelude.{◌≡◌, ◌≢◌, ◌⊎◌, ℕ, List, ◌∷◌, [], ◌++◌, codes, decimal, Result, Ok, Err}
+use Rattle.std.specs.declared.option.Option.{Option}
+use Rattle.std.specs.Io.KnownBytes.{Appends}
+use Rattle.reg_core.specs.Records.{Records}
+use Rattle.reg_core.specs.declared.refusal.Fault.TheVariants as fault
+use Rattle.reg_crl.specs.Signing.{Identity}
+use Rattle.reg_calls.specs.Steps.{Signs}
+use Rattle.reg_hub.specs.Exchange.{Input, Handles, asked_in}
+use Rattle.reg_endings.specs.declared.failure.Failure.{Failure}
+use Rattle.reg_endings.specs.declared.failure.Failure.TheVariants as failure
+use Rattle.reg_jobs.specs.Exchanges.{Entry, Exchange, NoEntry}
+use Rattle.reg_wire.specs.Put.{AppendsFront}
+use Rattle.reg_wire.specs.Run.{Answered}
+
+-- what peers made of the records: exchanges, one after the other, and nothing else
+abbrev pub Serves : Signs → (ℕ → Type 0) → List Input → List (List ℕ) → Identity → Records → Records → Type 0
+Serves signs told inputs texts identity before after = Answered (Handles (Exchange signs told identity) NoEntry) before inputs texts after
+
+-- what peers and lines at counters made of the records, one after the other, and nothing else
+abbrev pub Opens : Signs → (ℕ → Type 0) → List Input → List (List ℕ) → Identity → Records → Records → Type 0
+Opens signs told inputs texts identity before after =
+    Answered (Handles (Exchange signs told identity) (Entry signs told identity)) before inputs texts after
+
+-- this machine alone: the address of the loopback interface (RFC 1122 3.2.1.3)
+abbrev pub loopback : List ℕ
+loopback = 127 ∷ 0 ∷ 0 ∷ 1 ∷ []
+
+-- the line that tells the port
+abbrev pub listening : ℕ → List ℕ
+listening port = codes "listening " ++ (decimal port ++ 10 ∷ [])
+
+-- nobody was answered: the port could not be bound, its peers not be watched, or there was no memory for their places
+abbrev pub Unbound : List Input → Result (Unit {0}) Failure → Type 0
+Unbound inputs result = (inputs ≡ []) × ((result ≡ Err (failure.Fault fault.Read)) ⊎ (result ≡ Err (failure.Fault fault.Memory)))
+
+-- Serving ended after these were answered: done after all that were asked for. A fault of reading is a clock that could not be read, or
+-- sockets that failed; of writing, a line that was not told whole.
+abbrev pub Served : ℕ → ℕ → List Input → Option (List ℕ) → Option (List ℕ) → Result (Unit {0}) Failure → Type 0
+Served port requests inputs out out' (Ok done) = (asked_in inputs ≡ requests) × Appends out out' (listening port)
+Served port requests inputs out out' (Err (failure.Fault fault.Read)) = (asked_in inputs ≢ requests) × Appends out out' (listening port)
+Served port requests inputs out out' (Err (failure.Fault fault.Write)) = (inputs ≡ []) × AppendsFront out out' (listening port)
+Served port requests inputs out out' (Err (failure.Fault fault.Memory)) = ⊥
+Served port requests inputs out out' (Err (failure.Fault fault.Store)) = ⊥
+Served port requests inputs out out' (Err (failure.Fault fault.Signer)) = ⊥
+Served port requests inputs out out' (Err (failure.Fault (fault.Refused why))) = ⊥
+Served port requests inputs out out' (Err failure.NotEmpty) = ⊥
+Served port requests inputs out out' (Err failure.NotARegister) = ⊥
+Served port requests inputs out out' (Err failure.NewVersion) = ⊥
+Served port requests inputs out out' (Err failure.OldVersion) = ⊥
+Served port requests inputs out out' (Err failure.BadIssuer) = ⊥
+Served port requests inputs out out' (Err failure.BadPolicy) = ⊥
+Served port requests inputs out out' (Err failure.BadSigner) = ⊥
+Served port requests inputs out out' (Err failure.Refused) = ⊥
+Served port requests inputs out out' (Err failure.Broken) = ⊥
+
+-- the port was not bound and nothing was written; or it was, and that was served there
+abbrev pub ServedAt : {W : Type 0} → (W → Option (List ℕ)) → W → W → (List ℕ → ℕ → Type 0) → ℕ → ℕ → List Input → Result (Unit {0}) Failure → Type 0
+ServedAt contents writer writer' bound port requests inputs result =
+    (Unbound inputs result × (writer' ≡ writer))
+    ⊎ (bound loopback port × Served port requests inputs (contents writer) (contents writer') result)
+
+-- as many requests as can be counted: who is kept open is ended before
+abbrev pub endless : ℕ
+endless = 18446744073709551615
+
+-- the same with a counter, whose socket was laid too
+abbrev pub OpenedAt : {W : Type 0} → (W → Option (List ℕ)) → W → W → (List ℕ → ℕ → Type 0) → (List ℕ → Type 0) → ℕ → List ℕ → List Input → Result (Unit {0}) Failure → Type 0
+OpenedAt contents writer writer' bound laid port counter inputs result =
+    (Unbound inputs result × (writer' ≡ writer))
+    ⊎ (bound loopback port × laid counter × Served port endless inputs (contents writer) (contents writer') result)

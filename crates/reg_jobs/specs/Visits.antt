@@ -1,0 +1,51 @@
+-- What a job does at a place where registers lie.
+use Rattle.std.specs.Prelude.{◌≡◌, ℕ, List, Result, Ok, Err}
+use Rattle.reg_core.specs.Records.{Records}
+use Rattle.reg_core.specs.declared.refusal.Fault.{Fault}
+use Rattle.reg_crl.specs.Signing.{Identity}
+use Rattle.reg_calls.specs.Leads.{Leads}
+use Rattle.reg_calls.specs.declared.keeper.Keeper.{Ghosts as Keeper}
+use Rattle.reg_endings.specs.declared.failure.Failure.{Failure}
+use Rattle.reg_endings.specs.declared.failure.Failure.TheVariants as failure
+use Rattle.reg_jobs.specs.Failing.{IsMaking, IsOpening}
+use Rattle.reg_jobs.specs.Signing.{Signing}
+use Rattle.reg_jobs.specs.declared.place.Place.{Ghosts as Place}
+
+-- how a job ends whose run of a register ended so
+abbrev pub ending_of : Result (Unit {0}) Fault → Result (Unit {0}) Failure
+ending_of (Ok done) = Ok done
+ending_of (Err fault) = Err (failure.Fault fault)
+
+-- What calls of a place did: the place before them and after them. No other call that may change it lies between.
+module _ {P K : Type 0} (places : Place P K) (keeper : Keeper K) (place place' : P) where
+  -- The register at a path was opened for these signatures, and then closed. The step leads from the records that stood in it, whatever they
+  -- were, to those that stand there afterwards, where the medium has returned all that was written.
+  pub record Visits (path : List ℕ) (signing : Signing) (step : Identity → Records → Records → Type 0) : Type 0 where
+    pub first : K
+    pub last : K
+    pub between : P
+    pub opened : places.opened place path signing first between
+    pub moves : Leads keeper.is_clean keeper.stands step first last
+    pub closed : places.closed between path last place'
+
+  -- the register at a path could not be opened, and that is how the job ends
+  abbrev pub NotOpened : List ℕ → Signing → Result (Unit {0}) Failure → Type 0
+  NotOpened path signing result =
+      (why : Failure) × (result ≡ Err why) × places.unopened place path signing why place' × IsOpening why
+
+  -- a register was made at a path, in which these records stood, and then it was closed
+  pub record Makes (path : List ℕ) (records : Records) : Type 0 where
+    pub register : K
+    pub identity : Identity
+    pub between : P
+    pub made : places.made place path register between
+    pub stands : keeper.stands identity register records
+    pub closed : places.closed between path register place'
+
+  -- no register could be made at a path, and that is how the job ends
+  abbrev pub NotMade : List ℕ → Result (Unit {0}) Failure → Type 0
+  NotMade path result = (why : Failure) × (result ≡ Err why) × places.unmade place path why place' × IsMaking why
+
+-- no audit was had of what lies at a path, and that is how the job ends
+abbrev pub NotAudited : {P K : Type 0} → Place P K → P → P → List ℕ → Result (Unit {0}) Failure → Type 0
+NotAudited places place place' path result = (why : Failure) × (result ≡ Err why) × places.unaudited place path why place' × IsOpening why

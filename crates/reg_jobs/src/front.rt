@@ -1,0 +1,67 @@
+//! A clock, ports and sockets.
+
+use mio::net::{TcpListener, UnixListener};
+use reg_core::{Fault, Moment};
+use std::io;
+use std::os::unix::net::UnixStream;
+
+/// A clock that tells moments, and ports and sockets that can be listened at. Who is handed no more than this can tell only by a
+/// call of it that a moment is one of the clock, that a port was bound, and that a socket was laid or met.
+pub trait Front {
+    ghost use Rattle.std.specs.Prelude.{◌≡◌, ℕ, List, OnOk, IfOk, IfErr};
+
+    /// The clock told this moment.
+    ghost told: { ℕ → Type 0 };
+
+    /// This port of this address was bound (four bytes, RFC 791 3.1).
+    ghost bound: { List ℕ → ℕ → Type 0 };
+
+    /// A socket was laid at this path.
+    ghost laid: { List ℕ → Type 0 };
+
+    /// Who listens at the socket at this path was met.
+    ghost met: { List ℕ → Type 0 };
+
+    /// The moment of the clock.
+    ///
+    /// # Errors
+    ///
+    /// `Read` where the clock can't be read.
+    fn moment(&self) -> Result<Moment, Fault>
+        ensures told { IfOk result told }
+        ensures err { IfErr result (λ fault. fault ≡ Fault.Read) };
+
+    /// Listens at a port of an address, and does not wait for who comes.
+    ///
+    /// # Errors
+    ///
+    /// What the system says where the port can't be bound.
+    fn listen(&self, address: [u8; 4], port: u16) -> io::Result<TcpListener>
+        ensures { OnOk result (bound address port) };
+
+    /// Lays a socket at a path, which its owner alone may connect to, and listens there without waiting. A socket at which
+    /// nobody listens any more is taken over.
+    ///
+    /// # Errors
+    ///
+    /// What the system says; also where somebody listens there, or something else lies there.
+    fn lay(&self, path: &str) -> io::Result<UnixListener>
+        ensures { OnOk result (laid path.now) };
+
+    /// Connects to the socket at a path.
+    ///
+    /// # Errors
+    ///
+    /// What the system says where nobody listens there.
+    fn meet(&self, path: &str) -> io::Result<UnixStream>
+        ensures { OnOk result (met path.now) };
+
+    /// Whether exchanges are told in a log.
+    fn has_log(&self) -> bool;
+
+    /// The microseconds of a clock that never goes back; 0 where it can't be read.
+    fn micros(&self) -> u64;
+
+    /// Puts a line with its LF into the log. What can't be put there is left out.
+    fn log(&self, line: &[u8]);
+}

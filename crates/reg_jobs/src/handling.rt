@@ -1,0 +1,328 @@
+//! A desk, as it answers who comes: peers, and lines at a counter.
+
+ghost use Rattle.std.specs.Prelude.{◌≡◌, ◌⊎◌, ◌++◌, ◌∷◌, [], ℕ, List, Some, IfOk, OnOk, OnErr};
+ghost use Rattle.reg_core.specs.Lines.{fault_line};
+ghost use Rattle.reg_faces.specs.Faces.{Lines};
+ghost use Rattle.reg_calls.specs.Leads.{Leads};
+ghost use Rattle.reg_lines.specs.Script.{ScriptEnds};
+ghost use Rattle.reg_heads.specs.Response.{memory_text};
+ghost use Rattle.reg_jobs.specs.Exchanges.{Entry, EntryAt, Exchange, ExchangeAt, LineRuns, Replied, Responded, line_at};
+
+use crate::front::Front;
+use crate::logging::{began, log_answer, log_line, log_lost};
+use reg_calls::Keeper;
+use reg_core::{Fault, Moment};
+use reg_faces::{run_script, serve_one};
+use reg_heads::write_memory_fault;
+use reg_hub::{Handler, Lost, Stopped};
+use std::alloc::{AllocError, Global};
+use std::net::SocketAddr;
+
+/// The bytes of room that are made for the text of a response before anything is asked. Each response that tells of something entered
+/// fits, and so do most of an OCSP answer: memory can't be wanting for them once the office was asked.
+const TEXT_ROOM: usize = 4_096;
+
+/// A desk that answers peers, each at a moment of the clock, and has no counter.
+#[derive(Drop)]
+pub(crate) struct ServedDesk<'a, K: Keeper, F: Front> {
+    pub(crate) office: K,
+    pub(crate) alloc: Global,
+    pub(crate) front: &'a F,
+}
+
+/// A desk that answers peers and lines at counters, each at a moment of the clock.
+#[derive(Drop)]
+pub(crate) struct OpenDesk<'a, K: Keeper, F: Front> {
+    pub(crate) office: K,
+    pub(crate) alloc: Global,
+    pub(crate) front: &'a F,
+}
+
+/// A desk that runs lines as they are, and has no peers.
+#[derive(Drop)]
+pub(crate) struct LinedDesk<K: Keeper> {
+    pub(crate) office: K,
+    pub(crate) alloc: Global,
+}
+
+impl<'a, K: Keeper, F: Front> Handler for ServedDesk<'a, K, F> {
+    ghost use Rattle.reg_calls.specs.Leads.{Leads};
+    ghost use Rattle.reg_jobs.specs.Exchanges.{Exchange, NoEntry};
+
+    ghost answers = { λ s request text t. Leads K.is_clean K.stands
+        (λ identity before after. Exchange K.signs F.told identity before request text after) s.office t.office };
+
+    ghost tells = { NoEntry };
+
+    fn answer(&mut self, peer: SocketAddr, request: &[u8]) -> Result<Vec<u8>, Stopped> {
+        answer_now(self.alloc, &mut self.office, self.front, peer, request)
+    }
+
+    fn tell(&mut self, _line: &[u8]) -> Result<Vec<u8>, Stopped> {
+        Err(Stopped)
+    }
+
+    fn lose(&self, peer: Option<SocketAddr>, why: Lost) {
+        log_lost(self.alloc, self.front, peer, why);
+    }
+}
+
+impl<'a, K: Keeper, F: Front> Handler for OpenDesk<'a, K, F> {
+    ghost use Rattle.reg_calls.specs.Leads.{Leads};
+    ghost use Rattle.reg_jobs.specs.Exchanges.{Exchange, Entry};
+
+    ghost answers = { λ s request text t. Leads K.is_clean K.stands
+        (λ identity before after. Exchange K.signs F.told identity before request text after) s.office t.office };
+
+    ghost tells = { λ s line text t. Leads K.is_clean K.stands
+        (λ identity before after. Entry K.signs F.told identity before line text after) s.office t.office };
+
+    fn answer(&mut self, peer: SocketAddr, request: &[u8]) -> Result<Vec<u8>, Stopped> {
+        answer_now(self.alloc, &mut self.office, self.front, peer, request)
+    }
+
+    fn tell(&mut self, line: &[u8]) -> Result<Vec<u8>, Stopped> {
+        tell_now(self.alloc, &mut self.office, self.front, line)
+    }
+
+    fn lose(&self, peer: Option<SocketAddr>, why: Lost) {
+        log_lost(self.alloc, self.front, peer, why);
+    }
+}
+
+impl<K: Keeper> Handler for LinedDesk<K> {
+    ghost use Rattle.reg_calls.specs.Leads.{Leads};
+    ghost use Rattle.reg_jobs.specs.Exchanges.{LineRuns, NoEntry};
+
+    ghost answers = { NoEntry };
+
+    ghost tells = { λ s line text t. Leads K.is_clean K.stands
+        (λ identity before after. LineRuns K.signs identity before line text after) s.office t.office };
+
+    fn answer(&mut self, _peer: SocketAddr, _request: &[u8]) -> Result<Vec<u8>, Stopped> {
+        Err(Stopped)
+    }
+
+    fn tell(&mut self, line: &[u8]) -> Result<Vec<u8>, Stopped> {
+        Ok(tell_alone(self.alloc, &mut self.office, line))
+    }
+
+    fn lose(&self, _peer: Option<SocketAddr>, _why: Lost) {}
+}
+
+/// Answers what came of a peer, at the moment of the clock.
+fn answer_now<K: Keeper, F: Front>(
+    alloc: Global,
+    office: &mut K,
+    front: &F,
+    peer: SocketAddr,
+    request: &[u8],
+) -> Result<Vec<u8>, Stopped>
+    ensures ok { IfOk result (λ text. Leads K.is_clean K.stands
+        (λ identity before after. Exchange K.signs F.told identity before request.now text.items after)
+        office.old office.new) }
+    ensures err { OnErr result (office.new ≡ office.old) }
+{
+    match front.moment() {
+        Ok(now) => Ok(answer_logged(alloc, office, front, now, peer, request)),
+        Err(_) => Err(Stopped),
+    }
+}
+
+/// Answers a line of a counter, at the moment of the clock.
+fn tell_now<K: Keeper, F: Front>(
+    alloc: Global,
+    office: &mut K,
+    front: &F,
+    line: &[u8],
+) -> Result<Vec<u8>, Stopped>
+    ensures ok { IfOk result (λ text. Leads K.is_clean K.stands
+        (λ identity before after. Entry K.signs F.told identity before line.now text.items after)
+        office.old office.new) }
+    ensures err { OnErr result (office.new ≡ office.old) }
+{
+    match front.moment() {
+        Ok(now) => Ok(tell_logged(alloc, office, front, now, line)),
+        Err(_) => Err(Stopped),
+    }
+}
+
+/// Answers what came of a peer, at a moment, and puts that into the log, where there is one.
+fn answer_logged<K: Keeper, F: Front>(
+    alloc: Global,
+    office: &mut K,
+    front: &F,
+    now: Moment,
+    peer: SocketAddr,
+    request: &[u8],
+) -> Vec<u8>
+    ensures { Leads K.is_clean K.stands (λ identity before after. ExchangeAt K.signs now identity before request.now result.items after)
+        office.old office.new }
+{
+    let began = began(front);
+    let text = answer_at(alloc, office, now, request);
+    log_answer(alloc, front, began, now, peer, request, &text);
+    text
+}
+
+/// Answers what came of a peer, at a moment. Room for the text is made before anything is asked.
+fn answer_at<K: Keeper>(alloc: Global, office: &mut K, now: Moment, request: &[u8]) -> Vec<u8>
+    ensures { Leads K.is_clean K.stands (λ identity before after. ExchangeAt K.signs now identity before request.now result.items after)
+        office.old office.new }
+{
+    match Vec::with_capacity(alloc, TEXT_ROOM) {
+        Ok(text) => answer_in(alloc, office, now, request, text),
+        Err(_) => Vec::new(alloc),
+    }
+}
+
+/// Answers what came of a peer, at a moment, in a room that is empty.
+fn answer_in<K: Keeper>(
+    alloc: Global,
+    office: &mut K,
+    now: Moment,
+    request: &[u8],
+    mut text: Vec<u8>,
+) -> Vec<u8>
+    requires { text.items ≡ [] }
+    ensures { Leads K.is_clean K.stands (λ identity before after. ExchangeAt K.signs now identity before request.now result.items after)
+        office.old office.new }
+{
+    let mut reader = request;
+    let served = serve_one(alloc, &mut reader, &mut text, now, office);
+    response_of(served, text)
+}
+
+/// The answer to a request whose serving ended so, over what it wrote.
+fn response_of(served: Result<(), Fault>, written: Vec<u8>) -> Vec<u8>
+    ensures { Responded served written.items result.items }
+{
+    match served {
+        Ok(()) => written,
+        Err(Fault::Read) => emptied(written),
+        Err(_) => memory_response(written),
+    }
+}
+
+/// The constant text of want of memory in the place of what was written, or nothing where there is no memory for it.
+fn memory_response(written: Vec<u8>) -> Vec<u8>
+    ensures { (result.items ≡ memory_text) ⊎ (result.items ≡ []) }
+{
+    let mut text = emptied(written);
+    match write_memory_fault(&mut text) {
+        Ok(()) => text,
+        Err(_) => emptied(text),
+    }
+}
+
+/// A text without its bytes, and with its room.
+fn emptied(mut text: Vec<u8>) -> Vec<u8>
+    ensures { result.items ≡ [] }
+{
+    text.clear();
+    text
+}
+
+/// Answers a line of a counter, at a moment, and puts that into the log, where there is one.
+fn tell_logged<K: Keeper, F: Front>(
+    alloc: Global,
+    office: &mut K,
+    front: &F,
+    now: Moment,
+    line: &[u8],
+) -> Vec<u8>
+    ensures { Leads K.is_clean K.stands (λ identity before after. EntryAt K.signs now identity before line.now result.items after)
+        office.old office.new }
+{
+    let began = began(front);
+    let reply = tell_at(alloc, office, now, line);
+    log_line(alloc, front, began, now, line, &reply);
+    reply
+}
+
+/// Answers a line of a counter, at a moment.
+fn tell_at<K: Keeper>(alloc: Global, office: &mut K, now: Moment, line: &[u8]) -> Vec<u8>
+    ensures { Leads K.is_clean K.stands (λ identity before after. EntryAt K.signs now identity before line.now result.items after)
+        office.old office.new }
+{
+    let mut reply = Vec::new(alloc);
+    let ran = run_line_at(alloc, office, now, line, &mut reply);
+    reply_of(ran, reply)
+}
+
+/// Answers a line as it is.
+fn tell_alone<K: Keeper>(alloc: Global, office: &mut K, line: &[u8]) -> Vec<u8>
+    ensures { Leads K.is_clean K.stands (λ identity before after. LineRuns K.signs identity before line.now result.items after)
+        office.old office.new }
+{
+    let mut reader = line;
+    let mut reply = Vec::new(alloc);
+    let ran = run_script(alloc, &mut reader, &mut reply, office);
+    reply_of(ran, reply)
+}
+
+/// Runs a line with its moment before it, as a script.
+fn run_line_at<K: Keeper>(
+    alloc: Global,
+    office: &mut K,
+    now: Moment,
+    line: &[u8],
+    reply: &mut Vec<u8>,
+) -> Result<(), Fault>
+    ensures { (left : List ℕ) × Leads K.is_clean K.stands
+        (λ identity before after. ScriptEnds (Lines K.signs identity) (λ bytes. Some bytes) (λ bytes. Some bytes) before after
+        (line_at now line.now) left reply.old.items reply.new.items result)
+        office.old office.new }
+{
+    match timed_line(alloc, now, line) {
+        Ok(script) => {
+            let mut reader = script.as_slice();
+            run_script(alloc, &mut reader, reply, office)
+        }
+        Err(_) => Err(Fault::Memory),
+    }
+}
+
+/// A line with its moment before it.
+fn timed_line(alloc: Global, now: Moment, line: &[u8]) -> Result<Vec<u8>, AllocError>
+    ensures { IfOk result (λ text. text.items ≡ line_at now line.now) }
+{
+    let mut text = Vec::from_slice(alloc, &now.text())?;
+    text.push(b' ')?;
+    text.extend_from_slice(line)?;
+    Ok(text)
+}
+
+/// The reply to a line whose run ended so, over what it wrote.
+fn reply_of(ran: Result<(), Fault>, written: Vec<u8>) -> Vec<u8>
+    ensures { Replied ran written.items result.items }
+{
+    match ran {
+        Ok(()) => written,
+        Err(fault) => fault_reply(fault, written),
+    }
+}
+
+/// The line of a fault in the place of what was written, or nothing where there is no memory for it.
+fn fault_reply(fault: Fault, mut text: Vec<u8>) -> Vec<u8>
+    ensures { (result.items ≡ fault_line fault ++ 10 ∷ []) ⊎ (result.items ≡ []) }
+{
+    text.clear();
+    match put_fault(&mut text, fault) {
+        Ok(()) => text,
+        Err(_) => {
+            text.clear();
+            text
+        }
+    }
+}
+
+/// Puts the line of a fault behind a text.
+fn put_fault(text: &mut Vec<u8>, fault: Fault) -> Result<(), AllocError>
+    ensures { OnOk result (text.new.items ≡ text.old.items ++ (fault_line fault ++ 10 ∷ [])) }
+{
+    let line = fault.line();
+    text.extend_from_slice(line.as_bytes())?;
+    text.push(b'\n')?;
+    Ok(())
+}

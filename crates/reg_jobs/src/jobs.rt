@@ -1,0 +1,255 @@
+//! The jobs but `serve`.
+
+ghost use Rattle.std.specs.Prelude.{◌≡◌, Result, IfErr};
+ghost use Rattle.reg_calls.specs.Items.{items_of};
+ghost use Rattle.reg_endings.specs.Checks.{terms_of};
+ghost use Rattle.reg_calls.specs.Steps.{Crls};
+ghost use Rattle.reg_calls.specs.Leads.{Leads};
+ghost use Rattle.reg_jobs.specs.Ends.{AuditAt, CrlAt, ImportAt, InitAt, MakesAt, SaysGiven, ScheduleAt, ScriptAt, TellsBroken, TellsSet, TellsSound, TellsVerdict};
+ghost use Rattle.reg_jobs.specs.Visits.{ending_of};
+ghost use Rattle.reg_tables.specs.Stays.{IsCallFault};
+ghost use Rattle.reg_findings.specs.Lines.{broken_text, sound_text};
+
+use crate::place::Place;
+use crate::telling::say;
+use reg_calls::{Calls, Keeper};
+use reg_core::{Fault, Moment, Policy};
+use reg_der::Issuer;
+use reg_endings::{Failure, office_of, schedule_of};
+use reg_faces::{import, run_script};
+use reg_findings::{Audited, Broken, OTHER_SCHEMA, Verdict, broken_line, sound_line};
+use reg_tables::StoreFault;
+use reg_words::{KeyHolder, Steps, Word};
+use std::alloc::Global;
+use std::io::{Read, Write};
+
+/// What `init` is told: the issuer's Name and key in hexadecimal, and the terms of the policy.
+#[derive(Drop)]
+pub struct NewOffice<'a> {
+    pub name: &'a Word<'a>,
+    pub key: &'a Word<'a>,
+    pub days: u64,
+    pub crl_life: u64,
+    pub ocsp_life: u64,
+    pub cap: u64,
+}
+
+/// How a job ends whose run of a register ended so.
+pub fn ended(ran: Result<(), Fault>) -> Result<(), Failure>
+    ensures { result ≡ ending_of ran }
+{
+    match ran {
+        Ok(()) => Ok(()),
+        Err(fault) => Err(Failure::Fault(fault)),
+    }
+}
+
+/// Makes a register at a path. The issuer and then the policy are looked at before the path is. Where that fails, a path
+/// at which nothing lay has nothing there afterwards, but for a register that somebody else made there meanwhile.
+pub fn init<P: Place, W: Write>(
+    alloc: Global,
+    place: &mut P,
+    path: &str,
+    new: &NewOffice<'_>,
+    writer: &mut W,
+) -> Result<(), Failure>
+    ensures { InitAt W.contents writer.old writer.new P.Place P.Opened.Keeper.own place.old place.new path.now
+        new.now.name.now new.now.key.now (terms_of new.now.days new.now.crl_life new.now.ocsp_life new.now.cap) result }
+{
+    let (issuer, policy) = office_of(
+        alloc,
+        new.name,
+        new.key,
+        new.days,
+        new.crl_life,
+        new.ocsp_life,
+        new.cap,
+    )?;
+    let is_ours = match place.claim(path) {
+        Ok(is_ours) => is_ours,
+        Err(_) => return Err(Failure::Fault(Fault::Memory)),
+    };
+    match make_at(place, path, issuer, policy, writer) {
+        Ok(()) => Ok(()),
+        Err(Failure::NotEmpty) => Err(Failure::NotEmpty),
+        Err(why) => {
+            if is_ours {
+                place.remove(path);
+                return Err(why);
+            }
+            Err(why)
+        }
+    }
+}
+
+/// Makes a register at a path, and tells it.
+fn make_at<P: Place, W: Write>(
+    place: &mut P,
+    path: &str,
+    issuer: Issuer,
+    policy: Policy,
+    writer: &mut W,
+) -> Result<(), Failure>
+    ensures { MakesAt W.contents writer.old writer.new P.Place P.Opened.Keeper.own place.old place.new path.now issuer policy
+        result }
+{
+    let register = place.make(path, issuer, policy)?;
+    place.close(path, register);
+    say(writer, b"created\n")
+}
+
+/// Runs the script of standard input over the register at a path.
+pub fn script<P: Place, R: Read, W: Write>(
+    alloc: Global,
+    place: &mut P,
+    path: &str,
+    signer: &Option<KeyHolder<'_>>,
+    reader: &mut R,
+    writer: &mut W,
+) -> Result<(), Failure>
+    ensures { ScriptAt R.remaining W.contents reader.old reader.new writer.old writer.new
+        P.Place P.Opened.Keeper.own place.old place.new path.now signer.now result }
+{
+    let mut opened = place.open_to_sign(path, signer)?;
+    let ran = run_script(alloc, reader, writer, &mut opened);
+    place.close(path, opened);
+    ended(ran)
+}
+
+/// Imports standard input into the register at a path.
+pub fn import_rows<P: Place, R: Read, W: Write>(
+    alloc: Global,
+    place: &mut P,
+    path: &str,
+    now: Moment,
+    reader: &mut R,
+    writer: &mut W,
+) -> Result<(), Failure>
+    ensures { ImportAt R.remaining W.contents reader.old reader.new writer.old writer.new
+        P.Place P.Opened.Keeper.own place.old place.new path.now now result }
+{
+    let mut office = place.open(path)?;
+    let imported = import(alloc, reader, writer, now, &mut office);
+    place.close(path, office);
+    ended(imported)
+}
+
+/// Writes the bytes of a CRL of the register at a path.
+pub fn crl<P: Place, W: Write>(
+    alloc: Global,
+    place: &mut P,
+    path: &str,
+    number: Option<u64>,
+    writer: &mut W,
+) -> Result<(), Failure>
+    ensures { CrlAt W.contents writer.old writer.new P.Place P.Opened.Keeper.own place.old place.new path.now number result }
+{
+    let mut register = place.open(path)?;
+    let given = given_crl(alloc, &mut register, number);
+    place.close(path, register);
+    say_given(writer, given)
+}
+
+/// The bytes of a CRL of a register.
+fn given_crl<K: Keeper>(
+    alloc: Global,
+    register: &mut K,
+    number: Option<u64>,
+) -> Result<Vec<u8>, Fault>
+    ensures { Leads K.is_clean K.stands (λ identity before after. Crls before number (items_of result) after) register.old register.new }
+{
+    register.crl_bytes(alloc, number)
+}
+
+/// Says the bytes that are given.
+fn say_given<W: Write>(writer: &mut W, given: Result<Vec<u8>, Fault>) -> Result<(), Failure>
+    ensures { SaysGiven W.contents writer.old writer.new (items_of given) result }
+{
+    match given {
+        Ok(bytes) => say(writer, &bytes),
+        Err(fault) => Err(Failure::Fault(fault)),
+    }
+}
+
+/// Gives the register at a path another schedule, which is looked at before the path is.
+pub fn schedule<P: Place, W: Write>(
+    alloc: Global,
+    place: &mut P,
+    path: &str,
+    steps: &Steps,
+    writer: &mut W,
+) -> Result<(), Failure>
+    ensures { ScheduleAt W.contents writer.old writer.new P.Place P.Opened.Keeper.own place.old place.new path.now steps.now result }
+{
+    let schedule = schedule_of(steps)?;
+    let mut register = place.open(path)?;
+    let set = place.set_schedule(alloc, &mut register, schedule);
+    place.close(path, register);
+    tell_set(writer, set)
+}
+
+/// Tells that a schedule was set.
+fn tell_set<W: Write>(writer: &mut W, set: Result<(), StoreFault>) -> Result<(), Failure>
+    requires { IfErr set IsCallFault }
+    ensures { TellsSet W.contents writer.old writer.new set result }
+{
+    match set {
+        Ok(()) => say(writer, b"schedule set\n"),
+        Err(fault) => Err(Failure::from(fault)),
+    }
+}
+
+/// Audits the register at a path, and tells what was found.
+pub fn audit<P: Place, W: Write>(
+    alloc: Global,
+    place: &mut P,
+    path: &str,
+    writer: &mut W,
+) -> Result<(), Failure>
+    ensures { AuditAt W.contents writer.old writer.new P.Place P.Opened.Keeper.own place.old place.new path.now result }
+{
+    let verdict = place.audit(path)?;
+    tell_verdict(alloc, writer, verdict)
+}
+
+/// Tells what an audit found.
+fn tell_verdict<W: Write>(alloc: Global, writer: &mut W, verdict: Verdict) -> Result<(), Failure>
+    ensures { TellsVerdict W.contents writer.old writer.new verdict result }
+{
+    match verdict {
+        Verdict::Sound(found) => tell_sound(alloc, writer, found),
+        Verdict::Broken(broken) => tell_broken(alloc, writer, broken),
+        Verdict::OtherSchema => say_broken(writer, OTHER_SCHEMA.as_bytes()),
+        Verdict::Older => Err(Failure::OldVersion),
+    }
+}
+
+/// Tells that all rows are sound.
+fn tell_sound<W: Write>(alloc: Global, writer: &mut W, found: Audited) -> Result<(), Failure>
+    ensures { TellsSound (sound_text found) W.contents writer.old writer.new result }
+{
+    match sound_line(alloc, found) {
+        Ok(line) => say(writer, &line),
+        Err(_) => Err(Failure::Fault(Fault::Memory)),
+    }
+}
+
+/// Tells a row that breaks a rule.
+fn tell_broken<W: Write>(alloc: Global, writer: &mut W, broken: Broken) -> Result<(), Failure>
+    ensures { TellsBroken (broken_text broken) W.contents writer.old writer.new result }
+{
+    match broken_line(alloc, broken) {
+        Ok(line) => say_broken(writer, &line),
+        Err(_) => Err(Failure::Fault(Fault::Memory)),
+    }
+}
+
+/// Says the line of what is broken: the job is not done.
+fn say_broken<W: Write>(writer: &mut W, line: &[u8]) -> Result<(), Failure>
+    ensures { TellsBroken line.now W.contents writer.old writer.new result }
+{
+    match say(writer, line) {
+        Ok(()) => Err(Failure::Broken),
+        Err(why) => Err(why),
+    }
+}

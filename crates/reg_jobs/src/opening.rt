@@ -1,0 +1,82 @@
+//! The job `open`: a register that is kept open, for peers and for lines at a counter.
+
+ghost use Rattle.std.specs.Prelude.{◌≡◌, ◌⊎◌, ℕ, List, OnOk, IfErr};
+ghost use Rattle.reg_calls.specs.Leads.{Leads};
+ghost use Rattle.reg_hub.specs.Exchange.{Input};
+ghost use Rattle.reg_jobs.specs.Ends.{OpenAt};
+ghost use Rattle.reg_jobs.specs.Serving.{OpenedAt, Opens, loopback};
+
+use crate::front::Front;
+use crate::handling::OpenDesk;
+use crate::place::Place;
+use crate::serving::{LOOPBACK, hub_over, serve_hub};
+use reg_calls::Keeper;
+use reg_core::Fault;
+use reg_endings::Failure;
+use reg_hub::Hub;
+use reg_words::KeyHolder;
+use std::io::Write;
+
+/// Keeps the register at a path open, until the program is ended. It is opened before the port is bound, and the port is bound
+/// before the counter's socket is laid.
+pub fn hold_open<P: Place, F: Front, W: Write>(
+    rt: &HostRuntime,
+    front: &F,
+    place: &mut P,
+    path: &str,
+    signer: &Option<KeyHolder<'_>>,
+    port: u16,
+    counter: &str,
+    writer: &mut W,
+) -> Result<(), Failure>
+    ensures { OpenAt W.contents writer.old writer.new P.Place P.Opened.Keeper.own place.old place.new F.Front path.now signer.now port counter.now result }
+{
+    let office = place.open_to_sign(path, signer)?;
+    let alloc = rt.alloc();
+    let mut opened = OpenDesk {
+        office,
+        alloc,
+        front,
+    };
+    let ending = keep_open(rt, &mut opened, port, counter, writer);
+    place.close(path, opened.office);
+    ending
+}
+
+/// Binds the port, lays the counter's socket, tells the port, and answers who comes.
+fn keep_open<K: Keeper, F: Front, W: Write>(
+    rt: &HostRuntime,
+    opened: &mut OpenDesk<'_, K, F>,
+    port: u16,
+    counter: &str,
+    writer: &mut W,
+) -> Result<(), Failure>
+    ensures { (inputs : List Input) × (texts : List (List ℕ))
+        × Leads K.is_clean K.stands (Opens K.signs F.told inputs texts) opened.old.office opened.new.office
+        × OpenedAt W.contents writer.old writer.new F.bound F.laid port counter.now inputs result }
+{
+    let mut hub = match hub_with_counter(rt, opened.front, port, counter) {
+        Ok(hub) => hub,
+        Err(why) => return Err(why),
+    };
+    serve_hub(rt, &mut hub, opened, port, u64::MAX, writer)
+}
+
+/// A hub at a port of the loopback interface, and at a counter.
+fn hub_with_counter<F: Front>(
+    rt: &HostRuntime,
+    front: &F,
+    port: u16,
+    counter: &str,
+) -> Result<Hub, Failure>
+    ensures ok { OnOk result (F.bound loopback port × F.laid counter.now) }
+    ensures err { IfErr result (λ why. (why ≡ Failure.Fault Fault.Read) ⊎ (why ≡ Failure.Fault Fault.Memory)) }
+{
+    let Ok(listener) = front.listen(LOOPBACK, port) else {
+        return Err(Failure::Fault(Fault::Read));
+    };
+    match front.lay(counter) {
+        Ok(counter) => hub_over(rt, listener, Some(counter)),
+        Err(_) => Err(Failure::Fault(Fault::Read)),
+    }
+}

@@ -1,0 +1,145 @@
+//! A place where registers lie.
+
+use reg_calls::Keeper;
+use reg_core::{Memory, Policy, Schedule};
+use reg_der::Issuer;
+use reg_endings::Failure;
+use reg_findings::Verdict;
+use reg_tables::StoreFault;
+use reg_words::KeyHolder;
+use std::alloc::Global;
+
+/// A place where registers lie, each at a path. Who is handed no more than the place can tell only by a call of it that a
+/// register was opened, made or closed. Each call that may change the place is stated by a relation of the place before and
+/// after it: so a clause that leads from one place to another by such calls says that nothing else was done there.
+pub trait Place {
+    ghost use Rattle.std.specs.Prelude.{◌≡◌, ℕ, List, Some, None, IsTrue, IsFalse, OnErr, IfOk, IfErr};
+    ghost use Rattle.reg_calls.specs.Leads.{Leads};
+    ghost use Rattle.reg_core.specs.Records.{no_records};
+    ghost use Rattle.reg_crl.specs.Signing.{Identity};
+    ghost use Rattle.reg_endings.specs.declared.failure.Failure.{Failure as Failing};
+    ghost use Rattle.reg_jobs.specs.Failing.{IsMaking, IsOpening};
+    ghost use Rattle.reg_jobs.specs.Schedules.{Reschedules};
+    ghost use Rattle.reg_jobs.specs.Signing.{Signing};
+    ghost use Rattle.reg_findings.specs.declared.verdict.Verdict.{Verdict as Verdicts};
+    ghost use Rattle.reg_tables.specs.Stays.{IsCallFault};
+
+    /// What is opened: an office that keeps the records of a register.
+    type Opened: Keeper + Drop;
+
+    /// Something lies at the path, or may.
+    ghost lies: { Self → List ℕ → Type 0 };
+
+    /// Nothing lay at the path, an empty file was laid there, and the place after it.
+    ghost claimed: { Self → List ℕ → Self → Type 0 };
+
+    /// What lay at the path was removed, and the place after it.
+    ghost removed: { Self → List ℕ → Self → Type 0 };
+
+    /// This register was opened at the path for these signatures, and the place after it.
+    ghost opened: { Self → List ℕ → Signing → Self.Opened → Self → Type 0 };
+
+    /// For this no register could be opened at the path for these signatures, and the place after it.
+    ghost unopened: { Self → List ℕ → Signing → Failing → Self → Type 0 };
+
+    /// This register was made at the path, and the place after it.
+    ghost made: { Self → List ℕ → Self.Opened → Self → Type 0 };
+
+    /// For this no register could be made at the path, and the place after it.
+    ghost unmade: { Self → List ℕ → Failing → Self → Type 0 };
+
+    /// What was opened at the path was closed, with this register in it, and the place after it.
+    ghost closed: { Self → List ℕ → Self.Opened → Self → Type 0 };
+
+    /// An audit of what lies at the path said this, and the place after it.
+    ghost audited: { Self → List ℕ → Verdicts → Self → Type 0 };
+
+    /// For this no audit was had of what lies at the path, and the place after it.
+    ghost unaudited: { Self → List ℕ → Failing → Self → Type 0 };
+
+    /// Lays an empty file at a path where nothing lies, and no log either, in one step, so that of two who do so at once one
+    /// has it; and answers whether it did. Its owner alone may read and write it. A link that leads nowhere is something that
+    /// lies there, and so is what can't be found out.
+    ///
+    /// # Errors
+    ///
+    /// [`Memory`], and the place is as it was.
+    fn claim(&mut self, path: &str) -> Result<bool, Memory>
+        ensures ours { IfOk result (λ is_ours. IsTrue is_ours → claimed self.old path.now self.new) }
+        ensures lies { IfOk result (λ is_ours. IsFalse is_ours → lies self.old path.now) }
+        ensures same { IfOk result (λ is_ours. IsFalse is_ours → self.new ≡ self.old) }
+        ensures memory { OnErr result (self.new ≡ self.old) };
+
+    /// Opens the register that lies at a path, where nothing will be signed.
+    ///
+    /// # Errors
+    ///
+    /// `NotARegister` and `NewVersion` for other tables; `BadSigner` where the latest CRL was signed under an algorithm that this
+    /// program does not know, or that does not fit the issuer's key; `Fault` of `Memory`, and of `Store` where nothing lies there
+    /// or it can't be opened.
+    fn open(&mut self, path: &str) -> Result<Self::Opened, Failure>
+        ensures ok { IfOk result (λ register. opened self.old path.now None register self.new) }
+        ensures err { IfErr result (λ why. unopened self.old path.now None why self.new) }
+        ensures faults { IfErr result IsOpening };
+
+    /// Opens the register that lies at a path, with what holds its issuer's key as who signs, or else with a digest.
+    ///
+    /// # Errors
+    ///
+    /// As [`Place::open`], with `BadSigner` where the latest CRL was signed under another algorithm, or the issuer's key is none
+    /// of the algorithm.
+    fn open_to_sign(
+        &mut self,
+        path: &str,
+        signer: &Option<KeyHolder<'_>>,
+    ) -> Result<Self::Opened, Failure>
+        ensures ok { IfOk result (λ register. opened self.old path.now (Some signer.now) register self.new) }
+        ensures err { IfErr result (λ why. unopened self.old path.now (Some signer.now) why self.new) }
+        ensures faults { IfErr result IsOpening };
+
+    /// Makes a register with no records in what lies at a path and has no tables. Where that fails, something without a
+    /// register may be left there.
+    ///
+    /// # Errors
+    ///
+    /// `NotEmpty` where there are tables already; `Fault` of `Memory`, and of `Store` where nothing lies there or it can't be
+    /// opened.
+    fn make(&mut self, path: &str, issuer: Issuer, policy: Policy) -> Result<Self::Opened, Failure>
+        ensures ok { IfOk result (λ register. made self.old path.now register self.new) }
+        ensures stands { IfOk result (λ register. (identity : Identity) × Self.Opened.stands identity register (no_records issuer policy)) }
+        ensures err { IfErr result (λ why. unmade self.old path.now why self.new) }
+        ensures faults { IfErr result IsMaking };
+
+    /// Sets the schedule of longest validities of a register that was opened.
+    ///
+    /// # Errors
+    ///
+    /// `Memory`, `Store`. Nothing has changed then.
+    fn set_schedule(
+        &self,
+        alloc: Global,
+        register: &mut Self::Opened,
+        schedule: Schedule,
+    ) -> Result<(), StoreFault>
+        ensures moves { Leads Self.Opened.is_clean Self.Opened.stands (λ identity. Reschedules schedule result) register.old register.new }
+        ensures faults { IfErr result IsCallFault };
+
+    /// Audits the register that lies at a path, and changes nothing of it: one of an older version is not made newer.
+    ///
+    /// # Errors
+    ///
+    /// `NotARegister` and `NewVersion` for other tables; `Fault` of `Memory`, and of `Store` where nothing lies there or it
+    /// can't be opened.
+    fn audit(&mut self, path: &str) -> Result<Verdict, Failure>
+        ensures ok { IfOk result (λ verdict. audited self.old path.now verdict self.new) }
+        ensures err { IfErr result (λ why. unaudited self.old path.now why self.new) }
+        ensures faults { IfErr result IsOpening };
+
+    /// Closes what was opened at a path.
+    fn close(&mut self, path: &str, register: Self::Opened)
+        ensures { closed self.old path.now register self.new };
+
+    /// Removes what lies at a path. What can't be removed, or is in use, stays.
+    fn remove(&mut self, path: &str)
+        ensures { removed self.old path.now self.new };
+}

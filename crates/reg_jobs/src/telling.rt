@@ -1,0 +1,81 @@
+//! What a job says.
+
+ghost use Rattle.std.specs.Prelude.{◌++◌, ◌∷◌, []};
+ghost use Rattle.reg_causes.specs.Causes.{cause_line};
+ghost use Rattle.reg_endings.specs.Endings.{failure_line};
+ghost use Rattle.reg_jobs.specs.Ends.{Says};
+ghost use Rattle.reg_jobs.specs.Told.{Adds, IsTold, IsWritten};
+
+use reg_causes::Cause;
+use reg_core::Fault;
+use reg_endings::Failure;
+use reg_wire::write_whole;
+use std::cell::Cell;
+use std::io::Write;
+
+/// Where the cause of the call that failed last is noted, and whether it is told.
+#[derive(Clone, Copy)]
+pub struct Causes<'a> {
+    /// Where causes are noted.
+    pub noted: &'a Cell<Option<Cause>>,
+    /// Whether a fault's line is followed by its cause.
+    pub is_told: bool,
+}
+
+/// Says a text of the job.
+///
+/// # Errors
+/// `Write` where the writer fails, or takes no byte of what is left.
+pub(crate) fn say<W: Write>(writer: &mut W, text: &[u8]) -> Result<(), Failure>
+    ensures { Says text.now (W.contents writer.old) (W.contents writer.new) result }
+{
+    match write_whole(writer, text) {
+        Ok(()) => Ok(()),
+        Err(_) => Err(Failure::Fault(Fault::Write)),
+    }
+}
+
+/// Tells on standard error why a job is not done, in one line. A device that fails is told nothing more.
+pub fn tell<W: Write>(errors: &mut W, failure: &Failure)
+    ensures { IsTold (W.contents errors.old) (W.contents errors.new) (failure_line failure.now) }
+{
+    let line = failure.line();
+    match write_whole(errors, line.as_bytes()) {
+        Ok(()) => end_line(errors),
+        Err(_) => {}
+    }
+}
+
+/// Tells on standard error the cause of a fault, in one line, where that is asked for, known, and the exit status is that of a fault.
+pub fn explain<W: Write>(errors: &mut W, is_asked: bool, status: u8, cause: Option<Cause>)
+    ensures { Adds is_asked status (W.contents errors.old) (W.contents errors.new) }
+{
+    if !is_asked || status != 1 {
+        return;
+    }
+    match cause {
+        Some(cause) => tell_cause(errors, cause),
+        None => {}
+    }
+}
+
+/// Tells a cause in one line.
+fn tell_cause<W: Write>(errors: &mut W, cause: Cause)
+    ensures { IsTold (W.contents errors.old) (W.contents errors.new) (cause_line cause) }
+{
+    let line = cause.line();
+    match write_whole(errors, line.as_bytes()) {
+        Ok(()) => end_line(errors),
+        Err(_) => {}
+    }
+}
+
+/// Ends a line.
+fn end_line<W: Write>(errors: &mut W)
+    ensures { IsWritten (W.contents errors.old) (W.contents errors.new) (10 ∷ []) }
+{
+    match write_whole(errors, b"\n") {
+        Ok(()) => {}
+        Err(_) => {}
+    }
+}

@@ -1,0 +1,32 @@
+//! The office over a store, as a keeper of records.
+
+use crate::office::Office;
+use reg_calls::Keeper;
+use reg_crl::Signer;
+use sqlite::Alter;
+
+impl<C: Alter, S: Signer> Keeper for Office<C, S> {
+    ghost use Rattle.sqlite.specs.Held.{state};
+    ghost use Rattle.sqlite.specs.State.{HasCleanDisk};
+    ghost use Rattle.reg_office.specs.Calls.{StandsFor};
+
+    ghost is_clean = { λ office. HasCleanDisk (state C.Store office.store) };
+
+    ghost stands = { λ identity office records. StandsFor C.Store S.signs (office.store, S.identity office.signer) identity records };
+
+    ghost signs = { S.signs };
+
+    ghost failures = { λ office. S.failure_count office.signer };
+
+    ghost runs_lead = { λ s now command outcome t ran. ran.0 };
+
+    ghost runs_count = { λ s now command outcome t ran. ran.1 };
+
+    ghost asks_lead = { λ s now query outcome t asked. asked.0 };
+
+    ghost asks_unsigned = { λ s now query outcome t asked. asked.1 };
+
+    ghost ocsps_lead = { λ s now request given t asked. asked };
+
+    ghost crls_lead = { λ s number given t asked. asked };
+}

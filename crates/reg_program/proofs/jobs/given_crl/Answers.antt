@@ -1,4 +1,0 @@
-use Rattle.reg_program.proofs.jobs.given_crl.Goals as goal
-
-pub returns : goal.returns
-returns g c = g.met.K.Keeper.crls_lead _ _ _ _ c.crl_bytes.ensures

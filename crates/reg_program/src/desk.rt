@@ -1,0 +1,89 @@
+//! The program as the machine runs it: its words, standard input and output, and the exit status.
+
+use crate::machine::Machine;
+use crate::performing::perform;
+use crate::progress::{Counted, tell_opening};
+use reg_jobs::Causes;
+use reg_words::{Order, Usage, no_text, read_words};
+use std::cell::Cell;
+use std::io::{ErrorKind, IsTerminal};
+use std::process::ExitCode;
+use std::{env, io};
+
+/// Reads the words, does the job that they say, and tells by the exit status how it ended: 0 done, or help or the version
+/// was asked for; 1 a fault, with its line on standard error, and the line of its cause where that is asked for and known; 2 words
+/// that can't be read, with the usage on standard error; 3 a reply that was a refusal or a fault, at a counter or in a
+/// strict script.
+///
+/// # Errors
+/// What the system says where help, the version or the usage can't be written.
+pub fn run_desk(rt: &HostRuntime) -> io::Result<ExitCode> {
+    let status = match words_of(rt) {
+        Ok(words) => run(rt, words.as_slice())?,
+        Err(usage) => tell_usage(rt, &usage)?,
+    };
+    Ok(ExitCode::from(status))
+}
+
+/// The words that the program was called with.
+fn words_of(rt: &HostRuntime) -> Result<Vec<String>, Usage> {
+    match env::args(rt) {
+        Ok(args) => args.collect(rt.alloc()).map_err(|_| Usage::Memory),
+        Err(error) => Err(unread(rt, &error)),
+    }
+}
+
+/// Does what the words order.
+fn run(rt: &HostRuntime, words: &[String]) -> io::Result<u8> {
+    match read_words(rt.alloc(), words) {
+        Ok(order) => {
+            tell_opening(rt, &order.job);
+            Ok(do_order(rt, &order))
+        }
+        Err(usage) => tell_usage(rt, &usage),
+    }
+}
+
+/// Does the job of an order over standard input and output.
+fn do_order(rt: &HostRuntime, order: &Order<'_>) -> u8 {
+    let noted = Cell::new(None);
+    let front = Machine::of(*rt, &noted)
+        .with_log(order.has_log)
+        .with_watch(rt.stderr().is_terminal());
+    let mut place = front;
+    let causes = Causes {
+        noted: &noted,
+        is_told: order.is_explained,
+    };
+    let mut input = rt.stdin();
+    let mut output = Counted::of(rt, &order.job, &noted);
+    let mut errors = rt.stderr();
+    perform(
+        rt,
+        &causes,
+        &front,
+        &mut place,
+        &order.job,
+        &mut input,
+        &mut output,
+        &mut errors,
+    )
+}
+
+/// What is said where the words could not be had: one is no text, or there is no memory for them.
+fn unread(rt: &HostRuntime, error: &io::Error) -> Usage {
+    match error.kind() {
+        ErrorKind::InvalidData => no_text(rt.alloc()),
+        _ => Usage::Memory,
+    }
+}
+
+/// Tells help or the version, or why there is no order.
+fn tell_usage(rt: &HostRuntime, usage: &Usage) -> io::Result<u8> {
+    match usage {
+        Usage::Help(text) | Usage::Version(text) => print!(rt; "{text}")?,
+        Usage::Bad(text) => eprint!(rt; "{text}")?,
+        Usage::Memory => eprintln!(rt; "F1 memory")?,
+    }
+    Ok(usage.status())
+}

@@ -1,0 +1,25 @@
+-- What the rows of the table say, in clap's own terms.
+use Rattle.std.specs.Prelude.{List, [], ◌∷◌, map}
+use Rattle.clap.specs.Words.{App, Rule, new_app, with_subcommand}
+use Rattle.reg_words.specs.Desk.{must, may, needs, takes, flag, some, with_rules}
+use Rattle.reg_words.specs.declared.table.Entry.{Entry}
+use Rattle.reg_words.specs.declared.table.Part.{Part}
+use Rattle.reg_words.specs.declared.table.Part.TheVariants.{Must, May, Rest, Needs, Takes, Flag}
+
+-- a word or an option
+abbrev pub rule_told : Part → Rule
+rule_told (Must id name help) = must id.now
+rule_told (May id name help) = may id.now
+rule_told (Rest id name help) = some id.now
+rule_told (Needs id name help) = needs id.now
+rule_told (Takes id name help) = takes id.now
+rule_told (Flag id help) = flag id.now
+
+-- a command
+abbrev pub app_told : Entry → App
+app_told entry = with_rules (new_app entry.name.now) (map rule_told entry.parts.now)
+
+-- the command line with commands, each behind those before it
+abbrev pub with_entries : App → List Entry → App
+with_entries app [] = app
+with_entries app (entry ∷ rest) = with_entries (with_subcommand app (app_told entry).top) rest

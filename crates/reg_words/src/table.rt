@@ -1,0 +1,203 @@
+//! The command line as a table: its commands, the words and options of each, and what help says of them.
+
+/// A word or an option of a command: its id, which is an option's long name too, what its value is called, and what help
+/// says of it.
+#[derive(Clone, Copy)]
+pub(crate) enum Part {
+    /// A word that must be given.
+    Must(&'static str, &'static str, &'static str),
+    /// A word that may be left out.
+    May(&'static str, &'static str, &'static str),
+    /// One word or more, all that are left.
+    Rest(&'static str, &'static str, &'static str),
+    /// An option that must be given.
+    Needs(&'static str, &'static str, &'static str),
+    /// An option that may be left out.
+    Takes(&'static str, &'static str, &'static str),
+    /// An option that may be left out and takes no value.
+    Flag(&'static str, &'static str),
+}
+
+/// A command: its name, what it does, an example of it, and its words and options.
+#[derive(Clone, Copy)]
+pub(crate) struct Entry {
+    pub(crate) name: &'static str,
+    pub(crate) about: &'static str,
+    pub(crate) example: &'static str,
+    pub(crate) parts: &'static [Part],
+}
+
+// What help says of each word and option: what it is, its unit, its range and what stands where it is left out.
+const NEW_FILE: &str = "The register's file; it must be new or empty";
+
+const NAME: &str = "The issuer's Name, its DER in hexadecimal, at most 1024 bytes";
+
+const KEY: &str =
+    "The issuer's public key, the bits of its subjectPublicKey in hexadecimal, 1 to 2048 bytes";
+
+const DAYS: &str = "The longest validity of a certificate in days, 1 to 398 [default: 398]";
+
+const CRL_LIFE: &str =
+    "Seconds from a CRL's thisUpdate to its nextUpdate, 1 to 863999 [default: 691200, eight days]";
+
+const OCSP_LIFE: &str =
+    "Seconds from an OCSP answer's thisUpdate to its nextUpdate, 28800 to 863999 [default: 345600, four days]";
+
+const CAP: &str = "The most rows of each table of the register, 1 to 1000000 [default: 1000000]";
+
+const FILE_OR_MEMORY: &str =
+    "The register's file; without it a register in memory, of a sample issuer";
+
+const FILE: &str = "The register's file";
+
+const NOW: &str = "The moment of the import in UTC, as 2026-01-01T00:00:00Z";
+
+const NUMBER: &str = "The number of the CRL, 1 to 18 digits [default: the latest]";
+
+const PORT: &str = "The TCP port, 1 to 65535";
+
+const REQUESTS: &str = "How many connections to answer before it ends, 1 to 1000000";
+
+const SIGNER: &str =
+    "The Unix socket of what holds the issuer's key [default: none, and a digest seals, which is no signature]";
+
+const ALGORITHM: &str =
+    "The algorithm of its signatures: ecdsa-sha256, ecdsa-sha384, rsa-sha256 or ed25519";
+
+const CLOCK: &str =
+    "Lines have no moment: the machine's clock is theirs; wants FILE [default: a line begins with its moment]";
+
+const STRICT: &str =
+    "End at the first refusal or fault, with status 3; wants FILE [default: run the lines behind it]";
+
+const COUNTER: &str = "The Unix socket of the counter, which is made with mode 0600";
+
+const AT_COUNTER: &str = "The Unix socket of an open desk's counter";
+
+const STEPS: &str =
+    "From MOMENT on at most DAYS days, 1 to 398; 1 to 16 steps, the first at 1970-01-01T00:00:00Z, moments ascending";
+
+const LOG: &str = "Tell each exchange in a line on standard error";
+
+const CAUSE: &str = "Tell the cause of a fault in a line behind its own, where it is known";
+
+const CAUSE_ANYWHERE: &str =
+    "Tell the cause of a fault in a line behind its own, where it is known; also behind a command";
+
+/// What stands before a command.
+pub(crate) const BEFORE: [Part; 1] = [Part::Flag("why", CAUSE_ANYWHERE)];
+
+// The commands stand in three tables, since a long constant costs the prover seconds in each function that names it. Help lists them in this order.
+
+/// The commands that make a register, run lines over it, and write what it issued.
+pub(crate) const ISSUING: [Entry; 4] = [
+    Entry {
+        name: "init",
+        about: "Make a new register in a file.",
+        example: "Example:\n  desk init ca.db --name 300C310A300806035504030C0154 --key 0102",
+        parts: &[
+            Part::Must("file", "FILE", NEW_FILE),
+            Part::Needs("name", "HEX", NAME),
+            Part::Needs("key", "HEX", KEY),
+            Part::Takes("days", "N", DAYS),
+            Part::Takes("crl-life", "N", CRL_LIFE),
+            Part::Takes("ocsp-life", "N", OCSP_LIFE),
+            Part::Takes("cap", "N", CAP),
+            Part::Flag("why", CAUSE),
+        ],
+    },
+    Entry {
+        name: "script",
+        about: "Run the lines of standard input, and write one reply line for each.",
+        example: "Examples:\n  echo '2026-01-01T00:00:00Z counts' | desk script ca.db\n  echo counts | desk script ca.db --clock --strict",
+        parts: &[
+            Part::May("file", "FILE", FILE_OR_MEMORY),
+            Part::Takes("signer", "SOCKET", SIGNER),
+            Part::Takes("algorithm", "NAME", ALGORITHM),
+            Part::Flag("clock", CLOCK),
+            Part::Flag("strict", STRICT),
+            Part::Flag("why", CAUSE),
+        ],
+    },
+    Entry {
+        name: "import",
+        about: "Register the certificates of a CSV file on standard input: order,serial,notBefore,notAfter.",
+        example: "Example:\n  desk import ca.db --now 2026-01-01T00:00:00Z < certificates.csv",
+        parts: &[
+            Part::Must("file", "FILE", FILE),
+            Part::Needs("now", "MOMENT", NOW),
+            Part::Flag("why", CAUSE),
+        ],
+    },
+    Entry {
+        name: "crl",
+        about: "Write an issued CRL to standard output, in DER.",
+        example: "Example:\n  desk crl ca.db > latest.crl",
+        parts: &[
+            Part::Must("file", "FILE", FILE),
+            Part::Takes("number", "N", NUMBER),
+            Part::Flag("why", CAUSE),
+        ],
+    },
+];
+
+/// The commands that serve, and the one that tells lines to an open desk.
+pub(crate) const SERVING: [Entry; 3] = [
+    Entry {
+        name: "serve",
+        about: "Answer OCSP, CRLs and status over HTTP on 127.0.0.1, by the machine's clock.",
+        example: "Example:\n  desk serve ca.db --port 8080 --requests 1000",
+        parts: &[
+            Part::Must("file", "FILE", FILE),
+            Part::Needs("port", "N", PORT),
+            Part::Needs("requests", "N", REQUESTS),
+            Part::Takes("signer", "SOCKET", SIGNER),
+            Part::Takes("algorithm", "NAME", ALGORITHM),
+            Part::Flag("log", LOG),
+            Part::Flag("why", CAUSE),
+        ],
+    },
+    Entry {
+        name: "open",
+        about: "Keep a register open until it is ended: HTTP on 127.0.0.1, and commands at a counter, by the machine's clock.",
+        example: "Example:\n  desk open ca.db --port 8080 --counter ca.counter",
+        parts: &[
+            Part::Must("file", "FILE", FILE),
+            Part::Needs("port", "N", PORT),
+            Part::Needs("counter", "SOCKET", COUNTER),
+            Part::Takes("signer", "SOCKET", SIGNER),
+            Part::Takes("algorithm", "NAME", ALGORITHM),
+            Part::Flag("log", LOG),
+            Part::Flag("why", CAUSE),
+        ],
+    },
+    Entry {
+        name: "at",
+        about: "Tell the lines of standard input to an open desk, and write one reply line for each; a line has no moment.",
+        example: "Example:\n  echo counts | desk at ca.counter\n\nExit status 3 where a reply is a refusal or a fault.",
+        parts: &[
+            Part::Must("counter", "SOCKET", AT_COUNTER),
+            Part::Flag("why", CAUSE),
+        ],
+    },
+];
+
+/// The commands that look after a register.
+pub(crate) const KEEPING: [Entry; 2] = [
+    Entry {
+        name: "schedule",
+        about: "Set how many days a certificate may be valid, by the moment from which it is valid.",
+        example: "Example:\n  desk schedule ca.db 1970-01-01T00:00:00Z=398 2026-03-15T00:00:00Z=200",
+        parts: &[
+            Part::Must("file", "FILE", FILE),
+            Part::Rest("steps", "MOMENT=DAYS", STEPS),
+            Part::Flag("why", CAUSE),
+        ],
+    },
+    Entry {
+        name: "audit",
+        about: "Read all rows of a register, and tell whether they are those of sound records; nothing is changed.",
+        example: "Example:\n  desk audit ca.db\n\nExit status 1 where a row is not sound, which is named by its table and its place there, from 1 on.",
+        parts: &[Part::Must("file", "FILE", FILE), Part::Flag("why", CAUSE)],
+    },
+];

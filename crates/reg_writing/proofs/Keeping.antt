@@ -1,0 +1,63 @@
+-- A statement that writes rows leaves the schema as it was, whatever the rows are.
+use Rattle.std.proofs.Common.{◌≡◌, ℕ, List, Option, None, Some, Ok, slice_get, ap, ◌∙◌}
+use Rattle.sqlite_value.specs.Order.{Row}
+use Rattle.sqlite_schema.specs.declared.command.Command.{Command}
+use Rattle.sqlite_schema.specs.declared.command.Command.TheVariants.{Insert, Update, Delete}
+use Rattle.sqlite_schema.specs.declared.command.Source.{Source}
+use Rattle.sqlite_schema.specs.declared.program.Program.{Program}
+use Rattle.sqlite_schema.specs.declared.schema.Schema.{Schema}
+use Rattle.sqlite_schema.specs.declared.schema.Table.{Table}
+use Rattle.sqlite.specs.declared.run.Mode.{Mode}
+use Rattle.sqlite.specs.Does.{Tally, AtPlace, Does, OnRows}
+use Rattle.sqlite.specs.Effect.{Database}
+use Rattle.sqlite.specs.Given.{IsPlain}
+use Rattle.sqlite.specs.Listing.{understood}
+use Rattle.sqlite.specs.Rows.{Part, Task}
+use Rattle.sqlite.specs.State.{State, mode_of, Writes}
+use Rattle.sqlite.proofs.Callers.{runs_as, statement_of}
+use Rattle.reg_tables.specs.Reading.{command_of}
+use Rattle.reg_writing.specs.Ran.{Ran}
+use Rattle.reg_writing.proofs.Edits.{went, same_value}
+
+-- what a place that names a table does
+at_table : {A : Type 0} (found : Option Table) (P : Table → Part A) (x : A) (Q : Type 0) → ((table : Table) → P table (Ok x) → Q) → AtPlace P found (Ok x) → Q
+at_table None P x Q leads h = absurd (cc)
+at_table (Some table) P x Q leads h = leads table h
+
+rows_keep : (task : Task) (mode : Mode) (command : Command) (db : Database) (tally : Tally) (after : Database) → OnRows task mode None command db.trees (Ok (tally, after)) → after.schema ≡ task.schema
+rows_keep task mode command db tally after h = ap (λ (x : Tally × Database). x.1.schema) (same_value (went (went (went h).2).2).2)
+
+module _ (limit : Option ℕ) (mode : Mode) (params : Row) (db : Database) (tally : Tally) (after : Database) (text : List ℕ) (at : ℕ) where
+  abbrev task_on : Table → Task
+  task_on table = record { limit = limit; keys = mode.keys; schema = db.schema; table = table; params = params }
+
+  kept_by : (command : Command) → AtPlace (λ table. OnRows (task_on table) mode None command db.trees) (slice_get db.schema.tables at) (Ok (tally, after)) → after.schema ≡ db.schema
+  kept_by command h =
+      at_table (slice_get db.schema.tables at) (λ table. OnRows (task_on table) mode None command db.trees) (tally, after) (after.schema ≡ db.schema)
+      (λ table on. rows_keep (task_on table) mode command db tally after on) h
+
+  insert_keeps : (from : Source) → Does limit mode params db text None (Insert at from) (Ok (tally, after)) → after.schema ≡ db.schema
+  insert_keeps from h = kept_by (Insert at from) h
+
+  update_keeps : (q : Program) → Does limit mode params db text None (Update at q) (Ok (tally, after)) → after.schema ≡ db.schema
+  update_keeps q h = kept_by (Update at q) h
+
+  delete_keeps : (q : Program) → Does limit mode params db text None (Delete at q) (Ok (tally, after)) → after.schema ≡ db.schema
+  delete_keeps q h = kept_by (Delete at q) h
+
+-- a text over a schema that inserts, updates or deletes rows
+module _ (sql : List ℕ) (params : Row) (old new : State) (count : ℕ) (ran : Ran sql params old new count) (schema : Schema) (has : old.now.schema ≡ schema) (plain : IsPlain (understood schema sql)) (at : ℕ) where
+  pub inserts_keep : (from : Source) → command_of (understood schema sql) ≡ Insert at from → new.now.schema ≡ schema
+  inserts_keep from is =
+      let w : Writes old new None (Insert at from) (statement_of sql (understood schema sql)) params count = runs_as sql params old new schema has (Insert at from) is plain count ran.ran in
+      insert_keeps old.step_limit (mode_of old) params old.now w.tally new.now (statement_of sql (understood schema sql)) at from w.changed ∙ has
+
+  pub updates_keep : (q : Program) → command_of (understood schema sql) ≡ Update at q → new.now.schema ≡ schema
+  updates_keep q is =
+      let w : Writes old new None (Update at q) (statement_of sql (understood schema sql)) params count = runs_as sql params old new schema has (Update at q) is plain count ran.ran in
+      update_keeps old.step_limit (mode_of old) params old.now w.tally new.now (statement_of sql (understood schema sql)) at q w.changed ∙ has
+
+  pub deletes_keep : (q : Program) → command_of (understood schema sql) ≡ Delete at q → new.now.schema ≡ schema
+  deletes_keep q is =
+      let w : Writes old new None (Delete at q) (statement_of sql (understood schema sql)) params count = runs_as sql params old new schema has (Delete at q) is plain count ran.ran in
+      delete_keeps old.step_limit (mode_of old) params old.now w.tally new.now (statement_of sql (understood schema sql)) at q w.changed ∙ has

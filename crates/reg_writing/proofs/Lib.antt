@@ -1,0 +1,16 @@
+pub mod Committing
+pub mod Counting
+pub mod Days
+pub mod Edits
+pub mod Keeping
+pub mod Letters
+pub mod Meaning
+pub mod Moving
+pub mod Obeying
+pub mod Params
+pub mod Placing
+pub mod Registers
+pub mod Resting
+pub mod Spared
+pub mod Stages
+pub mod Turning

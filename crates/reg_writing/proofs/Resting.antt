@@ -1,0 +1,49 @@
+-- What a stop may find after a transaction.
+use Rattle.std.proofs.Common.{◌≡◌, true, refl, sym, subst}
+use Rattle.sqlite_trees.specs.Tree.{Trees}
+use Rattle.sqlite_catalog.specs.Listing.{IsSound}
+use Rattle.sqlite_trees.specs.declared.store.Store.{Ghosts}
+use Rattle.sqlite.specs.Effect.{Database, IsDatabase}
+use Rattle.sqlite.specs.Held.{Held, state}
+use Rattle.sqlite.specs.State.{State, HasCleanDisk, Survives}
+use Rattle.sqlite.proofs.Callers.{survives_begin}
+use Rattle.sqlite.proofs.StateLemmas.{survives_then, survives_weaker}
+use Rattle.reg_core.specs.Records.{Records}
+use Rattle.reg_tables.specs.Columns.{Columns}
+use Rattle.reg_tables.specs.Schema.{register_schema}
+use Rattle.reg_tables.specs.Shows.{AreBoth}
+use Rattle.reg_tables.specs.Stays.{LeavesNothing}
+use Rattle.reg_writing.specs.AtRest.{AreARegisters}
+
+-- what a database shows its rows show
+pub resting : (db : Database) (trees : Trees) (records : Records) (columns : Columns) → trees ≡ db.trees → AreBoth db records columns → AreBoth (record { schema = register_schema; trees = trees }) records columns
+resting db trees records columns is both =
+    subst (λ t. AreBoth (record { schema = register_schema; trees = t }) records columns) (sym is) (record { shown = record { schema = refl; rows = both.shown.rows }; kept = both.kept })
+
+-- and what it obeys they obey
+pub rests_sound : (db : Database) (trees : Trees) → trees ≡ db.trees → db.schema ≡ register_schema → IsDatabase db → AreARegisters trees
+rests_sound db trees is schema sound = subst (λ t. IsSound register_schema t) (sym is) (subst (λ s. IsSound s db.trees) schema sound)
+
+-- what commits nothing leaves what any call may
+pub leaves_less : (old new : State) (P : Trees → Type 0) → LeavesNothing old new → Survives old new P
+leaves_less old new P = survives_weaker old new (λ _. ⊥) P (λ clean trees none. absurd none)
+
+-- a call that commits nothing, and one that may
+pub leaves_first : (a b c : State) (P : Trees → Type 0) → LeavesNothing a b → Survives b c P → Survives a c P
+leaves_first a b c P = survives_then a b c (λ _. ⊥) P P (λ clean trees none. absurd none) (λ clean trees p. p)
+
+module _ {S : Type 0} (g : Ghosts S) (was begun entered ended : Held S) (begins : begun ≡ record was { in_transaction = true }) where
+  -- a transaction that is committed, or should have been: what it wrote, or nothing of it
+  pub survives_commit : (P : Trees → Type 0) → LeavesNothing (state g begun) (state g entered) → Survives (state g entered) (state g ended) (λ trees. trees ≡ (state g entered).now.trees)
+      → (HasCleanDisk (state g ended) → (trees : Trees) → trees ≡ (state g entered).now.trees → P trees) → Survives (state g was) (state g ended) P
+  survives_commit P first second made =
+      survives_begin g was (state g ended) P
+      (subst (λ h. Survives (state g h) (state g ended) P) begins
+      (survives_then (state g begun) (state g entered) (state g ended) (λ _. ⊥) (λ trees. trees ≡ (state g entered).now.trees) P (λ clean trees none. absurd none) made first second))
+
+  -- a transaction that is undone
+  pub survives_undone : (P : Trees → Type 0) → LeavesNothing (state g begun) (state g entered) → LeavesNothing (state g entered) (state g ended) → Survives (state g was) (state g ended) P
+  survives_undone P first second =
+      survives_begin g was (state g ended) P
+      (subst (λ h. Survives (state g h) (state g ended) P) begins
+      (survives_then (state g begun) (state g entered) (state g ended) (λ _. ⊥) (λ _. ⊥) P (λ clean trees none. absurd none) (λ clean trees none. absurd none) first second))

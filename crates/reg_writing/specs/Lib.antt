@@ -1,0 +1,4 @@
+pub mod AtRest
+pub mod Ran
+pub mod Staged
+pub mod Steps

@@ -1,0 +1,10 @@
+//! The register's tables as a transaction writes them: one statement, and what each one leaves.
+#![tactic(auto)]
+
+mod counts;
+mod scheduling;
+mod texts;
+pub mod writing;
+
+pub use counts::set_counts;
+pub use scheduling::put_steps;
