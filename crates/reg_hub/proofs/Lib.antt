@@ -1,2 +1,3 @@
 pub mod Exchanges
 pub mod Holdings
+pub mod Notings

@@ -1,5 +1,6 @@
 pub mod Exchange
 pub mod Held
 pub mod Lines
+pub mod Notes
 pub mod Stages
 pub mod Unsent

@@ -3,17 +3,26 @@
 #![tactic(auto)]
 
 mod caller;
+mod callers;
+mod door;
+mod due;
 mod handler;
 mod hub;
 mod link;
+mod losses;
 mod places;
+mod shared;
+mod sought;
 mod taking;
 mod teller;
+mod tellers;
 mod unsent;
+mod watcher;
 
 pub use caller::{Caller, Next};
+pub use callers::MOST_CALLERS;
 pub use handler::{Handler, Lost, Stopped};
-pub use hub::{Hub, MOST_CALLERS};
+pub use hub::Hub;
 pub use link::Link;
 pub use taking::{Taken, take_in};
 pub use teller::Teller;

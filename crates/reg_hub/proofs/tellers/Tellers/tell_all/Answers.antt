@@ -1,6 +1,6 @@
 use Rattle.std.proofs.Common.{refl}
 use Rattle.reg_hub.proofs.Exchanges.{exchanged_none, exchanged_then}
-use Rattle.reg_hub.proofs.hub.Hub.tell_all.Goals as goal
+use Rattle.reg_hub.proofs.tellers.Tellers.tell_all.Goals as goal
 
 pub returns-then-not-self : goal.returns-then-not-self
 returns-then-not-self g c made = exchanged_none g.H.Handler.answers g.H.Handler.tells _ _ made made refl refl

@@ -1,6 +1,6 @@
 use Rattle.std.proofs.Common.{ℕ}
 use Rattle.reg_hub.specs.Exchange.{Exchanged}
-use Rattle.reg_hub.proofs.hub.Hub.tell_all.Given as goal
+use Rattle.reg_hub.proofs.tellers.Tellers.tell_all.Given as goal
 
 -- what was exchanged so far
 abbrev pub invariant-loop-place : goal.invariant-loop-place

@@ -1,0 +1,279 @@
+//! The peers at their places.
+
+ghost use Rattle.std.specs.Prelude.{◌≡◌, ◌+◌, ◌-◌, ◌^◌, min, [], IfOk, true};
+ghost use Rattle.reg_hub.specs.Notes.{Notes};
+
+use crate::caller::{Caller, Next};
+use crate::due::Due;
+use crate::handler::Lost;
+use crate::losses::Loss;
+use crate::places::Places;
+use crate::shared::Shared;
+use crate::sought::{Sought, is_sought};
+use crate::watcher::FIRST_CALLER;
+use mio::Interest;
+use mio::net::TcpStream;
+use std::alloc::{AllocError, Global};
+
+/// How many peers there may be at once: with what else a program has open, that fits the usual limit of 1,024 descriptors.
+pub const MOST_CALLERS: usize = 1_000;
+
+/// The most bytes of answers that are not sent yet.
+const MOST_UNSENT: usize = 67_108_864;
+
+/// How many milliseconds pass between two looks for peers whose time is over.
+pub(crate) const SWEEP: u64 = 250;
+
+/// The peers, each at its place.
+#[derive(Drop)]
+pub(crate) struct Callers {
+    places: Places<Caller<TcpStream>>,
+    /// Who is to be answered in this turn.
+    pub(crate) due: Due,
+    /// How many bytes of their answers are not sent yet.
+    unsent: usize,
+    /// When their times were looked at last.
+    swept: u64,
+}
+
+impl Callers {
+    /// So many places, and nobody there yet.
+    pub(crate) fn new(alloc: Global, count: usize) -> Result<Callers, AllocError>
+        ensures { IfOk result (λ callers. callers.due.places.items ≡ []) }
+    {
+        let due = Due::new(alloc, count)?;
+        let places = Places::new(alloc, count)?;
+        Ok(Callers {
+            places,
+            due,
+            unsent: 0,
+            swept: 0,
+        })
+    }
+
+    /// How many there are.
+    pub(crate) fn taken(&self) -> usize {
+        self.places.taken()
+    }
+
+    /// Whether there is a place for one more.
+    pub(crate) fn has_room(&self) -> bool {
+        self.places.has_room()
+    }
+
+    /// Lifts the peer at a place out of it.
+    pub(crate) fn lift(&mut self, place: usize) -> Option<Caller<TcpStream>> {
+        self.places.lift(place)
+    }
+
+    /// Counts the bytes of an answer that are not sent yet: so many before, and so many now.
+    pub(crate) fn count_unsent(&mut self, before: usize, after: usize)
+        ensures count { self.new.unsent ≡ min (self.old.unsent - before + after) (2 ^ 64 - 1) }
+        ensures due { self.new.due ≡ self.old.due }
+    {
+        self.unsent = self.unsent.saturating_sub(before).saturating_add(after);
+    }
+}
+
+/// How they go on.
+impl Callers {
+    /// Seats a peer at an empty place, and goes on with it.
+    pub(crate) fn seat(&mut self, caller: Caller<TcpStream>, shared: &mut Shared, now: u64) {
+        if let Some(place) = self.places.take() {
+            // Most requests are whole by now.
+            self.settle(place, caller, shared, now);
+        }
+    }
+
+    /// Goes on with the peer at a place.
+    pub(crate) fn advance(&mut self, place: usize, shared: &mut Shared, now: u64) {
+        if let Some(caller) = self.places.lift(place) {
+            self.settle(place, caller, shared, now);
+        }
+    }
+
+    /// Goes on with a peer that was lifted out of a place, and puts it back unless it is to be let go.
+    pub(crate) fn settle(
+        &mut self,
+        place: usize,
+        mut caller: Caller<TcpStream>,
+        shared: &mut Shared,
+        now: u64,
+    ) {
+        let before = caller.unsent();
+        let next = caller.advance(shared.room.as_mut_slice(), now);
+        self.count_unsent(before, caller.unsent());
+        match next {
+            Next::Due => self.put_due(place, caller),
+            Next::Waits(interest) => self.wait_for(place, caller, shared, interest),
+            Next::Gone => self.let_go(place, caller, shared, Lost::Broken),
+        }
+    }
+
+    /// Puts back a peer that is to be answered.
+    fn put_due(&mut self, place: usize, caller: Caller<TcpStream>)
+        ensures { Notes place self.old.due.places.items self.new.due.places.items }
+    {
+        self.places.put(place, caller);
+        self.due.add(place);
+    }
+
+    /// Has a peer watched.
+    fn wait_for(
+        &mut self,
+        place: usize,
+        mut caller: Caller<TcpStream>,
+        shared: &mut Shared,
+        interest: Interest,
+    ) {
+        if watch(&mut caller, place, shared, interest) {
+            self.places.put(place, caller);
+        } else {
+            self.let_go(place, caller, shared, Lost::Broken);
+        }
+    }
+
+    /// Lets go a peer that was lifted out of a place. Why is told where its answer is not sent, and no fault was told of it before.
+    fn let_go(&mut self, place: usize, caller: Caller<TcpStream>, shared: &mut Shared, why: Lost)
+        ensures { self.new.due ≡ self.old.due }
+    {
+        if caller.unsent() > 0 && caller.fault.is_none() {
+            let peer = Some(caller.peer);
+            shared.losses.note(Loss { peer, why });
+        }
+        self.count_unsent(caller.unsent(), 0);
+        drop(caller);
+        self.places.free(place);
+    }
+}
+
+/// Has the peer at a place watched; whether it could be.
+fn watch(caller: &mut Caller<TcpStream>, place: usize, shared: &Shared, interest: Interest) -> bool
+    ensures { caller.new.is_registered ≡ true }
+{
+    let was_watched = caller.is_registered;
+    caller.is_registered = true;
+    let token = place.saturating_add(FIRST_CALLER);
+    shared
+        .watcher
+        .watch(&mut caller.link, token, interest, was_watched)
+        .is_ok()
+}
+
+/// Who is let go.
+impl Callers {
+    /// Lets one peer go: the oldest that has its answer, or else the oldest, which is answered first.
+    pub(crate) fn make_room(&mut self, shared: &mut Shared) {
+        match self.oldest(Sought::Answered) {
+            Some(place) => self.end(place, shared, Lost::Crowded),
+            None => self.hurry(),
+        }
+    }
+
+    /// Has the oldest peer that still asks answered as it is, for others.
+    fn hurry(&mut self) {
+        if let Some(place) = self.oldest(Sought::Asking) {
+            if let Some(mut caller) = self.places.lift(place) {
+                caller.fault = Some(Lost::Crowded);
+                self.put_due(place, caller);
+            }
+        }
+    }
+
+    /// The place of the oldest of those that are looked for.
+    fn oldest(&self, sought: Sought) -> Option<usize> {
+        let mut found = None;
+        let mut least = u64::MAX;
+        for place in 0..self.places.count() {
+            let number = self.number_at(place, sought);
+            if number < least {
+                least = number;
+                found = Some(place);
+            }
+        }
+        found
+    }
+
+    /// The number of the peer at a place, if it is one that is looked for, or else one that nobody has.
+    fn number_at(&self, place: usize, sought: Sought) -> u64 {
+        match self.places.peek(place) {
+            Some(caller) if is_sought(caller, place, sought) => caller.number,
+            _ => u64::MAX,
+        }
+    }
+
+    /// Looks for peers whose time is over: who still asks is answered, and who has an answer is let go.
+    pub(crate) fn sweep(&mut self, shared: &mut Shared, now: u64) {
+        if now.saturating_sub(self.swept) < SWEEP {
+            return;
+        }
+        self.swept = now;
+        for place in 0..self.places.count() {
+            if self.is_late(place, now) {
+                self.end(place, shared, Lost::Late);
+            }
+        }
+    }
+
+    /// Whether the time of the peer at a place is over.
+    fn is_late(&self, place: usize, now: u64) -> bool {
+        match self.places.peek(place) {
+            Some(caller) => caller.is_late(now),
+            None => false,
+        }
+    }
+
+    /// Ends the time of the peer at a place.
+    fn end(&mut self, place: usize, shared: &mut Shared, why: Lost) {
+        if let Some(caller) = self.places.lift(place) {
+            if caller.is_asking() {
+                self.put_due(place, caller);
+            } else {
+                self.let_go(place, caller, shared, why);
+            }
+        }
+    }
+
+    /// Holds no more unsent bytes than there may be: lets the oldest go whose answer is not sent, but for the newest answer.
+    pub(crate) fn shed(&mut self, newest: usize, shared: &mut Shared) {
+        for _ in 0..MOST_CALLERS {
+            if self.unsent <= MOST_UNSENT {
+                return;
+            }
+            match self.oldest(Sought::Unsent(newest)) {
+                Some(place) => self.end(place, shared, Lost::Crowded),
+                None => return,
+            }
+        }
+    }
+
+    /// Lets all go that still ask.
+    pub(crate) fn leave_all(&mut self, shared: &mut Shared) {
+        for place in 0..self.places.count() {
+            self.leave(place, shared);
+        }
+    }
+
+    /// Lets those go that are due.
+    pub(crate) fn leave_due(&mut self, shared: &mut Shared)
+        ensures { self.new.due.places.items ≡ [] }
+    {
+        for index in 0..self.due.count() {
+            if let Some(place) = self.due.at(index) {
+                self.leave(place, shared);
+            }
+        }
+        self.due.clear();
+    }
+
+    /// Lets the peer at a place go, if it still asks.
+    fn leave(&mut self, place: usize, shared: &mut Shared) {
+        if let Some(caller) = self.places.lift(place) {
+            if caller.is_asking() {
+                self.let_go(place, caller, shared, Lost::Late);
+            } else {
+                self.places.put(place, caller);
+            }
+        }
+    }
+}

@@ -1,0 +1,148 @@
+//! The door: where peers come in.
+
+ghost use Rattle.std.specs.Prelude.{◌≡◌, ◌≤◌, IfOk};
+
+use crate::caller::Caller;
+use crate::callers::Callers;
+use crate::handler::Stopped;
+use crate::shared::Shared;
+use crate::watcher::{LISTENER, Watcher};
+use mio::Interest;
+use mio::net::{TcpListener, TcpStream};
+use std::io;
+use std::io::ErrorKind;
+use std::net::SocketAddr;
+
+/// The most connections that are accepted in a turn.
+const MOST_ACCEPTED: usize = 64;
+
+/// A listener, and the peer that it gave last.
+#[derive(Drop)]
+pub(crate) struct Door {
+    listener: TcpListener,
+    /// The peer that was accepted and has no place yet.
+    next: Option<(TcpStream, SocketAddr)>,
+    /// Whether the listener may have one more connection.
+    pub(crate) has_callers: bool,
+    /// How many peers were accepted.
+    pub(crate) accepted: u64,
+}
+
+impl Door {
+    /// A door over a listener that does not wait.
+    ///
+    /// # Errors
+    ///
+    /// What the system says where the listener can't be watched.
+    pub(crate) fn new(mut listener: TcpListener, watcher: &Watcher) -> io::Result<Door>
+        ensures { IfOk result (λ door. door.accepted ≡ 0) }
+    {
+        watcher.watch(&mut listener, LISTENER, Interest::READABLE, false)?;
+        Ok(Door {
+            listener,
+            next: None,
+            has_callers: true,
+            accepted: 0,
+        })
+    }
+
+    /// Whether a peer may be seated, where so many are accepted at most.
+    pub(crate) fn may_seat(&self, most: u64) -> bool {
+        self.next.is_some() || (self.has_callers && self.accepted < most)
+    }
+
+    /// Seats peers, as long as there are any, of which so many are accepted at most.
+    ///
+    /// # Errors
+    ///
+    /// [`Stopped`], where the system gives no peer and none is there whose end could help.
+    pub(crate) fn seat_all(
+        &mut self,
+        most: u64,
+        callers: &mut Callers,
+        shared: &mut Shared,
+        now: u64,
+    ) -> Result<(), Stopped>
+        ensures within { self.old.accepted ≤ most → self.new.accepted ≤ most }
+    {
+        for _ in 0..MOST_ACCEPTED {
+            match self.seat_next(most, callers, shared, now) {
+                Ok(true) => {}
+                Ok(false) => return Ok(()),
+                Err(stopped) => return Err(stopped),
+            }
+        }
+        Ok(())
+    }
+
+    /// Seats the next peer; whether there may be one more.
+    fn seat_next(
+        &mut self,
+        most: u64,
+        callers: &mut Callers,
+        shared: &mut Shared,
+        now: u64,
+    ) -> Result<bool, Stopped>
+        ensures within { self.old.accepted ≤ most → self.new.accepted ≤ most }
+    {
+        self.accept_next(most, callers, shared)?;
+        if self.next.is_some() && !callers.has_room() {
+            callers.make_room(shared);
+            return Ok(false);
+        }
+        match self.next.take() {
+            Some((link, peer)) => {
+                let caller = Caller::new(shared.alloc, link, peer, self.accepted, now);
+                callers.seat(caller, shared, now);
+                Ok(true)
+            }
+            None => Ok(false),
+        }
+    }
+
+    /// Accepts the next peer, if there is one and none waits for a place.
+    fn accept_next(
+        &mut self,
+        most: u64,
+        callers: &mut Callers,
+        shared: &mut Shared,
+    ) -> Result<(), Stopped>
+        ensures within { self.old.accepted ≤ most → self.new.accepted ≤ most }
+    {
+        if self.next.is_some() || !self.has_callers || self.accepted >= most {
+            return Ok(());
+        }
+        match self.listener.accept() {
+            Ok((link, peer)) => {
+                self.accepted += 1;
+                self.next = Some((link, peer));
+                Ok(())
+            }
+            Err(error) => self.refused(error.kind(), callers, shared),
+        }
+    }
+
+    /// No connection was accepted.
+    fn refused(
+        &mut self,
+        why: ErrorKind,
+        callers: &mut Callers,
+        shared: &mut Shared,
+    ) -> Result<(), Stopped>
+        ensures { self.new.accepted ≡ self.old.accepted }
+    {
+        match why {
+            ErrorKind::WouldBlock => {
+                self.has_callers = false;
+                Ok(())
+            }
+            ErrorKind::Interrupted | ErrorKind::ConnectionAborted => Ok(()),
+            _ if callers.taken() == 0 => Err(Stopped),
+            _ => {
+                // No descriptor may be left.
+                callers.make_room(shared);
+                Ok(())
+            }
+        }
+    }
+}

@@ -1,0 +1,107 @@
+//! What tells which connections are ready.
+
+ghost use Rattle.std.specs.Prelude.{◌≡◌, [], IfOk, slice_get, vec_len};
+
+use crate::handler::Stopped;
+use mio::event::Source;
+use mio::{Events, Interest, Poll, Token};
+use std::alloc::AllocGlobal;
+use std::io;
+use std::net::Net;
+use std::time::Duration;
+
+/// The most events of a turn.
+const MOST_EVENTS: usize = 1_024;
+
+/// The tokens of the listeners; behind them come those of the counters, and then those of the peers.
+pub(crate) const LISTENER: usize = 0;
+
+pub(crate) const COUNTER: usize = 1;
+
+pub(crate) const FIRST_TELLER: usize = 2;
+
+pub(crate) const FIRST_CALLER: usize = 10;
+
+/// Watches connections, and holds the tokens of those that are ready in this turn.
+#[derive(Drop)]
+pub(crate) struct Watcher {
+    poll: Poll,
+    events: Events,
+    tokens: Vec<usize>,
+}
+
+impl Watcher {
+    /// Watches nothing yet.
+    pub(crate) fn new(rt: &(impl Net + AllocGlobal)) -> io::Result<Watcher>
+        ensures { IfOk result (λ watcher. watcher.tokens.items ≡ []) }
+    {
+        let alloc = rt.alloc();
+        let tokens = Vec::with_capacity(alloc, MOST_EVENTS)?;
+        let events = Events::with_capacity(alloc, MOST_EVENTS)?;
+        let poll = Poll::new(rt)?;
+        Ok(Watcher {
+            poll,
+            events,
+            tokens,
+        })
+    }
+
+    /// Has a connection watched under a token from now on, which was watched before or was not.
+    ///
+    /// # Errors
+    ///
+    /// What the system says where it can't be watched.
+    pub(crate) fn watch<S: Source>(
+        &self,
+        source: &mut S,
+        token: usize,
+        interest: Interest,
+        was_watched: bool,
+    ) -> io::Result<()>
+        ensures { S.keeps source.old source.new }
+    {
+        let registry = self.poll.registry();
+        if was_watched {
+            registry.reregister(source, Token(token), interest)
+        } else {
+            registry.register(source, Token(token), interest)
+        }
+    }
+
+    /// Waits until something is ready, no longer than this.
+    ///
+    /// # Errors
+    ///
+    /// [`Stopped`], where the system can't tell what is ready.
+    pub(crate) fn wait(&mut self, longest: Duration) -> Result<(), Stopped> {
+        if self.poll.poll(&mut self.events, Some(longest)).is_err() {
+            return Err(Stopped);
+        }
+        self.copy_tokens();
+        Ok(())
+    }
+
+    /// The tokens of what is ready.
+    fn copy_tokens(&mut self) {
+        self.tokens.clear();
+        for event in &self.events {
+            let Token(token) = event.token();
+            // There is room for each event.
+            let _ = self.tokens.push(token);
+        }
+    }
+
+    /// How many are ready.
+    pub(crate) fn count(&self) -> usize
+        ensures { result ≡ vec_len self.now.tokens }
+    {
+        self.tokens.len()
+    }
+
+    /// The token of one that is ready.
+    pub(crate) fn token_at(&self, index: usize) -> Option<usize>
+        ensures { result ≡ slice_get self.now.tokens.items index }
+    {
+        self.tokens.get(index).copied()
+    }
+}
