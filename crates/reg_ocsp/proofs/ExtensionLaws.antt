@@ -1,5 +1,5 @@
 -- Extensions: what is read is spelled so, and what is spelled so is read.
-use Rattle.std.proofs.Common.{◌≡◌, ℕ, ◌≤◌, Bool, true, false, not, ◌&&◌, ◌||◌, cond, eqb, List, [], ◌∷◌, ◌++◌, length, map, Option, Some, None, unwrap_or, refl, sym, ap, subst, ◌∙◌, arith}
+use Rattle.std.proofs.Common.{◌≡◌, ℕ, ◌%◌, ◌<◌, ◌≤◌, Bool, true, false, not, ◌&&◌, ◌||◌, cond, eqb, List, [], ◌∷◌, ◌++◌, length, map, Option, Some, None, unwrap_or, refl, sym, ap, subst, ◌∙◌, arith}
 use Rattle.std.specs.Prelude.{IfSome}
 use Rattle.std.specs.List.{flat_map}
 use Rattle.std.specs.Str.{bytes_eq}
@@ -12,8 +12,8 @@ use Rattle.reg_der.specs.Reading.{◌>>=◌, Takes}
 use Rattle.reg_der.proofs.PublicLaws.{value_size}
 use Rattle.reg_ocsp.proofs.Steps.{bind_then, some_is, kept}
 use Rattle.reg_ocsp.specs.Request.{Extension, IsExtension, AreExtensions, nonce_identifier, first_nonce, optional, boolean, critical, extension, extensions}
-use Rattle.reg_ocsp.specs.Reading.{expect_at, whole_at, optional_at, all_at, flag_of, written_flag, critical_at, is_refused, extension_at, nonce_at, written_nonce}
-use Rattle.reg_ocsp.proofs.PartLaws.{expect_takes, expect_again, whole_takes, whole_again, optional_takes, optional_again, BeginsElse, begins_last}
+use Rattle.reg_ocsp.specs.Reading.{expect_at, whole_at, optional_at, last_at, all_at, flag_of, written_flag, critical_at, is_refused, fields_at, extension_at, nonce_at, written_nonce, last_nonce_at}
+use Rattle.reg_ocsp.proofs.PartLaws.{expect_takes, expect_again, whole_takes, whole_again, optional_takes, optional_again, last_takes, last_again, IsSmall, BeginsElse, begins_last}
 use Rattle.reg_ocsp.proofs.ItemLaws.{Reads, TakesItem, items_take, items_again}
 
 pub or_false : (a b : Bool) → (a || b) ≡ false → (a ≡ false) × (b ≡ false)
@@ -85,17 +85,20 @@ critical_again flag rest begins =
 
 -- ---- one extension
 
-abbrev after_value : List ℕ → List ℕ → Option Bool → List ℕ → Option (Extension × List ℕ)
-after_value rest identifier flag value = cond (is_refused identifier flag) None (Some (record { identifier = identifier; critical = flag; value = value }, rest))
+abbrev after_value : List ℕ → Option Bool → List ℕ → Option Extension
+after_value identifier flag value = cond (is_refused identifier flag) None (Some (record { identifier = identifier; critical = flag; value = value }))
 
-abbrev after_critical : List ℕ → List ℕ → Option Bool × List ℕ → Option (Extension × List ℕ)
-after_critical rest identifier flag = whole_at 0x04 flag.1 >>= after_value rest identifier flag.0
+abbrev after_critical : List ℕ → Option Bool × List ℕ → Option Extension
+after_critical identifier flag = whole_at 0x04 flag.1 >>= after_value identifier flag.0
 
-abbrev after_identifier : List ℕ → List ℕ × List ℕ → Option (Extension × List ℕ)
-after_identifier rest identifier = critical_at identifier.1 >>= after_critical rest identifier.0
+abbrev after_identifier : List ℕ × List ℕ → Option Extension
+after_identifier identifier = critical_at identifier.1 >>= after_critical identifier.0
+
+abbrev after_fields : List ℕ → Extension → Option (Extension × List ℕ)
+after_fields rest e = Some (e, rest)
 
 abbrev after_outer : List ℕ × List ℕ → Option (Extension × List ℕ)
-after_outer outer = expect_at 0x06 outer.0 >>= after_identifier outer.1
+after_outer outer = fields_at outer.0 >>= after_fields outer.1
 
 known_from : (identifier : List ℕ) (flag : Option Bool) → (unwrap_or flag false && not (bytes_eq identifier nonce_identifier)) ≡ false → flag ≡ Some true → identifier ≡ nonce_identifier
 known_from identifier None e same = absurd cc
@@ -124,31 +127,45 @@ passes e fits =
 abbrev pub same_extension : Extension → Extension
 same_extension e = e
 
+-- the contents are those of an extension that is known or need not be
+record HasFields (contents : List ℕ) (e : Extension) : Type 0 where
+  spelled : contents ≡ tlv 0x06 e.identifier ++ (critical e.critical ++ tlv 0x04 e.value)
+  fits : IsExtension e
+
+fields_take : (bytes : List ℕ) (e : Extension) → IsBytes bytes → fields_at bytes ≡ Some e → HasFields bytes e
+unfolding fields_at
+fields_take bytes e each read =
+    bind_then (expect_at 0x06 bytes) after_identifier e read (λ identifier read_identifier e2.
+    bind_then (critical_at identifier.1) (after_critical identifier.0) e e2 (λ flag read_flag e3.
+    bind_then (whole_at 0x04 flag.1) (after_value identifier.0 flag.0) e e3 (λ value read_value e4.
+    let made : Extension = record { identifier = identifier.0; critical = flag.0; value = value } in
+    let g = kept (is_refused identifier.0 flag.0) (Some made) e e4 in
+    let t1 = expect_takes 0x06 bytes identifier each read_identifier in
+    let t2 = critical_takes identifier.1 flag t1.taken.each read_flag in
+    let t3 = whole_takes 0x04 flag.1 value t2.each read_value in
+    subst (λ (x : Extension). HasFields bytes x) (some_is made e g.1)
+    (record {
+      spelled = t1.taken.parts ∙ ap (λ (r : List ℕ). tlv 0x06 identifier.0 ++ r) (t2.parts ∙ ap (λ (r : List ℕ). critical flag.0 ++ r) t3.spelled);
+      fits = not_refused identifier.0 flag.0 value g.0;
+    }))))
+
 pub extension_takes : (bytes : List ℕ) (x : Extension × List ℕ) → IsBytes bytes → extension_at bytes ≡ Some x → TakesItem extension same_extension IsExtension bytes x.0 x.1
 unfolding extension_at
 extension_takes bytes x each e =
     bind_then (expect_at 0x30 bytes) after_outer x e (λ outer read_outer e1.
-    bind_then (expect_at 0x06 outer.0) (after_identifier outer.1) x e1 (λ identifier read_identifier e2.
-    bind_then (critical_at identifier.1) (after_critical outer.1 identifier.0) x e2 (λ flag read_flag e3.
-    bind_then (whole_at 0x04 flag.1) (after_value outer.1 identifier.0 flag.0) x e3 (λ value read_value e4.
-    let g = kept (is_refused identifier.0 flag.0) (Some (record { identifier = identifier.0; critical = flag.0; value = value }, outer.1)) x e4 in
+    bind_then (fields_at outer.0) (after_fields outer.1) x e1 (λ made read_made e2.
     let t0 = expect_takes 0x30 bytes outer each read_outer in
-    let t1 = expect_takes 0x06 outer.0 identifier t0.inner read_identifier in
-    let t2 = critical_takes identifier.1 flag t1.taken.each read_flag in
-    let t3 = whole_takes 0x04 flag.1 value t2.each read_value in
-    let inner : outer.0 ≡ tlv 0x06 identifier.0 ++ (critical flag.0 ++ tlv 0x04 value) =
-    t1.taken.parts ∙ ap (λ (r : List ℕ). tlv 0x06 identifier.0 ++ r) (t2.parts ∙ ap (λ (r : List ℕ). critical flag.0 ++ r) t3.spelled) in
-    let made : Extension = record { identifier = identifier.0; critical = flag.0; value = value } in
-    subst (λ (y : Extension × List ℕ). TakesItem extension same_extension IsExtension bytes y.0 y.1) (some_is (made, outer.1) x g.1)
+    let t1 = fields_take outer.0 made t0.inner read_made in
+    subst (λ (y : Extension × List ℕ). TakesItem extension same_extension IsExtension bytes y.0 y.1) (some_is (made, outer.1) x e2)
     (record {
       tree = made;
-      fits = not_refused identifier.0 flag.0 value g.0;
-      taken = subst (λ (c : List ℕ). Takes bytes (tlv 0x30 c) outer.1) inner t0.taken;
+      fits = t1.fits;
+      taken = subst (λ (c : List ℕ). Takes bytes (tlv 0x30 c) outer.1) t1.spelled t0.taken;
       same = refl;
-    })))))
+    })))
 
 pub extension_again : (e : Extension) (rest : List ℕ) → IsExtension e → length (extension e) ≤ 65536 → extension_at (extension e ++ rest) ≡ Some (e, rest)
-unfolding extension_at
+unfolding extension_at fields_at
 extension_again e rest fits small =
     let last = tlv 0x04 e.value in
     let after = critical e.critical ++ last in
@@ -230,3 +247,35 @@ written_nonce_again tag (Some es) fits small =
     let e0 = whole_again 0x30 list (omega arith) l0 in
     let e1 = items_again extension_at extension same_extension IsExtension extension_reads es (length list) fits (omega arith) l0 in
     rw (e0, e1, map_same es) refl
+
+-- what is written of extensions is few where they are
+pub contents_small : (tag : ℕ) (written : Option (List ℕ)) → length (optional tag written) ≤ 65536 → IsSmall written
+contents_small tag None small = tt
+contents_small tag (Some contents) small = omega (arith, (value_size tag contents).least)
+
+-- ---- extensions to the end
+
+-- what was read of extensions under the tag, or of no bytes
+pub record TakesLast (tag : ℕ) (bytes : List ℕ) (nonce : Option (List ℕ)) : Type 0 where
+  pub tree : Option (List Extension)
+  pub fits : AreExtensions tree
+  pub spelled : bytes ≡ extensions tag tree
+  pub same : nonce ≡ nonce_in tree
+
+pub last_nonce_takes : (tag : ℕ) (bytes : List ℕ) (nonce : Option (List ℕ)) → IsBytes bytes → last_nonce_at tag bytes ≡ Some nonce → TakesLast tag bytes nonce
+unfolding last_nonce_at
+last_nonce_takes tag bytes nonce each e =
+    bind_then (last_at tag bytes) written_nonce nonce e (λ written read then.
+    let t0 = last_takes tag bytes written each read in
+    let t1 = written_nonce_takes tag written nonce t0.inner then in
+    record { tree = t1.tree; fits = t1.fits; spelled = t0.spelled ∙ t1.spelled; same = t1.same })
+
+pub last_nonce_again : (tag : ℕ) (tree : Option (List Extension)) → tag % 32 < 31 → AreExtensions tree → length (extensions tag tree) ≤ 65536
+    → last_nonce_at tag (extensions tag tree) ≡ Some (nonce_in tree)
+unfolding last_nonce_at
+last_nonce_again tag tree low fits small =
+    let written = contents_of tree in
+    let is : extensions tag tree ≡ optional tag written = extensions_are tag tree in
+    let few : length (optional tag written) ≤ 65536 = let same = ap length is in omega arith in
+    let again : last_at tag (extensions tag tree) ≡ Some written = rw is (last_again tag written low (contents_small tag written few)) in
+    rw again (written_nonce_again tag tree fits small)

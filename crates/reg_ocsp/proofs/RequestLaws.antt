@@ -16,11 +16,11 @@ use Rattle.reg_ocsp.specs.declared.asked.Asked.{Asked}
 use Rattle.reg_ocsp.specs.declared.fault.AskFault.{AskFault}
 use Rattle.reg_ocsp.specs.declared.fault.AskFault.TheVariants.{Malformed, Memory}
 use Rattle.reg_ocsp.specs.Views.{id_seen, ids_seen, GivesUnlessMemory}
-use Rattle.reg_ocsp.specs.Reading.{expect_at, whole_at, optional_at, last_at, all_at, ids_at, single_at, is_version, version_at, written_nonce, signed_at, parts_at, request_at}
+use Rattle.reg_ocsp.specs.Reading.{expect_at, whole_at, optional_at, last_at, all_at, ids_at, single_at, is_version, version_at, last_nonce_at, list_at, signed_at, tbs_at, parts_at, request_at}
 use Rattle.reg_ocsp.proofs.PartLaws.{chosen, expect_takes, expect_again, whole_takes, whole_again, optional_takes, optional_again, last_takes, last_again, IsSmall, BeginsElse, begins_value, begins_optional}
 use Rattle.reg_ocsp.proofs.ItemLaws.{TakesAll, items_take, items_again}
-use Rattle.reg_ocsp.proofs.ExtensionLaws.{nonce_in, contents_of, extensions_are, written_nonce_takes, written_nonce_again}
-use Rattle.reg_ocsp.proofs.TargetLaws.{single_reads, contents_small}
+use Rattle.reg_ocsp.proofs.ExtensionLaws.{nonce_in, contents_small, last_nonce_takes, last_nonce_again}
+use Rattle.reg_ocsp.proofs.TargetLaws.{single_reads}
 
 -- ---- the list
 
@@ -124,47 +124,62 @@ record TakesSigned (bytes list : List ℕ) (nonce : Option (List ℕ)) : Type 0 
 abbrev after_nonce : List ℕ → Option (List ℕ) → Option (List ℕ × Option (List ℕ))
 after_nonce list first = Some (list, repeated first)
 
-abbrev after_written : List ℕ → Option (List ℕ) → Option (List ℕ × Option (List ℕ))
-after_written list written = written_nonce written >>= after_nonce list
-
 abbrev after_list : List ℕ × List ℕ → Option (List ℕ × Option (List ℕ))
-after_list list = last_at 0xA2 list.1 >>= after_written list.0
+after_list list = last_nonce_at 0xA2 list.1 >>= after_nonce list.0
 
-abbrev after_requestor : Option (List ℕ) × List ℕ → Option (List ℕ × Option (List ℕ))
-after_requestor requestor = expect_at 0x30 requestor.1 >>= after_list
+abbrev after_requestor : Option (List ℕ) × List ℕ → Option (List ℕ × List ℕ)
+after_requestor requestor = expect_at 0x30 requestor.1
 
-abbrev after_start : List ℕ → Option (List ℕ × Option (List ℕ))
+abbrev after_start : List ℕ → Option (List ℕ × List ℕ)
 after_start rest = optional_at 0xA1 rest >>= after_requestor
+
+-- the list of requests, and what stands before it
+record TakesList (bytes list rest : List ℕ) : Type 0 where
+  flag : Bool
+  requestor : Option (List ℕ)
+  spelled : bytes ≡ version flag ++ (optional 0xA1 requestor ++ (tlv 0x30 list ++ rest))
+  inner : IsBytes list
+  each : IsBytes rest
+
+list_takes : (bytes : List ℕ) (x : List ℕ × List ℕ) → IsBytes bytes → list_at bytes ≡ Some x → TakesList bytes x.0 x.1
+unfolding list_at
+list_takes bytes x each e =
+    bind_then (version_at bytes) after_start x e (λ start read_start e1.
+    bind_then (optional_at 0xA1 start) after_requestor x e1 (λ requestor read_requestor e2.
+    let t0 = version_takes bytes start each read_start in
+    let t1 = optional_takes 0xA1 start requestor t0.taken.each read_requestor in
+    let t2 = expect_takes 0x30 requestor.1 x t1.taken.each e2 in
+    record {
+      flag = t0.flag;
+      requestor = requestor.0;
+      spelled = t0.taken.parts ∙ ap (λ (r : List ℕ). version t0.flag ++ r) (t1.taken.parts ∙ ap (λ (r : List ℕ). optional 0xA1 requestor.0 ++ r) t2.taken.parts);
+      inner = t2.inner;
+      each = t2.taken.each;
+    }))
 
 signed_takes : (bytes : List ℕ) (x : List ℕ × Option (List ℕ)) → IsBytes bytes → signed_at bytes ≡ Some x → TakesSigned bytes x.0 x.1
 unfolding signed_at
 signed_takes bytes x each e =
-    bind_then (version_at bytes) after_start x e (λ start read_start e1.
-    bind_then (optional_at 0xA1 start) after_requestor x e1 (λ requestor read_requestor e2.
-    bind_then (expect_at 0x30 requestor.1) after_list x e2 (λ list read_list e3.
-    bind_then (last_at 0xA2 list.1) (after_written list.0) x e3 (λ written read_written e4.
-    bind_then (written_nonce written) (after_nonce list.0) x e4 (λ first read_first e5.
-    let t0 = version_takes bytes start each read_start in
-    let t1 = optional_takes 0xA1 start requestor t0.taken.each read_requestor in
-    let t2 = expect_takes 0x30 requestor.1 list t1.taken.each read_list in
-    let t3 = last_takes 0xA2 list.1 written t2.taken.each read_written in
-    let t4 = written_nonce_takes 0xA2 written first t3.inner read_first in
-    let whole : bytes ≡ signed_text t0.flag requestor.0 list.0 t4.tree =
-    t0.taken.parts ∙ ap (λ (r : List ℕ). version t0.flag ++ r) (t1.taken.parts ∙ ap (λ (r : List ℕ). optional 0xA1 requestor.0 ++ r) (t2.taken.parts ∙ ap (λ (r : List ℕ). tlv 0x30 list.0 ++ r) (t3.spelled ∙ t4.spelled))) in
-    subst (λ (y : List ℕ × Option (List ℕ)). TakesSigned bytes y.0 y.1) (some_is (list.0, repeated first) x e5)
+    bind_then (list_at bytes) after_list x e (λ list read_list e1.
+    bind_then (last_nonce_at 0xA2 list.1) (after_nonce list.0) x e1 (λ first read_first e2.
+    let t0 = list_takes bytes list each read_list in
+    let t1 = last_nonce_takes 0xA2 list.1 first t0.each read_first in
+    let whole : bytes ≡ signed_text t0.flag t0.requestor list.0 t1.tree =
+    t0.spelled ∙ ap (λ (r : List ℕ). version t0.flag ++ (optional 0xA1 t0.requestor ++ (tlv 0x30 list.0 ++ r))) t1.spelled in
+    subst (λ (y : List ℕ × Option (List ℕ)). TakesSigned bytes y.0 y.1) (some_is (list.0, repeated first) x e2)
     (record {
       flag = t0.flag;
-      requestor = requestor.0;
-      tree = t4.tree;
-      fits = t4.fits;
+      requestor = t0.requestor;
+      tree = t1.tree;
+      fits = t1.fits;
       spelled = whole;
-      inner = t2.inner;
-      same = ap repeated t4.same ∙ nonce_is t4.tree;
-    }))))))
+      inner = t0.inner;
+      same = ap repeated t1.same ∙ nonce_is t1.tree;
+    })))
 
 signed_again : (flag : Bool) (requestor : Option (List ℕ)) (list : List ℕ) (tree : Option (List Extension)) → AreExtensions tree → length (signed_text flag requestor list tree) ≤ 65536
     → signed_at (signed_text flag requestor list tree) ≡ Some (list, nonce_of tree)
-unfolding signed_at
+unfolding signed_at list_at
 signed_again flag requestor list tree fits small =
     let last = extensions 0xA2 tree in
     let after_requestor = tlv 0x30 list ++ last in
@@ -172,8 +187,6 @@ signed_again flag requestor list tree fits small =
     let len0 = length-append (version flag) after_version in
     let len1 = length-append (optional 0xA1 requestor) after_requestor in
     let len2 = length-append (tlv 0x30 list) last in
-    let is : last ≡ optional 0xA2 (contents_of tree) = extensions_are 0xA2 tree in
-    let l1 : length (optional 0xA2 (contents_of tree)) ≤ 65536 = let same = ap length is in omega arith in
     let l2 : length list ≤ 65536 = omega (arith, (value_size 0x30 list).least) in
     let l3 : length (optional 0xA1 requestor) ≤ 65536 = omega arith in
     let begins_list : BeginsElse 0xA1 after_requestor = begins_value 0xA1 0x30 list last (λ same. absurd (omega arith)) in
@@ -181,9 +194,8 @@ signed_again flag requestor list tree fits small =
     let e0 = version_again flag after_version begins_here in
     let e1 = optional_again 0xA1 requestor after_requestor (omega arith) (contents_small 0xA1 requestor l3) begins_list in
     let e2 = expect_again 0x30 list last (omega arith) l2 in
-    let e3 : last_at 0xA2 last ≡ Some (contents_of tree) = rw is (last_again 0xA2 (contents_of tree) (omega arith) (contents_small 0xA2 (contents_of tree) l1)) in
-    let e4 = written_nonce_again 0xA2 tree fits (omega arith) in
-    rw (e0, e1, e2, e3, e4, nonce_is tree) refl
+    let e3 = last_nonce_again 0xA2 tree (omega arith) fits (omega arith) in
+    rw (e0, e1, e2, e3, nonce_is tree) refl
 
 -- ---- the outer values
 
@@ -198,44 +210,60 @@ record TakesParts (bytes list : List ℕ) (nonce : Option (List ℕ)) : Type 0 w
   inner : IsBytes list
   same : nonce ≡ nonce_of tree
 
-abbrev after_signature : List ℕ → Option (List ℕ) → Option (List ℕ × Option (List ℕ))
-after_signature signed signature = signed_at signed
+abbrev after_signature : List ℕ → Option (List ℕ) → Option (List ℕ)
+after_signature signed signature = Some signed
 
-abbrev after_signed : List ℕ × List ℕ → Option (List ℕ × Option (List ℕ))
+abbrev after_signed : List ℕ × List ℕ → Option (List ℕ)
 after_signed signed = last_at 0xA0 signed.1 >>= after_signature signed.0
 
-abbrev after_outer : List ℕ → Option (List ℕ × Option (List ℕ))
+abbrev after_outer : List ℕ → Option (List ℕ)
 after_outer outer = expect_at 0x30 outer >>= after_signed
+
+-- what is signed, and what stands beside it
+record TakesOuter (bytes signed : List ℕ) : Type 0 where
+  signature : Option (List ℕ)
+  spelled : bytes ≡ tlv 0x30 (tlv 0x30 signed ++ optional 0xA0 signature)
+  inner : IsBytes signed
+
+outer_takes : (bytes signed : List ℕ) → IsBytes bytes → tbs_at bytes ≡ Some signed → TakesOuter bytes signed
+unfolding tbs_at
+outer_takes bytes signed each e =
+    bind_then (whole_at 0x30 bytes) after_outer signed e (λ outer read_outer e1.
+    bind_then (expect_at 0x30 outer) after_signed signed e1 (λ first read_first e2.
+    bind_then (last_at 0xA0 first.1) (after_signature first.0) signed e2 (λ signature read_signature e3.
+    let t0 = whole_takes 0x30 bytes outer each read_outer in
+    let t1 = expect_takes 0x30 outer first t0.inner read_first in
+    let t2 = last_takes 0xA0 first.1 signature t1.taken.each read_signature in
+    subst (λ (s : List ℕ). TakesOuter bytes s) (some_is first.0 signed e3)
+    (record {
+      signature = signature;
+      spelled = t0.spelled ∙ ap (tlv 0x30) (t1.taken.parts ∙ ap (λ (r : List ℕ). tlv 0x30 first.0 ++ r) t2.spelled);
+      inner = t1.inner;
+    }))))
 
 parts_takes : (bytes : List ℕ) (x : List ℕ × Option (List ℕ)) → IsBytes bytes → parts_at bytes ≡ Some x → TakesParts bytes x.0 x.1
 unfolding parts_at
 parts_takes bytes x each e =
-    let g = kept (ltb 65536 (length bytes)) (whole_at 0x30 bytes >>= after_outer) x e in
-    bind_then (whole_at 0x30 bytes) after_outer x g.1 (λ outer read_outer e1.
-    bind_then (expect_at 0x30 outer) after_signed x e1 (λ signed read_signed e2.
-    bind_then (last_at 0xA0 signed.1) (after_signature signed.0) x e2 (λ signature read_signature e3.
-    let t0 = whole_takes 0x30 bytes outer each read_outer in
-    let t1 = expect_takes 0x30 outer signed t0.inner read_signed in
-    let t2 = last_takes 0xA0 signed.1 signature t1.taken.each read_signature in
-    let t3 = signed_takes signed.0 x t1.inner e3 in
-    let inner : outer ≡ tlv 0x30 (signed_text t3.flag t3.requestor x.0 t3.tree) ++ optional 0xA0 signature =
-    t1.taken.parts ∙ ap (λ (r : List ℕ). tlv 0x30 signed.0 ++ r) t2.spelled ∙ ap (λ (r : List ℕ). tlv 0x30 r ++ optional 0xA0 signature) t3.spelled in
+    let g = kept (ltb 65536 (length bytes)) (tbs_at bytes >>= signed_at) x e in
+    bind_then (tbs_at bytes) signed_at x g.1 (λ signed read_signed e1.
+    let t0 = outer_takes bytes signed each read_signed in
+    let t1 = signed_takes signed x t0.inner e1 in
     record {
-      flag = t3.flag;
-      requestor = t3.requestor;
-      tree = t3.tree;
-      signature = signature;
-      fits = t3.fits;
+      flag = t1.flag;
+      requestor = t1.requestor;
+      tree = t1.tree;
+      signature = t0.signature;
+      fits = t1.fits;
       short = ltb-false 65536 (length bytes) g.0;
-      spelled = t0.spelled ∙ ap (tlv 0x30) inner;
-      inner = t3.inner;
-      same = t3.same;
-    })))
+      spelled = t0.spelled ∙ ap (λ (r : List ℕ). tlv 0x30 (tlv 0x30 r ++ optional 0xA0 t0.signature)) t1.spelled;
+      inner = t1.inner;
+      same = t1.same;
+    })
 
 parts_again : (flag : Bool) (requestor : Option (List ℕ)) (list : List ℕ) (tree : Option (List Extension)) (signature : Option (List ℕ)) → AreExtensions tree
     → length (tlv 0x30 (tlv 0x30 (signed_text flag requestor list tree) ++ optional 0xA0 signature)) ≤ 65536
     → parts_at (tlv 0x30 (tlv 0x30 (signed_text flag requestor list tree) ++ optional 0xA0 signature)) ≡ Some (list, nonce_of tree)
-unfolding parts_at
+unfolding parts_at tbs_at
 parts_again flag requestor list tree signature fits small =
     let signed = signed_text flag requestor list tree in
     let last = optional 0xA0 signature in

@@ -9,11 +9,11 @@ use Rattle.reg_der.specs.Der.{tlv}
 use Rattle.reg_der.specs.Reading.{◌>>=◌, Parts, value_at, Takes}
 use Rattle.reg_der.proofs.PublicLaws.{value_takes, value_again, value_size}
 use Rattle.reg_ocsp.proofs.Steps.{bind_then, some_is, kept}
-use Rattle.reg_ocsp.specs.Request.{Target, IsTarget, Single, IsSingle, Id, id_of, asked_by, parameters, algorithm, cert_id, single, optional, extensions}
-use Rattle.reg_ocsp.specs.Reading.{expect_at, whole_at, last_at, read_all, algorithm_at, is_shortest, target_at, single_at, written_nonce}
-use Rattle.reg_ocsp.proofs.PartLaws.{chosen, expect_takes, expect_again, whole_takes, whole_again, last_takes, last_again, IsSmall}
+use Rattle.reg_ocsp.specs.Request.{Target, IsTarget, Single, IsSingle, Id, id_of, asked_by, parameters, algorithm, cert_id, single, extensions}
+use Rattle.reg_ocsp.specs.Reading.{expect_at, whole_at, last_nonce_at, read_all, algorithm_at, is_shortest, serial_at, names_at, target_at, single_at}
+use Rattle.reg_ocsp.proofs.PartLaws.{chosen, expect_takes, expect_again, whole_takes, whole_again}
 use Rattle.reg_ocsp.proofs.ItemLaws.{Reads, TakesItem}
-use Rattle.reg_ocsp.proofs.ExtensionLaws.{or_false, contents_of, extensions_are, written_nonce_takes, written_nonce_again}
+use Rattle.reg_ocsp.proofs.ExtensionLaws.{or_false, last_nonce_takes, last_nonce_again}
 
 -- ---- parameters
 
@@ -115,18 +115,56 @@ shortest_passes (first ∷ second ∷ rest) is = shortest_to_tests first second 
 
 -- ---- the CertID
 
-abbrev after_serial : List ℕ × List ℕ → List ℕ → List ℕ → List ℕ → List ℕ → Option (Id × List ℕ)
-after_serial outer algorithm name key serial =
-    cond (is_shortest serial) (Some (record { raw = tlv 0x30 outer.0; algorithm = algorithm; name_hash = name; key_hash = key; serial = serial }, outer.1)) None
+abbrev after_octets : List ℕ → Option (List ℕ)
+after_octets serial = cond (is_shortest serial) (Some serial) None
 
-abbrev after_key : List ℕ × List ℕ → List ℕ → List ℕ → List ℕ × List ℕ → Option (Id × List ℕ)
-after_key outer algorithm name key = whole_at 0x02 key.1 >>= after_serial outer algorithm name key.0
+-- a serial number that was read
+record IsSerialRead (bytes serial : List ℕ) : Type 0 where
+  spelled : bytes ≡ tlv 0x02 serial
+  shortest : IsShortest serial
 
-abbrev after_name : List ℕ × List ℕ → List ℕ → List ℕ × List ℕ → Option (Id × List ℕ)
-after_name outer algorithm name = expect_at 0x04 name.1 >>= after_key outer algorithm name.0
+serial_takes : (bytes serial : List ℕ) → IsBytes bytes → serial_at bytes ≡ Some serial → IsSerialRead bytes serial
+unfolding serial_at
+serial_takes bytes serial each e =
+    bind_then (whole_at 0x02 bytes) after_octets serial e (λ octets read then.
+    let g = chosen (is_shortest octets) (Some octets) serial then in
+    subst (λ (s : List ℕ). IsSerialRead bytes s) (some_is octets serial g.1)
+    (record { spelled = (whole_takes 0x02 bytes octets each read).spelled; shortest = shortest_from octets g.0 }))
+
+abbrev after_serial : List ℕ → List ℕ → List ℕ → Option (List ℕ × List ℕ × List ℕ)
+after_serial name key serial = Some (name, key, serial)
+
+abbrev after_key : List ℕ → List ℕ × List ℕ → Option (List ℕ × List ℕ × List ℕ)
+after_key name key = serial_at key.1 >>= after_serial name key.0
+
+abbrev after_name : List ℕ × List ℕ → Option (List ℕ × List ℕ × List ℕ)
+after_name name = expect_at 0x04 name.1 >>= after_key name.0
+
+-- hashes and a serial number that were read
+record AreNamesRead (bytes name key serial : List ℕ) : Type 0 where
+  spelled : bytes ≡ tlv 0x04 name ++ (tlv 0x04 key ++ tlv 0x02 serial)
+  shortest : IsShortest serial
+
+names_take : (bytes : List ℕ) (x : List ℕ × List ℕ × List ℕ) → IsBytes bytes → names_at bytes ≡ Some x → AreNamesRead bytes x.0 x.1 x.2
+unfolding names_at
+names_take bytes x each e =
+    bind_then (expect_at 0x04 bytes) after_name x e (λ name read_name e1.
+    bind_then (expect_at 0x04 name.1) (after_key name.0) x e1 (λ key read_key e2.
+    bind_then (serial_at key.1) (after_serial name.0 key.0) x e2 (λ serial read_serial e3.
+    let t1 = expect_takes 0x04 bytes name each read_name in
+    let t2 = expect_takes 0x04 name.1 key t1.taken.each read_key in
+    let t3 = serial_takes key.1 serial t2.taken.each read_serial in
+    subst (λ (y : List ℕ × List ℕ × List ℕ). AreNamesRead bytes y.0 y.1 y.2) (some_is (name.0, key.0, serial) x e3)
+    (record {
+      spelled = t1.taken.parts ∙ ap (λ (r : List ℕ). tlv 0x04 name.0 ++ r) (t2.taken.parts ∙ ap (λ (r : List ℕ). tlv 0x04 key.0 ++ r) t3.spelled);
+      shortest = t3.shortest;
+    }))))
+
+abbrev after_names : List ℕ × List ℕ → List ℕ → List ℕ × List ℕ × List ℕ → Option (Id × List ℕ)
+after_names outer algorithm names = Some (record { raw = tlv 0x30 outer.0; algorithm = algorithm; name_hash = names.0; key_hash = names.1; serial = names.2 }, outer.1)
 
 abbrev after_hash : List ℕ × List ℕ → List ℕ × List ℕ → Option (Id × List ℕ)
-after_hash outer algorithm = expect_at 0x04 algorithm.1 >>= after_name outer algorithm.0
+after_hash outer algorithm = names_at algorithm.1 >>= after_names outer algorithm.0
 
 abbrev after_outer : List ℕ × List ℕ → Option (Id × List ℕ)
 after_outer outer = algorithm_at outer.0 >>= after_hash outer
@@ -143,30 +181,24 @@ unfolding target_at
 target_takes bytes x each e =
     bind_then (expect_at 0x30 bytes) after_outer x e (λ outer read_outer e1.
     bind_then (algorithm_at outer.0) (after_hash outer) x e1 (λ hash read_hash e2.
-    bind_then (expect_at 0x04 hash.1) (after_name outer hash.0) x e2 (λ name read_name e3.
-    bind_then (expect_at 0x04 name.1) (after_key outer hash.0 name.0) x e3 (λ key read_key e4.
-    bind_then (whole_at 0x02 key.1) (after_serial outer hash.0 name.0 key.0) x e4 (λ serial read_serial e5.
-    let made : Id = record { raw = tlv 0x30 outer.0; algorithm = hash.0; name_hash = name.0; key_hash = key.0; serial = serial } in
-    let g = chosen (is_shortest serial) (Some (made, outer.1)) x e5 in
+    bind_then (names_at hash.1) (after_names outer hash.0) x e2 (λ names read_names e3.
+    let made : Id = record { raw = tlv 0x30 outer.0; algorithm = hash.0; name_hash = names.0; key_hash = names.1; serial = names.2 } in
     let t0 = expect_takes 0x30 bytes outer each read_outer in
     let t1 = algorithm_takes outer.0 hash t0.inner read_hash in
-    let t2 = expect_takes 0x04 hash.1 name t1.taken.each read_name in
-    let t3 = expect_takes 0x04 name.1 key t2.taken.each read_key in
-    let t4 = whole_takes 0x02 key.1 serial t3.taken.each read_serial in
-    let tree : Target = record { identifier = t1.identifier; parameters = t1.any; name_hash = name.0; key_hash = key.0; serial = serial } in
+    let t2 = names_take hash.1 names t1.taken.each read_names in
+    let tree : Target = record { identifier = t1.identifier; parameters = t1.any; name_hash = names.0; key_hash = names.1; serial = names.2 } in
     let front = algorithm t1.identifier t1.any in
-    let inner : outer.0 ≡ front ++ (tlv 0x04 name.0 ++ (tlv 0x04 key.0 ++ tlv 0x02 serial)) =
-    t1.taken.parts ∙ ap (λ (r : List ℕ). front ++ r) (t2.taken.parts ∙ ap (λ (r : List ℕ). tlv 0x04 name.0 ++ r) (t3.taken.parts ∙ ap (λ (r : List ℕ). tlv 0x04 key.0 ++ r) t4.spelled)) in
-    subst (λ (y : Id × List ℕ). TakesItem cert_id id_of IsTarget bytes y.0 y.1) (some_is (made, outer.1) x g.1)
+    let inner : outer.0 ≡ front ++ (tlv 0x04 names.0 ++ (tlv 0x04 names.1 ++ tlv 0x02 names.2)) = t1.taken.parts ∙ ap (λ (r : List ℕ). front ++ r) t2.spelled in
+    subst (λ (y : Id × List ℕ). TakesItem cert_id id_of IsTarget bytes y.0 y.1) (some_is (made, outer.1) x e3)
     (record {
       tree = tree;
-      fits = record { identified = t1.identified; low_tag = t1.low_tag; shortest = shortest_from serial g.0 };
+      fits = record { identified = t1.identified; low_tag = t1.low_tag; shortest = t2.shortest };
       taken = subst (λ (c : List ℕ). Takes bytes (tlv 0x30 c) outer.1) inner t0.taken;
-      same = same_id (tlv 0x30 outer.0) (cert_id tree) hash.0 front name.0 key.0 serial (ap (tlv 0x30) inner) t1.same;
-    }))))))
+      same = same_id (tlv 0x30 outer.0) (cert_id tree) hash.0 front names.0 names.1 names.2 (ap (tlv 0x30) inner) t1.same;
+    }))))
 
 target_again : (t : Target) (rest : List ℕ) → IsTarget t → length (cert_id t) ≤ 65536 → target_at (cert_id t ++ rest) ≡ Some (id_of t, rest)
-unfolding target_at
+unfolding target_at names_at serial_at
 target_again t rest fits small =
     let front = algorithm t.identifier t.parameters in
     let last = tlv 0x02 t.serial in
@@ -193,11 +225,8 @@ target_again t rest fits small =
 abbrev after_nonce : List ℕ → Id → Option (List ℕ) → Option (Id × List ℕ)
 after_nonce rest id ignored = Some (id, rest)
 
-abbrev after_written : List ℕ → Id → Option (List ℕ) → Option (Id × List ℕ)
-after_written rest id written = written_nonce written >>= after_nonce rest id
-
 abbrev after_target : List ℕ → Id × List ℕ → Option (Id × List ℕ)
-after_target rest target = last_at 0xA0 target.1 >>= after_written rest target.0
+after_target rest target = last_nonce_at 0xA0 target.1 >>= after_nonce rest target.0
 
 abbrev after_single : List ℕ × List ℕ → Option (Id × List ℕ)
 after_single outer = target_at outer.0 >>= after_target outer.1
@@ -207,42 +236,31 @@ unfolding single_at
 single_takes bytes x each e =
     bind_then (expect_at 0x30 bytes) after_single x e (λ outer read_outer e1.
     bind_then (target_at outer.0) (after_target outer.1) x e1 (λ target read_target e2.
-    bind_then (last_at 0xA0 target.1) (after_written outer.1 target.0) x e2 (λ written read_written e3.
-    bind_then (written_nonce written) (after_nonce outer.1 target.0) x e3 (λ nonce read_nonce e4.
+    bind_then (last_nonce_at 0xA0 target.1) (after_nonce outer.1 target.0) x e2 (λ nonce read_nonce e3.
     let t0 = expect_takes 0x30 bytes outer each read_outer in
     let t1 = target_takes outer.0 target t0.inner read_target in
-    let t2 = last_takes 0xA0 target.1 written t1.taken.each read_written in
-    let t3 = written_nonce_takes 0xA0 written nonce t2.inner read_nonce in
-    let inner : outer.0 ≡ cert_id t1.tree ++ extensions 0xA0 t3.tree = t1.taken.parts ∙ ap (λ (r : List ℕ). cert_id t1.tree ++ r) (t2.spelled ∙ t3.spelled) in
-    subst (λ (y : Id × List ℕ). TakesItem single asked_by IsSingle bytes y.0 y.1) (some_is (target.0, outer.1) x e4)
+    let t2 = last_nonce_takes 0xA0 target.1 nonce t1.taken.each read_nonce in
+    let inner : outer.0 ≡ cert_id t1.tree ++ extensions 0xA0 t2.tree = t1.taken.parts ∙ ap (λ (r : List ℕ). cert_id t1.tree ++ r) t2.spelled in
+    subst (λ (y : Id × List ℕ). TakesItem single asked_by IsSingle bytes y.0 y.1) (some_is (target.0, outer.1) x e3)
     (record {
-      tree = record { target = t1.tree; extensions = t3.tree };
-      fits = record { target = t1.fits; extensions = t3.fits };
+      tree = record { target = t1.tree; extensions = t2.tree };
+      fits = record { target = t1.fits; extensions = t2.fits };
       taken = subst (λ (c : List ℕ). Takes bytes (tlv 0x30 c) outer.1) inner t0.taken;
       same = t1.same;
-    })))))
-
--- what is written of extensions is few where they are
-pub contents_small : (tag : ℕ) (written : Option (List ℕ)) → length (optional tag written) ≤ 65536 → IsSmall written
-contents_small tag None small = tt
-contents_small tag (Some contents) small = omega (arith, (value_size tag contents).least)
+    }))))
 
 single_again : (s : Single) (rest : List ℕ) → IsSingle s → length (single s) ≤ 65536 → single_at (single s ++ rest) ≡ Some (asked_by s, rest)
 unfolding single_at
 single_again s rest fits small =
     let front = cert_id s.target in
-    let written = contents_of s.extensions in
     let last = extensions 0xA0 s.extensions in
     let contents = front ++ last in
     let len = length-append front last in
     let l0 : length contents ≤ 65536 = omega (arith, (value_size 0x30 contents).least) in
-    let is : last ≡ optional 0xA0 written = extensions_are 0xA0 s.extensions in
-    let l1 : length (optional 0xA0 written) ≤ 65536 = let same = ap length is in omega arith in
     let e0 = expect_again 0x30 contents rest (omega arith) l0 in
     let e1 = target_again s.target last fits.target (omega arith) in
-    let e2 : last_at 0xA0 last ≡ Some written = rw is (last_again 0xA0 written (omega arith) (contents_small 0xA0 written l1)) in
-    let e3 = written_nonce_again 0xA0 s.extensions fits.extensions (omega arith) in
-    rw (e0, e1, e2, e3) refl
+    let e2 = last_nonce_again 0xA0 s.extensions (omega arith) fits.extensions (omega arith) in
+    rw (e0, e1, e2) refl
 
 pub single_reads : Reads single_at single asked_by IsSingle
 single_reads = record {

@@ -57,14 +57,20 @@ critical_at bytes = optional_at 0x01 bytes >>= λ x. written_flag x.0 >>= λ fla
 abbrev pub is_refused : List ℕ → Option Bool → Bool
 is_refused identifier critical = (length identifier == 0) || (unwrap_or critical false && not (bytes_eq identifier nonce_identifier))
 
-unfoldable pub extension_at : List ℕ → Option (Extension × List ℕ)
-extension_at bytes = do
-  outer ← expect_at 0x30 bytes
-  identifier ← expect_at 0x06 outer.0
+-- the Extension with these contents
+unfoldable pub fields_at : List ℕ → Option Extension
+fields_at bytes = do
+  identifier ← expect_at 0x06 bytes
   critical ← critical_at identifier.1
   value ← whole_at 0x04 critical.1
   if is_refused identifier.0 critical.0 then None
-      else Some (record { identifier = identifier.0; critical = critical.0; value = value }, outer.1)
+      else Some (record { identifier = identifier.0; critical = critical.0; value = value })
+
+unfoldable pub extension_at : List ℕ → Option (Extension × List ℕ)
+extension_at bytes = do
+  outer ← expect_at 0x30 bytes
+  extension ← fields_at outer.0
+  Some (extension, outer.1)
 
 -- the value of the first nonce of Extensions that nothing follows
 unfoldable pub nonce_at : List ℕ → Option (Option (List ℕ))
@@ -76,6 +82,10 @@ nonce_at bytes = do
 abbrev pub written_nonce : Option (List ℕ) → Option (Option (List ℕ))
 written_nonce None = Some None
 written_nonce (Some contents) = nonce_at contents
+
+-- the same of Extensions under a tag to the end of the bytes, if there are bytes
+unfoldable pub last_nonce_at : ℕ → List ℕ → Option (Option (List ℕ))
+last_nonce_at tag bytes = last_at tag bytes >>= written_nonce
 
 -- ---- requests
 
@@ -98,22 +108,30 @@ is_shortest [] = false
 is_shortest (first ∷ []) = true
 is_shortest (first ∷ second ∷ rest) = not ((first == 0) && nat_lt second 128) && not ((first == 255) && nat_le 128 second)
 
+-- the octets of an INTEGER in the fewest, which nothing follows
+unfoldable pub serial_at : List ℕ → Option (List ℕ)
+serial_at bytes = whole_at 0x02 bytes >>= λ serial. if is_shortest serial then Some serial else None
+
+-- the hashes of the issuer's name and key, and the serial number
+unfoldable pub names_at : List ℕ → Option (List ℕ × List ℕ × List ℕ)
+names_at bytes = do
+  name ← expect_at 0x04 bytes
+  key ← expect_at 0x04 name.1
+  serial ← serial_at key.1
+  Some (name.0, key.0, serial)
+
 unfoldable pub target_at : List ℕ → Option (Id × List ℕ)
 target_at bytes = do
   outer ← expect_at 0x30 bytes
   algorithm ← algorithm_at outer.0
-  name ← expect_at 0x04 algorithm.1
-  key ← expect_at 0x04 name.1
-  serial ← whole_at 0x02 key.1
-  if is_shortest serial then Some (record { raw = tlv 0x30 outer.0; algorithm = algorithm.0; name_hash = name.0; key_hash = key.0; serial = serial }, outer.1)
-      else None
+  names ← names_at algorithm.1
+  Some (record { raw = tlv 0x30 outer.0; algorithm = algorithm.0; name_hash = names.0; key_hash = names.1; serial = names.2 }, outer.1)
 
 unfoldable pub single_at : List ℕ → Option (Id × List ℕ)
 single_at bytes = do
   outer ← expect_at 0x30 bytes
   target ← target_at outer.0
-  written ← last_at 0xA0 target.1
-  ignored ← written_nonce written
+  ignored ← last_nonce_at 0xA0 target.1
   Some (target.0, outer.1)
 
 -- one request at least
@@ -130,21 +148,31 @@ is_version (Some contents) = bytes_eq contents (0x02 ∷ 0x01 ∷ 0x00 ∷ [])
 unfoldable pub version_at : List ℕ → Option (List ℕ)
 version_at bytes = optional_at 0xA0 bytes >>= λ x. if is_version x.0 then Some x.1 else None
 
--- the list of requests in the contents of a TBSRequest, and the nonce to repeat
-unfoldable pub signed_at : List ℕ → Option (List ℕ × Option (List ℕ))
-signed_at bytes = do
+-- the list of requests in the contents of a TBSRequest, and what follows
+unfoldable pub list_at : List ℕ → Option (List ℕ × List ℕ)
+list_at bytes = do
   after ← version_at bytes
   requestor ← optional_at 0xA1 after
-  list ← expect_at 0x30 requestor.1
-  written ← last_at 0xA2 list.1
-  nonce ← written_nonce written
+  expect_at 0x30 requestor.1
+
+-- the list of requests, and the nonce to repeat
+unfoldable pub signed_at : List ℕ → Option (List ℕ × Option (List ℕ))
+signed_at bytes = do
+  list ← list_at bytes
+  nonce ← last_nonce_at 0xA2 list.1
   Some (list.0, repeated nonce)
 
--- the same in a whole request
+-- the contents of the TBSRequest in a whole request
+unfoldable pub tbs_at : List ℕ → Option (List ℕ)
+tbs_at bytes = do
+  outer ← whole_at 0x30 bytes
+  signed ← expect_at 0x30 outer
+  signature ← last_at 0xA0 signed.1
+  Some signed.0
+
+-- the list of requests and the nonce to repeat in a whole request
 unfoldable pub parts_at : List ℕ → Option (List ℕ × Option (List ℕ))
-parts_at bytes =
-    if nat_lt 65536 (length bytes) then None
-    else (whole_at 0x30 bytes >>= λ outer. expect_at 0x30 outer >>= λ signed. last_at 0xA0 signed.1 >>= λ signature. signed_at signed.0)
+parts_at bytes = if nat_lt 65536 (length bytes) then None else (tbs_at bytes >>= signed_at)
 
 unfoldable pub request_at : List ℕ → Option (List Id × Option (List ℕ))
 request_at bytes = do

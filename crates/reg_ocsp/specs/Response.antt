@@ -31,29 +31,48 @@ pub record Answer : Type 0 where
   pub raw : List ℕ
   pub status : Status
 
+-- `nextUpdate [0] EXPLICIT GeneralizedTime OPTIONAL`
+abbrev pub next_update : ℕ → List ℕ
+next_update next = tlv 0xA0 (general_value next)
+
+-- the fields of a SingleResponse: certID, certStatus, thisUpdate GeneralizedTime, nextUpdate
+abbrev pub single_fields : ℕ → ℕ → Answer → List ℕ
+single_fields now next answer = answer.raw ++ cert_status answer.status ++ general_value now ++ next_update next
+
 -- SingleResponse ::= SEQUENCE { certID, certStatus, thisUpdate GeneralizedTime, nextUpdate [0] EXPLICIT GeneralizedTime }
 unfoldable pub single_response : ℕ → ℕ → Answer → List ℕ
-single_response now next answer =
-    tlv 0x30 (answer.raw ++ cert_status answer.status ++ general_value now ++ tlv 0xA0 (general_value next))
+single_response now next answer = tlv 0x30 (single_fields now next answer)
 
 -- ResponderID ::= CHOICE { byKey [2] EXPLICIT KeyHash }: the SHA-1 of the responder's key
 abbrev pub responder : List ℕ → List ℕ
 responder key = tlv 0xA2 (tlv 0x04 (sha1 key))
 
+-- the Extension of a nonce, which is not critical (RFC 6960 4.4.1)
+abbrev pub nonce_extension : List ℕ → List ℕ
+nonce_extension nonce = tlv 0x30 (tlv 0x06 nonce_identifier ++ tlv 0x04 nonce)
+
 -- `responseExtensions [1] EXPLICIT Extensions OPTIONAL`: the nonce alone, where one is repeated (RFC 6960 4.4.1)
 abbrev pub nonce_part : Option (List ℕ) → List ℕ
 nonce_part None = []
-nonce_part (Some nonce) = tlv 0xA1 (tlv 0x30 (tlv 0x30 (tlv 0x06 nonce_identifier ++ tlv 0x04 nonce)))
+nonce_part (Some nonce) = tlv 0xA1 (tlv 0x30 (nonce_extension nonce))
+
+-- the fields of a ResponseData: responderID, producedAt GeneralizedTime, responses SEQUENCE OF SingleResponse, responseExtensions
+abbrev pub data_fields : List ℕ → ℕ → ℕ → List Answer → Option (List ℕ) → List ℕ
+data_fields key now next answers nonce =
+    responder key ++ general_value now ++ tlv 0x30 (flat_map (single_response now next) answers) ++ nonce_part nonce
 
 -- ResponseData ::= SEQUENCE { responderID, producedAt GeneralizedTime, responses SEQUENCE OF SingleResponse,
 -- responseExtensions }, by the issuer's key; each answer holds from now to next
 unfoldable pub response_data : List ℕ → ℕ → ℕ → List Answer → Option (List ℕ) → List ℕ
-response_data key now next answers nonce =
-    tlv 0x30 (responder key ++ general_value now ++ tlv 0x30 (flat_map (single_response now next) answers) ++ nonce_part nonce)
+response_data key now next answers nonce = tlv 0x30 (data_fields key now next answers nonce)
+
+-- the fields of a BasicOCSPResponse: tbsResponseData, signatureAlgorithm, signature BIT STRING
+abbrev pub basic_fields : List ℕ → List ℕ → List ℕ → List ℕ
+basic_fields signed algorithm signature = signed ++ algorithm ++ bits_value signature
 
 -- BasicOCSPResponse ::= SEQUENCE { tbsResponseData, signatureAlgorithm, signature BIT STRING }
 unfoldable pub basic_response : List ℕ → List ℕ → List ℕ → List ℕ
-basic_response signed algorithm signature = tlv 0x30 (signed ++ algorithm ++ bits_value signature)
+basic_response signed algorithm signature = tlv 0x30 (basic_fields signed algorithm signature)
 
 -- id-pkix-ocsp-basic, 1.3.6.1.5.5.7.48.1.1
 abbrev pub basic_identifier : List ℕ
@@ -64,8 +83,12 @@ abbrev pub response_bytes : List ℕ → List ℕ
 response_bytes response = tlv 0x30 (tlv 0x06 basic_identifier ++ tlv 0x04 response)
 
 -- OCSPResponse ::= SEQUENCE { responseStatus ENUMERATED, responseBytes [0] EXPLICIT ResponseBytes OPTIONAL }, successful(0)
+abbrev pub successful_response : List ℕ → List ℕ
+successful_response bytes = tlv 0x30 (enumerated 0 ++ tlv 0xA0 bytes)
+
+-- the same with a BasicOCSPResponse
 unfoldable pub ocsp_response : List ℕ → List ℕ → List ℕ → List ℕ
-ocsp_response signed algorithm signature = tlv 0x30 (enumerated 0 ++ tlv 0xA0 (response_bytes (basic_response signed algorithm signature)))
+ocsp_response signed algorithm signature = successful_response (response_bytes (basic_response signed algorithm signature))
 
 -- malformedRequest(1), internalError(2), tryLater(3)
 abbrev pub refusal_code : RefusalStatus → ℕ

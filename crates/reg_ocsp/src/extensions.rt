@@ -2,12 +2,12 @@
 
 ghost use Rattle.std.specs.Prelude.{◌≡◌, ◌<◌, length, IfSome, option_copied};
 ghost use Rattle.reg_der.specs.Reading.{Gives};
-ghost use Rattle.reg_ocsp.specs.Reading.{critical_at, extension_at, flag_of, nonce_at, written_flag};
+ghost use Rattle.reg_ocsp.specs.Reading.{critical_at, extension_at, fields_at, flag_of, last_nonce_at, nonce_at, written_flag};
 ghost use Rattle.reg_ocsp.specs.Reading as spec;
 ghost use Rattle.reg_ocsp.specs.Views.{extension_seen};
 
 use crate::tags::{BOOLEAN, OBJECT_IDENTIFIER, OCTET_STRING, SEQUENCE};
-use crate::values::{expect, optional, whole};
+use crate::values::{expect, last, optional, whole};
 
 /// id-pkix-ocsp-nonce, 1.3.6.1.5.5.7.48.1.2 (RFC 6960 4.4.1).
 pub(crate) const NONCE: [u8; 9] = [0x2B, 0x06, 0x01, 0x05, 0x05, 0x07, 0x30, 0x01, 0x02];
@@ -22,8 +22,17 @@ pub(crate) struct Extension<'a> {
     value: &'a [u8],
 }
 
-/// The value of the first nonce of Extensions, where they are written; all of them are read.
-pub(crate) fn written_nonce(extensions: Option<&[u8]>) -> Option<Option<&[u8]>>
+/// The value of the first nonce of the Extensions under the tag that all the bytes are, if there are bytes; all of them
+/// are read.
+#[tactic(auto, unfolding(crate::specs::Reading::last_nonce_at))]
+pub(crate) fn last_nonce(tag: u8, bytes: &[u8]) -> Option<Option<&[u8]>>
+    ensures { Gives (λ x. option_copied x) result (last_nonce_at tag bytes.now) }
+{
+    written_nonce(last(tag, bytes)?)
+}
+
+/// The value of the first nonce of Extensions, where they are written.
+fn written_nonce(extensions: Option<&[u8]>) -> Option<Option<&[u8]>>
     ensures { Gives (λ x. option_copied x) result (spec.written_nonce (option_copied extensions.entry)) }
 {
     match extensions {
@@ -56,22 +65,34 @@ fn next_extension(bytes: &[u8]) -> Option<(Extension<'_>, &[u8])>
     ensures shorter { IfSome result (λ x. length x.1.now < length bytes.now) }
 {
     let (outer, rest) = expect(SEQUENCE, bytes)?;
-    let (identifier, after_identifier) = expect(OBJECT_IDENTIFIER, outer.contents)?;
+    let extension = extension_of(outer.contents)?;
+    Some((extension, rest))
+}
+
+/// The Extension whose fields the bytes are.
+#[tactic(auto, unfolding(crate::specs::Reading::fields_at))]
+fn extension_of(bytes: &[u8]) -> Option<Extension<'_>>
+    ensures { Gives extension_seen result (fields_at bytes.now) }
+{
+    let (identifier, after_identifier) = expect(OBJECT_IDENTIFIER, bytes)?;
     let (critical, after_critical) = critical(after_identifier)?;
     let value = whole(OCTET_STRING, after_critical)?;
     let identifier = identifier.contents;
-    // What is critical has to be known (RFC 5280 4.2).
-    if identifier.is_empty() || (critical.unwrap_or(false) && identifier != NONCE.as_slice()) {
+    if is_refused(identifier, critical) {
         return None;
     }
-    Some((
-        Extension {
-            identifier,
-            critical,
-            value,
-        },
-        rest,
-    ))
+    Some(Extension {
+        identifier,
+        critical,
+        value,
+    })
+}
+
+/// Whether there is no identifier, or what is critical is not known (RFC 5280 4.2).
+fn is_refused(identifier: &[u8], critical: Option<bool>) -> bool
+    ensures { result ≡ spec.is_refused identifier.now critical }
+{
+    identifier.is_empty() || (critical.unwrap_or(false) && identifier != NONCE.as_slice())
 }
 
 /// `critical`, where it is written, and what follows.

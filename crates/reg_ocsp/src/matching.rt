@@ -58,8 +58,15 @@ fn names_by_sha256(issuer: &Issuer, id: &CertId<'_>) -> bool
     ensures { IsTrue result ↔ IsHashedBy sha256_identifier sha256 issuer.now (id_seen id.now) }
 {
     is_sha256(id.algorithm)
-        && id.name_hash == Sha256::digest(issuer.name()).as_slice()
-        && id.key_hash == Sha256::digest(issuer.key()).as_slice()
+        && is_sha256_of(id.name_hash, issuer.name())
+        && is_sha256_of(id.key_hash, issuer.key())
+}
+
+/// Whether the hash is the SHA-256 of the bytes.
+fn is_sha256_of(hash: &[u8], bytes: &[u8]) -> bool
+    ensures { IsTrue result ↔ hash.now ≡ sha256 bytes.now }
+{
+    hash == Sha256::digest(bytes).as_slice()
 }
 
 /// Whether the AlgorithmIdentifier is that of SHA-1.

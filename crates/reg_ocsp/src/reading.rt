@@ -3,13 +3,13 @@
 ghost use Rattle.std.specs.Prelude.{◌≡◌, ℕ, List, Option, ◌≤◌, ◌<◌, length, IfOk, IfSome, IsErrOf, option_copied};
 ghost use Rattle.reg_der.specs.Reading.{Gives, value_at};
 ghost use Rattle.reg_ocsp.specs.Request.{CanBeAnswered, Id, IsNonce, IsRequest};
-ghost use Rattle.reg_ocsp.specs.Reading.{algorithm_at, ids_at, parts_at, read_all, request_at, signed_at, single_at, target_at, version_at};
+ghost use Rattle.reg_ocsp.specs.Reading.{algorithm_at, ids_at, list_at, names_at, parts_at, read_all, request_at, serial_at, signed_at, single_at, target_at, tbs_at, version_at};
 ghost use Rattle.reg_ocsp.specs.Reading as spec;
 ghost use Rattle.reg_ocsp.specs.Request as grammar;
 ghost use Rattle.reg_ocsp.specs.Views.{ids_seen, id_seen, GivesUnlessMemory};
 
 use crate::asked::{Asked, CertId};
-use crate::extensions::written_nonce;
+use crate::extensions::last_nonce;
 use crate::fault::AskFault;
 use crate::tags::{
     INTEGER, OBJECT_IDENTIFIER, OCTET_STRING, SEQUENCE, TAGGED_0, TAGGED_1, TAGGED_2,
@@ -62,9 +62,17 @@ fn parts(bytes: &[u8]) -> Option<(&[u8], Option<&[u8]>)>
     if bytes.len() > LONGEST_REQUEST {
         return None;
     }
+    signed_parts(to_be_signed(bytes)?)
+}
+
+/// The contents of the TBSRequest of a whole request.
+#[tactic(auto, unfolding(crate::specs::Reading::tbs_at))]
+fn to_be_signed(bytes: &[u8]) -> Option<&[u8]>
+    ensures { Gives (λ x. x.now) result (tbs_at bytes.now) }
+{
     let (signed, rest) = expect(SEQUENCE, whole(SEQUENCE, bytes)?)?;
     last(TAGGED_0, rest)?;
-    signed_parts(signed.contents)
+    Some(signed.contents)
 }
 
 /// The same of the contents of a TBSRequest.
@@ -72,10 +80,19 @@ fn parts(bytes: &[u8]) -> Option<(&[u8], Option<&[u8]>)>
 fn signed_parts(bytes: &[u8]) -> Option<(&[u8], Option<&[u8]>)>
     ensures { Gives (λ x. (x.0.now, option_copied x.1)) result (signed_at bytes.now) }
 {
+    let (list, rest) = list(bytes)?;
+    let nonce = last_nonce(TAGGED_2, rest)?;
+    Some((list, repeated(nonce)))
+}
+
+/// The contents of the list of requests in the contents of a TBSRequest, and what follows.
+#[tactic(auto, unfolding(crate::specs::Reading::list_at))]
+fn list(bytes: &[u8]) -> Option<(&[u8], &[u8])>
+    ensures { Gives (λ x. (x.0.now, x.1.now)) result (list_at bytes.now) }
+{
     let (_, rest) = optional(TAGGED_1, after_version(bytes)?)?;
     let (list, rest) = expect(SEQUENCE, rest)?;
-    let nonce = written_nonce(last(TAGGED_2, rest)?)?;
-    Some((list.contents, repeated(nonce)))
+    Some((list.contents, rest))
 }
 
 /// What follows the version, which may be left out and is 0 where it is written.
@@ -125,7 +142,7 @@ fn single(bytes: &[u8]) -> Option<(CertId<'_>, &[u8])>
 {
     let (outer, rest) = expect(SEQUENCE, bytes)?;
     let (id, extensions) = cert_id(outer.contents)?;
-    written_nonce(last(TAGGED_0, extensions)?)?;
+    last_nonce(TAGGED_0, extensions)?;
     Some((id, rest))
 }
 
@@ -135,21 +152,40 @@ fn cert_id(bytes: &[u8]) -> Option<(CertId<'_>, &[u8])>
     ensures { Gives (λ x. (id_seen x.0, x.1.now)) result (target_at bytes.now) }
 {
     let (outer, rest) = expect(SEQUENCE, bytes)?;
-    let (algorithm, hashes) = algorithm(outer.contents)?;
-    let (name_hash, after_name) = expect(OCTET_STRING, hashes)?;
-    let (key_hash, after_key) = expect(OCTET_STRING, after_name)?;
-    let serial = whole(INTEGER, after_key)?;
-    if !is_shortest(serial) {
-        return None;
-    }
+    let (algorithm, after_algorithm) = algorithm(outer.contents)?;
+    let (name_hash, key_hash, serial) = names(after_algorithm)?;
     let id = CertId {
         raw: outer.raw,
         algorithm,
-        name_hash: name_hash.contents,
-        key_hash: key_hash.contents,
+        name_hash,
+        key_hash,
         serial,
     };
     Some((id, rest))
+}
+
+/// The hashes of the issuer's name and of its key, and the contents octets of the serial number.
+#[tactic(auto, unfolding(crate::specs::Reading::names_at))]
+fn names(bytes: &[u8]) -> Option<(&[u8], &[u8], &[u8])>
+    ensures { Gives (λ x. (x.0.now, x.1.now, x.2.now)) result (names_at bytes.now) }
+{
+    let (name_hash, after_name) = expect(OCTET_STRING, bytes)?;
+    let (key_hash, after_key) = expect(OCTET_STRING, after_name)?;
+    let serial = serial(after_key)?;
+    Some((name_hash.contents, key_hash.contents, serial))
+}
+
+/// The contents octets of a serial number that all the bytes are.
+#[tactic(auto, unfolding(crate::specs::Reading::serial_at))]
+fn serial(bytes: &[u8]) -> Option<&[u8]>
+    ensures { Gives (λ x. x.now) result (serial_at bytes.now) }
+{
+    let octets = whole(INTEGER, bytes)?;
+    if is_shortest(octets) {
+        Some(octets)
+    } else {
+        None
+    }
 }
 
 /// The whole value of the AlgorithmIdentifier at the front, and what follows.

@@ -3,7 +3,8 @@
 ghost use Rattle.std.specs.Prelude.{◌≡◌, ◌+◌, ◌*◌, ◌^◌, ◌++◌, ◌<◌, ◌≤◌, ◌%◌, length, IfOk, OnOk, IfSome, option_copied, sum_by};
 ghost use Rattle.std.specs.List.{flat_map};
 ghost use Rattle.reg_der.specs.Der.{tlv};
-ghost use Rattle.reg_ocsp.specs.Response.{basic_response, cert_status, ocsp_response, reason_part, refusal_response, single_response};
+ghost use Rattle.reg_core.specs.declared.command.Status.TheVariants.{Revoked};
+ghost use Rattle.reg_ocsp.specs.Response.{basic_fields, basic_response, cert_status, data_fields, next_update, ocsp_response, reason_part, refusal_response, single_fields, single_response, successful_response};
 ghost use Rattle.reg_ocsp.specs.Response as spec;
 ghost use Rattle.reg_ocsp.specs.Request.{CanBeAnswered};
 ghost use Rattle.reg_ocsp.specs.Views.{answer_seen, answers_seen, answered, answered_length, ids_seen};
@@ -67,12 +68,31 @@ pub fn response_data(
     ensures data { IfOk result (λ v. v.items ≡ spec.response_data issuer.now.key now next (answers_seen answers.now) (option_copied nonce.entry)) }
     ensures bounded { IfOk result (λ v. length v.items ≤ 2 ^ 27) }
 {
-    let mut parts = Vec::new(alloc);
-    put_responder(alloc, &mut parts, issuer)?;
-    put_general(&mut parts, now)?;
-    put_answers(alloc, &mut parts, now, next, answers)?;
-    put_nonce(alloc, &mut parts, nonce)?;
-    enclosed(alloc, SEQUENCE, &parts)
+    let mut fields = Vec::new(alloc);
+    put_data_fields(alloc, &mut fields, issuer, now, next, answers, nonce)?;
+    enclosed(alloc, SEQUENCE, &fields)
+}
+
+/// Appends the fields of a ResponseData.
+fn put_data_fields(
+    alloc: Global,
+    out: &mut Vec<u8>,
+    issuer: &Issuer,
+    now: Moment,
+    next: Moment,
+    answers: &[(CertId<'_>, Status)],
+    nonce: Option<&[u8]>,
+) -> Result<(), Memory>
+    requires few { length answers.now ≤ 65536 }
+    requires short { sum_by answered_length answers.now ≤ 65536 }
+    requires short_nonce { IfSome (option_copied nonce) (λ value. length value ≤ 131) }
+    ensures ok { OnOk result (out.new.items ≡ out.old.items ++ data_fields issuer.now.key now next (answers_seen answers.now) (option_copied nonce.entry)) }
+    ensures longer { OnOk result (length out.new.items ≤ length out.old.items + 100 * length answers.now + sum_by answered_length answers.now + 255) }
+{
+    put_responder(alloc, out, issuer)?;
+    put_general(out, now)?;
+    put_answers(alloc, out, now, next, answers)?;
+    put_nonce(alloc, out, nonce)
 }
 
 /// The whole OCSPResponse with a BasicOCSPResponse (RFC 6960 4.2.1) of the three parts: what was signed, the value of
@@ -94,15 +114,32 @@ pub fn basic(
     ensures longer { IfOk result (λ v. length v.items ≤ length signed.now + length algorithm.now + length signature.now + 64) }
 {
     let basic = basic_value(alloc, signed, algorithm, signature)?;
-    let mut bytes = Vec::new(alloc);
-    put(&mut bytes, OBJECT_IDENTIFIER, &BASIC)?;
-    put(&mut bytes, OCTET_STRING, &basic)?;
-    let bytes = enclosed(alloc, SEQUENCE, &bytes)?;
-    let mut parts = Vec::new(alloc);
-    // successful(0)
-    put(&mut parts, ENUMERATED, &[0])?;
-    put(&mut parts, TAGGED_0, &bytes)?;
-    enclosed(alloc, SEQUENCE, &parts)
+    let bytes = response_bytes(alloc, &basic)?;
+    successful(alloc, &bytes)
+}
+
+/// The OCSPResponse, successful (0), of these ResponseBytes.
+fn successful(alloc: Global, bytes: &[u8]) -> Result<Vec<u8>, Memory>
+    requires { length bytes.now ≤ 2 ^ 28 }
+    ensures value { IfOk result (λ v. v.items ≡ successful_response bytes.now) }
+    ensures longer { IfOk result (λ v. length v.items ≤ length bytes.now + 19) }
+{
+    let mut fields = Vec::new(alloc);
+    put(&mut fields, ENUMERATED, &[0])?;
+    put(&mut fields, TAGGED_0, bytes)?;
+    enclosed(alloc, SEQUENCE, &fields)
+}
+
+/// The ResponseBytes of a BasicOCSPResponse.
+fn response_bytes(alloc: Global, basic: &[u8]) -> Result<Vec<u8>, Memory>
+    requires { length basic.now < 2 ^ 28 }
+    ensures value { IfOk result (λ v. v.items ≡ spec.response_bytes basic.now) }
+    ensures longer { IfOk result (λ v. length v.items ≤ length basic.now + 27) }
+{
+    let mut fields = Vec::new(alloc);
+    put(&mut fields, OBJECT_IDENTIFIER, &BASIC)?;
+    put(&mut fields, OCTET_STRING, basic)?;
+    enclosed(alloc, SEQUENCE, &fields)
 }
 
 /// The BasicOCSPResponse of the three parts.
@@ -119,11 +156,25 @@ fn basic_value(
     ensures value { IfOk result (λ v. v.items ≡ basic_response signed.now algorithm.now signature.now) }
     ensures longer { IfOk result (λ v. length v.items ≤ length signed.now + length algorithm.now + length signature.now + 13) }
 {
-    let mut parts = Vec::new(alloc);
-    append(&mut parts, signed)?;
-    append(&mut parts, algorithm)?;
-    put_bits(&mut parts, signature)?;
-    enclosed(alloc, SEQUENCE, &parts)
+    let mut fields = Vec::new(alloc);
+    put_basic_fields(&mut fields, signed, algorithm, signature)?;
+    enclosed(alloc, SEQUENCE, &fields)
+}
+
+/// Appends the fields of a BasicOCSPResponse.
+fn put_basic_fields(
+    out: &mut Vec<u8>,
+    signed: &[u8],
+    algorithm: &[u8],
+    signature: &[u8],
+) -> Result<(), Memory>
+    requires { length signature.now ≤ 65536 }
+    ensures ok { OnOk result (out.new.items ≡ out.old.items ++ basic_fields signed.now algorithm.now signature.now) }
+    ensures longer { OnOk result (length out.new.items ≤ length out.old.items + length signed.now + length algorithm.now + length signature.now + 7) }
+{
+    append(out, signed)?;
+    append(out, algorithm)?;
+    put_bits(out, signature)
 }
 
 /// Appends the ResponderID by the issuer's key.
@@ -168,15 +219,37 @@ fn put_single(
     ensures ok { OnOk result (out.new.items ≡ out.old.items ++ single_response now next (answer_seen answer.now)) }
     ensures longer { OnOk result (length out.new.items ≤ length out.old.items + answered_length answer.now + 100) }
 {
+    let mut fields = Vec::new(alloc);
+    put_single_fields(alloc, &mut fields, now, next, answer)?;
+    put(out, SEQUENCE, &fields)
+}
+
+/// Appends the fields of a SingleResponse.
+fn put_single_fields(
+    alloc: Global,
+    out: &mut Vec<u8>,
+    now: Moment,
+    next: Moment,
+    answer: &(CertId<'_>, Status),
+) -> Result<(), Memory>
+    ensures ok { OnOk result (out.new.items ≡ out.old.items ++ single_fields now next (answer_seen answer.now)) }
+    ensures longer { OnOk result (length out.new.items ≤ length out.old.items + answered_length answer.now + 76) }
+{
     let (id, status) = answer;
-    let mut parts = Vec::new(alloc);
-    append(&mut parts, id.raw)?;
-    put_status(alloc, &mut parts, *status)?;
-    put_general(&mut parts, now)?;
+    append(out, id.raw)?;
+    put_status(alloc, out, *status)?;
+    put_general(out, now)?;
+    put_next_update(alloc, out, next)
+}
+
+/// Appends nextUpdate.
+fn put_next_update(alloc: Global, out: &mut Vec<u8>, next: Moment) -> Result<(), Memory>
+    ensures ok { OnOk result (out.new.items ≡ out.old.items ++ next_update next) }
+    ensures longer { OnOk result (length out.new.items ≤ length out.old.items + 23) }
+{
     let mut update = Vec::new(alloc);
     put_general(&mut update, next)?;
-    put(&mut parts, TAGGED_0, &update)?;
-    put(out, SEQUENCE, &parts)
+    put(out, TAGGED_0, &update)
 }
 
 /// Appends a CertStatus.
@@ -187,13 +260,19 @@ fn put_status(alloc: Global, out: &mut Vec<u8>, status: Status) -> Result<(), Me
     match status {
         Status::Good | Status::Expired => put(out, PRIMITIVE_0, &[]),
         Status::Unknown => put(out, PRIMITIVE_2, &[]),
-        Status::Revoked { at, reason } => {
-            let mut revoked = Vec::new(alloc);
-            put_general(&mut revoked, at)?;
-            put_reason(alloc, &mut revoked, reason)?;
-            put(out, TAGGED_1, &revoked)
-        }
+        Status::Revoked { at, reason } => put_revoked(alloc, out, at, reason),
     }
+}
+
+/// Appends the CertStatus of a revoked certificate.
+fn put_revoked(alloc: Global, out: &mut Vec<u8>, at: Moment, reason: u8) -> Result<(), Memory>
+    ensures ok { OnOk result (out.new.items ≡ out.old.items ++ cert_status (Revoked at reason)) }
+    ensures longer { OnOk result (length out.new.items ≤ length out.old.items + 36) }
+{
+    let mut info = Vec::new(alloc);
+    put_general(&mut info, at)?;
+    put_reason(alloc, &mut info, reason)?;
+    put(out, TAGGED_1, &info)
 }
 
 /// Appends the reason of a revocation, unless it is unspecified (RFC 5280 5.3.1).
@@ -217,12 +296,21 @@ fn put_nonce(alloc: Global, out: &mut Vec<u8>, nonce: Option<&[u8]>) -> Result<(
     let Some(value) = nonce else {
         return Ok(());
     };
-    let mut parts = Vec::new(alloc);
-    put(&mut parts, OBJECT_IDENTIFIER, &NONCE)?;
-    put(&mut parts, OCTET_STRING, value)?;
-    let extension = enclosed(alloc, SEQUENCE, &parts)?;
+    let extension = nonce_extension(alloc, value)?;
     let extensions = enclosed(alloc, SEQUENCE, &extension)?;
     put(out, TAGGED_1, &extensions)
+}
+
+/// The Extension of a nonce.
+fn nonce_extension(alloc: Global, nonce: &[u8]) -> Result<Vec<u8>, Memory>
+    requires { length nonce.now ≤ 131 }
+    ensures value { IfOk result (λ v. v.items ≡ spec.nonce_extension nonce.now) }
+    ensures longer { IfOk result (λ v. length v.items ≤ length nonce.now + 27) }
+{
+    let mut fields = Vec::new(alloc);
+    put(&mut fields, OBJECT_IDENTIFIER, &NONCE)?;
+    put(&mut fields, OCTET_STRING, nonce)?;
+    enclosed(alloc, SEQUENCE, &fields)
 }
 
 /// The value of the tag with the contents.
