@@ -4,6 +4,7 @@ pub mod Ends
 pub mod Exchanges
 pub mod Failing
 pub mod Lined
+pub mod Log
 pub mod Sample
 pub mod Schedules
 pub mod Serving

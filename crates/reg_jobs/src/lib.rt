@@ -6,6 +6,7 @@ mod front;
 mod handling;
 mod jobs;
 mod lining;
+mod log_lines;
 mod logging;
 mod opening;
 mod place;

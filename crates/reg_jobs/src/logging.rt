@@ -1,9 +1,9 @@
 //! What is put into the log, where there is one.
 
 use crate::front::Front;
+use crate::log_lines::{exchange_line, lost_line};
 use reg_core::{Decimal, Moment};
 use reg_hub::Lost;
-use reg_log::{exchange_line, lost_line};
 use std::alloc::{AllocError, Global};
 use std::net::{IpAddr, SocketAddr};
 

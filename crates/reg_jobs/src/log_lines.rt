@@ -1,8 +1,8 @@
-//! The line of an exchange, and the line of a connection that ended by a fault.
+//! The lines of the log: that of an exchange, whatever came, and that of a connection that ended by a fault.
 
 ghost use Rattle.std.specs.Prelude.{◌≡◌, ◌++◌, ◌∷◌, ◌<◌, ◌≤◌, [], IfOk, IfSome, OnOk, decimal, length, take};
 ghost use Rattle.std.specs.List.{flat_map, position};
-ghost use Rattle.reg_log.specs.Log.{digit as hexadecimal, is_plain as plain, ends_line, first_line as first_line_of, told, told_byte, exchange_line as exchanged, lost_line as lost};
+ghost use Rattle.reg_jobs.specs.Log.{digit as hexadecimal, is_plain as plain, ends_line, first_line as first_line_of, told, told_byte, exchange_line as exchanged, lost_line as lost};
 
 use reg_core::{Decimal, Moment};
 use std::alloc::{AllocError, Global};
@@ -12,7 +12,7 @@ const MOST_TOLD: usize = 256;
 
 /// The line of an exchange, with no LF behind it. Who asked stands there as it is; what was asked and answered puts no control character and
 /// no byte outside ASCII there, so that no peer can put a line of its own into the log.
-pub fn exchange_line(
+pub(crate) fn exchange_line(
     alloc: Global,
     now: Moment,
     who: &[u8],
@@ -32,7 +32,7 @@ pub fn exchange_line(
 }
 
 /// The line of a connection that ended by a fault, with no LF behind it.
-pub fn lost_line(alloc: Global, now: Moment, who: &[u8], why: &[u8]) -> Result<Vec<u8>, AllocError>
+pub(crate) fn lost_line(alloc: Global, now: Moment, who: &[u8], why: &[u8]) -> Result<Vec<u8>, AllocError>
     ensures { IfOk result (λ line. line.items ≡ lost now who.now why.now) }
 {
     let mut line = Vec::from_slice(alloc, &now.text())?;
