@@ -9,7 +9,7 @@ ghost use Rattle.reg_wire.specs.Run.{Answered};
 
 use crate::asking::is_accepted;
 use crate::front::Front;
-use crate::handling::{LinedDesk, OpenDesk};
+use crate::handling::{ClockedDesk, LinedDesk};
 use crate::place::Place;
 use crate::telling::say;
 use reg_calls::Keeper;
@@ -44,7 +44,7 @@ pub fn script_by_lines<P: Place, F: Front, R: Read, W: Write>(
 {
     let office = place.open_to_sign(path, signer)?;
     if way.is_clocked {
-        let mut opened = OpenDesk {
+        let mut opened = ClockedDesk {
             office,
             alloc,
             front,
@@ -62,7 +62,7 @@ pub fn script_by_lines<P: Place, F: Front, R: Read, W: Write>(
 /// Runs each line at the moment of the clock.
 fn run_clocked<K: Keeper, F: Front, R: Read, W: Write>(
     alloc: Global,
-    opened: &mut OpenDesk<'_, K, F>,
+    opened: &mut ClockedDesk<'_, K, F>,
     is_strict: bool,
     reader: &mut R,
     writer: &mut W,

@@ -116,6 +116,10 @@ impl<'a> Place for Machine<'a> {
         reschedule(alloc, register, schedule)
     }
 
+    fn failures(&self, register: &FileOffice) -> u64 {
+        register.signer.failures()
+    }
+
     fn audit(&mut self, path: &str) -> Result<Verdict, Failure> {
         audit_file(self, path)
     }
