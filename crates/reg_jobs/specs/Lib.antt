@@ -7,6 +7,7 @@ pub mod Lined
 pub mod Log
 pub mod Sample
 pub mod Schedules
+pub mod Sealing
 pub mod Serving
 pub mod Signing
 pub mod Told
