@@ -4,8 +4,9 @@ import re
 import socket
 import time
 
-from lib.program import Counter
-from lib.trial import test
+from lib import program
+from lib.program import ANY_SIGNATURE, Counter
+from lib.trial import each, test
 
 DAY = "2026-01-01T00:00:00Z"
 
@@ -49,6 +50,61 @@ def a_counter_s_line_and_its_reply(t):
         told(t, lines=["subscriber acme", "counts", "revoke 1"]),
         [f'{DAY} counter "subscriber acme" "subscriber 1" 13', f'{DAY} counter "counts" "good 0 revoked 0 expired 0" 27', f'{DAY} counter "revoke 1" "E17 no-request" 15'],
     )
+
+
+# An OCSP request for a certificate of another issuer, in the form of RFC 6960 4.1.1.
+OCSP = bytes.fromhex("30423040303E303C303A300906052B0E03021A05000414" + "00" * 20 + "0414" + "00" * 20 + "020105")
+INTERNAL = bytes.fromhex("30030a0102")
+SIGNING = ("--signer", "ca.sign", "--algorithm", "ecdsa-sha256")
+SIGNERS = {
+    "one that works": (lambda message, call: ANY_SIGNATURE, [False, False]),
+    "one that fails": (lambda message, call: None, [True, True]),
+    "one that gives no signature": (lambda message, call: b"none", [True, True]),
+    "one that fails once": (lambda message, call: None if call == 1 else ANY_SIGNATURE, [True, False]),
+    "nobody": (None, [True, True]),
+}
+
+
+@each(SIGNERS, seconds=2)
+def a_signature_that_did_not_come_is_the_line_s_last_word(t, signer):
+    """Of an OCSP answer that is internalError for that, whose status is 200 all the same; and of no other exchange."""
+    answer, failing = signer
+    t.register(key=program.P256_KEY)
+    t.clock(DAY)
+    if answer is not None:
+        t.signer(answer=answer)
+    desk = t.open("ca.db", "--log", *SIGNING)
+    for is_unsigned in failing:
+        t.same(desk.ask("POST", "/ocsp", OCSP).endswith(INTERNAL), is_unsigned, "whether the answer is internalError")
+        desk.ask("GET", "/counts")
+    told = [re.sub(r"127\.0\.0\.1:\d+", "PEER", it) for it in desk.end().told]
+    for line, is_unsigned in zip(told, [it for first in failing for it in (first, False)], strict=True):
+        t.same(re.fullmatch(DAY + r' PEER "(POST /ocsp|GET /counts) HTTP/1\.1" "HTTP/1\.1 200 OK" \d+ \d+( signer)?', line).group(2), " signer" if is_unsigned else None, line)
+
+
+@test
+def a_crl_that_nobody_signs_has_the_word_too(t):
+    t.register(key=program.P256_KEY)
+    t.clock(DAY)
+    desk = t.open("ca.db", "--log", *SIGNING)
+    with Counter(t.room / "counter") as counter:
+        t.same([counter.ask(it) for it in ("crl", "counts")], ["F3 signer", "good 0 revoked 0 expired 0"])
+    told = [re.sub(r" \d+( signer)?$", r" N\1", it) for it in desk.end().told]
+    t.same(told, [f'{DAY} counter "crl" "F3 signer" 10 N signer', f'{DAY} counter "counts" "good 0 revoked 0 expired 0" 27 N'])
+
+
+@test
+def an_answer_that_the_store_does_not_give_has_no_such_word(t):
+    """That is internalError too: a row that no register writes."""
+    t.register(lines=f"{DAY} subscriber acme\n{DAY} order 1 398\n{DAY} register 1 05 {DAY} 2026-01-10T00:00:00Z\n")
+    t.sql("ca.db", "UPDATE cert SET not_after = -1")
+    t.clock(DAY)
+    desk = t.open("ca.db", "--log")
+    # A request for its serial number 05 (RFC 6960 A.1).
+    path = "/ocsp/MGcwZTA%2BMDwwOjAJBgUrDgMCGgUABBRxHTl2ccn6zyJCCVkll5oGmORrEQQUqZk%2BNkcGgWq6PiVxeFDCbJzQ2J0CAQWiIzAhMB8GCSsGAQUFBzABAgQSBBAAAQIDBAUGBwgJCgsMDQ4P"
+    t.same(desk.ask("GET", path).endswith(INTERNAL), True, "internalError")
+    (line,) = desk.end().told
+    t.true(re.search(r'"HTTP/1\.1 200 OK" \d+ \d+$', line), line)
 
 
 def within(t, desk, holds, what):

@@ -108,6 +108,51 @@ def examples_signer_py_signs_under_each_algorithm(t, algorithm):
         it.verifies(t.done("crl", "ca.db", "--number", number).encode("latin-1"), f"CRL {number}")
 
 
+# A digest, which is no signature
+
+
+SEALED = {"a script": (), "a strict one": ("--strict",), "one by the clock": ("--clock",), "both": ("--clock", "--strict")}
+
+
+@each(SEALED)
+def the_first_crl_that_a_digest_seals_is_told_of(t, more):
+    """Once, on standard error; the replies and the status are as they were, and nothing is said of any CRL but the first of the register."""
+    t.register()
+    moment = "" if "--clock" in more else f"{MOMENT} "
+
+    def told(*lines):
+        ran = t.desk("script", "ca.db", *more, given="".join(f"{moment}{it}\n" for it in lines))
+        t.same((ran.status, ran.err), (0, b""), "status, and what else is on standard error")
+        return ran.lines, ran.is_warned
+
+    t.same(told("subscriber acme", "next-crl"), (["subscriber 1", "next-crl at-once"], False), "no CRL")
+    t.same(told("crl", "subscriber emca", "crl"), (["crl 1 entries 0", "subscriber 2", "crl 2 entries 0"], True), "the first CRL")
+    t.same(told("crl"), (["crl 3 entries 0"], False), "a later one")
+
+
+@test
+def it_is_told_of_where_replies_can_t_be_said(t):
+    """The CRL stands, whatever becomes of its reply."""
+    t.register()
+    ran = t.tried("sh", "-c", f"{program.program()} script ca.db > /dev/full", given=f"{MOMENT} crl\n".encode())
+    t.same((ran.returncode, ran.stderr), (1, program.SEALED + b"F5 write\n"))
+    t.same(t.sql("ca.db", "SELECT number FROM crl"), [(1,)])
+
+
+@test
+def it_is_told_of_nothing_else(t):
+    """Not where a key signs, nor in memory, nor where a CRL is refused."""
+    t.register(key=P256_KEY)
+    t.same(tried(t, ["crl"]), ["F3 signer"], "a signer that is away")
+    t.signer()
+    t.same(tried(t, ["crl"]), ["crl 1 entries 0"], "a key")
+    ran = t.desk("script", given=f"{MOMENT} crl\n")
+    t.same((ran.status, ran.out, ran.err), (0, b"crl 1 entries 0\n", b""), "in memory")
+    t.register("other.db")
+    ran = t.desk("script", "other.db", given="9999-12-31T00:00:00Z crl\n")
+    t.same((ran.status, ran.out, ran.err, ran.is_warned), (0, b"E02 clock-end\n", b"", False), "a CRL that is refused")
+
+
 # Long messages
 
 

@@ -153,8 +153,9 @@ class Lines:
     def __init__(self, t, path, words=(), **told):
         self.count = t.room / "count-lines"
         env = program.environment(faults=environment(count=self.count, same=1, **told))
+        self.words = ["script", str(path), *words]
         self.process = subprocess.Popen(
-            [program.program(), "script", path, *words], cwd=t.room, env=env, stdin=subprocess.PIPE, stdout=subprocess.PIPE, stderr=subprocess.PIPE
+            [program.program(), *self.words], cwd=t.room, env=env, stdin=subprocess.PIPE, stdout=subprocess.PIPE, stderr=subprocess.PIPE
         )
 
     def ask(self, line):
@@ -178,6 +179,7 @@ class Lines:
             pass
         self.process.stdin = None
         out, err = self.process.communicate(timeout=60)
+        err, _ = program.without_warning(self.words, err)
         return self.process.returncode, out.decode(), err.decode()
 
     def __enter__(self):

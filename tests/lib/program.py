@@ -28,6 +28,8 @@ P256_KEY = (
 )
 # The form of an ECDSA signature, r = s = 1 (RFC 5480 appendix A): no client verifies it.
 ANY_SIGNATURE = bytes.fromhex("3006020101020101")
+# What is said of the first CRL of a register that a digest seals.
+SEALED = b"warning: CRL 1 is sealed by a digest, which is no signature; to sign: --signer SOCKET --algorithm NAME\n"
 # How many times as long as usual all is waited for, on a slow machine or over a slow build.
 PATIENCE = float(os.environ.get("DESK_PATIENCE", "1"))
 
@@ -39,12 +41,13 @@ def program():
 
 @dataclass
 class Ran:
-    """What a run of the program came to."""
+    """What a run of the program came to. That it said of a first CRL that a digest seals it is told apart from standard error."""
 
     status: int
     out: bytes
     err: bytes
     words: list = field(default_factory=list)
+    is_warned: bool = False
 
     @property
     def lines(self):
@@ -74,6 +77,19 @@ def make_faults(folder):
     os.environ["DESK_FAULTS_LIBRARY"] = made
 
 
+def can_seal(words):
+    """Whether words are a script over a register in a file, whose CRLs a digest seals."""
+    words = [it for it in words if not it.startswith("--")]
+    return words[:1] == ["script"] and len(words) > 1
+
+
+def without_warning(words, told):
+    """Standard error without what it has of a first CRL that a digest seals, and whether it has that: once, and in its first line."""
+    if "--signer" not in words and can_seal(words) and told.startswith(SEALED):
+        return told[len(SEALED) :], True
+    return told, False
+
+
 def run(words, given=b"", cwd=None, timeout=60, **how):
     """Runs the program once, to its end."""
     words = [str(it) for it in words]
@@ -82,7 +98,8 @@ def run(words, given=b"", cwd=None, timeout=60, **how):
     ran = subprocess.run(
         [program(), *words], input=given, capture_output=True, cwd=cwd, timeout=timeout * PATIENCE, env=environment(**how)
     )
-    return Ran(ran.returncode, ran.stdout, ran.stderr, words)
+    told, is_warned = without_warning(words, ran.stderr)
+    return Ran(ran.returncode, ran.stdout, told, words, is_warned)
 
 
 # Below the ports that the system gives to who connects.

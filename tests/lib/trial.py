@@ -73,7 +73,11 @@ class Trial(contextlib.ExitStack):
         how.setdefault("clock", self._clock)
         text = given if isinstance(given, str) else given.decode("latin-1")
         self.note(program.shown(words) + (f"  < {show(text, 600)}" if text else ""))
-        return program.run(words, given, cwd=self.room, **how)
+        ran = program.run(words, given, cwd=self.room, **how)
+        # A first CRL that a digest sealed is told of in each test, and no other is.
+        is_sealed = program.can_seal(ran.words) and "--signer" not in ran.words
+        self.same(ran.is_warned, is_sealed and any(it.startswith("crl 1 entries ") for it in ran.lines), "whether it is told that a digest seals")
+        return ran
 
     def done(self, *words, given=b"", **how):
         """Runs the program, and wants status 0 with nothing on standard error; what it printed."""

@@ -4,8 +4,10 @@ pub mod Ends
 pub mod Exchanges
 pub mod Failing
 pub mod Lined
+pub mod Log
 pub mod Sample
 pub mod Schedules
+pub mod Sealing
 pub mod Serving
 pub mod Signing
 pub mod Told

@@ -5,8 +5,9 @@ use reg_core::{Fault, Moment};
 use std::io;
 use std::os::unix::net::UnixStream;
 
-/// A clock that tells moments, and ports and sockets that can be listened at. Who is handed no more than this can tell only by a
-/// call of it that a moment is one of the clock, that a port was bound, and that a socket was laid or met.
+/// A clock that tells moments, ports and sockets that can be listened at, and standard error. Who is handed no more than this can tell
+/// only by a call of it that a moment is one of the clock, that a port was bound, that a socket was laid or met, and that a line was
+/// given to standard error.
 pub trait Front {
     ghost use Rattle.std.specs.Prelude.{◌≡◌, ℕ, List, OnOk, IfOk, IfErr};
 
@@ -21,6 +22,9 @@ pub trait Front {
 
     /// Who listens at the socket at this path was met.
     ghost met: { List ℕ → Type 0 };
+
+    /// This line was given to standard error.
+    ghost warned: { List ℕ → Type 0 };
 
     /// The moment of the clock.
     ///
@@ -64,4 +68,8 @@ pub trait Front {
 
     /// Puts a line with its LF into the log. What can't be put there is left out.
     fn log(&self, line: &[u8]);
+
+    /// Gives a line with its LF to standard error, for who runs the job. What can't be written there is left out.
+    fn warn(&self, line: &[u8])
+        ensures { warned line.now };
 }

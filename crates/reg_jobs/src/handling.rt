@@ -1,6 +1,6 @@
 //! A desk, as it answers who comes: peers, and lines at a counter.
 
-ghost use Rattle.std.specs.Prelude.{◌≡◌, ◌⊎◌, ◌++◌, ◌∷◌, [], ℕ, List, Some, IfOk, OnOk, OnErr};
+ghost use Rattle.std.specs.Prelude.{◌≡◌, ◌⊎◌, ◌↔◌, ◌<◌, ◌++◌, ◌∷◌, [], ℕ, List, Some, IfOk, IsTrue, OnOk, OnErr};
 ghost use Rattle.reg_core.specs.Lines.{fault_line};
 ghost use Rattle.reg_faces.specs.Faces.{Lines};
 ghost use Rattle.reg_calls.specs.Leads.{Leads};
@@ -10,6 +10,7 @@ ghost use Rattle.reg_jobs.specs.Exchanges.{Entry, EntryAt, Exchange, ExchangeAt,
 
 use crate::front::Front;
 use crate::logging::{began, log_answer, log_line, log_lost};
+use crate::place::Place;
 use reg_calls::Keeper;
 use reg_core::{Fault, Moment};
 use reg_faces::{run_script, serve_one};
@@ -24,15 +25,25 @@ const TEXT_ROOM: usize = 4_096;
 
 /// A desk that answers peers, each at a moment of the clock, and has no counter.
 #[derive(Drop)]
-pub(crate) struct ServedDesk<'a, K: Keeper, F: Front> {
-    pub(crate) office: K,
+pub(crate) struct ServedDesk<'a, P: Place, F: Front> {
+    pub(crate) office: P::Opened,
     pub(crate) alloc: Global,
+    pub(crate) place: &'a P,
     pub(crate) front: &'a F,
 }
 
 /// A desk that answers peers and lines at counters, each at a moment of the clock.
 #[derive(Drop)]
-pub(crate) struct OpenDesk<'a, K: Keeper, F: Front> {
+pub(crate) struct OpenDesk<'a, P: Place, F: Front> {
+    pub(crate) office: P::Opened,
+    pub(crate) alloc: Global,
+    pub(crate) place: &'a P,
+    pub(crate) front: &'a F,
+}
+
+/// A desk that runs lines, each at a moment of the clock, and has no peers.
+#[derive(Drop)]
+pub(crate) struct ClockedDesk<'a, K: Keeper, F: Front> {
     pub(crate) office: K,
     pub(crate) alloc: Global,
     pub(crate) front: &'a F,
@@ -45,17 +56,24 @@ pub(crate) struct LinedDesk<K: Keeper> {
     pub(crate) alloc: Global,
 }
 
-impl<'a, K: Keeper, F: Front> Handler for ServedDesk<'a, K, F> {
+impl<'a, P: Place, F: Front> Handler for ServedDesk<'a, P, F> {
     ghost use Rattle.reg_calls.specs.Leads.{Leads};
     ghost use Rattle.reg_jobs.specs.Exchanges.{Exchange, NoEntry};
 
-    ghost answers = { λ s request text t. Leads K.is_clean K.stands
-        (λ identity before after. Exchange K.signs F.told identity before request text after) s.office t.office };
+    ghost answers = { λ s request text t. Leads P.Opened.is_clean P.Opened.stands
+        (λ identity before after. Exchange P.Opened.signs F.told identity before request text after) s.office t.office };
 
     ghost tells = { NoEntry };
 
     fn answer(&mut self, peer: SocketAddr, request: &[u8]) -> Result<Vec<u8>, Stopped> {
-        answer_now(self.alloc, &mut self.office, self.front, peer, request)
+        answer_now(
+            self.alloc,
+            &mut self.office,
+            self.place,
+            self.front,
+            peer,
+            request,
+        )
     }
 
     fn tell(&mut self, _line: &[u8]) -> Result<Vec<u8>, Stopped> {
@@ -67,27 +85,60 @@ impl<'a, K: Keeper, F: Front> Handler for ServedDesk<'a, K, F> {
     }
 }
 
-impl<'a, K: Keeper, F: Front> Handler for OpenDesk<'a, K, F> {
+impl<'a, P: Place, F: Front> Handler for OpenDesk<'a, P, F> {
     ghost use Rattle.reg_calls.specs.Leads.{Leads};
     ghost use Rattle.reg_jobs.specs.Exchanges.{Exchange, Entry};
 
-    ghost answers = { λ s request text t. Leads K.is_clean K.stands
-        (λ identity before after. Exchange K.signs F.told identity before request text after) s.office t.office };
+    ghost answers = { λ s request text t. Leads P.Opened.is_clean P.Opened.stands
+        (λ identity before after. Exchange P.Opened.signs F.told identity before request text after) s.office t.office };
 
-    ghost tells = { λ s line text t. Leads K.is_clean K.stands
-        (λ identity before after. Entry K.signs F.told identity before line text after) s.office t.office };
+    ghost tells = { λ s line text t. Leads P.Opened.is_clean P.Opened.stands
+        (λ identity before after. Entry P.Opened.signs F.told identity before line text after) s.office t.office };
 
     fn answer(&mut self, peer: SocketAddr, request: &[u8]) -> Result<Vec<u8>, Stopped> {
-        answer_now(self.alloc, &mut self.office, self.front, peer, request)
+        answer_now(
+            self.alloc,
+            &mut self.office,
+            self.place,
+            self.front,
+            peer,
+            request,
+        )
     }
 
     fn tell(&mut self, line: &[u8]) -> Result<Vec<u8>, Stopped> {
-        tell_now(self.alloc, &mut self.office, self.front, line)
+        tell_now(
+            self.alloc,
+            &mut self.office,
+            self.place,
+            self.front,
+            line,
+        )
     }
 
     fn lose(&self, peer: Option<SocketAddr>, why: Lost) {
         log_lost(self.alloc, self.front, peer, why);
     }
+}
+
+impl<'a, K: Keeper, F: Front> Handler for ClockedDesk<'a, K, F> {
+    ghost use Rattle.reg_calls.specs.Leads.{Leads};
+    ghost use Rattle.reg_jobs.specs.Exchanges.{Entry, NoEntry};
+
+    ghost answers = { NoEntry };
+
+    ghost tells = { λ s line text t. Leads K.is_clean K.stands
+        (λ identity before after. Entry K.signs F.told identity before line text after) s.office t.office };
+
+    fn answer(&mut self, _peer: SocketAddr, _request: &[u8]) -> Result<Vec<u8>, Stopped> {
+        Err(Stopped)
+    }
+
+    fn tell(&mut self, line: &[u8]) -> Result<Vec<u8>, Stopped> {
+        tell_clocked(self.alloc, &mut self.office, self.front, line)
+    }
+
+    fn lose(&self, _peer: Option<SocketAddr>, _why: Lost) {}
 }
 
 impl<K: Keeper> Handler for LinedDesk<K> {
@@ -111,26 +162,48 @@ impl<K: Keeper> Handler for LinedDesk<K> {
 }
 
 /// Answers what came of a peer, at the moment of the clock.
-fn answer_now<K: Keeper, F: Front>(
+fn answer_now<P: Place, F: Front>(
     alloc: Global,
-    office: &mut K,
+    office: &mut P::Opened,
+    place: &P,
     front: &F,
     peer: SocketAddr,
     request: &[u8],
 ) -> Result<Vec<u8>, Stopped>
-    ensures ok { IfOk result (λ text. Leads K.is_clean K.stands
-        (λ identity before after. Exchange K.signs F.told identity before request.now text.items after)
+    ensures ok { IfOk result (λ text. Leads P.Opened.is_clean P.Opened.stands
+        (λ identity before after. Exchange P.Opened.signs F.told identity before request.now text.items after)
         office.old office.new) }
     ensures err { OnErr result (office.new ≡ office.old) }
 {
     match front.moment() {
-        Ok(now) => Ok(answer_logged(alloc, office, front, now, peer, request)),
+        Ok(now) => Ok(answer_logged(
+            alloc, office, place, front, now, peer, request,
+        )),
         Err(_) => Err(Stopped),
     }
 }
 
 /// Answers a line of a counter, at the moment of the clock.
-fn tell_now<K: Keeper, F: Front>(
+fn tell_now<P: Place, F: Front>(
+    alloc: Global,
+    office: &mut P::Opened,
+    place: &P,
+    front: &F,
+    line: &[u8],
+) -> Result<Vec<u8>, Stopped>
+    ensures ok { IfOk result (λ text. Leads P.Opened.is_clean P.Opened.stands
+        (λ identity before after. Entry P.Opened.signs F.told identity before line.now text.items after)
+        office.old office.new) }
+    ensures err { OnErr result (office.new ≡ office.old) }
+{
+    match front.moment() {
+        Ok(now) => Ok(tell_logged(alloc, office, place, front, now, line)),
+        Err(_) => Err(Stopped),
+    }
+}
+
+/// Answers a line, at the moment of the clock.
+fn tell_clocked<K: Keeper, F: Front>(
     alloc: Global,
     office: &mut K,
     front: &F,
@@ -142,27 +215,37 @@ fn tell_now<K: Keeper, F: Front>(
     ensures err { OnErr result (office.new ≡ office.old) }
 {
     match front.moment() {
-        Ok(now) => Ok(tell_logged(alloc, office, front, now, line)),
+        Ok(now) => Ok(tell_at(alloc, office, now, line)),
         Err(_) => Err(Stopped),
     }
 }
 
 /// Answers what came of a peer, at a moment, and puts that into the log, where there is one.
-fn answer_logged<K: Keeper, F: Front>(
+fn answer_logged<P: Place, F: Front>(
     alloc: Global,
-    office: &mut K,
+    office: &mut P::Opened,
+    place: &P,
     front: &F,
     now: Moment,
     peer: SocketAddr,
     request: &[u8],
 ) -> Vec<u8>
-    ensures { Leads K.is_clean K.stands (λ identity before after. ExchangeAt K.signs now identity before request.now result.items after)
-        office.old office.new }
+    ensures { Leads P.Opened.is_clean P.Opened.stands
+        (λ identity before after. ExchangeAt P.Opened.signs now identity before request.now result.items after) office.old office.new }
 {
     let began = began(front);
+    let failures = place.failures(office);
     let text = answer_at(alloc, office, now, request);
-    log_answer(alloc, front, began, now, peer, request, &text);
+    let is_unsigned = has_failed(place, office, failures);
+    log_answer(alloc, front, began, now, peer, request, &text, is_unsigned);
     text
+}
+
+/// Whether a signature did not come since the count of those was this.
+fn has_failed<P: Place>(place: &P, office: &P::Opened, failures: u64) -> bool
+    ensures { IsTrue result ↔ (failures < P.Opened.failures office.now) }
+{
+    failures < place.failures(office)
 }
 
 /// Answers what came of a peer, at a moment. Room for the text is made before anything is asked.
@@ -224,19 +307,22 @@ fn emptied(mut text: Vec<u8>) -> Vec<u8>
 }
 
 /// Answers a line of a counter, at a moment, and puts that into the log, where there is one.
-fn tell_logged<K: Keeper, F: Front>(
+fn tell_logged<P: Place, F: Front>(
     alloc: Global,
-    office: &mut K,
+    office: &mut P::Opened,
+    place: &P,
     front: &F,
     now: Moment,
     line: &[u8],
 ) -> Vec<u8>
-    ensures { Leads K.is_clean K.stands (λ identity before after. EntryAt K.signs now identity before line.now result.items after)
-        office.old office.new }
+    ensures { Leads P.Opened.is_clean P.Opened.stands
+        (λ identity before after. EntryAt P.Opened.signs now identity before line.now result.items after) office.old office.new }
 {
     let began = began(front);
+    let failures = place.failures(office);
     let reply = tell_at(alloc, office, now, line);
-    log_line(alloc, front, began, now, line, &reply);
+    let is_unsigned = has_failed(place, office, failures);
+    log_line(alloc, front, began, now, line, &reply, is_unsigned);
     reply
 }
 

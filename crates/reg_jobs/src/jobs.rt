@@ -10,7 +10,9 @@ ghost use Rattle.reg_jobs.specs.Visits.{ending_of};
 ghost use Rattle.reg_tables.specs.Stays.{IsCallFault};
 ghost use Rattle.reg_findings.specs.Lines.{broken_text, sound_text};
 
+use crate::front::Front;
 use crate::place::Place;
+use crate::sealing::Sealing;
 use crate::telling::say;
 use reg_calls::{Calls, Keeper};
 use reg_core::{Fault, Moment, Policy};
@@ -98,9 +100,10 @@ fn make_at<P: Place, W: Write>(
     say(writer, b"created\n")
 }
 
-/// Runs the script of standard input over the register at a path.
-pub fn script<P: Place, R: Read, W: Write>(
+/// Runs the script of standard input over the register at a path. Where a digest seals its first CRL, that is said at the front.
+pub fn script<P: Place, F: Front, R: Read, W: Write>(
     alloc: Global,
+    front: &F,
     place: &mut P,
     path: &str,
     signer: &Option<KeyHolder<'_>>,
@@ -110,9 +113,14 @@ pub fn script<P: Place, R: Read, W: Write>(
     ensures { ScriptAt R.remaining W.contents reader.old reader.new writer.old writer.new
         P.Place P.Opened.Keeper.own place.old place.new path.now signer.now result }
 {
-    let mut opened = place.open_to_sign(path, signer)?;
+    let office = place.open_to_sign(path, signer)?;
+    let mut opened = Sealing {
+        office,
+        front,
+        is_sealed: signer.is_none(),
+    };
     let ran = run_script(alloc, reader, writer, &mut opened);
-    place.close(path, opened);
+    place.close(path, opened.office);
     ended(ran)
 }
 

@@ -6,9 +6,11 @@ mod front;
 mod handling;
 mod jobs;
 mod lining;
+mod log_lines;
 mod logging;
 mod opening;
 mod place;
+mod sealing;
 mod serving;
 mod telling;
 

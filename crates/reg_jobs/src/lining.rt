@@ -9,8 +9,9 @@ ghost use Rattle.reg_wire.specs.Run.{Answered};
 
 use crate::asking::is_accepted;
 use crate::front::Front;
-use crate::handling::{LinedDesk, OpenDesk};
+use crate::handling::{ClockedDesk, LinedDesk};
 use crate::place::Place;
+use crate::sealing::Sealing;
 use crate::telling::say;
 use reg_calls::Keeper;
 use reg_core::Fault;
@@ -28,7 +29,8 @@ const ROOM: usize = LONGEST_LINE + 1;
 /// The same where a moment and a space come before it.
 const CLOCKED_ROOM: usize = ROOM - 21;
 
-/// Runs the script of standard input over the register at a path, line by line.
+/// Runs the script of standard input over the register at a path, line by line. Where a digest seals its first CRL, that is said at the
+/// front.
 pub fn script_by_lines<P: Place, F: Front, R: Read, W: Write>(
     alloc: Global,
     front: &F,
@@ -43,26 +45,34 @@ pub fn script_by_lines<P: Place, F: Front, R: Read, W: Write>(
         P.Place P.Opened.Keeper.own place.old place.new F.Front path.now signer.now way result }
 {
     let office = place.open_to_sign(path, signer)?;
+    let sealing = Sealing {
+        office,
+        front,
+        is_sealed: signer.is_none(),
+    };
     if way.is_clocked {
-        let mut opened = OpenDesk {
-            office,
+        let mut opened = ClockedDesk {
+            office: sealing,
             alloc,
             front,
         };
         let ran = run_clocked(alloc, &mut opened, way.is_strict, reader, writer);
-        place.close(path, opened.office);
+        place.close(path, opened.office.office);
         return ran;
     }
-    let mut lined = LinedDesk { office, alloc };
+    let mut lined = LinedDesk {
+        office: sealing,
+        alloc,
+    };
     let ran = run_unclocked(alloc, &mut lined, way.is_strict, reader, writer);
-    place.close(path, lined.office);
+    place.close(path, lined.office.office);
     ran
 }
 
 /// Runs each line at the moment of the clock.
 fn run_clocked<K: Keeper, F: Front, R: Read, W: Write>(
     alloc: Global,
-    opened: &mut OpenDesk<'_, K, F>,
+    opened: &mut ClockedDesk<'_, K, F>,
     is_strict: bool,
     reader: &mut R,
     writer: &mut W,

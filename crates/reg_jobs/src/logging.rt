@@ -1,9 +1,9 @@
 //! What is put into the log, where there is one.
 
 use crate::front::Front;
+use crate::log_lines::{exchange_line, lost_line};
 use reg_core::{Decimal, Moment};
 use reg_hub::Lost;
-use reg_log::{exchange_line, lost_line};
 use std::alloc::{AllocError, Global};
 use std::net::{IpAddr, SocketAddr};
 
@@ -19,7 +19,7 @@ pub(crate) fn began<F: Front>(front: &F) -> Option<u64> {
     }
 }
 
-/// Logs what a peer was answered at a moment.
+/// Logs what a peer was answered at a moment, and whether a signature did not come for it.
 pub(crate) fn log_answer<F: Front>(
     alloc: Global,
     front: &F,
@@ -28,6 +28,7 @@ pub(crate) fn log_answer<F: Front>(
     peer: SocketAddr,
     request: &[u8],
     text: &[u8],
+    is_unsigned: bool,
 ) {
     let Some(began) = began else {
         return;
@@ -39,11 +40,11 @@ pub(crate) fn log_answer<F: Front>(
     };
     put(
         front,
-        exchange_line(alloc, now, &who, request, text, micros),
+        exchange_line(alloc, now, &who, request, text, micros, is_unsigned),
     );
 }
 
-/// Logs what a line of a counter was answered at a moment.
+/// Logs what a line of a counter was answered at a moment, and whether a signature did not come for it.
 pub(crate) fn log_line<F: Front>(
     alloc: Global,
     front: &F,
@@ -51,6 +52,7 @@ pub(crate) fn log_line<F: Front>(
     now: Moment,
     line: &[u8],
     reply: &[u8],
+    is_unsigned: bool,
 ) {
     let Some(began) = began else {
         return;
@@ -58,7 +60,7 @@ pub(crate) fn log_line<F: Front>(
     let micros = front.micros().saturating_sub(began);
     put(
         front,
-        exchange_line(alloc, now, COUNTER, line, reply, micros),
+        exchange_line(alloc, now, COUNTER, line, reply, micros, is_unsigned),
     );
 }
 

@@ -10,7 +10,6 @@ use crate::front::Front;
 use crate::handling::OpenDesk;
 use crate::place::Place;
 use crate::serving::{LOOPBACK, hub_over, serve_hub};
-use reg_calls::Keeper;
 use reg_core::Fault;
 use reg_endings::Failure;
 use reg_hub::Hub;
@@ -36,6 +35,7 @@ pub fn hold_open<P: Place, F: Front, W: Write>(
     let mut opened = OpenDesk {
         office,
         alloc,
+        place: &*place,
         front,
     };
     let ending = keep_open(rt, &mut opened, port, counter, writer);
@@ -44,15 +44,15 @@ pub fn hold_open<P: Place, F: Front, W: Write>(
 }
 
 /// Binds the port, lays the counter's socket, tells the port, and answers who comes.
-fn keep_open<K: Keeper, F: Front, W: Write>(
+fn keep_open<P: Place, F: Front, W: Write>(
     rt: &HostRuntime,
-    opened: &mut OpenDesk<'_, K, F>,
+    opened: &mut OpenDesk<'_, P, F>,
     port: u16,
     counter: &str,
     writer: &mut W,
 ) -> Result<(), Failure>
     ensures { (inputs : List Input) × (texts : List (List ℕ))
-        × Leads K.is_clean K.stands (Opens K.signs F.told inputs texts) opened.old.office opened.new.office
+        × Leads P.Opened.is_clean P.Opened.stands (Opens P.Opened.signs F.told inputs texts) opened.old.office opened.new.office
         × OpenedAt W.contents writer.old writer.new F.bound F.laid port counter.now inputs result }
 {
     let mut hub = match hub_with_counter(rt, opened.front, port, counter) {

@@ -12,7 +12,6 @@ use crate::handling::ServedDesk;
 use crate::place::Place;
 use crate::telling::say;
 use mio::net::{TcpListener, UnixListener};
-use reg_calls::Keeper;
 use reg_core::{Decimal, Fault};
 use reg_endings::Failure;
 use reg_hub::{Handler, Hub, MOST_CALLERS};
@@ -40,6 +39,7 @@ pub fn serve<P: Place, F: Front, W: Write>(
     let mut served = ServedDesk {
         office,
         alloc,
+        place: &*place,
         front,
     };
     let ending = serve_desk(rt, &mut served, port, requests, writer);
@@ -48,15 +48,15 @@ pub fn serve<P: Place, F: Front, W: Write>(
 }
 
 /// Binds the port, tells it, and answers so many peers.
-fn serve_desk<K: Keeper, F: Front, W: Write>(
+fn serve_desk<P: Place, F: Front, W: Write>(
     rt: &HostRuntime,
-    served: &mut ServedDesk<'_, K, F>,
+    served: &mut ServedDesk<'_, P, F>,
     port: u16,
     requests: u32,
     writer: &mut W,
 ) -> Result<(), Failure>
     ensures { (inputs : List Input) × (texts : List (List ℕ))
-        × Leads K.is_clean K.stands (Serves K.signs F.told inputs texts) served.old.office served.new.office
+        × Leads P.Opened.is_clean P.Opened.stands (Serves P.Opened.signs F.told inputs texts) served.old.office served.new.office
         × ServedAt W.contents writer.old writer.new F.bound port requests inputs result }
 {
     let mut hub = match hub_at(rt, served.front, port) {

@@ -28,6 +28,8 @@ impl<'a> Front for Machine<'a> {
 
     ghost met = { λ path. Unit {0} };
 
+    ghost warned = { λ line. Unit {0} };
+
     fn moment(&self) -> Result<Moment, Fault> {
         match moment_of(&self.rt) {
             Ok(now) => Ok(now),
@@ -80,10 +82,20 @@ impl<'a> Front for Machine<'a> {
     }
 
     fn log(&self, line: &[u8]) {
-        // A log that can't be written disturbs nobody.
-        let mut errors = self.rt.stderr();
-        let _ = write_whole(&mut errors, line);
+        say(&self.rt, line);
     }
+
+    fn warn(&self, line: &[u8])
+        ensures { Unit {0} }
+    {
+        say(&self.rt, line);
+    }
+}
+
+/// Writes to standard error. What can't be written disturbs nobody.
+fn say(rt: &HostRuntime, text: &[u8]) {
+    let mut errors = rt.stderr();
+    let _ = write_whole(&mut errors, text);
 }
 
 /// A time in microseconds.

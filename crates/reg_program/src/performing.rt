@@ -98,7 +98,7 @@ fn run<P: Place, F: Front, R: Read, W: Write>(
         Job::Script {
             file: Some(file),
             signer,
-        } => script(alloc, place, file.as_str(), signer, reader, writer),
+        } => script(alloc, front, place, file.as_str(), signer, reader, writer),
         Job::Script {
             file: None,
             signer: None,

@@ -10,7 +10,7 @@ returns-then-way g c =
       ran.1,
       record {
         first = c.in_ok-office.office;
-        last = c.run_clocked-ran.new.opened.office;
+        last = c.run_clocked-ran.new.opened.office.office;
         between = c.open_to_sign.new.self;
         opened = c.in_ok-office.ensures.ok;
         moves = clocked g.P.Opened.Keeper.is_clean g.P.Opened.Keeper.stands g.P.Opened.Keeper.signs g.F.Front.told _ _ ran.0 ran.1 c.args.way.is_clocked c.if-way.true ran.2;
@@ -27,7 +27,7 @@ returns g c =
       ran.1,
       record {
         first = c.in_ok-office.office;
-        last = c.run_unclocked-ran.new.lined.office;
+        last = c.run_unclocked-ran.new.lined.office.office;
         between = c.open_to_sign.new.self;
         opened = c.in_ok-office.ensures.ok;
         moves = unclocked g.P.Opened.Keeper.is_clean g.P.Opened.Keeper.stands g.P.Opened.Keeper.signs g.F.Front.told _ _ ran.0 ran.1 c.args.way.is_clocked c.if-way.false ran.2;

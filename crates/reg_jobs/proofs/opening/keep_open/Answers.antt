@@ -9,7 +9,7 @@ pub returns-in-Err : goal.returns-in-Err
 returns-in-Err g c = (
   [],
   [],
-  stays g.K.Keeper.is_clean g.K.Keeper.stands _ _ refl,
+  stays g.P.Opened.Keeper.is_clean g.P.Opened.Keeper.stands _ _ refl,
   inl (unbound c.in-Err.why c.in-Err.ensures.err, refl),
 )
 
@@ -19,12 +19,12 @@ returns g c =
       ran.0,
       ran.1,
       exchanges_move
-          (λ opened. g.K.Keeper.is_clean opened.office)
-          (λ identity opened records. g.K.Keeper.stands identity opened.office records)
+          (λ opened. g.P.Opened.Keeper.is_clean opened.office)
+          (λ identity opened records. g.P.Opened.Keeper.stands identity opened.office records)
           _
           _
-          (Exchange g.K.Keeper.signs g.F.Front.told)
-          (Entry g.K.Keeper.signs g.F.Front.told)
+          (Exchange g.P.Opened.Keeper.signs g.F.Front.told)
+          (Entry g.P.Opened.Keeper.signs g.F.Front.told)
           (λ s came text t moved. moved)
           (λ s came text t moved. moved)
           c.args.opened.now

@@ -9,7 +9,7 @@ pub returns-in-Err : goal.returns-in-Err
 returns-in-Err g c = (
   [],
   [],
-  stays g.K.Keeper.is_clean g.K.Keeper.stands _ _ refl,
+  stays g.P.Opened.Keeper.is_clean g.P.Opened.Keeper.stands _ _ refl,
   inl (unbound c.in-Err.why c.in-Err.ensures.err, refl),
 )
 
@@ -19,11 +19,11 @@ returns g c =
       ran.0,
       ran.1,
       exchanges_move
-          (λ served. g.K.Keeper.is_clean served.office)
-          (λ identity served records. g.K.Keeper.stands identity served.office records)
+          (λ served. g.P.Opened.Keeper.is_clean served.office)
+          (λ identity served records. g.P.Opened.Keeper.stands identity served.office records)
           _
           _
-          (Exchange g.K.Keeper.signs g.F.Front.told)
+          (Exchange g.P.Opened.Keeper.signs g.F.Front.told)
           (λ identity. NoEntry)
           (λ s came text t moved. moved)
           (λ s came text t never. absurd never)

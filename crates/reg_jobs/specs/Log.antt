@@ -37,11 +37,16 @@ most_told = 256
 abbrev pub told : List ℕ → List ℕ
 told text = 34 ∷ flat_map told_byte (take most_told (first_line text)) ++ (34 ∷ [])
 
--- the line of an exchange, without LF: the moment, who asked, what was asked and answered, how many bytes the answer has, and in how
--- many microseconds it was made
-abbrev pub exchange_line : ℕ → List ℕ → List ℕ → List ℕ → ℕ → List ℕ
-exchange_line now who asked answered micros =
+-- what the line of an exchange ends with where a signature was asked for and did not come
+abbrev pub unsigned_end : Bool → List ℕ
+unsigned_end is_unsigned = cond is_unsigned (codes " signer") []
+
+-- the line of an exchange, without LF: the moment, who asked, what was asked and answered, how many bytes the answer has, in how many
+-- microseconds it was made, and whether a signature did not come
+abbrev pub exchange_line : ℕ → List ℕ → List ℕ → List ℕ → ℕ → Bool → List ℕ
+exchange_line now who asked answered micros is_unsigned =
     moment_text now ++ (32 ∷ who) ++ (32 ∷ told asked) ++ (32 ∷ told answered) ++ (32 ∷ decimal (length answered)) ++ (32 ∷ decimal micros)
+    ++ unsigned_end is_unsigned
 
 -- the line of a connection that ended by a fault, without LF
 abbrev pub lost_line : ℕ → List ℕ → List ℕ → List ℕ

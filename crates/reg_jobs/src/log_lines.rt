@@ -1,8 +1,8 @@
-//! The line of an exchange, and the line of a connection that ended by a fault.
+//! The lines of the log: that of an exchange, whatever came, and that of a connection that ended by a fault.
 
 ghost use Rattle.std.specs.Prelude.{◌≡◌, ◌++◌, ◌∷◌, ◌<◌, ◌≤◌, [], IfOk, IfSome, OnOk, decimal, length, take};
 ghost use Rattle.std.specs.List.{flat_map, position};
-ghost use Rattle.reg_log.specs.Log.{digit as hexadecimal, is_plain as plain, ends_line, first_line as first_line_of, told, told_byte, exchange_line as exchanged, lost_line as lost};
+ghost use Rattle.reg_jobs.specs.Log.{digit as hexadecimal, is_plain as plain, ends_line, first_line as first_line_of, told, told_byte, exchange_line as exchanged, lost_line as lost, unsigned_end};
 
 use reg_core::{Decimal, Moment};
 use std::alloc::{AllocError, Global};
@@ -11,16 +11,18 @@ use std::alloc::{AllocError, Global};
 const MOST_TOLD: usize = 256;
 
 /// The line of an exchange, with no LF behind it. Who asked stands there as it is; what was asked and answered puts no control character and
-/// no byte outside ASCII there, so that no peer can put a line of its own into the log.
-pub fn exchange_line(
+/// no byte outside ASCII there, so that no peer can put a line of its own into the log. Where a signature did not come, its last word is
+/// `signer`.
+pub(crate) fn exchange_line(
     alloc: Global,
     now: Moment,
     who: &[u8],
     asked: &[u8],
     answered: &[u8],
     micros: u64,
+    is_unsigned: bool,
 ) -> Result<Vec<u8>, AllocError>
-    ensures { IfOk result (λ line. line.items ≡ exchanged now who.now asked.now answered.now micros) }
+    ensures { IfOk result (λ line. line.items ≡ exchanged now who.now asked.now answered.now micros is_unsigned) }
 {
     let mut line = Vec::from_slice(alloc, &now.text())?;
     put_word(&mut line, who)?;
@@ -28,11 +30,12 @@ pub fn exchange_line(
     put_told(&mut line, answered)?;
     put_number(&mut line, answered.len() as u64)?;
     put_number(&mut line, micros)?;
+    put_unsigned(&mut line, is_unsigned)?;
     Ok(line)
 }
 
 /// The line of a connection that ended by a fault, with no LF behind it.
-pub fn lost_line(alloc: Global, now: Moment, who: &[u8], why: &[u8]) -> Result<Vec<u8>, AllocError>
+pub(crate) fn lost_line(alloc: Global, now: Moment, who: &[u8], why: &[u8]) -> Result<Vec<u8>, AllocError>
     ensures { IfOk result (λ line. line.items ≡ lost now who.now why.now) }
 {
     let mut line = Vec::from_slice(alloc, &now.text())?;
@@ -56,6 +59,16 @@ fn put_number(line: &mut Vec<u8>, number: u64) -> Result<(), AllocError>
 {
     let digits = Decimal::of(number);
     put_word(line, digits.as_bytes())
+}
+
+/// Puts the word behind a line that tells of a signature that did not come, where one did not.
+fn put_unsigned(line: &mut Vec<u8>, is_unsigned: bool) -> Result<(), AllocError>
+    ensures { OnOk result (line.new.items ≡ line.old.items ++ unsigned_end is_unsigned) }
+{
+    if !is_unsigned {
+        return Ok(());
+    }
+    line.extend_from_slice(b" signer")
 }
 
 /// Puts a space and what a text is told as behind a line.

@@ -1,6 +1,6 @@
 use Rattle.std.proofs.Common.{◌≡◌, ℕ, ◌≤◌, List, length, take, sym, arith, length-take}
 use Rattle.std.proofs.lemmas.List.{take_all}
-use Rattle.reg_log.proofs.line.front_of.Goals as goal
+use Rattle.reg_jobs.proofs.log_lines.front_of.Goals as goal
 
 -- as many as are taken
 front_length : (xs : List ℕ) (n : ℕ) → n ≤ length xs → n ≡ length (take n xs)
