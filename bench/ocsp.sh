@@ -46,6 +46,7 @@ if [ -n "$signed" ]; then
     set -- "$@" --signer ca.sign --algorithm ecdsa-sha256
     echo "P-256 signatures on both sides:"
 else
+    set -- "$@" --unsigned
     echo "the desk seals with a digest, which is no signature; openssl signs with P-256:"
 fi
 "$desk" "$@" >/dev/null &

@@ -47,7 +47,7 @@ def a_counter_at_which_somebody_answers_is_not_taken_over(t):
     t.register(lines=ENTERED)
     t.register("other.db")
     t.open()
-    ran = t.desk("open", "other.db", "--port", free_port(), "--counter", "counter", timeout=15)
+    ran = t.desk("open", "other.db", "--port", free_port(), "--counter", "counter", "--unsigned", timeout=15)
     t.same((ran.status, ran.out, ran.err), (1, b"", b"F4 read\n"), "the second desk at the same counter")
     t.same(t.done("at", "counter", given="status 05\n"), "good\n", "the first one")
 
@@ -61,7 +61,7 @@ def a_socket_that_was_left_behind_is_taken_over_and_a_file_is_not(t):
     t.same(t.done("at", "counter", given="status 05\n"), "good\n")
     opened.end()
     (t.room / "file").write_text("no socket")
-    ran = t.desk("open", "ca.db", "--port", free_port(), "--counter", "file")
+    ran = t.desk("open", "ca.db", "--port", free_port(), "--counter", "file", "--unsigned")
     t.same((ran.status, ran.out, ran.err), (1, b"", b"F4 read\n"), "a counter that is a file")
     t.same((t.room / "file").read_text(), "no socket", "the file")
 

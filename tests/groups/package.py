@@ -276,7 +276,7 @@ def documented(t, root):
     t.same(sorted(completed("desk", "s")), [it for it in commands if it.startswith("s")], "desk s..")
     t.has(" ".join(completed("desk", "init", "ca.db", "--")), "--name --key --days --crl-life --ocsp-life --cap")
     t.has(" ".join(completed("desk", "--why", "script", "ca.db", "--")), "--signer --algorithm")
-    t.has(" ".join(completed("desk", "open", "ca.db", "--")), "--log --why")
+    t.has(" ".join(completed("desk", "open", "ca.db", "--")), "--signer --algorithm --unsigned --log --why")
     t.has(" ".join(completed("desk", "import", "ca.db", "--now", "")), time.strftime("%Y-%m-%dT", time.gmtime()))
     t.has(completed("desk", "script", "durs"), "durshavon.deb")
     for unit in sorted((root.path / "lib/systemd/system").glob("desk*@.*")):

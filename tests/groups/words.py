@@ -7,9 +7,11 @@ from lib.trial import each, test
 
 ISSUER = ("--name", NAME, "--key", KEY)
 SERVE, OPEN = ("serve", "none.db"), ("open", "none.db", "--counter", "S")
+UNSIGNED = (*OPEN, "--unsigned")
 SCHEDULE, FIRST_STEP = ("schedule", "none.db"), "1970-01-01T00:00:00Z=398"
 # A socket and an algorithm.
 BOTH = "--signer and --algorithm are given both or neither, and an algorithm is ecdsa-sha256, ecdsa-sha384, rsa-sha256 or ed25519"
+ONE_OF_BOTH = "open wants --signer SOCKET with --algorithm NAME, or --unsigned, by which a digest alone seals: one of both"
 NUMBER, RANGE = "a number is 1 to 18 digits", "within the range"
 MOMENT, STEP = "a moment is written as", "a step is written as"
 
@@ -47,10 +49,12 @@ UNKNOWN = {
     "crl with another option": ("crl", "none.db", "--nubmer", "1"),
     "serve without requests": (*SERVE, "--port", "80"),
     "serve without a port": (*SERVE, "--requests", "1"),
-    "open without a counter": ("open", "none.db", "--port", "80"),
-    "open without a port": ("open", "none.db", "--counter", "S"),
-    "open without a file": ("open", "--port", "80", "--counter", "S"),
-    "open with requests": (*OPEN, "--port", "80", "--requests", "1"),
+    "open without a counter": ("open", "none.db", "--port", "80", "--unsigned"),
+    "open without a port": UNSIGNED,
+    "open without a file": ("open", "--port", "80", "--counter", "S", "--unsigned"),
+    "open with requests": (*UNSIGNED, "--port", "80", "--requests", "1"),
+    "unsigned with a value": (*OPEN, "--port", "80", "--unsigned=true"),
+    "unsigned twice": (*UNSIGNED, "--port", "80", "--unsigned"),
     "at without a socket": ("at",),
     "at with two sockets": ("at", "S", "F"),
     "schedule without a step": SCHEDULE,
@@ -91,7 +95,7 @@ VALUES = [
     *[(("init", "none.db", *ISSUER), "--cap", it, NUMBER) for it in ("1234567890123456789", "1_000", "-")],
     *[((*SERVE, "--requests=1"), "--port", it, RANGE) for it in ("0", "65536", "http", "0000000000000000080", "")],
     *[((*SERVE, "--port=80"), "--requests", it, RANGE) for it in ("0", "1000001", "999999999999999999", "0000000000000000001", "")],
-    *[(OPEN, "--port", it, RANGE) for it in ("0", "65536", "http", "")],
+    *[(UNSIGNED, "--port", it, RANGE) for it in ("0", "65536", "http", "")],
     *[(("import", "none.db"), "--now", it, MOMENT) for it in ("yesterday", "2026-01-01", "2026-02-29T00:00:00Z", "")],
     *[(("crl", "none.db"), "--number", it, NUMBER) for it in ("", "x", "latest", "0000000000000000001")],
 ]
@@ -132,15 +136,26 @@ SIGNER, SERVED = ("script", "none.db"), ("serve", "none.db", "--port=80", "--req
     "serve without a socket": ((*SERVED, "--algorithm=ed25519"), "for '--algorithm'"),
     "serve with half a name": ((*SERVED, "--signer=ca.sign", "--algorithm=rsa"), "'rsa' for '--algorithm'"),
     "open without an algorithm": ((*OPEN, "--port=80", "--signer=ca.sign"), "'ca.sign' for '--signer'"),
+    "open unsigned and without an algorithm": ((*UNSIGNED, "--port=80", "--signer=ca.sign"), "'ca.sign' for '--signer'"),
+    "open unsigned and without a socket": ((*UNSIGNED, "--port=80", "--algorithm=ed25519"), "'ed25519' for '--algorithm'"),
 })
 def a_socket_and_a_known_algorithm_are_given_both_or_neither(t, words, named):
     told = refused(t, *words)
     t.has(told, f"{named}: {BOTH}")
 
 
+@each({
+    "neither": OPEN,
+    "both": (*UNSIGNED, "--signer=ca.sign", "--algorithm=ed25519"),
+})
+def open_is_told_of_a_signer_or_that_there_is_none(t, *words):
+    told = refused(t, *words, "--port=80")
+    t.same(told.splitlines()[0], f"error: {ONE_OF_BOTH}", "the one line that says both ways")
+
+
 @each({" ".join(it): it for it in (
     ("import", "--signer=ca.sign"), ("crl", "--algorithm=ed25519"), ("schedule", "--signer=ca.sign"), ("import", "--clock"), ("import", "--strict"),
-    ("crl", "--log"), ("script", "--log"), ("at", "--log"), ("audit", "--log"),
+    ("crl", "--log"), ("script", "--log"), ("at", "--log"), ("audit", "--log"), ("script", "--unsigned"), ("serve", "--unsigned"), ("schedule", "--unsigned"),
 )})
 def an_option_of_another_command_is_unexpected(t, command, option):
     t.has(refused(t, command, "none.db", option), "unexpected argument")
@@ -174,7 +189,7 @@ HELPED = {
     "import --help": ("<FILE>", "--now <MOMENT>", "--why"),
     "crl --help": ("<FILE>", "--number <N>", "--why"),
     "serve --help": ("<FILE>", "--port <N>", "--requests <N>", "--signer <SOCKET>", "--algorithm <NAME>", "--log", "--why"),
-    "open --help": ("<FILE>", "--port <N>", "--counter <SOCKET>", "--signer <SOCKET>", "--algorithm <NAME>", "--log", "--why"),
+    "open --help": ("<FILE>", "--port <N>", "--counter <SOCKET>", "--signer <SOCKET>", "--algorithm <NAME>", "--unsigned", "--log", "--why"),
     "at --help": ("<SOCKET>", "--why", "desk at ca.counter"),
     "schedule F --help": ("<FILE>", "<MOMENT=DAYS>...", "--why"),
     "audit --help": ("<FILE>", "--why", "desk audit ca.db"),
@@ -195,8 +210,8 @@ TAKEN = {
     "the highest": (*SERVE, "--port", "65535", "--requests", "1000000"),
     "ones between": (*SERVE, "--port", "8080", "--requests", "3"),
     "options before the file": ("serve", "--requests=3", "--port=8080", "none.db"),
-    "open with its options before": ("open", "--counter=ca.counter", "none.db", "--port", "8080"),
-    "open at the highest port": (*OPEN, "--port", "65535"),
+    "open with its options before": ("open", "--unsigned", "--counter=ca.counter", "none.db", "--port", "8080"),
+    "open at the highest port": (*UNSIGNED, "--port", "65535"),
     "a number of no digit but zeros": ("crl", "none.db", "--number", "000000000000000000"),
     "the highest number of a CRL": ("crl", "none.db", "--number", "999999999999999999"),
     "a script over a file": ("script", "реестр/центр 1.db"),

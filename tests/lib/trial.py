@@ -94,10 +94,12 @@ class Trial(contextlib.ExitStack):
         return self.room / file
 
     def open(self, file="ca.db", *words, command="open", **how):
-        """Opens a register until the test ends; `desk open` wants a counter, which is `counter` where none is named."""
+        """Opens a register until the test ends. `desk open` wants a counter, which is `counter` where none is named, and no key signs where no signer is."""
         how.setdefault("clock", self._clock)
         if command == "open" and "--counter" not in words:
             words = (*words, "--counter", "counter")
+        if command == "open" and "--signer" not in words and "--unsigned" not in words:
+            words = (*words, "--unsigned")
         self.note(program.shown([command, file, *words]))
         opened = self.enter_context(program.Opened([command, file, *words], cwd=self.room, **how))
         if not opened.listens:

@@ -57,10 +57,11 @@ abbrev pub serve_app : App
 serve_app = with_rules (new_app (codes "serve"))
     (must (codes "file") ∷ needs (codes "port") ∷ needs (codes "requests") ∷ takes (codes "signer") ∷ takes (codes "algorithm") ∷ flag (codes "log") ∷ flag (codes "why") ∷ [])
 
--- `open FILE --port N --counter SOCKET [--signer SOCKET --algorithm NAME] [--log] [--why]`
+-- `open FILE --port N --counter SOCKET [--signer SOCKET --algorithm NAME] [--unsigned] [--log] [--why]`; which of the two must be given says `Jobs.holder_chosen`
 abbrev pub open_app : App
 open_app = with_rules (new_app (codes "open"))
-    (must (codes "file") ∷ needs (codes "port") ∷ needs (codes "counter") ∷ takes (codes "signer") ∷ takes (codes "algorithm") ∷ flag (codes "log") ∷ flag (codes "why") ∷ [])
+    (must (codes "file") ∷ needs (codes "port") ∷ needs (codes "counter") ∷ takes (codes "signer") ∷ takes (codes "algorithm")
+    ∷ flag (codes "unsigned") ∷ flag (codes "log") ∷ flag (codes "why") ∷ [])
 
 -- `at SOCKET [--why]`
 abbrev pub at_app : App
@@ -84,14 +85,12 @@ bare_app = record (new_app (codes "desk")) {
 abbrev pub begun_app : App
 begun_app = with_rules bare_app (flag (codes "why") ∷ [])
 
--- the same with `init`, `script`, `import` and `crl`
-abbrev pub issuing_app : App
-issuing_app = with_subcommand (with_subcommand (with_subcommand (with_subcommand begun_app init_app.top) script_app.top) import_app.top) crl_app.top
-
--- the same with `serve`, `open` and `at`
-abbrev pub serving_app : App
-serving_app = with_subcommand (with_subcommand (with_subcommand issuing_app serve_app.top) open_app.top) at_app.top
+-- a command line with commands, each behind those before it
+abbrev pub with_commands : App → List App → App
+with_commands app [] = app
+with_commands app (command ∷ rest) = with_commands (with_subcommand app command.top) rest
 
 -- `desk [--why] COMMAND ..`
 abbrev pub desk_app : App
-desk_app = with_subcommand (with_subcommand serving_app schedule_app.top) audit_app.top
+desk_app = with_commands begun_app
+    (init_app ∷ script_app ∷ import_app ∷ crl_app ∷ serve_app ∷ open_app ∷ at_app ∷ schedule_app ∷ audit_app ∷ [])

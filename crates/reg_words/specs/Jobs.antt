@@ -1,5 +1,5 @@
 -- What the words of a command line say.
-use Rattle.std.specs.Prelude.{◌≡◌, ◌≢◌, ◌⊎◌, ◌||◌, ℕ, Bool, false, List, [], codes, bytes_eq, if◌then◌else◌, Option, Some, None, option_map, option_and_then}
+use Rattle.std.specs.Prelude.{◌≡◌, ◌≢◌, ◌⊎◌, ◌||◌, ℕ, Bool, true, false, List, [], codes, bytes_eq, if◌then◌else◌, Option, Some, None, option_map, option_and_then}
 use Rattle.std.specs.Option.{option_map_or}
 use Rattle.clap.specs.Words.{IsAmong, Row, Text, all_of, fault_of, first_of, matches_of, subcommand_of}
 use Rattle.clap.specs.declared.error.kind.ErrorKind.{ErrorKind}
@@ -12,7 +12,7 @@ use Rattle.reg_words.specs.declared.job.Job.{Job}
 use Rattle.reg_words.specs.declared.job.Job.TheVariants.{Init, Script, Lines, Import, Crl, Serve, Open, At, Schedule, Audit}
 use Rattle.reg_words.specs.declared.job.KeyHolder.{KeyHolder}
 use Rattle.reg_words.specs.declared.job.Order.{Order}
-use Rattle.reg_words.specs.declared.reading.Terms.{Terms}
+use Rattle.reg_words.specs.declared.commands.Terms.{Terms}
 use Rattle.reg_words.specs.declared.job.Usage.{Usage}
 use Rattle.reg_words.specs.declared.job.Way.{Way}
 use Rattle.reg_words.specs.declared.job.Usage.TheVariants.{Help, Version, Bad, Memory}
@@ -49,6 +49,17 @@ holder_in rows = holder_told (first_of (codes "signer") rows) (first_of (codes "
 -- whether an option is given that takes no value
 abbrev pub is_given : Text → List Row → Bool
 is_given id rows = option_map_or (λ text. bytes_eq text (codes "true")) (first_of id rows) false
+
+-- what holds the key where it is to be chosen: one that does, or the word that none does; neither says nothing, and nor do both
+abbrev pub chosen : Option KeyHolder → Bool → Option (Option KeyHolder)
+chosen (Some holder) false = Some (Some holder)
+chosen (Some holder) true = None
+chosen None false = None
+chosen None true = Some None
+
+-- what holds the key, by `--signer` with `--algorithm`, or none by `--unsigned`
+abbrev pub holder_chosen : List Row → Option (Option KeyHolder)
+holder_chosen rows = option_and_then (λ signer. chosen signer (is_given (codes "unsigned") rows)) (holder_in rows)
 
 -- how the lines of a script are run
 abbrev pub way_in : List Row → Way
@@ -107,7 +118,7 @@ open_of rows = do
   file ← first_of (codes "file") rows
   port ← number_in 1 65535 (codes "port") rows
   counter ← first_of (codes "counter") rows
-  signer ← holder_in rows
+  signer ← holder_chosen rows
   Some (Open file port counter signer)
 
 unfoldable pub at_of : List Row → Option Job

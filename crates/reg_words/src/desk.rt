@@ -3,10 +3,10 @@
 ghost use Rattle.std.specs.Prelude.{◌≡◌, IfOk, false, map};
 ghost use Rattle.clap.specs.Words.{App, app_of, rule_of, with_subcommand};
 ghost use Rattle.clap.specs.declared.builder.command.Command.TheViews.{out-Command as fields_of};
-ghost use Rattle.reg_words.specs.Desk.{may, takes, flag, bare_app, begun_app, issuing_app, serving_app, desk_app, with_rules};
+ghost use Rattle.reg_words.specs.Desk.{must, may, needs, takes, flag, some, bare_app, begun_app, desk_app, with_rules};
 ghost use Rattle.reg_words.specs.Table.{app_told, rule_told, with_entries};
 
-use crate::table::{BEFORE, Entry, ISSUING, KEEPING, Part, SERVING};
+use crate::table::{BEFORE, COMMANDS, Entry, Part};
 use clap::{Arg, ArgAction, Command};
 use std::alloc::{AllocError, Global};
 
@@ -17,10 +17,14 @@ const VERSION: &str = "0.1";
 pub(crate) fn desk<'a>(alloc: Global) -> Result<Command<'a>, AllocError>
     ensures { IfOk result (λ made. app_of made ≡ desk_app) }
 {
-    let desk = begun(alloc)?;
-    let desk = with_issuing(alloc, desk)?;
-    let desk = with_serving(alloc, desk)?;
-    with_keeping(alloc, desk)
+    with_commands(alloc, begun(alloc)?, commands())
+}
+
+/// The commands of the table, which are those of the program.
+fn commands() -> &'static [Entry]
+    ensures { with_entries begun_app result.now ≡ desk_app }
+{
+    COMMANDS
 }
 
 /// The command line with no command yet.
@@ -28,36 +32,7 @@ fn begun<'a>(alloc: Global) -> Result<Command<'a>, AllocError>
     ensures app { IfOk result (λ made. app_of made ≡ begun_app) }
     ensures local { IfOk result (λ made. (fields_of made).has_globals ≡ false) }
 {
-    with_parts(alloc, bare(alloc), &BEFORE)
-}
-
-/// The command line with the first commands.
-fn with_issuing<'a>(alloc: Global, desk: Command<'a>) -> Result<Command<'a>, AllocError>
-    requires app { app_of desk ≡ begun_app }
-    requires local { (fields_of desk).has_globals ≡ false }
-    ensures app { IfOk result (λ made. app_of made ≡ issuing_app) }
-    ensures local { IfOk result (λ made. (fields_of made).has_globals ≡ false) }
-{
-    with_commands(alloc, desk, &ISSUING)
-}
-
-/// The command line with those that serve, too.
-fn with_serving<'a>(alloc: Global, desk: Command<'a>) -> Result<Command<'a>, AllocError>
-    requires app { app_of desk ≡ issuing_app }
-    requires local { (fields_of desk).has_globals ≡ false }
-    ensures app { IfOk result (λ made. app_of made ≡ serving_app) }
-    ensures local { IfOk result (λ made. (fields_of made).has_globals ≡ false) }
-{
-    with_commands(alloc, desk, &SERVING)
-}
-
-/// The command line with all.
-fn with_keeping<'a>(alloc: Global, desk: Command<'a>) -> Result<Command<'a>, AllocError>
-    requires app { app_of desk ≡ serving_app }
-    requires local { (fields_of desk).has_globals ≡ false }
-    ensures { IfOk result (λ made. app_of made ≡ desk_app) }
-{
-    with_commands(alloc, desk, &KEEPING)
+    with_parts(alloc, bare(alloc), BEFORE)
 }
 
 /// The command line with no option and no command yet.
@@ -143,10 +118,10 @@ fn arg<'a>(alloc: Global, part: &Part) -> Arg<'a>
     ensures local { result.global ≡ false }
 {
     match *part {
-        Part::Must(id, name, help) => word(alloc, id, name, help).required(true),
+        Part::Must(id, name, help) => word_wanted(alloc, id, name, help),
         Part::May(id, name, help) => word(alloc, id, name, help),
-        Part::Rest(id, name, help) => word(alloc, id, name, help).required(true).num_args(1..),
-        Part::Needs(id, name, help) => option(alloc, id, name, help).required(true),
+        Part::Rest(id, name, help) => words_wanted(alloc, id, name, help),
+        Part::Needs(id, name, help) => option_wanted(alloc, id, name, help),
         Part::Takes(id, name, help) => option(alloc, id, name, help),
         Part::Flag(id, help) => flagged(alloc, id, help),
     }
@@ -158,6 +133,30 @@ fn word<'a>(alloc: Global, id: &'a str, name: &'a str, help: &'a str) -> Arg<'a>
     ensures local { result.global ≡ false }
 {
     Arg::new(alloc, id).value_name(name).help(help)
+}
+
+/// A word that must be given.
+fn word_wanted<'a>(alloc: Global, id: &'a str, name: &'a str, help: &'a str) -> Arg<'a>
+    ensures rule { rule_of result ≡ must id.entry.now }
+    ensures local { result.global ≡ false }
+{
+    word(alloc, id, name, help).required(true)
+}
+
+/// One word or more.
+fn words_wanted<'a>(alloc: Global, id: &'a str, name: &'a str, help: &'a str) -> Arg<'a>
+    ensures rule { rule_of result ≡ some id.entry.now }
+    ensures local { result.global ≡ false }
+{
+    word_wanted(alloc, id, name, help).num_args(1..)
+}
+
+/// An option that must be given.
+fn option_wanted<'a>(alloc: Global, id: &'a str, name: &'a str, help: &'a str) -> Arg<'a>
+    ensures rule { rule_of result ≡ needs id.entry.now }
+    ensures local { result.global ≡ false }
+{
+    option(alloc, id, name, help).required(true)
 }
 
 /// An option that may be left out.

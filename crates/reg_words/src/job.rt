@@ -70,7 +70,7 @@ pub enum Job<'a> {
         signer: Option<KeyHolder<'a>>,
     },
     /// Keeps a register open until the program is ended: answers requests over HTTP at a port, 1 to 65,535, and lines at a
-    /// counter, a Unix socket at a path. What holds the key signs, or else a digest seals.
+    /// counter, a Unix socket at a path. What holds the key signs; a digest seals only where `--unsigned` says that none does.
     Open {
         file: Word<'a>,
         port: u16,

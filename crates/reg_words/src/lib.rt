@@ -1,6 +1,7 @@
 //! The command line of the program `desk`: what its words say.
 #![tactic(auto)]
 
+mod commands;
 mod desk;
 mod job;
 mod reading;

@@ -61,6 +61,12 @@ const REQUESTS: &str = "How many connections to answer before it ends, 1 to 1000
 const SIGNER: &str =
     "The Unix socket of what holds the issuer's key [default: none, and a digest seals, which is no signature]";
 
+const OPEN_SIGNER: &str =
+    "The Unix socket of what holds the issuer's key; wants --algorithm; left out only with --unsigned";
+
+const UNSIGNED: &str =
+    "In place of --signer: a digest alone seals CRLs and answers, which no client accepts";
+
 const ALGORITHM: &str =
     "The algorithm of its signatures: ecdsa-sha256, ecdsa-sha384, rsa-sha256 or ed25519";
 
@@ -85,12 +91,10 @@ const CAUSE_ANYWHERE: &str =
     "Tell the cause of a fault in a line behind its own, where it is known; also behind a command";
 
 /// What stands before a command.
-pub(crate) const BEFORE: [Part; 1] = [Part::Flag("why", CAUSE_ANYWHERE)];
+pub(crate) const BEFORE: &[Part] = &[Part::Flag("why", CAUSE_ANYWHERE)];
 
-// The commands stand in three tables, since a long constant costs the prover seconds in each function that names it. Help lists them in this order.
-
-/// The commands that make a register, run lines over it, and write what it issued.
-pub(crate) const ISSUING: [Entry; 4] = [
+/// The commands, in the order in which help lists them. One small function alone names them, since a long constant costs the prover seconds in each step.
+pub(crate) const COMMANDS: &[Entry] = &[
     Entry {
         name: "init",
         about: "Make a new register in a file.",
@@ -139,10 +143,6 @@ pub(crate) const ISSUING: [Entry; 4] = [
             Part::Flag("why", CAUSE),
         ],
     },
-];
-
-/// The commands that serve, and the one that tells lines to an open desk.
-pub(crate) const SERVING: [Entry; 3] = [
     Entry {
         name: "serve",
         about: "Answer OCSP, CRLs and status over HTTP on 127.0.0.1, by the machine's clock.",
@@ -160,13 +160,14 @@ pub(crate) const SERVING: [Entry; 3] = [
     Entry {
         name: "open",
         about: "Keep a register open until it is ended: HTTP on 127.0.0.1, and commands at a counter, by the machine's clock.",
-        example: "Example:\n  desk open ca.db --port 8080 --counter ca.counter",
+        example: "Example:\n  desk open ca.db --port 8080 --counter ca.counter --signer ca.sign --algorithm ecdsa-sha256",
         parts: &[
             Part::Must("file", "FILE", FILE),
             Part::Needs("port", "N", PORT),
             Part::Needs("counter", "SOCKET", COUNTER),
-            Part::Takes("signer", "SOCKET", SIGNER),
+            Part::Takes("signer", "SOCKET", OPEN_SIGNER),
             Part::Takes("algorithm", "NAME", ALGORITHM),
+            Part::Flag("unsigned", UNSIGNED),
             Part::Flag("log", LOG),
             Part::Flag("why", CAUSE),
         ],
@@ -180,10 +181,6 @@ pub(crate) const SERVING: [Entry; 3] = [
             Part::Flag("why", CAUSE),
         ],
     },
-];
-
-/// The commands that look after a register.
-pub(crate) const KEEPING: [Entry; 2] = [
     Entry {
         name: "schedule",
         about: "Set how many days a certificate may be valid, by the moment from which it is valid.",

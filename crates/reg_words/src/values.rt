@@ -3,7 +3,7 @@
 ghost use Rattle.std.specs.Prelude.{◌≡◌, ◌≤◌, IfOk, IfSome, List, ℕ, map, option_and_then, option_map};
 ghost use Rattle.reg_core.specs.Number.{number_of};
 ghost use Rattle.clap.specs.Words.{all_of, first_of, found_of, rows_of};
-ghost use Rattle.reg_words.specs.Jobs.{given, given_or, holder_in, is_given, number_in, way_in};
+ghost use Rattle.reg_words.specs.Jobs.{given, given_or, chosen, holder_chosen, holder_in, is_given, number_in, way_in};
 ghost use Rattle.reg_words.specs.Values.{moment_of, step_of, steps_of, within};
 
 use crate::job::{KeyHolder, Way};
@@ -57,7 +57,21 @@ pub(crate) fn number_within(
     ensures exact { result ≡ number_in least most id.now (rows_of (found_of matches.now)) }
     ensures at_most { IfSome result (λ number. number ≤ most) }
 {
-    let number = read_number(text_of(matches, id)?.as_bytes())?;
+    bounded(number(matches, id)?, least, most)
+}
+
+/// The number of an option, where it is given and a number.
+fn number(matches: &ArgMatches<'_>, id: &str) -> Option<u64>
+    ensures { result ≡ option_and_then number_of (first_of id.now (rows_of (found_of matches.now))) }
+{
+    read_number(text_of(matches, id)?.as_bytes())
+}
+
+/// The number, where it is within bounds.
+fn bounded(number: u64, least: u64, most: u64) -> Option<u64>
+    ensures exact { result ≡ within least most number }
+    ensures at_most { IfSome result (λ number. number ≤ most) }
+{
     if least <= number && number <= most {
         Some(number)
     } else {
@@ -83,6 +97,23 @@ pub(crate) fn key_holder<'a>(matches: &ArgMatches<'a>) -> Option<Option<KeyHolde
         }
         (None, None) => Some(None),
         _ => None,
+    }
+}
+
+/// What holds the key where that is to be chosen: one that does, or `--unsigned`; `None` where neither is told, or both.
+pub(crate) fn chosen_holder<'a>(matches: &ArgMatches<'a>) -> Option<Option<KeyHolder<'a>>>
+    ensures { result ≡ holder_chosen (rows_of (found_of matches.now)) }
+{
+    choose(key_holder(matches)?, is_set(matches, "unsigned"))
+}
+
+fn choose<'a>(holder: Option<KeyHolder<'a>>, is_unsigned: bool) -> Option<Option<KeyHolder<'a>>>
+    ensures { result ≡ chosen holder.entry is_unsigned }
+{
+    if holder.is_some() == is_unsigned {
+        None
+    } else {
+        Some(holder)
     }
 }
 

@@ -35,6 +35,9 @@ const KEY_HOLDER_WANTED: &str =
 
 const FILE_WANTED: &str = "--clock and --strict want a FILE";
 
+const CHOICE_WANTED: &str =
+    "open wants --signer SOCKET with --algorithm NAME, or --unsigned, by which a digest alone seals: one of both";
+
 /// A value that is out of its form or range, the option that it was given for, and what is wanted in its place.
 #[derive(Clone, Copy)]
 struct Wrong<'a> {
@@ -46,10 +49,18 @@ struct Wrong<'a> {
 /// What is said of the first value that is out of its form or range; `None` for want of memory.
 pub(crate) fn wrong_text(alloc: Global, matches: &ArgMatches<'_>) -> Option<String> {
     let Some(wrong) = first_wrong(matches) else {
-        return String::from_str(alloc, FILE_WANTED).ok();
+        return String::from_str(alloc, combination_wanted(matches)).ok();
     };
     let (option, value, wanted) = (wrong.option, wrong.value, wrong.wanted);
     format!(in alloc; "invalid value '{value}' for '{option}': {wanted}").ok()
+}
+
+/// What is said where each value is in its form and range, and the words don't go together.
+fn combination_wanted(matches: &ArgMatches<'_>) -> &'static str {
+    match matches.subcommand() {
+        Some((name, _)) if name == "open" => CHOICE_WANTED,
+        _ => FILE_WANTED,
+    }
 }
 
 /// The first value of the command that was named that is out of its form or range.

@@ -1,0 +1,233 @@
+//! The job of each command, by its words and options.
+
+ghost use Rattle.std.specs.Prelude.{◌≡◌, codes, IfOk};
+ghost use Rattle.clap.specs.Words.{found_of, rows_of};
+ghost use Rattle.reg_words.specs.Jobs.{job_in, serving_job_in, keeping_job_in, init_of, terms_of, script_by, script_of, import_of, crl_of, number_in, serve_of, open_of, at_of, schedule_of, audit_of};
+
+use crate::job::{Job, KeyHolder, Way};
+use crate::values::{
+    chosen_holder, key_holder, moment, number_if_given, number_or, number_within, steps, way_of,
+    word_of,
+};
+use crate::word::Word;
+use crate::wrong::{LAST_PORT, MOST_REQUESTS};
+use clap::ArgMatches;
+use std::alloc::{AllocError, Global};
+
+/// What a new register is to keep to.
+#[derive(Clone, Copy)]
+struct Terms {
+    days: u64,
+    crl_life: u64,
+    ocsp_life: u64,
+    cap: u64,
+}
+
+/// The most days of validity of the usual policy.
+const USUAL_DAYS: u64 = 398;
+
+/// The seconds from thisUpdate to nextUpdate of a CRL by the usual policy: eight days.
+const USUAL_CRL_LIFE: u64 = 691_200;
+
+/// The seconds from thisUpdate to nextUpdate of an OCSP answer by the usual policy: four days.
+const USUAL_OCSP_LIFE: u64 = 345_600;
+
+/// The most rows of a table of the usual policy.
+const USUAL_CAP: u64 = 1_000_000;
+
+/// The job of a command by its name.
+#[tactic(auto, unfolding(crate::specs::Jobs::job_in))]
+pub(crate) fn read_command<'a>(
+    alloc: Global,
+    name: &str,
+    given: &ArgMatches<'a>,
+) -> Result<Option<Job<'a>>, AllocError>
+    ensures { IfOk result (λ job. job ≡ job_in name.now (rows_of (found_of given.now))) }
+{
+    if name == "init" {
+        Ok(read_init(given))
+    } else if name == "script" {
+        Ok(read_script(given))
+    } else if name == "import" {
+        Ok(read_import(given))
+    } else if name == "crl" {
+        Ok(read_crl(given))
+    } else {
+        read_serving(alloc, name, given)
+    }
+}
+
+/// The same of a command that serves, or one behind those.
+#[tactic(auto, unfolding(crate::specs::Jobs::serving_job_in))]
+fn read_serving<'a>(
+    alloc: Global,
+    name: &str,
+    given: &ArgMatches<'a>,
+) -> Result<Option<Job<'a>>, AllocError>
+    ensures { IfOk result (λ job. job ≡ serving_job_in name.now (rows_of (found_of given.now))) }
+{
+    if name == "serve" {
+        Ok(read_serve(given))
+    } else if name == "open" {
+        Ok(read_open(given))
+    } else if name == "at" {
+        Ok(read_at(given))
+    } else {
+        read_keeping(alloc, name, given)
+    }
+}
+
+/// The same of a command that looks after a register.
+#[tactic(auto, unfolding(crate::specs::Jobs::keeping_job_in))]
+fn read_keeping<'a>(
+    alloc: Global,
+    name: &str,
+    given: &ArgMatches<'a>,
+) -> Result<Option<Job<'a>>, AllocError>
+    ensures { IfOk result (λ job. job ≡ keeping_job_in name.now (rows_of (found_of given.now))) }
+{
+    if name == "schedule" {
+        read_schedule(alloc, given)
+    } else if name == "audit" {
+        Ok(read_audit(given))
+    } else {
+        Ok(None)
+    }
+}
+
+#[tactic(auto, unfolding(crate::specs::Jobs::init_of))]
+fn read_init<'a>(given: &ArgMatches<'a>) -> Option<Job<'a>>
+    ensures { result ≡ init_of (rows_of (found_of given.now)) }
+{
+    let file = word_of(given, "file")?;
+    let name = word_of(given, "name")?;
+    let key = word_of(given, "key")?;
+    let terms = read_terms(given)?;
+    Some(Job::Init {
+        file,
+        name,
+        key,
+        days: terms.days,
+        crl_life: terms.crl_life,
+        ocsp_life: terms.ocsp_life,
+        cap: terms.cap,
+    })
+}
+
+#[tactic(auto, unfolding(crate::specs::Jobs::terms_of))]
+fn read_terms(given: &ArgMatches<'_>) -> Option<Terms>
+    ensures { result ≡ terms_of (rows_of (found_of given.now)) }
+{
+    Some(Terms {
+        days: number_or(given, "days", USUAL_DAYS)?,
+        crl_life: number_or(given, "crl-life", USUAL_CRL_LIFE)?,
+        ocsp_life: number_or(given, "ocsp-life", USUAL_OCSP_LIFE)?,
+        cap: number_or(given, "cap", USUAL_CAP)?,
+    })
+}
+
+#[tactic(auto, unfolding(crate::specs::Jobs::script_of))]
+fn read_script<'a>(given: &ArgMatches<'a>) -> Option<Job<'a>>
+    ensures { result ≡ script_of (rows_of (found_of given.now)) }
+{
+    let signer = key_holder(given)?;
+    script_job(word_of(given, "file"), signer, way_of(given))
+}
+
+/// A script by its words; only one over FILE is run line by line.
+fn script_job<'a>(
+    file: Option<Word<'a>>,
+    signer: Option<KeyHolder<'a>>,
+    way: Way,
+) -> Option<Job<'a>>
+    ensures { result ≡ script_by file.entry signer.entry way }
+{
+    let by_lines = way.is_clocked || way.is_strict;
+    match file {
+        Some(file) if by_lines => Some(Job::Lines { file, signer, way }),
+        None if by_lines => None,
+        file => Some(Job::Script { file, signer }),
+    }
+}
+
+#[tactic(auto, unfolding(crate::specs::Jobs::import_of))]
+fn read_import<'a>(given: &ArgMatches<'a>) -> Option<Job<'a>>
+    ensures { result ≡ import_of (rows_of (found_of given.now)) }
+{
+    Some(Job::Import {
+        file: word_of(given, "file")?,
+        now: moment(given, "now")?,
+    })
+}
+
+#[tactic(auto, unfolding(crate::specs::Jobs::crl_of))]
+fn read_crl<'a>(given: &ArgMatches<'a>) -> Option<Job<'a>>
+    ensures { result ≡ crl_of (rows_of (found_of given.now)) }
+{
+    Some(Job::Crl {
+        file: word_of(given, "file")?,
+        number: number_if_given(given, "number")?,
+    })
+}
+
+/// The TCP port that is given.
+fn port_of(given: &ArgMatches<'_>) -> Option<u16>
+    ensures { result ≡ number_in 1 65535 (codes "port") (rows_of (found_of given.now)) }
+{
+    Some(number_within(given, "port", 1, LAST_PORT)? as u16)
+}
+
+#[tactic(auto, unfolding(crate::specs::Jobs::serve_of))]
+fn read_serve<'a>(given: &ArgMatches<'a>) -> Option<Job<'a>>
+    ensures { result ≡ serve_of (rows_of (found_of given.now)) }
+{
+    Some(Job::Serve {
+        file: word_of(given, "file")?,
+        port: port_of(given)?,
+        requests: number_within(given, "requests", 1, MOST_REQUESTS)? as u32,
+        signer: key_holder(given)?,
+    })
+}
+
+#[tactic(auto, unfolding(crate::specs::Jobs::open_of))]
+fn read_open<'a>(given: &ArgMatches<'a>) -> Option<Job<'a>>
+    ensures { result ≡ open_of (rows_of (found_of given.now)) }
+{
+    Some(Job::Open {
+        file: word_of(given, "file")?,
+        port: port_of(given)?,
+        counter: word_of(given, "counter")?,
+        signer: chosen_holder(given)?,
+    })
+}
+
+#[tactic(auto, unfolding(crate::specs::Jobs::at_of))]
+fn read_at<'a>(given: &ArgMatches<'a>) -> Option<Job<'a>>
+    ensures { result ≡ at_of (rows_of (found_of given.now)) }
+{
+    Some(Job::At {
+        counter: word_of(given, "counter")?,
+    })
+}
+
+#[tactic(auto, unfolding(crate::specs::Jobs::schedule_of))]
+fn read_schedule<'a>(alloc: Global, given: &ArgMatches<'a>) -> Result<Option<Job<'a>>, AllocError>
+    ensures { IfOk result (λ job. job ≡ schedule_of (rows_of (found_of given.now))) }
+{
+    let Some(file) = word_of(given, "file") else {
+        return Ok(None);
+    };
+    match steps(alloc, given, "steps")? {
+        Some(steps) => Ok(Some(Job::Schedule { file, steps })),
+        None => Ok(None),
+    }
+}
+
+#[tactic(auto, unfolding(crate::specs::Jobs::audit_of))]
+fn read_audit<'a>(given: &ArgMatches<'a>) -> Option<Job<'a>>
+    ensures { result ≡ audit_of (rows_of (found_of given.now)) }
+{
+    Some(Job::Audit {
+        file: word_of(given, "file")?,
+    })
+}
