@@ -1,1 +1,3 @@
 pub mod JsonLemmas
+pub mod Routed
+pub mod SeekOne

@@ -11,7 +11,7 @@ use Rattle.serde_json.specs.Find.{get, as_str}
 use Rattle.serde_json.specs.Read.{read}
 use Rattle.reg_core.specs.Number.{number_of}
 use Rattle.reg_core.specs.Serial.{serial_of}
-use Rattle.reg_routes.specs.Routes.{Route, ocsp, ocsp_rest, crl, crl_number, status, counts, requests, nowhere, route}
+use Rattle.reg_http.specs.Routes.{Route, ocsp, ocsp_rest, crl, crl_number, status, counts, requests, nowhere, route}
 
 -- what is asked: a refusal of HTTP, another method than the route's, what can't be read, an OCSP request that can't be
 -- decoded, or one of the five calls of the office

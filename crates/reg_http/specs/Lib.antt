@@ -2,4 +2,6 @@ pub mod Asked
 pub mod Bodies
 pub mod Parts
 pub mod RespondsTo
+pub mod Routes
+pub mod Rows
 pub mod Served

@@ -3,6 +3,7 @@
 
 mod bodies;
 mod parts;
+mod paths;
 mod respond;
 pub mod routes;
 mod serve;

@@ -1,7 +1,7 @@
 //! What a request asks: read from its method, its target and its body, before any call of the office.
 
 ghost use Rattle.std.specs.Prelude.{◌≡◌, ℕ, List, IfOk, Some, codes, option_map, option_and_then};
-ghost use Rattle.reg_routes.specs.Routes.{seen};
+ghost use Rattle.reg_http.specs.Routes.{seen};
 ghost use Rattle.reg_core.specs.Number.{number_of};
 ghost use Rattle.reg_core.specs.Serial.{serial_of};
 ghost use Rattle.serde_json.specs.Errors.{IsMemory};
@@ -9,13 +9,13 @@ ghost use Rattle.serde_json.specs.View.{view};
 ghost use Rattle.reg_http.specs.Asked.{crl_of, status_of, asked as asked_by, asked_at, decoded as decoded_in, is_rooted as is_rooted_text, json_of, label_of as label_in, or_malformed, or_unread, path_of as path_in, request_of, string_at as text_at, wanted as wanted_by, wanted_in as wanted_of};
 ghost use Rattle.reg_http.specs.Parts.{part_asks};
 
+use crate::paths::{Route, find_route};
 use base64::DecodeAllocError;
 use base64::engine::general_purpose::STANDARD;
 use http::Method;
 use percent_encoding::percent_decode;
 use reg_core::{Label, Memory, Serial, read_number};
 use reg_heads::status;
-use reg_routes::{Route, find_route};
 use serde_json::{Category, Error, Value};
 use std::alloc::Global;
 use std::str;
@@ -204,6 +204,6 @@ pub(crate) fn read_part(
     }
     match find_route(alloc, path_of(target)) {
         Ok(route) => part_at(alloc, method, route, body),
-        Err(_) => Err(Memory),
+        Err(fault) => Err(fault),
     }
 }

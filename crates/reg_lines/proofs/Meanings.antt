@@ -12,7 +12,7 @@ use Rattle.reg_core.specs.declared.command.Query.{Query}
 use Rattle.reg_core.specs.declared.command.Query.TheVariants.{Status, Counts, Listing, Overdue, NextCrl}
 use Rattle.reg_lines.specs.Fields.{fields_of}
 use Rattle.reg_lines.specs.Meaning.{Meaning, tells, asks, asks_ocsp, BeginsAt, IsUnreadable, LineMeans, OneMeaning, SpellsCommand, SpellsOcsp, SpellsQuery, SpellsRegister, meaning_of}
-use Rattle.reg_lines.specs.Reading.{alone, decline_of, four, hex_of, label_of, listing_of, moment_of, ocsp_of, one, order_of, register_by, register_of, request_of, revoke_of, said_by, said_of, status_of, subscriber_of, two}
+use Rattle.reg_lines.specs.Reading.{alone, asked_by, decline_of, four, hex_of, label_of, listing_of, moment_of, ocsp_of, one, order_of, register_by, register_of, request_of, revoke_of, revoking_by, said_by, said_of, status_of, subscriber_of, two}
 use Rattle.reg_lines.specs.declared.line.Line.{Line}
 use Rattle.reg_lines.proofs.Readings.{hex_of-is, hex_of-some, label_of-is, label_of-some, moment_of-some, moment_of-text}
 
@@ -202,6 +202,54 @@ lone_query text query fields spelled q e =
     subst (λ v. SpellsQuery v (text ∷ fields)) is.1 (subst (λ rest. SpellsQuery query (text ∷ rest)) (sym is.0) spelled)
 
 -- what is read from a word and its fields is what they say
+asked_spelled : (now : ℕ) (word : List ℕ) (fields : List (List ℕ)) (v : Meaning) → asked_by now word fields ≡ Some v → Says now (word ∷ fields) v
+unfolding asked_by
+asked_spelled now word fields v e =
+    elim (if_some (bytes_eq word (codes "status")) _ _ v e) [
+      | inl p0 ↦ asks_by now word (codes "status") fields _ v p0.0 (status_spelled fields) p0.1
+      | inr q0 ↦
+          elim (if_some (bytes_eq word (codes "counts")) _ _ v q0.1) [
+            | inl p1 ↦ asks_by now word (codes "counts") fields _ v p1.0 (lone_query (codes "counts") Counts fields refl) p1.1
+            | inr q1 ↦
+                elim (if_some (bytes_eq word (codes "listing")) _ _ v q1.1) [
+                  | inl p2 ↦ asks_by now word (codes "listing") fields _ v p2.0 (listing_spelled fields) p2.1
+                  | inr q2 ↦
+                      elim (if_some (bytes_eq word (codes "overdue")) _ _ v q2.1) [
+                        | inl p3 ↦ asks_by now word (codes "overdue") fields _ v p3.0 (lone_query (codes "overdue") Overdue fields refl) p3.1
+                        | inr q3 ↦
+                            elim (if_some (bytes_eq word (codes "next-crl")) _ _ v q3.1) [
+                              | inl p4 ↦ asks_by now word (codes "next-crl") fields _ v p4.0 (lone_query (codes "next-crl") NextCrl fields refl) p4.1
+                              | inr q4 ↦
+                                  elim (if_some (bytes_eq word (codes "ocsp")) _ _ v q4.1) [
+                                    | inl p5 ↦ ocsp_by now word (codes "ocsp") fields _ v p5.0 (ocsp_spelled fields) p5.1
+                                    | inr q5 ↦ absurd (cc q5.1)
+                                  ]
+                            ]
+                      ]
+                ]
+          ]
+    ]
+
+revoking_spelled : (now : ℕ) (word : List ℕ) (fields : List (List ℕ)) (v : Meaning) → revoking_by now word fields ≡ Some v → Says now (word ∷ fields) v
+unfolding revoking_by
+revoking_spelled now word fields v e =
+    elim (if_some (bytes_eq word (codes "request")) _ _ v e) [
+      | inl p0 ↦ tells_by now word (codes "request") fields _ v p0.0 (request_spelled fields) p0.1
+      | inr q0 ↦
+          elim (if_some (bytes_eq word (codes "decline")) _ _ v q0.1) [
+            | inl p1 ↦ tells_by now word (codes "decline") fields _ v p1.0 (decline_spelled fields) p1.1
+            | inr q1 ↦
+                elim (if_some (bytes_eq word (codes "revoke")) _ _ v q1.1) [
+                  | inl p2 ↦ tells_by now word (codes "revoke") fields _ v p2.0 (revoke_spelled fields) p2.1
+                  | inr q2 ↦
+                      elim (if_some (bytes_eq word (codes "crl")) _ _ v q2.1) [
+                        | inl p3 ↦ tells_by now word (codes "crl") fields _ v p3.0 (lone_command (codes "crl") Crl fields refl) p3.1
+                        | inr q3 ↦ asked_spelled now word fields v q3.1
+                      ]
+                ]
+          ]
+    ]
+
 said_spelled : (now : ℕ) (word : List ℕ) (fields : List (List ℕ)) (v : Meaning) → said_by now word fields ≡ Some v → Says now (word ∷ fields) v
 unfolding said_by
 said_spelled now word fields v e =
@@ -213,48 +261,7 @@ said_spelled now word fields v e =
             | inr q1 ↦
                 elim (if_some (bytes_eq word (codes "register")) _ _ v q1.1) [
                   | inl p2 ↦ tells_by now word (codes "register") fields _ v p2.0 (register_spelled fields) p2.1
-                  | inr q2 ↦
-                      elim (if_some (bytes_eq word (codes "request")) _ _ v q2.1) [
-                        | inl p3 ↦ tells_by now word (codes "request") fields _ v p3.0 (request_spelled fields) p3.1
-                        | inr q3 ↦
-                            elim (if_some (bytes_eq word (codes "decline")) _ _ v q3.1) [
-                              | inl p4 ↦ tells_by now word (codes "decline") fields _ v p4.0 (decline_spelled fields) p4.1
-                              | inr q4 ↦
-                                  elim (if_some (bytes_eq word (codes "revoke")) _ _ v q4.1) [
-                                    | inl p5 ↦ tells_by now word (codes "revoke") fields _ v p5.0 (revoke_spelled fields) p5.1
-                                    | inr q5 ↦
-                                        elim (if_some (bytes_eq word (codes "crl")) _ _ v q5.1) [
-                                          | inl p6 ↦ tells_by now word (codes "crl") fields _ v p6.0 (lone_command (codes "crl") Crl fields refl) p6.1
-                                          | inr q6 ↦
-                                              elim (if_some (bytes_eq word (codes "status")) _ _ v q6.1) [
-                                                | inl p7 ↦ asks_by now word (codes "status") fields _ v p7.0 (status_spelled fields) p7.1
-                                                | inr q7 ↦
-                                                    elim (if_some (bytes_eq word (codes "counts")) _ _ v q7.1) [
-                                                      | inl p8 ↦ asks_by now word (codes "counts") fields _ v p8.0 (lone_query (codes "counts") Counts fields refl) p8.1
-                                                      | inr q8 ↦
-                                                          elim (if_some (bytes_eq word (codes "listing")) _ _ v q8.1) [
-                                                            | inl p9 ↦ asks_by now word (codes "listing") fields _ v p9.0 (listing_spelled fields) p9.1
-                                                            | inr q9 ↦
-                                                                elim (if_some (bytes_eq word (codes "overdue")) _ _ v q9.1) [
-                                                                  | inl p10 ↦ asks_by now word (codes "overdue") fields _ v p10.0 (lone_query (codes "overdue") Overdue fields refl) p10.1
-                                                                  | inr q10 ↦
-                                                                      elim (if_some (bytes_eq word (codes "next-crl")) _ _ v q10.1) [
-                                                                        | inl p11 ↦ asks_by now word (codes "next-crl") fields _ v p11.0 (lone_query (codes "next-crl") NextCrl fields refl) p11.1
-                                                                        | inr q11 ↦
-                                                                            elim (if_some (bytes_eq word (codes "ocsp")) _ _ v q11.1) [
-                                                                              | inl p12 ↦ ocsp_by now word (codes "ocsp") fields _ v p12.0 (ocsp_spelled fields) p12.1
-                                                                              | inr q12 ↦
-                                                                                  absurd (cc q12.1)
-                                                                            ]
-                                                                      ]
-                                                                ]
-                                                          ]
-                                                    ]
-                                              ]
-                                        ]
-                                  ]
-                            ]
-                      ]
+                  | inr q2 ↦ revoking_spelled now word fields v q2.1
                 ]
           ]
     ]
@@ -279,7 +286,7 @@ register_read order serial not_before not_after fields (a, b, is, first, second,
     ) refl
 
 command_read : (now : ℕ) (c : Command) (fields : List (List ℕ)) → SpellsCommand c fields → said_at now fields ≡ Some (tells now c)
-unfolding said_by subscriber_of order_of request_of decline_of revoke_of
+unfolding said_by revoking_by subscriber_of order_of request_of decline_of revoke_of
 command_read now (Subscriber name) fields (is, label) = rw (is, label_of-is name label) refl
 command_read now (Order subscriber days) fields (a, b, is, first, second) =
     rw (is, number_of-some a subscriber first, number_of-some b days second) refl
@@ -291,7 +298,7 @@ command_read now (Revoke request) fields (a, is, first) = rw (is, number_of-some
 command_read now Crl fields is = rw is refl
 
 query_read : (now : ℕ) (q : Query) (fields : List (List ℕ)) → SpellsQuery q fields → said_at now fields ≡ Some (asks now q)
-unfolding said_by status_of listing_of
+unfolding said_by revoking_by asked_by status_of listing_of
 query_read now (Status serial) fields (a, is, first) = rw (is, serial_of-some a serial first) refl
 query_read now Counts fields is = rw is refl
 query_read now (Listing serial) fields (a, is, first) = rw (is, serial_of-some a serial first) refl
@@ -299,7 +306,7 @@ query_read now Overdue fields is = rw is refl
 query_read now NextCrl fields is = rw is refl
 
 ocsp_read : (now : ℕ) (bytes : List ℕ) (fields : List (List ℕ)) → SpellsOcsp bytes fields → said_at now fields ≡ Some (asks_ocsp now bytes)
-unfolding said_by ocsp_of
+unfolding said_by revoking_by asked_by ocsp_of
 ocsp_read now bytes fields (digits, is, hex) = rw (is, hex_of-is digits bytes hex) refl
 
 -- ---- the whole line

@@ -1,11 +1,14 @@
 -- An import: the rows of a text, and how a run of it ends.
+use denote.Ref.{Bor}
 use Rattle.std.specs.Prelude.{◌≡◌, ◌⊎◌, ℕ, ◌+◌, ◌<◌, ◌≤◌, Bool, true, false, ◌&&◌, List, [], ◌∷◌, ◌++◌, length, take, codes, bytes_eq, if◌then◌else◌, None, Some, Result, Ok, Err}
 use Rattle.std.specs.declared.option.Option.{Option}
 use Rattle.std.specs.Io.KnownBytes.{Appends, Consumes, IsAtEnd}
 use Rattle.std.specs.List.{concat}
-use Rattle.csv.specs.Reading.{AreRecords, Reached, default_config, strip_bom}
+use Rattle.csv.specs.Reading.{AreRecords, Reached, Ready, default_config, reader_config, reader_state, reader_trim, source_of, strip_bom}
 use Rattle.csv.specs.declared.parser.State.{State}
 use Rattle.csv.specs.declared.parser.State.TheVariants as st
+use Rattle.csv.specs.declared.reader.Reader.{Reader}
+use Rattle.csv.specs.declared.reader.Trim.TheVariants as trim
 use Rattle.reg_core.specs.declared.command.Command.{Command}
 use Rattle.reg_core.specs.declared.command.Reply.{Reply}
 use Rattle.reg_core.specs.declared.refusal.Fault.{Fault}
@@ -128,6 +131,17 @@ TextRead input input' (Err (Refused refusal)) = ⊥
 TextRead input input' (Err Store) = ⊥
 TextRead input input' (Err Signer) = ⊥
 TextRead input input' (Err Write) = ⊥
+
+-- a reader has read no row yet, takes the first one as any other, and leaves their fields as they are
+pub record IsAtStart (rows : Reader (Bor (List ℕ))) : Type 0 where
+  pub untrimmed : reader_trim rows ≡ trim.None
+  pub ready : Ready rows
+  pub config : reader_config rows ≡ default_config
+  pub state : reader_state rows ≡ st.StartRecord
+
+-- the bytes that it reads are those of the text
+abbrev pub ReadsText : Reader (Bor (List ℕ)) → List ℕ → Type 0
+ReadsText rows text = source_of (λ (s : Bor (List ℕ)). Some s.now) rows ≡ Some (strip_bom text)
 
 -- how the run of its rows ends
 abbrev pub RowsEnd : {S : Type 0} → (S → Meaning → Answer → S → Type 0) → ℕ → S → S → Option (List ℕ) → Option (List ℕ) → List ℕ → Result (Unit {0}) Fault → Type 0

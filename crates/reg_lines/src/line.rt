@@ -5,7 +5,7 @@ ghost use Rattle.std.specs.List.{AllPass};
 ghost use Rattle.hex.specs.Hex.{is_hex_digit};
 ghost use Rattle.reg_lines.specs.Fields.{fields_of};
 ghost use Rattle.reg_lines.specs.Meaning.{Meaning, IsUnreadable, LineMeans, OneMeaning, meaning_of, bytes_of, tells, asks, asks_ocsp};
-ghost use Rattle.reg_lines.specs.Reading.{moment_of, label_of, subscriber_of, order_of, register_by, register_of, request_of, decline_of, revoke_of, status_of, listing_of, hex_of, ocsp_of, alone, said_by, said_of};
+ghost use Rattle.reg_lines.specs.Reading.{moment_of, label_of, subscriber_of, order_of, register_by, register_of, request_of, decline_of, revoke_of, status_of, listing_of, hex_of, ocsp_of, alone, asked_by, revoking_by, said_by, said_of};
 
 use crate::fields::{Fields, four, one, two};
 use reg_core::{Command, Label, Moment, Query, Serial, read_number};
@@ -43,7 +43,7 @@ fn read_fields(mut fields: Fields<'_>) -> Option<Line<'_>>
     read_said(now, word, fields)
 }
 
-/// Reads what is said at a moment, by a word and the fields after it.
+/// Reads what is said at a moment, by a word and the fields after it: a registration's word, or one of those below.
 #[tactic(auto, unfolding(crate::specs::Reading::said_by))]
 fn read_said<'a>(now: Moment, word: &[u8], fields: Fields<'a>) -> Option<Line<'a>>
     ensures { option_map meaning_of result ≡ said_by now word.now fields.entry }
@@ -54,7 +54,17 @@ fn read_said<'a>(now: Moment, word: &[u8], fields: Fields<'a>) -> Option<Line<'a
         tell(now, read_order(fields))
     } else if word == b"register".as_slice() {
         tell(now, read_register(fields))
-    } else if word == b"request".as_slice() {
+    } else {
+        read_revoking(now, word, fields)
+    }
+}
+
+/// Reads what a word says of a revocation or a CRL at a moment; any other asks.
+#[tactic(auto, unfolding(crate::specs::Reading::revoking_by))]
+fn read_revoking<'a>(now: Moment, word: &[u8], fields: Fields<'a>) -> Option<Line<'a>>
+    ensures { option_map meaning_of result ≡ revoking_by now word.now fields.entry }
+{
+    if word == b"request".as_slice() {
         tell(now, read_request(fields))
     } else if word == b"decline".as_slice() {
         tell(now, read_decline(fields))
@@ -62,7 +72,17 @@ fn read_said<'a>(now: Moment, word: &[u8], fields: Fields<'a>) -> Option<Line<'a
         tell(now, read_revoke(fields))
     } else if word == b"crl".as_slice() {
         tell(now, alone(Command::Crl, fields))
-    } else if word == b"status".as_slice() {
+    } else {
+        read_asked(now, word, fields)
+    }
+}
+
+/// Reads what a word asks at a moment; any other says nothing.
+#[tactic(auto, unfolding(crate::specs::Reading::asked_by))]
+fn read_asked<'a>(now: Moment, word: &[u8], fields: Fields<'a>) -> Option<Line<'a>>
+    ensures { option_map meaning_of result ≡ asked_by now word.now fields.entry }
+{
+    if word == b"status".as_slice() {
         ask(now, read_status(fields))
     } else if word == b"counts".as_slice() {
         ask(now, alone(Query::Counts, fields))

@@ -1,15 +1,15 @@
 //! An import: rows in, reply lines out.
 
-ghost use Rattle.std.specs.Prelude.{◌≡◌, ◌==◌, ◌&&◌, ℕ, option_map, is_some};
+ghost use Rattle.std.specs.Prelude.{◌≡◌, ◌==◌, ◌&&◌, ℕ, List, option_map, is_some};
 ghost use Rattle.std.specs.Result.{result_map_both};
 ghost use Rattle.csv.specs.Records.{fields_of};
 ghost use Rattle.reg_lines.specs.ByCalls.{ByCalls};
-ghost use Rattle.reg_lines.specs.Import.{ImportEnds, RanRow, RowsEnd, TextRead, TookRow, is_header};
+ghost use Rattle.reg_lines.specs.Import.{ImportEnds, IsAtStart, RanRow, ReadsText, RowsEnd, TextRead, TookRow, is_header};
 ghost use Rattle.reg_lines.specs.Reading.{four, four_at, register_of};
 
 use crate::line::read_registration;
 use crate::run::write_outcome;
-use csv::{ByteRecord, ReaderBuilder};
+use csv::{ByteRecord, Reader, ReaderBuilder};
 use reg_calls::Calls;
 use reg_core::{Command, Fault, Moment, Refusal};
 use reg_wire::WriteFault;
@@ -81,9 +81,25 @@ fn run_rows<W: Write, O: Calls>(
         .flexible(true)
         .from_reader(alloc, text);
     let mut row = ByteRecord::new(alloc);
+    run_each(alloc, writer, now, office, &mut rows, &mut row)
+}
+
+/// Runs each row that a reader has, which read none yet: one after the other in one record.
+fn run_each<W: Write, O: Calls>(
+    alloc: Global,
+    writer: &mut W,
+    now: Moment,
+    office: &mut O,
+    rows: &mut Reader<&[u8]>,
+    row: &mut ByteRecord,
+) -> Result<(), Fault>
+    requires { IsAtStart rows.old }
+    ensures { (text : List ℕ) → ReadsText rows.old text → RowsEnd (ByCalls O.runs O.asks O.ocsps) now office.old office.new
+        (W.contents writer.old) (W.contents writer.new) text result }
+{
     for index in 0..u64::MAX {
-        match rows.read_byte_record(&mut row) {
-            Ok(true) => match take_row(alloc, writer, now, office, &row, index == 0) {
+        match rows.read_byte_record(row) {
+            Ok(true) => match take_row(alloc, writer, now, office, row, index == 0) {
                 Ok(()) => {}
                 Err(_) => return Err(Fault::Write),
             },

@@ -1,10 +1,8 @@
-use Rattle.std.proofs.Common.{Bor, List, ℕ, Some, inl, inr, ◌∙◌}
-use Rattle.reg_lines.specs.ByCalls.{ByCalls}
-use Rattle.reg_lines.proofs.RowLemmas.{going_start, going_more, one_cut, all_ran}
+use Rattle.std.proofs.Common.{inr, ◌∙◌}
 use Rattle.reg_lines.proofs.rows.run_rows.Goals as goal
 
-pub loop-index-init : goal.loop-index-init
-loop-index-init g c =
+pub run_each-requires : goal.run_each-requires
+run_each-requires g c =
     let made = c.from_reader-rows.ensures in
     let config = rw (c.flexible.ensures, c.has_headers.ensures) at made.config in
     let trim = rw (c.flexible.ensures, c.has_headers.ensures) at made.trim in
@@ -13,31 +11,8 @@ loop-index-init g c =
       untrimmed = trim ∙ c.new.ensures.trim;
       ready = inr (inr (headers, made.headers));
       config = config ∙ c.new.ensures.config;
-      going = going_start (ByCalls g.O.Calls.runs g.O.Calls.asks g.O.Calls.ocsps) c.args.now _ _ _ _ _ made.source made.state;
+      state = made.state;
     }
 
-pub returns-in-Err-take_row : goal.returns-in-Err-take_row
-returns-in-Err-take_row g c =
-    let so_far = c.loop-index.invariant in
-    let read = rw c.in-Ok-true.field-0-test at (c.in-Ok-true.ensures.reads so_far.untrimmed so_far.ready) in
-    one_cut (ByCalls g.O.Calls.runs g.O.Calls.asks g.O.Calls.ocsps) c.args.now _ _ _ _ _ _ _ (λ (s : Bor (List ℕ)). Some s.now) c.loop-index.rows c.read_byte_record.new.self _ c.loop-index.index
-    c.in-Err-take_row.field-0 so_far.going so_far.config read c.in-Err-take_row.ensures
-
-pub returns-in-Ok-false : goal.returns-in-Ok-false
-returns-in-Ok-false g c =
-    let so_far = c.loop-index.invariant in
-    let read = rw c.in-Ok-false.field-0-test at (c.in-Ok-false.ensures.reads so_far.untrimmed so_far.ready) in
-    all_ran (ByCalls g.O.Calls.runs g.O.Calls.asks g.O.Calls.ocsps) c.args.now _ _ c.loop-index.office _ _ (g.W.Write.contents c.loop-index.writer) _ (λ (s : Bor (List ℕ)). Some s.now) c.loop-index.rows c.read_byte_record.new.self _ c.loop-index.index
-    so_far.going so_far.config read
-
-pub loop-index-preserved : goal.loop-index-preserved
-loop-index-preserved g c =
-    let so_far = c.loop-index.invariant in
-    let read = rw c.in-Ok-true.field-0-test at (c.in-Ok-true.ensures.reads so_far.untrimmed so_far.ready) in
-    record {
-      untrimmed = read.3 ∙ so_far.untrimmed;
-      ready = inl (c.in-Ok-true.ensures.ready so_far.untrimmed);
-      config = read.2 ∙ so_far.config;
-      going = going_more (ByCalls g.O.Calls.runs g.O.Calls.asks g.O.Calls.ocsps) c.args.now _ _ _ _ _ _ _ (λ (s : Bor (List ℕ)). Some s.now) c.loop-index.rows c.read_byte_record.new.self _ c.loop-index.index
-          so_far.going so_far.config read c.in-Ok.ensures;
-    }
+pub returns : goal.returns
+returns g c = c.run_each.ensures c.args.text.now c.from_reader-rows.ensures.source

@@ -2,8 +2,9 @@ use Rattle.std.proofs.Common.{◌≡◌, Bor, List, ℕ, Some}
 use Rattle.csv.specs.Reading.{Ready, default_config, reader_config, reader_state, reader_trim, source_of}
 use Rattle.csv.specs.declared.reader.Trim.TheVariants as trim
 use Rattle.reg_lines.specs.ByCalls.{ByCalls}
+use Rattle.reg_lines.specs.Import.{ReadsText}
 use Rattle.reg_lines.proofs.RowLemmas.{Going}
-use Rattle.reg_lines.proofs.rows.run_rows.Given as goal
+use Rattle.reg_lines.proofs.rows.run_each.Given as goal
 
 -- the rows so far ran, and the reader is at the next one
 abbrev pub invariant-loop-index : goal.invariant-loop-index
@@ -11,6 +12,7 @@ invariant-loop-index g l = record {
   untrimmed : reader_trim l.rows ≡ trim.None;
   ready : Ready l.rows;
   config : reader_config l.rows ≡ default_config;
-  going : Going (ByCalls g.O.Calls.runs g.O.Calls.asks g.O.Calls.ocsps) l.now l.initial.office l.office (g.W.Write.contents l.initial.writer) (g.W.Write.contents l.writer)
-      l.text (source_of (λ (s : Bor (List ℕ)). Some s.now) l.rows) (reader_state l.rows) l.index;
+  going : (text : List ℕ) → ReadsText l.initial.rows text → Going (ByCalls g.O.Calls.runs g.O.Calls.asks g.O.Calls.ocsps) l.now l.initial.office l.office
+      (g.W.Write.contents l.initial.writer) (g.W.Write.contents l.writer)
+      text (source_of (λ (s : Bor (List ℕ)). Some s.now) l.rows) (reader_state l.rows) l.index;
 }

@@ -1,9 +1,9 @@
 -- The rows of the router: each pattern as its tokens, where 256 is a parameter and 257 a catch-all, with what it keeps.
 use Rattle.std.specs.Prelude.{◌≡◌, ◌≤◌, ℕ, List, [], ◌∷◌, ◌++◌, length, drop, codes, Option, Some, None}
 use Rattle.matchit.specs.Rows.{RowsOf, param_token, catch_all_token}
-use Rattle.reg_routes.specs.Routes.{Route, ocsp, ocsp_rest, crl, crl_number, status, counts, requests, nowhere, route}
-use Rattle.reg_routes.specs.declared.routes.Which.{Which}
-use Rattle.reg_routes.specs.declared.routes.Which.TheVariants.{Ocsp, OcspRest, Crl, CrlNumber, Status, Counts, Requests}
+use Rattle.reg_http.specs.Routes.{Route, ocsp, ocsp_rest, crl, crl_number, status, counts, requests, nowhere, route}
+use Rattle.reg_http.specs.declared.paths.Which.{Which}
+use Rattle.reg_http.specs.declared.paths.Which.TheVariants.{Ocsp, OcspRest, Crl, CrlNumber, Status, Counts, Requests}
 
 -- in the order in which the router keeps them
 abbrev pub rows : RowsOf Which

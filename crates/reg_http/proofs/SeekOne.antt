@@ -5,7 +5,7 @@ use Rattle.std.proofs.lemmas.Bool.{and_parts}
 use Rattle.std.proofs.lemmas.List.Elements.{All-head, All-tail}
 use Rattle.matchit.specs.Rows.{RowsOf}
 use Rattle.matchit.specs.Seek.{own, step, or_else, seek, param_step, has_slash}
-use Rattle.reg_routes.specs.Routes.{Ending, here, one, rest, after, ended}
+use Rattle.reg_http.specs.Routes.{Ending, here, one, rest, after, ended}
 
 -- what stands for an ending among the tokens of a pattern
 abbrev pub mark : Ending → List ℕ

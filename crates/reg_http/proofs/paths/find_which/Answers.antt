@@ -1,5 +1,5 @@
-use Rattle.reg_routes.proofs.Routed.{finds_at, ocsp_at}
-use Rattle.reg_routes.proofs.routes.find_which.Goals as goal
+use Rattle.reg_http.proofs.Routed.{finds_at, ocsp_at}
+use Rattle.reg_http.proofs.paths.find_which.Goals as goal
 
 pub returns-then-is_ocsp : goal.returns-then-is_ocsp
 returns-then-is_ocsp c = ocsp_at c.args.path.now (c.is_ocsp.ensures c.if-is_ocsp.true)

@@ -1,8 +1,8 @@
 -- Which route a path has.
 use Rattle.std.specs.Prelude.{ℕ, ◌==◌, List, [], ◌∷◌, codes, if◌then◌else◌, Option, Some, None, option_map, option_and_then}
 use Rattle.matchit.specs.Seek.{has_slash}
-use Rattle.reg_routes.specs.declared.routes.Route.{Route as RouteOf}
-use Rattle.reg_routes.specs.declared.routes.Route.TheVariants.{Ocsp, OcspRest, Crl, CrlNumber, Status, Counts, Requests, Nowhere}
+use Rattle.reg_http.specs.declared.paths.Route.{Route as RouteOf}
+use Rattle.reg_http.specs.declared.paths.Route.TheVariants.{Ocsp, OcspRest, Crl, CrlNumber, Status, Counts, Requests, Nowhere}
 
 -- the routes, with the part of the path that the route names
 pub data Route : Type 0 where

@@ -5,11 +5,11 @@ use Rattle.matchit.specs.Rows.{RowsOf}
 use Rattle.matchit.specs.Router.{RouteOf, rename, map_key}
 use Rattle.matchit.specs.Seek.{seek, first, has_slash}
 use Rattle.matchit.proofs.RenameLemmas.{first-rename}
-use Rattle.reg_routes.specs.Rows.{rows, IsLed, Finds}
-use Rattle.reg_routes.specs.Routes.{ocsp, ocsp_rest, crl, crl_number, status, counts, requests, nowhere, Line, Ending, here, one, rest, line, after, ended, or_next, route_in, route}
-use Rattle.reg_routes.specs.declared.routes.Which.{Which}
-use Rattle.reg_routes.specs.declared.routes.Which.TheVariants.{Ocsp, OcspRest, Crl, CrlNumber, Status, Counts, Requests}
-use Rattle.reg_routes.proofs.SeekOne.{mark, apart_all, all_bytes, is_byte, left, seek_one, seek_nothing}
+use Rattle.reg_http.specs.Rows.{rows, IsLed, Finds}
+use Rattle.reg_http.specs.Routes.{ocsp, ocsp_rest, crl, crl_number, status, counts, requests, nowhere, Line, Ending, here, one, rest, line, after, ended, or_next, route_in, route}
+use Rattle.reg_http.specs.declared.paths.Which.{Which}
+use Rattle.reg_http.specs.declared.paths.Which.TheVariants.{Ocsp, OcspRest, Crl, CrlNumber, Status, Counts, Requests}
+use Rattle.reg_http.proofs.SeekOne.{mark, apart_all, all_bytes, is_byte, left, seek_one, seek_nothing}
 
 -- the table, each line with what the router keeps of it
 abbrev pub keyed : List (Line × Which)

@@ -1,21 +1,18 @@
-//! The routes, and the router that finds them.
+//! The route of each path, and the router that finds it.
 
-ghost use Rattle.std.specs.Prelude.{◌≡◌, ◌≤◌, ◌<◌, All, length, codes, IfOk, IsTrue};
+ghost use Rattle.std.specs.Prelude.{◌≡◌, ◌≤◌, ◌<◌, [], All, length, codes, IfOk, IsTrue, OnOk};
 ghost use Rattle.matchit.specs.Router.{map_key, rename};
 ghost use Rattle.matchit.specs.Seek.{first};
-ghost use Rattle.reg_routes.specs.Rows.{rows, Finds, leads, passed};
-ghost use Rattle.reg_routes.specs.Routes.{route, seen};
+ghost use Rattle.reg_http.specs.Rows.{rows, Finds, leads, passed};
+ghost use Rattle.reg_http.specs.Routes.{route, seen};
 
 use matchit::{InsertError, Router};
+use reg_core::Memory;
 use std::alloc::Global;
-
-/// Memory for the router was refused.
-#[derive(Clone, Copy, PartialEq, Eq)]
-pub struct NoMemory;
 
 /// A route, with the part of the path that it names.
 #[derive(Clone, Copy)]
-pub enum Route<'p> {
+pub(crate) enum Route<'p> {
     /// `/ocsp`
     Ocsp,
     /// `/ocsp/{*rest}`: what follows, slashes too.
@@ -46,11 +43,11 @@ enum Which {
     Requests,
 }
 
-/// The router of all routes.
-fn router(alloc: Global) -> Result<Router<Which>, InsertError>
-    ensures { IfOk result (λ router. rename (λ route. route.value) router ≡ rows) }
+/// Puts all routes into a router that has none.
+fn put_routes(router: &mut Router<Which>) -> Result<(), InsertError>
+    requires { router.old ≡ [] }
+    ensures { OnOk result (rename (λ route. route.value) router.new ≡ rows) }
 {
-    let mut router = Router::new(alloc);
     router.insert("/counts", Which::Counts)?;
     router.insert("/crl", Which::Crl)?;
     router.insert("/crl/{n}", Which::CrlNumber)?;
@@ -58,7 +55,18 @@ fn router(alloc: Global) -> Result<Router<Which>, InsertError>
     router.insert("/ocsp/{*rest}", Which::OcspRest)?;
     router.insert("/requests", Which::Requests)?;
     router.insert("/status/{serial}", Which::Status)?;
-    Ok(router)
+    Ok(())
+}
+
+/// The router of all routes.
+fn router(alloc: Global) -> Result<Router<Which>, Memory>
+    ensures { IfOk result (λ router. rename (λ route. route.value) router ≡ rows) }
+{
+    let mut router = Router::new(alloc);
+    match put_routes(&mut router) {
+        Ok(()) => Ok(router),
+        Err(_) => Err(Memory),
+    }
 }
 
 /// What the router keeps of the route of a path.
@@ -79,7 +87,7 @@ fn is_ocsp(path: &str) -> bool
 }
 
 /// What the router of all routes keeps of the route of a path.
-fn find_which(alloc: Global, path: &str) -> Result<Option<Which>, NoMemory>
+fn find_which(alloc: Global, path: &str) -> Result<Option<Which>, Memory>
     requires { All (λ byte. byte < 256) path.now }
     ensures { IfOk result (Finds path.now) }
 {
@@ -89,7 +97,7 @@ fn find_which(alloc: Global, path: &str) -> Result<Option<Which>, NoMemory>
     }
     match router(alloc) {
         Ok(router) => Ok(which_at(&router, path)),
-        Err(_) => Err(NoMemory),
+        Err(fault) => Err(fault),
     }
 }
 
@@ -113,8 +121,8 @@ fn route_of(which: Which, path: &[u8]) -> Route<'_>
 ///
 /// # Errors
 ///
-/// [`NoMemory`] where memory for the router is refused.
-pub fn find_route(alloc: Global, path: &str) -> Result<Route<'_>, NoMemory>
+/// [`Memory`] where memory for the router is refused.
+pub(crate) fn find_route(alloc: Global, path: &str) -> Result<Route<'_>, Memory>
     ensures { IfOk result (λ found. seen found ≡ route path.entry.now) }
 {
     let bytes = path.as_bytes();

@@ -1,2 +1,0 @@
-pub mod SeekOne
-pub mod Routed

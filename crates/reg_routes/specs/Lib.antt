@@ -1,2 +1,0 @@
-pub mod Routes
-pub mod Rows
