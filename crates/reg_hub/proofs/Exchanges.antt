@@ -1,7 +1,7 @@
 -- Exchanges, one after the other.
-use Rattle.std.proofs.Common.{◌≡◌, ℕ, suc, ◌+◌, List, [], ◌∷◌, ◌++◌, refl, sym, subst, ap, ◌∙◌, arith, inl, inr}
+use Rattle.std.proofs.Common.{◌≡◌, ℕ, ◌+◌, List, [], ◌∷◌, ◌++◌, refl, arith, inl, inr}
 use Rattle.reg_wire.proofs.PublicLaws.{answered_append}
-use Rattle.std.specs.Prelude.{Result, Ok, Err, OnOk, OnErr, take, drop}
+use Rattle.std.specs.Prelude.{Result, Ok, Err, OnOk, OnErr, take}
 use Rattle.reg_hub.specs.Lines.{Telling}
 use Rattle.reg_hub.specs.Exchange.{Input, request, line, asked_in, Handles, Exchanged}
 

@@ -1,5 +1,5 @@
 -- What is held of what came, and what is sent of a text, one step after the other.
-use Rattle.std.proofs.Common.{◌≡◌, ℕ, Bool, ◌+◌, ◌-◌, ◌≤◌, List, [], ◌∷◌, ◌++◌, length, take, drop, refl, sym, subst, ap, ◌∙◌, arith, take-append-drop, length-drop}
+use Rattle.std.proofs.Common.{◌≡◌, ℕ, Bool, ◌+◌, ◌-◌, ◌≤◌, List, [], ◌∷◌, ◌++◌, length, take, drop, refl, sym, subst, ap, ◌∙◌, arith, take-append-drop}
 use Rattle.std.specs.Prelude.{Option, None, Some, MatchOption}
 use Rattle.std.specs.Io.KnownBytes.{Appends, Consumes}
 use Rattle.std.proofs.KnownBytes.{Appends-nil, Appends-trans, Consumes-nil, Consumes-trans}
@@ -7,8 +7,8 @@ use Rattle.std.proofs.lemmas.List.{append-nil, append_assoc, drop-drop, take-tak
 use Rattle.reg_wire.specs.Mark.{EndsWith, FirstMark, HasNoMark}
 use Rattle.reg_wire.proofs.PublicLaws.{no_mark_in_front}
 use Rattle.reg_heads.specs.Bytes.{bytes_of}
-use Rattle.reg_hub.specs.Stages.{HasAsked, Takes, Sends}
-use Rattle.reg_hub.specs.Held.{AddsTo, TakesIn, SendsOn, IsSentAt}
+use Rattle.reg_hub.specs.Stages.{Takes, Sends}
+use Rattle.reg_hub.specs.Held.{AddsTo, TakesIn, SendsOn}
 use Rattle.reg_hub.specs.Unsent.{unsent_of}
 use Rattle.reg_hub.specs.declared.caller.Stage.TheVariants as stage
 use Rattle.reg_hub.specs.declared.taking.Taken.{Taken}

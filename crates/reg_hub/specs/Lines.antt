@@ -1,6 +1,5 @@
 -- One line of a counter: what the handler says to it, and what is left behind it.
 use Rattle.std.specs.Prelude.{◌≡◌, ℕ, List, [], ◌∷◌, ◌⊎◌, take, drop}
-use Rattle.std.specs.declared.option.Option.{Option}
 use Rattle.reg_wire.specs.Mark.{FirstMark, HasNoMark}
 
 -- The first line of what came was answered by this text, and is gone from what is held, where nothing of an older text was left; where

@@ -63,7 +63,7 @@ impl Door {
         shared: &mut Shared,
         now: u64,
     ) -> Result<(), Stopped>
-        ensures within { self.old.accepted ≤ most → self.new.accepted ≤ most }
+        ensures { self.old.accepted ≤ most → self.new.accepted ≤ most }
     {
         for _ in 0..MOST_ACCEPTED {
             match self.seat_next(most, callers, shared, now) {
@@ -83,7 +83,7 @@ impl Door {
         shared: &mut Shared,
         now: u64,
     ) -> Result<bool, Stopped>
-        ensures within { self.old.accepted ≤ most → self.new.accepted ≤ most }
+        ensures { self.old.accepted ≤ most → self.new.accepted ≤ most }
     {
         self.accept_next(most, callers, shared)?;
         if self.next.is_some() && !callers.has_room() {
@@ -107,7 +107,7 @@ impl Door {
         callers: &mut Callers,
         shared: &mut Shared,
     ) -> Result<(), Stopped>
-        ensures within { self.old.accepted ≤ most → self.new.accepted ≤ most }
+        ensures { self.old.accepted ≤ most → self.new.accepted ≤ most }
     {
         if self.next.is_some() || !self.has_callers || self.accepted >= most {
             return Ok(());
