@@ -25,19 +25,19 @@ const TEXT_ROOM: usize = 4_096;
 
 /// A desk that answers peers, each at a moment of the clock, and has no counter.
 #[derive(Drop)]
-pub(crate) struct ServedDesk<'a, P: Place, F: Front> {
+pub(crate) struct ServedDesk<'a, 'b, P: Place, F: Front> {
     pub(crate) office: P::Opened,
     pub(crate) alloc: Global,
-    pub(crate) place: &'a P,
+    pub(crate) place: &'b P,
     pub(crate) front: &'a F,
 }
 
 /// A desk that answers peers and lines at counters, each at a moment of the clock.
 #[derive(Drop)]
-pub(crate) struct OpenDesk<'a, P: Place, F: Front> {
+pub(crate) struct OpenDesk<'a, 'b, P: Place, F: Front> {
     pub(crate) office: P::Opened,
     pub(crate) alloc: Global,
-    pub(crate) place: &'a P,
+    pub(crate) place: &'b P,
     pub(crate) front: &'a F,
 }
 
@@ -56,7 +56,7 @@ pub(crate) struct LinedDesk<K: Keeper> {
     pub(crate) alloc: Global,
 }
 
-impl<'a, P: Place, F: Front> Handler for ServedDesk<'a, P, F> {
+impl<'a, 'b, P: Place, F: Front> Handler for ServedDesk<'a, 'b, P, F> {
     ghost use Rattle.reg_calls.specs.Leads.{Leads};
     ghost use Rattle.reg_jobs.specs.Exchanges.{Exchange, NoEntry};
 
@@ -85,7 +85,7 @@ impl<'a, P: Place, F: Front> Handler for ServedDesk<'a, P, F> {
     }
 }
 
-impl<'a, P: Place, F: Front> Handler for OpenDesk<'a, P, F> {
+impl<'a, 'b, P: Place, F: Front> Handler for OpenDesk<'a, 'b, P, F> {
     ghost use Rattle.reg_calls.specs.Leads.{Leads};
     ghost use Rattle.reg_jobs.specs.Exchanges.{Exchange, Entry};
 

@@ -46,7 +46,7 @@ pub fn hold_open<P: Place, F: Front, W: Write>(
 /// Binds the port, lays the counter's socket, tells the port, and answers who comes.
 fn keep_open<P: Place, F: Front, W: Write>(
     rt: &HostRuntime,
-    opened: &mut OpenDesk<'_, P, F>,
+    opened: &mut OpenDesk<'_, '_, P, F>,
     port: u16,
     counter: &str,
     writer: &mut W,

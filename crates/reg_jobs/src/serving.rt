@@ -50,7 +50,7 @@ pub fn serve<P: Place, F: Front, W: Write>(
 /// Binds the port, tells it, and answers so many peers.
 fn serve_desk<P: Place, F: Front, W: Write>(
     rt: &HostRuntime,
-    served: &mut ServedDesk<'_, P, F>,
+    served: &mut ServedDesk<'_, '_, P, F>,
     port: u16,
     requests: u32,
     writer: &mut W,
