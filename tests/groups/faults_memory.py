@@ -163,7 +163,11 @@ def asked_of(t, desk, at):
         t.true(fits(response, status, wanted), f"allocation {at}: {method} {target}: {response!r}")
     with program.Counter(t.room / "counter") as counter:
         for line, wanted in (("revoke 1", ("revoked", "E17 no-request")), ("counts", ("good 0 revoked 1 expired 0", "good 1 revoked 0 expired 0"))):
-            reply = counter.ask(line)
+            try:
+                reply = counter.ask(line)
+            except OSError:
+                # The line before it had no memory, and its asker was let go.
+                reply = ""
             t.true(reply in (*wanted, "F1 memory", ""), f"allocation {at}: {line}: {reply!r}")
 
 
