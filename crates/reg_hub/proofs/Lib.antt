@@ -1,3 +1,4 @@
 pub mod Exchanges
+pub mod Gatherings
 pub mod Holdings
 pub mod Notings

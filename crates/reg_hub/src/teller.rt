@@ -1,18 +1,20 @@
 //! One connection at a counter, whose lines are answered in turn.
 
-ghost use Rattle.std.specs.Prelude.{◌≡◌, ◌≤◌, ◌∷◌, [], length, take, drop, MatchOption, OnOk, OnErr};
+ghost use Rattle.std.specs.Prelude.{◌≡◌, ◌≤◌, ◌∷◌, [], length, take, drop, true, false, MatchOption, IfNone, OnOk, OnErr};
 ghost use Rattle.reg_wire.specs.Mark.{FirstMark, HasNoMark};
-ghost use Rattle.reg_hub.specs.Lines.{Telling};
+ghost use Rattle.reg_hub.specs.Held.{AddsTo, TakesIn};
+ghost use Rattle.reg_hub.specs.Lines.{Advances, Gathers, Telling, ends_by};
 ghost use Rattle.reg_hub.specs.Unsent.{unsent_of};
 
 use crate::caller::Next;
 use crate::handler::{Handler, Stopped};
 use crate::link::Link;
+use crate::taking::Taken;
 use crate::unsent::{Sent, Unsent};
 use mio::Interest;
 use reg_wire::first_mark;
 use std::alloc::Global;
-use std::io::ErrorKind;
+use std::io::{ErrorKind, Read};
 
 /// The most bytes of a line, with its LF.
 const LONGEST_LINE: usize = 8_194;
@@ -50,16 +52,25 @@ impl<S: Link> Teller<S> {
     }
 
     /// Goes on as far as the connection does without waiting.
-    pub fn advance(&mut self, room: &mut [u8]) -> Next {
+    pub fn advance(&mut self, room: &mut [u8]) -> Next
+        ensures { Advances S.Write.contents S.Read.remaining self.old.link self.new.link self.old.came.items self.new.came.items
+            (unsent_of self.old.unsent) (unsent_of self.new.unsent) self.old.has_ended self.new.has_ended }
+    {
         match self.unsent.send_on(&mut self.link) {
             Sent::All => self.take(room),
-            Sent::Waits | Sent::More => Next::Waits(Interest::WRITABLE),
+            Sent::Waits => Next::Waits(Interest::WRITABLE),
+            Sent::More => Next::Waits(Interest::WRITABLE),
             Sent::Broken => Next::Gone,
         }
     }
 
-    /// Takes in what came, until a line is whole.
-    fn take(&mut self, room: &mut [u8]) -> Next {
+    /// Takes in what came, until a line is whole. A counter that has ended gives nothing more.
+    fn take(&mut self, room: &mut [u8]) -> Next
+        ensures gathers { Gathers (S.Read.remaining self.old.link) (S.Read.remaining self.new.link) self.old.came.items self.new.came.items
+            self.new.has_ended }
+        ensures ended { self.old.has_ended ≡ true → (self.new.came.items ≡ self.old.came.items) × (self.new.has_ended ≡ true) }
+        ensures unsent { self.new.unsent ≡ self.old.unsent }
+    {
         for _ in 0..MOST_READS {
             if let Some(next) = self.after_reading() {
                 return next;
@@ -76,27 +87,31 @@ impl<S: Link> Teller<S> {
     }
 
     /// What is to be done where nothing more is to be read; `None` where a line is not whole yet.
-    fn after_reading(&self) -> Option<Next> {
+    fn after_reading(&self) -> Option<Next>
+        ensures { IfNone result (self.now.has_ended ≡ false) }
+    {
         if line_end(self.came.as_slice()).is_some() {
             return Some(Next::Due);
         }
         // A line that is not whole is none.
-        if self.has_ended || self.came.len() >= LONGEST_LINE {
+        if self.has_ended {
+            return Some(Next::Gone);
+        }
+        if self.came.len() >= LONGEST_LINE {
             return Some(Next::Gone);
         }
         None
     }
 
     /// Takes in what one read gives; whether more may have come.
-    fn take_once(&mut self, room: &mut [u8]) -> bool {
-        match self.link.read(room) {
-            Ok(0) => self.has_ended = true,
-            Ok(count) => self.has_ended = self.came.extend_from_slice(&room[..count]).is_err(),
-            Err(error) if error.kind() == ErrorKind::WouldBlock => return false,
-            Err(error) if error.kind() == ErrorKind::Interrupted => {}
-            Err(_) => self.has_ended = true,
-        }
-        true
+    fn take_once(&mut self, room: &mut [u8]) -> bool
+        ensures gathers { Gathers (S.Read.remaining self.old.link) (S.Read.remaining self.new.link) self.old.came.items self.new.came.items
+            self.new.has_ended }
+        ensures unsent { self.new.unsent ≡ self.old.unsent }
+    {
+        let taken = gather(&mut self.link, &mut self.came, room);
+        self.has_ended = is_end(taken);
+        !matches!(taken, Taken::Waits)
     }
 
     /// Answers the first line, if one is whole and the replies before it were taken.
@@ -129,6 +144,45 @@ impl<S: Link> Teller<S> {
         self.unsent = Unsent::new(text);
         drop_front(&mut self.came, end);
         Ok(())
+    }
+}
+
+/// Takes in what one read of a counter gives; where the reading came to rest.
+fn gather<R: Read>(reader: &mut R, held: &mut Vec<u8>, room: &mut [u8]) -> Taken
+    ensures { TakesIn (R.remaining reader.old) (R.remaining reader.new) held.old.items held.new.items result }
+{
+    match reader.read(room) {
+        Ok(0) => Taken::Ended,
+        Ok(count) => hold(held, &room[..count]),
+        Err(error) => match error.kind() {
+            ErrorKind::WouldBlock => Taken::Waits,
+            ErrorKind::Interrupted => Taken::More,
+            _ => Taken::Broken,
+        },
+    }
+}
+
+/// Holds bytes that came behind the others.
+fn hold(held: &mut Vec<u8>, came: &[u8]) -> Taken
+    ensures { AddsTo held.old.items came.now held.new.items result }
+{
+    match held.extend_from_slice(came) {
+        Ok(()) => Taken::More,
+        Err(_) => Taken::Lost,
+    }
+}
+
+/// Whether nothing more comes where a reading came to rest so.
+fn is_end(taken: Taken) -> bool
+    ensures { result ≡ ends_by taken }
+{
+    match taken {
+        Taken::Ended => true,
+        Taken::Broken => true,
+        Taken::Lost => true,
+        Taken::Whole => false,
+        Taken::Waits => false,
+        Taken::More => false,
     }
 }
 

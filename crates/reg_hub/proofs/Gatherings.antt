@@ -1,0 +1,87 @@
+-- What a counter's connection gives, held piece by piece.
+use Rattle.std.proofs.Common.{◌≡◌, ℕ, Bool, List, ◌++◌, [], ◌⊎◌, refl, sym, subst, ap, ◌∙◌, inl, inr}
+use Rattle.std.specs.Prelude.{Option, true, false}
+use Rattle.std.specs.Io.KnownBytes.{Consumes}
+use Rattle.std.proofs.KnownBytes.{Consumes-nil, Consumes-trans}
+use Rattle.std.proofs.lemmas.List.{append-nil, append_assoc}
+use Rattle.reg_hub.specs.Held.{TakesIn, SendsOn}
+use Rattle.reg_hub.specs.Lines.{Advances, Gathers, ends_by}
+use Rattle.reg_hub.specs.Unsent.{unsent_of}
+use Rattle.reg_hub.specs.declared.taking.Taken.{Taken}
+use Rattle.reg_hub.specs.declared.taking.Taken.TheVariants as taken
+use Rattle.reg_hub.specs.declared.unsent.Unsent.{Unsent}
+use Rattle.reg_hub.specs.declared.unsent.Sent.{Sent}
+
+-- nothing came
+pub gathers_none : (input : Option (List ℕ)) (held : List ℕ) (ended : Bool) → Gathers input input held held ended
+gathers_none input held ended = record { kept = []; lost = []; consumed = Consumes-nil input; held = sym (append-nil held); whole = inl refl }
+
+-- bytes came, and all are held
+pub gathers_all : (a b : Option (List ℕ)) (x y came : List ℕ) (ended : Bool) → Consumes a b came → y ≡ x ++ came → Gathers a b x y ended
+gathers_all a b x y came ended consumed held = record {
+  kept = came;
+  lost = [];
+  consumed = subst (Consumes a b) (sym (append-nil came)) consumed;
+  held = held;
+  whole = inl refl;
+}
+
+-- what one read gave
+pub gathers_taken : (a b : Option (List ℕ)) (x y : List ℕ) (t : Taken) (ended : Bool) → ended ≡ ends_by t → TakesIn a b x y t → Gathers a b x y ended
+gathers_taken a b x y taken.Lost ended is took =
+    let (kept, lost, parted, after) = took.held in
+    record { kept = kept; lost = lost; consumed = subst (Consumes a b) parted took.consumed; held = after; whole = inr is }
+gathers_taken a b x y taken.Whole ended is took = gathers_all a b x y took.came ended took.consumed took.held
+gathers_taken a b x y taken.Waits ended is took = gathers_all a b x y took.came ended took.consumed took.held
+gathers_taken a b x y taken.More ended is took = gathers_all a b x y took.came ended took.consumed took.held
+gathers_taken a b x y taken.Ended ended is took = gathers_all a b x y took.came ended took.consumed took.held
+gathers_taken a b x y taken.Broken ended is took = gathers_all a b x y took.came ended took.consumed took.held
+
+-- what goes on has not ended
+pub goes_on : (ended : Bool) → ended ≡ false → ended ≡ true → ⊥
+goes_on ended goes ends = let both : false ≡ true = sym goes ∙ ends in let bad : ⊥ = cc in bad
+
+-- as long as a counter has not ended, nothing was lost
+pub none_lost : (lost : List ℕ) (ended : Bool) → ended ≡ false → (lost ≡ []) ⊎ (ended ≡ true) → lost ≡ []
+none_lost lost ended goes (inl none) = none
+none_lost lost ended goes (inr ends) = absurd (goes_on ended goes ends)
+
+-- some came, none of which was lost, and then others
+pub gathers_then : (a b c : Option (List ℕ)) (x y z : List ℕ) (ended ended' : Bool) → ended ≡ false → Gathers a b x y ended → Gathers b c y z ended'
+    → Gathers a c x z ended'
+gathers_then a b c x y z ended ended' goes first rest = record {
+  kept = first.kept ++ rest.kept;
+  lost = rest.lost;
+  consumed =
+      subst (Consumes a c) (sym (append_assoc first.kept rest.kept rest.lost))
+      (Consumes-trans a b c first.kept (rest.kept ++ rest.lost)
+      (subst (Consumes a b) (ap (λ (l : List ℕ). first.kept ++ l) (none_lost first.lost ended goes first.whole) ∙ append-nil first.kept) first.consumed)
+      rest.consumed);
+  held = rest.held ∙ ap (λ (l : List ℕ). l ++ rest.kept) first.held ∙ append_assoc x first.kept rest.kept;
+  whole = rest.whole;
+}
+
+-- a reply was sent on, and nothing was taken in
+pub advances_sent : {S : Type 0} (contents remaining : S → Option (List ℕ)) (s t : S) (held unsent unsent' : List ℕ) (rests : Sent) (ended : Bool)
+    → SendsOn (contents s) (contents t) unsent unsent' rests → Advances contents remaining s t held held unsent unsent' ended ended
+advances_sent contents remaining s t held unsent unsent' rests ended sent = record {
+  between = t;
+  went = sent.went;
+  appended = sent.appended;
+  parted = sent.parted;
+  gathered = gathers_none (remaining t) held ended;
+  over = λ was. (refl, was);
+}
+
+-- a reply was sent on to its end, and then what came was taken in
+pub advances_taken : {S : Type 0} (contents remaining : S → Option (List ℕ)) (s m t : S) (before after unsent : List ℕ) (u u' : Unsent) (rests : Sent)
+    (ended ended' : Bool) → SendsOn (contents s) (contents m) unsent (unsent_of u) rests → u' ≡ u → Gathers (remaining m) (remaining t) before after ended'
+    → (ended ≡ true → (after ≡ before) × (ended' ≡ true)) → Advances contents remaining s t before after unsent (unsent_of u') ended ended'
+advances_taken contents remaining s m t before after unsent u u' rests ended ended' sent same gathered over = record {
+  between = m;
+  went = sent.went;
+  appended = sent.appended;
+  parted = subst (λ (v : Unsent). unsent ≡ sent.went ++ unsent_of v) (sym same) sent.parted;
+  gathered = gathered;
+  over = over;
+}
