@@ -66,9 +66,8 @@ SIGNERS = {
 
 
 @each(SIGNERS, seconds=2)
-def a_signature_that_did_not_come_is_the_line_s_last_word(t, signer):
+def a_signature_that_did_not_come_is_the_line_s_last_word(t, answer, failing):
     """Of an OCSP answer that is internalError for that, whose status is 200 all the same; and of no other exchange."""
-    answer, failing = signer
     t.register(key=program.P256_KEY)
     t.clock(DAY)
     if answer is not None:

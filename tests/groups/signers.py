@@ -111,7 +111,7 @@ def examples_signer_py_signs_under_each_algorithm(t, algorithm):
 # A digest, which is no signature
 
 
-SEALED = {"a script": (), "a strict one": ("--strict",), "one by the clock": ("--clock",), "both": ("--clock", "--strict")}
+SEALED = {"a script": [], "a strict one": ["--strict"], "one by the clock": ["--clock"], "both": ["--clock", "--strict"]}
 
 
 @each(SEALED)

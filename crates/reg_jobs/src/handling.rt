@@ -107,13 +107,7 @@ impl<'a, 'b, P: Place, F: Front> Handler for OpenDesk<'a, 'b, P, F> {
     }
 
     fn tell(&mut self, line: &[u8]) -> Result<Vec<u8>, Stopped> {
-        tell_now(
-            self.alloc,
-            &mut self.office,
-            self.place,
-            self.front,
-            line,
-        )
+        tell_now(self.alloc, &mut self.office, self.place, self.front, line)
     }
 
     fn lose(&self, peer: Option<SocketAddr>, why: Lost) {
@@ -176,9 +170,7 @@ fn answer_now<P: Place, F: Front>(
     ensures err { OnErr result (office.new ≡ office.old) }
 {
     match front.moment() {
-        Ok(now) => Ok(answer_logged(
-            alloc, office, place, front, now, peer, request,
-        )),
+        Ok(now) => Ok(answer_logged(alloc, office, place, front, now, peer, request)),
         Err(_) => Err(Stopped),
     }
 }

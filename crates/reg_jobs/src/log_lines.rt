@@ -35,7 +35,12 @@ pub(crate) fn exchange_line(
 }
 
 /// The line of a connection that ended by a fault, with no LF behind it.
-pub(crate) fn lost_line(alloc: Global, now: Moment, who: &[u8], why: &[u8]) -> Result<Vec<u8>, AllocError>
+pub(crate) fn lost_line(
+    alloc: Global,
+    now: Moment,
+    who: &[u8],
+    why: &[u8],
+) -> Result<Vec<u8>, AllocError>
     ensures { IfOk result (λ line. line.items ≡ lost now who.now why.now) }
 {
     let mut line = Vec::from_slice(alloc, &now.text())?;
