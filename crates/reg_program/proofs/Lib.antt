@@ -1,6 +1,5 @@
 pub mod Clean
 pub mod Holding
-pub mod Misfitting
 pub mod Opened
 pub mod Setting
 pub mod Signers

@@ -1,3 +1,2 @@
 pub mod Audited
 pub mod Files
-pub mod Misfits

@@ -195,7 +195,7 @@ fn open_register(
     // To open a path where no file is would make one.
     present(machine, path)?;
     let connection = open_noted(machine, path)?;
-    settled(office_over(machine, connection, signing))
+    settled(office_over(&machine.rt, connection, signing))
 }
 
 /// Sets the schedule of an office.
@@ -247,10 +247,9 @@ fn made_over<C: Alter, S: Signer + Drop>(
     }
 }
 
-/// The office over the register of a database, for these signatures; where there is none, why, and the connection back. The cause of
-/// `BadSigner` is noted.
+/// The office over the register of a database, for these signatures; where there is none, why, and the connection back.
 fn office_over<C: Alter>(
-    machine: &Machine<'_>,
+    rt: &HostRuntime,
     connection: Connection<C>,
     signing: Option<&Option<KeyHolder<'_>>>,
 ) -> Result<Office<C, FileSigner>, (Failure, Connection<C>)>
@@ -268,7 +267,7 @@ fn office_over<C: Alter>(
     match Store::open(connection) {
         Ok(store) => {
             let mut store = store;
-            match signer_for(machine, &mut store, signing) {
+            match signer_for(rt, &mut store, signing) {
                 Ok(signer) => Ok(Office::new(store, signer)),
                 Err(why) => Err((why, store.into_connection())),
             }
