@@ -25,19 +25,17 @@ const TEXT_ROOM: usize = 4_096;
 
 /// A desk that answers peers, each at a moment of the clock, and has no counter.
 #[derive(Drop)]
-pub(crate) struct ServedDesk<'a, 'b, P: Place, F: Front> {
+pub(crate) struct ServedDesk<'a, P: Place, F: Front> {
     pub(crate) office: P::Opened,
     pub(crate) alloc: Global,
-    pub(crate) place: &'b P,
     pub(crate) front: &'a F,
 }
 
 /// A desk that answers peers and lines at counters, each at a moment of the clock.
 #[derive(Drop)]
-pub(crate) struct OpenDesk<'a, 'b, P: Place, F: Front> {
+pub(crate) struct OpenDesk<'a, P: Place, F: Front> {
     pub(crate) office: P::Opened,
     pub(crate) alloc: Global,
-    pub(crate) place: &'b P,
     pub(crate) front: &'a F,
 }
 
@@ -56,7 +54,7 @@ pub(crate) struct LinedDesk<K: Keeper> {
     pub(crate) alloc: Global,
 }
 
-impl<'a, 'b, P: Place, F: Front> Handler for ServedDesk<'a, 'b, P, F> {
+impl<'a, P: Place, F: Front> Handler for ServedDesk<'a, P, F> {
     ghost use Rattle.reg_calls.specs.Leads.{Leads};
     ghost use Rattle.reg_jobs.specs.Exchanges.{Exchange, NoEntry};
 
@@ -66,14 +64,7 @@ impl<'a, 'b, P: Place, F: Front> Handler for ServedDesk<'a, 'b, P, F> {
     ghost tells = { NoEntry };
 
     fn answer(&mut self, peer: SocketAddr, request: &[u8]) -> Result<Vec<u8>, Stopped> {
-        answer_now(
-            self.alloc,
-            &mut self.office,
-            self.place,
-            self.front,
-            peer,
-            request,
-        )
+        answer_now::<P, F>(self.alloc, &mut self.office, self.front, peer, request)
     }
 
     fn tell(&mut self, _line: &[u8]) -> Result<Vec<u8>, Stopped> {
@@ -85,7 +76,7 @@ impl<'a, 'b, P: Place, F: Front> Handler for ServedDesk<'a, 'b, P, F> {
     }
 }
 
-impl<'a, 'b, P: Place, F: Front> Handler for OpenDesk<'a, 'b, P, F> {
+impl<'a, P: Place, F: Front> Handler for OpenDesk<'a, P, F> {
     ghost use Rattle.reg_calls.specs.Leads.{Leads};
     ghost use Rattle.reg_jobs.specs.Exchanges.{Exchange, Entry};
 
@@ -96,18 +87,11 @@ impl<'a, 'b, P: Place, F: Front> Handler for OpenDesk<'a, 'b, P, F> {
         (λ identity before after. Entry P.Opened.signs F.told identity before line text after) s.office t.office };
 
     fn answer(&mut self, peer: SocketAddr, request: &[u8]) -> Result<Vec<u8>, Stopped> {
-        answer_now(
-            self.alloc,
-            &mut self.office,
-            self.place,
-            self.front,
-            peer,
-            request,
-        )
+        answer_now::<P, F>(self.alloc, &mut self.office, self.front, peer, request)
     }
 
     fn tell(&mut self, line: &[u8]) -> Result<Vec<u8>, Stopped> {
-        tell_now(self.alloc, &mut self.office, self.place, self.front, line)
+        tell_now::<P, F>(self.alloc, &mut self.office, self.front, line)
     }
 
     fn lose(&self, peer: Option<SocketAddr>, why: Lost) {
@@ -159,7 +143,6 @@ impl<K: Keeper> Handler for LinedDesk<K> {
 fn answer_now<P: Place, F: Front>(
     alloc: Global,
     office: &mut P::Opened,
-    place: &P,
     front: &F,
     peer: SocketAddr,
     request: &[u8],
@@ -170,7 +153,7 @@ fn answer_now<P: Place, F: Front>(
     ensures err { OnErr result (office.new ≡ office.old) }
 {
     match front.moment() {
-        Ok(now) => Ok(answer_logged(alloc, office, place, front, now, peer, request)),
+        Ok(now) => Ok(answer_logged::<P, F>(alloc, office, front, now, peer, request)),
         Err(_) => Err(Stopped),
     }
 }
@@ -179,7 +162,6 @@ fn answer_now<P: Place, F: Front>(
 fn tell_now<P: Place, F: Front>(
     alloc: Global,
     office: &mut P::Opened,
-    place: &P,
     front: &F,
     line: &[u8],
 ) -> Result<Vec<u8>, Stopped>
@@ -189,7 +171,7 @@ fn tell_now<P: Place, F: Front>(
     ensures err { OnErr result (office.new ≡ office.old) }
 {
     match front.moment() {
-        Ok(now) => Ok(tell_logged(alloc, office, place, front, now, line)),
+        Ok(now) => Ok(tell_logged::<P, F>(alloc, office, front, now, line)),
         Err(_) => Err(Stopped),
     }
 }
@@ -216,7 +198,6 @@ fn tell_clocked<K: Keeper, F: Front>(
 fn answer_logged<P: Place, F: Front>(
     alloc: Global,
     office: &mut P::Opened,
-    place: &P,
     front: &F,
     now: Moment,
     peer: SocketAddr,
@@ -226,18 +207,18 @@ fn answer_logged<P: Place, F: Front>(
         (λ identity before after. ExchangeAt P.Opened.signs now identity before request.now result.items after) office.old office.new }
 {
     let began = began(front);
-    let failures = place.failures(office);
+    let failures = P::failures(office);
     let text = answer_at(alloc, office, now, request);
-    let is_unsigned = has_failed(place, office, failures);
+    let is_unsigned = has_failed::<P>(office, failures);
     log_answer(alloc, front, began, now, peer, request, &text, is_unsigned);
     text
 }
 
 /// Whether a signature did not come since the count of those was this.
-fn has_failed<P: Place>(place: &P, office: &P::Opened, failures: u64) -> bool
+fn has_failed<P: Place>(office: &P::Opened, failures: u64) -> bool
     ensures { IsTrue result ↔ (failures < P.Opened.failures office.now) }
 {
-    failures < place.failures(office)
+    failures < P::failures(office)
 }
 
 /// Answers what came of a peer, at a moment. Room for the text is made before anything is asked.
@@ -302,7 +283,6 @@ fn emptied(mut text: Vec<u8>) -> Vec<u8>
 fn tell_logged<P: Place, F: Front>(
     alloc: Global,
     office: &mut P::Opened,
-    place: &P,
     front: &F,
     now: Moment,
     line: &[u8],
@@ -311,9 +291,9 @@ fn tell_logged<P: Place, F: Front>(
         (λ identity before after. EntryAt P.Opened.signs now identity before line.now result.items after) office.old office.new }
 {
     let began = began(front);
-    let failures = place.failures(office);
+    let failures = P::failures(office);
     let reply = tell_at(alloc, office, now, line);
-    let is_unsigned = has_failed(place, office, failures);
+    let is_unsigned = has_failed::<P>(office, failures);
     log_line(alloc, front, began, now, line, &reply, is_unsigned);
     reply
 }

@@ -32,10 +32,9 @@ pub fn hold_open<P: Place, F: Front, W: Write>(
 {
     let office = place.open_to_sign(path, signer)?;
     let alloc = rt.alloc();
-    let mut opened = OpenDesk {
+    let mut opened: OpenDesk<'_, P, F> = OpenDesk {
         office,
         alloc,
-        place: &*place,
         front,
     };
     let ending = keep_open(rt, &mut opened, port, counter, writer);
@@ -46,7 +45,7 @@ pub fn hold_open<P: Place, F: Front, W: Write>(
 /// Binds the port, lays the counter's socket, tells the port, and answers who comes.
 fn keep_open<P: Place, F: Front, W: Write>(
     rt: &HostRuntime,
-    opened: &mut OpenDesk<'_, '_, P, F>,
+    opened: &mut OpenDesk<'_, P, F>,
     port: u16,
     counter: &str,
     writer: &mut W,

@@ -125,7 +125,7 @@ pub trait Place {
         ensures faults { IfErr result IsCallFault };
 
     /// How many signatures did not come of those that who signs for a register was asked for since it was opened.
-    fn failures(&self, register: &Self::Opened) -> u64
+    fn failures(register: &Self::Opened) -> u64
         ensures { result ≡ Self.Opened.failures register.now };
 
     /// Audits the register that lies at a path, and changes nothing of it: one of an older version is not made newer.

@@ -36,10 +36,9 @@ pub fn serve<P: Place, F: Front, W: Write>(
 {
     let office = place.open_to_sign(path, signer)?;
     let alloc = rt.alloc();
-    let mut served = ServedDesk {
+    let mut served: ServedDesk<'_, P, F> = ServedDesk {
         office,
         alloc,
-        place: &*place,
         front,
     };
     let ending = serve_desk(rt, &mut served, port, requests, writer);
@@ -50,7 +49,7 @@ pub fn serve<P: Place, F: Front, W: Write>(
 /// Binds the port, tells it, and answers so many peers.
 fn serve_desk<P: Place, F: Front, W: Write>(
     rt: &HostRuntime,
-    served: &mut ServedDesk<'_, '_, P, F>,
+    served: &mut ServedDesk<'_, P, F>,
     port: u16,
     requests: u32,
     writer: &mut W,

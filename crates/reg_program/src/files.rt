@@ -116,7 +116,7 @@ impl<'a> Place for Machine<'a> {
         reschedule(alloc, register, schedule)
     }
 
-    fn failures(&self, register: &FileOffice) -> u64 {
+    fn failures(register: &FileOffice) -> u64 {
         register.signer.failures()
     }
 
