@@ -116,7 +116,9 @@ impl<'a> Place for Machine<'a> {
         reschedule(alloc, register, schedule)
     }
 
-    fn failures(register: &FileOffice) -> u64 {
+    fn failures(register: &FileOffice) -> u64
+        ensures { result ≡ ⟦<FileSigner as Signer>⟧.failure_count register.now.signer }
+    {
         register.signer.failures()
     }
 
