@@ -2,6 +2,7 @@ pub mod Agreeing
 pub mod Asking
 pub mod Changing
 pub mod Composing
+pub mod CommandsRun
 pub mod Deciding
 pub mod Facts
 pub mod Issuing

@@ -1,7 +1,9 @@
 pub mod Agreement
 pub mod AtRest
+pub mod Commands
 pub mod Faults
 pub mod Happened
+pub mod Issuing
 pub mod OpenedAgain
 pub mod Shown
 pub mod Stands

@@ -3,6 +3,7 @@
 
 mod calls;
 mod certificates;
+mod commands;
 mod crls;
 mod heads;
 mod keeping;

@@ -20,14 +20,11 @@ ghost use Rattle.reg_calls.specs.Answered.{IsAnswered, IsGiven};
 ghost use Rattle.reg_office.specs.Faults.{IsOfficeFault, IsTableFault};
 ghost use Rattle.reg_office.specs.Stands.{Stands, CameTo};
 
-use crate::certificates::register;
-use crate::crls::{bytes_of, issue_crl};
+use crate::commands::run_command;
+use crate::crls::bytes_of;
 use crate::ocsp_answer::ocsp;
-use crate::orders::enter_order;
 use crate::queries::answer;
-use crate::requests::{decline, enter_request, revoke};
-use crate::subscribers::enter_subscriber;
-use reg_core::{CertRow, Command, Fault, Memory, Moment, Query, Refusal, Reply, Schedule};
+use reg_core::{Command, Fault, Memory, Moment, Query, Refusal, Reply, Schedule};
 use reg_crl::Signer;
 use reg_store::{Store, StoreFault};
 use sqlite::Alter;
@@ -78,32 +75,7 @@ impl<C: Alter, S: Signer> Office<C, S> {
         if now >= Moment::CLOCK_END {
             return Err(Fault::Refused(Refusal::ClockEnd));
         }
-        match *command {
-            Command::Subscriber { name } => enter_subscriber(&mut self.store, now, name),
-            Command::Order { subscriber, days } => {
-                enter_order(&mut self.store, now, subscriber, days)
-            }
-            Command::Register {
-                order,
-                serial,
-                not_before,
-                not_after,
-            } => {
-                let wanted = CertRow {
-                    serial,
-                    order,
-                    not_before,
-                    not_after,
-                };
-                register(&mut self.store, now, wanted)
-            }
-            Command::Request { serial, ground } => {
-                enter_request(&mut self.store, now, serial, ground)
-            }
-            Command::Decline { request } => decline(&mut self.store, now, request),
-            Command::Revoke { request } => revoke(&mut self.store, now, request),
-            Command::Crl => issue_crl(&mut self.store, &mut self.signer, alloc, now),
-        }
+        run_command(&mut self.store, &mut self.signer, alloc, now, command)
     }
 
     /// Answers a query at its moment.
