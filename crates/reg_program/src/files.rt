@@ -197,7 +197,7 @@ fn open_register(
     // To open a path where no file is would make one.
     present(machine, path)?;
     let connection = open_noted(machine, path)?;
-    settled(office_over(&machine.rt, connection, signing))
+    settled(office_over(machine, connection, signing))
 }
 
 /// Sets the schedule of an office.
@@ -249,9 +249,10 @@ fn made_over<C: Alter, S: Signer + Drop>(
     }
 }
 
-/// The office over the register of a database, for these signatures; where there is none, why, and the connection back.
+/// The office over the register of a database, for these signatures; where there is none, why, and the connection back. The cause of
+/// `BadSigner` is noted.
 fn office_over<C: Alter>(
-    rt: &HostRuntime,
+    machine: &Machine<'_>,
     connection: Connection<C>,
     signing: Option<&Option<KeyHolder<'_>>>,
 ) -> Result<Office<C, FileSigner>, (Failure, Connection<C>)>
@@ -269,7 +270,7 @@ fn office_over<C: Alter>(
     match Store::open(connection) {
         Ok(store) => {
             let mut store = store;
-            match signer_for(rt, &mut store, signing) {
+            match signer_for(machine, &mut store, signing) {
                 Ok(signer) => Ok(Office::new(store, signer)),
                 Err(why) => Err((why, store.into_connection())),
             }

@@ -1,6 +1,6 @@
 //! Who signs for a register in a file.
 
-ghost use Rattle.std.specs.Prelude.{◌≡◌, ◌↔◌, ◌⊎◌, List, ℕ, Some, None, option_map, IsTrue, IfOk, IfErr};
+ghost use Rattle.std.specs.Prelude.{◌≡◌, ◌↔◌, ◌⊎◌, List, ℕ, Some, None, option_map, IsTrue, IfOk, IfErr, MatchOption};
 ghost use Rattle.sqlite.specs.Held.{state};
 ghost use Rattle.sqlite.specs.State.{HasCleanDisk};
 ghost use Rattle.reg_core.specs.Crls.{latest};
@@ -10,11 +10,14 @@ ghost use Rattle.reg_jobs.specs.Failing.{IsOpening};
 ghost use Rattle.reg_jobs.specs.Signing.{Follows, IsSigning, identity_told};
 ghost use Rattle.reg_signer.specs.Forms.{identity_of};
 ghost use Rattle.reg_signer.specs.Signed.{IsCrlUnder};
+ghost use Rattle.reg_program.specs.Misfits.{Differs, IsKnown, IsMisfit, IsMisfitAfter};
 ghost use Rattle.reg_tables.specs.Shows.{Shows};
 ghost use Rattle.reg_tables.specs.Stays.{IsCallFault, Looked};
 
+use crate::machine::Machine;
+use reg_causes::Cause;
 use reg_core::Fault;
-use reg_crl::Signer;
+use reg_crl::{DigestSeal, Signer};
 use reg_endings::Failure;
 use reg_signer::{Algorithm, BadSigner, DeviceSigner, KeyOrDigest, SocketDevice, crl_algorithm};
 use reg_store::{Store, StoreFault};
@@ -29,9 +32,9 @@ pub type FileSigner = KeyOrDigest<SocketDevice<HostRuntime>>;
 ///
 /// # Errors
 /// `BadSigner` where the latest CRL is signed under another algorithm, or under one that is not known here, or the issuer's key is
-/// none of the algorithm; `Memory`, `Store`.
+/// none of the algorithm: which of these is noted, the key first; `Memory`, `Store`.
 pub(crate) fn signer_for<C: Alter>(
-    rt: &HostRuntime,
+    machine: &Machine<'_>,
     store: &mut Store<C>,
     signing: Option<&Option<KeyHolder<'_>>>,
 ) -> Result<FileSigner, Failure>
@@ -44,10 +47,10 @@ pub(crate) fn signer_for<C: Alter>(
 {
     let latest = latest_crl(store)?;
     match signing {
-        Some(told) => signer_after(rt, store, &latest, told),
+        Some(told) => signer_after(machine, store, &latest, told),
         None => {
             let told = holder_of(&latest);
-            signer_after(rt, store, &latest, &told)
+            signer_after(machine, store, &latest, &told)
         }
     }
 }
@@ -65,7 +68,7 @@ fn holder_of(latest: &Option<Vec<u8>>) -> Option<KeyHolder<'static>> {
 
 /// Who signs for the register of a store, as it is told, after its latest CRL.
 fn signer_after<C: Alter>(
-    rt: &HostRuntime,
+    machine: &Machine<'_>,
     store: &mut Store<C>,
     latest: &Option<Vec<u8>>,
     told: &Option<KeyHolder<'_>>,
@@ -78,16 +81,19 @@ fn signer_after<C: Alter>(
     ensures faults { IfErr result IsOpening }
 {
     let issuer = store.issuer()?;
-    let signer = signer_told(rt, told, issuer.key())?;
-    if !follows(latest, signer.algorithm()) {
-        return Err(Failure::BadSigner);
+    let signer = signer_told(machine, told, issuer.key())?;
+    match misfit(latest, signer.algorithm()) {
+        None => Ok(signer),
+        Some(why) => {
+            machine.note(Some(why));
+            Err(Failure::BadSigner)
+        }
     }
-    Ok(signer)
 }
 
 /// Who signs over an issuer's key, as it is told.
 fn signer_told(
-    rt: &HostRuntime,
+    machine: &Machine<'_>,
     told: &Option<KeyHolder<'_>>,
     key: &[u8],
 ) -> Result<FileSigner, Failure>
@@ -95,14 +101,14 @@ fn signer_told(
     ensures faults { IfErr result IsOpening }
 {
     match told {
-        Some(holder) => key_signer(rt, holder.socket.as_str(), holder.algorithm, key),
+        Some(holder) => key_signer(machine, holder.socket.as_str(), holder.algorithm, key),
         None => Ok(KeyOrDigest::digest()),
     }
 }
 
-/// What holds a key behind a socket, as who signs.
+/// What holds a key behind a socket, as who signs. Where the key is none of the algorithm, that is noted.
 fn key_signer(
-    rt: &HostRuntime,
+    machine: &Machine<'_>,
     socket: &str,
     algorithm: Algorithm,
     key: &[u8],
@@ -111,14 +117,17 @@ fn key_signer(
     ensures faults { IfErr result (λ why. (why ≡ Failure.Fault Fault.Memory) ⊎ (why ≡ Failure.BadSigner)) }
 {
     let (Ok(path), Ok(key)) = (
-        String::from_str(rt.alloc(), socket),
-        Vec::from_slice(rt.alloc(), key),
+        String::from_str(machine.rt.alloc(), socket),
+        Vec::from_slice(machine.rt.alloc(), key),
     ) else {
         return Err(Failure::Fault(Fault::Memory));
     };
-    match DeviceSigner::new(SocketDevice::new(*rt, path, key), algorithm) {
+    match DeviceSigner::new(SocketDevice::new(machine.rt, path, key), algorithm) {
         Ok(signer) => Ok(KeyOrDigest::key(signer)),
-        Err(BadSigner) => Err(Failure::BadSigner),
+        Err(BadSigner) => {
+            machine.note(Some(Cause::OtherKey));
+            Err(Failure::BadSigner)
+        }
     }
 }
 
@@ -135,23 +144,53 @@ fn latest_crl<C: Alter>(store: &mut Store<C>) -> Result<Option<Vec<u8>>, StoreFa
     }
 }
 
-/// Whether the latest CRL, where there is one, is signed under an algorithm.
-fn follows(latest: &Option<Vec<u8>>, algorithm: &[u8]) -> bool
-    ensures { IsTrue result → (crl : List ℕ) → option_map (λ bytes. bytes.items) latest.now ≡ Some crl
-        → (other : List ℕ) → IsCrlUnder crl other → other ≡ algorithm.now }
+/// Why no CRL under an algorithm follows the latest one, where there is one. `None` where it follows.
+fn misfit(latest: &Option<Vec<u8>>, algorithm: &[u8]) -> Option<Cause>
+    ensures { MatchOption result
+        ((crl : List ℕ) → option_map (λ bytes. bytes.items) latest.now ≡ Some crl
+        → (other : List ℕ) → IsCrlUnder crl other → other ≡ algorithm.now)
+        (IsMisfitAfter (option_map (λ bytes. bytes.items) latest.now) algorithm.now) }
 {
     match latest {
-        Some(crl) => is_under(crl, algorithm),
-        None => true,
+        Some(crl) => misfit_of(crl, algorithm),
+        None => None,
     }
 }
 
-/// Whether a CRL is signed under an algorithm.
-fn is_under(crl: &[u8], algorithm: &[u8]) -> bool
-    ensures { IsTrue result → (other : List ℕ) → IsCrlUnder crl.now other → other ≡ algorithm.now }
+/// Why no CRL under an algorithm follows this one. `None` where it follows.
+fn misfit_of(crl: &[u8], algorithm: &[u8]) -> Option<Cause>
+    ensures { MatchOption result ((other : List ℕ) → IsCrlUnder crl.now other → other ≡ algorithm.now)
+        (IsMisfit crl.now algorithm.now) }
 {
     match crl_algorithm(crl) {
-        Some(found) => is_same(found, algorithm),
+        Some(found) => difference(found, algorithm),
+        None => Some(Cause::UnknownAlgorithm),
+    }
+}
+
+/// How the algorithm of a CRL differs from another. `None` where it does not.
+fn difference(found: &[u8], algorithm: &[u8]) -> Option<Cause>
+    ensures { MatchOption result (found.now ≡ algorithm.now) (Differs found.now algorithm.now) }
+{
+    if is_same(found, algorithm) {
+        None
+    } else if is_known(found) {
+        Some(Cause::OtherAlgorithm)
+    } else {
+        Some(Cause::UnknownAlgorithm)
+    }
+}
+
+/// Whether an algorithm is known here.
+fn is_known(algorithm: &[u8]) -> bool
+    ensures { IsTrue result ↔ IsKnown algorithm.now }
+{
+    let digest = DigestSeal;
+    if is_same(algorithm, digest.algorithm()) {
+        return true;
+    }
+    match Algorithm::identified(algorithm) {
+        Some(_) => true,
         None => false,
     }
 }
