@@ -5,6 +5,7 @@ pub mod Exchanges
 pub mod Failing
 pub mod Lined
 pub mod Sample
+pub mod Identifiers
 pub mod Schedules
 pub mod Serving
 pub mod Signing

@@ -4,6 +4,7 @@ pub mod Changing
 pub mod Composing
 pub mod Deciding
 pub mod Facts
+pub mod Identified
 pub mod Issuing
 pub mod Leading
 pub mod OpenedAgain

@@ -5,6 +5,7 @@ mod calls;
 mod certificates;
 mod crls;
 mod heads;
+mod identifiers;
 mod keeping;
 pub mod laws;
 mod ocsp_answer;
