@@ -3,7 +3,7 @@ use Rattle.std.proofs.Common.{◌≡◌, ℕ, zero, suc, ◌+◌, ◌<◌, ◌�
 use Rattle.std.specs.Prelude.{◌&&◌, ◌↔◌, IsSome, unwrap_or}
 use Rattle.std.specs.Int.{bytes_high_first}
 use Rattle.std.proofs.Math.Nat.{mod-eq_of_lt, pow-le-pow_right}
-use Rattle.std.proofs.lemmas.Bool.{cases_lt, lt-ltb, le-ltb, le-leb, lt-leb}
+use Rattle.std.proofs.lemmas.Bool.{cases_Bool, cases_lt, lt-ltb, le-ltb, le-leb, lt-leb, eqb-true}
 use Rattle.std.proofs.lemmas.List.{take_at, drop_at, length-append, length-take, append-nil, nil_from_length, get_or_past, get_or_default}
 use Rattle.reg_core.specs.Integer.{IsBytes, value}
 use Rattle.reg_core.specs.Issuer as core
@@ -11,7 +11,7 @@ use Rattle.reg_core.specs.Label.{IsLabel}
 use Rattle.reg_core.proofs.PublicLaws.{octets_are_below, octets_are_lowest}
 use Rattle.reg_der.specs.Der.{tlv, IsTlv}
 use Rattle.reg_der.specs.Reading.{◌>>=◌, Parts, value_at}
-use Rattle.reg_der.specs.Authority.{IsName, IsKept, IsIssuer, name_in, behind_name, name_of, key_identifiers, key_identifier_at, identifier_value, identifier_at, identifiers_by, identifiers_at, identifier_for, with_identifier, HasIdentifier, IdentifiersFollow, IsPlain, NamesArePlain}
+use Rattle.reg_der.specs.Authority.{IsName, IsKept, IsIssuer, name_in, behind_name, name_of, key_identifiers, key_identifier_at, identifier_value, identifier_at, identifiers_by, identifiers_at, identifier_for, but_for, others_than, with_identifier, HasIdentifier, IdentifiersFollow, IsPlain, NamesArePlain}
 use Rattle.reg_der.specs.declared.identifiers.KeyIdentifier.{KeyIdentifier}
 use Rattle.reg_der.proofs.Octets.{is_bytes-append, is_bytes-take}
 use Rattle.reg_der.proofs.Values.{bind_then, value_takes, value_again, value_reads, length-tlv_at_least, is_bytes-tlv}
@@ -259,20 +259,48 @@ value_some first octets rest =
     let size = length-tlv_at_least 128 (bytes_high_first 8 first ++ octets) in
     omega (arith, length-append (tlv 128 (bytes_high_first 8 first ++ octets)) rest)
 
+-- key identifiers that are left behind a new one: below its number they tell what all told
+record AreOthers (first : ℕ) (old others : List ℕ) : Type 0 where
+  pub some : IsSome (identifiers_at others)
+  pub each : IsBytes others
+  pub same : (number : ℕ) → number < first → identifier_for (all_of others) number ≡ identifier_for (all_of old) number
+
+others_are : (first : ℕ) (old : List ℕ) → IsBytes old → IsSome (identifiers_at old) → AreOthers first old (others_than first old)
+unfolding others_than
+others_are first old each some = by (identifier_at old) refl
+  where
+    by : (read : Option (KeyIdentifier × List ℕ)) → identifier_at old ≡ read → AreOthers first old (but_for first read old)
+    by None is = record { some = some; each = each; same = λ number before. refl }
+    by (Some x) is = elim (cases_Bool (eqb x.0.first first)) [
+      | inl here ↦ rw here (let from : x.0.first ≡ first = eqb-true x.0.first first here in
+          let full : 1 ≤ length old = (let shorter = (identifier_takes old x each is).0 in omega arith) in
+          let are = left_are 0 old x.1 old x.0 (seeks_first 0 old each some) full is in
+          record {
+            some = are.1;
+            each = (identifier_takes old x each is).1;
+            same = λ number before.
+                let passes : identifier_for (x.0 ∷ all_of x.1) number ≡ identifier_for (all_of x.1) number = rw (lt-leb x.0.first number (omega arith)) refl in
+                sym (ap (λ (l : List KeyIdentifier). identifier_for l number) are.0 ∙ passes);
+          })
+      | inr apart ↦ rw apart (record { some = some; each = each; same = λ number before. refl })
+    ]
+
 pub identifiers_follow : IdentifiersFollow
 identifiers_follow issuer first octets is fits label =
     let kept = issuer.name in
     let name = name_in kept in
-    let old = behind_name kept in
+    let was = behind_name kept in
+    let others = others_are first was (behind_bytes kept is.name.each) is.name.identifiers in
+    let old = others_than first was in
     let more = identifier_value first octets ++ old in
     let x : KeyIdentifier = record { first = first; octets = octets } in
     let name_is : name_in (name ++ more) ≡ name = name_in-is name more is.name.name in
     let behind : behind_name (name ++ more) ≡ more = behind-is name more is.name.name in
-    let old_bytes = behind_bytes kept is.name.each in
+    let old_bytes = others.each in
     let more_bytes = is_bytes-append (identifier_value first octets) old (value_bytes first octets label) old_bytes in
     let read = identifier_again first octets old fits label in
     let step : identifiers_at more ≡ (identifiers_at old >>= with_first x) = identifiers_step more x old more_bytes (value_some first octets old) read in
-    let some : IsSome (identifiers_at old >>= with_first x) = (more_some x (identifiers_at old)).0 is.name.identifiers in
+    let some : IsSome (identifiers_at old >>= with_first x) = (more_some x (identifiers_at old)).0 others.some in
     let all : all_of (behind_name (name ++ more)) ≡ x ∷ all_of old = ap all_of behind ∙ ap (λ (o : Option (List KeyIdentifier)). unwrap_or o []) step ∙ some_rest x (identifiers_at old) some in
     record {
       within = record {
@@ -286,5 +314,5 @@ identifiers_follow issuer first octets is fits label =
       name = name_is;
       key = refl;
       later = λ number reached. ap (λ (l : List KeyIdentifier). identifier_for l number) all ∙ (let here : identifier_for (x ∷ all_of old) number ≡ Some octets = rw (le-leb first number reached) refl in here);
-      earlier = λ number before. ap (λ (l : List KeyIdentifier). identifier_for l number) all ∙ (let passes : identifier_for (x ∷ all_of old) number ≡ identifier_for (all_of old) number = rw (lt-leb first number before) refl in passes);
+      earlier = λ number before. ap (λ (l : List KeyIdentifier). identifier_for l number) all ∙ (let passes : identifier_for (x ∷ all_of old) number ≡ identifier_for (all_of old) number = rw (lt-leb first number before) refl in passes) ∙ others.same number before;
     }

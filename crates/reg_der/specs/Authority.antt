@@ -83,10 +83,18 @@ identifier_for (identifier ∷ rest) number = if nat_le identifier.first number 
 abbrev pub key_identifier_at : core.Issuer → ℕ → Option (List ℕ)
 key_identifier_at issuer number = identifier_for (key_identifiers issuer) number
 
--- the issuer with one key identifier more, which the CRLs have from this number on
+-- key identifiers but for the latest, where it begins with the CRL of this number too
+abbrev pub but_for : ℕ → Option (KeyIdentifier × List ℕ) → List ℕ → List ℕ
+but_for first None bytes = bytes
+but_for first (Some latest) bytes = if latest.0.first == first then latest.1 else bytes
+
+unfoldable pub others_than : ℕ → List ℕ → List ℕ
+others_than first bytes = but_for first (identifier_at bytes) bytes
+
+-- the issuer with one key identifier more, which the CRLs have from this number on; it takes the place of one from the same number on
 abbrev pub with_identifier : core.Issuer → ℕ → List ℕ → core.Issuer
 with_identifier issuer first octets =
-    record { name = name_in issuer.name ++ identifier_value first octets ++ behind_name issuer.name; key = issuer.key }
+    record { name = name_in issuer.name ++ identifier_value first octets ++ others_than first (behind_name issuer.name); key = issuer.key }
 
 -- it has the Name and the key that it had, the new key identifier from that CRL on, and in earlier CRLs what it had there
 pub record HasIdentifier (issuer : core.Issuer) (first : ℕ) (octets : List ℕ) : Type 0 where

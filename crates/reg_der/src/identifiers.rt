@@ -71,6 +71,17 @@ pub(crate) fn are_identifiers(bytes: &[u8]) -> bool
     true
 }
 
+/// The key identifiers but for the latest, where that begins with the CRL of this number too.
+#[tactic(auto, unfolding(crate::specs::Authority::others_than))]
+pub(crate) fn others_than(bytes: &[u8], first: u64) -> &[u8]
+    ensures { result.now ≡ authority.others_than first bytes.now }
+{
+    match front(bytes) {
+        Some((latest, rest)) if latest.first == first => rest,
+        _ => bytes,
+    }
+}
+
 /// The first of the key identifiers that a CRL of this number has.
 pub(crate) fn identifier_for(bytes: &[u8], number: u64) -> Option<Label>
     requires { IsSome (authority.identifiers_at bytes.now) }

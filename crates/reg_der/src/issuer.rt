@@ -5,7 +5,7 @@ ghost use Rattle.sha1.specs.Sha1.{sha1};
 ghost use Rattle.reg_der.specs.Authority.{IsName, IsKey, IsKept, IsIssuer, name_in, behind_name, name_of, key_identifier_at, with_identifier, HasIdentifier};
 ghost use Rattle.reg_der.specs.declared.issuer.IssuerFault.TheVariants.{Memory};
 
-use crate::identifiers::{KEY_IDENTIFIER, are_identifiers, identifier_for};
+use crate::identifiers::{KEY_IDENTIFIER, are_identifiers, identifier_for, others_than};
 use crate::reading::take;
 use crate::writing::put;
 use reg_core::{Label, Memory};
@@ -107,7 +107,7 @@ impl Issuer {
     }
 
     /// The same issuer with one key identifier more, which its CRLs have from this number on; those with lower numbers have
-    /// what they had (`laws::identifiers_follow`).
+    /// what they had (`laws::identifiers_follow`). One from the same number on is replaced.
     ///
     /// # Errors
     /// `Memory` where memory could not be had.
@@ -125,7 +125,7 @@ impl Issuer {
         append(&mut contents, octets.as_bytes())?;
         let mut kept = bytes_of(alloc, name)?;
         put(&mut kept, KEY_IDENTIFIER, &contents)?;
-        append(&mut kept, behind)?;
+        append(&mut kept, others_than(behind, first))?;
         Ok(Issuer {
             name: kept,
             key: bytes_of(alloc, &self.key)?,
