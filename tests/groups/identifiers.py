@@ -112,6 +112,21 @@ def a_register_that_has_the_wrong_one_gets_the_right_one(t):
 
 
 @test(seconds=4)
+def a_signer_of_this_issuer_alone_signs_them(t):
+    """`examples/signer.py --only-ours` takes the CA certificate's own and the SHA-1 of its key, and no other."""
+    authority.need_cryptography(t)
+    it = Identified(t)
+    t.same(t.done("init", "ca.db", *it.words()[:4]), "created\n")
+    signer = t.room / "only.sign"
+    authority.started(t, ["python3", authority.EXAMPLES / "signer.py", "--only-ours", it.pem, it.key, signer], signer)
+    at = moment_of(authority.now())
+    for identifier, reply in ((None, "crl 1 entries 0"), (OWN, "crl 2 entries 0"), (OWN[:-2], "F3 signer"), (OWN + "00", "F3 signer"), (OWN, "crl 3 entries 0")):
+        if identifier:
+            t.same(t.done("key-id", "ca.db", identifier), "key-id set\n")
+        t.same(t.done("script", "ca.db", *it.signing("only.sign"), given=f"{at} crl\n"), f"{reply}\n", f"with {identifier}")
+
+
+@test(seconds=4)
 def ocsp_goes_by_the_sha_1_of_the_key(t):
     """CertIDs and the responderID are the same with a key identifier of its own and without one (RFC 6960 4.1.1, 4.2.1)."""
     it = Identified(t)

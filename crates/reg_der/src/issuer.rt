@@ -74,15 +74,11 @@ impl Issuer {
         ensures bad_name { IsErrOf result IssuerFault.BadName ↔ ¬ (IsName name.now) }
         ensures bad_key { IsErrOf result IssuerFault.BadKey ↔ (IsName name.now × ¬ (IsKey key.now)) }
     {
-        if !is_name(name) {
-            return Err(IssuerFault::BadName);
+        if is_name(name) {
+            Issuer::of_kept(alloc, name, key)
+        } else {
+            Err(IssuerFault::BadName)
         }
-        if !is_key(key) {
-            return Err(IssuerFault::BadKey);
-        }
-        let name = Vec::from_slice(alloc, name)?;
-        let key = Vec::from_slice(alloc, key)?;
-        Ok(Issuer { name, key })
     }
 
     /// The issuer of which this is kept beside its key, or the first of the faults that there is, in their order.
