@@ -91,7 +91,7 @@ def openssl_takes_the_crls_of_a_ca_with_its_own_key_identifier(t, identifier):
     t.same(it.runs("crl"), ["crl 1 entries 1"])
     it.verifies(it.crl())
     t.same((it.by_openssl("05"), it.by_openssl("06")), (REVOKED, "OK"))
-    t.has(t.done("audit", "ca.db"), "sound: ")
+    t.has(t.done("audit", "ca.db"), "sound, ")
 
 
 @test(seconds=4)
@@ -108,7 +108,7 @@ def a_register_that_has_the_wrong_one_gets_the_right_one(t):
     it.verifies(it.crl())
     t.same((it.by_openssl("05"), it.by_openssl("06")), (REVOKED, "OK"), "by its own")
     t.same(it.crl("--number", "1"), first, "the CRL that was issued, later")
-    t.has(t.done("audit", "ca.db"), "sound: ")
+    t.has(t.done("audit", "ca.db"), "sound, ")
 
 
 @test(seconds=4)

@@ -221,11 +221,7 @@ fn put_authority_key_identifier(
 
 /// Appends the authority key identifier extension with this keyIdentifier.
 #[tactic(auto, unfolding(crate::specs::Crl::authority_key_identifier))]
-fn put_identifier(
-    out: &mut Vec<u8>,
-    alloc: Global,
-    identifier: &[u8],
-) -> Result<(), Memory>
+fn put_identifier(out: &mut Vec<u8>, alloc: Global, identifier: &[u8]) -> Result<(), Memory>
     requires { length identifier.now ≤ 64 }
     ensures ok { OnOk result (out.new.items ≡ out.old.items ++ authority_key_identifier identifier.now) }
     ensures longer { OnOk result (length out.new.items ≤ length out.old.items + 100) }

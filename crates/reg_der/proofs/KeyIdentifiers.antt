@@ -1,5 +1,5 @@
 -- Key identifiers one after the other, behind a Name.
-use Rattle.std.proofs.Common.{◌≡◌, ℕ, zero, suc, ◌+◌, ◌<◌, ◌≤◌, ◌^◌, Bool, true, false, cond, eqb, ltb, leb, Band, List, [], ◌∷◌, ◌++◌, length, take, drop, get_or, Option, Some, None, refl, sym, ap, subst, ◌∙◌, arith, inl, inr}
+use Rattle.std.proofs.Common.{◌≡◌, ℕ, zero, suc, ◌+◌, ◌<◌, ◌≤◌, ◌^◌, Bool, true, false, cond, eqb, ltb, leb, List, [], ◌∷◌, ◌++◌, length, take, drop, get_or, Option, Some, None, refl, sym, ap, subst, ◌∙◌, arith, inl, inr}
 use Rattle.std.specs.Prelude.{◌&&◌, ◌↔◌, IsSome, unwrap_or}
 use Rattle.std.specs.Int.{bytes_high_first}
 use Rattle.std.proofs.Math.Nat.{mod-eq_of_lt, pow-le-pow_right}
@@ -56,11 +56,9 @@ identifier_takes bytes x each e =
     subst (λ (y : KeyIdentifier × List ℕ). (length y.1 < length bytes) × IsBytes y.1) (passed {A = KeyIdentifier × List ℕ} (is_identifier read.0) (told read.0, read.1) x then)
     (omega (arith, ap length t.taken.parts, length-append (tlv read.0.tag read.0.contents) read.1, size), t.taken.each))
 
-pub identifier_again : (first : ℕ) (octets rest : List ℕ) → first < 2 ^ 64 → IsLabel octets → identifier_at (identifier_value first octets ++ rest) ≡ Some (record { first = first; octets = octets }, rest)
-unfolding identifier_at identifier_value
-identifier_again first octets rest fits label =
-    let head = bytes_high_first 8 first in
-    let eight : length head ≡ 8 = (octets_are_lowest 8 first).counted in
+again_by : (head octets rest : List ℕ) (first : ℕ) → length head ≡ 8 → value head ≡ first → IsLabel octets → identifier_at (tlv 128 (head ++ octets) ++ rest) ≡ Some (record { first = first; octets = octets }, rest)
+unfolding identifier_at
+again_by head octets rest first eight spelled label =
     let some = label.not_empty in
     let few = label.at_most_64 in
     let size = length-append head octets in
@@ -69,10 +67,14 @@ identifier_again first octets rest fits label =
       read,
       lt-ltb 8 (length (head ++ octets)) (omega arith),
       lt-ltb (length (head ++ octets)) 73 (omega arith),
-      take_at head octets 8 (sym eight),
-      drop_at head octets 8 (sym eight),
-      value-eight first fits,
+      take_at head octets 8 eight,
+      drop_at head octets 8 eight,
+      spelled,
     ) refl
+
+pub identifier_again : (first : ℕ) (octets rest : List ℕ) → first < 2 ^ 64 → IsLabel octets → identifier_at (identifier_value first octets ++ rest) ≡ Some (record { first = first; octets = octets }, rest)
+unfolding identifier_value
+identifier_again first octets rest fits label = again_by (bytes_high_first 8 first) octets rest first (octets_are_lowest 8 first).counted (value-eight first fits) label
 
 -- ---- all of them
 
@@ -272,7 +274,7 @@ others_are first old each some = by (identifier_at old) refl
     by : (read : Option (KeyIdentifier × List ℕ)) → identifier_at old ≡ read → AreOthers first old (but_for first read old)
     by None is = record { some = some; each = each; same = λ number before. refl }
     by (Some x) is = elim (cases_Bool (eqb x.0.first first)) [
-      | inl here ↦ rw here (let from : x.0.first ≡ first = eqb-true x.0.first first here in
+      | inl here ↦ rw here (let starts : x.0.first ≡ first = eqb-true x.0.first first here in
           let full : 1 ≤ length old = (let shorter = (identifier_takes old x each is).0 in omega arith) in
           let are = left_are 0 old x.1 old x.0 (seeks_first 0 old each some) full is in
           record {
