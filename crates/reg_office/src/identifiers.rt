@@ -1,9 +1,9 @@
 //! A key identifier of the issuer's own, for the CRLs from the next one on (RFC 5280 5.2.1).
 
-ghost use Rattle.std.specs.Prelude.{◌≡◌, IfErr, IfOk, OnOk};
+ghost use Rattle.std.specs.Prelude.{◌≡◌, IfErr, IfOk, IfSome, OnOk};
 ghost use Rattle.sqlite.specs.Held.{state};
 ghost use Rattle.sqlite.specs.State.{HasCleanDisk};
-ghost use Rattle.reg_core.specs.Crls.{next_number};
+ghost use Rattle.reg_core.specs.Crls.{next_number, number_after};
 ghost use Rattle.reg_core.specs.Records.{Records};
 ghost use Rattle.reg_der.specs.Authority.{with_identifier, HasIdentifier};
 ghost use Rattle.reg_der.specs.Issuers.{with_key_identifier};
@@ -12,7 +12,7 @@ ghost use Rattle.reg_tables.specs.Shows.{Shows};
 ghost use Rattle.reg_tables.specs.Stays.{Changed, IsCallFault, Looked};
 ghost use Rattle.reg_office.specs.AtRest.{IsIdentified};
 
-use reg_core::Label;
+use reg_core::{CrlRow, Label};
 use reg_der::Issuer;
 use reg_store::{Store, StoreFault};
 use sqlite::Alter;
@@ -24,12 +24,17 @@ fn next_crl<C: Alter>(store: &mut Store<C>) -> Result<u64, StoreFault>
     ensures looked { Looked C.Store store.old store.new }
     ensures faults { IfErr result IsCallFault }
 {
-    match store.latest_crl()? {
-        None => Ok(1),
-        Some(latest) => match latest.number.checked_add(1) {
-            Some(number) => Ok(number),
-            None => Err(StoreFault::Store),
-        },
+    let latest = store.latest_crl()?;
+    number_behind(latest).ok_or(StoreFault::Store)
+}
+
+/// The number behind the one of the latest CRL, 1 where there is none; `None` where no number is behind it.
+fn number_behind(latest: Option<CrlRow>) -> Option<u64>
+    ensures { IfSome result (λ number. number ≡ number_after latest) }
+{
+    match latest {
+        Some(latest) => latest.number.checked_add(1),
+        None => Some(1),
     }
 }
 
