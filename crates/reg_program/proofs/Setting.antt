@@ -49,13 +49,16 @@ module _ {C : Type 0} (g : Ghosts C) (signs : Signs) (who who' : Identity) (old 
 
 module _ {C : Type 0} (g : Ghosts C) (signs : Signs) (who who' : Identity) (old new : Held C) (octets : List ℕ) where
   -- the same of a key identifier
+  abbrev HeldBy : Identity → Held C → Identity → Records → Type 0
+  HeldBy signer held identity records = (signer ≡ identity) × Stands g signs held identity records
+
   pub identifier_moves : (result : Result (Unit {0}) StoreFault)
       → doubt (state g old).is_clean ≤ doubt (state g new).is_clean → who' ≡ who
       → ((records : Records) → Stands g signs old who records → HasCleanDisk (state g new) → OnOk result (Stands g signs new who' (with_key_identifier records octets)))
       → (IsRegister (state g old) → OnErr result (Stays (state g old) (state g new)))
       → (HasCleanDisk (state g new) → HasCleanDisk (state g old))
-      × ((identity : Identity) (before : Records) → (who ≡ identity) × Stands g signs old identity before → HasCleanDisk (state g new)
-      → (after : Records) × Identifies octets result before after × (who' ≡ identity) × Stands g signs new identity after)
+      × ((identity : Identity) (before : Records) → HeldBy who old identity before → HasCleanDisk (state g new)
+      → (after : Records) × Identifies octets result before after × HeldBy who' new identity after)
   identifier_moves (Ok done) forgets same ok err = (
     was_clean (state g old) (state g new) forgets,
     (λ identity before stood clean.
