@@ -12,7 +12,8 @@ error says why, and the desk says `F3 signer`, or answers internalError.
 It is let through exactly in the form in which the desk writes it, in DER (X.690 10, 11) and to its last octet:
 
     TBSCertList (RFC 5280 5.1.2)    version 2, the key's algorithm, the issuer's name, the two moments, entries of a serial number, a
-                                    moment and a reason, the issuer's key identifier and the CRL's number
+                                    moment and a reason, the issuer's key identifier (its certificate's own, or the SHA-1 of its key) and
+                                    the CRL's number
     ResponseData (RFC 6960 4.2.1)   the responder by the SHA-1 of the issuer's key, the moment, the answers, the request's nonce; what
                                     is told good or revoked is a certificate of the issuer
 
@@ -46,7 +47,9 @@ HASHES = {
     hashlib.sha256: [bytes.fromhex("300B0609608648016503040201"), bytes.fromhex("300D06096086480165030402010500")],
 }
 
-KEY_IDENTIFIER, CRL_NUMBER = bytes.fromhex("301F0603551D23041830168014"), bytes.fromhex("0603551D14")
+KEY_IDENTIFIER, SUBJECT_KEY_IDENTIFIER, CRL_NUMBER = bytes.fromhex("0603551D23"), bytes.fromhex("0603551D0E"), bytes.fromhex("0603551D14")
+# The desk has key identifiers of so many octets at most.
+LONGEST_IDENTIFIER = 64
 NONCE = bytes.fromhex("06092B0601050507300102")
 
 # Moments in seconds and UTC (RFC 5280 4.1.2.5), and the reasons of RFC 5280 5.3.1 but 0, which is left out.
@@ -101,6 +104,13 @@ class Part:
             raise Refused(f"no {what} at octet {self.at}")
         self.at += len(wanted)
 
+    def one_of(self, wanted, what):
+        """Goes over octets that have to be one of these."""
+        found = next((it for it in wanted if self.octets[self.at : min(self.end, self.at + len(it))] == it), None)
+        if found is None:
+            raise Refused(f"no {what} at octet {self.at}")
+        self.at += len(found)
+
     def fits(self, pattern, what):
         """Goes over octets of this form."""
         found = pattern.match(self.octets, self.at, self.end)
@@ -153,7 +163,7 @@ HOLDS = either([GENERAL + rb"\xA0\x11" + GENERAL])
 
 # The issuer
 
-Issuer = namedtuple("Issuer", "name key_hash algorithm cert_ids public")
+Issuer = namedtuple("Issuer", "name key_hash key_identifiers algorithm cert_ids public")
 
 
 def der_of(path):
@@ -162,6 +172,29 @@ def der_of(path):
         octets = file.read()
     found = re.search(rb"-----BEGIN CERTIFICATE-----(.*?)-----END CERTIFICATE-----", octets, re.DOTALL)
     return base64.b64decode(found[1]) if found else octets
+
+
+def own_identifier(part):
+    """The subjectKeyIdentifier (RFC 5280 4.2.1.2) in what is left of a TBSCertificate behind its key; nothing where it has none."""
+    while part.at < part.end and not part.next_is(0xA3):
+        part.any()
+    extensions = part.inside(0xA3).inside(SEQUENCE) if part.at < part.end else part
+    while extensions.at < extensions.end:
+        extension = extensions.inside(SEQUENCE)
+        if extension.whole(IDENTIFIER) == SUBJECT_KEY_IDENTIFIER:
+            if extension.next_is(0x01):
+                extension.inside(0x01)
+            value = extension.inside(OCTETS).inside(OCTETS)
+            return bytes(value.octets[value.at : value.end])
+    return b""
+
+
+def authority_key_identifier(identifier):
+    """The extension of a CRL that names the issuer's key so (RFC 5280 5.2.1, 4.2.1.1)."""
+    value = bytes([0x80, len(identifier)]) + identifier
+    for tag in (SEQUENCE, OCTETS):
+        value = bytes([tag, len(value)]) + value
+    return bytes([SEQUENCE, len(KEY_IDENTIFIER + value)]) + KEY_IDENTIFIER + value
 
 
 def issuer_of(path):
@@ -181,7 +214,9 @@ def issuer_of(path):
     key = public[bits.at + 1 : bits.end]
     cert_ids = tuple(it + b"".join(bytes([OCTETS, hashed(part).digest_size]) + hashed(part).digest() for part in (name, key))
                      for hashed, identifiers in HASHES.items() for it in identifiers)
-    return Issuer(name, hashlib.sha1(key).digest(), algorithm, cert_ids, public)
+    key_hash, own = hashlib.sha1(key).digest(), own_identifier(part)
+    key_identifiers = [authority_key_identifier(it) for it in (key_hash, own) if 1 <= len(it) <= LONGEST_IDENTIFIER]
+    return Issuer(name, key_hash, key_identifiers, algorithm, cert_ids, public)
 
 
 # What is to be signed
@@ -202,7 +237,7 @@ def read_crl(part, issuer):
     part.ended()
     extensions = tagged.inside(SEQUENCE)
     tagged.ended()
-    extensions.same(KEY_IDENTIFIER + issuer.key_hash, "key identifier of the issuer")
+    extensions.one_of(issuer.key_identifiers, "key identifier of the issuer")
     extension = extensions.inside(SEQUENCE)
     extensions.ended()
     extension.same(CRL_NUMBER, "CRL number")

@@ -58,6 +58,8 @@ UNKNOWN = {
     "at without a socket": ("at",),
     "at with two sockets": ("at", "S", "F"),
     "schedule without a step": SCHEDULE,
+    "key-id without an identifier": ("key-id", "none.db"),
+    "key-id of two": ("key-id", "none.db", "00", "01"),
     "audit without a file": ("audit",),
     "audit of two files": ("audit", "none.db", "G"),
     "clock with a value": ("script", "none.db", "--clock=1"),
@@ -154,7 +156,7 @@ def open_is_told_of_a_signer_or_that_there_is_none(t, *words):
 
 
 @each({" ".join(it): it for it in (
-    ("import", "--signer=ca.sign"), ("crl", "--algorithm=ed25519"), ("schedule", "--signer=ca.sign"), ("import", "--clock"), ("import", "--strict"),
+    ("import", "--signer=ca.sign"), ("crl", "--algorithm=ed25519"), ("schedule", "--signer=ca.sign"), ("key-id", "--signer=ca.sign"), ("script", "--key-id=00"), ("import", "--clock"), ("import", "--strict"),
     ("crl", "--log"), ("script", "--log"), ("at", "--log"), ("audit", "--log"), ("script", "--unsigned"), ("serve", "--unsigned"), ("schedule", "--unsigned"),
 )})
 def an_option_of_another_command_is_unexpected(t, command, option):
@@ -181,9 +183,9 @@ def the_version_is_told(t, word):
 
 # What is told of each command.
 HELPED = {
-    "--help": ("init", "script", "import", "crl", "serve", "open", "at", "schedule", "audit", "--why", "-V, --version"),
-    "-h": ("init", "script", "import", "crl", "serve", "open", "at", "schedule", "audit"),
-    "init --help": ("<FILE>", "--name <HEX>", "--key <HEX>", "--days <N>", "--crl-life <N>", "--ocsp-life <N>", "--cap <N>", "--why"),
+    "--help": ("init", "script", "import", "crl", "serve", "open", "at", "schedule", "key-id", "audit", "--why", "-V, --version"),
+    "-h": ("init", "script", "import", "crl", "serve", "open", "at", "schedule", "key-id", "audit"),
+    "init --help": ("<FILE>", "--name <HEX>", "--key <HEX>", "--key-id <HEX>", "--days <N>", "--crl-life <N>", "--ocsp-life <N>", "--cap <N>", "--why"),
     "init -h": ("<FILE>", "--name <HEX>"),
     "script --help": ("[FILE]", "--signer <SOCKET>", "--algorithm <NAME>", "--clock", "--strict", "--why", "desk script ca.db"),
     "import --help": ("<FILE>", "--now <MOMENT>", "--why"),
@@ -192,6 +194,7 @@ HELPED = {
     "open --help": ("<FILE>", "--port <N>", "--counter <SOCKET>", "--signer <SOCKET>", "--algorithm <NAME>", "--unsigned", "--log", "--why"),
     "at --help": ("<SOCKET>", "--why", "desk at ca.counter"),
     "schedule F --help": ("<FILE>", "<MOMENT=DAYS>...", "--why"),
+    "key-id --help": ("<FILE>", "<HEX>", "--why"),
     "audit --help": ("<FILE>", "--why", "desk audit ca.db"),
     "--why audit --help": ("<FILE>", "--why", "desk audit ca.db"),
 }

@@ -13,7 +13,7 @@ use Rattle.reg_faces.specs.Faces.{Lines}
 use Rattle.reg_calls.specs.Steps.{Crls}
 use Rattle.reg_calls.specs.declared.keeper.Keeper.{Ghosts as Keeper}
 use Rattle.reg_hub.specs.Exchange.{Input}
-use Rattle.reg_endings.specs.Checks.{WritesIssuer, IsNoOffice, IsNoSchedule, terms_of}
+use Rattle.reg_endings.specs.Checks.{WritesIdentified, WritesIdentifier, IsNoIdentifier, IsNoOffice, IsNoSchedule, terms_of}
 use Rattle.reg_endings.specs.Endings.{store_failure}
 use Rattle.reg_endings.specs.declared.failure.Failure.{Failure}
 use Rattle.reg_endings.specs.declared.failure.Failure.TheVariants as failure
@@ -34,6 +34,7 @@ use Rattle.reg_words.specs.declared.job.Way.{Way}
 use Rattle.reg_jobs.specs.Asking.{AtCounter}
 use Rattle.reg_jobs.specs.Digest.{digest, digests}
 use Rattle.reg_jobs.specs.Failing.{IsMaking}
+use Rattle.reg_jobs.specs.Identifiers.{Identifies}
 use Rattle.reg_jobs.specs.Lined.{LineBy, LinesEnd}
 use Rattle.reg_jobs.specs.Sample.{sample_records}
 use Rattle.reg_jobs.specs.Schedules.{Reschedules}
@@ -53,10 +54,10 @@ abbrev pub SaysGiven : {W : Type 0} → (W → Option (List ℕ)) → W → W �
 SaysGiven contents writer writer' (Ok text) result = Says text (contents writer) (contents writer') result
 SaysGiven contents writer writer' (Err why) result = (result ≡ Err (failure.Fault why)) × (writer' ≡ writer)
 
--- a schedule that was set is told, or why it was not set is the end
-abbrev pub TellsSet : {W : Type 0} → (W → Option (List ℕ)) → W → W → Result (Unit {0}) StoreFault → Result (Unit {0}) Failure → Type 0
-TellsSet contents writer writer' (Ok done) result = Says (codes "schedule set\n") (contents writer) (contents writer') result
-TellsSet contents writer writer' (Err why) result = (result ≡ Err (store_failure why)) × IsCallFault why × (writer' ≡ writer)
+-- that something was set is told by a text, or why it was not set is the end
+abbrev pub TellsSet : {W : Type 0} → List ℕ → (W → Option (List ℕ)) → W → W → Result (Unit {0}) StoreFault → Result (Unit {0}) Failure → Type 0
+TellsSet text contents writer writer' (Ok done) result = Says text (contents writer) (contents writer') result
+TellsSet text contents writer writer' (Err why) result = (result ≡ Err (store_failure why)) × IsCallFault why × (writer' ≡ writer)
 
 -- the text of an audit that found all well is said, or there was no memory for it
 abbrev pub TellsSound : {W : Type 0} → List ℕ → (W → Option (List ℕ)) → W → W → Result (Unit {0}) Failure → Type 0
@@ -109,7 +110,15 @@ module _ {W P K : Type 0} (contents : W → Option (List ℕ)) (writer writer' :
         ((why : Failure) × (result ≡ Err why) × IsNoSchedule steps why × (writer' ≡ writer) × (place' ≡ place))
         ⊎ (IsSchedule steps × ((NotOpened places keeper place place' path None result × (writer' ≡ writer))
         ⊎ ((set : Result (Unit {0}) StoreFault) × Visits places keeper place place' path None (λ identity. Reschedules steps set)
-        × TellsSet contents writer writer' set result)))
+        × TellsSet (codes "schedule set\n") contents writer writer' set result)))
+
+    -- a key identifier of its own for the issuer of the register at a path: the word is looked at before the path is
+    abbrev pub KeyIdAt : List ℕ → List ℕ → Result (Unit {0}) Failure → Type 0
+    KeyIdAt path key_id result =
+        ((why : Failure) × (result ≡ Err why) × IsNoIdentifier key_id why × (writer' ≡ writer) × (place' ≡ place))
+        ⊎ ((octets : List ℕ) × WritesIdentifier key_id octets × ((NotOpened places keeper place place' path None result × (writer' ≡ writer))
+        ⊎ ((set : Result (Unit {0}) StoreFault) × Visits places keeper place place' path None (λ identity. Identifies octets set)
+        × TellsSet (codes "key-id set\n") contents writer writer' set result)))
 
     -- a path at which nothing lay was claimed, and the place after that; or something lay there, and the place is as it was
     abbrev pub Claims : List ℕ → P → Type 0
@@ -124,10 +133,10 @@ module _ {W P K : Type 0} (contents : W → Option (List ℕ)) (writer writer' :
         ⊎ (places.claimed place path start × (why ≢ failure.NotEmpty) × places.removed between path place')
 
     -- a new register at a path, of the issuer and the policy that are written, which are looked at before the path is
-    abbrev pub InitAt : List ℕ → List ℕ → List ℕ → Terms → Result (Unit {0}) Failure → Type 0
-    InitAt path name key terms result =
-        ((why : Failure) × (result ≡ Err why) × IsNoOffice name key terms why × (writer' ≡ writer) × (place' ≡ place))
-        ⊎ ((issuer : Issuer) × WritesIssuer name key issuer × IsPolicy terms
+    abbrev pub InitAt : List ℕ → List ℕ → List ℕ → Option (List ℕ) → Terms → Result (Unit {0}) Failure → Type 0
+    InitAt path name key key_id terms result =
+        ((why : Failure) × (result ≡ Err why) × IsNoOffice name key key_id terms why × (writer' ≡ writer) × (place' ≡ place))
+        ⊎ ((issuer : Issuer) × WritesIdentified name key key_id issuer × IsPolicy terms
         × ((start between : P) × Claims path start × MakesAt start between path issuer terms result × Leaves path start between result))
 
     -- HTTP requests over the register at a path (RFC 9112), which is opened before the port is bound: what came of each peer and what
@@ -189,8 +198,8 @@ module _ {E W : Type 0} (remaining : E → Option (List ℕ)) (contents : W → 
     -- the end of a job: what it read, what it did at its place to the register at its path and nothing else, and what it wrote; nothing
     -- holds the key of the sample issuer in memory
     abbrev pub Ends : {F : Type 0} → Front F → Job → Result (Unit {0}) Failure → Type 0
-    Ends front (job.Init file name key days crl_life ocsp_life cap) result = (reader' ≡ reader)
-        × InitAt contents writer writer' places keeper place place' file name key (terms_of days crl_life ocsp_life cap) result
+    Ends front (job.Init file name key key_id days crl_life ocsp_life cap) result = (reader' ≡ reader)
+        × InitAt contents writer writer' places keeper place place' file name key key_id (terms_of days crl_life ocsp_life cap) result
     Ends front (job.Script (Some file) signer) result = ScriptAt file signer result
     Ends front (job.Script None None) result = (place' ≡ place) × ScriptInMemory result
     Ends front (job.Script None (Some holder)) result = (place' ≡ place) × IsSilent × (result ≡ Err failure.BadSigner)
@@ -199,6 +208,8 @@ module _ {E W : Type 0} (remaining : E → Option (List ℕ)) (contents : W → 
     Ends front (job.Crl file number) result = (reader' ≡ reader) × CrlAt contents writer writer' places keeper place place' file number result
     Ends front (job.Schedule file steps) result =
         (reader' ≡ reader) × ScheduleAt contents writer writer' places keeper place place' file steps result
+    Ends front (job.KeyId file key_id) result =
+        (reader' ≡ reader) × KeyIdAt contents writer writer' places keeper place place' file key_id result
     Ends front (job.Serve file port requests signer) result =
         (reader' ≡ reader) × ServeAt contents writer writer' places keeper place place' front file signer port requests result
     Ends front (job.Open file port counter signer) result =

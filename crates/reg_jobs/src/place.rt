@@ -1,7 +1,7 @@
 //! A place where registers lie.
 
 use reg_calls::Keeper;
-use reg_core::{Memory, Policy, Schedule};
+use reg_core::{Label, Memory, Policy, Schedule};
 use reg_der::Issuer;
 use reg_endings::Failure;
 use reg_findings::Verdict;
@@ -19,6 +19,7 @@ pub trait Place {
     ghost use Rattle.reg_crl.specs.Signing.{Identity};
     ghost use Rattle.reg_endings.specs.declared.failure.Failure.{Failure as Failing};
     ghost use Rattle.reg_jobs.specs.Failing.{IsMaking, IsOpening};
+    ghost use Rattle.reg_jobs.specs.Identifiers.{Identifies};
     ghost use Rattle.reg_jobs.specs.Schedules.{Reschedules};
     ghost use Rattle.reg_jobs.specs.Signing.{Signing};
     ghost use Rattle.reg_findings.specs.declared.verdict.Verdict.{Verdict as Verdicts};
@@ -122,6 +123,20 @@ pub trait Place {
         schedule: Schedule,
     ) -> Result<(), StoreFault>
         ensures moves { Leads Self.Opened.is_clean Self.Opened.stands (λ identity. Reschedules schedule result) register.old register.new }
+        ensures faults { IfErr result IsCallFault };
+
+    /// Gives the issuer of a register that was opened a key identifier of its own, for the CRLs from the next one on.
+    ///
+    /// # Errors
+    ///
+    /// `Memory`, `Store`. Nothing has changed then.
+    fn set_key_identifier(
+        &self,
+        alloc: Global,
+        register: &mut Self::Opened,
+        octets: Label,
+    ) -> Result<(), StoreFault>
+        ensures moves { Leads Self.Opened.is_clean Self.Opened.stands (λ identity. Identifies octets result) register.old register.new }
         ensures faults { IfErr result IsCallFault };
 
     /// How many signatures did not come of those that who signs for a register was asked for since it was opened.

@@ -5,6 +5,7 @@ pub mod Composing
 pub mod CommandsRun
 pub mod Deciding
 pub mod Facts
+pub mod Identified
 pub mod Issuing
 pub mod Leading
 pub mod OpenedAgain

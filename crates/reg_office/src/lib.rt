@@ -6,6 +6,7 @@ mod certificates;
 mod commands;
 mod crls;
 mod heads;
+mod identifiers;
 mod keeping;
 pub mod laws;
 mod ocsp_answer;

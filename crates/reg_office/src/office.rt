@@ -15,16 +15,18 @@ ghost use Rattle.reg_tables.specs.Stays.{Changed, IsCallFault, Looked, Stays};
 ghost use Rattle.reg_ocsp.specs.Response.{refusal_response};
 ghost use Rattle.reg_ocsp.specs.declared.response.RefusalStatus.TheVariants.{Malformed, Internal};
 ghost use Rattle.reg_calls.specs.Ocsp.{HasNoReading, IsOcspReply};
-ghost use Rattle.reg_office.specs.AtRest.{Does};
+ghost use Rattle.reg_der.specs.Issuers.{with_key_identifier};
+ghost use Rattle.reg_office.specs.AtRest.{Does, IsIdentified};
 ghost use Rattle.reg_calls.specs.Answered.{IsAnswered, IsGiven};
 ghost use Rattle.reg_office.specs.Faults.{IsOfficeFault, IsTableFault};
 ghost use Rattle.reg_office.specs.Stands.{Stands, CameTo};
 
 use crate::commands::run_command;
 use crate::crls::bytes_of;
+use crate::identifiers::set_key_identifier;
 use crate::ocsp_answer::ocsp;
 use crate::queries::answer;
-use reg_core::{Command, Fault, Memory, Moment, Query, Refusal, Reply, Schedule};
+use reg_core::{Command, Fault, Label, Memory, Moment, Query, Refusal, Reply, Schedule};
 use reg_crl::Signer;
 use reg_store::{Store, StoreFault};
 use sqlite::Alter;
@@ -149,5 +151,21 @@ impl<C: Alter, S: Signer> Office<C, S> {
         ensures faults { IfErr result IsCallFault }
     {
         self.store.set_schedule(schedule)
+    }
+
+    /// Gives the issuer a key identifier of its own, which its CRLs have from the next one on (RFC 5280 5.2.1); the CRLs that
+    /// were issued stay as they are, and signed over what they list. It is no command: no record, nothing that is kept beside
+    /// them and not the last accepted moment changes.
+    ///
+    /// # Errors
+    /// `Memory`, `Store`. Nothing has changed then.
+    pub fn set_key_identifier(&mut self, alloc: Global, octets: Label) -> Result<(), StoreFault>
+        ensures ok { (records : Records) → Stands C.Store S.signs self.old.store (S.identity self.old.signer) records → HasCleanDisk (state C.Store self.new.store)
+            → OnOk result (Stands C.Store S.signs self.new.store (S.identity self.new.signer) (with_key_identifier records octets)) }
+        ensures changed { Changed C.Store self.old.store self.new.store (IsIdentified C.Store self.old.store octets) result }
+        ensures same_signer { self.new.signer ≡ self.old.signer }
+        ensures faults { IfErr result IsCallFault }
+    {
+        set_key_identifier(&mut self.store, alloc, octets)
     }
 }

@@ -13,6 +13,7 @@ ghost use Rattle.reg_jobs.specs.Failing.{IsMaking, IsOpening};
 ghost use Rattle.reg_program.specs.Files.{IsAudited, IsOpenedFrom, IsMadeFrom, Showed};
 ghost use Rattle.reg_jobs.specs.Signing.{Follows, IsSigning};
 ghost use Rattle.reg_calls.specs.Leads.{Leads};
+ghost use Rattle.reg_jobs.specs.Identifiers.{Identifies};
 ghost use Rattle.reg_jobs.specs.Schedules.{Reschedules};
 ghost use Rattle.reg_office.specs.Calls.{StandsFor};
 ghost use Rattle.reg_office.specs.Stands.{Stands};
@@ -23,7 +24,7 @@ ghost use Rattle.reg_tables.specs.Stays.{IsCallFault};
 use crate::machine::Machine;
 use crate::signing::{FileSigner, signer_for};
 use crate::watching::Teller;
-use reg_core::{Fault, Memory, Policy, Schedule};
+use reg_core::{Fault, Label, Memory, Policy, Schedule};
 use reg_crl::Signer;
 use reg_der::Issuer;
 use reg_endings::Failure;
@@ -114,6 +115,15 @@ impl<'a> Place for Machine<'a> {
         schedule: Schedule,
     ) -> Result<(), StoreFault> {
         reschedule(alloc, register, schedule)
+    }
+
+    fn set_key_identifier(
+        &self,
+        alloc: Global,
+        register: &mut FileOffice,
+        octets: Label,
+    ) -> Result<(), StoreFault> {
+        identify(alloc, register, octets)
     }
 
     fn failures(register: &FileOffice) -> u64
@@ -212,6 +222,20 @@ fn reschedule<C: Alter, S: Signer>(
     ensures faults { IfErr result IsCallFault }
 {
     office.set_schedule(alloc, schedule)
+}
+
+/// Gives the issuer of an office a key identifier of its own, for the CRLs from the next one on.
+fn identify<C: Alter, S: Signer>(
+    alloc: Global,
+    office: &mut Office<C, S>,
+    octets: Label,
+) -> Result<(), StoreFault>
+    ensures moves { Leads (λ office. HasCleanDisk (state C.Store office.store))
+        (λ identity office records. StandsFor C.Store S.signs (office.store, S.identity office.signer) identity records)
+        (λ identity. Identifies octets result) office.old office.new }
+    ensures faults { IfErr result IsCallFault }
+{
+    office.set_key_identifier(alloc, octets)
 }
 
 /// What an audit says of the register in a file.

@@ -33,10 +33,10 @@ abbrev pub with_rules : App → List Rule → App
 with_rules app [] = app
 with_rules app (rule ∷ rest) = with_rules (with_rule app rule) rest
 
--- `init FILE --name HEX --key HEX [--days N] [--crl-life N] [--ocsp-life N] [--cap N] [--why]`
+-- `init FILE --name HEX --key HEX [--key-id HEX] [--days N] [--crl-life N] [--ocsp-life N] [--cap N] [--why]`
 abbrev pub init_app : App
 init_app = with_rules (new_app (codes "init"))
-    (must (codes "file") ∷ needs (codes "name") ∷ needs (codes "key") ∷ takes (codes "days")
+    (must (codes "file") ∷ needs (codes "name") ∷ needs (codes "key") ∷ takes (codes "key-id") ∷ takes (codes "days")
     ∷ takes (codes "crl-life") ∷ takes (codes "ocsp-life") ∷ takes (codes "cap") ∷ flag (codes "why") ∷ [])
 
 -- `script [FILE] [--signer SOCKET --algorithm NAME] [--clock] [--strict] [--why]`
@@ -71,6 +71,10 @@ at_app = with_rules (new_app (codes "at")) (must (codes "counter") ∷ flag (cod
 abbrev pub schedule_app : App
 schedule_app = with_rules (new_app (codes "schedule")) (must (codes "file") ∷ some (codes "steps") ∷ flag (codes "why") ∷ [])
 
+-- `key-id FILE HEX [--why]`
+abbrev pub key_id_app : App
+key_id_app = with_rules (new_app (codes "key-id")) (must (codes "file") ∷ must (codes "key-id") ∷ flag (codes "why") ∷ [])
+
 -- `audit FILE [--why]`
 abbrev pub audit_app : App
 audit_app = with_rules (new_app (codes "audit")) (must (codes "file") ∷ flag (codes "why") ∷ [])
@@ -93,4 +97,4 @@ with_commands app (command ∷ rest) = with_commands (with_subcommand app comman
 -- `desk [--why] COMMAND ..`
 abbrev pub desk_app : App
 desk_app = with_commands begun_app
-    (init_app ∷ script_app ∷ import_app ∷ crl_app ∷ serve_app ∷ open_app ∷ at_app ∷ schedule_app ∷ audit_app ∷ [])
+    (init_app ∷ script_app ∷ import_app ∷ crl_app ∷ serve_app ∷ open_app ∷ at_app ∷ schedule_app ∷ key_id_app ∷ audit_app ∷ [])

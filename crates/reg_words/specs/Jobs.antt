@@ -9,7 +9,7 @@ use Rattle.reg_words.specs.Desk.{desk_app}
 use Rattle.reg_words.specs.Values.{moment_of, steps_of, within}
 use Rattle.reg_signer.specs.Algorithms.{algorithm_named}
 use Rattle.reg_words.specs.declared.job.Job.{Job}
-use Rattle.reg_words.specs.declared.job.Job.TheVariants.{Init, Script, Lines, Import, Crl, Serve, Open, At, Schedule, Audit}
+use Rattle.reg_words.specs.declared.job.Job.TheVariants.{Init, Script, Lines, Import, Crl, Serve, Open, At, Schedule, KeyId, Audit}
 use Rattle.reg_words.specs.declared.job.KeyHolder.{KeyHolder}
 use Rattle.reg_words.specs.declared.job.Order.{Order}
 use Rattle.reg_words.specs.declared.commands.Terms.{Terms}
@@ -86,7 +86,7 @@ init_of rows = do
   name ← first_of (codes "name") rows
   key ← first_of (codes "key") rows
   terms ← terms_of rows
-  Some (Init file name key terms.days terms.crl_life terms.ocsp_life terms.cap)
+  Some (Init file name key (first_of (codes "key-id") rows) terms.days terms.crl_life terms.ocsp_life terms.cap)
 
 unfoldable pub script_of : List Row → Option Job
 script_of rows = do
@@ -132,6 +132,12 @@ schedule_of rows = do
   steps ← option_and_then steps_of (all_of (codes "steps") rows)
   Some (Schedule file steps)
 
+unfoldable pub key_id_of : List Row → Option Job
+key_id_of rows = do
+  file ← first_of (codes "file") rows
+  key_id ← first_of (codes "key-id") rows
+  Some (KeyId file key_id)
+
 unfoldable pub audit_of : List Row → Option Job
 audit_of rows = do
   file ← first_of (codes "file") rows
@@ -141,6 +147,7 @@ audit_of rows = do
 unfoldable pub keeping_job_in : Text → List Row → Option Job
 keeping_job_in name rows =
     if bytes_eq name (codes "schedule") then schedule_of rows
+    else if bytes_eq name (codes "key-id") then key_id_of rows
     else if bytes_eq name (codes "audit") then audit_of rows
     else None
 

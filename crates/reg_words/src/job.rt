@@ -29,12 +29,13 @@ pub struct Way {
 #[derive(Drop)]
 pub enum Job<'a> {
     /// Makes a register: the DER of the issuer's Name and the bytes of its public key, both in hexadecimal, the
-    /// longest validity in days, the seconds from thisUpdate to nextUpdate of a CRL and of an OCSP answer, and the
-    /// most rows of a table.
+    /// key identifier of its certificate in hexadecimal too, where it is told, the longest validity in days, the seconds from
+    /// thisUpdate to nextUpdate of a CRL and of an OCSP answer, and the most rows of a table.
     Init {
         file: Word<'a>,
         name: Word<'a>,
         key: Word<'a>,
+        key_id: Option<Word<'a>>,
         days: u64,
         crl_life: u64,
         ocsp_life: u64,
@@ -85,6 +86,11 @@ pub enum Job<'a> {
     Schedule {
         file: Word<'a>,
         steps: Steps,
+    },
+    /// Gives the issuer a key identifier of its own, in hexadecimal, for the CRLs from the next one on.
+    KeyId {
+        file: Word<'a>,
+        key_id: Word<'a>,
     },
     /// Looks whether the tables are those of sound records, and changes nothing.
     Audit {

@@ -35,6 +35,12 @@ const NAME: &str = "The issuer's Name, its DER in hexadecimal, at most 1024 byte
 const KEY: &str =
     "The issuer's public key, the bits of its subjectPublicKey in hexadecimal, 1 to 2048 bytes";
 
+const KEY_ID: &str =
+    "The key identifier of the CA certificate, its subjectKeyIdentifier in hexadecimal, 1 to 64 bytes";
+
+const KEY_ID_OR_DIGEST: &str =
+    "The key identifier of the CA certificate, its subjectKeyIdentifier in hexadecimal, 1 to 64 bytes [default: the SHA-1 of the key]";
+
 const DAYS: &str = "The longest validity of a certificate in days, 1 to 398 [default: 398]";
 
 const CRL_LIFE: &str =
@@ -103,6 +109,7 @@ pub(crate) const COMMANDS: &[Entry] = &[
             Part::Must("file", "FILE", NEW_FILE),
             Part::Needs("name", "HEX", NAME),
             Part::Needs("key", "HEX", KEY),
+            Part::Takes("key-id", "HEX", KEY_ID_OR_DIGEST),
             Part::Takes("days", "N", DAYS),
             Part::Takes("crl-life", "N", CRL_LIFE),
             Part::Takes("ocsp-life", "N", OCSP_LIFE),
@@ -188,6 +195,16 @@ pub(crate) const COMMANDS: &[Entry] = &[
         parts: &[
             Part::Must("file", "FILE", FILE),
             Part::Rest("steps", "MOMENT=DAYS", STEPS),
+            Part::Flag("why", CAUSE),
+        ],
+    },
+    Entry {
+        name: "key-id",
+        about: "Set the key identifier of the CA certificate, which CRLs have from the next one on.",
+        example: "Example:\n  desk key-id ca.db 0A1B2C3D4E5F",
+        parts: &[
+            Part::Must("file", "FILE", FILE),
+            Part::Must("key-id", "HEX", KEY_ID),
             Part::Flag("why", CAUSE),
         ],
     },
