@@ -46,14 +46,19 @@ nonce_part None = []
 nonce_part (Some nonce) = tlv 0xA1 (tlv 0x30 (tlv 0x30 (tlv 0x06 nonce_identifier ++ tlv 0x04 nonce)))
 
 -- ResponseData ::= SEQUENCE { responderID, producedAt GeneralizedTime, responses SEQUENCE OF SingleResponse,
--- responseExtensions }, by the issuer's key; each answer holds from now to next
+-- responseExtensions }, by the key of who answers; each answer holds from now to next
 unfoldable pub response_data : List ℕ → ℕ → ℕ → List Answer → Option (List ℕ) → List ℕ
 response_data key now next answers nonce =
     tlv 0x30 (responder key ++ general_value now ++ tlv 0x30 (flat_map (single_response now next) answers) ++ nonce_part nonce)
 
--- BasicOCSPResponse ::= SEQUENCE { tbsResponseData, signatureAlgorithm, signature BIT STRING }
-unfoldable pub basic_response : List ℕ → List ℕ → List ℕ → List ℕ
-basic_response signed algorithm signature = tlv 0x30 (signed ++ algorithm ++ bits_value signature)
+-- `certs [0] EXPLICIT SEQUENCE OF Certificate OPTIONAL`: the one certificate, where one stands there
+abbrev pub certs_part : Option (List ℕ) → List ℕ
+certs_part None = []
+certs_part (Some certificate) = tlv 0xA0 (tlv 0x30 certificate)
+
+-- BasicOCSPResponse ::= SEQUENCE { tbsResponseData, signatureAlgorithm, signature BIT STRING, certs }
+unfoldable pub basic_response : List ℕ → List ℕ → List ℕ → Option (List ℕ) → List ℕ
+basic_response signed algorithm signature certificate = tlv 0x30 (signed ++ algorithm ++ bits_value signature ++ certs_part certificate)
 
 -- id-pkix-ocsp-basic, 1.3.6.1.5.5.7.48.1.1
 abbrev pub basic_identifier : List ℕ
@@ -64,8 +69,9 @@ abbrev pub response_bytes : List ℕ → List ℕ
 response_bytes response = tlv 0x30 (tlv 0x06 basic_identifier ++ tlv 0x04 response)
 
 -- OCSPResponse ::= SEQUENCE { responseStatus ENUMERATED, responseBytes [0] EXPLICIT ResponseBytes OPTIONAL }, successful(0)
-unfoldable pub ocsp_response : List ℕ → List ℕ → List ℕ → List ℕ
-ocsp_response signed algorithm signature = tlv 0x30 (enumerated 0 ++ tlv 0xA0 (response_bytes (basic_response signed algorithm signature)))
+unfoldable pub ocsp_response : List ℕ → List ℕ → List ℕ → Option (List ℕ) → List ℕ
+ocsp_response signed algorithm signature certificate =
+    tlv 0x30 (enumerated 0 ++ tlv 0xA0 (response_bytes (basic_response signed algorithm signature certificate)))
 
 -- malformedRequest(1), internalError(2), tryLater(3)
 abbrev pub refusal_code : RefusalStatus → ℕ
