@@ -11,7 +11,7 @@ use Rattle.reg_der.specs.Reading.{◌>>=◌, Gives, Takes}
 use Rattle.reg_der.specs.Values.{bits_value}
 use Rattle.reg_der.proofs.PublicLaws.{value_size}
 use Rattle.reg_ocsp.specs.declared.certificate.CertifiedKey.{CertifiedKey}
-use Rattle.reg_ocsp.specs.Certificate.{Certificate, IsCertificateOf, key_info, to_be_signed, certificate, no_unused, as_key, key_info_at, after_subject_at, signed_part_at, certificate_at}
+use Rattle.reg_ocsp.specs.Certificate.{Form, IsCertificateOf, key_info, to_be_signed, certificate, no_unused, as_key, key_info_at, after_subject_at, signed_part_at, certificate_at}
 use Rattle.reg_ocsp.specs.Reading.{expect_at, whole_at, optional_at}
 use Rattle.reg_ocsp.specs.Request.{optional}
 use Rattle.reg_ocsp.specs.Views.{key_seen}
@@ -273,7 +273,7 @@ certificate_takes bytes x each e =
     let t1 = subject_takes part rest t0.each read_rest in
     let t2 = expect_takes 0x30 rest info t1.each read_info in
     let t3 = key_info_takes info.0 x t2.inner e3 in
-    let form : Certificate = record {
+    let form : Form = record {
       version = t1.version;
       serial = t1.serial;
       signature = t1.signature;
@@ -299,7 +299,7 @@ certificate_takes bytes x each e =
       is_key = t3.is_key;
     })))
 
-certificate_reads : (c : Certificate) → IsKey c.key → length (certificate c) ≤ 65536 → certificate_at (certificate c) ≡ Some (tlv 0x30 c.algorithm, c.key)
+certificate_reads : (c : Form) → IsKey c.key → length (certificate c) ≤ 65536 → certificate_at (certificate c) ≡ Some (tlv 0x30 c.algorithm, c.key)
 unfolding certificate_at
 certificate_reads c is small =
     let info = tlv 0x30 c.algorithm ++ bits_value c.key in

@@ -13,7 +13,7 @@ use Rattle.reg_ocsp.specs.Reading.{expect_at, whole_at, optional_at}
 -- A Certificate. Of what is not looked into it has the contents: of the version, where it is written, the serial number, the signature's
 -- algorithm, the issuer, the validity and the subject; of the AlgorithmIdentifier of its public key; what stands behind the key in the
 -- TBSCertificate (unique identifiers, extensions); the algorithm and the bits of the signature.
-pub record Certificate : Type 0 where
+pub record Form : Type 0 where
   pub version : Option (List ℕ)
   pub serial : List ℕ
   pub signature : List ℕ
@@ -27,29 +27,35 @@ pub record Certificate : Type 0 where
   pub signed : List ℕ
 
 -- SubjectPublicKeyInfo ::= SEQUENCE { algorithm AlgorithmIdentifier, subjectPublicKey BIT STRING }: of the bits none is unused
-abbrev pub key_info : Certificate → List ℕ
+abbrev pub key_info : Form → List ℕ
 key_info c = tlv 0x30 (tlv 0x30 c.algorithm ++ bits_value c.key)
 
 -- TBSCertificate ::= SEQUENCE { version [0] EXPLICIT Version DEFAULT v1, serialNumber INTEGER, signature AlgorithmIdentifier, issuer Name,
 -- validity SEQUENCE, subject Name, subjectPublicKeyInfo, .. }
-abbrev pub to_be_signed : Certificate → List ℕ
+abbrev pub to_be_signed : Form → List ℕ
 to_be_signed c =
     tlv 0x30 (optional 0xA0 c.version ++ (tlv 0x02 c.serial ++ (tlv 0x30 c.signature ++ (tlv 0x30 c.issuer
     ++ (tlv 0x30 c.validity ++ (tlv 0x30 c.subject ++ (key_info c ++ c.behind)))))))
 
 -- Certificate ::= SEQUENCE { tbsCertificate, signatureAlgorithm AlgorithmIdentifier, signatureValue BIT STRING }
-abbrev pub certificate : Certificate → List ℕ
+abbrev pub certificate : Form → List ℕ
 certificate c = tlv 0x30 (to_be_signed c ++ (tlv 0x30 c.signed_under ++ tlv 0x03 c.signed))
 
 -- the bytes, 65,536 at most, are a certificate of this public key, the bits of its subjectPublicKey, under this AlgorithmIdentifier
 pub record IsCertificateOf (bytes algorithm key : List ℕ) : Type 0 where
   pub each : IsBytes bytes
   pub short : length bytes ≤ 65536
-  pub form : Certificate
+  pub form : Form
   pub spelled : bytes ≡ certificate form
   pub under : algorithm ≡ tlv 0x30 form.algorithm
   pub of_key : key ≡ form.key
   pub is_key : IsKey key
+
+-- a certificate: its bytes, the whole value of the AlgorithmIdentifier of its public key, and that key
+pub record Certified : Type 0 where
+  pub der : List ℕ
+  pub algorithm : List ℕ
+  pub key : List ℕ
 
 -- ---- reading it, as functions on lists
 

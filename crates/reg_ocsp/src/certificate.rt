@@ -1,18 +1,105 @@
 //! The public key that stands in a certificate (RFC 5280 4.1).
 
-ghost use Rattle.std.specs.Prelude.{◌≡◌, ℕ, List, Some, IfSome, option_map};
+ghost use Rattle.std.specs.Prelude.{◌≡◌, ◌≤◌, ℕ, List, Some, IfOk, IfSome, IsErrOf, length, option_map};
 ghost use Rattle.reg_der.specs.Reading.{Gives};
 ghost use Rattle.reg_ocsp.specs.Certificate.{IsCertificateOf, after_subject_at, as_key, certificate_at, key_info_at, no_unused, signed_part_at};
 ghost use Rattle.reg_ocsp.specs.Views.{key_seen};
+ghost use Rattle.reg_ocsp.specs.declared.certificate.CertificateFault.TheVariants.{Memory};
 
 use crate::tags::{BIT_STRING, INTEGER, SEQUENCE, TAGGED_0};
 use crate::values::{expect, optional, whole};
+use std::alloc::{AllocError, Global};
+use std::marker::Model;
 
 /// The most bytes that a certificate may have.
 const LONGEST_CERTIFICATE: usize = 65_536;
 
 /// The most bytes that a public key may have.
 const LONGEST_KEY: usize = 2_048;
+
+/// Why bytes make no certificate.
+#[derive(Clone, Copy, PartialEq, Eq)]
+pub enum CertificateFault {
+    /// They are no certificate with a public key, as [`certified_key`] says.
+    Bad,
+    /// Memory could not be had.
+    Memory,
+}
+
+impl From<AllocError> for CertificateFault {
+    ghost from_gives = { λ _ e. e ≡ Memory };
+
+    fn from(_e: AllocError) -> CertificateFault {
+        CertificateFault::Memory
+    }
+}
+
+/// A certificate that is to stand with answers. Contracts see its bytes, and its public key with the algorithm of that.
+#[derive(Drop)]
+pub struct Certificate {
+    /// All of it, in DER.
+    der: Vec<u8>,
+    /// The whole value of the AlgorithmIdentifier of its subjectPublicKeyInfo.
+    algorithm: Vec<u8>,
+    /// The bits of its subjectPublicKey.
+    key: Vec<u8>,
+}
+
+impl Model for Certificate {
+    ghost use Rattle.reg_ocsp.specs.Certificate.{Certified, IsCertificateOf};
+
+    ghost Value = { Certified };
+
+    ghost view = { λ it. record { der = it.der.items; algorithm = it.algorithm.items; key = it.key.items } };
+
+    ghost invariant = { λ it. IsCertificateOf it.der.items it.algorithm.items it.key.items };
+}
+
+impl Certificate {
+    /// The certificate that the bytes are.
+    ///
+    /// # Errors
+    /// `Bad` where they are none with a public key ([`certified_key`]); `Memory`.
+    pub fn new(alloc: Global, der: &[u8]) -> Result<Certificate, CertificateFault>
+        ensures der { IfOk result (λ it. it.der ≡ der.now) }
+        ensures bad { IsErrOf result CertificateFault.Bad → (algorithm key : List ℕ) → ¬ (IsCertificateOf der.now algorithm key) }
+    {
+        let Some(certified) = certified_key(der) else {
+            return Err(CertificateFault::Bad);
+        };
+        let algorithm = Vec::from_slice(alloc, certified.algorithm)?;
+        let key = Vec::from_slice(alloc, certified.key)?;
+        let der = Vec::from_slice(alloc, der)?;
+        Ok(Certificate {
+            der,
+            algorithm,
+            key,
+        })
+    }
+
+    /// All of it, in DER: 65,536 bytes at most.
+    pub fn der(&self) -> &[u8]
+        ensures der { result.now ≡ self.now.der }
+        ensures short { length result.now ≤ 65536 }
+    {
+        &self.der
+    }
+
+    /// The whole value of the AlgorithmIdentifier of its public key (RFC 5280 4.1.2.7).
+    pub fn algorithm(&self) -> &[u8]
+        ensures { result.now ≡ self.now.algorithm }
+    {
+        &self.algorithm
+    }
+
+    /// The bits of its subjectPublicKey, without the octet that counts unused ones.
+    pub fn key(&self) -> &[u8]
+        ensures key { result.now ≡ self.now.key }
+        ensures certified { IsCertificateOf self.now.der self.now.algorithm result.now }
+    {
+        &self.key
+    }
+}
 
 /// The public key of a certificate, in slices of the certificate's bytes.
 #[derive(Clone, Copy)]

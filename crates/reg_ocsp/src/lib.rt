@@ -13,7 +13,7 @@ mod tags;
 mod values;
 
 pub use asked::{Asked, CertId};
-pub use certificate::{CertifiedKey, certified_key};
+pub use certificate::{Certificate, CertificateFault, CertifiedKey, certified_key};
 pub use fault::AskFault;
 pub use matching::matches;
 pub use reading::read_request;

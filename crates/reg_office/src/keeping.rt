@@ -8,11 +8,13 @@ use sqlite::Alter;
 impl<C: Alter, S: Signer> Keeper for Office<C, S> {
     ghost use Rattle.sqlite.specs.Held.{state};
     ghost use Rattle.sqlite.specs.State.{HasCleanDisk};
+    ghost use Rattle.reg_office.specs.Answering.{signatory_of};
     ghost use Rattle.reg_office.specs.Calls.{StandsFor};
 
     ghost is_clean = { λ office. HasCleanDisk (state C.Store office.store) };
 
-    ghost stands = { λ identity office records. StandsFor C.Store S.signs (office.store, S.identity office.signer) identity records };
+    ghost stands = { λ who office records.
+        StandsFor C.Store S.signs (office.store, signatory_of S.identity (S.identity office.signer) office.responder) who records };
 
     ghost signs = { S.signs };
 
