@@ -7,15 +7,19 @@ ghost use Rattle.reg_core.specs.Crls.{latest};
 ghost use Rattle.reg_core.specs.Records.{Records};
 ghost use Rattle.reg_core.specs.Sound.{SoundRows};
 ghost use Rattle.reg_jobs.specs.Failing.{IsOpening};
-ghost use Rattle.reg_jobs.specs.Signing.{Follows, IsSigning, identity_told};
+ghost use Rattle.reg_crl.specs.Signing.{Identity};
+ghost use Rattle.reg_jobs.specs.Signing.{EmbedsOwn, Follows, IsSigning, identity_told};
+ghost use Rattle.reg_office.specs.Answering.{answers_by};
 ghost use Rattle.reg_signer.specs.Forms.{identity_of};
 ghost use Rattle.reg_signer.specs.Signed.{IsCrlUnder};
 ghost use Rattle.reg_tables.specs.Shows.{Shows};
 ghost use Rattle.reg_tables.specs.Stays.{IsCallFault, Looked};
 
+use crate::answering::embeds_own;
 use reg_core::Fault;
 use reg_crl::Signer;
 use reg_endings::Failure;
+use reg_office::Responder;
 use reg_signer::{Algorithm, BadSigner, DeviceSigner, KeyOrDigest, SocketDevice, crl_algorithm};
 use reg_store::{Store, StoreFault};
 use reg_words::{KeyHolder, Word};
@@ -24,31 +28,57 @@ use sqlite::Alter;
 /// What holds the key signs, behind a socket of the machine, or a digest seals.
 pub type FileSigner = KeyOrDigest<SocketDevice<HostRuntime>>;
 
-/// Who signs for the register of a store: as it is told; or, where nothing will be signed, as the latest CRL tells, with nobody who
-/// would answer.
+/// Who signs the CRLs of the register of a store: as it is told; or, where nothing will be signed, as the latest CRL tells, with nobody
+/// who would answer, so that a CRL comes to a fault of the signer. A certificate that stands with the answers of the issuer is looked at.
 ///
 /// # Errors
 /// `BadSigner` where the latest CRL is signed under another algorithm, or under one that is not known here, or the issuer's key is
-/// none of the algorithm; `Memory`, `Store`.
+/// none of the algorithm; `BadResponder` where the issuer's certificate has another key; `Memory`, `Store`.
 pub(crate) fn signer_for<C: Alter>(
     rt: &HostRuntime,
     store: &mut Store<C>,
     signing: Option<&Option<KeyHolder<'_>>>,
+    responder: &Responder<FileSigner>,
 ) -> Result<FileSigner, Failure>
     ensures told { IfOk result (λ signer. (records : Records) → Shows C.Store store.old records → HasCleanDisk (state C.Store store.new)
         → IsSigning (option_map (λ told. told.now) signing.entry) records.issuer.key (⟦<FileSigner as Signer>⟧.identity signer)) }
     ensures follows { IfOk result (λ signer. (records : Records) → Shows C.Store store.old records → SoundRows records
         → HasCleanDisk (state C.Store store.new) → Follows records (⟦<FileSigner as Signer>⟧.identity signer).algorithm) }
+    ensures embeds { IfOk result (λ signer. (records : Records) → Shows C.Store store.old records → HasCleanDisk (state C.Store store.new)
+        → (crls : Identity) → EmbedsOwn records.issuer.key (answers_by ⟦<FileSigner as Signer>⟧.identity crls responder.now)) }
     ensures looked { Looked C.Store store.old store.new }
     ensures faults { IfErr result IsOpening }
 {
     let latest = latest_crl(store)?;
     match signing {
-        Some(told) => signer_after(rt, store, &latest, told),
+        Some(told) => signer_after(rt, store, &latest, told, responder),
         None => {
             let told = holder_of(&latest);
-            signer_after(rt, store, &latest, &told)
+            silent_after(rt, store, &latest, &told, responder)
         }
+    }
+}
+
+/// Who would sign as it is told, and does not.
+fn silent_after<C: Alter>(
+    rt: &HostRuntime,
+    store: &mut Store<C>,
+    latest: &Option<Vec<u8>>,
+    told: &Option<KeyHolder<'_>>,
+    responder: &Responder<FileSigner>,
+) -> Result<FileSigner, Failure>
+    ensures told { IfOk result (λ signer. (records : Records) → Shows C.Store store.old records → HasCleanDisk (state C.Store store.new)
+        → ⟦<FileSigner as Signer>⟧.identity signer ≡ identity_told told.now records.issuer.key) }
+    ensures follows { IfOk result (λ signer. (crl : List ℕ) → option_map (λ bytes. bytes.items) latest.now ≡ Some crl
+        → (other : List ℕ) → IsCrlUnder crl other → other ≡ (⟦<FileSigner as Signer>⟧.identity signer).algorithm) }
+    ensures embeds { IfOk result (λ signer. (records : Records) → Shows C.Store store.old records → HasCleanDisk (state C.Store store.new)
+        → (crls : Identity) → EmbedsOwn records.issuer.key (answers_by ⟦<FileSigner as Signer>⟧.identity crls responder.now)) }
+    ensures looked { Looked C.Store store.old store.new }
+    ensures faults { IfErr result IsOpening }
+{
+    match signer_after(rt, store, latest, told, responder) {
+        Ok(signer) => Ok(signer.silent()),
+        Err(why) => Err(why),
     }
 }
 
@@ -69,15 +99,21 @@ fn signer_after<C: Alter>(
     store: &mut Store<C>,
     latest: &Option<Vec<u8>>,
     told: &Option<KeyHolder<'_>>,
+    responder: &Responder<FileSigner>,
 ) -> Result<FileSigner, Failure>
     ensures told { IfOk result (λ signer. (records : Records) → Shows C.Store store.old records → HasCleanDisk (state C.Store store.new)
         → ⟦<FileSigner as Signer>⟧.identity signer ≡ identity_told told.now records.issuer.key) }
     ensures follows { IfOk result (λ signer. (crl : List ℕ) → option_map (λ bytes. bytes.items) latest.now ≡ Some crl
         → (other : List ℕ) → IsCrlUnder crl other → other ≡ (⟦<FileSigner as Signer>⟧.identity signer).algorithm) }
+    ensures embeds { IfOk result (λ signer. (records : Records) → Shows C.Store store.old records → HasCleanDisk (state C.Store store.new)
+        → (crls : Identity) → EmbedsOwn records.issuer.key (answers_by ⟦<FileSigner as Signer>⟧.identity crls responder.now)) }
     ensures looked { Looked C.Store store.old store.new }
     ensures faults { IfErr result IsOpening }
 {
     let issuer = store.issuer()?;
+    if !embeds_own(responder, issuer.key()) {
+        return Err(Failure::BadResponder);
+    }
     let signer = signer_told(rt, told, issuer.key())?;
     if !follows(latest, signer.algorithm()) {
         return Err(Failure::BadSigner);
@@ -101,7 +137,7 @@ fn signer_told(
 }
 
 /// What holds a key behind a socket, as who signs.
-fn key_signer(
+pub(crate) fn key_signer(
     rt: &HostRuntime,
     socket: &str,
     algorithm: Algorithm,

@@ -52,15 +52,21 @@ import_app = with_rules (new_app (codes "import")) (must (codes "file") ∷ need
 abbrev pub crl_app : App
 crl_app = with_rules (new_app (codes "crl")) (must (codes "file") ∷ takes (codes "number") ∷ flag (codes "why") ∷ [])
 
--- `serve FILE --port N --requests N [--signer SOCKET --algorithm NAME] [--log] [--why]`
+-- `serve FILE --port N --requests N [--signer SOCKET --algorithm NAME]
+-- [--responder CERTIFICATE --responder-signer SOCKET --responder-algorithm NAME | --embed CERTIFICATE] [--log] [--why]`
 abbrev pub serve_app : App
 serve_app = with_rules (new_app (codes "serve"))
-    (must (codes "file") ∷ needs (codes "port") ∷ needs (codes "requests") ∷ takes (codes "signer") ∷ takes (codes "algorithm") ∷ flag (codes "log") ∷ flag (codes "why") ∷ [])
+    (must (codes "file") ∷ needs (codes "port") ∷ needs (codes "requests") ∷ takes (codes "signer") ∷ takes (codes "algorithm")
+    ∷ takes (codes "responder") ∷ takes (codes "responder-signer") ∷ takes (codes "responder-algorithm") ∷ takes (codes "embed")
+    ∷ flag (codes "log") ∷ flag (codes "why") ∷ [])
 
--- `open FILE --port N --counter SOCKET [--signer SOCKET --algorithm NAME] [--log] [--why]`
+-- `open FILE --port N --counter SOCKET [--signer SOCKET --algorithm NAME]
+-- [--responder CERTIFICATE --responder-signer SOCKET --responder-algorithm NAME | --embed CERTIFICATE] [--log] [--why]`
 abbrev pub open_app : App
 open_app = with_rules (new_app (codes "open"))
-    (must (codes "file") ∷ needs (codes "port") ∷ needs (codes "counter") ∷ takes (codes "signer") ∷ takes (codes "algorithm") ∷ flag (codes "log") ∷ flag (codes "why") ∷ [])
+    (must (codes "file") ∷ needs (codes "port") ∷ needs (codes "counter") ∷ takes (codes "signer") ∷ takes (codes "algorithm")
+    ∷ takes (codes "responder") ∷ takes (codes "responder-signer") ∷ takes (codes "responder-algorithm") ∷ takes (codes "embed")
+    ∷ flag (codes "log") ∷ flag (codes "why") ∷ [])
 
 -- `at SOCKET [--why]`
 abbrev pub at_app : App

@@ -8,6 +8,8 @@ use Rattle.reg_core.specs.Number.{number_of}
 use Rattle.reg_words.specs.Desk.{desk_app}
 use Rattle.reg_words.specs.Values.{moment_of, steps_of, within}
 use Rattle.reg_signer.specs.Algorithms.{algorithm_named}
+use Rattle.reg_words.specs.declared.job.Answerer.{Answerer}
+use Rattle.reg_words.specs.declared.job.Answerer.TheVariants.{Issuer, Delegate}
 use Rattle.reg_words.specs.declared.job.Job.{Job}
 use Rattle.reg_words.specs.declared.job.Job.TheVariants.{Init, Script, Lines, Import, Crl, Serve, Open, At, Schedule, Audit}
 use Rattle.reg_words.specs.declared.job.KeyHolder.{KeyHolder}
@@ -42,9 +44,28 @@ holder_told (Some socket) None = None
 holder_told None (Some name) = None
 holder_told None None = Some None
 
+-- the same by the ids of the two options
+abbrev pub holder_by_options : Text → Text → List Row → Option (Option KeyHolder)
+holder_by_options socket algorithm rows = holder_told (first_of socket rows) (first_of algorithm rows)
+
 -- what holds the key, if it is told
 abbrev pub holder_in : List Row → Option (Option KeyHolder)
-holder_in rows = holder_told (first_of (codes "signer") rows) (first_of (codes "algorithm") rows)
+holder_in rows = holder_by_options (codes "signer") (codes "algorithm") rows
+
+-- who answers OCSP requests, by the file of a responder's certificate, what holds its key, and the file of a certificate that stands
+-- with the issuer's own answers: a responder is told whole, or not at all, and then the issuer's certificate may be told
+abbrev pub answerer_told : Option Text → Option KeyHolder → Option Text → Option Answerer
+answerer_told (Some certificate) (Some holder) None = Some (Delegate certificate holder)
+answerer_told (Some certificate) (Some holder) (Some embedded) = None
+answerer_told (Some certificate) None embedded = None
+answerer_told None (Some holder) embedded = None
+answerer_told None None embedded = Some (Issuer embedded)
+
+-- who answers OCSP requests, by the words of these options
+unfoldable pub answerer_in : List Row → Option Answerer
+answerer_in rows = do
+  holder ← holder_by_options (codes "responder-signer") (codes "responder-algorithm") rows
+  answerer_told (first_of (codes "responder") rows) holder (first_of (codes "embed") rows)
 
 -- whether an option is given that takes no value
 abbrev pub is_given : Text → List Row → Bool
@@ -100,7 +121,8 @@ serve_of rows = do
   port ← number_in 1 65535 (codes "port") rows
   requests ← number_in 1 1000000 (codes "requests") rows
   signer ← holder_in rows
-  Some (Serve file port requests signer)
+  answerer ← answerer_in rows
+  Some (Serve file port requests signer answerer)
 
 unfoldable pub open_of : List Row → Option Job
 open_of rows = do
@@ -108,7 +130,8 @@ open_of rows = do
   port ← number_in 1 65535 (codes "port") rows
   counter ← first_of (codes "counter") rows
   signer ← holder_in rows
-  Some (Open file port counter signer)
+  answerer ← answerer_in rows
+  Some (Open file port counter signer answerer)
 
 unfoldable pub at_of : List Row → Option Job
 at_of rows = do

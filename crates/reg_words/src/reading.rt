@@ -8,7 +8,7 @@ ghost use Rattle.reg_words.specs.Jobs.{IsNoOrder, IsOrderIn, IsOrderOf, IsUsageO
 use crate::desk::desk;
 use crate::job::{Job, KeyHolder, Order, Usage, Way};
 use crate::values::{
-    is_set, key_holder, moment, number_if_given, number_or, number_within, steps, way_of, word_of,
+    answerer, is_set, key_holder, moment, number_if_given, number_or, number_within, steps, way_of, word_of,
 };
 use crate::word::Word;
 use crate::wrong::{LAST_PORT, MOST_REQUESTS, wrong_text};
@@ -263,6 +263,7 @@ fn read_serve<'a>(given: &ArgMatches<'a>) -> Option<Job<'a>>
         port: port_of(given)?,
         requests: number_within(given, "requests", 1, MOST_REQUESTS)? as u32,
         signer: key_holder(given)?,
+        answerer: answerer(given)?,
     })
 }
 
@@ -275,6 +276,7 @@ fn read_open<'a>(given: &ArgMatches<'a>) -> Option<Job<'a>>
         port: port_of(given)?,
         counter: word_of(given, "counter")?,
         signer: key_holder(given)?,
+        answerer: answerer(given)?,
     })
 }
 

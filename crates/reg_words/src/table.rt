@@ -64,6 +64,14 @@ const SIGNER: &str =
 const ALGORITHM: &str =
     "The algorithm of its signatures: ecdsa-sha256, ecdsa-sha384, rsa-sha256 or ed25519";
 
+const RESPONDER: &str =
+    "The file of the certificate, in DER, by which a key of its own answers OCSP [default: none, and who signs CRLs answers]";
+
+const RESPONDER_SIGNER: &str = "The Unix socket of what holds the responder's key";
+
+const EMBED: &str =
+    "The file of the CA's certificate, in DER, which is put into each OCSP answer [default: none]";
+
 const CLOCK: &str =
     "Lines have no moment: the machine's clock is theirs; wants FILE [default: a line begins with its moment]";
 
@@ -153,6 +161,10 @@ pub(crate) const SERVING: [Entry; 3] = [
             Part::Needs("requests", "N", REQUESTS),
             Part::Takes("signer", "SOCKET", SIGNER),
             Part::Takes("algorithm", "NAME", ALGORITHM),
+            Part::Takes("responder", "CERTIFICATE", RESPONDER),
+            Part::Takes("responder-signer", "SOCKET", RESPONDER_SIGNER),
+            Part::Takes("responder-algorithm", "NAME", ALGORITHM),
+            Part::Takes("embed", "CERTIFICATE", EMBED),
             Part::Flag("log", LOG),
             Part::Flag("why", CAUSE),
         ],
@@ -167,6 +179,10 @@ pub(crate) const SERVING: [Entry; 3] = [
             Part::Needs("counter", "SOCKET", COUNTER),
             Part::Takes("signer", "SOCKET", SIGNER),
             Part::Takes("algorithm", "NAME", ALGORITHM),
+            Part::Takes("responder", "CERTIFICATE", RESPONDER),
+            Part::Takes("responder-signer", "SOCKET", RESPONDER_SIGNER),
+            Part::Takes("responder-algorithm", "NAME", ALGORITHM),
+            Part::Takes("embed", "CERTIFICATE", EMBED),
             Part::Flag("log", LOG),
             Part::Flag("why", CAUSE),
         ],

@@ -3,10 +3,10 @@
 ghost use Rattle.std.specs.Prelude.{◌≡◌, ◌≤◌, IfOk, IfSome, List, ℕ, map, option_and_then, option_map};
 ghost use Rattle.reg_core.specs.Number.{number_of};
 ghost use Rattle.clap.specs.Words.{all_of, first_of, found_of, rows_of};
-ghost use Rattle.reg_words.specs.Jobs.{given, given_or, holder_in, is_given, number_in, way_in};
+ghost use Rattle.reg_words.specs.Jobs.{answerer_in, answerer_told, given, given_or, holder_by_options, holder_in, is_given, number_in, way_in};
 ghost use Rattle.reg_words.specs.Values.{moment_of, step_of, steps_of, within};
 
-use crate::job::{KeyHolder, Way};
+use crate::job::{Answerer, KeyHolder, Way};
 use crate::word::{Steps, Word};
 use clap::ArgMatches;
 use reg_core::{Moment, read_number};
@@ -76,7 +76,47 @@ pub(crate) fn moment(matches: &ArgMatches<'_>, id: &str) -> Option<Moment>
 pub(crate) fn key_holder<'a>(matches: &ArgMatches<'a>) -> Option<Option<KeyHolder<'a>>>
     ensures { result ≡ holder_in (rows_of (found_of matches.now)) }
 {
-    match (word_of(matches, "signer"), text_of(matches, "algorithm")) {
+    holder_by(matches, "signer", "algorithm")
+}
+
+/// Who answers OCSP requests; `None` where an option of a responder is given without the others, no algorithm has the name, or
+/// `--embed` is given beside them.
+#[tactic(auto, unfolding(crate::specs::Jobs::answerer_in))]
+pub(crate) fn answerer<'a>(matches: &ArgMatches<'a>) -> Option<Answerer<'a>>
+    ensures { result ≡ answerer_in (rows_of (found_of matches.now)) }
+{
+    let holder = holder_by(matches, "responder-signer", "responder-algorithm")?;
+    let embedded = word_of(matches, "embed");
+    answerer_of(word_of(matches, "responder"), holder, embedded)
+}
+
+/// Who answers, by the paths of both certificates and what holds the responder's key.
+fn answerer_of<'a>(
+    responder: Option<Word<'a>>,
+    holder: Option<KeyHolder<'a>>,
+    embedded: Option<Word<'a>>,
+) -> Option<Answerer<'a>>
+    ensures { result ≡ answerer_told responder.entry holder.entry embedded.entry }
+{
+    match (responder, holder, embedded) {
+        (Some(certificate), Some(holder), None) => Some(Answerer::Delegate {
+            certificate,
+            holder,
+        }),
+        (None, None, certificate) => Some(Answerer::Issuer { certificate }),
+        _ => None,
+    }
+}
+
+/// What holds a key, by the ids of its two options.
+fn holder_by<'a>(
+    matches: &ArgMatches<'a>,
+    socket: &str,
+    algorithm: &str,
+) -> Option<Option<KeyHolder<'a>>>
+    ensures { result ≡ holder_by_options socket.now algorithm.now (rows_of (found_of matches.now)) }
+{
+    match (word_of(matches, socket), text_of(matches, algorithm)) {
         (Some(socket), Some(name)) => {
             let algorithm = Algorithm::read(name)?;
             Some(Some(KeyHolder { socket, algorithm }))
