@@ -10,6 +10,8 @@ SERVE, OPEN = ("serve", "none.db"), ("open", "none.db", "--counter", "S")
 SCHEDULE, FIRST_STEP = ("schedule", "none.db"), "1970-01-01T00:00:00Z=398"
 # A socket and an algorithm.
 BOTH = "--signer and --algorithm are given both or neither, and an algorithm is ecdsa-sha256, ecdsa-sha384, rsa-sha256 or ed25519"
+TOGETHER = "--responder, --responder-signer and --responder-algorithm are given together, without --embed; an algorithm is"
+RESPONDER_HELP = ("--responder <CERT>", "--responder-signer <SOCKET>", "--responder-algorithm <NAME>", "--embed <CERT>")
 NUMBER, RANGE = "a number is 1 to 18 digits", "within the range"
 MOMENT, STEP = "a moment is written as", "a step is written as"
 
@@ -138,8 +140,24 @@ def a_socket_and_a_known_algorithm_are_given_both_or_neither(t, words, named):
     t.has(told, f"{named}: {BOTH}")
 
 
+RESPONDER = ("--responder=r.der", "--responder-signer=r.sign", "--responder-algorithm=ed25519")
+
+
+@each({
+    "its certificate alone": (RESPONDER[:1], "'r.der' for '--responder'"),
+    "without what holds its key": (RESPONDER[::2], "'ed25519' for '--responder-algorithm'"),
+    "without an algorithm": (RESPONDER[:2], "'r.sign' for '--responder-signer'"),
+    "without its certificate": (RESPONDER[1:], "'ed25519' for '--responder-algorithm'"),
+    "with another algorithm": ((*RESPONDER[:2], "--responder-algorithm=ed448"), "'ed448' for '--responder-algorithm'"),
+    "with the CA's certificate beside it": ((*RESPONDER, "--embed=ca.der"), "'ed25519' for '--responder-algorithm'"),
+})
+def a_responder_is_told_whole(t, words, named):
+    for command in (SERVED, (*OPEN, "--port=80")):
+        t.has(refused(t, *command, *words), f"{named}: {TOGETHER}")
+
+
 @each({" ".join(it): it for it in (
-    ("import", "--signer=ca.sign"), ("crl", "--algorithm=ed25519"), ("schedule", "--signer=ca.sign"), ("import", "--clock"), ("import", "--strict"),
+    ("import", "--signer=ca.sign"), ("script", "--embed=ca.der"), ("script", "--responder=r.der"), ("crl", "--embed=ca.der"), ("crl", "--algorithm=ed25519"), ("schedule", "--signer=ca.sign"), ("import", "--clock"), ("import", "--strict"),
     ("crl", "--log"), ("script", "--log"), ("at", "--log"), ("audit", "--log"),
 )})
 def an_option_of_another_command_is_unexpected(t, command, option):
@@ -173,8 +191,8 @@ HELPED = {
     "script --help": ("[FILE]", "--signer <SOCKET>", "--algorithm <NAME>", "--clock", "--strict", "--why", "desk script ca.db"),
     "import --help": ("<FILE>", "--now <MOMENT>", "--why"),
     "crl --help": ("<FILE>", "--number <N>", "--why"),
-    "serve --help": ("<FILE>", "--port <N>", "--requests <N>", "--signer <SOCKET>", "--algorithm <NAME>", "--log", "--why"),
-    "open --help": ("<FILE>", "--port <N>", "--counter <SOCKET>", "--signer <SOCKET>", "--algorithm <NAME>", "--log", "--why"),
+    "serve --help": ("<FILE>", "--port <N>", "--requests <N>", "--signer <SOCKET>", "--algorithm <NAME>", *RESPONDER_HELP, "--log", "--why"),
+    "open --help": ("<FILE>", "--port <N>", "--counter <SOCKET>", "--signer <SOCKET>", "--algorithm <NAME>", *RESPONDER_HELP, "--log", "--why"),
     "at --help": ("<SOCKET>", "--why", "desk at ca.counter"),
     "schedule F --help": ("<FILE>", "<MOMENT=DAYS>...", "--why"),
     "audit --help": ("<FILE>", "--why", "desk audit ca.db"),

@@ -1,5 +1,5 @@
 -- OCSP responses (RFC 6960 4.2.1) as functions of their parts.
-use Rattle.std.specs.Prelude.{ℕ, ◌==◌, if◌then◌else◌, List, [], ◌∷◌, ◌++◌, Option, Some, None}
+use Rattle.std.specs.Prelude.{ℕ, ◌+◌, ◌==◌, length, if◌then◌else◌, List, [], ◌∷◌, ◌++◌, Option, Some, None}
 use Rattle.std.specs.List.{flat_map}
 use Rattle.sha1.specs.Sha1.{sha1}
 use Rattle.reg_core.specs.declared.command.Status.{Status}
@@ -55,6 +55,11 @@ response_data key now next answers nonce =
 abbrev pub certs_part : Option (List ℕ) → List ℕ
 certs_part None = []
 certs_part (Some certificate) = tlv 0xA0 (tlv 0x30 certificate)
+
+-- how many bytes that has at most
+abbrev pub certs_room : Option (List ℕ) → ℕ
+certs_room None = 0
+certs_room (Some certificate) = length certificate + 12
 
 -- BasicOCSPResponse ::= SEQUENCE { tbsResponseData, signatureAlgorithm, signature BIT STRING, certs }
 unfoldable pub basic_response : List ℕ → List ℕ → List ℕ → Option (List ℕ) → List ℕ

@@ -64,8 +64,9 @@ impl Certificate {
         ensures der { IfOk result (λ it. it.der ≡ der.now) }
         ensures bad { IsErrOf result CertificateFault.Bad → (algorithm key : List ℕ) → ¬ (IsCertificateOf der.now algorithm key) }
     {
-        let Some(certified) = certified_key(der) else {
-            return Err(CertificateFault::Bad);
+        let certified = match certified_key(der) {
+            Some(certified) => certified,
+            None => return Err(CertificateFault::Bad),
         };
         let algorithm = Vec::from_slice(alloc, certified.algorithm)?;
         let key = Vec::from_slice(alloc, certified.key)?;
@@ -179,7 +180,7 @@ fn used(contents: &[u8]) -> Option<&[u8]>
     ensures { Gives (λ x. x.now) result (no_unused contents.now) }
 {
     match contents {
-        [0, bits @ ..] => Some(bits),
+        [unused, bits @ ..] if *unused == 0 => Some(bits),
         _ => None,
     }
 }

@@ -3,7 +3,7 @@
 ghost use Rattle.std.specs.Prelude.{◌≡◌, ◌+◌, ◌*◌, ◌^◌, ◌++◌, ◌<◌, ◌≤◌, ◌%◌, length, None, IfOk, OnOk, IfSome, option_copied, sum_by};
 ghost use Rattle.std.specs.List.{flat_map};
 ghost use Rattle.reg_der.specs.Der.{tlv};
-ghost use Rattle.reg_ocsp.specs.Response.{basic_response, cert_status, certs_part, ocsp_response, reason_part, refusal_response, single_response};
+ghost use Rattle.reg_ocsp.specs.Response.{basic_response, cert_status, certs_part, certs_room, ocsp_response, reason_part, refusal_response, single_response};
 ghost use Rattle.reg_ocsp.specs.Response as spec;
 ghost use Rattle.reg_ocsp.specs.Request.{CanBeAnswered};
 ghost use Rattle.reg_ocsp.specs.Views.{answer_seen, answers_seen, answered, answered_length, ids_seen};
@@ -130,7 +130,7 @@ pub fn basic_with(
     requires short_certificate { IfSome (option_copied certificate) (λ bytes. length bytes ≤ 65536) }
     ensures response { IfOk result (λ v. v.items ≡ ocsp_response signed.now algorithm.now signature.now (option_copied certificate.entry)) }
     ensures longer { IfOk result (λ v. length v.items
-        ≤ length signed.now + length algorithm.now + length signature.now + length (certs_part (option_copied certificate.entry)) + 64) }
+        ≤ length signed.now + length algorithm.now + length signature.now + certs_room (option_copied certificate.entry) + 64) }
 {
     let basic = basic_value(alloc, signed, algorithm, signature, certificate)?;
     let mut bytes = Vec::new(alloc);
@@ -159,7 +159,8 @@ fn basic_value(
     requires short_certificate { IfSome (option_copied certificate) (λ bytes. length bytes ≤ 65536) }
     ensures value { IfOk result (λ v. v.items ≡ basic_response signed.now algorithm.now signature.now (option_copied certificate.entry)) }
     ensures longer { IfOk result (λ v. length v.items
-        ≤ length signed.now + length algorithm.now + length signature.now + length (certs_part (option_copied certificate.entry)) + 13) }
+        ≤ length signed.now + length algorithm.now + length signature.now + certs_room (option_copied certificate.entry) + 13) }
+    ensures bounded { IfOk result (λ v. length v.items ≤ 2 ^ 28) }
 {
     let mut parts = Vec::new(alloc);
     append(&mut parts, signed)?;
@@ -177,7 +178,8 @@ fn put_certificate(
 ) -> Result<(), Memory>
     requires { IfSome (option_copied certificate) (λ bytes. length bytes ≤ 65536) }
     ensures ok { OnOk result (out.new.items ≡ out.old.items ++ certs_part (option_copied certificate.entry)) }
-    ensures short { length (certs_part (option_copied certificate.entry)) ≤ 65548 }
+    ensures longer { OnOk result (length out.new.items ≤ length out.old.items + certs_room (option_copied certificate.entry)) }
+    ensures bounded { OnOk result (length out.new.items ≤ length out.old.items + 65548) }
 {
     let Some(bytes) = certificate else {
         return Ok(());

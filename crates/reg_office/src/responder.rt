@@ -30,11 +30,16 @@ pub(crate) fn of_issuer(certificate: &Option<Certificate>) -> Naming<'_>
 {
     Naming {
         own_key: None,
-        certificate: match certificate {
-            Some(certificate) => Some(certificate.der()),
-            None => None,
-        },
+        certificate: der_of(certificate),
     }
+}
+
+/// The DER of a certificate, where there is one.
+fn der_of(certificate: &Option<Certificate>) -> Option<&[u8]>
+    ensures der { option_copied result ≡ option_map (λ it. it.der) certificate.now }
+    ensures short { IfSome (option_copied result) (λ bytes. length bytes ≤ 65536) }
+{
+    Some(certificate.as_ref()?.der())
 }
 
 /// What answers have of one who has a certificate of its own.

@@ -1,6 +1,6 @@
 //! Registers in files: made, opened and closed.
 
-ghost use Rattle.std.specs.Prelude.{◌≡◌, ◌≤◌, ◌⊎◌, Some, false, IfOk, IfErr, IsFalse, IsTrue, MatchResult, OnErr, option_map};
+ghost use Rattle.std.specs.Prelude.{◌≡◌, ◌≤◌, ◌⊎◌, None, Some, false, IfOk, IfErr, IsFalse, IsTrue, MatchBool, MatchResult, OnErr, option_map};
 ghost use Rattle.sqlite.specs.Files.{file_state, over_files, IsOpened};
 ghost use Rattle.sqlite.specs.Held.{state, IsNew};
 ghost use Rattle.sqlite.specs.State.{HasCleanDisk};
@@ -11,7 +11,7 @@ ghost use Rattle.reg_migration.specs.Older.{ShowsOlder};
 ghost use Rattle.reg_migration.specs.declared.version.Earlier.{Earlier};
 ghost use Rattle.reg_jobs.specs.Failing.{IsMaking, IsOpening};
 ghost use Rattle.reg_program.specs.Files.{IsAudited, IsOpenedFor, IsOpenedFrom, IsMadeFrom, Showed};
-ghost use Rattle.reg_jobs.specs.Signing.{EmbedsOwn, Follows, IsSigning};
+ghost use Rattle.reg_jobs.specs.Signing.{EmbedsOwn, Follows, IsSigning, crls_told};
 ghost use Rattle.reg_calls.specs.Leads.{Leads};
 ghost use Rattle.reg_jobs.specs.Schedules.{Reschedules};
 ghost use Rattle.reg_office.specs.Answering.{answers_by, signatory_of};
@@ -195,9 +195,19 @@ fn open_told(
     ensures err { IfErr result IsOpening }
 {
     let responder = responder_told(machine, answerer)?;
-    match (signer, answerer) {
-        (None, Answerer::Delegate { .. }) => open_register(machine, path, None, responder),
-        _ => open_register(machine, path, Some(signer), responder),
+    if is_silent(signer, answerer) {
+        return open_register(machine, path, None, responder);
+    }
+    open_register(machine, path, Some(signer), responder)
+}
+
+/// Whether nobody signs CRLs: a responder answers, and nothing holds the issuer's key.
+fn is_silent(signer: &Option<KeyHolder<'_>>, answerer: &Answerer<'_>) -> bool
+    ensures { MatchBool result (crls_told (Some (signer.now, answerer.now)) ≡ None) (crls_told (Some (signer.now, answerer.now)) ≡ Some signer.now) }
+{
+    match answerer {
+        Answerer::Issuer { .. } => false,
+        Answerer::Delegate { .. } => signer.is_none(),
     }
 }
 

@@ -53,7 +53,7 @@ abbrev pub crl_app : App
 crl_app = with_rules (new_app (codes "crl")) (must (codes "file") ∷ takes (codes "number") ∷ flag (codes "why") ∷ [])
 
 -- `serve FILE --port N --requests N [--signer SOCKET --algorithm NAME]
--- [--responder CERTIFICATE --responder-signer SOCKET --responder-algorithm NAME | --embed CERTIFICATE] [--log] [--why]`
+-- [--responder CERT --responder-signer SOCKET --responder-algorithm NAME | --embed CERT] [--log] [--why]`
 abbrev pub serve_app : App
 serve_app = with_rules (new_app (codes "serve"))
     (must (codes "file") ∷ needs (codes "port") ∷ needs (codes "requests") ∷ takes (codes "signer") ∷ takes (codes "algorithm")
@@ -61,7 +61,7 @@ serve_app = with_rules (new_app (codes "serve"))
     ∷ flag (codes "log") ∷ flag (codes "why") ∷ [])
 
 -- `open FILE --port N --counter SOCKET [--signer SOCKET --algorithm NAME]
--- [--responder CERTIFICATE --responder-signer SOCKET --responder-algorithm NAME | --embed CERTIFICATE] [--log] [--why]`
+-- [--responder CERT --responder-signer SOCKET --responder-algorithm NAME | --embed CERT] [--log] [--why]`
 abbrev pub open_app : App
 open_app = with_rules (new_app (codes "open"))
     (must (codes "file") ∷ needs (codes "port") ∷ needs (codes "counter") ∷ takes (codes "signer") ∷ takes (codes "algorithm")
