@@ -17,6 +17,4 @@ pub use certificate::{Certificate, CertificateFault, CertifiedKey, certified_key
 pub use fault::AskFault;
 pub use matching::matches;
 pub use reading::read_request;
-pub use response::{
-    RefusalStatus, basic, basic_with, refusal, response_data, response_data_by,
-};
+pub use response::{RefusalStatus, basic, basic_with, refusal, response_data, response_data_by};

@@ -175,14 +175,7 @@ fn data_at<C: Alter>(
 {
     let answers = answers(alloc, store, issuer, now, &asked.ids)?;
     let key = key_of(own_key, issuer);
-    Ok(response_data_by(
-        alloc,
-        key,
-        now,
-        next,
-        &answers,
-        asked.nonce,
-    )?)
+    Ok(response_data_by(alloc, key, now, next, &answers, asked.nonce)?)
 }
 
 /// The key by which who answers is named: its own, or the issuer's.

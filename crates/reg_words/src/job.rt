@@ -20,7 +20,9 @@ pub struct KeyHolder<'a> {
 #[derive(Drop)]
 pub enum Answerer<'a> {
     /// Who signs its CRLs. A certificate stands with each answer, where the path of the file that has it is told.
-    Issuer { certificate: Option<Word<'a>> },
+    Issuer {
+        certificate: Option<Word<'a>>,
+    },
     /// What holds a key of its own, by the certificate in the file at a path, which stands with each answer (RFC 6960 4.2.2.2).
     Delegate {
         certificate: Word<'a>,

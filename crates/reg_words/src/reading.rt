@@ -8,7 +8,8 @@ ghost use Rattle.reg_words.specs.Jobs.{IsNoOrder, IsOrderIn, IsOrderOf, IsUsageO
 use crate::desk::desk;
 use crate::job::{Job, KeyHolder, Order, Usage, Way};
 use crate::values::{
-    answerer, is_set, key_holder, moment, number_if_given, number_or, number_within, steps, way_of, word_of,
+    answerer, is_set, key_holder, moment, number_if_given, number_or, number_within, steps, way_of,
+    word_of,
 };
 use crate::word::Word;
 use crate::wrong::{LAST_PORT, MOST_REQUESTS, wrong_text};
