@@ -98,13 +98,21 @@ fn answerer_of<'a>(
 ) -> Option<Answerer<'a>>
     ensures { result ≡ answerer_told responder.entry holder.entry embedded.entry }
 {
-    match (responder, holder, embedded) {
-        (Some(certificate), Some(holder), None) => Some(Answerer::Delegate {
-            certificate,
-            holder,
+    match (responder, holder) {
+        (Some(certificate), Some(holder)) => {
+            if embedded.is_some() {
+                return None;
+            }
+            Some(Answerer::Delegate {
+                certificate,
+                holder,
+            })
+        }
+        (None, None) => Some(Answerer::Issuer {
+            certificate: embedded,
         }),
-        (None, None, certificate) => Some(Answerer::Issuer { certificate }),
-        _ => None,
+        (Some(_), None) => None,
+        (None, Some(_)) => None,
     }
 }
 
