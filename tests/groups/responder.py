@@ -284,17 +284,25 @@ def a_certificate_that_can_t_be_used(t):
 # The clients
 
 
+def leaf(t, it, name, serial, more=""):
+    """A certificate of a server, by the CA: NAME.pem and NAME.key."""
+    (t.room / f"{name}.conf").write_text(f"subjectAltName=DNS:localhost,IP:127.0.0.1\n{more}")
+    t.tool("openssl", "req", "-new", "-newkey", *KEYS["ecdsa-sha256"], "-nodes", "-keyout", f"{name}.key", "-out", f"{name}.csr", "-subj", f"/CN={name}")
+    t.tool("openssl", "x509", "-req", "-in", f"{name}.csr", "-CA", it.pem, "-CAkey", it.key, "-set_serial", serial, "-days", 60,
+           "-extfile", f"{name}.conf", "-out", f"{name}.pem")
+
+
+LEAVES = (("good", 6), ("revoked", 5))
+
+
 def checked(t, it):
     """A leaf of the CA for each status, and the words that start each form of a desk over its register."""
     responder = Responder(it)
     der_of(t, "ca")
     it.signer()
     responder.signer()
-    for name, serial in (("revoked", 5), ("good", 6)):
-        (t.room / f"{name}.conf").write_text("subjectAltName=DNS:localhost,IP:127.0.0.1\n")
-        t.tool("openssl", "req", "-new", "-newkey", *KEYS["ecdsa-sha256"], "-nodes", "-keyout", f"{name}.key", "-out", f"{name}.csr", "-subj", f"/CN={name}")
-        t.tool("openssl", "x509", "-req", "-in", f"{name}.csr", "-CA", it.pem, "-CAkey", it.key, "-set_serial", serial, "-days", 60,
-               "-extfile", f"{name}.conf", "-out", f"{name}.pem")
+    for name, serial in LEAVES:
+        leaf(t, it, name, serial)
     a_day(t, it, *it.signing())
     return {"a responder": responder.words(), "the CA's certificate": ("--embed", "ca.der")}
 
@@ -346,6 +354,23 @@ def gnutls_takes_both_forms(t, form):
                       "--load-trust", it.pem, "--verify-allow-broken").decode()
         t.has(said, "Verifying OCSP Response: Success", name)
         t.has(said, f"Certificate Status: {told}", name)
+
+
+@each(FORMS, seconds=6)
+def nss_takes_both_forms(t, form):
+    """By the URL in the leaves, with a GET."""
+    need("certutil", "vfychain")
+    it = Authority(t)
+    words = checked(t, it)[form]
+    desk = t.open("ca.db", *it.signing(), *words)
+    (t.room / "nss").mkdir()
+    t.tool("certutil", "-N", "-d", "sql:nss", "--empty-password")
+    t.tool("certutil", "-A", "-d", "sql:nss", "-n", "ca", "-t", "CT,,", "-a", "-i", it.pem)
+    for name, serial in LEAVES:
+        leaf(t, it, name, serial, f"authorityInfoAccess=OCSP;URI:http://127.0.0.1:{desk.port}/ocsp\n")
+        ran = t.tried("vfychain", "-d", "sql:nss", "-pp", "-g", "leaf", "-m", "ocsp", "-s", "requireInfo,failIfNoInfo", "-u", "1", "-a", f"{name}.pem")
+        told = (ran.stdout + ran.stderr).decode()
+        t.same(("Chain is good!" in told, "ERROR -8180: Peer's Certificate has been revoked" in told), (name == "good", name == "revoked"), told)
 
 
 GO = """
