@@ -1,7 +1,7 @@
 -- Certificates: what is read is spelled so, and what is spelled so is read.
-use Rattle.std.proofs.Common.{◌≡◌, ℕ, ◌≤◌, ◌&&◌, true, false, cond, eqb, leb, ltb, List, [], ◌∷◌, ◌++◌, length, Option, Some, None, refl, sym, ap, subst, ◌∙◌, arith}
+use Rattle.std.proofs.Common.{◌≡◌, ℕ, suc, ◌≤◌, ◌&&◌, true, false, cond, eqb, leb, ltb, List, [], ◌∷◌, ◌++◌, length, Option, Some, None, refl, sym, ap, subst, ◌∙◌, arith}
 use Rattle.std.specs.Prelude.{IfSome, option_map}
-use Rattle.std.proofs.lemmas.Bool.{eqb-true, eq-eqb, le-ltb, ltb-false, leb-true}
+use Rattle.std.proofs.lemmas.Bool.{eqb-true, le-ltb, ltb-false}
 use Rattle.std.proofs.lemmas.Bool.Decides.{nat_tests}
 use Rattle.std.proofs.lemmas.List.{length-append}
 use Rattle.reg_core.specs.Integer.{IsBytes}
@@ -225,7 +225,7 @@ part_takes bytes part each e =
     let t3 = whole_takes 0x03 under.1 signed t2.taken.each read_signed in
     let inner : outer ≡ tlv 0x30 first.0 ++ (tlv 0x30 under.0 ++ tlv 0x03 signed) =
     t1.taken.parts ∙ ap (λ (r : List ℕ). tlv 0x30 first.0 ++ r) (t2.taken.parts ∙ ap (λ (r : List ℕ). tlv 0x30 under.0 ++ r) t3.spelled) in
-    let short : length bytes ≤ 65536 = omega (arith, ltb-false 65536 (length bytes) g.0) in
+    let short = ltb-false 65536 (length bytes) g.0 in
     subst (λ (y : List ℕ). TakesPart bytes y) (some_is first.0 part e4)
     (record {
       short = short;
@@ -312,6 +312,7 @@ certificate_reads c is small =
     let part = optional 0xA0 c.version ++ b1 in
     let after = tlv 0x30 c.signed_under ++ tlv 0x03 c.signed in
     let whole = tlv 0x30 part ++ after in
+    let short : length (tlv 0x30 whole) ≤ 65536 = small in
     let l0 = length-append (tlv 0x30 part) after in
     let within : length part ≤ 65536 = omega (arith, (value_size 0x30 whole).least, (value_size 0x30 part).least) in
     let l1 = length-append (optional 0xA0 c.version) b1 in
