@@ -1,6 +1,6 @@
 //! Who signs where there may be a key.
 
-ghost use Rattle.std.specs.Prelude.{◌≡◌, ◌<◌, Some, None, false, true, IfOk, IsErrOf, OnOk};
+ghost use Rattle.std.specs.Prelude.{◌≡◌, ◌<◌, ◌≤◌, Some, None, false, true, IfOk, IsErrOf, OnOk, length};
 ghost use Rattle.sha1.specs.Sha1.{sha1};
 
 use crate::device::Device;
@@ -61,6 +61,7 @@ impl<D: Device + Drop> KeyOrDigest<D> {
     /// Seals by the digest, unless nobody does. A count that can't rise tells no failure any more.
     fn seal(&mut self, alloc: Global, message: &[u8]) -> Result<Vec<u8>, SignFault>
         ensures sealed { IfOk result (λ seal. seal.items ≡ sha1 message.now) }
+        ensures short { IfOk result (λ seal. length seal.items ≤ 65536) }
         ensures device { IsErrOf result SignFault.Device → self.old.failures < self.new.failures }
         ensures exhausted { self.old.failures ≡ u64.MAX → ¬ (IsErrOf result SignFault.Device) }
         ensures memory { IsErrOf result SignFault.Memory → self.new.failures ≡ self.old.failures }
