@@ -19,9 +19,12 @@ use Rattle.reg_laws.proofs.Runs.{created_sound}
 use Rattle.reg_office.specs.Stands.{Stands}
 use Rattle.reg_tables.specs.Kept.{ShowsKept}
 use Rattle.reg_tables.specs.Schema.{no_schema}
-use Rattle.reg_program.specs.Files.{IsConnection, IsOpenedFrom, IsMadeFrom, Showed}
+use Rattle.reg_office.specs.Answering.{signatory_of}
+use Rattle.reg_office.specs.declared.responder.Responder.{Responder as Held_by}
+use Rattle.reg_program.specs.Files.{IsConnection, IsOpenedFor, IsOpenedFrom, IsMadeFrom, Showed}
+use Rattle.reg_words.specs.declared.job.Answerer.{Answerer}
 use Rattle.reg_calls.specs.Signatories.{Signatory}
-use Rattle.reg_jobs.specs.Signing.{EmbedsOwn, Follows, IsSigning, OfCrls}
+use Rattle.reg_jobs.specs.Signing.{EmbedsOwn, Follows, IsAnswering, IsSigning, OfCrls, Signing, answerer_told, crls_told}
 
 -- the records of one that was made
 pub made_stands : {C : Type 0} (g : Ghosts C) (signs : Identity → List ℕ → List ℕ → Type 0) (identity : Identity) (store register : Held C)
@@ -125,3 +128,25 @@ module _ {D : Type 0} {g : disk.Ghosts D} {O L : Type 0} (store : O → Held (Fi
           → IfOk r (λ office. IsMadeFrom (store office))
       go (Ok office) empty clean = record { connection = connection; connects = connects; empty = empty; clean = clean }
       go (Err left) empty clean = tt
+
+-- what was opened for signatures of CRLs, and is answered in as it was told
+module _ {D : Type 0} {g : disk.Ghosts D} {O : Type 0} (store : O → Held (FileStore D g)) (who : O → Signatory) (signing : Signing) where
+  pub opened_for : (crls : OfCrls) (result : Result O Failure) → crls_told signing ≡ crls
+      → IfOk result (λ office. IsOpenedFrom crls (store office) (who office))
+      → IfOk result (λ office. IsAnswering (answerer_told signing) (who office))
+      → IfOk result (λ office. IsOpenedFor signing (store office) (who office))
+  opened_for crls (Ok office) is opened answers = record {
+    opened = subst (λ (c : OfCrls). IsOpenedFrom c (store office) (who office)) (sym is) opened;
+    answers = answers;
+  }
+  opened_for crls (Err why) is opened answers = tt
+
+-- who answers in it is the one that was read, whoever signs CRLs
+pub answers_as : {O S : Type 0} (identity : S → Identity) (signer : O → S) (responder : O → Held_by S) (answerer : Answerer) (read : Held_by S)
+    (result : Result O Failure)
+    → IfOk result (λ office. responder office ≡ read)
+    → ((crls : Identity) → IsAnswering answerer (signatory_of identity crls read))
+    → IfOk result (λ office. IsAnswering answerer (signatory_of identity (identity (signer office)) (responder office)))
+answers_as {S = S} identity signer responder answerer read (Ok office) same answers =
+    subst (λ (r : Held_by S). IsAnswering answerer (signatory_of identity (identity (signer office)) r)) (sym same) (answers (identity (signer office)))
+answers_as identity signer responder answerer read (Err why) same answers = tt
