@@ -19,7 +19,11 @@ It is let through exactly in the form in which the desk writes it, in DER (X.690
 
 It knows no register. Who reaches the socket can still have a CRL signed with no entry in it, and a revoked certificate told good.
 
-Usage: examples/only_ours.py CA.pem COMMAND WORD ..
+Before a responder's key (RFC 6960 4.2.2.2) it lets through the answers of that responder about the CA's certificates, and no CRL:
+
+    examples/only_ours.py --responder responder.pem ca.pem openssl dgst -sha256 -sign responder.key
+
+Usage: examples/only_ours.py [--responder RESPONDER.pem] CA.pem COMMAND WORD ..
 """
 import base64
 import hashlib
@@ -289,9 +293,9 @@ def read_nonce(part):
     extension.ended()
 
 
-def read_answer(part, issuer):
+def read_answer(part, issuer, responder):
     """The contents of a ResponseData (RFC 6960 4.2.1)."""
-    part.same(b"\xA2\x16\x04\x14" + issuer.key_hash, "responder by the hash of the issuer's key")
+    part.same(b"\xA2\x16\x04\x14" + responder.key_hash, "responder by the hash of its key")
     part.fits(GENERAL_MOMENT, "producedAt")
     answers = part.inside(SEQUENCE)
     read_single(answers.inside(SEQUENCE), issuer)
@@ -302,32 +306,42 @@ def read_answer(part, issuer):
     part.ended()
 
 
-def check(message, issuer):
-    """Refuses all but a CRL and an answer of OCSP of this issuer."""
+def check(message, issuer, responder=None):
+    """Refuses all but a CRL and an answer of OCSP of this issuer; before a responder's key all but its answers."""
     outer = Part(message)
     part = outer.inside(SEQUENCE)
     outer.ended()
     # A TBSCertList begins with its version, a TBSCertificate of version 1 with its serial number, which its validity tells from the moments here.
     if part.next_is(INTEGER):
+        if responder:
+            raise Refused("a responder signs no CRL")
         read_crl(part, issuer)
     else:
-        read_answer(part, issuer)
+        read_answer(part, issuer, responder or issuer)
+
+
+def read_certificate(path, whose="CA"):
+    """What a certificate says of whose it is, or the end."""
+    try:
+        return issuer_of(path)
+    except (OSError, ValueError, Refused) as why:
+        sys.exit(f"{path}: no certificate of a {whose}: {why}")
 
 
 def main():
-    if len(sys.argv) < 3:
+    words, responder = sys.argv[1:], None
+    if words[:1] == ["--responder"] and len(words) > 1:
+        responder, words = read_certificate(words[1], "responder"), words[2:]
+    if len(words) < 2:
         print(__doc__, file=sys.stderr)
         sys.exit(2)
-    try:
-        issuer = issuer_of(sys.argv[1])
-    except (OSError, ValueError, Refused) as why:
-        sys.exit(f"{sys.argv[1]}: no certificate of a CA: {why}")
+    issuer = read_certificate(words[0])
     message = sys.stdin.buffer.read(LONGEST + 1)
     try:
-        check(message, issuer)
+        check(message, issuer, responder)
     except Refused as why:
         sys.exit(f"refused to have {len(message)} bytes signed: {why}")
-    sys.exit(subprocess.run(sys.argv[2:], input=message, check=False).returncode)
+    sys.exit(subprocess.run(words[1:], input=message, check=False).returncode)
 
 
 if __name__ == "__main__":

@@ -8,7 +8,7 @@ use Rattle.reg_core.specs.Records.{Records, no_records}
 use Rattle.reg_core.specs.Schedule.{IsSchedule}
 use Rattle.reg_core.specs.declared.refusal.Fault.{Fault}
 use Rattle.reg_core.specs.declared.refusal.Fault.TheVariants as fault
-use Rattle.reg_crl.specs.Signing.{Identity}
+use Rattle.reg_calls.specs.Signatories.{Signatory}
 use Rattle.reg_faces.specs.Faces.{Lines}
 use Rattle.reg_calls.specs.Steps.{Crls}
 use Rattle.reg_calls.specs.declared.keeper.Keeper.{Ghosts as Keeper}
@@ -27,19 +27,20 @@ use Rattle.reg_findings.specs.declared.verdict.Verdict.{Verdict}
 use Rattle.reg_findings.specs.declared.verdict.Verdict.TheVariants as verdict
 use Rattle.reg_wire.specs.Put.{AppendsFront}
 use Rattle.reg_wire.specs.Run.{Answered}
+use Rattle.reg_words.specs.declared.job.Answerer.{Answerer}
 use Rattle.reg_words.specs.declared.job.Job.{Job}
 use Rattle.reg_words.specs.declared.job.KeyHolder.{KeyHolder}
 use Rattle.reg_words.specs.declared.job.Job.TheVariants as job
 use Rattle.reg_words.specs.declared.job.Way.{Way}
 use Rattle.reg_jobs.specs.Asking.{AtCounter}
-use Rattle.reg_jobs.specs.Digest.{digest, digests}
+use Rattle.reg_jobs.specs.Digest.{digest_alone, digests}
 use Rattle.reg_jobs.specs.Failing.{IsMaking}
 use Rattle.reg_jobs.specs.Identifiers.{Identifies}
 use Rattle.reg_jobs.specs.Lined.{LineBy, LinesEnd}
 use Rattle.reg_jobs.specs.Sample.{sample_records}
 use Rattle.reg_jobs.specs.Schedules.{Reschedules}
 use Rattle.reg_jobs.specs.Serving.{OpenedAt, Opens, Serves, ServedAt}
-use Rattle.reg_jobs.specs.Signing.{Signing}
+use Rattle.reg_jobs.specs.Signing.{Signing, by_itself}
 use Rattle.reg_jobs.specs.Visits.{Visits, NotAudited, NotOpened, Makes, NotMade, ending_of}
 use Rattle.reg_jobs.specs.declared.front.Front.{Ghosts as Front}
 use Rattle.reg_jobs.specs.declared.place.Place.{Ghosts as Place}
@@ -141,19 +142,19 @@ module _ {W P K : Type 0} (contents : W → Option (List ℕ)) (writer writer' :
 
     -- HTTP requests over the register at a path (RFC 9112), which is opened before the port is bound: what came of each peer and what
     -- answered it, in this order
-    abbrev pub ServeAt : {F : Type 0} → Front F → List ℕ → Option KeyHolder → ℕ → ℕ → Result (Unit {0}) Failure → Type 0
-    ServeAt front path signer port requests result =
-        (NotOpened places keeper place place' path (Some signer) result × (writer' ≡ writer))
+    abbrev pub ServeAt : {F : Type 0} → Front F → List ℕ → Option KeyHolder → Answerer → ℕ → ℕ → Result (Unit {0}) Failure → Type 0
+    ServeAt front path signer answerer port requests result =
+        (NotOpened places keeper place place' path (Some (signer, answerer)) result × (writer' ≡ writer))
         ⊎ ((inputs : List Input) × (texts : List (List ℕ))
-        × Visits places keeper place place' path (Some signer) (Serves keeper.signs front.told inputs texts)
+        × Visits places keeper place place' path (Some (signer, answerer)) (Serves keeper.signs front.told inputs texts)
         × ServedAt contents writer writer' front.bound port requests inputs result)
 
     -- the same, and lines at a counter, until the program is ended
-    abbrev pub OpenAt : {F : Type 0} → Front F → List ℕ → Option KeyHolder → ℕ → List ℕ → Result (Unit {0}) Failure → Type 0
-    OpenAt front path signer port counter result =
-        (NotOpened places keeper place place' path (Some signer) result × (writer' ≡ writer))
+    abbrev pub OpenAt : {F : Type 0} → Front F → List ℕ → Option KeyHolder → Answerer → ℕ → List ℕ → Result (Unit {0}) Failure → Type 0
+    OpenAt front path signer answerer port counter result =
+        (NotOpened places keeper place place' path (Some (signer, answerer)) result × (writer' ≡ writer))
         ⊎ ((inputs : List Input) × (texts : List (List ℕ))
-        × Visits places keeper place place' path (Some signer) (Opens keeper.signs front.told inputs texts)
+        × Visits places keeper place place' path (Some (signer, answerer)) (Opens keeper.signs front.told inputs texts)
         × OpenedAt contents writer writer' front.bound front.laid port counter inputs result)
 
 -- A job over what is read and what is written: the reader and the writer before it and after it.
@@ -167,26 +168,26 @@ module _ {E W : Type 0} (remaining : E → Option (List ℕ)) (contents : W → 
   ScriptInMemory result =
       ((why : Failure) × (result ≡ Err why) × IsMaking why × IsSilent)
       ⊎ ((ran : Result (Unit {0}) Fault) × (result ≡ ending_of ran) × ((after : Records)
-      × ScriptEnds (Lines digests digest) remaining contents sample_records after reader reader' writer writer' ran))
+      × ScriptEnds (Lines digests digest_alone) remaining contents sample_records after reader reader' writer writer' ran))
 
   module _ {P K : Type 0} (places : Place P K) (keeper : Keeper K) (place place' : P) where
     -- a run over the register at a path: it could not be opened, or the run led from its records to those after it
-    abbrev pub RunsAt : List ℕ → Signing → (Result (Unit {0}) Fault → Identity → Records → Records → Type 0) → Result (Unit {0}) Failure → Type 0
+    abbrev pub RunsAt : List ℕ → Signing → (Result (Unit {0}) Fault → Signatory → Records → Records → Type 0) → Result (Unit {0}) Failure → Type 0
     RunsAt path signing Ran result =
         (NotOpened places keeper place place' path signing result × IsSilent)
         ⊎ ((ran : Result (Unit {0}) Fault) × (result ≡ ending_of ran) × Visits places keeper place place' path signing (Ran ran))
 
     -- a script over the register at a path
     abbrev pub ScriptAt : List ℕ → Option KeyHolder → Result (Unit {0}) Failure → Type 0
-    ScriptAt path signer = RunsAt path (Some signer) (λ ran identity before after.
+    ScriptAt path signer = RunsAt path (Some (signer, by_itself)) (λ ran identity before after.
         ScriptEnds (Lines keeper.signs identity) remaining contents before after reader reader' writer writer' ran)
 
     -- a script over the register at a path, run line by line
     abbrev pub LinesAt : {F : Type 0} → Front F → List ℕ → Option KeyHolder → Way → Result (Unit {0}) Failure → Type 0
     LinesAt front path signer way result =
-        (NotOpened places keeper place place' path (Some signer) result × IsSilent)
+        (NotOpened places keeper place place' path (Some (signer, by_itself)) result × IsSilent)
         ⊎ ((lines : List (List ℕ)) × (replies : List (List ℕ))
-        × Visits places keeper place place' path (Some signer)
+        × Visits places keeper place place' path (Some (signer, by_itself))
         (λ identity before after. Answered (LineBy way.is_clocked keeper.signs front.told identity) before lines replies after)
         × LinesEnd way.is_strict lines replies (remaining reader) (remaining reader') (contents writer) (contents writer') result)
 
@@ -210,9 +211,9 @@ module _ {E W : Type 0} (remaining : E → Option (List ℕ)) (contents : W → 
         (reader' ≡ reader) × ScheduleAt contents writer writer' places keeper place place' file steps result
     Ends front (job.KeyId file key_id) result =
         (reader' ≡ reader) × KeyIdAt contents writer writer' places keeper place place' file key_id result
-    Ends front (job.Serve file port requests signer) result =
-        (reader' ≡ reader) × ServeAt contents writer writer' places keeper place place' front file signer port requests result
-    Ends front (job.Open file port counter signer) result =
-        (reader' ≡ reader) × OpenAt contents writer writer' places keeper place place' front file signer port counter result
+    Ends front (job.Serve file port requests signer answerer) result =
+        (reader' ≡ reader) × ServeAt contents writer writer' places keeper place place' front file signer answerer port requests result
+    Ends front (job.Open file port counter signer answerer) result =
+        (reader' ≡ reader) × OpenAt contents writer writer' places keeper place place' front file signer answerer port counter result
     Ends front (job.Audit file) result = (reader' ≡ reader) × AuditAt contents writer writer' places keeper place place' file result
     Ends front (job.At counter) result = (place' ≡ place) × AtCounter (front.met counter) (contents writer) (contents writer') result

@@ -21,7 +21,7 @@ use reg_endings::{Failure, key_identifier_of, office_of, schedule_of};
 use reg_faces::{import, run_script};
 use reg_findings::{Audited, Broken, OTHER_SCHEMA, Verdict, broken_line, sound_line};
 use reg_tables::StoreFault;
-use reg_words::{KeyHolder, Steps, Word};
+use reg_words::{Answerer, KeyHolder, Steps, Word};
 use std::alloc::Global;
 use std::io::{Read, Write};
 
@@ -115,7 +115,8 @@ pub fn script<P: Place, F: Front, R: Read, W: Write>(
     ensures { ScriptAt R.remaining W.contents reader.old reader.new writer.old writer.new
         P.Place P.Opened.Keeper.own place.old place.new path.now signer.now result }
 {
-    let office = place.open_to_sign(path, signer)?;
+    let answerer = Answerer::Issuer { certificate: None };
+    let office = place.open_to_sign(path, signer, &answerer)?;
     let mut opened = Sealing {
         office,
         front,

@@ -1,4 +1,5 @@
 pub mod Agreeing
+pub mod Answering
 pub mod Asking
 pub mod Changing
 pub mod Composing

@@ -1,4 +1,5 @@
 pub mod Agreement
+pub mod Answering
 pub mod AtRest
 pub mod Commands
 pub mod Faults

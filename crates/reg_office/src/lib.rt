@@ -15,8 +15,10 @@ mod office;
 mod orders;
 mod queries;
 mod requests;
+mod responder;
 mod run;
 mod statuses;
 mod subscribers;
 
 pub use office::Office;
+pub use responder::Responder;

@@ -7,18 +7,22 @@ ghost use Rattle.reg_core.specs.Crls.{latest};
 ghost use Rattle.reg_core.specs.Records.{Records};
 ghost use Rattle.reg_core.specs.Sound.{SoundRows};
 ghost use Rattle.reg_jobs.specs.Failing.{IsOpening};
-ghost use Rattle.reg_jobs.specs.Signing.{Follows, IsSigning, identity_told};
+ghost use Rattle.reg_crl.specs.Signing.{Identity};
+ghost use Rattle.reg_jobs.specs.Signing.{EmbedsOwn, Follows, IsSigning, identity_told};
+ghost use Rattle.reg_office.specs.Answering.{answers_by};
 ghost use Rattle.reg_signer.specs.Forms.{identity_of};
 ghost use Rattle.reg_signer.specs.Signed.{IsCrlUnder};
 ghost use Rattle.reg_program.specs.Misfits.{Differs, IsKnown, IsMisfit, IsMisfitAfter};
 ghost use Rattle.reg_tables.specs.Shows.{Shows};
 ghost use Rattle.reg_tables.specs.Stays.{IsCallFault, Looked};
 
+use crate::answering::embeds_own;
 use crate::machine::Machine;
 use reg_causes::Cause;
 use reg_core::Fault;
 use reg_crl::{DigestSeal, Signer};
 use reg_endings::Failure;
+use reg_office::Responder;
 use reg_signer::{Algorithm, BadSigner, DeviceSigner, KeyOrDigest, SocketDevice, crl_algorithm};
 use reg_store::{Store, StoreFault};
 use reg_words::{KeyHolder, Word};
@@ -27,31 +31,58 @@ use sqlite::Alter;
 /// What holds the key signs, behind a socket of the machine, or a digest seals.
 pub type FileSigner = KeyOrDigest<SocketDevice<HostRuntime>>;
 
-/// Who signs for the register of a store: as it is told; or, where nothing will be signed, as the latest CRL tells, with nobody who
-/// would answer.
+/// Who signs the CRLs of the register of a store: as it is told; or, where nothing will be signed, as the latest CRL tells, with nobody
+/// who would answer, so that a CRL comes to a fault of the signer. A certificate that stands with the answers of the issuer is looked at.
 ///
 /// # Errors
 /// `BadSigner` where the latest CRL is signed under another algorithm, or under one that is not known here, or the issuer's key is
-/// none of the algorithm: which of these is noted, the key first; `Memory`, `Store`.
+/// none of the algorithm: which of these is noted, the key first; `BadResponder` where the issuer's certificate has another key, before
+/// these; `Memory`, `Store`.
 pub(crate) fn signer_for<C: Alter>(
     machine: &Machine<'_>,
     store: &mut Store<C>,
     signing: Option<&Option<KeyHolder<'_>>>,
+    responder: &Responder<FileSigner>,
 ) -> Result<FileSigner, Failure>
     ensures told { IfOk result (λ signer. (records : Records) → Shows C.Store store.old records → HasCleanDisk (state C.Store store.new)
         → IsSigning (option_map (λ told. told.now) signing.entry) records.issuer.key (⟦<FileSigner as Signer>⟧.identity signer)) }
     ensures follows { IfOk result (λ signer. (records : Records) → Shows C.Store store.old records → SoundRows records
         → HasCleanDisk (state C.Store store.new) → Follows records (⟦<FileSigner as Signer>⟧.identity signer).algorithm) }
+    ensures embeds { IfOk result (λ signer. (records : Records) → Shows C.Store store.old records → HasCleanDisk (state C.Store store.new)
+        → (crls : Identity) → EmbedsOwn records.issuer.key (answers_by ⟦<FileSigner as Signer>⟧.identity crls responder.now)) }
     ensures looked { Looked C.Store store.old store.new }
     ensures faults { IfErr result IsOpening }
 {
     let latest = latest_crl(store)?;
     match signing {
-        Some(told) => signer_after(machine, store, &latest, told),
+        Some(told) => signer_after(machine, store, &latest, told, responder),
         None => {
             let told = holder_of(&latest);
-            signer_after(machine, store, &latest, &told)
+            silent_after(machine, store, &latest, &told, responder)
         }
+    }
+}
+
+/// Who would sign as it is told, and does not.
+fn silent_after<C: Alter>(
+    machine: &Machine<'_>,
+    store: &mut Store<C>,
+    latest: &Option<Vec<u8>>,
+    told: &Option<KeyHolder<'_>>,
+    responder: &Responder<FileSigner>,
+) -> Result<FileSigner, Failure>
+    ensures told { IfOk result (λ signer. (records : Records) → Shows C.Store store.old records → HasCleanDisk (state C.Store store.new)
+        → ⟦<FileSigner as Signer>⟧.identity signer ≡ identity_told told.now records.issuer.key) }
+    ensures follows { IfOk result (λ signer. (crl : List ℕ) → option_map (λ bytes. bytes.items) latest.now ≡ Some crl
+        → (other : List ℕ) → IsCrlUnder crl other → other ≡ (⟦<FileSigner as Signer>⟧.identity signer).algorithm) }
+    ensures embeds { IfOk result (λ signer. (records : Records) → Shows C.Store store.old records → HasCleanDisk (state C.Store store.new)
+        → (crls : Identity) → EmbedsOwn records.issuer.key (answers_by ⟦<FileSigner as Signer>⟧.identity crls responder.now)) }
+    ensures looked { Looked C.Store store.old store.new }
+    ensures faults { IfErr result IsOpening }
+{
+    match signer_after(machine, store, latest, told, responder) {
+        Ok(signer) => Ok(signer.silent()),
+        Err(why) => Err(why),
     }
 }
 
@@ -72,15 +103,21 @@ fn signer_after<C: Alter>(
     store: &mut Store<C>,
     latest: &Option<Vec<u8>>,
     told: &Option<KeyHolder<'_>>,
+    responder: &Responder<FileSigner>,
 ) -> Result<FileSigner, Failure>
     ensures told { IfOk result (λ signer. (records : Records) → Shows C.Store store.old records → HasCleanDisk (state C.Store store.new)
         → ⟦<FileSigner as Signer>⟧.identity signer ≡ identity_told told.now records.issuer.key) }
     ensures follows { IfOk result (λ signer. (crl : List ℕ) → option_map (λ bytes. bytes.items) latest.now ≡ Some crl
         → (other : List ℕ) → IsCrlUnder crl other → other ≡ (⟦<FileSigner as Signer>⟧.identity signer).algorithm) }
+    ensures embeds { IfOk result (λ signer. (records : Records) → Shows C.Store store.old records → HasCleanDisk (state C.Store store.new)
+        → (crls : Identity) → EmbedsOwn records.issuer.key (answers_by ⟦<FileSigner as Signer>⟧.identity crls responder.now)) }
     ensures looked { Looked C.Store store.old store.new }
     ensures faults { IfErr result IsOpening }
 {
     let issuer = store.issuer()?;
+    if !embeds_own(responder, issuer.key()) {
+        return Err(Failure::BadResponder);
+    }
     let signer = signer_told(machine, told, issuer.key())?;
     match misfit(latest, signer.algorithm()) {
         None => Ok(signer),
@@ -91,7 +128,7 @@ fn signer_after<C: Alter>(
     }
 }
 
-/// Who signs over an issuer's key, as it is told.
+/// Who signs over an issuer's key, as it is told. Where the key is none of the algorithm, that is noted.
 fn signer_told(
     machine: &Machine<'_>,
     told: &Option<KeyHolder<'_>>,
@@ -100,15 +137,22 @@ fn signer_told(
     ensures ok { IfOk result (λ signer. ⟦<FileSigner as Signer>⟧.identity signer ≡ identity_told told.now key.now) }
     ensures faults { IfErr result IsOpening }
 {
-    match told {
-        Some(holder) => key_signer(machine, holder.socket.as_str(), holder.algorithm, key),
-        None => Ok(KeyOrDigest::digest()),
+    let Some(holder) = told else {
+        return Ok(KeyOrDigest::digest());
+    };
+    match key_signer(&machine.rt, holder.socket.as_str(), holder.algorithm, key) {
+        Ok(signer) => Ok(signer),
+        Err(Failure::BadSigner) => {
+            machine.note(Some(Cause::OtherKey));
+            Err(Failure::BadSigner)
+        }
+        Err(why) => Err(why),
     }
 }
 
-/// What holds a key behind a socket, as who signs. Where the key is none of the algorithm, that is noted.
-fn key_signer(
-    machine: &Machine<'_>,
+/// What holds a key behind a socket, as who signs.
+pub(crate) fn key_signer(
+    rt: &HostRuntime,
     socket: &str,
     algorithm: Algorithm,
     key: &[u8],
@@ -117,17 +161,14 @@ fn key_signer(
     ensures faults { IfErr result (λ why. (why ≡ Failure.Fault Fault.Memory) ⊎ (why ≡ Failure.BadSigner)) }
 {
     let (Ok(path), Ok(key)) = (
-        String::from_str(machine.rt.alloc(), socket),
-        Vec::from_slice(machine.rt.alloc(), key),
+        String::from_str(rt.alloc(), socket),
+        Vec::from_slice(rt.alloc(), key),
     ) else {
         return Err(Failure::Fault(Fault::Memory));
     };
-    match DeviceSigner::new(SocketDevice::new(machine.rt, path, key), algorithm) {
+    match DeviceSigner::new(SocketDevice::new(*rt, path, key), algorithm) {
         Ok(signer) => Ok(KeyOrDigest::key(signer)),
-        Err(BadSigner) => {
-            machine.note(Some(Cause::OtherKey));
-            Err(Failure::BadSigner)
-        }
+        Err(BadSigner) => Err(Failure::BadSigner),
     }
 }
 

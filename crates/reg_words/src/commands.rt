@@ -6,8 +6,8 @@ ghost use Rattle.reg_words.specs.Jobs.{job_in, serving_job_in, keeping_job_in, i
 
 use crate::job::{Job, KeyHolder, Way};
 use crate::values::{
-    chosen_holder, key_holder, moment, number_if_given, number_or, number_within, steps, way_of,
-    word_of,
+    answerer, chosen_holder, key_holder, moment, number_if_given, number_or, number_within, steps,
+    way_of, word_of,
 };
 use crate::word::Word;
 use crate::wrong::{LAST_PORT, MOST_REQUESTS};
@@ -189,6 +189,7 @@ fn read_serve<'a>(given: &ArgMatches<'a>) -> Option<Job<'a>>
         port: port_of(given)?,
         requests: number_within(given, "requests", 1, MOST_REQUESTS)? as u32,
         signer: key_holder(given)?,
+        answerer: answerer(given)?,
     })
 }
 
@@ -196,11 +197,17 @@ fn read_serve<'a>(given: &ArgMatches<'a>) -> Option<Job<'a>>
 fn read_open<'a>(given: &ArgMatches<'a>) -> Option<Job<'a>>
     ensures { result ≡ open_of (rows_of (found_of given.now)) }
 {
+    let file = word_of(given, "file")?;
+    let port = port_of(given)?;
+    let counter = word_of(given, "counter")?;
+    let answering = answerer(given)?;
+    let signer = chosen_holder(given, &answering)?;
     Some(Job::Open {
-        file: word_of(given, "file")?,
-        port: port_of(given)?,
-        counter: word_of(given, "counter")?,
-        signer: chosen_holder(given)?,
+        file,
+        port,
+        counter,
+        signer,
+        answerer: answering,
     })
 }
 

@@ -16,6 +16,20 @@ pub struct KeyHolder<'a> {
     pub algorithm: Algorithm,
 }
 
+/// Who answers OCSP requests where a register is served (RFC 6960 2.2).
+#[derive(Drop)]
+pub enum Answerer<'a> {
+    /// Who signs its CRLs. A certificate stands with each answer, where the path of the file that has it is told.
+    Issuer {
+        certificate: Option<Word<'a>>,
+    },
+    /// What holds a key of its own, by the certificate in the file at a path, which stands with each answer (RFC 6960 4.2.2.2).
+    Delegate {
+        certificate: Word<'a>,
+        holder: KeyHolder<'a>,
+    },
+}
+
 /// How the lines of a script are run that is run line by line.
 #[derive(Clone, Copy, PartialEq, Eq)]
 pub struct Way {
@@ -69,6 +83,7 @@ pub enum Job<'a> {
         port: u16,
         requests: u32,
         signer: Option<KeyHolder<'a>>,
+        answerer: Answerer<'a>,
     },
     /// Keeps a register open until the program is ended: answers requests over HTTP at a port, 1 to 65,535, and lines at a
     /// counter, a Unix socket at a path. What holds the key signs; a digest seals only where `--unsigned` says that none does.
@@ -77,6 +92,7 @@ pub enum Job<'a> {
         port: u16,
         counter: Word<'a>,
         signer: Option<KeyHolder<'a>>,
+        answerer: Answerer<'a>,
     },
     /// Tells the lines of standard input to the counter at a path.
     At {

@@ -68,13 +68,21 @@ const SIGNER: &str =
     "The Unix socket of what holds the issuer's key [default: none, and a digest seals, which is no signature]";
 
 const OPEN_SIGNER: &str =
-    "The Unix socket of what holds the issuer's key; wants --algorithm; left out only with --unsigned";
+    "The Unix socket of what holds the issuer's key; wants --algorithm; left out only with --unsigned, or with --responder, and then no CRL is signed";
 
 const UNSIGNED: &str =
-    "In place of --signer: a digest alone seals CRLs and answers, which no client accepts";
+    "In place of --signer: a digest alone seals CRLs and answers, which no client accepts; not with --responder";
 
 const ALGORITHM: &str =
     "The algorithm of its signatures: ecdsa-sha256, ecdsa-sha384, rsa-sha256 or ed25519";
+
+const RESPONDER: &str =
+    "The file of the certificate, in DER, by which a key of its own answers OCSP [default: none, and who signs CRLs answers]";
+
+const RESPONDER_SIGNER: &str = "The Unix socket of what holds the responder's key";
+
+const EMBED: &str =
+    "The file of the CA's certificate, in DER, which is put into each OCSP answer [default: none]";
 
 const CLOCK: &str =
     "Lines have no moment: the machine's clock is theirs; wants FILE [default: a line begins with its moment]";
@@ -160,6 +168,10 @@ pub(crate) const COMMANDS: &[Entry] = &[
             Part::Needs("requests", "N", REQUESTS),
             Part::Takes("signer", "SOCKET", SIGNER),
             Part::Takes("algorithm", "NAME", ALGORITHM),
+            Part::Takes("responder", "CERT", RESPONDER),
+            Part::Takes("responder-signer", "SOCKET", RESPONDER_SIGNER),
+            Part::Takes("responder-algorithm", "NAME", ALGORITHM),
+            Part::Takes("embed", "CERT", EMBED),
             Part::Flag("log", LOG),
             Part::Flag("why", CAUSE),
         ],
@@ -175,6 +187,10 @@ pub(crate) const COMMANDS: &[Entry] = &[
             Part::Takes("signer", "SOCKET", OPEN_SIGNER),
             Part::Takes("algorithm", "NAME", ALGORITHM),
             Part::Flag("unsigned", UNSIGNED),
+            Part::Takes("responder", "CERT", RESPONDER),
+            Part::Takes("responder-signer", "SOCKET", RESPONDER_SIGNER),
+            Part::Takes("responder-algorithm", "NAME", ALGORITHM),
+            Part::Takes("embed", "CERT", EMBED),
             Part::Flag("log", LOG),
             Part::Flag("why", CAUSE),
         ],

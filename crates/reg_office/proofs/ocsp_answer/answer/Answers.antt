@@ -3,7 +3,7 @@ use Rattle.reg_ocsp.specs.Views.{ids_seen}
 use Rattle.std.specs.Prelude.{option_copied}
 use Rattle.reg_tables.proofs.Staying.{ok_then}
 use Rattle.reg_office.proofs.Responding.{internal_apart, try_later_apart}
-use Rattle.reg_office.proofs.ocsp_answer.ocsp.Goals as goal
+use Rattle.reg_office.proofs.ocsp_answer.answer.Goals as goal
 
 pub returns-in-Err-Malformed-clause-malformed : goal.returns-in-Err-Malformed-clause-malformed
 returns-in-Err-Malformed-clause-malformed g c =
