@@ -76,8 +76,8 @@ abbrev pub has_own_key : Answerer → Bool
 has_own_key (Issuer certificate) = false
 has_own_key (Delegate certificate holder) = true
 
--- what holds the issuer's key where it is to be chosen: one that does, or the word that a digest alone seals; both say nothing. Where who
--- answers has a key of its own, neither says that none holds the issuer's, and that word says nothing; else neither says nothing.
+-- what holds the issuer's key where it is to be chosen: one that does, or the word that a digest alone seals; neither and both say nothing.
+-- Beside one who answers with a key of its own it is one that does, or neither.
 abbrev pub chosen : Option KeyHolder → Bool → Bool → Option (Option KeyHolder)
 chosen (Some holder) false own = Some (Some holder)
 chosen (Some holder) true own = None

@@ -86,7 +86,8 @@ pub enum Job<'a> {
         answerer: Answerer<'a>,
     },
     /// Keeps a register open until the program is ended: answers requests over HTTP at a port, 1 to 65,535, and lines at a
-    /// counter, a Unix socket at a path. What holds the key signs; a digest seals only where `--unsigned` says that none does.
+    /// counter, a Unix socket at a path. What holds the key signs; a digest seals only where `--unsigned` says that none does. Where
+    /// one answers with a key of its own and nothing holds the issuer's, no CRL is signed.
     Open {
         file: Word<'a>,
         port: u16,
