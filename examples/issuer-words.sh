@@ -1,6 +1,7 @@
 #!/bin/sh
 # Prints the words --name HEX --key HEX of a CA certificate (PEM or DER), as `desk init` takes them: the DER of its
-# subject Name (RFC 5280 4.1.2.6) and the bits of its public key (RFC 5280 4.1.2.7). Needs openssl, awk and od.
+# subject Name (RFC 5280 4.1.2.6) and the bits of its public key (RFC 5280 4.1.2.7). Where its key identifier is another than
+# the SHA-1 of the key, also --key-id HEX (RFC 5280 4.2.1.2): CRLs are to have the certificate's own. Needs openssl, awk and od.
 set -eu
 [ $# -eq 1 ] || { echo "usage: $0 CERTIFICATE" >&2; exit 2; }
 
@@ -20,5 +21,11 @@ places=$(openssl asn1parse -inform DER -in "$der" | awk '
 
 bytes() { tail -c "+$(($1 + 1))" "$der" | head -c "$2" | od -An -v -tx1 | tr -d ' \n'; }
 
+# The subjectKeyIdentifier; nothing where the certificate has none.
+own=$(openssl x509 -inform DER -in "$der" -noout -ext subjectKeyIdentifier 2>/dev/null | awk 'NR == 2 { gsub(/[: ]/, ""); print tolower($0) }')
+
 set -- $places
-printf -- '--name %s --key %s\n' "$(bytes "$1" "$2")" "$(bytes "$3" "$4")"
+digest=$(tail -c "+$(($3 + 1))" "$der" | head -c "$4" | openssl dgst -sha1 -binary | od -An -v -tx1 | tr -d ' \n')
+printf -- '--name %s --key %s' "$(bytes "$1" "$2")" "$(bytes "$3" "$4")"
+if [ -n "$own" ] && [ "$own" != "$digest" ]; then printf -- ' --key-id %s' "$own"; fi
+echo

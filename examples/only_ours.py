@@ -12,13 +12,18 @@ error says why, and the desk says `F3 signer`, or answers internalError.
 It is let through exactly in the form in which the desk writes it, in DER (X.690 10, 11) and to its last octet:
 
     TBSCertList (RFC 5280 5.1.2)    version 2, the key's algorithm, the issuer's name, the two moments, entries of a serial number, a
-                                    moment and a reason, the issuer's key identifier and the CRL's number
+                                    moment and a reason, the issuer's key identifier (its certificate's own, or the SHA-1 of its key) and
+                                    the CRL's number
     ResponseData (RFC 6960 4.2.1)   the responder by the SHA-1 of the issuer's key, the moment, the answers, the request's nonce; what
                                     is told good or revoked is a certificate of the issuer
 
 It knows no register. Who reaches the socket can still have a CRL signed with no entry in it, and a revoked certificate told good.
 
-Usage: examples/only_ours.py CA.pem COMMAND WORD ..
+Before a responder's key (RFC 6960 4.2.2.2) it lets through the answers of that responder about the CA's certificates, and no CRL:
+
+    examples/only_ours.py --responder responder.pem ca.pem openssl dgst -sha256 -sign responder.key
+
+Usage: examples/only_ours.py [--responder RESPONDER.pem] CA.pem COMMAND WORD ..
 """
 import base64
 import hashlib
@@ -46,7 +51,9 @@ HASHES = {
     hashlib.sha256: [bytes.fromhex("300B0609608648016503040201"), bytes.fromhex("300D06096086480165030402010500")],
 }
 
-KEY_IDENTIFIER, CRL_NUMBER = bytes.fromhex("301F0603551D23041830168014"), bytes.fromhex("0603551D14")
+KEY_IDENTIFIER, SUBJECT_KEY_IDENTIFIER, CRL_NUMBER = bytes.fromhex("0603551D23"), bytes.fromhex("0603551D0E"), bytes.fromhex("0603551D14")
+# The desk has key identifiers of so many octets at most.
+LONGEST_IDENTIFIER = 64
 NONCE = bytes.fromhex("06092B0601050507300102")
 
 # Moments in seconds and UTC (RFC 5280 4.1.2.5), and the reasons of RFC 5280 5.3.1 but 0, which is left out.
@@ -101,6 +108,13 @@ class Part:
             raise Refused(f"no {what} at octet {self.at}")
         self.at += len(wanted)
 
+    def one_of(self, wanted, what):
+        """Goes over octets that have to be one of these."""
+        found = next((it for it in wanted if self.octets[self.at : min(self.end, self.at + len(it))] == it), None)
+        if found is None:
+            raise Refused(f"no {what} at octet {self.at}")
+        self.at += len(found)
+
     def fits(self, pattern, what):
         """Goes over octets of this form."""
         found = pattern.match(self.octets, self.at, self.end)
@@ -153,7 +167,7 @@ HOLDS = either([GENERAL + rb"\xA0\x11" + GENERAL])
 
 # The issuer
 
-Issuer = namedtuple("Issuer", "name key_hash algorithm cert_ids public")
+Issuer = namedtuple("Issuer", "name key_hash key_identifiers algorithm cert_ids public")
 
 
 def der_of(path):
@@ -162,6 +176,29 @@ def der_of(path):
         octets = file.read()
     found = re.search(rb"-----BEGIN CERTIFICATE-----(.*?)-----END CERTIFICATE-----", octets, re.DOTALL)
     return base64.b64decode(found[1]) if found else octets
+
+
+def own_identifier(part):
+    """The subjectKeyIdentifier (RFC 5280 4.2.1.2) in what is left of a TBSCertificate behind its key; nothing where it has none."""
+    while part.at < part.end and not part.next_is(0xA3):
+        part.any()
+    extensions = part.inside(0xA3).inside(SEQUENCE) if part.at < part.end else part
+    while extensions.at < extensions.end:
+        extension = extensions.inside(SEQUENCE)
+        if extension.whole(IDENTIFIER) == SUBJECT_KEY_IDENTIFIER:
+            if extension.next_is(0x01):
+                extension.inside(0x01)
+            value = extension.inside(OCTETS).inside(OCTETS)
+            return bytes(value.octets[value.at : value.end])
+    return b""
+
+
+def authority_key_identifier(identifier):
+    """The extension of a CRL that names the issuer's key so (RFC 5280 5.2.1, 4.2.1.1)."""
+    value = bytes([0x80, len(identifier)]) + identifier
+    for tag in (SEQUENCE, OCTETS):
+        value = bytes([tag, len(value)]) + value
+    return bytes([SEQUENCE, len(KEY_IDENTIFIER + value)]) + KEY_IDENTIFIER + value
 
 
 def issuer_of(path):
@@ -181,7 +218,9 @@ def issuer_of(path):
     key = public[bits.at + 1 : bits.end]
     cert_ids = tuple(it + b"".join(bytes([OCTETS, hashed(part).digest_size]) + hashed(part).digest() for part in (name, key))
                      for hashed, identifiers in HASHES.items() for it in identifiers)
-    return Issuer(name, hashlib.sha1(key).digest(), algorithm, cert_ids, public)
+    key_hash, own = hashlib.sha1(key).digest(), own_identifier(part)
+    key_identifiers = [authority_key_identifier(it) for it in (key_hash, own) if 1 <= len(it) <= LONGEST_IDENTIFIER]
+    return Issuer(name, key_hash, key_identifiers, algorithm, cert_ids, public)
 
 
 # What is to be signed
@@ -202,7 +241,7 @@ def read_crl(part, issuer):
     part.ended()
     extensions = tagged.inside(SEQUENCE)
     tagged.ended()
-    extensions.same(KEY_IDENTIFIER + issuer.key_hash, "key identifier of the issuer")
+    extensions.one_of(issuer.key_identifiers, "key identifier of the issuer")
     extension = extensions.inside(SEQUENCE)
     extensions.ended()
     extension.same(CRL_NUMBER, "CRL number")
@@ -254,9 +293,9 @@ def read_nonce(part):
     extension.ended()
 
 
-def read_answer(part, issuer):
+def read_answer(part, issuer, responder):
     """The contents of a ResponseData (RFC 6960 4.2.1)."""
-    part.same(b"\xA2\x16\x04\x14" + issuer.key_hash, "responder by the hash of the issuer's key")
+    part.same(b"\xA2\x16\x04\x14" + responder.key_hash, "responder by the hash of its key")
     part.fits(GENERAL_MOMENT, "producedAt")
     answers = part.inside(SEQUENCE)
     read_single(answers.inside(SEQUENCE), issuer)
@@ -267,32 +306,42 @@ def read_answer(part, issuer):
     part.ended()
 
 
-def check(message, issuer):
-    """Refuses all but a CRL and an answer of OCSP of this issuer."""
+def check(message, issuer, responder=None):
+    """Refuses all but a CRL and an answer of OCSP of this issuer; before a responder's key all but its answers."""
     outer = Part(message)
     part = outer.inside(SEQUENCE)
     outer.ended()
     # A TBSCertList begins with its version, a TBSCertificate of version 1 with its serial number, which its validity tells from the moments here.
     if part.next_is(INTEGER):
+        if responder:
+            raise Refused("a responder signs no CRL")
         read_crl(part, issuer)
     else:
-        read_answer(part, issuer)
+        read_answer(part, issuer, responder or issuer)
+
+
+def read_certificate(path, whose="CA"):
+    """What a certificate says of whose it is, or the end."""
+    try:
+        return issuer_of(path)
+    except (OSError, ValueError, Refused) as why:
+        sys.exit(f"{path}: no certificate of a {whose}: {why}")
 
 
 def main():
-    if len(sys.argv) < 3:
+    words, responder = sys.argv[1:], None
+    if words[:1] == ["--responder"] and len(words) > 1:
+        responder, words = read_certificate(words[1], "responder"), words[2:]
+    if len(words) < 2:
         print(__doc__, file=sys.stderr)
         sys.exit(2)
-    try:
-        issuer = issuer_of(sys.argv[1])
-    except (OSError, ValueError, Refused) as why:
-        sys.exit(f"{sys.argv[1]}: no certificate of a CA: {why}")
+    issuer = read_certificate(words[0])
     message = sys.stdin.buffer.read(LONGEST + 1)
     try:
-        check(message, issuer)
+        check(message, issuer, responder)
     except Refused as why:
         sys.exit(f"refused to have {len(message)} bytes signed: {why}")
-    sys.exit(subprocess.run(sys.argv[2:], input=message, check=False).returncode)
+    sys.exit(subprocess.run(words[1:], input=message, check=False).returncode)
 
 
 if __name__ == "__main__":

@@ -9,14 +9,15 @@ back, and the connection ends. One line of socat does the same, and starts opens
 This program keeps the key in memory: a key that matters belongs into hardware (examples/pkcs11-signer.sh).
 Whoever can connect to the socket can have anything signed: it is made with mode 600, and belongs into a folder that the desk's user
 alone can enter. With --only-ours it signs CRLs and answers of OCSP of the CA whose certificate is given, and nothing else: what is refused
-is told on standard error, and its connection ends with no signature (examples/only_ours.py has what is looked at).
+is told on standard error, and its connection ends with no signature (examples/only_ours.py has what is looked at). With --responder beside it
+it has a responder's key, and signs that responder's answers about the CA's certificates alone.
 
 With P-256 it draws nonces before their messages come, by the system's libcrypto (OpenSSL), since nearly all of a signature's work
 depends on the nonce alone. Some are in memory at any time, and so is the key: never copy a machine, nor set it back, with its memory
 while this runs, for then one nonce may sign two messages, which gives the key away.
 
-Usage: examples/signer.py [--only-ours CA.pem] KEY.pem SOCKET
-       examples/signer.py [--only-ours CA.pem] KEY.pem --inherited     at the socket that systemd made for it (sd_listen_fds(3))
+Usage: examples/signer.py [--only-ours CA.pem [--responder RESPONDER.pem]] KEY.pem SOCKET
+       examples/signer.py [--only-ours CA.pem ..] KEY.pem --inherited  at the socket that systemd made for it (sd_listen_fds(3))
        examples/signer.py KEY.pem                                      prints the NAME of the key's algorithm, and ends
 
 The key is one of P-256, P-384, RSA of 2,048 bits or more, or Ed25519, in PEM and without a passphrase.
@@ -40,7 +41,7 @@ from cryptography.hazmat.primitives.serialization import (
 
 # Nothing is written beside the module that is read.
 sys.dont_write_bytecode = True
-from only_ours import LONGEST, Refused, check, issuer_of  # noqa: E402
+from only_ours import LONGEST, Refused, check, read_certificate  # noqa: E402
 
 # How many seconds a read may wait, as long as the desk waits.
 PATIENCE = 10
@@ -129,19 +130,17 @@ def signer_of(key):
     sys.exit(f"no algorithm for a key of the kind {type(key).__name__}")
 
 
-def guarded(sign, path, key):
-    """What signs for the CA of this certificate alone, whose key has to be this one."""
-    try:
-        issuer = issuer_of(path)
-        theirs = load_der_public_key(issuer.public)
-    except (OSError, ValueError, Refused) as why:
-        sys.exit(f"{path}: no certificate of a CA: {why}")
+def guarded(sign, words, key):
+    """What signs for the CA of a certificate alone, or as its responder. The key has to be that of who signs."""
+    issuer = read_certificate(words.only_ours)
+    responder = read_certificate(words.responder, "responder") if words.responder else None
+    path, theirs = words.responder or words.only_ours, load_der_public_key((responder or issuer).public)
     spelled = [it.public_bytes(Encoding.DER, PublicFormat.SubjectPublicKeyInfo) for it in (theirs, key.public_key())]
     if spelled[0] != spelled[1]:
         sys.exit(f"{path} is the certificate of another key")
 
     def sign_ours(message):
-        check(message, issuer)
+        check(message, issuer, responder)
         return sign(message)
 
     return sign_ours
@@ -226,12 +225,15 @@ def serve(listener, sign, draw):
 def read_words():
     parser = argparse.ArgumentParser(usage=__doc__.partition("Usage: ")[2].partition("\n\n")[0])
     parser.add_argument("--only-ours", metavar="CA.pem")
+    parser.add_argument("--responder", metavar="RESPONDER.pem")
     parser.add_argument("--inherited", action="store_true")
     parser.add_argument("key", metavar="KEY.pem")
     parser.add_argument("socket", metavar="SOCKET", nargs="?")
     words = parser.parse_args()
     if words.socket and words.inherited:
         parser.error("SOCKET and --inherited are one too many")
+    if words.responder and not words.only_ours:
+        parser.error("--responder wants --only-ours")
     return words
 
 
@@ -241,7 +243,7 @@ def main():
         key = load_pem_private_key(file.read(), None)
     name, sign, draw = signer_of(key)
     if words.only_ours:
-        sign = guarded(sign, words.only_ours, key)
+        sign = guarded(sign, words, key)
     if words.inherited:
         print(f"{name} at a socket that was handed over", flush=True)
         serve(handed_over(), sign, draw)

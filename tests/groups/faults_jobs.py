@@ -20,10 +20,11 @@ JOBS = {
     "init": (["init", "ca.db", "--name", program.NAME, "--key", program.KEY], "", None),
     "import": (["import", "ca.db", "--now", DAY_1], ROWS, ORDERS),
     "schedule": (["schedule", "ca.db", "1970-01-01T00:00:00Z=398", "2026-03-15T00:00:00Z=200"], "", text(REGISTERED)),
+    "key-id": (["key-id", "ca.db", "0102030405"], "", text(LIFE)),
     "crl": (["crl", "ca.db"], "", text(LIFE)),
     "audit": (["audit", "ca.db"], "", text(LIFE)),
 }
-CHANGES = ("init", "import", "schedule")
+CHANGES = ("init", "import", "schedule", "key-id")
 FAILURES = {
     "write": "", "sync": "", "cut": "", "read": "", "open": "", "stat": "", "lock": "", "every write": "+", "every sync": "+", "every read": "+", "every cut": "+",
     "a write that moves nothing": "=0", "a read that moves nothing": "=0", "random": "",

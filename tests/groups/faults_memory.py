@@ -81,6 +81,8 @@ JOBS = {
     "init": (["init", "ca.db", "--name", program.NAME, "--key", program.KEY], "", None),
     "import": (["import", "ca.db", "--now", DAY], f"2,06,{DAY},2026-01-10T00:00:00Z\n", "base.db"),
     "schedule": (["schedule", "ca.db", "1970-01-01T00:00:00Z=398", "2026-03-15T00:00:00Z=200"], "", "base.db"),
+    "init with a key identifier": (["init", "ca.db", "--name", program.NAME, "--key", program.KEY, "--key-id", "0102030405"], "", None),
+    "key-id": (["key-id", "ca.db", "0102030405"], "", "base.db"),
     "crl": (["crl", "ca.db"], "", "base.db"),
     "audit": (["audit", "ca.db"], "", "base.db"),
 }

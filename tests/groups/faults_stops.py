@@ -78,9 +78,13 @@ def an_import_is_stopped(t, told):
         faults.audited(t, "ca.db", (4, 0, 0), f"stopped at step {at}")
 
 
-@each(LOSSES, seconds=5)
-def a_schedule_is_stopped(t, told):
-    base, words = t.register("base.db", script(REGISTERED)), ["schedule", "ca.db", *STEPS]
+# What is set, and how that is told.
+SET = {"a schedule": (["schedule", "ca.db", *STEPS], b"schedule set\n"), "a key identifier": (["key-id", "ca.db", "0102"], b"key-id set\n")}
+
+
+@each({f"{name}, {loss}": (*SET[name], LOSSES[loss]) for name in SET for loss in LOSSES}, seconds=5)
+def what_is_set_is_stopped(t, words, done, told):
+    base = t.register("base.db", script(REGISTERED))
     faults.copy(base, t.room / "ca.db")
     before = faults.tables(t.room / "ca.db")
     last = faults.total(t, words, "steps", only=FILES)
@@ -90,7 +94,7 @@ def a_schedule_is_stopped(t, told):
         ran, _ = faults.run(t, words, only=FILES, stop=at, **told)
         found = faults.tables(t.room / "ca.db")
         t.true(found in (before, after) and (not ran.out or found == after), f"the tables after a stop at step {at}: {found}")
-        t.same(program.run(words, cwd=t.room).out, b"schedule set\n", f"set again after step {at}")
+        t.same(program.run(words, cwd=t.room).out, done, f"set again after step {at}")
         faults.audited(t, "ca.db", (1, 0, 0), f"stopped at step {at}")
 
 
@@ -101,6 +105,7 @@ def a_machine_stops_behind_a_command_that_was_told(t, seed):
              "script": (["script", "ca.db"], ORDERS, None),
              "import": (["import", "ca.db", "--now", DAY], ROWS, ["registered"] * 4),
              "schedule": (["schedule", "ca.db", *STEPS], "", ["schedule set"]),
+             "key-id": (["key-id", "ca.db", "0102"], "", ["key-id set"]),
              "a CRL": (["script", "ca.db"], f"{DAY} crl\n", ["crl 1 entries 0"])}  # fmt: skip
     for name, (it, given, wanted) in words.items():
         ran, _ = faults.run(t, it, given, **told)
@@ -109,7 +114,7 @@ def a_machine_stops_behind_a_command_that_was_told(t, seed):
         t.true(after is not None, f"{name}: the register is lost")
         t.same(len(after["orders"]), 0 if name == "init" else 4, f"{name}: orders that stand")
         t.same(len(after["cert"]), 0 if name in ("init", "script") else 4, f"{name}: certificates that stand")
-        t.same(len(after["longest"]), 3 if name in ("schedule", "a CRL") else 1, f"{name}: steps that stand")
+        t.same(len(after["longest"]), 3 if name in ("schedule", "key-id", "a CRL") else 1, f"{name}: steps that stand")
         t.same(len(after["crl"]), int(name == "a CRL"), f"{name}: CRLs that stand")
     faults.audited(t, "ca.db", (4, 0, 1), "in the end")
 

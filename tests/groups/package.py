@@ -257,7 +257,7 @@ def works(t, root, it, port):
 def documented(t, root):
     """The manual, completion, the units."""
     listed = root.run("desk", "--help").partition("\nCommands:\n")[2].partition("\n\n")[0]
-    commands = sorted(re.findall(r"^  ([a-z]+) ", listed, re.MULTILINE))
+    commands = sorted(re.findall(r"^  ([a-z][a-z-]*) ", listed, re.MULTILINE))
     for page in ("man1/desk.1", "man5/desk-script.5"):
         text = gzip.decompress((root.path / f"usr/share/man/{page}.gz").read_bytes())
         (t.room / "page").write_bytes(text)
@@ -265,8 +265,8 @@ def documented(t, root):
             ran = t.tried("man", "--warnings=w", "-l", t.room / "page", env=dict(os.environ, MANWIDTH="100", LC_ALL="C.UTF-8"))
             t.same((ran.returncode, ran.stderr, len(ran.stdout) > 1000), (0, b"", True), f"{page} is laid out with no warning")
         if page == "man1/desk.1":
-            told = re.findall(r'^\.SS "desk ([a-z]+)', text.decode(), re.MULTILINE)
-            t.same(sorted(told), commands, "desk.1 tells of each command")
+            told = re.findall(r'^\.SS "desk ([a-z\\-]+)', text.decode(), re.MULTILINE)
+            t.same(sorted(it.replace("\\", "") for it in told), commands, "desk.1 tells of each command")
 
     def completed(*words):
         script = ('cd /tmp; . /usr/share/bash-completion/completions/desk; COMP_WORDS=("$@"); COMP_CWORD=$(($# - 1)); _desk; '
@@ -274,9 +274,10 @@ def documented(t, root):
         return root.run("bash", "-c", script, "bash", *words).split()
 
     t.same(sorted(completed("desk", "s")), [it for it in commands if it.startswith("s")], "desk s..")
-    t.has(" ".join(completed("desk", "init", "ca.db", "--")), "--name --key --days --crl-life --ocsp-life --cap")
+    t.has(" ".join(completed("desk", "init", "ca.db", "--")), "--name --key --key-id --days --crl-life --ocsp-life --cap")
     t.has(" ".join(completed("desk", "--why", "script", "ca.db", "--")), "--signer --algorithm")
-    t.has(" ".join(completed("desk", "open", "ca.db", "--")), "--signer --algorithm --unsigned --log --why")
+    opens = "--signer --algorithm --unsigned --responder --responder-signer --responder-algorithm --embed --log --why"
+    t.has(" ".join(completed("desk", "open", "ca.db", "--")), opens)
     t.has(" ".join(completed("desk", "import", "ca.db", "--now", "")), time.strftime("%Y-%m-%dT", time.gmtime()))
     t.has(completed("desk", "script", "durs"), "durshavon.deb")
     for unit in sorted((root.path / "lib/systemd/system").glob("desk*@.*")):

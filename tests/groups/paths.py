@@ -103,6 +103,19 @@ def setting_up(t):
     ends_well(t, told, crls=2, answers=1, replies=("created\n", "crl 1 entries 0\n", "crl 2 entries 0\n", "cron 0\n"))
 
 
+@test(seconds=4)
+def a_responder(t):
+    """Behind "Setting up": answers that openssl takes by the CA's certificate alone."""
+    need("curl", "bash")
+    authority.need_cryptography(t)
+    port = str(program.free_port())
+    *lines, opens = block("A responder", "openssl req")
+    opened = opens.replace("8080", port).replace("/run/ca/", "")
+    asks = office(port)
+    told = typed(t, folder_of(t), [*block("Setting up", "./desk init"), *lines, f"{opened} &", *asks[1:]])
+    ends_well(t, told, crls=2, answers=1, replies=("created\n", "crl 1 entries 0\n", "crl 2 entries 0\n"))
+
+
 # A line of the section "Signatures", by what it has in it.
 SIGNERS = {"openssl behind socat": "openssl dgst", "examples/signer.py": "examples/signer.py"}
 

@@ -11,7 +11,12 @@ UNSIGNED = (*OPEN, "--unsigned")
 SCHEDULE, FIRST_STEP = ("schedule", "none.db"), "1970-01-01T00:00:00Z=398"
 # A socket and an algorithm.
 BOTH = "--signer and --algorithm are given both or neither, and an algorithm is ecdsa-sha256, ecdsa-sha384, rsa-sha256 or ed25519"
-ONE_OF_BOTH = "open wants --signer SOCKET with --algorithm NAME, or --unsigned, by which a digest alone seals: one of both"
+ONE_OF_BOTH = (
+    "open wants --signer SOCKET with --algorithm NAME, or --unsigned, by which a digest alone seals: one of both; beside --responder the first, or neither"
+)
+TOGETHER = "--responder, --responder-signer and --responder-algorithm are given together, without --embed; an algorithm is"
+RESPONDER = ("--responder=r.der", "--responder-signer=r.sign", "--responder-algorithm=ed25519")
+RESPONDER_HELP = ("--responder <CERT>", "--responder-signer <SOCKET>", "--responder-algorithm <NAME>", "--embed <CERT>")
 NUMBER, RANGE = "a number is 1 to 18 digits", "within the range"
 MOMENT, STEP = "a moment is written as", "a step is written as"
 
@@ -58,6 +63,8 @@ UNKNOWN = {
     "at without a socket": ("at",),
     "at with two sockets": ("at", "S", "F"),
     "schedule without a step": SCHEDULE,
+    "key-id without an identifier": ("key-id", "none.db"),
+    "key-id of two": ("key-id", "none.db", "00", "01"),
     "audit without a file": ("audit",),
     "audit of two files": ("audit", "none.db", "G"),
     "clock with a value": ("script", "none.db", "--clock=1"),
@@ -147,14 +154,31 @@ def a_socket_and_a_known_algorithm_are_given_both_or_neither(t, words, named):
 @each({
     "neither": OPEN,
     "both": (*UNSIGNED, "--signer=ca.sign", "--algorithm=ed25519"),
+    "neither beside the CA's certificate": (*OPEN, "--embed=ca.der"),
+    "both beside a responder": (*UNSIGNED, "--signer=ca.sign", "--algorithm=ed25519", *RESPONDER),
+    "that a digest alone seals, beside a responder": (*UNSIGNED, *RESPONDER),
 })
 def open_is_told_of_a_signer_or_that_there_is_none(t, *words):
     told = refused(t, *words, "--port=80")
     t.same(told.splitlines()[0], f"error: {ONE_OF_BOTH}", "the one line that says both ways")
 
 
+@each({
+    "its certificate alone": (RESPONDER[:1], "'r.der' for '--responder'"),
+    "without what holds its key": (RESPONDER[::2], "'ed25519' for '--responder-algorithm'"),
+    "without an algorithm": (RESPONDER[:2], "'r.sign' for '--responder-signer'"),
+    "without its certificate": (RESPONDER[1:], "'ed25519' for '--responder-algorithm'"),
+    "with another algorithm": ((*RESPONDER[:2], "--responder-algorithm=ed448"), "'ed448' for '--responder-algorithm'"),
+    "with the CA's certificate beside it": ((*RESPONDER, "--embed=ca.der"), "'ed25519' for '--responder-algorithm'"),
+})
+def a_responder_is_told_whole(t, words, named):
+    for command in (SERVED, (*OPEN, "--port=80"), (*UNSIGNED, "--port=80")):
+        t.has(refused(t, *command, *words), f"{named}: {TOGETHER}")
+
+
 @each({" ".join(it): it for it in (
-    ("import", "--signer=ca.sign"), ("crl", "--algorithm=ed25519"), ("schedule", "--signer=ca.sign"), ("import", "--clock"), ("import", "--strict"),
+    ("import", "--signer=ca.sign"), ("script", "--embed=ca.der"), ("script", "--responder=r.der"), ("crl", "--embed=ca.der"), ("crl", "--algorithm=ed25519"), ("schedule", "--signer=ca.sign"),
+    ("key-id", "--signer=ca.sign"), ("script", "--key-id=00"), ("import", "--clock"), ("import", "--strict"),
     ("crl", "--log"), ("script", "--log"), ("at", "--log"), ("audit", "--log"), ("script", "--unsigned"), ("serve", "--unsigned"), ("schedule", "--unsigned"),
 )})
 def an_option_of_another_command_is_unexpected(t, command, option):
@@ -181,17 +205,18 @@ def the_version_is_told(t, word):
 
 # What is told of each command.
 HELPED = {
-    "--help": ("init", "script", "import", "crl", "serve", "open", "at", "schedule", "audit", "--why", "-V, --version"),
-    "-h": ("init", "script", "import", "crl", "serve", "open", "at", "schedule", "audit"),
-    "init --help": ("<FILE>", "--name <HEX>", "--key <HEX>", "--days <N>", "--crl-life <N>", "--ocsp-life <N>", "--cap <N>", "--why"),
+    "--help": ("init", "script", "import", "crl", "serve", "open", "at", "schedule", "key-id", "audit", "--why", "-V, --version"),
+    "-h": ("init", "script", "import", "crl", "serve", "open", "at", "schedule", "key-id", "audit"),
+    "init --help": ("<FILE>", "--name <HEX>", "--key <HEX>", "--key-id <HEX>", "--days <N>", "--crl-life <N>", "--ocsp-life <N>", "--cap <N>", "--why"),
     "init -h": ("<FILE>", "--name <HEX>"),
     "script --help": ("[FILE]", "--signer <SOCKET>", "--algorithm <NAME>", "--clock", "--strict", "--why", "desk script ca.db"),
     "import --help": ("<FILE>", "--now <MOMENT>", "--why"),
     "crl --help": ("<FILE>", "--number <N>", "--why"),
-    "serve --help": ("<FILE>", "--port <N>", "--requests <N>", "--signer <SOCKET>", "--algorithm <NAME>", "--log", "--why"),
-    "open --help": ("<FILE>", "--port <N>", "--counter <SOCKET>", "--signer <SOCKET>", "--algorithm <NAME>", "--unsigned", "--log", "--why"),
+    "serve --help": ("<FILE>", "--port <N>", "--requests <N>", "--signer <SOCKET>", "--algorithm <NAME>", *RESPONDER_HELP, "--log", "--why"),
+    "open --help": ("<FILE>", "--port <N>", "--counter <SOCKET>", "--signer <SOCKET>", "--algorithm <NAME>", "--unsigned", *RESPONDER_HELP, "--log", "--why"),
     "at --help": ("<SOCKET>", "--why", "desk at ca.counter"),
     "schedule F --help": ("<FILE>", "<MOMENT=DAYS>...", "--why"),
+    "key-id --help": ("<FILE>", "<HEX>", "--why"),
     "audit --help": ("<FILE>", "--why", "desk audit ca.db"),
     "--why audit --help": ("<FILE>", "--why", "desk audit ca.db"),
 }

@@ -48,13 +48,13 @@ def now():
 class Authority:
     """A CA whose key is in the test's folder, as NAME.key, and whose certificate is NAME.pem."""
 
-    def __init__(self, t, algorithm="ecdsa-sha256", name="ca", subject="/CN=T"):
+    def __init__(self, t, algorithm="ecdsa-sha256", name="ca", subject="/CN=T", more=()):
         self.t, self.algorithm, self.name = t, algorithm, name
         self.key, self.pem = t.room / f"{name}.key", t.room / f"{name}.pem"
-        certificate(t, name, subject, KEYS[algorithm])
+        certificate(t, name, subject, KEYS[algorithm], more)
 
     def words(self):
-        """The words --name and --key of its register."""
+        """The words --name and --key of its register, and --key-id where its key identifier is not the SHA-1 of its key."""
         return self.t.tool("sh", EXAMPLES / "issuer-words.sh", self.pem).decode().split()
 
     def register(self, file="ca.db", options=()):
@@ -110,9 +110,10 @@ class Authority:
         return status_of(told, serial)
 
 
-def certificate(t, name, subject, key=KEYS["ecdsa-sha256"]):
+def certificate(t, name, subject, key=KEYS["ecdsa-sha256"], more=()):
     """A certificate that signs itself, and its key: NAME.pem and NAME.key."""
-    t.tool("openssl", "req", "-x509", "-newkey", *key, "-nodes", "-keyout", f"{name}.key", "-out", f"{name}.pem", "-subj", subject, "-days", "3650")
+    words = ("-keyout", f"{name}.key", "-out", f"{name}.pem", "-subj", subject, "-days", "3650")
+    t.tool("openssl", "req", "-x509", "-newkey", *key, "-nodes", *words, *more)
 
 
 def openssl(*words, given=b""):

@@ -262,11 +262,16 @@ class Signer:
         return self
 
     def __exit__(self, *_):
+        """Ends it, and takes its socket away, so that another one can be there. It may have been ended before."""
+        if self.ended.is_set():
+            return
         self.ended.set()
         # Wakes who accepts.
         with contextlib.suppress(OSError):
             self.server.shutdown(socket.SHUT_RDWR)
         self.server.close()
+        with contextlib.suppress(OSError):
+            os.unlink(self.path)
 
 
 def seconds_of(moment):

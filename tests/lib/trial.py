@@ -12,6 +12,7 @@ from . import program
 PACKAGES = {
     "openssl": "openssl", "curl": "curl", "cc": "gcc", "nginx": "nginx-light", "wrk": "wrk", "socat": "socat", "chromium": "chromium",
     "debootstrap": "debootstrap", "dpkg-deb": "dpkg", "systemd-nspawn": "systemd-container", "sqlite3": "sqlite3",
+    "java": "default-jre-headless", "javac": "default-jdk-headless", "ocsptool": "gnutls-bin", "certutil": "libnss3-tools", "vfychain": "libnss3-tools", "go": "golang-go",
     "mkfs.btrfs": "btrfs-progs", "setpriv": "util-linux", "softhsm2-util": "softhsm2", "pkcs11-tool": "opensc",
 }
 
@@ -94,11 +95,11 @@ class Trial(contextlib.ExitStack):
         return self.room / file
 
     def open(self, file="ca.db", *words, command="open", **how):
-        """Opens a register until the test ends. `desk open` wants a counter, which is `counter` where none is named, and no key signs where no signer is."""
+        """Opens a register until the test ends. `desk open` wants a counter, which is `counter` where none is named, and a digest alone seals where no signer and no responder is."""
         how.setdefault("clock", self._clock)
         if command == "open" and "--counter" not in words:
             words = (*words, "--counter", "counter")
-        if command == "open" and "--signer" not in words and "--unsigned" not in words:
+        if command == "open" and not {"--signer", "--responder", "--unsigned"} & set(words):
             words = (*words, "--unsigned")
         self.note(program.shown([command, file, *words]))
         opened = self.enter_context(program.Opened([command, file, *words], cwd=self.room, **how))

@@ -12,6 +12,7 @@ use Rattle.reg_ocsp.specs.Matching.{IsMatch}
 use Rattle.reg_ocsp.specs.Request.{Id, IsRequest}
 use Rattle.reg_ocsp.specs.Response.{Answer, ocsp_response, refusal_response, response_data}
 use Rattle.reg_ocsp.specs.declared.response.RefusalStatus.TheVariants.{Malformed, Internal, TryLater}
+use Rattle.reg_calls.specs.Signatories.{Responder, responder_key}
 
 -- the bytes are no OCSP request (RFC 6960 4.1.1)
 abbrev pub HasNoReading : List ℕ → Type 0
@@ -29,23 +30,26 @@ pub record IsAnswer (records : Records) (now : ℕ) (id : Id) (answer : Answer) 
   pub repeated : answer.raw ≡ id.raw
   pub told : IsTold records now id answer.status
 
--- the ResponseData of the records at a moment: one answer for each CertID in the order asked, each from this moment on
--- for the life that the policy gives it, and the nonce (RFC 6960 4.2.1)
-pub record IsOcspData (records : Records) (now : ℕ) (ids : List Id) (nonce : Option (List ℕ)) (tbs : List ℕ) : Type 0 where
+-- the ResponseData of the records at a moment, by the key of who answers: one answer for each CertID in the order asked, each
+-- from this moment on for the life that the policy gives it, and the nonce (RFC 6960 4.2.1)
+pub record IsOcspData (key : List ℕ) (records : Records) (now : ℕ) (ids : List Id) (nonce : Option (List ℕ)) (tbs : List ℕ) : Type 0 where
   pub answers : List Answer
   pub each : AllZip (IsAnswer records now) ids answers
-  pub spelled : tbs ≡ response_data records.issuer.key now (now + records.policy.ocsp_life) answers nonce
+  pub spelled : tbs ≡ response_data key now (now + records.policy.ocsp_life) answers nonce
 
--- The bytes are the response signed: there is a signature of the ResponseData, and the bytes are the OCSPResponse of the
--- ResponseData, the signer's algorithm and the signature (RFC 6960 4.2.1).
-abbrev pub response_signed_by : (Identity → List ℕ → List ℕ → Type 0) → Identity → List ℕ → List ℕ → Type 0
-response_signed_by signs identity tbs bytes =
-    (signature : List ℕ) × signs identity tbs signature × (bytes ≡ ocsp_response tbs identity.algorithm signature)
+-- The bytes are the response signed: there is a signature of the ResponseData by who answers, and the bytes are the OCSPResponse
+-- of the ResponseData, the algorithm and the signature, with the certificate of who answers, where one stands there
+-- (RFC 6960 4.2.1, 4.2.2.2).
+abbrev pub response_signed_by : (Identity → List ℕ → List ℕ → Type 0) → Responder → List ℕ → List ℕ → Type 0
+response_signed_by signs responder tbs bytes =
+    (signature : List ℕ)
+    × signs responder.identity tbs signature
+    × (bytes ≡ ocsp_response tbs responder.identity.algorithm signature responder.certificate)
 
 -- the whole response: signed, over the ResponseData of the records
 pub record IsResponse
     (signs : Identity → List ℕ → List ℕ → Type 0)
-    (identity : Identity)
+    (responder : Responder)
     (records : Records)
     (now : ℕ)
     (ids : List Id)
@@ -53,8 +57,8 @@ pub record IsResponse
     (bytes : List ℕ)
     : Type 0 where
   pub tbs : List ℕ
-  pub of_records : IsOcspData records now ids nonce tbs
-  pub signed : response_signed_by signs identity tbs bytes
+  pub of_records : IsOcspData (responder_key responder records) records now ids nonce tbs
+  pub signed : response_signed_by signs responder tbs bytes
 
 -- tryLater where the clock refuses the moment, else a response of this kind
 abbrev pub IsTimely : Option Refusal → (List ℕ → Type 0) → List ℕ → Type 0
@@ -65,26 +69,26 @@ IsTimely None IsWhole bytes = IsWhole bytes
 -- on or before the last accepted one, and else the whole response
 abbrev pub IsReadReply
     : (Identity → List ℕ → List ℕ → Type 0)
-    → Identity
+    → Responder
     → Records
     → ℕ
     → List Id
     → Option (List ℕ)
     → List ℕ
     → Type 0
-IsReadReply signs identity records now ids nonce bytes =
+IsReadReply signs responder records now ids nonce bytes =
     (bytes ≡ refusal_response Internal)
     ⊎ IsTimely
     (first_of_all (clock_checks now records.last))
-    (IsResponse signs identity records now ids nonce)
+    (IsResponse signs responder records now ids nonce)
     bytes
 
 -- what bytes are answered: malformedRequest where they are no request, else what they ask
 abbrev pub IsOcspReply
-    : (Identity → List ℕ → List ℕ → Type 0) → Identity → Records → ℕ → List ℕ → List ℕ → Type 0
-IsOcspReply signs identity records now request bytes =
+    : (Identity → List ℕ → List ℕ → Type 0) → Responder → Records → ℕ → List ℕ → List ℕ → Type 0
+IsOcspReply signs responder records now request bytes =
     (HasNoReading request × (bytes ≡ refusal_response Malformed))
     ⊎ ((ids : List Id)
     × (nonce : Option (List ℕ))
     × IsRequest request ids nonce
-    × IsReadReply signs identity records now ids nonce bytes)
+    × IsReadReply signs responder records now ids nonce bytes)

@@ -10,23 +10,24 @@ use Rattle.reg_crl.specs.Signing.{Identity, signed_by}
 use Rattle.reg_laws.specs.Run.{Happens}
 use Rattle.reg_calls.specs.Answered.{IsAnswered, IsGiven}
 use Rattle.reg_calls.specs.Ocsp.{IsOcspReply}
+use Rattle.reg_calls.specs.Signatories.{Signatory}
 
 -- what is a signature, over what and by whom
 abbrev pub Signs : Type 1
 Signs = Identity → List ℕ → List ℕ → Type 0
 
--- a command: what it comes to by the rules, with CRLs that are signed by this identity
-abbrev pub Runs : Signs → Identity → Records → ℕ → Command → Result Reply Fault → Records → Type 0
-Runs signs identity = Happens (signed_by signs identity)
+-- a command: what it comes to by the rules, with CRLs that are signed by who signs them
+abbrev pub Runs : Signs → Signatory → Records → ℕ → Command → Result Reply Fault → Records → Type 0
+Runs signs who = Happens (signed_by signs who.crls)
 
 -- a query: its answer; the records stay
 abbrev pub Asks : Records → ℕ → Query → Result Reply Fault → Records → Type 0
 Asks before now query outcome after = IsAnswered before now query outcome × (after ≡ before)
 
 -- an OCSP request: its response (RFC 6960 4.2), or want of memory; the records stay
-abbrev pub Ocsps : Signs → Identity → Records → ℕ → List ℕ → Result (List ℕ) Memory → Records → Type 0
-Ocsps signs identity before now request (Ok response) after = IsOcspReply signs identity before now request response × (after ≡ before)
-Ocsps signs identity before now request (Err memory) after = after ≡ before
+abbrev pub Ocsps : Signs → Signatory → Records → ℕ → List ℕ → Result (List ℕ) Memory → Records → Type 0
+Ocsps signs who before now request (Ok response) after = IsOcspReply signs who.answers before now request response × (after ≡ before)
+Ocsps signs who before now request (Err memory) after = after ≡ before
 
 -- the bytes of a CRL, or why there are none; the records stay
 abbrev pub Crls : Records → Option ℕ → Result (List ℕ) Fault → Records → Type 0

@@ -15,23 +15,27 @@ pub trait Keeper: Calls {
     ghost use Rattle.reg_crl.specs.Signing.{Identity};
     ghost use Rattle.reg_calls.specs.Steps.{Runs, Asks, Ocsps, Crls};
     ghost use Rattle.reg_calls.specs.Leads.{Leads};
+    ghost use Rattle.reg_calls.specs.Signatories.{Signatory};
 
     /// The medium has returned all that was written to it.
     ghost is_clean: { Self → Type 0 };
 
     /// The records that stand in the office, with who signs for it.
-    ghost stands: { Identity → Self → Records → Type 0 };
+    ghost stands: { Signatory → Self → Records → Type 0 };
 
     /// Which bytes are a signature over which, by whom.
     ghost signs: { Identity → List ℕ → List ℕ → Type 0 };
 
-    /// How many failures who signs for the office has counted.
+    /// How many failures who signs CRLs for the office has counted.
     ghost failures: { Self → ℕ };
+
+    /// How many failures who answers OCSP requests for the office has counted.
+    ghost answer_failures: { Self → ℕ };
 
     /// A command is a step by the rules.
     ghost runs_lead: { (s : Self) (now : ℕ) (command : Command) (outcome : Result Reply Fault) (t : Self)
         → Self.runs s now command outcome t
-        → Leads is_clean stands (λ identity before after. Runs signs identity before now command outcome after) s t };
+        → Leads is_clean stands (λ who before after. Runs signs who before now command outcome after) s t };
 
     /// A fault of the signer comes only where it counted a failure.
     ghost runs_count: { (s : Self) (now : ℕ) (command : Command) (outcome : Result Reply Fault) (t : Self)
@@ -40,7 +44,7 @@ pub trait Keeper: Calls {
     /// A query has its answer, and the records stay.
     ghost asks_lead: { (s : Self) (now : ℕ) (query : Query) (outcome : Result Reply Fault) (t : Self)
         → Self.asks s now query outcome t
-        → Leads is_clean stands (λ identity before after. Asks before now query outcome after) s t };
+        → Leads is_clean stands (λ who before after. Asks before now query outcome after) s t };
 
     /// Nothing is signed for a query, so no fault of the signer comes.
     ghost asks_unsigned: { (s : Self) (now : ℕ) (query : Query) (outcome : Result Reply Fault) (t : Self)
@@ -49,10 +53,10 @@ pub trait Keeper: Calls {
     /// An OCSP request has its response, or memory was wanting, and the records stay.
     ghost ocsps_lead: { (s : Self) (now : ℕ) (request : List ℕ) (given : Result (List ℕ) Memory) (t : Self)
         → Self.ocsps s now request given t
-        → Leads is_clean stands (λ identity before after. Ocsps signs identity before now request given after) s t };
+        → Leads is_clean stands (λ who before after. Ocsps signs who before now request given after) s t };
 
     /// The bytes of a CRL are those that the records have, and the records stay.
     ghost crls_lead: { (s : Self) (number : Option ℕ) (given : Result (List ℕ) Fault) (t : Self)
         → Self.crls s number given t
-        → Leads is_clean stands (λ identity before after. Crls before number given after) s t };
+        → Leads is_clean stands (λ who before after. Crls before number given after) s t };
 }

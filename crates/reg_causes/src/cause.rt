@@ -8,7 +8,7 @@ use sqlite::{Error, ErrorCode};
 use sqlite_std_file::OpenError;
 use std::io::ErrorKind;
 
-/// Why a call of the machine failed.
+/// Why a call of the machine failed, or who is to sign for a register does not fit it.
 #[derive(Clone, Copy, PartialEq, Eq)]
 pub enum Cause {
     /// Nothing lies at the path.
@@ -25,6 +25,12 @@ pub enum Cause {
     PortInUse,
     /// The machine's clock can't be read.
     Clock,
+    /// The latest CRL is signed under another algorithm.
+    OtherAlgorithm,
+    /// The latest CRL is signed under an algorithm that is not known here.
+    UnknownAlgorithm,
+    /// The issuer's key is none of the algorithm.
+    OtherKey,
 }
 
 impl Cause {
@@ -41,6 +47,9 @@ impl Cause {
             Cause::DiskFull => words(b"  disk full"),
             Cause::PortInUse => words(b"  port in use"),
             Cause::Clock => words(b"  clock"),
+            Cause::OtherAlgorithm => words(b"  latest CRL under another algorithm"),
+            Cause::UnknownAlgorithm => words(b"  latest CRL under an unknown algorithm"),
+            Cause::OtherKey => words(b"  issuer's key of another algorithm"),
         }
     }
 }

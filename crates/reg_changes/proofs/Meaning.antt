@@ -8,7 +8,7 @@ use Rattle.sqlite_sql.specs.declared.ops.CompareOp.TheVariants.{Eq, Lt}
 use Rattle.sqlite.specs.Listing.{understood}
 use Rattle.sqlite_tied.specs.Compute.{everything}
 use Rattle.reg_tables.specs.Schema.{register_schema}
-use Rattle.reg_changes.specs.declared.texts.TheConstants.{SWEEP, MARK_REVOKED, SET_LAST, PUT_SUBSCRIBER, PUT_ORDER, PUT_CERT, PUT_LETTER, PUT_REQUEST, SET_DECLINED, PUT_REVOCATION, PUT_LISTED, PUT_CRL, MARK_LISTED, CLEAR_STEPS}
+use Rattle.reg_changes.specs.declared.texts.TheConstants.{SWEEP, MARK_REVOKED, SET_LAST, SET_NAME, PUT_SUBSCRIBER, PUT_ORDER, PUT_CERT, PUT_LETTER, PUT_REQUEST, SET_DECLINED, PUT_REVOCATION, PUT_LISTED, PUT_CRL, MARK_LISTED, CLEAR_STEPS}
 use Rattle.reg_writing.proofs.Meaning.{updates, inserts, deletes, IsWriting}
 
 abbrev pub equals : Term → Term → Term
@@ -31,6 +31,10 @@ mark_revoked_means = record { plain = (refl, refl); is = refl }
 pub set_last_means : IsWriting SET_LAST.now (updates 0 0 [] (lit Null ∷ col 1 2 ∷ col 1 3 ∷ col 1 4 ∷ col 1 5 ∷ col 1 6 ∷ col 1 7 ∷ col 1 8 ∷ col 0 0 ∷ []))
 unfolding understood everything register_schema
 set_last_means = record { plain = (refl, refl); is = refl }
+
+pub set_name_means : IsWriting SET_NAME.now (updates 0 0 [] (lit Null ∷ col 1 2 ∷ col 0 0 ∷ col 1 4 ∷ col 1 5 ∷ col 1 6 ∷ col 1 7 ∷ col 1 8 ∷ col 1 9 ∷ []))
+unfolding understood everything register_schema
+set_name_means = record { plain = (refl, refl); is = refl }
 
 pub put_subscriber_means : IsWriting PUT_SUBSCRIBER.now (inserts 1 (col 0 0 ∷ lit Null ∷ col 0 1 ∷ []) 3)
 unfolding understood everything register_schema

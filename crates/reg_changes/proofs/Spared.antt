@@ -1,6 +1,7 @@
 -- The tables show one row more, or one that is turned, where a statement wrote that and nothing else.
 use Rattle.std.proofs.Common.{◌≡◌, ℕ, List, [], ◌∷◌, ◌++◌, map, refl, ◌∙◌}
 use Rattle.sqlite_trees.specs.Tree.{Trees}
+use Rattle.reg_core.specs.Issuer.{Issuer}
 use Rattle.reg_core.specs.Policy.{IsPolicy}
 use Rattle.reg_core.specs.Records.{Records, Crl}
 use Rattle.reg_core.specs.Sound.{NumberedFrom}
@@ -12,6 +13,7 @@ use Rattle.reg_core.specs.declared.rows.RequestRow.{RequestRow}
 use Rattle.reg_core.specs.declared.rows.RevocationRow.{RevocationRow}
 use Rattle.reg_tables.specs.Rows.{counted_rows, stored_office, stored_subscriber, stored_order, stored_certificate, stored_request, stored_revocation, stored_crl, stored_step}
 use Rattle.reg_tables.specs.Shows.{AreRows, HaveSerials}
+use Rattle.reg_der.specs.Issuers.{with_issuer}
 use Rattle.reg_writing.proofs.Registers.{Spares}
 
 -- one subscriber more
@@ -207,6 +209,30 @@ schedule_is db after records steps spares rows is fact0 = record {
   crls = spares.same 11 refl refl ∙ rows.crls;
   schedule = is;
   policy = fact0;
+  subscribers_numbered = rows.subscribers_numbered;
+  orders_numbered = rows.orders_numbered;
+  requests_numbered = rows.requests_numbered;
+  crls_numbered = rows.crls_numbered;
+  certificate_serials = rows.certificate_serials;
+  request_serials = rows.request_serials;
+  revocation_serials = rows.revocation_serials;
+}
+
+-- another issuer
+pub issuer_is : (db after : Trees) (records : Records) (issuer : Issuer) → Spares 0 db after → (rows : AreRows db records)
+    → after 0 ≡ stored_office rows.days issuer records.policy records.last ∷ []
+    → AreRows after (with_issuer records issuer)
+issuer_is db after records issuer spares rows is = record {
+  days = rows.days;
+  office = is;
+  subscribers = spares.same 1 refl refl ∙ rows.subscribers;
+  orders = spares.same 3 refl refl ∙ rows.orders;
+  certificates = spares.same 4 refl refl ∙ rows.certificates;
+  requests = spares.same 7 refl refl ∙ rows.requests;
+  revocations = spares.same 8 refl refl ∙ rows.revocations;
+  crls = spares.same 11 refl refl ∙ rows.crls;
+  schedule = spares.same 17 refl refl ∙ rows.schedule;
+  policy = rows.policy;
   subscribers_numbered = rows.subscribers_numbered;
   orders_numbered = rows.orders_numbered;
   requests_numbered = rows.requests_numbered;

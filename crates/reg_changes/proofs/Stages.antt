@@ -5,6 +5,7 @@ use Rattle.sqlite_trees.specs.Tree.{Trees}
 use Rattle.sqlite.specs.Effect.{Database}
 use Rattle.sqlite.specs.State.{State}
 use Rattle.reg_core.specs.Changes.{with_schedule}
+use Rattle.reg_core.specs.Issuer.{Issuer}
 use Rattle.reg_core.specs.Records.{Records}
 use Rattle.reg_core.specs.Schedule.{IsSchedule}
 use Rattle.reg_tables.specs.Schema.{register_schema, longest}
@@ -14,6 +15,7 @@ use Rattle.reg_tables.specs.Kept.{Kept}
 use Rattle.reg_tables.specs.Shows.{IsShownBy, AreBoth}
 use Rattle.reg_writing.specs.Ran.{Ran}
 use Rattle.reg_writing.specs.Staged.{IsStaged}
+use Rattle.reg_der.specs.Issuers.{with_issuer}
 use Rattle.reg_changes.specs.declared.texts.TheConstants.{CLEAR_STEPS}
 use Rattle.reg_changes.proofs.Meaning.{clear_steps_means}
 use Rattle.reg_writing.proofs.Turning.{stored_keyed}
@@ -50,3 +52,7 @@ staged_first db records shown = record { schema = shown.schema; others = λ n kn
 
 pub kept_schedule : (columns : Columns) (records : Records) (steps : List (ℕ × ℕ)) → Kept columns records → Kept columns (with_schedule records steps)
 kept_schedule columns records steps kept = record { letters = kept.letters; counts = kept.counts; listed = kept.listed }
+
+-- what is kept beside the records does not go by the issuer
+pub kept_issuer : (columns : Columns) (records : Records) (issuer : Issuer) → Kept columns records → Kept columns (with_issuer records issuer)
+kept_issuer columns records issuer kept = record { letters = kept.letters; counts = kept.counts; listed = kept.listed }

@@ -2,7 +2,7 @@
 use Rattle.std.proofs.Common.{◌≡◌, ◌+◌, ℕ, pos, Bool, true, false, cond, ◌&&◌, List, [], ◌∷◌, map, length, filter, codes, Option, Some, None, is_none, IsTrue, refl, sym, ap, ap₂, subst, ◌∙◌, arith}
 use Rattle.std.specs.Prelude.{nat_lt, ◌==◌}
 use Rattle.std.specs.List.{AllByRecursion}
-use Rattle.sqlite_value.specs.declared.value.Value.TheVariants.{Null, Int, Text}
+use Rattle.sqlite_value.specs.declared.value.Value.TheVariants.{Null, Int, Text, Blob}
 use Rattle.sqlite_value.specs.declared.keys.Collation.TheVariants.{Binary}
 use Rattle.sqlite_value.specs.Order.{Row}
 use Rattle.sqlite_value.proofs.OrderLemmas.{value_cmp-Null, value_cmp-apart}
@@ -14,6 +14,7 @@ use Rattle.sqlite_sql.specs.declared.ops.BinaryOp.TheVariants.{Is}
 use Rattle.sqlite_sql.specs.declared.ops.CompareOp.TheVariants.{Eq}
 use Rattle.sqlite.specs.State.{State}
 use Rattle.reg_core.specs.Changes.{touched, with_declined, declined_if}
+use Rattle.reg_core.specs.Issuer.{Issuer}
 use Rattle.reg_core.specs.Records.{Records}
 use Rattle.reg_core.specs.Serial.{IsSerial}
 use Rattle.reg_core.specs.Sound.{NumberedFrom}
@@ -27,15 +28,16 @@ use Rattle.reg_tables.proofs.Compares.{compares, and_true, eq_number, lt_number,
 use Rattle.reg_tables.proofs.Queries.{passes, all_of}
 use Rattle.reg_writing.specs.Ran.{Ran}
 use Rattle.reg_writing.specs.Steps.{turned}
+use Rattle.reg_der.specs.Issuers.{with_issuer}
 use Rattle.reg_changes.specs.Steps.{lettered, swept, ended_by, is_good_at, revoked_at, good_at, has_passed, last_at, marked}
-use Rattle.reg_changes.specs.declared.texts.TheConstants.{SWEEP, MARK_REVOKED, SET_LAST, SET_DECLINED, MARK_LISTED}
+use Rattle.reg_changes.specs.declared.texts.TheConstants.{SWEEP, MARK_REVOKED, SET_LAST, SET_NAME, SET_DECLINED, MARK_LISTED}
 use Rattle.reg_writing.proofs.Meaning.{IsWriting, updates}
-use Rattle.reg_changes.proofs.Meaning.{equals, below, text, sweep_means, mark_revoked_means, set_last_means, set_declined_means, mark_listed_means}
+use Rattle.reg_changes.proofs.Meaning.{equals, below, text, sweep_means, mark_revoked_means, set_last_means, set_name_means, set_declined_means, mark_listed_means}
 use Rattle.reg_writing.proofs.Turning.{IsKeyed, behind_table, behind_keyed, behind_turned, behind_passing, stored_table, stored_keyed, stored_turned}
 use Rattle.reg_writing.proofs.Edits.{made, Turns, cast_int, cast_null}
 use Rattle.reg_writing.proofs.Registers.{turns_rows, turns_spares}
 use Rattle.reg_writing.proofs.Spared.{rows_spared, columns_spared, letters_are, listings_are}
-use Rattle.reg_changes.proofs.Spared.{last_is, request_declined}
+use Rattle.reg_changes.proofs.Spared.{issuer_is, last_is, request_declined}
 use Rattle.reg_writing.proofs.Moving.{moves}
 
 -- a property that does not depend on what is turned stays
@@ -170,6 +172,26 @@ sets_last old new records columns now count ran before =
     let spares = turns_spares office _ _ old.now.trees new.now count turns in
     moves SET_LAST.now params old new count _ ran (record {
       shown = record { schema = turns.keeps_schema; rows = last_is old.now.trees new.now.trees records now spares both.shown.rows rows };
+      kept = columns_spared 0 old.now.trees new.now.trees columns spares refl refl refl (ap office_days rows ∙ sym (ap office_days was)) both.kept;
+    })
+
+pub sets_name : (old new : State) (records : Records) (columns : Columns) (issuer : Issuer) (count : ℕ) → records.issuer.key ≡ issuer.key → Ran SET_NAME.now (Blob issuer.name ∷ []) old new count
+    → (IsTrue old.is_open → AreBoth old.now records columns) → Moves old new (λ db. AreBoth db (with_issuer records issuer) columns)
+unfolding register_schema
+sets_name old new records columns issuer count key ran before =
+    let params = Blob issuer.name ∷ [] in
+    let those = lit Null ∷ col 1 2 ∷ col 0 0 ∷ col 1 4 ∷ col 1 5 ∷ col 1 6 ∷ col 1 7 ∷ col 1 8 ∷ col 1 9 ∷ [] in
+    let both = before ran.was_open in
+    let was = both.shown.rows.office in
+    let turns : Turns register_schema office (passes [] params) (made office those params) old.now.trees new.now count =
+    turns_rows SET_NAME.now params old new count ran both.shown.schema 0 office refl [] those set_name_means refl (subst IsTable (sym was) (tt, tt)) (subst (AllByRecursion IsKeyed) (sym was) (refl, tt)) in
+    let named : new.now.trees 0 ≡ stored_office both.shown.rows.days (record { name = issuer.name; key = records.issuer.key }) records.policy records.last ∷ [] =
+    turns.rows ∙ ap (map (turned (passes [] params) (made office those params))) was ∙ simp (cast_int, cast_null) in
+    let rows : new.now.trees 0 ≡ stored_office both.shown.rows.days issuer records.policy records.last ∷ [] =
+    named ∙ ap (λ k. stored_office both.shown.rows.days (record { name = issuer.name; key = k }) records.policy records.last ∷ []) key in
+    let spares = turns_spares office _ _ old.now.trees new.now count turns in
+    moves SET_NAME.now params old new count _ ran (record {
+      shown = record { schema = turns.keeps_schema; rows = issuer_is old.now.trees new.now.trees records issuer spares both.shown.rows rows };
       kept = columns_spared 0 old.now.trees new.now.trees columns spares refl refl refl (ap office_days rows ∙ sym (ap office_days was)) both.kept;
     })
 

@@ -6,6 +6,7 @@ use Rattle.sqlite.specs.Held.{Held}
 use Rattle.reg_core.specs.declared.change.Change.{Change}
 use Rattle.reg_core.specs.Changes.{Fits, changed_by, with_crl, with_schedule}
 use Rattle.reg_core.specs.Crls.{next_number}
+use Rattle.reg_core.specs.Issuer.{Issuer}
 use Rattle.reg_core.specs.Records.{Records}
 use Rattle.reg_core.specs.declared.rows.CrlRow.{CrlRow}
 use Rattle.reg_core.specs.Sound.{SoundRows}
@@ -13,6 +14,7 @@ use Rattle.reg_tables.specs.Columns.{Columns}
 use Rattle.reg_tables.specs.Kept.{ShowsKept}
 use Rattle.reg_tables.specs.Shows.{ShowsBoth}
 use Rattle.reg_changes.specs.Beside.{after}
+use Rattle.reg_der.specs.Issuers.{with_issuer}
 use Rattle.reg_writing.specs.AtRest.{AreRowsOf, AreARegisters, IsAtRest}
 
 -- the rows of the tables as a change leaves them: the records are those after it, with what follows from them
@@ -34,3 +36,7 @@ IsEntered g old now change not_after trees =
 -- the rows of the tables as a schedule that is set leaves them
 abbrev pub IsScheduled : {S : Type 0} → Ghosts S → Held S → List (ℕ × ℕ) → Trees → Type 0
 IsScheduled g old steps trees = (records : Records) → ShowsKept g old records → IsAtRest (with_schedule records steps) trees
+
+-- the rows of the tables as another issuer with the same key leaves them
+abbrev pub IsNamed : {S : Type 0} → Ghosts S → Held S → Issuer → Trees → Type 0
+IsNamed g old issuer trees = (records : Records) → ShowsKept g old records → records.issuer.key ≡ issuer.key → IsAtRest (with_issuer records issuer) trees

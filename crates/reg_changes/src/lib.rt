@@ -3,9 +3,11 @@
 
 mod applying;
 mod entering;
+mod naming;
 mod scheduling;
 pub mod steps;
 mod texts;
 
 pub use applying::apply;
+pub use naming::set_issuer;
 pub use scheduling::set_schedule;

@@ -12,6 +12,9 @@ pub(crate) const MARK_REVOKED: &str =
 /// The last accepted moment.
 pub(crate) const SET_LAST: &str = "UPDATE office SET last_at = ?1";
 
+/// What is kept of the issuer's Name.
+pub(crate) const SET_NAME: &str = "UPDATE office SET name = ?1";
+
 /// One subscriber more.
 pub(crate) const PUT_SUBSCRIBER: &str = "INSERT INTO subscriber (id, name) VALUES (?1, ?2)";
 

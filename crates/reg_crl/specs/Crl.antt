@@ -1,10 +1,11 @@
 -- The DER of CRLs (RFC 5280 5.1): what is signed in one, and the whole.
-use Rattle.std.specs.Prelude.{ℕ, ◌==◌, List, [], ◌∷◌, ◌++◌, if◌then◌else◌}
+use Rattle.std.specs.Prelude.{ℕ, ◌==◌, List, [], ◌∷◌, ◌++◌, unwrap_or, if◌then◌else◌}
 use Rattle.std.specs.List.{flat_map}
 use Rattle.sha1.specs.Sha1.{sha1}
 use Rattle.reg_core.specs.Issuer.{Issuer}
 use Rattle.reg_core.specs.Crls.{CertList}
 use Rattle.reg_core.specs.declared.rows.Entry.{Entry}
+use Rattle.reg_der.specs.Authority.{name_of, key_identifier_at}
 use Rattle.reg_der.specs.Der.{tlv}
 use Rattle.reg_der.specs.Values.{integer_value, bits_value, time_value}
 
@@ -29,9 +30,13 @@ unfoldable pub revoked_certificates : List Entry → List ℕ
 revoked_certificates [] = []
 revoked_certificates (entry ∷ rest) = tlv 48 (flat_map revoked_certificate (entry ∷ rest))
 
--- the authority key identifier extension, 2.5.29.35, with the keyIdentifier alone: the SHA-1 of the issuer's key (RFC 5280 5.2.1, 4.2.1.2)
-unfoldable pub authority_key_identifier : Issuer → List ℕ
-authority_key_identifier issuer = extension (85 ∷ 29 ∷ 35 ∷ []) (tlv 48 (tlv 128 (sha1 issuer.key)))
+-- the key identifier in a CRL of this number: the issuer's own where it has one there (RFC 5280 5.2.1, 4.2.1.1), else the SHA-1 of its key (RFC 5280 4.2.1.2)
+abbrev pub key_identifier : Issuer → ℕ → List ℕ
+key_identifier issuer number = unwrap_or (key_identifier_at issuer number) (sha1 issuer.key)
+
+-- the authority key identifier extension, 2.5.29.35, with the keyIdentifier alone (RFC 5280 5.2.1)
+unfoldable pub authority_key_identifier : List ℕ → List ℕ
+authority_key_identifier identifier = extension (85 ∷ 29 ∷ 35 ∷ []) (tlv 48 (tlv 128 identifier))
 
 -- the CRL number extension, 2.5.29.20 (RFC 5280 5.2.3)
 unfoldable pub crl_number : ℕ → List ℕ
@@ -39,12 +44,12 @@ crl_number number = extension (85 ∷ 29 ∷ 20 ∷ []) (integer_value number)
 
 -- crlExtensions, tagged [0]: the two that each CRL has (RFC 5280 5.2)
 unfoldable pub crl_extensions : Issuer → ℕ → List ℕ
-crl_extensions issuer number = tlv 160 (tlv 48 (authority_key_identifier issuer ++ crl_number number))
+crl_extensions issuer number = tlv 160 (tlv 48 (authority_key_identifier (key_identifier issuer number) ++ crl_number number))
 
 -- the TBSCertList with these parts, a version 2 CRL (INTEGER 1): the part that is signed (RFC 5280 5.1.2)
 unfoldable pub tbs_cert_list : Issuer → List ℕ → ℕ → ℕ → ℕ → List Entry → List ℕ
 tbs_cert_list issuer algorithm number this_update next_update entries =
-    tlv 48 (integer_value 1 ++ algorithm ++ issuer.name ++ time_value this_update ++ time_value next_update
+    tlv 48 (integer_value 1 ++ algorithm ++ name_of issuer ++ time_value this_update ++ time_value next_update
     ++ revoked_certificates entries ++ crl_extensions issuer number)
 
 -- the TBSCertList of a CRL that is signed by this algorithm

@@ -2,7 +2,7 @@
 
 ghost use Rattle.std.specs.Prelude.{◌≡◌, ◌++◌, ◌+◌, ◌*◌, ◌≤◌, ◌^◌, length, IfOk, OnOk};
 ghost use Rattle.std.specs.List.{flat_map};
-ghost use Rattle.reg_crl.specs.Crl.{extension, crl_entry_extensions, revoked_certificate, revoked_certificates, crl_extensions, authority_key_identifier, crl_number, tbs_cert_list, tbs_of, certificate_list};
+ghost use Rattle.reg_crl.specs.Crl.{extension, crl_entry_extensions, revoked_certificate, revoked_certificates, crl_extensions, authority_key_identifier, key_identifier, crl_number, tbs_cert_list, tbs_of, certificate_list};
 ghost use Rattle.reg_core.specs.Crls.{EntriesAscend};
 
 use reg_core::{Entry, Memory, Moment};
@@ -196,25 +196,38 @@ fn put_crl_extensions(
     ensures longer { OnOk result (length out.new.items ≤ length out.old.items + 200) }
 {
     let mut extensions = Vec::new(alloc);
-    put_authority_key_identifier(&mut extensions, alloc, issuer)?;
+    put_authority_key_identifier(&mut extensions, alloc, issuer, number)?;
     put_crl_number(&mut extensions, alloc, number)?;
     let mut sequence = Vec::new(alloc);
     put(&mut sequence, SEQUENCE, &extensions)?;
     put(out, CRL_EXTENSIONS, &sequence)
 }
 
-/// Appends the authority key identifier extension.
-#[tactic(auto, unfolding(crate::specs::Crl::authority_key_identifier))]
+/// Appends the authority key identifier extension of a CRL of this number.
 fn put_authority_key_identifier(
     out: &mut Vec<u8>,
     alloc: Global,
     issuer: &Issuer,
+    number: u64,
 ) -> Result<(), Memory>
-    ensures ok { OnOk result (out.new.items ≡ out.old.items ++ authority_key_identifier issuer.now) }
-    ensures longer { OnOk result (length out.new.items ≤ length out.old.items + 60) }
+    ensures ok { OnOk result (out.new.items ≡ out.old.items ++ authority_key_identifier (key_identifier issuer.now number)) }
+    ensures longer { OnOk result (length out.new.items ≤ length out.old.items + 100) }
+{
+    match issuer.key_identifier(number) {
+        Some(identifier) => put_identifier(out, alloc, identifier.as_bytes()),
+        None => put_identifier(out, alloc, &issuer.key_sha1()),
+    }
+}
+
+/// Appends the authority key identifier extension with this keyIdentifier.
+#[tactic(auto, unfolding(crate::specs::Crl::authority_key_identifier))]
+fn put_identifier(out: &mut Vec<u8>, alloc: Global, identifier: &[u8]) -> Result<(), Memory>
+    requires { length identifier.now ≤ 64 }
+    ensures ok { OnOk result (out.new.items ≡ out.old.items ++ authority_key_identifier identifier.now) }
+    ensures longer { OnOk result (length out.new.items ≤ length out.old.items + 100) }
 {
     let mut key_identifier = Vec::new(alloc);
-    put(&mut key_identifier, KEY_IDENTIFIER, &issuer.key_sha1())?;
+    put(&mut key_identifier, KEY_IDENTIFIER, identifier)?;
     let mut value = Vec::new(alloc);
     put(&mut value, SEQUENCE, &key_identifier)?;
     put_extension(out, alloc, AUTHORITY_KEY_IDENTIFIER, &value)

@@ -2,4 +2,5 @@ pub mod Octets
 pub mod Values
 pub mod Integers
 pub mod Names
+pub mod KeyIdentifiers
 pub mod PublicLaws

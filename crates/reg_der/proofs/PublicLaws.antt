@@ -1,7 +1,9 @@
 -- The laws, for proofs above: they cite these alone. Each is stated in specs/, and is what a function of `laws` ensures.
 use Rattle.reg_der.specs.Der.{NoTwoPrefixes, LengthIsFewest, ValuesHaveSizes}
 use Rattle.reg_der.specs.Reading.{ReadsValues, ReadsAgain}
+use Rattle.reg_der.specs.Authority.{IdentifiersFollow, NamesArePlain}
 use Rattle.reg_der.proofs.Values as values
+use Rattle.reg_der.proofs.KeyIdentifiers as identifiers
 use Rattle.reg_core.specs.Laws.{OneNumber}
 use Rattle.reg_core.proofs.PublicLaws as octets
 
@@ -19,6 +21,12 @@ value_takes = values.value_takes
 
 pub value_again : ReadsAgain
 value_again = values.value_again
+
+pub identifiers_follow : IdentifiersFollow
+identifiers_follow = identifiers.identifiers_follow
+
+pub names_are_plain : NamesArePlain
+names_are_plain = identifiers.names_are_plain
 
 -- a law of reg_core
 pub one_number : OneNumber

@@ -1,8 +1,12 @@
--- What names an issuer.
-use Rattle.std.specs.Prelude.{ℕ, ◌≤◌, List, length}
-use Rattle.reg_core.specs.Integer.{IsBytes}
+-- What names an issuer, and what its CRLs say of its key.
+use Rattle.std.specs.Prelude.{◌≡◌, ℕ, zero, suc, ◌<◌, ◌≤◌, ◌^◌, ◌==◌, nat_le, nat_lt, ◌&&◌, List, [], ◌∷◌, ◌++◌, length, take, drop, Option, Some, None, IsSome, option_map, unwrap_or, if◌then◌else◌}
+use Rattle.std.specs.Int.{bytes_high_first}
+use Rattle.reg_core.specs.Integer.{IsBytes, value}
 use Rattle.reg_core.specs.Issuer as core
-use Rattle.reg_der.specs.Der.{IsTlv}
+use Rattle.reg_core.specs.Label.{IsLabel}
+use Rattle.reg_der.specs.Der.{IsTlv, tlv}
+use Rattle.reg_der.specs.Reading.{◌>>=◌, Parts, value_at}
+use Rattle.reg_der.specs.declared.identifiers.KeyIdentifier.{KeyIdentifier}
 
 -- a Name: one SEQUENCE, and not an empty one (RFC 5280 4.1.2.4), at most 1,024 bytes
 pub record IsName (name : List ℕ) : Type 0 where
@@ -17,7 +21,98 @@ pub record IsKey (key : List ℕ) : Type 0 where
   pub some : 1 ≤ length key
   pub short : length key ≤ 2048
 
--- the name and the key are within their limits
+-- ---- what is kept of a Name: the Name, and behind it the issuer's own key identifiers, the latest first
+
+-- the Name, which is the value at the front
+unfoldable pub name_in : List ℕ → List ℕ
+name_in kept = unwrap_or (option_map (λ x. tlv x.0.tag x.0.contents) (value_at kept)) []
+
+-- what stands behind it
+unfoldable pub behind_name : List ℕ → List ℕ
+behind_name kept = unwrap_or (option_map (λ x. x.1) (value_at kept)) []
+
+-- a key identifier of 1 to 64 octets (RFC 5280 4.2.1.2) is tagged [0]: the number of the first CRL that has it, in eight octets, and then the identifier
+unfoldable pub identifier_value : ℕ → List ℕ → List ℕ
+identifier_value first octets = tlv 128 (bytes_high_first 8 first ++ octets)
+
+-- the key identifier at the front, and what follows
+unfoldable pub identifier_at : List ℕ → Option (KeyIdentifier × List ℕ)
+identifier_at bytes =
+    value_at bytes >>= λ x.
+    if (x.0.tag == 128 && nat_lt 8 (length x.0.contents)) && nat_lt (length x.0.contents) 73
+    then Some (record { first = value (take 8 x.0.contents); octets = drop 8 x.0.contents }, x.1)
+    else None
+
+-- as many key identifiers as there are, with fuel: each takes a byte at least
+abbrev pub identifiers_by : ℕ → List ℕ → Option (List KeyIdentifier)
+identifiers_by fuel [] = Some []
+identifiers_by zero (first ∷ rest) = None
+identifiers_by (suc fuel) (first ∷ rest) = identifier_at (first ∷ rest) >>= λ x. identifiers_by fuel x.1 >>= λ xs. Some (x.0 ∷ xs)
+
+-- the key identifiers that bytes are, and none where they are anything else
+abbrev pub identifiers_at : List ℕ → Option (List KeyIdentifier)
+identifiers_at bytes = identifiers_by (length bytes) bytes
+
+-- a Name, and behind it key identifiers and nothing else
+pub record IsKept (kept : List ℕ) : Type 0 where
+  pub each : IsBytes kept
+  pub name : IsName (name_in kept)
+  pub identifiers : IsSome (identifiers_at (behind_name kept))
+
+-- what is kept of the Name, and the key, are within their limits
 pub record IsIssuer (issuer : core.Issuer) : Type 0 where
-  pub name : IsName issuer.name
+  pub name : IsKept issuer.name
   pub key : IsKey issuer.key
+
+-- ---- what they say
+
+-- the issuer's Name (RFC 5280 4.1.2.4)
+abbrev pub name_of : core.Issuer → List ℕ
+name_of issuer = name_in issuer.name
+
+-- the issuer's own key identifiers, the latest first
+abbrev pub key_identifiers : core.Issuer → List KeyIdentifier
+key_identifiers issuer = unwrap_or (identifiers_at (behind_name issuer.name)) []
+
+-- the first of them, and so the latest, that a CRL of this number has
+abbrev pub identifier_for : List KeyIdentifier → ℕ → Option (List ℕ)
+identifier_for [] number = None
+identifier_for (identifier ∷ rest) number = if nat_le identifier.first number then Some identifier.octets else identifier_for rest number
+
+-- the key identifier of its own that the issuer has in the CRL of this number, where it has one (RFC 5280 5.2.1, 4.2.1.2)
+abbrev pub key_identifier_at : core.Issuer → ℕ → Option (List ℕ)
+key_identifier_at issuer number = identifier_for (key_identifiers issuer) number
+
+-- key identifiers but for the latest, where it begins with the CRL of this number too
+abbrev pub but_for : ℕ → Option (KeyIdentifier × List ℕ) → List ℕ → List ℕ
+but_for first None bytes = bytes
+but_for first (Some latest) bytes = if latest.0.first == first then latest.1 else bytes
+
+unfoldable pub others_than : ℕ → List ℕ → List ℕ
+others_than first bytes = but_for first (identifier_at bytes) bytes
+
+-- the issuer with one key identifier more, which the CRLs have from this number on; it takes the place of one from the same number on
+abbrev pub with_identifier : core.Issuer → ℕ → List ℕ → core.Issuer
+with_identifier issuer first octets =
+    record { name = name_in issuer.name ++ identifier_value first octets ++ others_than first (behind_name issuer.name); key = issuer.key }
+
+-- it has the Name and the key that it had, the new key identifier from that CRL on, and in earlier CRLs what it had there
+pub record HasIdentifier (issuer : core.Issuer) (first : ℕ) (octets : List ℕ) : Type 0 where
+  pub within : IsIssuer (with_identifier issuer first octets)
+  pub name : name_of (with_identifier issuer first octets) ≡ name_of issuer
+  pub key : (with_identifier issuer first octets).key ≡ issuer.key
+  pub later : (number : ℕ) → first ≤ number → key_identifier_at (with_identifier issuer first octets) number ≡ Some octets
+  pub earlier : (number : ℕ) → number < first → key_identifier_at (with_identifier issuer first octets) number ≡ key_identifier_at issuer number
+
+abbrev pub IdentifiersFollow : Type 0
+IdentifiersFollow =
+    (issuer : core.Issuer) (first : ℕ) (octets : List ℕ) → IsIssuer issuer → first < 2 ^ 64 → IsLabel octets → HasIdentifier issuer first octets
+
+-- where nothing but the Name is kept, it is the Name, and no CRL has a key identifier of the issuer's own
+pub record IsPlain (issuer : core.Issuer) : Type 0 where
+  pub within : IsKept issuer.name
+  pub name : name_of issuer ≡ issuer.name
+  pub none : (number : ℕ) → key_identifier_at issuer number ≡ None
+
+abbrev pub NamesArePlain : Type 0
+NamesArePlain = (issuer : core.Issuer) → IsName issuer.name → IsPlain issuer

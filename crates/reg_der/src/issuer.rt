@@ -1,11 +1,14 @@
 //! The issuer of CRLs and OCSP responses: its name and its key.
 
-ghost use Rattle.std.specs.Prelude.{◌≡◌, ◌↔◌, IfOk, OnOk, IsErrOf, IsTrue};
+ghost use Rattle.std.specs.Prelude.{◌≡◌, ◌≤◌, ◌↔◌, ◌++◌, length, IfOk, IfSome, OnOk, IsErrOf, IsTrue};
 ghost use Rattle.sha1.specs.Sha1.{sha1};
-ghost use Rattle.reg_der.specs.Authority.{IsName, IsKey, IsIssuer};
+ghost use Rattle.reg_der.specs.Authority.{IsName, IsKey, IsKept, IsIssuer, name_in, behind_name, name_of, key_identifier_at, with_identifier, HasIdentifier};
 ghost use Rattle.reg_der.specs.declared.issuer.IssuerFault.TheVariants.{Memory};
 
+use crate::identifiers::{KEY_IDENTIFIER, are_identifiers, identifier_for, others_than};
 use crate::reading::take;
+use crate::writing::put;
+use reg_core::{Label, Memory};
 use sha1::Sha1;
 use std::alloc::{AllocError, Global};
 use std::marker::Model;
@@ -38,10 +41,11 @@ impl From<AllocError> for IssuerFault {
     }
 }
 
-/// The issuer of CRLs and OCSP responses. Contracts see its name and its key, as lists of bytes.
+/// The issuer of CRLs and OCSP responses: its Name, its key, and the key identifiers that it has of its own. Contracts see
+/// what is kept of its Name, and its key, as lists of bytes.
 #[derive(Drop)]
 pub struct Issuer {
-    /// The DER value of the Name.
+    /// The DER value of the Name, and behind it the issuer's own key identifiers, the latest first.
     name: Vec<u8>,
     /// The contents of the subjectPublicKey BIT STRING, without the octet that counts unused bits.
     key: Vec<u8>,
@@ -63,30 +67,90 @@ impl Issuer {
     ///
     /// The name is one DER value of tag 30h with contents, of at most 1,024 bytes in all (RFC 5280 4.1.2.4). The key is
     /// the contents of the subjectPublicKey BIT STRING without tag, length and the octet that counts unused bits, 1 to
-    /// 2,048 bytes (RFC 5280 4.1.2.7).
+    /// 2,048 bytes (RFC 5280 4.1.2.7). It has no key identifier of its own.
     pub fn new(alloc: Global, name: &[u8], key: &[u8]) -> Result<Issuer, IssuerFault>
         ensures ok { IfOk result (λ issuer. (issuer.name ≡ name.now) × (issuer.key ≡ key.now)) }
         ensures good { OnOk result (IsName name.now × IsKey key.now) }
         ensures bad_name { IsErrOf result IssuerFault.BadName ↔ ¬ (IsName name.now) }
         ensures bad_key { IsErrOf result IssuerFault.BadKey ↔ (IsName name.now × ¬ (IsKey key.now)) }
     {
-        if !is_name(name) {
+        if is_name(name) {
+            Issuer::of_kept(alloc, name, key)
+        } else {
+            Err(IssuerFault::BadName)
+        }
+    }
+
+    /// The issuer of which this is kept beside its key, or the first of the faults that there is, in their order.
+    ///
+    /// `BadName` where it isn't a Name as [`new`](Issuer::new) takes it, and behind it key identifiers and nothing else;
+    /// `BadKey` as there.
+    pub fn of_kept(alloc: Global, kept: &[u8], key: &[u8]) -> Result<Issuer, IssuerFault>
+        ensures ok { IfOk result (λ issuer. (issuer.name ≡ kept.now) × (issuer.key ≡ key.now)) }
+        ensures good { OnOk result (IsKept kept.now × IsKey key.now) }
+        ensures bad_name { IsErrOf result IssuerFault.BadName ↔ ¬ (IsKept kept.now) }
+        ensures bad_key { IsErrOf result IssuerFault.BadKey ↔ (IsKept kept.now × ¬ (IsKey key.now)) }
+    {
+        if !is_kept(kept) {
             return Err(IssuerFault::BadName);
         }
         if !is_key(key) {
             return Err(IssuerFault::BadKey);
         }
-        let name = Vec::from_slice(alloc, name)?;
+        let name = Vec::from_slice(alloc, kept)?;
         let key = Vec::from_slice(alloc, key)?;
         Ok(Issuer { name, key })
     }
 
+    /// The same issuer with one key identifier more, which its CRLs have from this number on; those with lower numbers have
+    /// what they had (`laws::identifiers_follow`). One from the same number on is replaced.
+    ///
+    /// # Errors
+    /// `Memory` where memory could not be had.
+    pub fn with_key_identifier(
+        &self,
+        alloc: Global,
+        first: u64,
+        octets: Label,
+    ) -> Result<Issuer, Memory>
+        ensures ok { IfOk result (λ issuer. issuer ≡ with_identifier self.now first octets) }
+        ensures follows { HasIdentifier self.now first octets }
+    {
+        let (name, behind) = parts(&self.name);
+        let mut contents = bytes_of(alloc, &first.to_be_bytes())?;
+        append(&mut contents, octets.as_bytes())?;
+        let mut kept = bytes_of(alloc, name)?;
+        put(&mut kept, KEY_IDENTIFIER, &contents)?;
+        append(&mut kept, others_than(behind, first))?;
+        Ok(Issuer {
+            name: kept,
+            key: bytes_of(alloc, &self.key)?,
+        })
+    }
+
     /// The DER value of the Name.
     pub fn name(&self) -> &[u8]
-        ensures name { result.now ≡ self.now.name }
+        ensures name { result.now ≡ name_of self.now }
         ensures within { IsName result.now }
     {
+        parts(&self.name).0
+    }
+
+    /// What is kept of the Name: its DER value, and behind it the issuer's own key identifiers, where it has any.
+    pub fn kept(&self) -> &[u8]
+        ensures kept { result.now ≡ self.now.name }
+        ensures within { IsKept result.now }
+    {
         &self.name
+    }
+
+    /// The key identifier of its own that the issuer has in the CRL of this number (RFC 5280 5.2.1), or `None` where it has
+    /// none there: then it is the SHA-1 of the key (RFC 5280 4.2.1.2).
+    pub fn key_identifier(&self, number: u64) -> Option<Label>
+        ensures identifier { result ≡ key_identifier_at self.now number }
+        ensures short { IfSome result (λ octets. length octets ≤ 64) }
+    {
+        identifier_for(parts(&self.name).1, number)
     }
 
     /// The contents of the subjectPublicKey BIT STRING, without the octet that counts unused bits.
@@ -99,17 +163,52 @@ impl Issuer {
 
     /// The SHA-1 of the DER value of the Name, the issuerNameHash of a CertID (RFC 6960 4.1.1).
     pub fn name_sha1(&self) -> [u8; 20]
-        ensures { result ≡ sha1 self.now.name }
+        ensures { result ≡ sha1 (name_of self.now) }
     {
-        Sha1::digest(&self.name)
+        Sha1::digest(self.name())
     }
 
-    /// The SHA-1 of the key, the issuerKeyHash of a CertID (RFC 6960 4.1.1) and its key identifier (RFC 5280 4.2.1.2).
+    /// The SHA-1 of the key, the issuerKeyHash of a CertID (RFC 6960 4.1.1), and the key identifier of an issuer that has none
+    /// of its own (RFC 5280 4.2.1.2).
     pub fn key_sha1(&self) -> [u8; 20]
         ensures { result ≡ sha1 self.now.key }
     {
         Sha1::digest(&self.key)
     }
+}
+
+/// The Name at the front of what is kept, and what stands behind it.
+#[tactic(auto, unfolding(crate::specs::Authority::name_in, crate::specs::Authority::behind_name))]
+fn parts(kept: &[u8]) -> (&[u8], &[u8])
+    ensures name { result.0.now ≡ name_in kept.now }
+    ensures behind { result.1.now ≡ behind_name kept.now }
+{
+    match take(kept) {
+        Some((value, rest)) => (value.raw, rest),
+        None => (&[], &[]),
+    }
+}
+
+/// Whether the bytes are a Name, and behind it key identifiers and nothing else.
+fn is_kept(kept: &[u8]) -> bool
+    ensures { IsTrue result ↔ IsKept kept.now }
+{
+    let (name, behind) = parts(kept);
+    is_name(name) && are_identifiers(behind)
+}
+
+/// These bytes as a vector.
+fn bytes_of(alloc: Global, bytes: &[u8]) -> Result<Vec<u8>, Memory>
+    ensures { IfOk result (λ made. made.items ≡ bytes.now) }
+{
+    Vec::from_slice(alloc, bytes).map_err(|_| Memory)
+}
+
+/// Appends bytes as they are.
+fn append(out: &mut Vec<u8>, bytes: &[u8]) -> Result<(), Memory>
+    ensures { OnOk result (out.new.items ≡ out.old.items ++ bytes.now) }
+{
+    out.extend_from_slice(bytes).map_err(|_| Memory)
 }
 
 fn is_name(name: &[u8]) -> bool

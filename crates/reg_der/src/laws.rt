@@ -2,6 +2,7 @@
 
 ghost use Rattle.reg_der.specs.Der.{NoTwoPrefixes, LengthIsFewest, ValuesHaveSizes};
 ghost use Rattle.reg_der.specs.Reading.{ReadsValues, ReadsAgain};
+ghost use Rattle.reg_der.specs.Authority.{IdentifiersFollow, NamesArePlain};
 
 /// No two prefixes of the same bytes are values, so what `take` gives is the only one.
 pub fn no_two_prefixes()
@@ -23,4 +24,15 @@ pub fn values_have_sizes()
 pub fn values_are_read()
     ensures reads { ReadsValues }
     ensures again { ReadsAgain }
+{}
+
+/// An issuer with one key identifier more has its Name and its key as before; its CRLs have the new key identifier from that
+/// number on, and below it what they had.
+pub fn identifiers_follow()
+    ensures { IdentifiersFollow }
+{}
+
+/// Where nothing but a Name is kept, it is the issuer's Name, and no CRL has a key identifier of the issuer's own.
+pub fn names_are_plain()
+    ensures { NamesArePlain }
 {}

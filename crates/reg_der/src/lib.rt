@@ -1,12 +1,14 @@
 //! DER values read and written (X.690), and the issuer.
 #![tactic(auto)]
 
+mod identifiers;
 mod issuer;
 pub mod laws;
 mod reading;
 mod times;
 mod writing;
 
+pub use identifiers::KeyIdentifier;
 pub use issuer::{Issuer, IssuerFault};
 pub use reading::{Tlv, take};
 pub use writing::{put, put_bits, put_general, put_number, put_serial, put_utc_or_general};

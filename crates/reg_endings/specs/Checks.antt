@@ -1,11 +1,12 @@
 -- What a new register and a new schedule need.
-use Rattle.std.specs.Prelude.{◌≡◌, ◌⊎◌, ℕ, List, Ok}
+use Rattle.std.specs.Prelude.{◌≡◌, ◌⊎◌, ℕ, List, Ok, Option, Some, None}
 use Rattle.hex.specs.Hex.{decode_of}
 use Rattle.reg_core.specs.Issuer as core
 use Rattle.reg_core.specs.Policy.{Terms, IsPolicy}
 use Rattle.reg_core.specs.Schedule.{IsSchedule, one_step}
 use Rattle.reg_core.specs.declared.refusal.Fault.TheVariants as fault
-use Rattle.reg_der.specs.Authority.{IsIssuer}
+use Rattle.reg_core.specs.Label.{IsLabel}
+use Rattle.reg_der.specs.Authority.{IsName, IsKey, with_identifier}
 use Rattle.reg_endings.specs.declared.failure.Failure.{Failure}
 use Rattle.reg_endings.specs.declared.failure.Failure.TheVariants as failure
 
@@ -13,12 +14,34 @@ use Rattle.reg_endings.specs.declared.failure.Failure.TheVariants as failure
 pub record WritesIssuer (name key : List ℕ) (issuer : core.Issuer) : Type 0 where
   pub writes_name : decode_of name ≡ Ok issuer.name
   pub writes_key : decode_of key ≡ Ok issuer.key
-  pub within : IsIssuer issuer
+  pub is_name : IsName issuer.name
+  pub is_key : IsKey issuer.key
 
 -- want of memory, or the words write no issuer
 abbrev pub IsNoIssuer : List ℕ → List ℕ → Failure → Type 0
 IsNoIssuer name key why = (why ≡ failure.Fault fault.Memory)
     ⊎ ((why ≡ failure.BadIssuer) × ((issuer : core.Issuer) → ¬ WritesIssuer name key issuer))
+
+-- a word writes a key identifier of 1 to 64 octets in hexadecimal (RFC 5280 4.2.1.2)
+pub record WritesIdentifier (key_id octets : List ℕ) : Type 0 where
+  pub writes : decode_of key_id ≡ Ok octets
+  pub within : IsLabel octets
+
+-- want of memory, or the word writes no key identifier
+abbrev pub IsNoIdentifier : List ℕ → Failure → Type 0
+IsNoIdentifier key_id why = (why ≡ failure.Fault fault.Memory)
+    ⊎ ((why ≡ failure.BadIssuer) × ((octets : List ℕ) → ¬ WritesIdentifier key_id octets))
+
+-- the words write an issuer, which has in each of its CRLs the key identifier that a third word writes, where there is one
+abbrev pub WritesIdentified : List ℕ → List ℕ → Option (List ℕ) → core.Issuer → Type 0
+WritesIdentified name key None issuer = WritesIssuer name key issuer
+WritesIdentified name key (Some key_id) issuer =
+    (plain : core.Issuer) × (octets : List ℕ) × WritesIssuer name key plain × WritesIdentifier key_id octets × (issuer ≡ with_identifier plain 1 octets)
+
+-- want of memory, or the words write no such issuer
+abbrev pub IsNotIdentified : List ℕ → List ℕ → Option (List ℕ) → Failure → Type 0
+IsNotIdentified name key key_id why = (why ≡ failure.Fault fault.Memory)
+    ⊎ ((why ≡ failure.BadIssuer) × ((issuer : core.Issuer) → ¬ WritesIdentified name key key_id issuer))
 
 -- the terms of one longest validity
 abbrev pub terms_of : ℕ → ℕ → ℕ → ℕ → Terms
@@ -34,9 +57,9 @@ abbrev pub IsNoPolicy : Terms → Failure → Type 0
 IsNoPolicy terms why = (why ≡ failure.BadPolicy) × ¬ IsPolicy terms
 
 -- no issuer, or an issuer and no policy
-abbrev pub IsNoOffice : List ℕ → List ℕ → Terms → Failure → Type 0
-IsNoOffice name key terms why = IsNoIssuer name key why
-    ⊎ (((issuer : core.Issuer) × WritesIssuer name key issuer) × IsNoPolicy terms why)
+abbrev pub IsNoOffice : List ℕ → List ℕ → Option (List ℕ) → Terms → Failure → Type 0
+IsNoOffice name key key_id terms why = IsNotIdentified name key key_id why
+    ⊎ (((issuer : core.Issuer) × WritesIdentified name key key_id issuer) × IsNoPolicy terms why)
 
 -- the steps are no schedule
 abbrev pub IsNoSchedule : List (ℕ × ℕ) → Failure → Type 0

@@ -17,6 +17,7 @@ failure_line failure.OldVersion = codes "old-version"
 failure_line failure.BadIssuer = codes "bad-issuer"
 failure_line failure.BadPolicy = codes "bad-policy"
 failure_line failure.BadSigner = codes "bad-signer"
+failure_line failure.BadResponder = codes "bad-responder"
 failure_line failure.Refused = codes "refused"
 failure_line failure.Broken = codes "broken"
 
@@ -32,6 +33,7 @@ status (Err failure.OldVersion) = 1
 status (Err failure.BadIssuer) = 1
 status (Err failure.BadPolicy) = 1
 status (Err failure.BadSigner) = 1
+status (Err failure.BadResponder) = 1
 status (Err failure.Broken) = 1
 
 -- a register that can't be made, opened or changed, as the end of a job

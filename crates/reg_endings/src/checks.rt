@@ -2,16 +2,19 @@
 
 ghost use Rattle.std.specs.Prelude.{◌≡◌, ◌⊎◌, IfErr, IfOk, IsErr, Ok};
 ghost use Rattle.reg_core.specs.Schedule.{IsSchedule};
-ghost use Rattle.reg_endings.specs.Checks.{WritesIssuer, IsNoIssuer, IsNoPolicy, IsNoOffice, IsNoSchedule, terms_of};
+ghost use Rattle.reg_endings.specs.Checks.{WritesIssuer, WritesIdentifier, WritesIdentified, IsNoIssuer, IsNoIdentifier, IsNotIdentified, IsNoPolicy, IsNoOffice, IsNoSchedule, terms_of};
 ghost use Rattle.reg_core.specs.Policy.{IsPolicy};
 ghost use Rattle.hex.specs.Hex.{decode_of};
 
 use crate::failure::Failure;
 use hex::FromHexError;
-use reg_core::{Fault, Policy, Schedule};
+use reg_core::{Fault, Label, Memory, Policy, Schedule};
 use reg_der::{Issuer, IssuerFault};
 use reg_words::{Steps, Word};
 use std::alloc::Global;
+
+/// The number of a register's first CRL.
+const FIRST_CRL: u64 = 1;
 
 /// The issuer whose Name and key the two words write in hexadecimal. `BadIssuer` where a word is no hexadecimal
 /// text, or the Name or the key is not what an issuer has (RFC 5280 4.1.2.4, 4.1.2.7); else only want of memory.
@@ -26,6 +29,43 @@ pub fn issuer_of(alloc: Global, name: &Word<'_>, key: &Word<'_>) -> Result<Issue
         Err(IssuerFault::BadName) => Err(Failure::BadIssuer),
         Err(IssuerFault::BadKey) => Err(Failure::BadIssuer),
         Err(IssuerFault::Memory) => Err(Failure::Fault(Fault::Memory)),
+    }
+}
+
+/// The key identifier that the word writes in hexadecimal. `BadIssuer` where it is no hexadecimal text of 1 to 64 bytes; else
+/// only want of memory.
+pub fn key_identifier_of(alloc: Global, key_id: &Word<'_>) -> Result<Label, Failure>
+    ensures ok { IfOk result (WritesIdentifier key_id.now) }
+    ensures err { IfErr result (IsNoIdentifier key_id.now) }
+{
+    let octets = bytes_of(alloc, key_id)?;
+    match Label::of(&octets) {
+        Some(octets) => Ok(octets),
+        None => Err(Failure::BadIssuer),
+    }
+}
+
+/// The issuer whose Name and key the two words write, with the key identifier that a third one writes, where there is one,
+/// in each of its CRLs. `BadIssuer` as for the Name and the key, and then for the key identifier.
+pub fn identified_issuer_of(
+    alloc: Global,
+    name: &Word<'_>,
+    key: &Word<'_>,
+    key_id: &Option<Word<'_>>,
+) -> Result<Issuer, Failure>
+    ensures ok { IfOk result (WritesIdentified name.now key.now key_id.now) }
+    ensures err { IfErr result (IsNotIdentified name.now key.now key_id.now) }
+{
+    let issuer = issuer_of(alloc, name, key)?;
+    match key_id {
+        None => Ok(issuer),
+        Some(key_id) => {
+            let octets = key_identifier_of(alloc, key_id)?;
+            match issuer.with_key_identifier(alloc, FIRST_CRL, octets) {
+                Ok(issuer) => Ok(issuer),
+                Err(Memory) => Err(Failure::Fault(Fault::Memory)),
+            }
+        }
     }
 }
 
@@ -60,16 +100,17 @@ pub fn office_of(
     alloc: Global,
     name: &Word<'_>,
     key: &Word<'_>,
+    key_id: &Option<Word<'_>>,
     days: u64,
     crl_life: u64,
     ocsp_life: u64,
     cap: u64,
 ) -> Result<(Issuer, Policy), Failure>
-    ensures ok { IfOk result (λ made. WritesIssuer name.now key.now made.0
+    ensures ok { IfOk result (λ made. WritesIdentified name.now key.now key_id.now made.0
         × (made.1 ≡ terms_of days crl_life ocsp_life cap) × IsPolicy made.1) }
-    ensures err { IfErr result (IsNoOffice name.now key.now (terms_of days crl_life ocsp_life cap)) }
+    ensures err { IfErr result (IsNoOffice name.now key.now key_id.now (terms_of days crl_life ocsp_life cap)) }
 {
-    let issuer = issuer_of(alloc, name, key)?;
+    let issuer = identified_issuer_of(alloc, name, key, key_id)?;
     let policy = policy_of(days, crl_life, ocsp_life, cap)?;
     Ok((issuer, policy))
 }

@@ -25,6 +25,8 @@ pub enum Failure {
     BadPolicy,
     /// The latest CRL was signed under another algorithm, or the issuer's key is none of the algorithm.
     BadSigner,
+    /// A certificate that is to stand with OCSP answers is none, or is of another key than it is told for.
+    BadResponder,
     /// A reply at a counter was a refusal or a fault.
     Refused,
     /// An audit told what is not sound.
@@ -46,6 +48,7 @@ impl Failure {
             Failure::BadIssuer => words(b"bad-issuer"),
             Failure::BadPolicy => words(b"bad-policy"),
             Failure::BadSigner => words(b"bad-signer"),
+            Failure::BadResponder => words(b"bad-responder"),
             Failure::Refused => words(b"refused"),
             Failure::Broken => words(b"broken"),
         }

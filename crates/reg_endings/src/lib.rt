@@ -4,5 +4,7 @@
 mod checks;
 mod failure;
 
-pub use checks::{issuer_of, office_of, policy_of, schedule_of};
+pub use checks::{
+    identified_issuer_of, issuer_of, key_identifier_of, office_of, policy_of, schedule_of,
+};
 pub use failure::{Failure, status_of};

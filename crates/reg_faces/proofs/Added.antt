@@ -18,7 +18,8 @@ use Rattle.reg_http.specs.Asked.{Asked, refused, only, unread, malformed, ocsp_o
 use Rattle.reg_laws.specs.Run.{Happens}
 use Rattle.reg_faces.specs.Faces.{AddsARequestAtMost}
 use Rattle.reg_calls.specs.Steps.{Signs, Runs, Asks, Ocsps, Crls}
-use Rattle.reg_crl.specs.Signing.{Identity, signed_by}
+use Rattle.reg_calls.specs.Signatories.{Signatory}
+use Rattle.reg_crl.specs.Signing.{signed_by}
 
 -- records that stay
 pub nothing_added : (now : ℕ) (before after : Records) → after ≡ before → AddsARequestAtMost now before after
@@ -55,7 +56,7 @@ request_adds signed now serial word before after (Err Read) fault = absurd fault
 request_adds signed now serial word before after (Err Write) fault = absurd fault
 
 -- any answer
-pub answer_adds : (signs : Signs) (identity : Identity) (now : ℕ) (asked : Asked) (response : Response) (before after : Records)
+pub answer_adds : (signs : Signs) (identity : Signatory) (now : ℕ) (asked : Asked) (response : Response) (before after : Records)
     → RespondsTo (Runs signs identity) Asks (Ocsps signs identity) Crls now before asked response after → AddsARequestAtMost now before after
 answer_adds signs identity now (refused status) response before after answered = nothing_added now before after answered.0
 answer_adds signs identity now (only method) response before after answered = nothing_added now before after answered.0
@@ -67,4 +68,4 @@ answer_adds signs identity now (crl_of number) response before after (given, cam
 answer_adds signs identity now (status_of serial) response before after (given, came, is) = nothing_added now before after came.1
 answer_adds signs identity now counts_of response before after (given, came, is) = nothing_added now before after came.1
 answer_adds signs identity now (request_of serial word) response before after (given, came, is) =
-    request_adds (signed_by signs identity) now serial word before after given came
+    request_adds (signed_by signs identity.crls) now serial word before after given came

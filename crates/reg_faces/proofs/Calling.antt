@@ -7,7 +7,7 @@ use Rattle.reg_core.specs.declared.command.Query.{Query}
 use Rattle.reg_core.specs.declared.command.Reply.{Reply}
 use Rattle.reg_core.specs.declared.memory.Memory.{Memory}
 use Rattle.reg_core.specs.declared.refusal.Fault.{Fault}
-use Rattle.reg_crl.specs.Signing.{Identity}
+use Rattle.reg_calls.specs.Signatories.{Signatory}
 use Rattle.reg_lines.specs.Answer.{Answer, came_to, responded}
 use Rattle.reg_lines.specs.ByCalls.{ByCalls}
 use Rattle.reg_lines.specs.Meaning.{Meaning, tells, asks, asks_ocsp}
@@ -15,7 +15,7 @@ use Rattle.reg_calls.specs.Steps.{Signs, Runs, Asks, Ocsps}
 use Rattle.reg_calls.specs.Leads.{Leads}
 use Rattle.reg_faces.specs.Faces.{Lines}
 
-module _ {S : Type 0} (is_clean : S → Type 0) (stands : Identity → S → Records → Type 0) (signs : Signs)
+module _ {S : Type 0} (is_clean : S → Type 0) (stands : Signatory → S → Records → Type 0) (signs : Signs)
     (run : S → ℕ → Command → Result Reply Fault → S → Type 0) (ask : S → ℕ → Query → Result Reply Fault → S → Type 0)
     (ocsp : S → ℕ → List ℕ → Result (List ℕ) Memory → S → Type 0)
     (runs_lead : (s : S) (now : ℕ) (command : Command) (outcome : Result Reply Fault) (t : S) → run s now command outcome t

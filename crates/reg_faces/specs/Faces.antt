@@ -5,14 +5,14 @@ use Rattle.reg_core.specs.Records.{Records}
 use Rattle.reg_core.specs.Status.{counts}
 use Rattle.reg_core.specs.declared.refusal.Fault.TheVariants.{Signer}
 use Rattle.reg_core.specs.declared.rows.RequestRow.{RequestRow}
-use Rattle.reg_crl.specs.Signing.{Identity}
+use Rattle.reg_calls.specs.Signatories.{Signatory}
 use Rattle.reg_lines.specs.Answer.{Answer, came_to}
 use Rattle.reg_lines.specs.ByCalls.{ByCalls}
 use Rattle.reg_lines.specs.Meaning.{Meaning}
 use Rattle.reg_calls.specs.Steps.{Signs, Runs, Asks, Ocsps}
 
 -- what a line means and is answered, by what each call comes to
-abbrev pub Lines : Signs → Identity → Records → Meaning → Answer → Records → Type 0
+abbrev pub Lines : Signs → Signatory → Records → Meaning → Answer → Records → Type 0
 Lines signs identity = ByCalls (Runs signs identity) Asks (Ocsps signs identity)
 
 -- a line that is told a fault of the signer is one at which the signer counted a failure: how many it had counted before and after

@@ -5,11 +5,12 @@ use Rattle.reg_core.specs.Records.{Records}
 use Rattle.reg_core.specs.Sound.{Sound}
 use Rattle.reg_core.specs.declared.command.Reply.{Reply}
 use Rattle.reg_core.specs.declared.refusal.Fault.{Fault}
-use Rattle.reg_crl.specs.Signing.{Identity, signed_by}
+use Rattle.reg_crl.specs.Signing.{signed_by}
 use Rattle.reg_laws.specs.Import.{IsFault}
 use Rattle.reg_lines.specs.Import.{AllRan}
 use Rattle.reg_lines.specs.Replies.{outcome_line, with_lf}
 use Rattle.reg_faces.specs.Faces.{Lines}
+use Rattle.reg_calls.specs.Signatories.{Signatory}
 use Rattle.reg_calls.specs.Steps.{Signs}
 
 -- the reply tells a fault of memory, store, signer, input or output
@@ -25,12 +26,12 @@ RepliedAgain first second =
 -- first time: the second time adds no certificate, and each of its replies is as above.
 abbrev pub ImportsTwice : Signs → Type 0
 ImportsTwice signs =
-    (identity : Identity)
+    (identity : Signatory)
     (records between after : Records)
     (now : ℕ)
     (text : List ℕ)
     (out out' again again' : Option (List ℕ))
-    → Sound (signed_by signs identity) records
+    → Sound (signed_by signs identity.crls) records
     → (first : AllRan (Lines signs identity) now records between out out' text)
     → AllByRecursion (λ reply. ¬ TellsFault reply) first.replies
     → (second : AllRan (Lines signs identity) now between after again again' text)

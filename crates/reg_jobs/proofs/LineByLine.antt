@@ -6,7 +6,7 @@ use Rattle.std.proofs.lemmas.Bool.{false≢true}
 use Rattle.std.proofs.KnownBytes.{Appends-nil, Appends-trans, Consumes-nil, Consumes-trans}
 use Rattle.reg_core.specs.Records.{Records}
 use Rattle.reg_core.specs.declared.refusal.Fault.TheVariants as fault
-use Rattle.reg_crl.specs.Signing.{Identity}
+use Rattle.reg_calls.specs.Signatories.{Signatory}
 use Rattle.reg_calls.specs.Steps.{Signs}
 use Rattle.reg_calls.specs.Leads.{Leads}
 use Rattle.reg_endings.specs.declared.failure.Failure.{Failure}
@@ -320,10 +320,10 @@ module _ {H : Type 0} (tells : H → List ℕ → List ℕ → H → Type 0) (is
 
 -- ---- lines at the moment of the clock, or at their own
 
-module _ {S : Type 0} (is_clean : S → Type 0) (stands : Identity → S → Records → Type 0) (signs : Signs) (told : ℕ → Type 0) (s t : S)
+module _ {S : Type 0} (is_clean : S → Type 0) (stands : Signatory → S → Records → Type 0) (signs : Signs) (told : ℕ → Type 0) (s t : S)
     (lines replies : List (List ℕ)) where
   -- a run of lines, each by this
-  abbrev pub Runs : (Identity → Records → List ℕ → List ℕ → Records → Type 0) → Type 0
+  abbrev pub Runs : (Signatory → Records → List ℕ → List ℕ → Records → Type 0) → Type 0
   Runs line = Leads is_clean stands (λ identity before after. Answered (line identity) before lines replies after) s t
 
   pub clocked : (is_clocked : Bool) → is_clocked ≡ true → Runs (Entry signs told) → Runs (LineBy is_clocked signs told)

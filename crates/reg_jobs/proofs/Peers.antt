@@ -4,7 +4,7 @@ use Rattle.std.specs.Prelude.{Option, Some, Result, Ok, Err, IfErr}
 use Rattle.reg_core.specs.Records.{Records}
 use Rattle.reg_core.specs.declared.refusal.Fault.{Fault}
 use Rattle.reg_core.specs.declared.refusal.Fault.TheVariants as fault
-use Rattle.reg_crl.specs.Signing.{Identity}
+use Rattle.reg_calls.specs.Signatories.{Signatory}
 use Rattle.reg_faces.specs.Faces.{Lines}
 use Rattle.reg_calls.specs.Steps.{Signs, Runs, Asks, Ocsps, Crls}
 use Rattle.reg_calls.specs.Leads.{Leads}
@@ -33,9 +33,9 @@ module _ {S E W : Type 0} (answers : S → Meaning → Answer → S → Type 0) 
   script_bytes s t reader reader' writer writer' (Err (fault.Refused why)) ended = ended
 
 -- What stands in an office before and after, who signs, and the moment.
-module _ {S : Type 0} (is_clean : S → Type 0) (stands : Identity → S → Records → Type 0) (signs : Signs) (now : ℕ) where
+module _ {S : Type 0} (is_clean : S → Type 0) (stands : Signatory → S → Records → Type 0) (signs : Signs) (now : ℕ) where
   -- how one request ended whose bytes came, over a text that was empty
-  abbrev pub Ended : List ℕ → List ℕ → List ℕ → Result (Unit {0}) Fault → Identity → Records → Records → Type 0
+  abbrev pub Ended : List ℕ → List ℕ → List ℕ → Result (Unit {0}) Fault → Signatory → Records → Records → Type 0
   Ended came left written result identity before after =
       ServingEnds (Runs signs identity) Asks (Ocsps signs identity) Crls now before after (Some came) (Some left) (Some []) (Some written) result
 
@@ -67,7 +67,7 @@ module _ {S : Type 0} (is_clean : S → Type 0) (stands : Identity → S → Rec
 
   -- one that ended before it
   quiet : (s t : S) (came left written text : List ℕ) (why : Fault)
-      → ((identity : Identity) (before after other : Records) → Ended came left written (Err why) identity before after → Ended came left written (Err why) identity before other)
+      → ((identity : Signatory) (before after other : Records) → Ended came left written (Err why) identity before after → Ended came left written (Err why) identity before other)
       → Responded (Err why) written text
       → Leads is_clean stands (Ended came left written (Err why)) s t → t ≡ s
       → Leads is_clean stands (λ identity before after. ExchangeAt signs now identity before came text after) s t
@@ -152,7 +152,7 @@ module _ {S : Type 0} (is_clean : S → Type 0) (stands : Identity → S → Rec
       (stays is_clean stands s t same)
 
   -- how the script of one line ended, over a text
-  abbrev pub Ran : List ℕ → List ℕ → List ℕ → List ℕ → Result (Unit {0}) Fault → Identity → Records → Records → Type 0
+  abbrev pub Ran : List ℕ → List ℕ → List ℕ → List ℕ → Result (Unit {0}) Fault → Signatory → Records → Records → Type 0
   Ran came left start written result identity before after =
       ScriptEnds (Lines signs identity) (λ bytes. Some bytes) (λ bytes. Some bytes) before after (line_at now came) left start written result
 
@@ -206,7 +206,7 @@ module _ {S : Type 0} (is_clean : S → Type 0) (stands : Identity → S → Rec
       moved
 
 -- The script of a line alone, from a reader and a writer that tell their bytes.
-module _ {S : Type 0} (is_clean : S → Type 0) (stands : Identity → S → Records → Type 0) (signs : Signs) where
+module _ {S : Type 0} (is_clean : S → Type 0) (stands : Signatory → S → Records → Type 0) (signs : Signs) where
   pub alone_moves : {E W : Type 0} (remaining : E → List ℕ) (contents : W → List ℕ) (s t : S) (came text : List ℕ) (reader reader' : E) (writer writer' : W)
       (result : Result (Unit {0}) Fault) → remaining reader ≡ came → contents writer ≡ []
       → Leads is_clean stands
@@ -237,8 +237,8 @@ module _ {S : Type 0} (is_clean : S → Type 0) (stands : Identity → S → Rec
       moved
 
 -- What a handler answered, one after the other, as a run of its records.
-module _ {S : Type 0} (is_clean : S → Type 0) (stands : Identity → S → Records → Type 0)
-    (answers tells : S → List ℕ → List ℕ → S → Type 0) (kept_answers kept_tells : Identity → Records → List ℕ → List ℕ → Records → Type 0)
+module _ {S : Type 0} (is_clean : S → Type 0) (stands : Signatory → S → Records → Type 0)
+    (answers tells : S → List ℕ → List ℕ → S → Type 0) (kept_answers kept_tells : Signatory → Records → List ℕ → List ℕ → Records → Type 0)
     (lifts : (s : S) (came text : List ℕ) (t : S) → answers s came text t → Leads is_clean stands (λ i before after. kept_answers i before came text after) s t)
     (lifts_lines : (s : S) (came text : List ℕ) (t : S) → tells s came text t → Leads is_clean stands (λ i before after. kept_tells i before came text after) s t) where
   -- one of them

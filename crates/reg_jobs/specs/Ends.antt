@@ -8,12 +8,12 @@ use Rattle.reg_core.specs.Records.{Records, no_records}
 use Rattle.reg_core.specs.Schedule.{IsSchedule}
 use Rattle.reg_core.specs.declared.refusal.Fault.{Fault}
 use Rattle.reg_core.specs.declared.refusal.Fault.TheVariants as fault
-use Rattle.reg_crl.specs.Signing.{Identity}
+use Rattle.reg_calls.specs.Signatories.{Signatory}
 use Rattle.reg_faces.specs.Faces.{Lines}
 use Rattle.reg_calls.specs.Steps.{Crls}
 use Rattle.reg_calls.specs.declared.keeper.Keeper.{Ghosts as Keeper}
 use Rattle.reg_hub.specs.Exchange.{Input}
-use Rattle.reg_endings.specs.Checks.{WritesIssuer, IsNoOffice, IsNoSchedule, terms_of}
+use Rattle.reg_endings.specs.Checks.{WritesIdentified, WritesIdentifier, IsNoIdentifier, IsNoOffice, IsNoSchedule, terms_of}
 use Rattle.reg_endings.specs.Endings.{store_failure}
 use Rattle.reg_endings.specs.declared.failure.Failure.{Failure}
 use Rattle.reg_endings.specs.declared.failure.Failure.TheVariants as failure
@@ -27,18 +27,20 @@ use Rattle.reg_findings.specs.declared.verdict.Verdict.{Verdict}
 use Rattle.reg_findings.specs.declared.verdict.Verdict.TheVariants as verdict
 use Rattle.reg_wire.specs.Put.{AppendsFront}
 use Rattle.reg_wire.specs.Run.{Answered}
+use Rattle.reg_words.specs.declared.job.Answerer.{Answerer}
 use Rattle.reg_words.specs.declared.job.Job.{Job}
 use Rattle.reg_words.specs.declared.job.KeyHolder.{KeyHolder}
 use Rattle.reg_words.specs.declared.job.Job.TheVariants as job
 use Rattle.reg_words.specs.declared.job.Way.{Way}
 use Rattle.reg_jobs.specs.Asking.{AtCounter}
-use Rattle.reg_jobs.specs.Digest.{digest, digests}
+use Rattle.reg_jobs.specs.Digest.{digest_alone, digests}
 use Rattle.reg_jobs.specs.Failing.{IsMaking}
+use Rattle.reg_jobs.specs.Identifiers.{Identifies}
 use Rattle.reg_jobs.specs.Lined.{LineBy, LinesEnd}
 use Rattle.reg_jobs.specs.Sample.{sample_records}
 use Rattle.reg_jobs.specs.Schedules.{Reschedules}
 use Rattle.reg_jobs.specs.Serving.{OpenedAt, Opens, Serves, ServedAt}
-use Rattle.reg_jobs.specs.Signing.{Signing}
+use Rattle.reg_jobs.specs.Signing.{Signing, by_itself}
 use Rattle.reg_jobs.specs.Visits.{Visits, NotAudited, NotOpened, Makes, NotMade, ending_of}
 use Rattle.reg_jobs.specs.declared.front.Front.{Ghosts as Front}
 use Rattle.reg_jobs.specs.declared.place.Place.{Ghosts as Place}
@@ -53,10 +55,10 @@ abbrev pub SaysGiven : {W : Type 0} → (W → Option (List ℕ)) → W → W �
 SaysGiven contents writer writer' (Ok text) result = Says text (contents writer) (contents writer') result
 SaysGiven contents writer writer' (Err why) result = (result ≡ Err (failure.Fault why)) × (writer' ≡ writer)
 
--- a schedule that was set is told, or why it was not set is the end
-abbrev pub TellsSet : {W : Type 0} → (W → Option (List ℕ)) → W → W → Result (Unit {0}) StoreFault → Result (Unit {0}) Failure → Type 0
-TellsSet contents writer writer' (Ok done) result = Says (codes "schedule set\n") (contents writer) (contents writer') result
-TellsSet contents writer writer' (Err why) result = (result ≡ Err (store_failure why)) × IsCallFault why × (writer' ≡ writer)
+-- that something was set is told by a text, or why it was not set is the end
+abbrev pub TellsSet : {W : Type 0} → List ℕ → (W → Option (List ℕ)) → W → W → Result (Unit {0}) StoreFault → Result (Unit {0}) Failure → Type 0
+TellsSet text contents writer writer' (Ok done) result = Says text (contents writer) (contents writer') result
+TellsSet text contents writer writer' (Err why) result = (result ≡ Err (store_failure why)) × IsCallFault why × (writer' ≡ writer)
 
 -- the text of an audit that found all well is said, or there was no memory for it
 abbrev pub TellsSound : {W : Type 0} → List ℕ → (W → Option (List ℕ)) → W → W → Result (Unit {0}) Failure → Type 0
@@ -109,7 +111,15 @@ module _ {W P K : Type 0} (contents : W → Option (List ℕ)) (writer writer' :
         ((why : Failure) × (result ≡ Err why) × IsNoSchedule steps why × (writer' ≡ writer) × (place' ≡ place))
         ⊎ (IsSchedule steps × ((NotOpened places keeper place place' path None result × (writer' ≡ writer))
         ⊎ ((set : Result (Unit {0}) StoreFault) × Visits places keeper place place' path None (λ identity. Reschedules steps set)
-        × TellsSet contents writer writer' set result)))
+        × TellsSet (codes "schedule set\n") contents writer writer' set result)))
+
+    -- a key identifier of its own for the issuer of the register at a path: the word is looked at before the path is
+    abbrev pub KeyIdAt : List ℕ → List ℕ → Result (Unit {0}) Failure → Type 0
+    KeyIdAt path key_id result =
+        ((why : Failure) × (result ≡ Err why) × IsNoIdentifier key_id why × (writer' ≡ writer) × (place' ≡ place))
+        ⊎ ((octets : List ℕ) × WritesIdentifier key_id octets × ((NotOpened places keeper place place' path None result × (writer' ≡ writer))
+        ⊎ ((set : Result (Unit {0}) StoreFault) × Visits places keeper place place' path None (λ identity. Identifies octets set)
+        × TellsSet (codes "key-id set\n") contents writer writer' set result)))
 
     -- a path at which nothing lay was claimed, and the place after that; or something lay there, and the place is as it was
     abbrev pub Claims : List ℕ → P → Type 0
@@ -124,27 +134,27 @@ module _ {W P K : Type 0} (contents : W → Option (List ℕ)) (writer writer' :
         ⊎ (places.claimed place path start × (why ≢ failure.NotEmpty) × places.removed between path place')
 
     -- a new register at a path, of the issuer and the policy that are written, which are looked at before the path is
-    abbrev pub InitAt : List ℕ → List ℕ → List ℕ → Terms → Result (Unit {0}) Failure → Type 0
-    InitAt path name key terms result =
-        ((why : Failure) × (result ≡ Err why) × IsNoOffice name key terms why × (writer' ≡ writer) × (place' ≡ place))
-        ⊎ ((issuer : Issuer) × WritesIssuer name key issuer × IsPolicy terms
+    abbrev pub InitAt : List ℕ → List ℕ → List ℕ → Option (List ℕ) → Terms → Result (Unit {0}) Failure → Type 0
+    InitAt path name key key_id terms result =
+        ((why : Failure) × (result ≡ Err why) × IsNoOffice name key key_id terms why × (writer' ≡ writer) × (place' ≡ place))
+        ⊎ ((issuer : Issuer) × WritesIdentified name key key_id issuer × IsPolicy terms
         × ((start between : P) × Claims path start × MakesAt start between path issuer terms result × Leaves path start between result))
 
     -- HTTP requests over the register at a path (RFC 9112), which is opened before the port is bound: what came of each peer and what
     -- answered it, in this order
-    abbrev pub ServeAt : {F : Type 0} → Front F → List ℕ → Option KeyHolder → ℕ → ℕ → Result (Unit {0}) Failure → Type 0
-    ServeAt front path signer port requests result =
-        (NotOpened places keeper place place' path (Some signer) result × (writer' ≡ writer))
+    abbrev pub ServeAt : {F : Type 0} → Front F → List ℕ → Option KeyHolder → Answerer → ℕ → ℕ → Result (Unit {0}) Failure → Type 0
+    ServeAt front path signer answerer port requests result =
+        (NotOpened places keeper place place' path (Some (signer, answerer)) result × (writer' ≡ writer))
         ⊎ ((inputs : List Input) × (texts : List (List ℕ))
-        × Visits places keeper place place' path (Some signer) (Serves keeper.signs front.told inputs texts)
+        × Visits places keeper place place' path (Some (signer, answerer)) (Serves keeper.signs front.told inputs texts)
         × ServedAt contents writer writer' front.bound port requests inputs result)
 
     -- the same, and lines at a counter, until the program is ended
-    abbrev pub OpenAt : {F : Type 0} → Front F → List ℕ → Option KeyHolder → ℕ → List ℕ → Result (Unit {0}) Failure → Type 0
-    OpenAt front path signer port counter result =
-        (NotOpened places keeper place place' path (Some signer) result × (writer' ≡ writer))
+    abbrev pub OpenAt : {F : Type 0} → Front F → List ℕ → Option KeyHolder → Answerer → ℕ → List ℕ → Result (Unit {0}) Failure → Type 0
+    OpenAt front path signer answerer port counter result =
+        (NotOpened places keeper place place' path (Some (signer, answerer)) result × (writer' ≡ writer))
         ⊎ ((inputs : List Input) × (texts : List (List ℕ))
-        × Visits places keeper place place' path (Some signer) (Opens keeper.signs front.told inputs texts)
+        × Visits places keeper place place' path (Some (signer, answerer)) (Opens keeper.signs front.told inputs texts)
         × OpenedAt contents writer writer' front.bound front.laid port counter inputs result)
 
 -- A job over what is read and what is written: the reader and the writer before it and after it.
@@ -158,26 +168,26 @@ module _ {E W : Type 0} (remaining : E → Option (List ℕ)) (contents : W → 
   ScriptInMemory result =
       ((why : Failure) × (result ≡ Err why) × IsMaking why × IsSilent)
       ⊎ ((ran : Result (Unit {0}) Fault) × (result ≡ ending_of ran) × ((after : Records)
-      × ScriptEnds (Lines digests digest) remaining contents sample_records after reader reader' writer writer' ran))
+      × ScriptEnds (Lines digests digest_alone) remaining contents sample_records after reader reader' writer writer' ran))
 
   module _ {P K : Type 0} (places : Place P K) (keeper : Keeper K) (place place' : P) where
     -- a run over the register at a path: it could not be opened, or the run led from its records to those after it
-    abbrev pub RunsAt : List ℕ → Signing → (Result (Unit {0}) Fault → Identity → Records → Records → Type 0) → Result (Unit {0}) Failure → Type 0
+    abbrev pub RunsAt : List ℕ → Signing → (Result (Unit {0}) Fault → Signatory → Records → Records → Type 0) → Result (Unit {0}) Failure → Type 0
     RunsAt path signing Ran result =
         (NotOpened places keeper place place' path signing result × IsSilent)
         ⊎ ((ran : Result (Unit {0}) Fault) × (result ≡ ending_of ran) × Visits places keeper place place' path signing (Ran ran))
 
     -- a script over the register at a path
     abbrev pub ScriptAt : List ℕ → Option KeyHolder → Result (Unit {0}) Failure → Type 0
-    ScriptAt path signer = RunsAt path (Some signer) (λ ran identity before after.
+    ScriptAt path signer = RunsAt path (Some (signer, by_itself)) (λ ran identity before after.
         ScriptEnds (Lines keeper.signs identity) remaining contents before after reader reader' writer writer' ran)
 
     -- a script over the register at a path, run line by line
     abbrev pub LinesAt : {F : Type 0} → Front F → List ℕ → Option KeyHolder → Way → Result (Unit {0}) Failure → Type 0
     LinesAt front path signer way result =
-        (NotOpened places keeper place place' path (Some signer) result × IsSilent)
+        (NotOpened places keeper place place' path (Some (signer, by_itself)) result × IsSilent)
         ⊎ ((lines : List (List ℕ)) × (replies : List (List ℕ))
-        × Visits places keeper place place' path (Some signer)
+        × Visits places keeper place place' path (Some (signer, by_itself))
         (λ identity before after. Answered (LineBy way.is_clocked keeper.signs front.told identity) before lines replies after)
         × LinesEnd way.is_strict lines replies (remaining reader) (remaining reader') (contents writer) (contents writer') result)
 
@@ -189,8 +199,8 @@ module _ {E W : Type 0} (remaining : E → Option (List ℕ)) (contents : W → 
     -- the end of a job: what it read, what it did at its place to the register at its path and nothing else, and what it wrote; nothing
     -- holds the key of the sample issuer in memory
     abbrev pub Ends : {F : Type 0} → Front F → Job → Result (Unit {0}) Failure → Type 0
-    Ends front (job.Init file name key days crl_life ocsp_life cap) result = (reader' ≡ reader)
-        × InitAt contents writer writer' places keeper place place' file name key (terms_of days crl_life ocsp_life cap) result
+    Ends front (job.Init file name key key_id days crl_life ocsp_life cap) result = (reader' ≡ reader)
+        × InitAt contents writer writer' places keeper place place' file name key key_id (terms_of days crl_life ocsp_life cap) result
     Ends front (job.Script (Some file) signer) result = ScriptAt file signer result
     Ends front (job.Script None None) result = (place' ≡ place) × ScriptInMemory result
     Ends front (job.Script None (Some holder)) result = (place' ≡ place) × IsSilent × (result ≡ Err failure.BadSigner)
@@ -199,9 +209,11 @@ module _ {E W : Type 0} (remaining : E → Option (List ℕ)) (contents : W → 
     Ends front (job.Crl file number) result = (reader' ≡ reader) × CrlAt contents writer writer' places keeper place place' file number result
     Ends front (job.Schedule file steps) result =
         (reader' ≡ reader) × ScheduleAt contents writer writer' places keeper place place' file steps result
-    Ends front (job.Serve file port requests signer) result =
-        (reader' ≡ reader) × ServeAt contents writer writer' places keeper place place' front file signer port requests result
-    Ends front (job.Open file port counter signer) result =
-        (reader' ≡ reader) × OpenAt contents writer writer' places keeper place place' front file signer port counter result
+    Ends front (job.KeyId file key_id) result =
+        (reader' ≡ reader) × KeyIdAt contents writer writer' places keeper place place' file key_id result
+    Ends front (job.Serve file port requests signer answerer) result =
+        (reader' ≡ reader) × ServeAt contents writer writer' places keeper place place' front file signer answerer port requests result
+    Ends front (job.Open file port counter signer answerer) result =
+        (reader' ≡ reader) × OpenAt contents writer writer' places keeper place place' front file signer answerer port counter result
     Ends front (job.Audit file) result = (reader' ≡ reader) × AuditAt contents writer writer' places keeper place place' file result
     Ends front (job.At counter) result = (place' ≡ place) × AtCounter (front.met counter) (contents writer) (contents writer') result

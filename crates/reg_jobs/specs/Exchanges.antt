@@ -5,7 +5,7 @@ use Rattle.reg_core.specs.Lines.{fault_line}
 use Rattle.reg_core.specs.Records.{Records}
 use Rattle.reg_core.specs.declared.refusal.Fault.{Fault}
 use Rattle.reg_core.specs.declared.refusal.Fault.TheVariants as fault
-use Rattle.reg_crl.specs.Signing.{Identity}
+use Rattle.reg_calls.specs.Signatories.{Signatory}
 use Rattle.reg_faces.specs.Faces.{Lines}
 use Rattle.reg_calls.specs.Steps.{Signs, Runs, Asks, Ocsps, Crls}
 use Rattle.reg_heads.specs.Response.{memory_text}
@@ -25,7 +25,7 @@ Responded (Err (fault.Refused why)) written text = (text ≡ memory_text) ⊎ (t
 
 -- One HTTP exchange (RFC 9112) at a moment: the bytes that came from the peer, and the text that answers them. Where they were no whole
 -- request, or there was no memory for it, the records are as they were.
-pub record ExchangeAt (signs : Signs) (now : ℕ) (identity : Identity) (before : Records) (request text : List ℕ) (after : Records) : Type 0 where
+pub record ExchangeAt (signs : Signs) (now : ℕ) (identity : Signatory) (before : Records) (request text : List ℕ) (after : Records) : Type 0 where
   pub left : List ℕ
   pub written : List ℕ
   pub result : Result (Unit {0}) Fault
@@ -43,7 +43,7 @@ Replied (Ok done) written text = text ≡ written
 Replied (Err why) written text = (text ≡ fault_line why ++ 10 ∷ []) ⊎ (text ≡ [])
 
 -- One line: it ran as the script of that line alone.
-pub record LineRuns (signs : Signs) (identity : Identity) (before : Records) (line text : List ℕ) (after : Records) : Type 0 where
+pub record LineRuns (signs : Signs) (identity : Signatory) (before : Records) (line text : List ℕ) (after : Records) : Type 0 where
   pub left : List ℕ
   pub written : List ℕ
   pub result : Result (Unit {0}) Fault
@@ -51,14 +51,14 @@ pub record LineRuns (signs : Signs) (identity : Identity) (before : Records) (li
   pub replied : Replied result written text
 
 -- one line without a moment, at a moment
-abbrev pub EntryAt : Signs → ℕ → Identity → Records → List ℕ → List ℕ → Records → Type 0
+abbrev pub EntryAt : Signs → ℕ → Signatory → Records → List ℕ → List ℕ → Records → Type 0
 EntryAt signs now identity before line text after = LineRuns signs identity before (line_at now line) text after
 
 -- the same at a moment that a clock told
-abbrev pub Exchange : Signs → (ℕ → Type 0) → Identity → Records → List ℕ → List ℕ → Records → Type 0
+abbrev pub Exchange : Signs → (ℕ → Type 0) → Signatory → Records → List ℕ → List ℕ → Records → Type 0
 Exchange signs told identity before request text after = (now : ℕ) × told now × ExchangeAt signs now identity before request text after
 
-abbrev pub Entry : Signs → (ℕ → Type 0) → Identity → Records → List ℕ → List ℕ → Records → Type 0
+abbrev pub Entry : Signs → (ℕ → Type 0) → Signatory → Records → List ℕ → List ℕ → Records → Type 0
 Entry signs told identity before line text after = (now : ℕ) × told now × EntryAt signs now identity before line text after
 
 -- where there is no counter, no line comes

@@ -23,10 +23,11 @@ IsMaking failure.OldVersion = ⊥
 IsMaking failure.BadIssuer = ⊥
 IsMaking failure.BadPolicy = ⊥
 IsMaking failure.BadSigner = ⊥
+IsMaking failure.BadResponder = ⊥
 IsMaking failure.Refused = ⊥
 IsMaking failure.Broken = ⊥
 
--- of one that is opened: such a fault, a file that holds no register of a version up to this program's, or `bad-signer`
+-- of one that is opened: such a fault, a file that holds no register of a version up to this program's, `bad-signer` or `bad-responder`
 abbrev pub IsOpening : Failure → Type 0
 IsOpening (failure.Fault fault) = IsOfStore fault
 IsOpening failure.NotEmpty = ⊥
@@ -36,5 +37,6 @@ IsOpening failure.OldVersion = ⊥
 IsOpening failure.BadIssuer = ⊥
 IsOpening failure.BadPolicy = ⊥
 IsOpening failure.BadSigner = Unit {0}
+IsOpening failure.BadResponder = Unit {0}
 IsOpening failure.Refused = ⊥
 IsOpening failure.Broken = ⊥

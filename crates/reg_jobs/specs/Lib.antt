@@ -6,6 +6,7 @@ pub mod Failing
 pub mod Lined
 pub mod Log
 pub mod Sample
+pub mod Identifiers
 pub mod Schedules
 pub mod Sealing
 pub mod Serving

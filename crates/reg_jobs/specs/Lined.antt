@@ -4,7 +4,7 @@ use Rattle.std.specs.Io.KnownBytes.{Appends, Consumes, IsAtEnd}
 use Rattle.std.specs.List.{AllByRecursion, concat}
 use Rattle.reg_core.specs.Records.{Records}
 use Rattle.reg_core.specs.declared.refusal.Fault.TheVariants as fault
-use Rattle.reg_crl.specs.Signing.{Identity}
+use Rattle.reg_calls.specs.Signatories.{Signatory}
 use Rattle.reg_calls.specs.Steps.{Signs}
 use Rattle.reg_endings.specs.declared.failure.Failure.{Failure}
 use Rattle.reg_endings.specs.declared.failure.Failure.TheVariants as failure
@@ -14,7 +14,7 @@ use Rattle.reg_jobs.specs.Exchanges.{Entry, LineRuns}
 use Rattle.reg_wire.specs.Put.{AppendsFront}
 
 -- one line: at a moment that a clock told, or at its own
-abbrev pub LineBy : Bool → Signs → (ℕ → Type 0) → Identity → Records → List ℕ → List ℕ → Records → Type 0
+abbrev pub LineBy : Bool → Signs → (ℕ → Type 0) → Signatory → Records → List ℕ → List ℕ → Records → Type 0
 LineBy true signs told = Entry signs told
 LineBy false signs told = LineRuns signs
 

@@ -4,7 +4,7 @@ use Rattle.std.specs.declared.option.Option.{Option}
 use Rattle.std.specs.Io.KnownBytes.{Appends}
 use Rattle.reg_core.specs.Records.{Records}
 use Rattle.reg_core.specs.declared.refusal.Fault.TheVariants as fault
-use Rattle.reg_crl.specs.Signing.{Identity}
+use Rattle.reg_calls.specs.Signatories.{Signatory}
 use Rattle.reg_calls.specs.Steps.{Signs}
 use Rattle.reg_hub.specs.Exchange.{Input, Handles, asked_in}
 use Rattle.reg_endings.specs.declared.failure.Failure.{Failure}
@@ -14,11 +14,11 @@ use Rattle.reg_wire.specs.Put.{AppendsFront}
 use Rattle.reg_wire.specs.Run.{Answered}
 
 -- what peers made of the records: exchanges, one after the other, and nothing else
-abbrev pub Serves : Signs → (ℕ → Type 0) → List Input → List (List ℕ) → Identity → Records → Records → Type 0
+abbrev pub Serves : Signs → (ℕ → Type 0) → List Input → List (List ℕ) → Signatory → Records → Records → Type 0
 Serves signs told inputs texts identity before after = Answered (Handles (Exchange signs told identity) NoEntry) before inputs texts after
 
 -- what peers and lines at counters made of the records, one after the other, and nothing else
-abbrev pub Opens : Signs → (ℕ → Type 0) → List Input → List (List ℕ) → Identity → Records → Records → Type 0
+abbrev pub Opens : Signs → (ℕ → Type 0) → List Input → List (List ℕ) → Signatory → Records → Records → Type 0
 Opens signs told inputs texts identity before after =
     Answered (Handles (Exchange signs told identity) (Entry signs told identity)) before inputs texts after
 
@@ -51,6 +51,7 @@ Served port requests inputs out out' (Err failure.OldVersion) = ⊥
 Served port requests inputs out out' (Err failure.BadIssuer) = ⊥
 Served port requests inputs out out' (Err failure.BadPolicy) = ⊥
 Served port requests inputs out out' (Err failure.BadSigner) = ⊥
+Served port requests inputs out out' (Err failure.BadResponder) = ⊥
 Served port requests inputs out out' (Err failure.Refused) = ⊥
 Served port requests inputs out out' (Err failure.Broken) = ⊥
 

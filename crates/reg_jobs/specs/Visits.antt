@@ -2,7 +2,7 @@
 use Rattle.std.specs.Prelude.{◌≡◌, ℕ, List, Result, Ok, Err}
 use Rattle.reg_core.specs.Records.{Records}
 use Rattle.reg_core.specs.declared.refusal.Fault.{Fault}
-use Rattle.reg_crl.specs.Signing.{Identity}
+use Rattle.reg_calls.specs.Signatories.{Signatory}
 use Rattle.reg_calls.specs.Leads.{Leads}
 use Rattle.reg_calls.specs.declared.keeper.Keeper.{Ghosts as Keeper}
 use Rattle.reg_endings.specs.declared.failure.Failure.{Failure}
@@ -20,7 +20,7 @@ ending_of (Err fault) = Err (failure.Fault fault)
 module _ {P K : Type 0} (places : Place P K) (keeper : Keeper K) (place place' : P) where
   -- The register at a path was opened for these signatures, and then closed. The step leads from the records that stood in it, whatever they
   -- were, to those that stand there afterwards, where the medium has returned all that was written.
-  pub record Visits (path : List ℕ) (signing : Signing) (step : Identity → Records → Records → Type 0) : Type 0 where
+  pub record Visits (path : List ℕ) (signing : Signing) (step : Signatory → Records → Records → Type 0) : Type 0 where
     pub first : K
     pub last : K
     pub between : P
@@ -36,7 +36,7 @@ module _ {P K : Type 0} (places : Place P K) (keeper : Keeper K) (place place' :
   -- a register was made at a path, in which these records stood, and then it was closed
   pub record Makes (path : List ℕ) (records : Records) : Type 0 where
     pub register : K
-    pub identity : Identity
+    pub identity : Signatory
     pub between : P
     pub made : places.made place path register between
     pub stands : keeper.stands identity register records

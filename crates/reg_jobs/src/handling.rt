@@ -214,11 +214,15 @@ fn answer_logged<P: Place, F: Front>(
     text
 }
 
-/// Whether a signature did not come since the count of those was this.
-fn has_failed<P: Place>(office: &P::Opened, failures: u64) -> bool
-    ensures { IsTrue result ↔ (failures < P.Opened.failures office.now) }
+/// Whether a signature did not come since the counts of those were these: of a CRL, or of an OCSP answer.
+fn has_failed<P: Place>(office: &P::Opened, failures: (u64, u64)) -> bool
+    ensures { IsTrue result ↔ ((failures.0 < P.Opened.failures office.now) ⊎ (failures.1 < P.Opened.answer_failures office.now)) }
 {
-    failures < P::failures(office)
+    let (crls, answers) = P::failures(office);
+    if failures.0 < crls {
+        return true;
+    }
+    failures.1 < answers
 }
 
 /// Answers what came of a peer, at a moment. Room for the text is made before anything is asked.

@@ -5,7 +5,7 @@ ghost use Rattle.reg_calls.specs.Items.{items_of};
 ghost use Rattle.reg_endings.specs.Checks.{terms_of};
 ghost use Rattle.reg_calls.specs.Steps.{Crls};
 ghost use Rattle.reg_calls.specs.Leads.{Leads};
-ghost use Rattle.reg_jobs.specs.Ends.{AuditAt, CrlAt, ImportAt, InitAt, MakesAt, SaysGiven, ScheduleAt, ScriptAt, TellsBroken, TellsSet, TellsSound, TellsVerdict};
+ghost use Rattle.reg_jobs.specs.Ends.{AuditAt, CrlAt, ImportAt, InitAt, KeyIdAt, MakesAt, SaysGiven, ScheduleAt, ScriptAt, TellsBroken, TellsSet, TellsSound, TellsVerdict};
 ghost use Rattle.reg_jobs.specs.Visits.{ending_of};
 ghost use Rattle.reg_tables.specs.Stays.{IsCallFault};
 ghost use Rattle.reg_findings.specs.Lines.{broken_text, sound_text};
@@ -17,19 +17,20 @@ use crate::telling::say;
 use reg_calls::{Calls, Keeper};
 use reg_core::{Fault, Moment, Policy};
 use reg_der::Issuer;
-use reg_endings::{Failure, office_of, schedule_of};
+use reg_endings::{Failure, key_identifier_of, office_of, schedule_of};
 use reg_faces::{import, run_script};
 use reg_findings::{Audited, Broken, OTHER_SCHEMA, Verdict, broken_line, sound_line};
 use reg_tables::StoreFault;
-use reg_words::{KeyHolder, Steps, Word};
+use reg_words::{Answerer, KeyHolder, Steps, Word};
 use std::alloc::Global;
 use std::io::{Read, Write};
 
-/// What `init` is told: the issuer's Name and key in hexadecimal, and the terms of the policy.
+/// What `init` is told: the issuer's Name, key and key identifier in hexadecimal, and the terms of the policy.
 #[derive(Drop)]
 pub struct NewOffice<'a> {
     pub name: &'a Word<'a>,
     pub key: &'a Word<'a>,
+    pub key_id: &'a Option<Word<'a>>,
     pub days: u64,
     pub crl_life: u64,
     pub ocsp_life: u64,
@@ -56,12 +57,13 @@ pub fn init<P: Place, W: Write>(
     writer: &mut W,
 ) -> Result<(), Failure>
     ensures { InitAt W.contents writer.old writer.new P.Place P.Opened.Keeper.own place.old place.new path.now
-        new.now.name.now new.now.key.now (terms_of new.now.days new.now.crl_life new.now.ocsp_life new.now.cap) result }
+        new.now.name.now new.now.key.now new.now.key_id.now (terms_of new.now.days new.now.crl_life new.now.ocsp_life new.now.cap) result }
 {
     let (issuer, policy) = office_of(
         alloc,
         new.name,
         new.key,
+        new.key_id,
         new.days,
         new.crl_life,
         new.ocsp_life,
@@ -113,7 +115,8 @@ pub fn script<P: Place, F: Front, R: Read, W: Write>(
     ensures { ScriptAt R.remaining W.contents reader.old reader.new writer.old writer.new
         P.Place P.Opened.Keeper.own place.old place.new path.now signer.now result }
 {
-    let office = place.open_to_sign(path, signer)?;
+    let answerer = Answerer::Issuer { certificate: None };
+    let office = place.open_to_sign(path, signer, &answerer)?;
     let mut opened = Sealing {
         office,
         front,
@@ -193,16 +196,38 @@ pub fn schedule<P: Place, W: Write>(
     let mut register = place.open(path)?;
     let set = place.set_schedule(alloc, &mut register, schedule);
     place.close(path, register);
-    tell_set(writer, set)
+    tell_set(writer, b"schedule set\n", set)
 }
 
-/// Tells that a schedule was set.
-fn tell_set<W: Write>(writer: &mut W, set: Result<(), StoreFault>) -> Result<(), Failure>
+/// Gives the issuer of the register at a path a key identifier of its own, for the CRLs from the next one on. The word is looked
+/// at before the path is.
+pub fn key_identifier<P: Place, W: Write>(
+    alloc: Global,
+    place: &mut P,
+    path: &str,
+    key_id: &Word<'_>,
+    writer: &mut W,
+) -> Result<(), Failure>
+    ensures { KeyIdAt W.contents writer.old writer.new P.Place P.Opened.Keeper.own place.old place.new path.now key_id.now result }
+{
+    let octets = key_identifier_of(alloc, key_id)?;
+    let mut register = place.open(path)?;
+    let set = place.set_key_identifier(alloc, &mut register, octets);
+    place.close(path, register);
+    tell_set(writer, b"key-id set\n", set)
+}
+
+/// Tells by this text that something was set.
+fn tell_set<W: Write>(
+    writer: &mut W,
+    text: &[u8],
+    set: Result<(), StoreFault>,
+) -> Result<(), Failure>
     requires { IfErr set IsCallFault }
-    ensures { TellsSet W.contents writer.old writer.new set result }
+    ensures { TellsSet text.now W.contents writer.old writer.new set result }
 {
     match set {
-        Ok(()) => say(writer, b"schedule set\n"),
+        Ok(()) => say(writer, text),
         Err(fault) => Err(Failure::from(fault)),
     }
 }

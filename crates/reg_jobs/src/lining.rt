@@ -19,7 +19,7 @@ use reg_endings::Failure;
 use reg_hub::Handler;
 use reg_lines::{LONGEST_LINE, MOST_LINES};
 use reg_wire::{Reached, fill_to_mark};
-use reg_words::{KeyHolder, Way};
+use reg_words::{Answerer, KeyHolder, Way};
 use std::alloc::Global;
 use std::io::{Read, Write};
 
@@ -44,7 +44,8 @@ pub fn script_by_lines<P: Place, F: Front, R: Read, W: Write>(
     ensures { LinesAt R.remaining W.contents reader.old reader.new writer.old writer.new
         P.Place P.Opened.Keeper.own place.old place.new F.Front path.now signer.now way result }
 {
-    let office = place.open_to_sign(path, signer)?;
+    let answerer = Answerer::Issuer { certificate: None };
+    let office = place.open_to_sign(path, signer, &answerer)?;
     let sealing = Sealing {
         office,
         front,

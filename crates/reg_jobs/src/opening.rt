@@ -13,7 +13,7 @@ use crate::serving::{LOOPBACK, hub_over, serve_hub};
 use reg_core::Fault;
 use reg_endings::Failure;
 use reg_hub::Hub;
-use reg_words::KeyHolder;
+use reg_words::{Answerer, KeyHolder};
 use std::io::Write;
 
 /// Keeps the register at a path open, until the program is ended. It is opened before the port is bound, and the port is bound
@@ -24,13 +24,14 @@ pub fn hold_open<P: Place, F: Front, W: Write>(
     place: &mut P,
     path: &str,
     signer: &Option<KeyHolder<'_>>,
+    answerer: &Answerer<'_>,
     port: u16,
     counter: &str,
     writer: &mut W,
 ) -> Result<(), Failure>
-    ensures { OpenAt W.contents writer.old writer.new P.Place P.Opened.Keeper.own place.old place.new F.Front path.now signer.now port counter.now result }
+    ensures { OpenAt W.contents writer.old writer.new P.Place P.Opened.Keeper.own place.old place.new F.Front path.now signer.now answerer.now port counter.now result }
 {
-    let office = place.open_to_sign(path, signer)?;
+    let office = place.open_to_sign(path, signer, answerer)?;
     let alloc = rt.alloc();
     let mut opened: OpenDesk<'_, P, F> = OpenDesk {
         office,

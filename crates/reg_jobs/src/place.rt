@@ -1,12 +1,12 @@
 //! A place where registers lie.
 
 use reg_calls::Keeper;
-use reg_core::{Memory, Policy, Schedule};
+use reg_core::{Label, Memory, Policy, Schedule};
 use reg_der::Issuer;
 use reg_endings::Failure;
 use reg_findings::Verdict;
 use reg_tables::StoreFault;
-use reg_words::KeyHolder;
+use reg_words::{Answerer, KeyHolder};
 use std::alloc::Global;
 
 /// A place where registers lie, each at a path. Who is handed no more than the place can tell only by a call of it that a
@@ -16,9 +16,10 @@ pub trait Place {
     ghost use Rattle.std.specs.Prelude.{◌≡◌, ℕ, List, Some, None, IsTrue, IsFalse, OnErr, IfOk, IfErr};
     ghost use Rattle.reg_calls.specs.Leads.{Leads};
     ghost use Rattle.reg_core.specs.Records.{no_records};
-    ghost use Rattle.reg_crl.specs.Signing.{Identity};
+    ghost use Rattle.reg_calls.specs.Signatories.{Signatory};
     ghost use Rattle.reg_endings.specs.declared.failure.Failure.{Failure as Failing};
     ghost use Rattle.reg_jobs.specs.Failing.{IsMaking, IsOpening};
+    ghost use Rattle.reg_jobs.specs.Identifiers.{Identifies};
     ghost use Rattle.reg_jobs.specs.Schedules.{Reschedules};
     ghost use Rattle.reg_jobs.specs.Signing.{Signing};
     ghost use Rattle.reg_findings.specs.declared.verdict.Verdict.{Verdict as Verdicts};
@@ -82,19 +83,22 @@ pub trait Place {
         ensures err { IfErr result (λ why. unopened self.old path.now None why self.new) }
         ensures faults { IfErr result IsOpening };
 
-    /// Opens the register that lies at a path, with what holds its issuer's key as who signs, or else with a digest.
+    /// Opens the register that lies at a path, with what holds its issuer's key as who signs, or else with a digest, and with who
+    /// answers OCSP requests. Where that is a responder with a key of its own and nothing holds the issuer's, no CRL is signed.
     ///
     /// # Errors
     ///
-    /// As [`Place::open`], with `BadSigner` where the latest CRL was signed under another algorithm, or the issuer's key is none
-    /// of the algorithm.
+    /// `BadResponder` before anything is opened, where a certificate that is to stand with answers can't be read, is none, or has
+    /// a key of another algorithm. Else as [`Place::open`], with `BadSigner` where the latest CRL was signed under another
+    /// algorithm, or the issuer's key is none of the algorithm, and `BadResponder` where the issuer's certificate has another key.
     fn open_to_sign(
         &mut self,
         path: &str,
         signer: &Option<KeyHolder<'_>>,
+        answerer: &Answerer<'_>,
     ) -> Result<Self::Opened, Failure>
-        ensures ok { IfOk result (λ register. opened self.old path.now (Some signer.now) register self.new) }
-        ensures err { IfErr result (λ why. unopened self.old path.now (Some signer.now) why self.new) }
+        ensures ok { IfOk result (λ register. opened self.old path.now (Some (signer.now, answerer.now)) register self.new) }
+        ensures err { IfErr result (λ why. unopened self.old path.now (Some (signer.now, answerer.now)) why self.new) }
         ensures faults { IfErr result IsOpening };
 
     /// Makes a register with no records in what lies at a path and has no tables. Where that fails, something without a
@@ -106,7 +110,7 @@ pub trait Place {
     /// opened.
     fn make(&mut self, path: &str, issuer: Issuer, policy: Policy) -> Result<Self::Opened, Failure>
         ensures ok { IfOk result (λ register. made self.old path.now register self.new) }
-        ensures stands { IfOk result (λ register. (identity : Identity) × Self.Opened.stands identity register (no_records issuer policy)) }
+        ensures stands { IfOk result (λ register. (who : Signatory) × Self.Opened.stands who register (no_records issuer policy)) }
         ensures err { IfErr result (λ why. unmade self.old path.now why self.new) }
         ensures faults { IfErr result IsMaking };
 
@@ -124,9 +128,25 @@ pub trait Place {
         ensures moves { Leads Self.Opened.is_clean Self.Opened.stands (λ identity. Reschedules schedule result) register.old register.new }
         ensures faults { IfErr result IsCallFault };
 
-    /// How many signatures did not come of those that who signs for a register was asked for since it was opened.
-    fn failures(register: &Self::Opened) -> u64
-        ensures { result ≡ Self.Opened.failures register.now };
+    /// Gives the issuer of a register that was opened a key identifier of its own, for the CRLs from the next one on.
+    ///
+    /// # Errors
+    ///
+    /// `Memory`, `Store`. Nothing has changed then.
+    fn set_key_identifier(
+        &self,
+        alloc: Global,
+        register: &mut Self::Opened,
+        octets: Label,
+    ) -> Result<(), StoreFault>
+        ensures moves { Leads Self.Opened.is_clean Self.Opened.stands (λ identity. Identifies octets result) register.old register.new }
+        ensures faults { IfErr result IsCallFault };
+
+    /// How many signatures did not come since a register was opened: of those that who signs CRLs was asked for, and of those that
+    /// who answers OCSP requests was. Where that is the same, both are one count.
+    fn failures(register: &Self::Opened) -> (u64, u64)
+        ensures crls { result.0 ≡ Self.Opened.failures register.now }
+        ensures answers { result.1 ≡ Self.Opened.answer_failures register.now };
 
     /// Audits the register that lies at a path, and changes nothing of it: one of an older version is not made newer.
     ///

@@ -63,6 +63,8 @@ impl<'a, K: Keeper, F: Front> Keeper for Sealing<'a, K, F> {
 
     ghost failures = { λ s. K.failures s.office };
 
+    ghost answer_failures = { λ s. K.answer_failures s.office };
+
     ghost runs_lead = { λ s now command outcome t ran. K.runs_lead s.office now command outcome t.office ran.0 };
 
     ghost runs_count = { λ s now command outcome t ran. K.runs_count s.office now command outcome t.office ran.0 };

@@ -15,7 +15,7 @@ use mio::net::{TcpListener, UnixListener};
 use reg_core::{Decimal, Fault};
 use reg_endings::Failure;
 use reg_hub::{Handler, Hub, MOST_CALLERS};
-use reg_words::KeyHolder;
+use reg_words::{Answerer, KeyHolder};
 use std::io::{ErrorKind, Write};
 
 /// The address of the loopback interface.
@@ -28,13 +28,14 @@ pub fn serve<P: Place, F: Front, W: Write>(
     place: &mut P,
     path: &str,
     signer: &Option<KeyHolder<'_>>,
+    answerer: &Answerer<'_>,
     port: u16,
     requests: u32,
     writer: &mut W,
 ) -> Result<(), Failure>
-    ensures { ServeAt W.contents writer.old writer.new P.Place P.Opened.Keeper.own place.old place.new F.Front path.now signer.now port requests result }
+    ensures { ServeAt W.contents writer.old writer.new P.Place P.Opened.Keeper.own place.old place.new F.Front path.now signer.now answerer.now port requests result }
 {
-    let office = place.open_to_sign(path, signer)?;
+    let office = place.open_to_sign(path, signer, answerer)?;
     let alloc = rt.alloc();
     let mut served: ServedDesk<'_, P, F> = ServedDesk {
         office,

@@ -5,6 +5,7 @@ pub mod ItemLaws
 pub mod ExtensionLaws
 pub mod TargetLaws
 pub mod RequestLaws
+pub mod CertificateLaws
 pub mod Loops
 pub mod MatchLaws
 pub mod Answering

@@ -1,5 +1,6 @@
 pub mod Request
 pub mod Reading
 pub mod Response
+pub mod Certificate
 pub mod Matching
 pub mod Views

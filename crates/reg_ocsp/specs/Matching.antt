@@ -5,6 +5,7 @@ use Rattle.sha2.specs.Sha256.{sha256}
 use Rattle.reg_core.specs.Integer.{integer}
 use Rattle.reg_core.specs.Issuer as core
 use Rattle.reg_core.specs.Serial.{IsSerial}
+use Rattle.reg_der.specs.Authority.{name_of}
 use Rattle.reg_der.specs.Reading.{Parts}
 use Rattle.reg_ocsp.specs.Request.{Id, algorithm}
 
@@ -27,7 +28,7 @@ IsAlgorithm identifier value = (value ≡ algorithm identifier None) ⊎ (value 
 -- the CertID has this hash of the issuer's name and of its key
 pub record IsHashedBy (identifier : List ℕ) (hash : List ℕ → List ℕ) (issuer : core.Issuer) (id : Id) : Type 0 where
   pub algorithm : IsAlgorithm identifier id.algorithm
-  pub name : id.name_hash ≡ hash issuer.name
+  pub name : id.name_hash ≡ hash (name_of issuer)
   pub key : id.key_hash ≡ hash issuer.key
 
 -- the CertID names the issuer, by SHA-1 or by SHA-256

@@ -1,5 +1,5 @@
 -- OCSP responses (RFC 6960 4.2.1) as functions of their parts.
-use Rattle.std.specs.Prelude.{ℕ, ◌==◌, if◌then◌else◌, List, [], ◌∷◌, ◌++◌, Option, Some, None}
+use Rattle.std.specs.Prelude.{ℕ, ◌+◌, ◌==◌, length, if◌then◌else◌, List, [], ◌∷◌, ◌++◌, Option, Some, None}
 use Rattle.std.specs.List.{flat_map}
 use Rattle.sha1.specs.Sha1.{sha1}
 use Rattle.reg_core.specs.declared.command.Status.{Status}
@@ -62,17 +62,27 @@ data_fields key now next answers nonce =
     responder key ++ general_value now ++ tlv 0x30 (flat_map (single_response now next) answers) ++ nonce_part nonce
 
 -- ResponseData ::= SEQUENCE { responderID, producedAt GeneralizedTime, responses SEQUENCE OF SingleResponse,
--- responseExtensions }, by the issuer's key; each answer holds from now to next
+-- responseExtensions }, by the key of who answers; each answer holds from now to next
 unfoldable pub response_data : List ℕ → ℕ → ℕ → List Answer → Option (List ℕ) → List ℕ
 response_data key now next answers nonce = tlv 0x30 (data_fields key now next answers nonce)
 
--- the fields of a BasicOCSPResponse: tbsResponseData, signatureAlgorithm, signature BIT STRING
-abbrev pub basic_fields : List ℕ → List ℕ → List ℕ → List ℕ
-basic_fields signed algorithm signature = signed ++ algorithm ++ bits_value signature
+-- `certs [0] EXPLICIT SEQUENCE OF Certificate OPTIONAL`: the one certificate, where one stands there
+abbrev pub certs_part : Option (List ℕ) → List ℕ
+certs_part None = []
+certs_part (Some certificate) = tlv 0xA0 (tlv 0x30 certificate)
 
--- BasicOCSPResponse ::= SEQUENCE { tbsResponseData, signatureAlgorithm, signature BIT STRING }
-unfoldable pub basic_response : List ℕ → List ℕ → List ℕ → List ℕ
-basic_response signed algorithm signature = tlv 0x30 (basic_fields signed algorithm signature)
+-- how many bytes that has at most
+abbrev pub certs_room : Option (List ℕ) → ℕ
+certs_room None = 0
+certs_room (Some certificate) = length certificate + 12
+
+-- the fields of a BasicOCSPResponse: tbsResponseData, signatureAlgorithm, signature BIT STRING, certs
+abbrev pub basic_fields : List ℕ → List ℕ → List ℕ → Option (List ℕ) → List ℕ
+basic_fields signed algorithm signature certificate = signed ++ algorithm ++ bits_value signature ++ certs_part certificate
+
+-- BasicOCSPResponse ::= SEQUENCE { tbsResponseData, signatureAlgorithm, signature BIT STRING, certs }
+unfoldable pub basic_response : List ℕ → List ℕ → List ℕ → Option (List ℕ) → List ℕ
+basic_response signed algorithm signature certificate = tlv 0x30 (basic_fields signed algorithm signature certificate)
 
 -- id-pkix-ocsp-basic, 1.3.6.1.5.5.7.48.1.1
 abbrev pub basic_identifier : List ℕ
@@ -87,8 +97,8 @@ abbrev pub successful_response : List ℕ → List ℕ
 successful_response bytes = tlv 0x30 (enumerated 0 ++ tlv 0xA0 bytes)
 
 -- the same with a BasicOCSPResponse
-unfoldable pub ocsp_response : List ℕ → List ℕ → List ℕ → List ℕ
-ocsp_response signed algorithm signature = successful_response (response_bytes (basic_response signed algorithm signature))
+unfoldable pub ocsp_response : List ℕ → List ℕ → List ℕ → Option (List ℕ) → List ℕ
+ocsp_response signed algorithm signature certificate = successful_response (response_bytes (basic_response signed algorithm signature certificate))
 
 -- malformedRequest(1), internalError(2), tryLater(3)
 abbrev pub refusal_code : RefusalStatus → ℕ

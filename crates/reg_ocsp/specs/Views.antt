@@ -3,6 +3,7 @@ use Rattle.std.specs.Prelude.{◌≡◌, ℕ, List, length, map, Option, Some, N
 use Rattle.reg_ocsp.specs.declared.fault.AskFault.{AskFault}
 use Rattle.reg_ocsp.specs.declared.fault.AskFault.TheVariants.{Malformed, Memory}
 use Rattle.reg_ocsp.specs.declared.asked.CertId.{CertId}
+use Rattle.reg_ocsp.specs.declared.certificate.CertifiedKey.{CertifiedKey}
 use Rattle.reg_ocsp.specs.declared.extensions.Extension as code
 use Rattle.reg_core.specs.declared.command.Status.{Status}
 use Rattle.reg_ocsp.specs.Request.{Id, Extension}
@@ -39,3 +40,7 @@ answered answers = map (λ answer. answer.0) answers
 -- the length of the whole value of its CertID
 abbrev pub answered_length : CertId × Status → ℕ
 answered_length answer = length answer.0.raw.now
+
+-- a certificate's key: the whole value of its algorithm, and its bits
+abbrev pub key_seen : CertifiedKey → List ℕ × List ℕ
+key_seen it = (it.algorithm.now, it.key.now)

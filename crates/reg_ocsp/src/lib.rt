@@ -2,6 +2,7 @@
 #![tactic(auto)]
 
 mod asked;
+mod certificate;
 mod extensions;
 mod fault;
 pub mod laws;
@@ -12,7 +13,8 @@ mod tags;
 mod values;
 
 pub use asked::{Asked, CertId};
+pub use certificate::{Certificate, CertificateFault, CertifiedKey, certified_key};
 pub use fault::AskFault;
 pub use matching::matches;
 pub use reading::read_request;
-pub use response::{RefusalStatus, basic, refusal, response_data};
+pub use response::{RefusalStatus, basic, basic_with, refusal, response_data, response_data_by};

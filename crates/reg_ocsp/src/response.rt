@@ -1,10 +1,10 @@
 //! OCSP responses written exactly (RFC 6960 4.2.1).
 
-ghost use Rattle.std.specs.Prelude.{◌≡◌, ◌+◌, ◌*◌, ◌^◌, ◌++◌, ◌<◌, ◌≤◌, ◌%◌, length, IfOk, OnOk, IfSome, option_copied, sum_by};
+ghost use Rattle.std.specs.Prelude.{◌≡◌, ◌+◌, ◌*◌, ◌^◌, ◌++◌, ◌<◌, ◌≤◌, ◌%◌, length, None, IfOk, OnOk, IfSome, option_copied, sum_by};
 ghost use Rattle.std.specs.List.{flat_map};
 ghost use Rattle.reg_der.specs.Der.{tlv};
 ghost use Rattle.reg_core.specs.declared.command.Status.TheVariants.{Revoked};
-ghost use Rattle.reg_ocsp.specs.Response.{basic_fields, basic_response, cert_status, data_fields, next_update, ocsp_response, reason_part, refusal_response, single_fields, single_response, successful_response};
+ghost use Rattle.reg_ocsp.specs.Response.{basic_fields, basic_response, cert_status, certs_part, certs_room, data_fields, next_update, ocsp_response, reason_part, refusal_response, single_fields, single_response, successful_response};
 ghost use Rattle.reg_ocsp.specs.Response as spec;
 ghost use Rattle.reg_ocsp.specs.Request.{CanBeAnswered};
 ghost use Rattle.reg_ocsp.specs.Views.{answer_seen, answers_seen, answered, answered_length, ids_seen};
@@ -17,6 +17,7 @@ use crate::tags::{
 };
 use reg_core::{Memory, Moment, Status};
 use reg_der::{Issuer, put, put_bits, put_general};
+use sha1::Sha1;
 use std::alloc::Global;
 
 /// id-pkix-ocsp-basic, 1.3.6.1.5.5.7.48.1.1 (RFC 6960 4.2.1).
@@ -55,7 +56,6 @@ pub fn refusal(status: RefusalStatus) -> [u8; 5]
 ///
 /// There are at most 65,536 CertIDs with 65,536 bytes in all, and the nonce has at most 131, as `read_request` gives
 /// them. `Memory` is the only error.
-#[tactic(auto, using(crate::proofs::Answering::few_answers, crate::proofs::Answering::short_answers), unfolding(crate::specs::Response::response_data))]
 pub fn response_data(
     alloc: Global,
     issuer: &Issuer,
@@ -68,8 +68,26 @@ pub fn response_data(
     ensures data { IfOk result (λ v. v.items ≡ spec.response_data issuer.now.key now next (answers_seen answers.now) (option_copied nonce.entry)) }
     ensures bounded { IfOk result (λ v. length v.items ≤ 2 ^ 27) }
 {
+    response_data_by(alloc, issuer.key(), now, next, answers, nonce)
+}
+
+/// The same of whoever answers with a key: the responder is named by the SHA-1 of that key, the bits of its
+/// subjectPublicKey (RFC 6960 4.2.1).
+#[tactic(auto, using(crate::proofs::Answering::few_answers, crate::proofs::Answering::short_answers), unfolding(crate::specs::Response::response_data))]
+pub fn response_data_by(
+    alloc: Global,
+    key: &[u8],
+    now: Moment,
+    next: Moment,
+    answers: &[(CertId<'_>, Status)],
+    nonce: Option<&[u8]>,
+) -> Result<Vec<u8>, Memory>
+    requires { CanBeAnswered (ids_seen (answered answers.now)) (option_copied nonce) }
+    ensures data { IfOk result (λ v. v.items ≡ spec.response_data key.now now next (answers_seen answers.now) (option_copied nonce.entry)) }
+    ensures bounded { IfOk result (λ v. length v.items ≤ 2 ^ 27) }
+{
     let mut fields = Vec::new(alloc);
-    put_data_fields(alloc, &mut fields, issuer, now, next, answers, nonce)?;
+    put_data_fields(alloc, &mut fields, key, now, next, answers, nonce)?;
     enclosed(alloc, SEQUENCE, &fields)
 }
 
@@ -77,7 +95,7 @@ pub fn response_data(
 fn put_data_fields(
     alloc: Global,
     out: &mut Vec<u8>,
-    issuer: &Issuer,
+    key: &[u8],
     now: Moment,
     next: Moment,
     answers: &[(CertId<'_>, Status)],
@@ -86,10 +104,10 @@ fn put_data_fields(
     requires few { length answers.now ≤ 65536 }
     requires short { sum_by answered_length answers.now ≤ 65536 }
     requires short_nonce { IfSome (option_copied nonce) (λ value. length value ≤ 131) }
-    ensures ok { OnOk result (out.new.items ≡ out.old.items ++ data_fields issuer.now.key now next (answers_seen answers.now) (option_copied nonce.entry)) }
+    ensures ok { OnOk result (out.new.items ≡ out.old.items ++ data_fields key.now now next (answers_seen answers.now) (option_copied nonce.entry)) }
     ensures longer { OnOk result (length out.new.items ≤ length out.old.items + 100 * length answers.now + sum_by answered_length answers.now + 255) }
 {
-    put_responder(alloc, out, issuer)?;
+    put_responder(alloc, out, key)?;
     put_general(out, now)?;
     put_answers(alloc, out, now, next, answers)?;
     put_nonce(alloc, out, nonce)
@@ -100,7 +118,6 @@ fn put_data_fields(
 ///
 /// `signed` has at most 2^27 bytes, as `response_data` gives it, `algorithm` 1,024 and `signature` 65,536. `Memory` is
 /// the only error.
-#[tactic(auto, unfolding(crate::specs::Response::ocsp_response))]
 pub fn basic(
     alloc: Global,
     signed: &[u8],
@@ -110,10 +127,32 @@ pub fn basic(
     requires short_signed { length signed.now ≤ 2 ^ 27 }
     requires short_algorithm { length algorithm.now ≤ 1024 }
     requires short_signature { length signature.now ≤ 65536 }
-    ensures response { IfOk result (λ v. v.items ≡ ocsp_response signed.now algorithm.now signature.now) }
+    ensures response { IfOk result (λ v. v.items ≡ ocsp_response signed.now algorithm.now signature.now None) }
     ensures longer { IfOk result (λ v. length v.items ≤ length signed.now + length algorithm.now + length signature.now + 64) }
 {
-    let basic = basic_value(alloc, signed, algorithm, signature)?;
+    basic_with(alloc, signed, algorithm, signature, None)
+}
+
+/// The same with a certificate in `certs`, where there is one: its DER, as it is (RFC 6960 4.2.1, 4.2.2.2).
+///
+/// `certificate` has at most 65,536 bytes.
+#[tactic(auto, unfolding(crate::specs::Response::ocsp_response))]
+pub fn basic_with(
+    alloc: Global,
+    signed: &[u8],
+    algorithm: &[u8],
+    signature: &[u8],
+    certificate: Option<&[u8]>,
+) -> Result<Vec<u8>, Memory>
+    requires short_signed { length signed.now ≤ 2 ^ 27 }
+    requires short_algorithm { length algorithm.now ≤ 1024 }
+    requires short_signature { length signature.now ≤ 65536 }
+    requires short_certificate { IfSome (option_copied certificate) (λ bytes. length bytes ≤ 65536) }
+    ensures response { IfOk result (λ v. v.items ≡ ocsp_response signed.now algorithm.now signature.now (option_copied certificate.entry)) }
+    ensures longer { IfOk result (λ v. length v.items
+        ≤ length signed.now + length algorithm.now + length signature.now + certs_room (option_copied certificate.entry) + 64) }
+{
+    let basic = basic_value(alloc, signed, algorithm, signature, certificate)?;
     let bytes = response_bytes(alloc, &basic)?;
     successful(alloc, &bytes)
 }
@@ -142,47 +181,82 @@ fn response_bytes(alloc: Global, basic: &[u8]) -> Result<Vec<u8>, Memory>
     enclosed(alloc, SEQUENCE, &fields)
 }
 
-/// The BasicOCSPResponse of the three parts.
+/// The BasicOCSPResponse of the parts.
 #[tactic(auto, unfolding(crate::specs::Response::basic_response))]
 fn basic_value(
     alloc: Global,
     signed: &[u8],
     algorithm: &[u8],
     signature: &[u8],
+    certificate: Option<&[u8]>,
 ) -> Result<Vec<u8>, Memory>
     requires short_signed { length signed.now ≤ 2 ^ 27 }
     requires short_algorithm { length algorithm.now ≤ 1024 }
     requires short_signature { length signature.now ≤ 65536 }
-    ensures value { IfOk result (λ v. v.items ≡ basic_response signed.now algorithm.now signature.now) }
-    ensures longer { IfOk result (λ v. length v.items ≤ length signed.now + length algorithm.now + length signature.now + 13) }
+    requires short_certificate { IfSome (option_copied certificate) (λ bytes. length bytes ≤ 65536) }
+    ensures value { IfOk result (λ v. v.items ≡ basic_response signed.now algorithm.now signature.now (option_copied certificate.entry)) }
+    ensures longer { IfOk result (λ v. length v.items
+        ≤ length signed.now + length algorithm.now + length signature.now + certs_room (option_copied certificate.entry) + 13) }
+    ensures bounded { IfOk result (λ v. length v.items ≤ 2 ^ 27 + 2 ^ 18) }
 {
     let mut fields = Vec::new(alloc);
-    put_basic_fields(&mut fields, signed, algorithm, signature)?;
+    put_basic_fields(
+        alloc,
+        &mut fields,
+        signed,
+        algorithm,
+        signature,
+        certificate,
+    )?;
     enclosed(alloc, SEQUENCE, &fields)
 }
 
 /// Appends the fields of a BasicOCSPResponse.
 fn put_basic_fields(
+    alloc: Global,
     out: &mut Vec<u8>,
     signed: &[u8],
     algorithm: &[u8],
     signature: &[u8],
+    certificate: Option<&[u8]>,
 ) -> Result<(), Memory>
-    requires { length signature.now ≤ 65536 }
-    ensures ok { OnOk result (out.new.items ≡ out.old.items ++ basic_fields signed.now algorithm.now signature.now) }
-    ensures longer { OnOk result (length out.new.items ≤ length out.old.items + length signed.now + length algorithm.now + length signature.now + 7) }
+    requires short_signature { length signature.now ≤ 65536 }
+    requires short_certificate { IfSome (option_copied certificate) (λ bytes. length bytes ≤ 65536) }
+    ensures ok { OnOk result (out.new.items ≡ out.old.items ++ basic_fields signed.now algorithm.now signature.now (option_copied certificate.entry)) }
+    ensures longer { OnOk result (length out.new.items
+        ≤ length out.old.items + length signed.now + length algorithm.now + length signature.now + certs_room (option_copied certificate.entry) + 7) }
+    ensures bounded { OnOk result (length out.new.items ≤ length out.old.items + length signed.now + length algorithm.now + length signature.now + 65555) }
 {
     append(out, signed)?;
     append(out, algorithm)?;
-    put_bits(out, signature)
+    put_bits(out, signature)?;
+    put_certificate(alloc, out, certificate)
 }
 
-/// Appends the ResponderID by the issuer's key.
-fn put_responder(alloc: Global, out: &mut Vec<u8>, issuer: &Issuer) -> Result<(), Memory>
-    ensures ok { OnOk result (out.new.items ≡ out.old.items ++ spec.responder issuer.now.key) }
+/// Appends `certs` with the certificate, if there is one.
+fn put_certificate(
+    alloc: Global,
+    out: &mut Vec<u8>,
+    certificate: Option<&[u8]>,
+) -> Result<(), Memory>
+    requires { IfSome (option_copied certificate) (λ bytes. length bytes ≤ 65536) }
+    ensures ok { OnOk result (out.new.items ≡ out.old.items ++ certs_part (option_copied certificate.entry)) }
+    ensures longer { OnOk result (length out.new.items ≤ length out.old.items + certs_room (option_copied certificate.entry)) }
+    ensures bounded { OnOk result (length out.new.items ≤ length out.old.items + 65548) }
+{
+    let Some(bytes) = certificate else {
+        return Ok(());
+    };
+    let certificates = enclosed(alloc, SEQUENCE, bytes)?;
+    put(out, TAGGED_0, &certificates)
+}
+
+/// Appends the ResponderID by a key.
+fn put_responder(alloc: Global, out: &mut Vec<u8>, key: &[u8]) -> Result<(), Memory>
+    ensures ok { OnOk result (out.new.items ≡ out.old.items ++ spec.responder key.now) }
     ensures longer { OnOk result (length out.new.items ≤ length out.old.items + 32) }
 {
-    let hash = enclosed(alloc, OCTET_STRING, &issuer.key_sha1())?;
+    let hash = enclosed(alloc, OCTET_STRING, &Sha1::digest(key))?;
     put(out, TAGGED_2, &hash)
 }
 

@@ -4,6 +4,8 @@ pub(crate) const BOOLEAN: u8 = 0x01;
 
 pub(crate) const INTEGER: u8 = 0x02;
 
+pub(crate) const BIT_STRING: u8 = 0x03;
+
 pub(crate) const OCTET_STRING: u8 = 0x04;
 
 pub(crate) const OBJECT_IDENTIFIER: u8 = 0x06;

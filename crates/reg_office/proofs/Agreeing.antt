@@ -121,4 +121,4 @@ all_agree records now (id ∷ ids) (answer ∷ answers) sound each =
     (agrees records now id answer sound each.0, all_agree records now ids answers sound each.1)
 
 pub ocsp_agrees : OcspAgrees
-ocsp_agrees records now ids repeated tbs sound its = all_agree records now ids its.answers sound its.each
+ocsp_agrees key records now ids repeated tbs sound its = all_agree records now ids its.answers sound its.each

@@ -1,6 +1,6 @@
 -- Look-ups, a decision and a change, put together.
 use Rattle.std.proofs.Common.{◌≡◌, ◌≤◌, ◌<◌, inl, inr, ℕ, List, Option, None, Some, Result, Ok, Err, refl, sym, subst, arith}
-use Rattle.std.specs.Prelude.{IsErrAnd, OnErr}
+use Rattle.std.specs.Prelude.{IfErr, IfOk, IsErr, IsErrAnd, OnErr}
 use Rattle.sqlite_trees.specs.View.{doubt}
 use Rattle.sqlite_trees.specs.declared.store.Store.{Ghosts}
 use Rattle.sqlite.specs.Held.{Held, state}
@@ -84,12 +84,26 @@ stopped g held signed records now command fault below (inr e) shown = record {
   shown = shown;
 }
 
-stored_is : (failure : StoreFault) → IsStoreFault (fault_of failure)
+pub stored_is : (failure : StoreFault) → IsStoreFault (fault_of failure)
 stored_is NoMemory = inl refl
 stored_is Failed = inr refl
 stored_is NotEmpty = inr refl
 stored_is NotARegister = inr refl
 stored_is NewVersion = inr refl
+
+-- an error gives nothing
+pub gives_none : {T E : Type 0} {P : T → Type 0} (outcome : Result T E) → IsErr outcome → IfOk outcome P
+gives_none (Ok x) told = absurd (let bad : ⊥ = cc in bad)
+gives_none (Err e) told = tt
+
+-- a fault that is passed on is of its kind
+pub passed_on : {T : Type 0} (P : Fault → Type 0) (outcome : Result T Fault) (fault : Fault) → IsErrAnd outcome (λ told. told ≡ fault) → P fault → IfErr outcome P
+passed_on P (Ok x) fault same holds = absurd same
+passed_on P (Err told) fault same holds = subst P (sym same) holds
+
+-- a failure of the store is told as one
+pub store_failed : {T : Type 0} (outcome : Result T Fault) (failure : StoreFault) → IsErrAnd outcome (λ fault. fault ≡ fault_of failure) → IfErr outcome IsStoreFault
+store_failed outcome failure told = passed_on IsStoreFault outcome (fault_of failure) told (stored_is failure)
 
 -- so does one whose look-up or change fails
 pub stops :

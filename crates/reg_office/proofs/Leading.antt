@@ -12,8 +12,9 @@ use Rattle.reg_core.specs.declared.command.Reply.{Reply}
 use Rattle.reg_core.specs.declared.memory.Memory.{Memory}
 use Rattle.reg_core.specs.declared.refusal.Fault.{Fault}
 use Rattle.reg_core.specs.declared.refusal.Fault.TheVariants.{Signer}
-use Rattle.reg_crl.specs.Signing.{Identity, signed_by}
+use Rattle.reg_crl.specs.Signing.{signed_by}
 use Rattle.reg_laws.specs.Run.{Happens}
+use Rattle.reg_calls.specs.Signatories.{Signatory}
 use Rattle.reg_calls.specs.Steps.{Signs, Runs, Ocsps}
 use Rattle.reg_office.specs.Calls.{StandsFor, LeadsOver}
 use Rattle.reg_office.specs.Faults.{IsTableFault}
@@ -22,61 +23,62 @@ use Rattle.reg_calls.specs.Ocsp.{IsOcspReply}
 use Rattle.reg_office.proofs.Composing.{was_clean}
 
 -- The calls of an office: its store and who signs, before and after.
-module _ {C : Type 0} (g : Ghosts C) (signs : Signs) (old new : Held C) (who who' : Identity)
+module _ {C : Type 0} (g : Ghosts C) (signs : Signs) (old new : Held C) (who who' : Signatory)
     (clean : doubt (state g old).is_clean ≤ doubt (state g new).is_clean) (same : who' ≡ who) where
-  -- what stood for who signs stood for the identity
-  stood_for : (identity : Identity) (before : Records) → StandsFor g signs (old, who) identity before → Stands g signs old who before
-  stood_for identity before (is, stands) =
-      let P : Identity → Type 0 = λ v. Stands g signs old v before in
+  -- what stood for who signs stood for those
+  stood_for : (those : Signatory) (before : Records) → StandsFor g signs (old, who) those before → Stands g signs old who.crls before
+  stood_for those before (is, stands) =
+      let P : Signatory → Type 0 = λ v. Stands g signs old v.crls before in
       subst P (sym is) stands
 
   -- a command
   pub command_leads : (now : ℕ) (command : Command) (outcome : Result Reply Fault)
-      → ((records : Records) → Stands g signs old who records → HasCleanDisk (state g new) → CameTo g signs new who' records now command outcome)
-      → LeadsOver g signs (λ identity before after. Runs signs identity before now command outcome after) (old, who) (new, who')
+      → ((records : Records) → Stands g signs old who.crls records → HasCleanDisk (state g new) → CameTo g signs new who'.crls records now command outcome)
+      → LeadsOver g signs (λ those before after. Runs signs those before now command outcome after) (old, who) (new, who')
   command_leads now command outcome step = (
     was_clean (state g old) (state g new) clean,
-    (λ identity before stood is_clean.
-        let came = step before (stood_for identity before stood) is_clean in
-        let is : who' ≡ identity = same ∙ stood.0 in
-        let P : Identity → Type 0 = λ v. Happens (signed_by signs v) before now command outcome came.after in
-        let Q : Identity → Type 0 = λ v. Stands g signs new v came.after in
+    (λ those before stood is_clean.
+        let came = step before (stood_for those before stood) is_clean in
+        let is : who' ≡ those = same ∙ stood.0 in
+        let P : Signatory → Type 0 = λ v. Happens (signed_by signs v.crls) before now command outcome came.after in
+        let Q : Signatory → Type 0 = λ v. Stands g signs new v.crls came.after in
         (came.after, subst P is came.happens, (is, subst Q is came.stands))),
   )
 
   -- a call that leaves the records
   pub answer_leads : (Answers : Records → Type 0)
-      → ((records : Records) → Stands g signs old who records → HasCleanDisk (state g new) → Answers records × Stands g signs new who' records)
-      → LeadsOver g signs (λ identity before after. Answers before × (after ≡ before)) (old, who) (new, who')
+      → ((records : Records) → Stands g signs old who.crls records → HasCleanDisk (state g new) → Answers records × Stands g signs new who'.crls records)
+      → LeadsOver g signs (λ those before after. Answers before × (after ≡ before)) (old, who) (new, who')
   answer_leads Answers call = (
     was_clean (state g old) (state g new) clean,
-    (λ identity before stood is_clean.
-        let (answered, stands) = call before (stood_for identity before stood) is_clean in
-        let is : who' ≡ identity = same ∙ stood.0 in
-        let Q : Identity → Type 0 = λ v. Stands g signs new v before in
+    (λ those before stood is_clean.
+        let (answered, stands) = call before (stood_for those before stood) is_clean in
+        let is : who' ≡ those = same ∙ stood.0 in
+        let Q : Signatory → Type 0 = λ v. Stands g signs new v.crls before in
         (before, (answered, refl), (is, subst Q is stands))),
   )
 
   -- an OCSP request
   pub ocsp_leads : {Z : Type 0} (now : ℕ) (request : List ℕ) (result : Result (Vec ℕ Z) Memory)
-      → ((records : Records) → Stands g signs old who records → HasCleanDisk (state g new) → IfOk result (λ answer. IsOcspReply signs who records now request answer.items))
-      → ((records : Records) → Stands g signs old who records → Stands g signs new who' records)
-      → LeadsOver g signs (λ identity before after. Ocsps signs identity before now request (items_of result) after) (old, who) (new, who')
+      → ((records : Records) → Stands g signs old who.crls records → HasCleanDisk (state g new)
+      → IfOk result (λ answer. IsOcspReply signs who.answers records now request answer.items))
+      → ((records : Records) → Stands g signs old who.crls records → Stands g signs new who'.crls records)
+      → LeadsOver g signs (λ those before after. Ocsps signs those before now request (items_of result) after) (old, who) (new, who')
   ocsp_leads now request (Ok bytes) replied stays = (
     was_clean (state g old) (state g new) clean,
-    (λ identity before stood is_clean.
-        let stands = stood_for identity before stood in
-        let is : who' ≡ identity = same ∙ stood.0 in
-        let P : Identity → Type 0 = λ v. IsOcspReply signs v before now request bytes.items in
-        let Q : Identity → Type 0 = λ v. Stands g signs new v before in
+    (λ those before stood is_clean.
+        let stands = stood_for those before stood in
+        let is : who' ≡ those = same ∙ stood.0 in
+        let P : Signatory → Type 0 = λ v. IsOcspReply signs v.answers before now request bytes.items in
+        let Q : Signatory → Type 0 = λ v. Stands g signs new v.crls before in
         (before, (subst P stood.0 (replied before stands is_clean), refl), (is, subst Q is (stays before stands)))),
   )
   ocsp_leads now request (Err memory) replied stays = (
     was_clean (state g old) (state g new) clean,
-    (λ identity before stood is_clean.
-        let is : who' ≡ identity = same ∙ stood.0 in
-        let Q : Identity → Type 0 = λ v. Stands g signs new v before in
-        (before, refl, (is, subst Q is (stays before (stood_for identity before stood))))),
+    (λ those before stood is_clean.
+        let is : who' ≡ those = same ∙ stood.0 in
+        let Q : Signatory → Type 0 = λ v. Stands g signs new v.crls before in
+        (before, refl, (is, subst Q is (stays before (stood_for those before stood))))),
   )
 
 -- a fault of the tables is none of the signer

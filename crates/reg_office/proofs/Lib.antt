@@ -1,9 +1,12 @@
 pub mod Agreeing
+pub mod Answering
 pub mod Asking
 pub mod Changing
 pub mod Composing
+pub mod CommandsRun
 pub mod Deciding
 pub mod Facts
+pub mod Identified
 pub mod Issuing
 pub mod Leading
 pub mod OpenedAgain

@@ -66,10 +66,10 @@ in_range now last none = go (nat_le clock_end now) refl none
 -- THE BYTES
 
 -- a whole response is no refusal
-pub whole_apart : (signed algorithm signature : List ℕ) → ocsp_response signed algorithm signature ≢ refusal_response Malformed
+pub whole_apart : (signed algorithm signature : List ℕ) (certificate : Option (List ℕ)) → ocsp_response signed algorithm signature certificate ≢ refusal_response Malformed
 unfolding ocsp_response
-whole_apart signed algorithm signature same =
-    let bytes = response_bytes (basic_response signed algorithm signature) in
+whole_apart signed algorithm signature certificate same =
+    let bytes = response_bytes (basic_response signed algorithm signature certificate) in
     omega (
       arith,
       ap length same,

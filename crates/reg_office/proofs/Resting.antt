@@ -1,11 +1,10 @@
 -- What a stop may find after a command.
-use Rattle.std.proofs.Common.{◌≡◌, ◌≤◌, ◌+◌, ℕ, List, length, Ok, refl, subst, arith}
+use Rattle.std.proofs.Common.{◌≡◌, ◌≤◌, ℕ, List, length, Ok, refl, subst, arith}
 use Rattle.sqlite_trees.specs.Tree.{Trees}
 use Rattle.sqlite_trees.specs.View.{doubt}
 use Rattle.sqlite.specs.State.{State, HasCleanDisk}
-use Rattle.reg_core.specs.Crls.{CertList, cert_list, content, entries}
+use Rattle.reg_core.specs.Crls.{CertList, cert_list, content}
 use Rattle.reg_core.specs.Changes.{with_crl}
-use Rattle.reg_core.specs.Issuer.{Issuer}
 use Rattle.reg_core.specs.Records.{Records}
 use Rattle.reg_core.specs.Sound.{Sound}
 use Rattle.reg_core.specs.declared.command.Command.{Command}
@@ -13,7 +12,6 @@ use Rattle.reg_core.specs.declared.command.Command.TheVariants.{Crl as IssueCrl}
 use Rattle.reg_core.specs.declared.command.Reply.{Reply}
 use Rattle.reg_core.specs.declared.command.Reply.TheVariants.{Crl as CrlIssued}
 use Rattle.reg_core.specs.declared.rows.CrlRow.{CrlRow}
-use Rattle.reg_core.specs.declared.rows.Entry.{Entry}
 use Rattle.reg_laws.proofs.Decided.{Accepts, AcceptsCrl}
 use Rattle.reg_crl.specs.Signing.{Identity, signed_by}
 use Rattle.reg_writing.specs.AtRest.{IsAtRest}
@@ -30,28 +28,16 @@ stepped signed records now command answer change trees accepts rests = record { 
 
 -- the same of a CRL, which is signed over what it lists
 pub issued_rests :
-    (signed : CertList → List ℕ → Type 0) (records : Records) (now : ℕ) (trees : Trees)
-    (row : CrlRow) (issuer : Issuer) (next_update : ℕ) (listed : List Entry) (bytes added : List ℕ)
-    → AcceptsCrl signed records now row
-    → signed (record { issuer = issuer; number = row.number; this_update = row.this_update; next_update = next_update; entries = listed }) bytes
-    → issuer ≡ records.issuer → next_update ≡ row.this_update + records.policy.crl_life
-    → listed ≡ entries records row.number → added ≡ bytes
+    (signed : CertList → List ℕ → Type 0) (records : Records) (now : ℕ) (trees : Trees) (row : CrlRow) (bytes added : List ℕ)
+    → AcceptsCrl signed records now row → signed (cert_list records row.number row.this_update) bytes → added ≡ bytes
     → IsAtRest (with_crl records now (record { number = row.number; this_update = row.this_update; bytes = added })) trees
     → IsStepped signed records now IssueCrl trees
-issued_rests signed records now trees row issuer next_update listed bytes added says signatures issuer_is next_is listed_is added_is rests =
-    let list : CertList = record { issuer = issuer; number = row.number; this_update = row.this_update; next_update = next_update; entries = listed } in
-    let list_is : list ≡ cert_list records row.number row.this_update = λ i. record {
-      issuer = issuer_is i;
-      number = row.number;
-      this_update = row.this_update;
-      next_update = next_is i;
-      entries = listed_is i;
-    } in
+issued_rests signed records now trees row bytes added says signatures added_is rests =
     let with : List ℕ → Records = λ b. with_crl records now (record { number = row.number; this_update = row.this_update; bytes = b }) in
     record {
       answer = CrlIssued row.number (length (content records row.number));
       after = with bytes;
-      happens = says.step (with bytes) bytes (subst (λ (l : CertList). signed l bytes) list_is signatures) refl;
+      happens = says.step (with bytes) bytes signatures refl;
       rests = subst (λ (b : List ℕ). IsAtRest (with b) trees) added_is rests;
     }
 

@@ -362,10 +362,10 @@ nowhere_shown signs identity keeps history moves agree run serial not_revoked =
           (λ (status : Status). IsFalse (is_revoked status))
           (sym (told_is (first_of_all (clock_checks moment run.after.last)) (status run.after serial moment) told answered))
           (status_unrevoked run.after serial is moment);
-      by_ocsp = λ moment reached.
+      by_ocsp = λ moment reached responder.
           ocsp_tells
           signs
-          identity
+          responder
           run.after
           moment
           serial

@@ -80,10 +80,10 @@ shown_of signs identity agree run its sound certificate revocation found by tell
       (λ (told : Status). (outcome ≡ Ok (StatusIs told)) ⊎ (outcome ≡ Err Memory) ⊎ (outcome ≡ Err Store))
       (is_revoked_at moment)
       (status_told run.after moment by.request.serial reached outcome answered);
-  by_ocsp = λ moment reached.
+  by_ocsp = λ moment reached responder.
       ocsp_tells
       signs
-      identity
+      responder
       run.after
       moment
       by.request.serial

@@ -13,6 +13,7 @@ use Rattle.reg_ocsp.specs.Request.{Id}
 use Rattle.reg_ocsp.specs.Response.{Answer}
 use Rattle.reg_office.specs.Agreement.{Agrees, OcspAgrees}
 use Rattle.reg_calls.specs.Ocsp.{IsOcspReply, IsReadReply, IsResponse, IsTimely}
+use Rattle.reg_calls.specs.Signatories.{Responder, responder_key}
 use Rattle.reg_office.specs.Shown.{IsReached, OcspTells, ResponseTells}
 
 -- the clock refuses no moment that is reached
@@ -38,19 +39,19 @@ zip_weaker P Q weaker (x ∷ xs) (y ∷ ys) all = (weaker x y all.0, zip_weaker 
 
 -- each reply at a moment that is reached tells of a serial number what each answer that agrees with the records tells
 pub ocsp_tells
-    : (signs : Identity → List ℕ → List ℕ → Type 0) (identity : Identity) (records : Records) (moment serial : ℕ)
+    : (signs : Identity → List ℕ → List ℕ → Type 0) (responder : Responder) (records : Records) (moment serial : ℕ)
     → (IsSo : Status → Type 0)
     → OcspAgrees
     → SoundRows records
     → ((id : Id) (answer : Answer) → IsMatch records.issuer id serial → Agrees records id answer → IsSo answer.status)
     → IsReached records moment
     → (asked reply : List ℕ)
-    → IsOcspReply signs identity records moment asked reply
-    → OcspTells signs identity records moment serial IsSo asked reply
-ocsp_tells signs identity records moment serial IsSo agree sound so reached asked reply (inl malformed) = inl malformed
-ocsp_tells signs identity records moment serial IsSo agree sound so reached asked reply (inr its) = go its.3
+    → IsOcspReply signs responder records moment asked reply
+    → OcspTells signs responder records moment serial IsSo asked reply
+ocsp_tells signs responder records moment serial IsSo agree sound so reached asked reply (inl malformed) = inl malformed
+ocsp_tells signs responder records moment serial IsSo agree sound so reached asked reply (inr its) = go its.3
   where
-    whole : IsResponse signs identity records moment its.0 its.1 reply → ResponseTells signs identity records moment serial IsSo asked reply
+    whole : IsResponse signs responder records moment its.0 its.1 reply → ResponseTells signs responder records moment serial IsSo asked reply
     whole response = record {
       ids = its.0;
       nonce = its.1;
@@ -63,16 +64,16 @@ ocsp_tells signs identity records moment serial IsSo agree sound so reached aske
           (λ id answer agrees match. so id answer match agrees)
           its.0
           response.of_records.answers
-          (agree records moment its.0 its.1 response.tbs sound response.of_records);
+          (agree (responder_key responder records) records moment its.0 its.1 response.tbs sound response.of_records);
     }
 
-    go : IsReadReply signs identity records moment its.0 its.1 reply → OcspTells signs identity records moment serial IsSo asked reply
+    go : IsReadReply signs responder records moment its.0 its.1 reply → OcspTells signs responder records moment serial IsSo asked reply
     go (inl internal) = inr (inl internal)
     go (inr timely) =
         inr
         (inr
         (whole
         (subst
-        (λ (refused : Option Refusal). IsTimely refused (IsResponse signs identity records moment its.0 its.1) reply)
+        (λ (refused : Option Refusal). IsTimely refused (IsResponse signs responder records moment its.0 its.1) reply)
         (on_clock records moment reached)
         timely)))

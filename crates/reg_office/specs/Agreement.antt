@@ -37,14 +37,15 @@ pub record Agrees (records : Records) (id : Id) (answer : Answer) : Type 0 where
       (λ entry. IsMatch records.issuer id entry.serial → answer.status ≡ Revoked entry.at entry.reason)
       (entries records n)
 
--- OCSP statuses agree: in every ResponseData of sound records, at every moment, each answer agrees with the records
+-- OCSP statuses agree: in every ResponseData of sound records, by whatever key, at every moment, each answer agrees with the records
 abbrev pub OcspAgrees : Type 0
 OcspAgrees =
+    (key : List ℕ)
     (records : Records)
     (now : ℕ)
     (ids : List Id)
     (nonce : Option (List ℕ))
     (tbs : List ℕ)
     → SoundRows records
-    → (its : IsOcspData records now ids nonce tbs)
+    → (its : IsOcspData key records now ids nonce tbs)
     → AllZip (Agrees records) ids its.answers

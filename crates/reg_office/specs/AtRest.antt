@@ -11,6 +11,7 @@ use Rattle.reg_core.specs.declared.command.Command.{Command}
 use Rattle.reg_core.specs.declared.command.Reply.{Reply}
 use Rattle.reg_core.specs.declared.refusal.Fault.{Fault}
 use Rattle.reg_crl.specs.Signing.{Identity, signed_by}
+use Rattle.reg_der.specs.Issuers.{with_key_identifier}
 use Rattle.reg_tables.specs.Kept.{ShowsKept}
 use Rattle.reg_writing.specs.AtRest.{IsAtRest}
 use Rattle.reg_laws.specs.Run.{Happens, Run}
@@ -44,6 +45,10 @@ StopsBeforeOrAfter {C = C} g signs =
     → Stands g signs old identity records → IsTrue (state g old).is_open → IsLive (state g old)
     → Survives (state g old) (state g new) (Does g signs old identity now command) → HasCleanDisk (state g new)
     → (trees : Trees) → (state g new).may_leave trees → IsAtRest records trees ⊎ IsDone signs identity records now command trees
+
+-- the rows as a key identifier of the issuer's own leaves them, which CRLs have from the next one on
+abbrev pub IsIdentified : {C : Type 0} → Ghosts C → Held C → List ℕ → Trees → Type 0
+IsIdentified g old octets trees = (records : Records) → ShowsKept g old records → IsAtRest (with_key_identifier records octets) trees
 
 -- ---- over a run
 

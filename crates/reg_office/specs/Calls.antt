@@ -4,16 +4,16 @@ use Rattle.sqlite.specs.Held.{Held, state}
 use Rattle.sqlite.specs.State.{HasCleanDisk}
 use Rattle.sqlite_trees.specs.declared.store.Store.{Ghosts}
 use Rattle.reg_calls.specs.Leads.{Leads}
+use Rattle.reg_calls.specs.Signatories.{Signatory}
 use Rattle.reg_calls.specs.Steps.{Signs}
 use Rattle.reg_core.specs.Records.{Records}
-use Rattle.reg_crl.specs.Signing.{Identity}
 use Rattle.reg_office.specs.Stands.{Stands}
 
--- the records stand in a store for this identity, and it is who signs
-abbrev pub StandsFor : {C : Type 0} → Ghosts C → Signs → Held C × Identity → Identity → Records → Type 0
-StandsFor g signs office identity records = (office.1 ≡ identity) × Stands g signs office.0 identity records
+-- the records stand in a store for those who sign
+abbrev pub StandsFor : {C : Type 0} → Ghosts C → Signs → Held C × Signatory → Signatory → Records → Type 0
+StandsFor g signs office who records = (office.1 ≡ who) × Stands g signs office.0 who.crls records
 
 -- a call of an office over a store leads from its store, and who signs for it, to those after it by a step of the records
-abbrev pub LeadsOver : {C : Type 0} → Ghosts C → Signs → (Identity → Records → Records → Type 0) → Held C × Identity → Held C × Identity → Type 0
+abbrev pub LeadsOver : {C : Type 0} → Ghosts C → Signs → (Signatory → Records → Records → Type 0) → Held C × Signatory → Held C × Signatory → Type 0
 LeadsOver {C = C} g signs step =
-    Leads (λ (office : Held C × Identity). HasCleanDisk (state g office.0)) (λ identity office records. StandsFor g signs office identity records) step
+    Leads (λ (office : Held C × Signatory). HasCleanDisk (state g office.0)) (λ who office records. StandsFor g signs office who records) step

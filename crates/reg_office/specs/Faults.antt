@@ -28,3 +28,12 @@ IsOfficeFault Write = ⊥
 -- want of memory, or a failure of the signer
 abbrev pub IsSigningFault : Fault → Type 0
 IsSigningFault fault = (fault ≡ Memory) ⊎ (fault ≡ Signer)
+
+-- want of memory, or a failure of the store or of the signer: why a CRL is not made
+abbrev pub IsMakingFault : Fault → Type 0
+IsMakingFault (Refused refusal) = ⊥
+IsMakingFault Memory = Unit {0}
+IsMakingFault Store = Unit {0}
+IsMakingFault Signer = Unit {0}
+IsMakingFault Read = ⊥
+IsMakingFault Write = ⊥

@@ -1,7 +1,10 @@
 pub mod Agreement
+pub mod Answering
 pub mod AtRest
+pub mod Commands
 pub mod Faults
 pub mod Happened
+pub mod Issuing
 pub mod OpenedAgain
 pub mod Shown
 pub mod Stands

@@ -31,6 +31,7 @@ use Rattle.reg_ocsp.specs.Response.{refusal_response}
 use Rattle.reg_ocsp.specs.declared.response.RefusalStatus.TheVariants.{Malformed, Internal}
 use Rattle.reg_calls.specs.Ocsp.{HasNoReading, IsOcspReply, IsResponse}
 use Rattle.reg_calls.specs.Answered.{IsAnswered}
+use Rattle.reg_calls.specs.Signatories.{Responder}
 
 -- A RUN, AND THE REVOCATIONS THAT IT ACCEPTED
 
@@ -80,7 +81,7 @@ pub record IsReached (records : Records) (moment : ℕ) : Type 0 where
 -- a response in which each CertID that names the issuer's certificate of the serial number is told so (RFC 6960 4.2.1)
 pub record ResponseTells
     (signs : Identity → List ℕ → List ℕ → Type 0)
-    (identity : Identity)
+    (responder : Responder)
     (records : Records)
     (moment serial : ℕ)
     (IsSo : Status → Type 0)
@@ -89,7 +90,7 @@ pub record ResponseTells
   pub ids : List Id
   pub nonce : Option (List ℕ)
   pub read : IsRequest asked ids nonce
-  pub response : IsResponse signs identity records moment ids nonce reply
+  pub response : IsResponse signs responder records moment ids nonce reply
   pub told :
       AllZip
       (λ id answer. IsMatch records.issuer id serial → IsSo answer.status)
@@ -100,7 +101,7 @@ pub record ResponseTells
 -- response, signed
 abbrev pub OcspTells
     : (Identity → List ℕ → List ℕ → Type 0)
-    → Identity
+    → Responder
     → Records
     → ℕ
     → ℕ
@@ -108,10 +109,10 @@ abbrev pub OcspTells
     → List ℕ
     → List ℕ
     → Type 0
-OcspTells signs identity records moment serial IsSo asked reply =
+OcspTells signs responder records moment serial IsSo asked reply =
     (HasNoReading asked × (reply ≡ refusal_response Malformed))
     ⊎ (reply ≡ refusal_response Internal)
-    ⊎ ResponseTells signs identity records moment serial IsSo asked reply
+    ⊎ ResponseTells signs responder records moment serial IsSo asked reply
 
 -- WHAT CRLS TELL
 
@@ -177,12 +178,13 @@ pub record IsShownEverywhere
       → (outcome : Result Reply Fault)
       → IsAnswered run.after moment (AskStatus request.serial) outcome
       → (outcome ≡ Ok (StatusIs (revoked_at its.at request))) ⊎ (outcome ≡ Err Memory) ⊎ (outcome ≡ Err Store)
-  -- each CertID of an OCSP request that names the certificate is told so
+  -- each CertID of an OCSP request that names the certificate is told so, whoever answers
   pub by_ocsp : (moment : ℕ)
       → IsReached run.after moment
+      → (responder : Responder)
       → (asked reply : List ℕ)
-      → IsOcspReply signs identity run.after moment asked reply
-      → OcspTells signs identity run.after moment request.serial (λ told. told ≡ revoked_at its.at request) asked reply
+      → IsOcspReply signs responder run.after moment asked reply
+      → OcspTells signs responder run.after moment request.serial (λ told. told ≡ revoked_at its.at request) asked reply
   -- each CRL that was issued later in the run has its entry, up to and including the first one past the certificate's end
   pub later : List Crl
   pub issued_later : run.after.crls ≡ its.before.crls ++ later
@@ -214,12 +216,13 @@ pub record IsNowhereShown
       → (told : Status)
       → IsAnswered run.after moment (AskStatus serial) (Ok (StatusIs told))
       → IsFalse (is_revoked told)
-  -- no CertID of an OCSP request that names it is told that it is revoked
+  -- no CertID of an OCSP request that names it is told that it is revoked, whoever answers
   pub by_ocsp : (moment : ℕ)
       → IsReached run.after moment
+      → (responder : Responder)
       → (asked reply : List ℕ)
-      → IsOcspReply signs identity run.after moment asked reply
-      → OcspTells signs identity run.after moment serial (λ told. IsFalse (is_revoked told)) asked reply
+      → IsOcspReply signs responder run.after moment asked reply
+      → OcspTells signs responder run.after moment serial (λ told. IsFalse (is_revoked told)) asked reply
   -- no CRL has an entry of it
   pub by_crls : AllByRecursion (λ crl. entry_in run.after crl serial ≡ None) run.after.crls
   -- and each CRL is signed over just its entries

@@ -11,27 +11,28 @@ impl<C: Alter, S: Signer> Calls for Office<C, S> {
     ghost use Rattle.std.specs.Prelude.{◌<◌, IsErrOf};
     ghost use Rattle.reg_core.specs.declared.refusal.Fault.TheVariants.{Signer as SignerFailed};
     ghost use Rattle.reg_calls.specs.Steps.{Runs, Asks, Ocsps, Crls};
+    ghost use Rattle.reg_office.specs.Answering.{signatory_of};
     ghost use Rattle.reg_office.specs.Calls.{LeadsOver};
 
     /// A fault of the signer comes only where it counted a failure.
     ghost runs = { λ s now command outcome t.
-        LeadsOver C.Store S.signs (λ identity before after. Runs S.signs identity before now command outcome after)
-        (s.store, S.identity s.signer) (t.store, S.identity t.signer)
+        LeadsOver C.Store S.signs (λ who before after. Runs S.signs who before now command outcome after)
+        (s.store, signatory_of S.identity (S.identity s.signer) s.responder) (t.store, signatory_of S.identity (S.identity t.signer) t.responder)
         × (IsErrOf outcome SignerFailed → S.failure_count s.signer < S.failure_count t.signer) };
 
     /// Nothing is signed for a query, so no fault of the signer comes.
     ghost asks = { λ s now query outcome t.
-        LeadsOver C.Store S.signs (λ identity before after. Asks before now query outcome after)
-        (s.store, S.identity s.signer) (t.store, S.identity t.signer)
+        LeadsOver C.Store S.signs (λ who before after. Asks before now query outcome after)
+        (s.store, signatory_of S.identity (S.identity s.signer) s.responder) (t.store, signatory_of S.identity (S.identity t.signer) t.responder)
         × ¬ (IsErrOf outcome SignerFailed) };
 
     ghost ocsps = { λ s now request given t.
-        LeadsOver C.Store S.signs (λ identity before after. Ocsps S.signs identity before now request given after)
-        (s.store, S.identity s.signer) (t.store, S.identity t.signer) };
+        LeadsOver C.Store S.signs (λ who before after. Ocsps S.signs who before now request given after)
+        (s.store, signatory_of S.identity (S.identity s.signer) s.responder) (t.store, signatory_of S.identity (S.identity t.signer) t.responder) };
 
     ghost crls = { λ s number given t.
-        LeadsOver C.Store S.signs (λ identity before after. Crls before number given after)
-        (s.store, S.identity s.signer) (t.store, S.identity t.signer) };
+        LeadsOver C.Store S.signs (λ who before after. Crls before number given after)
+        (s.store, signatory_of S.identity (S.identity s.signer) s.responder) (t.store, signatory_of S.identity (S.identity t.signer) t.responder) };
 
     fn run_one(&mut self, alloc: Global, now: Moment, command: &Command) -> Outcome {
         self.run_one(alloc, now, command)

@@ -11,9 +11,10 @@ ghost use Rattle.reg_core.specs.declared.command.Command.TheVariants.{Crl as Iss
 ghost use Rattle.reg_tables.specs.Kept.{ShowsKept};
 ghost use Rattle.reg_tables.specs.Stays.{Changed, Looked};
 ghost use Rattle.reg_office.specs.AtRest.{Steps};
-ghost use Rattle.reg_office.specs.Faults.{IsOfficeFault, IsSigningFault, IsTableFault};
+ghost use Rattle.reg_office.specs.Faults.{IsMakingFault, IsOfficeFault, IsSigningFault, IsTableFault};
+ghost use Rattle.reg_office.specs.Issuing.{IsNextRow};
 ghost use Rattle.reg_office.specs.Happened.{Happened};
-ghost use Rattle.reg_core.specs.Crls.{EntriesAscend};
+ghost use Rattle.reg_core.specs.Crls.{EntriesAscend, cert_list, content};
 ghost use Rattle.reg_core.specs.declared.refusal.Fault.TheVariants.{Signer as SignerFailed};
 ghost use Rattle.reg_crl.specs.Signing.{signed_by};
 ghost use Rattle.reg_tables.specs.Shows.{Shows};
@@ -58,6 +59,50 @@ fn signed_crl<S: Signer>(
     Ok(crl_whole(alloc, &tbs, signer.algorithm(), &signature)?)
 }
 
+/// The row of the next CRL, and its nextUpdate.
+///
+/// # Errors
+/// The refusals of [`decide_crl`]; `Memory`, `Store`.
+fn next_row<C: Alter>(store: &mut Store<C>, now: Moment) -> Result<(CrlRow, Moment), Fault>
+    requires { now < clock_end }
+    ensures decided { (records : Records) → Shows C.Store store.old records → HasCleanDisk (state C.Store store.new) → IsNextRow records now result }
+    ensures looked { Looked C.Store store.old store.new }
+    ensures faults { IfErr result IsTableFault }
+{
+    let head = head_at(store, now, Table::Crls)?;
+    let latest = latest_crl(store)?;
+    let row = decide_crl(&head, latest)?;
+    let next_update = now.plus(head.policy.crl_life());
+    Ok((row, next_update))
+}
+
+/// The DER of the CRL of a row, signed, and how many entries it has.
+///
+/// # Errors
+/// `Memory`, `Store`; `Signer` where the signer counted a failure.
+fn made_crl<C: Alter, S: Signer>(
+    store: &mut Store<C>,
+    signer: &mut S,
+    alloc: Global,
+    row: &CrlRow,
+    next_update: Moment,
+) -> Result<(Vec<u8>, u64), Fault>
+    ensures signed { (records : Records) → ShowsKept C.Store store.old records → HasCleanDisk (state C.Store store.new)
+        → next_update ≡ row.now.this_update + records.policy.crl_life
+        → IfOk result (λ crl. signed_by S.signs (S.identity signer.old) (cert_list records row.now.number row.now.this_update) crl.0.items
+        × (crl.1 ≡ length (content records row.now.number))) }
+    ensures looked { Looked C.Store store.old store.new }
+    ensures same_identity { S.identity signer.new ≡ S.identity signer.old }
+    ensures device { IsErrOf result SignerFailed → S.failure_count signer.old < S.failure_count signer.new }
+    ensures faults { IfErr result IsMakingFault }
+{
+    let issuer = store.issuer()?;
+    let entries = store.entries(row.number)?;
+    let der = signed_crl(alloc, signer, &issuer, row, next_update, &entries)?;
+    let listed = entries.len() as u64;
+    Ok((der, listed))
+}
+
 /// Issues a CRL. It is made and signed before the store changes.
 ///
 /// # Errors
@@ -77,20 +122,11 @@ pub(crate) fn issue_crl<C: Alter, S: Signer>(
     ensures same_identity { S.identity signer.new ≡ S.identity signer.old }
     ensures device { IsErrOf result SignerFailed → S.failure_count signer.old < S.failure_count signer.new }
 {
-    let head = head_at(store, now, Table::Crls)?;
-    let latest = latest_crl(store)?;
-    let row = decide_crl(&head, latest)?;
+    let (row, next_update) = next_row(store, now)?;
+    let (der, entries) = made_crl(store, signer, alloc, &row, next_update)?;
     let number = row.number;
-    let entries = store.entries(number)?;
-    let issuer = store.issuer()?;
-    let next_update = now.plus(head.policy.crl_life());
-    let der = signed_crl(alloc, signer, &issuer, &row, next_update, &entries)?;
-    let listed = entries.len() as u64;
     store.add_crl(now, row, &der)?;
-    Ok(Reply::Crl {
-        number,
-        entries: listed,
-    })
+    Ok(Reply::Crl { number, entries })
 }
 
 /// The bytes of the CRL with a number, or of the latest.

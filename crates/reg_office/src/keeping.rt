@@ -8,15 +8,19 @@ use sqlite::Alter;
 impl<C: Alter, S: Signer> Keeper for Office<C, S> {
     ghost use Rattle.sqlite.specs.Held.{state};
     ghost use Rattle.sqlite.specs.State.{HasCleanDisk};
+    ghost use Rattle.reg_office.specs.Answering.{failures_of, signatory_of};
     ghost use Rattle.reg_office.specs.Calls.{StandsFor};
 
     ghost is_clean = { λ office. HasCleanDisk (state C.Store office.store) };
 
-    ghost stands = { λ identity office records. StandsFor C.Store S.signs (office.store, S.identity office.signer) identity records };
+    ghost stands = { λ who office records.
+        StandsFor C.Store S.signs (office.store, signatory_of S.identity (S.identity office.signer) office.responder) who records };
 
     ghost signs = { S.signs };
 
     ghost failures = { λ office. S.failure_count office.signer };
+
+    ghost answer_failures = { λ office. failures_of S.failure_count (S.failure_count office.signer) office.responder };
 
     ghost runs_lead = { λ s now command outcome t ran. ran.0 };
 

@@ -3,8 +3,10 @@
 
 mod calls;
 mod certificates;
+mod commands;
 mod crls;
 mod heads;
+mod identifiers;
 mod keeping;
 pub mod laws;
 mod ocsp_answer;
@@ -13,8 +15,10 @@ mod office;
 mod orders;
 mod queries;
 mod requests;
+mod responder;
 mod run;
 mod statuses;
 mod subscribers;
 
 pub use office::Office;
+pub use responder::Responder;

@@ -1,6 +1,6 @@
 //! The office: a register's store, and who signs its CRLs.
 
-ghost use Rattle.std.specs.Prelude.{◌≡◌, ◌≤◌, ◌<◌, ◌↔◌, Err, IsErrOf, OnOk, OnErr, IfOk, IfErr};
+ghost use Rattle.std.specs.Prelude.{◌≡◌, ◌≤◌, ◌<◌, ◌↔◌, Err, None, IsErrOf, OnOk, OnErr, IfOk, IfErr};
 ghost use Rattle.sqlite.specs.Held.{state};
 ghost use Rattle.sqlite.specs.State.{HasCleanDisk};
 ghost use Rattle.reg_calls.specs.Items.{items_of};
@@ -15,49 +15,74 @@ ghost use Rattle.reg_tables.specs.Stays.{Changed, IsCallFault, Looked, Stays};
 ghost use Rattle.reg_ocsp.specs.Response.{refusal_response};
 ghost use Rattle.reg_ocsp.specs.declared.response.RefusalStatus.TheVariants.{Malformed, Internal};
 ghost use Rattle.reg_calls.specs.Ocsp.{HasNoReading, IsOcspReply};
-ghost use Rattle.reg_office.specs.AtRest.{Does};
+ghost use Rattle.reg_der.specs.Issuers.{with_key_identifier};
+ghost use Rattle.reg_office.specs.Answering.{answers_by, failures_of};
+ghost use Rattle.reg_office.specs.AtRest.{Does, IsIdentified};
 ghost use Rattle.reg_calls.specs.Answered.{IsAnswered, IsGiven};
 ghost use Rattle.reg_office.specs.Faults.{IsOfficeFault, IsTableFault};
 ghost use Rattle.reg_office.specs.Stands.{Stands, CameTo};
+ghost use Rattle.reg_office.specs.declared.responder.Responder.TheVariants.{Issuer};
 
-use crate::certificates::register;
-use crate::crls::{bytes_of, issue_crl};
+use crate::commands::run_command;
+use crate::crls::bytes_of;
+use crate::identifiers::set_key_identifier;
 use crate::ocsp_answer::ocsp;
-use crate::orders::enter_order;
 use crate::queries::answer;
-use crate::requests::{decline, enter_request, revoke};
-use crate::subscribers::enter_subscriber;
-use reg_core::{CertRow, Command, Fault, Memory, Moment, Query, Refusal, Reply, Schedule};
+use crate::responder::Responder;
+use reg_core::{Command, Fault, Label, Memory, Moment, Query, Refusal, Reply, Schedule};
 use reg_crl::Signer;
 use reg_store::{Store, StoreFault};
 use sqlite::Alter;
 use std::alloc::Global;
 
-/// A register in a store, and who signs its CRLs. Nothing is kept between the two but what the store's tables show.
+/// A register in a store, who signs its CRLs, and who answers OCSP requests. Nothing is kept between them but what the store's
+/// tables show.
 #[derive(Drop)]
 pub struct Office<C: Alter, S: Signer> {
     /// The register's tables.
     pub store: Store<C>,
-    /// Who signs the CRLs and the OCSP responses.
+    /// Who signs the CRLs.
     pub signer: S,
+    /// Who answers OCSP requests: who signs the CRLs, or another one.
+    pub responder: Responder<S>,
 }
 
-impl<C: Alter, S: Signer> Office<C, S> {
-    /// An office over a store and a signer.
-    pub fn new(store: Store<C>, signer: S) -> Office<C, S>
-        ensures store { result.store ≡ store }
-        ensures signer { result.signer ≡ signer }
-    {
-        Self { store, signer }
-    }
-
+impl<C: Alter, S: Signer + Drop> Office<C, S> {
     /// The store and the signer, as they are.
     pub fn into_parts(self) -> (Store<C>, S)
         ensures store { result.0 ≡ self.store }
         ensures signer { result.1 ≡ self.signer }
     {
-        let Office { store, signer } = self;
+        let Office {
+            store,
+            signer,
+            responder: _,
+        } = self;
         (store, signer)
+    }
+}
+
+impl<C: Alter, S: Signer> Office<C, S> {
+    /// An office over a store and a signer, who also answers OCSP requests, with no certificate.
+    pub fn new(store: Store<C>, signer: S) -> Office<C, S>
+        ensures store { result.store ≡ store }
+        ensures signer { result.signer ≡ signer }
+        ensures responder { result.responder ≡ Issuer None }
+    {
+        Office::answering(store, signer, Responder::Issuer(None))
+    }
+
+    /// An office over a store and a signer, with who answers OCSP requests.
+    pub fn answering(store: Store<C>, signer: S, responder: Responder<S>) -> Office<C, S>
+        ensures store { result.store ≡ store }
+        ensures signer { result.signer ≡ signer }
+        ensures responder { result.responder ≡ responder }
+    {
+        Self {
+            store,
+            signer,
+            responder,
+        }
     }
 
     /// Runs one command at its moment.
@@ -72,38 +97,14 @@ impl<C: Alter, S: Signer> Office<C, S> {
         ensures ended { clock_end ≤ now → (result ≡ Err (Refused ClockEnd)) × (self.new ≡ self.old) }
         ensures changed { Changed C.Store self.old.store self.new.store (Does C.Store S.signs self.old.store (S.identity self.old.signer) now command.now) result }
         ensures same_identity { S.identity self.new.signer ≡ S.identity self.old.signer }
+        ensures same_responder { self.new.responder ≡ self.old.responder }
         ensures device { IsErrOf result SignerFailed → (command.now ≡ IssueCrl) × (S.failure_count self.old.signer < S.failure_count self.new.signer) }
         ensures faults { IfErr result IsOfficeFault }
     {
         if now >= Moment::CLOCK_END {
             return Err(Fault::Refused(Refusal::ClockEnd));
         }
-        match *command {
-            Command::Subscriber { name } => enter_subscriber(&mut self.store, now, name),
-            Command::Order { subscriber, days } => {
-                enter_order(&mut self.store, now, subscriber, days)
-            }
-            Command::Register {
-                order,
-                serial,
-                not_before,
-                not_after,
-            } => {
-                let wanted = CertRow {
-                    serial,
-                    order,
-                    not_before,
-                    not_after,
-                };
-                register(&mut self.store, now, wanted)
-            }
-            Command::Request { serial, ground } => {
-                enter_request(&mut self.store, now, serial, ground)
-            }
-            Command::Decline { request } => decline(&mut self.store, now, request),
-            Command::Revoke { request } => revoke(&mut self.store, now, request),
-            Command::Crl => issue_crl(&mut self.store, &mut self.signer, alloc, now),
-        }
+        run_command(&mut self.store, &mut self.signer, alloc, now, command)
     }
 
     /// Answers a query at its moment.
@@ -118,6 +119,7 @@ impl<C: Alter, S: Signer> Office<C, S> {
         ensures ended { clock_end ≤ now → (result ≡ Err (Refused ClockEnd)) × (self.new ≡ self.old) }
         ensures looked { Looked C.Store self.old.store self.new.store }
         ensures same_signer { self.new.signer ≡ self.old.signer }
+        ensures same_responder { self.new.responder ≡ self.old.responder }
         ensures faults { IfErr result IsTableFault }
     {
         if now < Moment::CLOCK_END {
@@ -136,6 +138,7 @@ impl<C: Alter, S: Signer> Office<C, S> {
             → IsGiven records number (items_of result) × Stands C.Store S.signs self.new.store (S.identity self.new.signer) records }
         ensures looked { Looked C.Store self.old.store self.new.store }
         ensures same_signer { self.new.signer ≡ self.old.signer }
+        ensures same_responder { self.new.responder ≡ self.old.responder }
         ensures faults { IfErr result IsTableFault }
     {
         bytes_of(&mut self.store, number)
@@ -143,9 +146,10 @@ impl<C: Alter, S: Signer> Office<C, S> {
 
     /// The whole OCSPResponse in DER (RFC 6960 4.2.1) to the bytes of a request, at a moment.
     ///
-    /// malformedRequest exactly where the bytes are no request. Else internalError, where the store or the signer fails;
-    /// or tryLater, where the moment is refused; or else the response, signed: each CertID byte for byte, in the order
-    /// asked, told `good` (an expired one too), `revoked` with time and reason, or `unknown`.
+    /// malformedRequest exactly where the bytes are no request. Else internalError, where the store or who answers fails;
+    /// or tryLater, where the moment is refused; or else the response, signed by who answers, with its certificate, where
+    /// one stands with answers: each CertID byte for byte, in the order asked, told `good` (an expired one too), `revoked`
+    /// with time and reason, or `unknown`.
     ///
     /// # Errors
     /// `Memory`, the only one, where memory could not be had.
@@ -153,14 +157,23 @@ impl<C: Alter, S: Signer> Office<C, S> {
         ensures malformed { IfOk result (λ answer. (answer.items ≡ refusal_response Malformed) ↔ HasNoReading request.now) }
         ensures answered { (records : Records) → Stands C.Store S.signs self.old.store (S.identity self.old.signer) records
             → HasCleanDisk (state C.Store self.new.store)
-            → IfOk result (λ answer. IsOcspReply S.signs (S.identity self.old.signer) records now request.now answer.items) }
+            → IfOk result (λ answer. IsOcspReply S.signs (answers_by S.identity (S.identity self.old.signer) self.old.responder) records now request.now answer.items) }
         ensures stands { (records : Records) → Stands C.Store S.signs self.old.store (S.identity self.old.signer) records
             → Stands C.Store S.signs self.new.store (S.identity self.new.signer) records }
         ensures looked { Looked C.Store self.old.store self.new.store }
         ensures same_identity { S.identity self.new.signer ≡ S.identity self.old.signer }
-        ensures failed { S.failure_count self.old.signer < S.failure_count self.new.signer → IfOk result (λ answer. answer.items ≡ refusal_response Internal) }
+        ensures same_responder { answers_by S.identity (S.identity self.new.signer) self.new.responder ≡ answers_by S.identity (S.identity self.old.signer) self.old.responder }
+        ensures failed { failures_of S.failure_count (S.failure_count self.old.signer) self.old.responder < failures_of S.failure_count (S.failure_count self.new.signer) self.new.responder
+            → IfOk result (λ answer. answer.items ≡ refusal_response Internal) }
     {
-        ocsp(alloc, &mut self.store, &mut self.signer, now, request)
+        ocsp(
+            alloc,
+            &mut self.store,
+            &mut self.signer,
+            &mut self.responder,
+            now,
+            request,
+        )
     }
 
     /// Sets the schedule of longest validities, which is no command: no record, nothing that is kept beside them and not
@@ -174,8 +187,26 @@ impl<C: Alter, S: Signer> Office<C, S> {
         ensures changed { Changed C.Store self.old.store self.new.store (IsScheduled C.Store self.old.store schedule) result }
         ensures err { OnErr result (Stays (state C.Store self.old.store) (state C.Store self.new.store)) }
         ensures same_signer { self.new.signer ≡ self.old.signer }
+        ensures same_responder { self.new.responder ≡ self.old.responder }
         ensures faults { IfErr result IsCallFault }
     {
         self.store.set_schedule(schedule)
+    }
+
+    /// Gives the issuer a key identifier of its own, which its CRLs have from the next one on (RFC 5280 5.2.1); the CRLs that
+    /// were issued stay as they are, and signed over what they list. It is no command: no record, nothing that is kept beside
+    /// them and not the last accepted moment changes.
+    ///
+    /// # Errors
+    /// `Memory`, `Store`. Nothing has changed then.
+    pub fn set_key_identifier(&mut self, alloc: Global, octets: Label) -> Result<(), StoreFault>
+        ensures ok { (records : Records) → Stands C.Store S.signs self.old.store (S.identity self.old.signer) records → HasCleanDisk (state C.Store self.new.store)
+            → OnOk result (Stands C.Store S.signs self.new.store (S.identity self.new.signer) (with_key_identifier records octets)) }
+        ensures changed { Changed C.Store self.old.store self.new.store (IsIdentified C.Store self.old.store octets) result }
+        ensures same_signer { self.new.signer ≡ self.old.signer }
+        ensures same_responder { self.new.responder ≡ self.old.responder }
+        ensures faults { IfErr result IsCallFault }
+    {
+        set_key_identifier(&mut self.store, alloc, octets)
     }
 }

@@ -41,6 +41,7 @@ impl<C: Alter, S: Signer> Office<C, S> {
             × ((trees : Trees) → (state C.Store self.new.store).may_leave trees → IsPartlyRun S.signs (S.identity self.old.signer) records commands.now came trees)) }
         ensures clean { doubt (state C.Store self.old.store).is_clean ≤ doubt (state C.Store self.new.store).is_clean }
         ensures same_identity { S.identity self.new.signer ≡ S.identity self.old.signer }
+        ensures same_responder { self.new.responder ≡ self.old.responder }
     {
         let Ok(()) = outcomes.reserve(commands.len()) else {
             return Err(Memory);

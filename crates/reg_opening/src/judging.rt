@@ -113,7 +113,7 @@ fn judge_issuer(alloc: Global, row: &Row) -> Result<(), StoreFault>
         None => Err(StoreFault::NotARegister),
         Some(name) => match bytes_at(row, 1) {
             None => Err(StoreFault::NotARegister),
-            Some(key) => match Issuer::new(alloc, name, key) {
+            Some(key) => match Issuer::of_kept(alloc, name, key) {
                 Ok(_) => Ok(()),
                 Err(IssuerFault::Memory) => Err(StoreFault::Memory),
                 Err(IssuerFault::BadName) => Err(StoreFault::NotARegister),

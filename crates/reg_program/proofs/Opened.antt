@@ -19,8 +19,12 @@ use Rattle.reg_laws.proofs.Runs.{created_sound}
 use Rattle.reg_office.specs.Stands.{Stands}
 use Rattle.reg_tables.specs.Kept.{ShowsKept}
 use Rattle.reg_tables.specs.Schema.{no_schema}
-use Rattle.reg_program.specs.Files.{IsConnection, IsOpenedFrom, IsMadeFrom, Showed}
-use Rattle.reg_jobs.specs.Signing.{Follows, IsSigning, Signing}
+use Rattle.reg_office.specs.Answering.{signatory_of}
+use Rattle.reg_office.specs.declared.responder.Responder.{Responder as Held_by}
+use Rattle.reg_program.specs.Files.{IsConnection, IsOpenedFor, IsOpenedFrom, IsMadeFrom, Showed}
+use Rattle.reg_words.specs.declared.job.Answerer.{Answerer}
+use Rattle.reg_calls.specs.Signatories.{Signatory}
+use Rattle.reg_jobs.specs.Signing.{EmbedsOwn, Follows, IsAnswering, IsSigning, OfCrls, Signing, answerer_told, crls_told}
 
 -- the records of one that was made
 pub made_stands : {C : Type 0} (g : Ghosts C) (signs : Identity → List ℕ → List ℕ → Type 0) (identity : Identity) (store register : Held C)
@@ -62,27 +66,34 @@ module _ {D : Type 0} {g : disk.Ghosts D} {O L : Type 0} (store : O → Held (Fi
     (connection : Held (FileStore D g)) (connects : IsConnection connection) (found : Result O L) (result : Result O Failure)
     (settled : MatchResult found (λ office. result ≡ Ok office) (λ left. result ≡ Err (failure left))) where
   -- who signs over what was opened, as it was told and over its records
-  abbrev pub Tells : (O → Identity) → Signing → O → Type 0
+  abbrev pub Tells : (O → Signatory) → OfCrls → O → Type 0
   Tells who signing office =
       (records : Records) → Showed over_files connection records → HasCleanDisk (file_state (store office))
-      → IsSigning signing records.issuer.key (who office)
+      → IsSigning signing records.issuer.key (who office).crls
 
   -- who signs, under the algorithm of the latest CRL
-  abbrev pub FollowsLatest : (O → Identity) → O → Type 0
+  abbrev pub FollowsLatest : (O → Signatory) → O → Type 0
   FollowsLatest who office =
       (records : Records) → Showed over_files connection records → SoundRows records → HasCleanDisk (file_state (store office))
-      → Follows records (who office).algorithm
+      → Follows records (who office).crls.algorithm
+
+  -- a certificate that stands with answers by the issuer's key
+  abbrev pub EmbedsIssuers : (O → Signatory) → O → Type 0
+  EmbedsIssuers who office =
+      (records : Records) → Showed over_files connection records → HasCleanDisk (file_state (store office))
+      → EmbedsOwn records.issuer.key (who office).answers
 
   -- one that was opened
-  pub settled_opened : (who : O → Identity) (signing : Signing)
+  pub settled_opened : (who : O → Signatory) (signing : OfCrls)
       → IfOk found (λ office. (records : Records) → ShowsKept over_files connection records → ShowsKept over_files (store office) records)
       → IfOk found (λ office. (version : Earlier) (records : Records) → ShowsOlder version over_files connection records → SoundRows records → ShowsKept over_files (store office) records)
       → IfOk found (λ office. doubt (file_state connection).is_clean ≤ doubt (file_state (store office)).is_clean)
       → IfOk found (Tells who signing)
       → IfOk found (FollowsLatest who)
+      → IfOk found (EmbedsIssuers who)
       → IfOk result (λ office. IsOpenedFrom signing (store office) (who office))
-  settled_opened who signing kept migrated clean told follows =
-      settled_ok (λ office. IsOpenedFrom signing (store office) (who office)) failure found result (go found kept migrated clean told follows) settled
+  settled_opened who signing kept migrated clean told follows embeds =
+      settled_ok (λ office. IsOpenedFrom signing (store office) (who office)) failure found result (go found kept migrated clean told follows embeds) settled
     where
       go : (r : Result O L)
           → IfOk r (λ office. (records : Records) → ShowsKept over_files connection records → ShowsKept over_files (store office) records)
@@ -90,8 +101,9 @@ module _ {D : Type 0} {g : disk.Ghosts D} {O L : Type 0} (store : O → Held (Fi
           → IfOk r (λ office. doubt (file_state connection).is_clean ≤ doubt (file_state (store office)).is_clean)
           → IfOk r (Tells who signing)
           → IfOk r (FollowsLatest who)
+          → IfOk r (EmbedsIssuers who)
           → IfOk r (λ office. IsOpenedFrom signing (store office) (who office))
-      go (Ok office) kept migrated clean told follows = record {
+      go (Ok office) kept migrated clean told follows embeds = record {
         connection = connection;
         connects = connects;
         kept = kept;
@@ -99,8 +111,9 @@ module _ {D : Type 0} {g : disk.Ghosts D} {O L : Type 0} (store : O → Held (Fi
         clean = clean;
         told = told;
         follows = follows;
+        embeds = embeds;
       }
-      go (Err left) kept migrated clean told follows = tt
+      go (Err left) kept migrated clean told follows embeds = tt
 
   -- one that was made
   pub settled_made :
@@ -115,3 +128,25 @@ module _ {D : Type 0} {g : disk.Ghosts D} {O L : Type 0} (store : O → Held (Fi
           → IfOk r (λ office. IsMadeFrom (store office))
       go (Ok office) empty clean = record { connection = connection; connects = connects; empty = empty; clean = clean }
       go (Err left) empty clean = tt
+
+-- what was opened for signatures of CRLs, and is answered in as it was told
+module _ {D : Type 0} {g : disk.Ghosts D} {O : Type 0} (store : O → Held (FileStore D g)) (who : O → Signatory) (signing : Signing) where
+  pub opened_for : (crls : OfCrls) (result : Result O Failure) → crls_told signing ≡ crls
+      → IfOk result (λ office. IsOpenedFrom crls (store office) (who office))
+      → IfOk result (λ office. IsAnswering (answerer_told signing) (who office))
+      → IfOk result (λ office. IsOpenedFor signing (store office) (who office))
+  opened_for crls (Ok office) is opened answers = record {
+    opened = subst (λ (c : OfCrls). IsOpenedFrom c (store office) (who office)) (sym is) opened;
+    answers = answers;
+  }
+  opened_for crls (Err why) is opened answers = tt
+
+-- who answers in it is the one that was read, whoever signs CRLs
+pub answers_as : {O S : Type 0} (identity : S → Identity) (signer : O → S) (responder : O → Held_by S) (answerer : Answerer) (read : Held_by S)
+    (result : Result O Failure)
+    → IfOk result (λ office. responder office ≡ read)
+    → ((crls : Identity) → IsAnswering answerer (signatory_of identity crls read))
+    → IfOk result (λ office. IsAnswering answerer (signatory_of identity (identity (signer office)) (responder office)))
+answers_as {S = S} identity signer responder answerer read (Ok office) same answers =
+    subst (λ (r : Held_by S). IsAnswering answerer (signatory_of identity (identity (signer office)) r)) (sym same) (answers (identity (signer office)))
+answers_as identity signer responder answerer read (Err why) same answers = tt

@@ -8,6 +8,7 @@ use Rattle.sqlite_disk.specs.declared.Disk as disk
 use Rattle.sqlite_store.specs.declared.store.FileStore.{FileStore}
 use Rattle.reg_core.specs.Records.{Records}
 use Rattle.reg_core.specs.Sound.{CrlsSigned}
+use Rattle.reg_calls.specs.Signatories.{Signatory}
 use Rattle.reg_crl.specs.Signing.{Identity, signed_by}
 use Rattle.reg_office.specs.Stands.{Stands}
 use Rattle.reg_tables.specs.Columns.{Columns}
@@ -17,7 +18,7 @@ use Rattle.reg_verdict.specs.Presumed.{IsPresumed}
 use Rattle.reg_verdict.specs.Verdicts.{CountedBy, IsSound}
 use Rattle.reg_findings.specs.declared.verdict.Verdict.{Verdict}
 use Rattle.reg_program.specs.Files.{IsAudited, IsOpenedFrom}
-use Rattle.reg_jobs.specs.Signing.{Signing}
+use Rattle.reg_jobs.specs.Signing.{OfCrls}
 
 -- an audit of a file that said that all is sound, with a disk that returned what was written, and where what is presumed of the
 -- connection and of the file holds
@@ -33,9 +34,9 @@ abbrev pub tables_of : {D : Type 0} {g : disk.Ghosts D} → FoundSound g → Dat
 tables_of found = (file_state found.audited.connection).now
 
 -- a register that was opened over the very tables that were audited
-pub record OpensSame {D : Type 0} {g : disk.Ghosts D} (found : FoundSound g) (register : Held (FileStore D g)) (identity : Identity) : Type 0 where
-  pub signing : Signing
-  pub opened : IsOpenedFrom signing register identity
+pub record OpensSame {D : Type 0} {g : disk.Ghosts D} (found : FoundSound g) (register : Held (FileStore D g)) (who : Signatory) : Type 0 where
+  pub signing : OfCrls
+  pub opened : IsOpenedFrom signing register who
   pub same : (file_state opened.connection).now ≡ tables_of found
 
 -- There are records that the audited tables show: they are sound, what is kept beside them follows from them, and they are as many as
@@ -45,5 +46,5 @@ pub record StandsOnceAudited {D : Type 0} {g : disk.Ghosts D} (signs : Identity 
   pub shown : ShowsSound (tables_of found)
   pub counted : CountedBy found.verdict shown.records
   pub stand : (records : Records) (columns : Columns) → AreBoth (tables_of found) records columns
-      → (register : Held (FileStore D g)) (identity : Identity) → OpensSame found register identity
-      → CrlsSigned (signed_by signs identity) records → Stands over_files signs register identity records
+      → (register : Held (FileStore D g)) (who : Signatory) → OpensSame found register who
+      → CrlsSigned (signed_by signs who.crls) records → Stands over_files signs register who.crls records

@@ -21,8 +21,8 @@ use Rattle.reg_auditing.specs.Stored.{IsSomeCrl}
 use Rattle.reg_verdict.specs.Presumed.{IsPresumed}
 use Rattle.reg_verdict.specs.Verdicts.{CountedBy, DeniedBy, IsSound, TellsOf}
 use Rattle.reg_findings.specs.declared.verdict.Verdict.{Verdict}
-use Rattle.reg_crl.specs.Signing.{Identity}
-use Rattle.reg_jobs.specs.Signing.{Follows, IsSigning, Signing}
+use Rattle.reg_calls.specs.Signatories.{Signatory}
+use Rattle.reg_jobs.specs.Signing.{EmbedsOwn, Follows, IsAnswering, IsSigning, OfCrls, Signing, answerer_told, crls_told}
 
 -- tables showed the records of a register, of this program's version or of an older one
 abbrev pub Showed : {C : Type 0} → Ghosts C → Held C → Records → Type 0
@@ -35,18 +35,26 @@ module _ {D : Type 0} {g : disk.Ghosts D} where
     pub whole : HasCleanDisk (file_state connection) → IsOpened connection
 
   -- What a register holds was opened by a connection, and shows the records that the connection showed, also those that its
-  -- tables showed as ones of an older version. Who signs is as it was told, or as the latest CRL tells where nothing will be
-  -- signed; over the issuer's key, and under the algorithm of the latest CRL.
-  pub record IsOpenedFrom (signing : Signing) (register : Held (FileStore D g)) (identity : Identity) : Type 0 where
+  -- tables showed as ones of an older version. Who signs CRLs is as it was told, or as the latest CRL tells where nothing will be
+  -- signed; over the issuer's key, and under the algorithm of the latest CRL. A certificate that stands with OCSP answers by the
+  -- issuer's key is of that key.
+  pub record IsOpenedFrom (signing : OfCrls) (register : Held (FileStore D g)) (who : Signatory) : Type 0 where
     pub connection : Held (FileStore D g)
     pub connects : IsConnection connection
     pub kept : (records : Records) → ShowsKept over_files connection records → ShowsKept over_files register records
     pub migrated : (version : Earlier) (records : Records) → ShowsOlder version over_files connection records → SoundRows records → ShowsKept over_files register records
     pub clean : doubt (file_state connection).is_clean ≤ doubt (file_state register).is_clean
     pub told : (records : Records) → Showed over_files connection records → HasCleanDisk (file_state register)
-        → IsSigning signing records.issuer.key identity
+        → IsSigning signing records.issuer.key who.crls
     pub follows : (records : Records) → Showed over_files connection records → SoundRows records → HasCleanDisk (file_state register)
-        → Follows records identity.algorithm
+        → Follows records who.crls.algorithm
+    pub embeds : (records : Records) → Showed over_files connection records → HasCleanDisk (file_state register)
+        → EmbedsOwn records.issuer.key who.answers
+
+  -- the same for all that it was opened for: OCSP requests are answered in it as it was told
+  pub record IsOpenedFor (signing : Signing) (register : Held (FileStore D g)) (who : Signatory) : Type 0 where
+    pub opened : IsOpenedFrom (crls_told signing) register who
+    pub answers : IsAnswering (answerer_told signing) who
 
   -- what a register holds was made by a connection to a database with no table, index or view
   pub record IsMadeFrom (register : Held (FileStore D g)) : Type 0 where

@@ -1,6 +1,6 @@
 //! Registers in files: made, opened and closed.
 
-ghost use Rattle.std.specs.Prelude.{◌≡◌, ◌≤◌, ◌⊎◌, false, IfOk, IfErr, IsFalse, IsTrue, MatchResult, OnErr, option_map};
+ghost use Rattle.std.specs.Prelude.{◌≡◌, ◌≤◌, ◌⊎◌, None, Some, false, IfOk, IfErr, IsFalse, IsTrue, MatchBool, MatchResult, OnErr, option_map};
 ghost use Rattle.sqlite.specs.Files.{file_state, over_files, IsOpened};
 ghost use Rattle.sqlite.specs.Held.{state, IsNew};
 ghost use Rattle.sqlite.specs.State.{HasCleanDisk};
@@ -10,31 +10,34 @@ ghost use Rattle.reg_core.specs.Sound.{SoundRows};
 ghost use Rattle.reg_migration.specs.Older.{ShowsOlder};
 ghost use Rattle.reg_migration.specs.declared.version.Earlier.{Earlier};
 ghost use Rattle.reg_jobs.specs.Failing.{IsMaking, IsOpening};
-ghost use Rattle.reg_program.specs.Files.{IsAudited, IsOpenedFrom, IsMadeFrom, Showed};
-ghost use Rattle.reg_jobs.specs.Signing.{Follows, IsSigning};
+ghost use Rattle.reg_program.specs.Files.{IsAudited, IsOpenedFor, IsOpenedFrom, IsMadeFrom, Showed};
+ghost use Rattle.reg_jobs.specs.Signing.{EmbedsOwn, Follows, IsSigning, crls_told};
 ghost use Rattle.reg_calls.specs.Leads.{Leads};
+ghost use Rattle.reg_jobs.specs.Identifiers.{Identifies};
 ghost use Rattle.reg_jobs.specs.Schedules.{Reschedules};
+ghost use Rattle.reg_office.specs.Answering.{answers_by, failures_of, signatory_of};
 ghost use Rattle.reg_office.specs.Calls.{StandsFor};
 ghost use Rattle.reg_office.specs.Stands.{Stands};
 ghost use Rattle.reg_tables.specs.Kept.{ShowsKept};
 ghost use Rattle.reg_tables.specs.Schema.{no_schema};
 ghost use Rattle.reg_tables.specs.Stays.{IsCallFault};
 
+use crate::answering::{failures_in, responder_told};
 use crate::machine::Machine;
 use crate::signing::{FileSigner, signer_for};
 use crate::watching::Teller;
-use reg_core::{Fault, Memory, Policy, Schedule};
+use reg_core::{Fault, Label, Memory, Policy, Schedule};
 use reg_crl::Signer;
 use reg_der::Issuer;
 use reg_endings::Failure;
 use reg_files::{Unlaid, absent, claim_file, open_file, remove_file};
 use reg_findings::Verdict;
 use reg_jobs::Place;
-use reg_office::Office;
+use reg_office::{Office, Responder};
 use reg_signer::KeyOrDigest;
 use reg_store::{Store, StoreFault};
 use reg_verdict::judge;
-use reg_words::KeyHolder;
+use reg_words::{Answerer, KeyHolder};
 use sqlite::{Alter, Connection, FileFrom, FileStore};
 use sqlite_disk::{Disk, Unknown};
 use std::alloc::Global;
@@ -45,7 +48,8 @@ pub type FileOffice = Office<FileStore<FileFrom<Unknown>>, FileSigner>;
 
 /// The machine's files, as a place where registers lie. No state of theirs stands in the handle, so its relations read none.
 impl<'a> Place for Machine<'a> {
-    ghost use Rattle.reg_program.specs.Files.{IsAudited, IsOpenedFrom, IsMadeFrom};
+    ghost use Rattle.reg_office.specs.Answering.{signatory_of};
+    ghost use Rattle.reg_program.specs.Files.{IsAudited, IsOpenedFor, IsMadeFrom};
 
     type Opened = FileOffice;
 
@@ -56,7 +60,8 @@ impl<'a> Place for Machine<'a> {
     ghost removed = { λ files path after. Unit {0} };
 
     ghost opened = { λ files path signing register after.
-        IsOpenedFrom signing register.store (⟦<FileSigner as Signer>⟧.identity register.signer) };
+        IsOpenedFor signing register.store
+        (signatory_of ⟦<FileSigner as Signer>⟧.identity (⟦<FileSigner as Signer>⟧.identity register.signer) register.responder) };
 
     ghost unopened = { λ files path signing why after. Unit {0} };
 
@@ -87,15 +92,16 @@ impl<'a> Place for Machine<'a> {
     }
 
     fn open(&mut self, path: &str) -> Result<FileOffice, Failure> {
-        open_register(self, path, None)
+        open_register(self, path, None, Responder::Issuer(None))
     }
 
     fn open_to_sign(
         &mut self,
         path: &str,
         signer: &Option<KeyHolder<'_>>,
+        answerer: &Answerer<'_>,
     ) -> Result<FileOffice, Failure> {
-        open_register(self, path, Some(signer))
+        open_told(self, path, signer, answerer)
     }
 
     fn make(&mut self, path: &str, issuer: Issuer, policy: Policy) -> Result<FileOffice, Failure> {
@@ -116,10 +122,21 @@ impl<'a> Place for Machine<'a> {
         reschedule(alloc, register, schedule)
     }
 
-    fn failures(register: &FileOffice) -> u64
-        ensures { result ≡ ⟦<FileSigner as Signer>⟧.failure_count register.now.signer }
+    fn set_key_identifier(
+        &self,
+        alloc: Global,
+        register: &mut FileOffice,
+        octets: Label,
+    ) -> Result<(), StoreFault> {
+        identify(alloc, register, octets)
+    }
+
+    fn failures(register: &FileOffice) -> (u64, u64)
+        ensures crls { result.0 ≡ ⟦<FileSigner as Signer>⟧.failure_count register.now.signer }
+        ensures answers { result.1 ≡ failures_of ⟦<FileSigner as Signer>⟧.failure_count (⟦<FileSigner as Signer>⟧.failure_count register.now.signer) register.now.responder }
     {
-        register.signer.failures()
+        let crls = register.signer.failures();
+        (crls, failures_in(&register.responder, crls))
     }
 
     fn audit(&mut self, path: &str) -> Result<Verdict, Failure> {
@@ -184,20 +201,50 @@ fn make_register(
     settled(made_over(connection, issuer, policy, KeyOrDigest::digest()))
 }
 
-/// Opens the register of a file for these signatures; `None` where nothing will be signed.
+/// Opens the register of a file for what is told. Certificates are read first.
+fn open_told(
+    machine: &Machine<'_>,
+    path: &str,
+    signer: &Option<KeyHolder<'_>>,
+    answerer: &Answerer<'_>,
+) -> Result<FileOffice, Failure>
+    ensures ok { IfOk result (λ register. IsOpenedFor (Some (signer.now, answerer.now)) register.store
+        (signatory_of ⟦<FileSigner as Signer>⟧.identity (⟦<FileSigner as Signer>⟧.identity register.signer) register.responder)) }
+    ensures err { IfErr result IsOpening }
+{
+    let responder = responder_told(machine, answerer)?;
+    if is_silent(signer, answerer) {
+        return open_register(machine, path, None, responder);
+    }
+    open_register(machine, path, Some(signer), responder)
+}
+
+/// Whether nobody signs CRLs: a responder answers, and nothing holds the issuer's key.
+fn is_silent(signer: &Option<KeyHolder<'_>>, answerer: &Answerer<'_>) -> bool
+    ensures { MatchBool result (crls_told (Some (signer.now, answerer.now)) ≡ None) (crls_told (Some (signer.now, answerer.now)) ≡ Some signer.now) }
+{
+    match answerer {
+        Answerer::Issuer { .. } => false,
+        Answerer::Delegate { .. } => signer.is_none(),
+    }
+}
+
+/// Opens the register of a file for these signatures of CRLs, `None` where none will be signed, and with who answers OCSP requests.
 fn open_register(
     machine: &Machine<'_>,
     path: &str,
     signing: Option<&Option<KeyHolder<'_>>>,
+    responder: Responder<FileSigner>,
 ) -> Result<FileOffice, Failure>
     ensures ok { IfOk result (λ register. IsOpenedFrom (option_map (λ told. told.now) signing.entry) register.store
-        (⟦<FileSigner as Signer>⟧.identity register.signer)) }
+        (signatory_of ⟦<FileSigner as Signer>⟧.identity (⟦<FileSigner as Signer>⟧.identity register.signer) register.responder)) }
+    ensures responder { IfOk result (λ register. register.responder ≡ responder) }
     ensures err { IfErr result IsOpening }
 {
     // To open a path where no file is would make one.
     present(machine, path)?;
     let connection = open_noted(machine, path)?;
-    settled(office_over(&machine.rt, connection, signing))
+    settled(office_over(machine, connection, signing, responder))
 }
 
 /// Sets the schedule of an office.
@@ -207,11 +254,25 @@ fn reschedule<C: Alter, S: Signer>(
     schedule: Schedule,
 ) -> Result<(), StoreFault>
     ensures moves { Leads (λ office. HasCleanDisk (state C.Store office.store))
-        (λ identity office records. StandsFor C.Store S.signs (office.store, S.identity office.signer) identity records)
+        (λ who office records. StandsFor C.Store S.signs (office.store, signatory_of S.identity (S.identity office.signer) office.responder) who records)
         (λ identity. Reschedules schedule result) office.old office.new }
     ensures faults { IfErr result IsCallFault }
 {
     office.set_schedule(alloc, schedule)
+}
+
+/// Gives the issuer of an office a key identifier of its own, for the CRLs from the next one on.
+fn identify<C: Alter, S: Signer>(
+    alloc: Global,
+    office: &mut Office<C, S>,
+    octets: Label,
+) -> Result<(), StoreFault>
+    ensures moves { Leads (λ office. HasCleanDisk (state C.Store office.store))
+        (λ who office records. StandsFor C.Store S.signs (office.store, signatory_of S.identity (S.identity office.signer) office.responder) who records)
+        (λ identity. Identifies octets result) office.old office.new }
+    ensures faults { IfErr result IsCallFault }
+{
+    office.set_key_identifier(alloc, octets)
 }
 
 /// What an audit says of the register in a file.
@@ -249,11 +310,13 @@ fn made_over<C: Alter, S: Signer + Drop>(
     }
 }
 
-/// The office over the register of a database, for these signatures; where there is none, why, and the connection back.
+/// The office over the register of a database, for these signatures; where there is none, why, and the connection back. The cause of
+/// `BadSigner` is noted.
 fn office_over<C: Alter>(
-    rt: &HostRuntime,
+    machine: &Machine<'_>,
     connection: Connection<C>,
     signing: Option<&Option<KeyHolder<'_>>>,
+    responder: Responder<FileSigner>,
 ) -> Result<Office<C, FileSigner>, (Failure, Connection<C>)>
     requires { connection.in_transaction ≡ false }
     ensures kept { IfOk result (λ office. (records : Records) → ShowsKept C.Store connection records → ShowsKept C.Store office.store records) }
@@ -264,13 +327,16 @@ fn office_over<C: Alter>(
         → IsSigning (option_map (λ told. told.now) signing.entry) records.issuer.key (⟦<FileSigner as Signer>⟧.identity office.signer)) }
     ensures follows { IfOk result (λ office. (records : Records) → Showed C.Store connection records → SoundRows records
         → HasCleanDisk (state C.Store office.store) → Follows records (⟦<FileSigner as Signer>⟧.identity office.signer).algorithm) }
+    ensures embeds { IfOk result (λ office. (records : Records) → Showed C.Store connection records → HasCleanDisk (state C.Store office.store)
+        → EmbedsOwn records.issuer.key (answers_by ⟦<FileSigner as Signer>⟧.identity (⟦<FileSigner as Signer>⟧.identity office.signer) office.responder)) }
+    ensures responder { IfOk result (λ office. office.responder ≡ responder) }
     ensures err { IfErr result (λ left. IsOpening left.0) }
 {
     match Store::open(connection) {
         Ok(store) => {
             let mut store = store;
-            match signer_for(rt, &mut store, signing) {
-                Ok(signer) => Ok(Office::new(store, signer)),
+            match signer_for(machine, &mut store, signing, &responder) {
+                Ok(signer) => Ok(Office::answering(store, signer, responder)),
                 Err(why) => Err((why, store.into_connection())),
             }
         }

@@ -1,6 +1,7 @@
 //! The program `desk` on a machine: its files, clock, ports and sockets as a place and a front of jobs.
 #![tactic(auto)]
 
+mod answering;
 mod counter;
 mod desk;
 mod files;

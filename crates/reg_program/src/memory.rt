@@ -1,13 +1,14 @@
 //! A script over a new register in memory.
 
-ghost use Rattle.std.specs.Prelude.{IfErr, IfOk};
+ghost use Rattle.std.specs.Prelude.{◌≡◌, None, IfErr, IfOk};
 ghost use Rattle.reg_core.specs.Records.{Records};
 ghost use Rattle.reg_faces.specs.Faces.{Lines};
 ghost use Rattle.reg_lines.specs.Script.{ScriptEnds};
 ghost use Rattle.reg_jobs.specs.Ends.{ScriptInMemory};
 ghost use Rattle.sqlite.specs.Steps.{over_memory};
 ghost use Rattle.reg_office.specs.Stands.{Stands};
-ghost use Rattle.reg_jobs.specs.Digest.{digest, digests};
+ghost use Rattle.reg_office.specs.declared.responder.Responder.TheVariants.{Issuer as ByIssuer};
+ghost use Rattle.reg_jobs.specs.Digest.{digest, digest_alone, digests};
 ghost use Rattle.reg_jobs.specs.Failing.{IsMaking};
 ghost use Rattle.reg_jobs.specs.Sample.{sample_records};
 
@@ -52,8 +53,9 @@ fn run_in_memory<R: Read, W: Write>(
     writer: &mut W,
     office: &mut MemoryOffice,
 ) -> Result<(), Fault>
-    requires { Stands over_memory digests office.old.store digest sample_records }
-    ensures { (after : Records) × ScriptEnds (Lines digests digest) R.remaining W.contents sample_records after
+    requires stands { Stands over_memory digests office.old.store digest sample_records }
+    requires alone { office.old.responder ≡ ByIssuer None }
+    ensures { (after : Records) × ScriptEnds (Lines digests digest_alone) R.remaining W.contents sample_records after
         reader.old reader.new writer.old writer.new result }
 {
     run_script(alloc, reader, writer, office)
@@ -65,6 +67,7 @@ fn run_in_memory<R: Read, W: Write>(
 /// `Memory`, and `Store` where the database fails.
 fn office_in_memory(alloc: Global) -> Result<MemoryOffice, Failure>
     ensures ok { IfOk result (λ office. Stands over_memory digests office.store digest sample_records) }
+    ensures alone { IfOk result (λ office. office.responder ≡ ByIssuer None) }
     ensures err { IfErr result IsMaking }
 {
     let Ok(issuer) = Issuer::new(alloc, &NAME, &KEY) else {

@@ -10,7 +10,7 @@ use crate::memory::script_in_memory;
 use reg_endings::{Failure, status_of};
 use reg_jobs::{
     Causes, Front, NewOffice, Place, at, audit, crl, explain, hold_open, import_rows, init,
-    schedule, script, script_by_lines, serve, tell,
+    key_identifier, schedule, script, script_by_lines, serve, tell,
 };
 use reg_words::Job;
 use std::io::{Read, Write};
@@ -80,6 +80,7 @@ fn run<P: Place, F: Front, R: Read, W: Write>(
             file,
             name,
             key,
+            key_id,
             days,
             crl_life,
             ocsp_life,
@@ -88,6 +89,7 @@ fn run<P: Place, F: Front, R: Read, W: Write>(
             let new = NewOffice {
                 name,
                 key,
+                key_id,
                 days: *days,
                 crl_life: *crl_life,
                 ocsp_life: *ocsp_life,
@@ -126,12 +128,14 @@ fn run<P: Place, F: Front, R: Read, W: Write>(
             port,
             requests,
             signer,
+            answerer,
         } => serve(
             rt,
             front,
             place,
             file.as_str(),
             signer,
+            answerer,
             *port,
             *requests,
             writer,
@@ -141,18 +145,21 @@ fn run<P: Place, F: Front, R: Read, W: Write>(
             port,
             counter,
             signer,
+            answerer,
         } => hold_open(
             rt,
             front,
             place,
             file.as_str(),
             signer,
+            answerer,
             *port,
             counter.as_str(),
             writer,
         ),
         Job::At { counter } => at(alloc, front, counter.as_str(), reader, writer),
         Job::Schedule { file, steps } => schedule(alloc, place, file.as_str(), steps, writer),
+        Job::KeyId { file, key_id } => key_identifier(alloc, place, file.as_str(), key_id, writer),
         Job::Audit { file } => audit(alloc, place, file.as_str(), writer),
     }
 }

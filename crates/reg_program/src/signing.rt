@@ -1,21 +1,28 @@
 //! Who signs for a register in a file.
 
-ghost use Rattle.std.specs.Prelude.{◌≡◌, ◌↔◌, ◌⊎◌, List, ℕ, Some, None, option_map, IsTrue, IfOk, IfErr};
+ghost use Rattle.std.specs.Prelude.{◌≡◌, ◌↔◌, ◌⊎◌, List, ℕ, Some, None, option_map, IsTrue, IfOk, IfErr, MatchOption};
 ghost use Rattle.sqlite.specs.Held.{state};
 ghost use Rattle.sqlite.specs.State.{HasCleanDisk};
 ghost use Rattle.reg_core.specs.Crls.{latest};
 ghost use Rattle.reg_core.specs.Records.{Records};
 ghost use Rattle.reg_core.specs.Sound.{SoundRows};
 ghost use Rattle.reg_jobs.specs.Failing.{IsOpening};
-ghost use Rattle.reg_jobs.specs.Signing.{Follows, IsSigning, identity_told};
+ghost use Rattle.reg_crl.specs.Signing.{Identity};
+ghost use Rattle.reg_jobs.specs.Signing.{EmbedsOwn, Follows, IsSigning, identity_told};
+ghost use Rattle.reg_office.specs.Answering.{answers_by};
 ghost use Rattle.reg_signer.specs.Forms.{identity_of};
 ghost use Rattle.reg_signer.specs.Signed.{IsCrlUnder};
+ghost use Rattle.reg_program.specs.Misfits.{Differs, IsKnown, IsMisfit, IsMisfitAfter};
 ghost use Rattle.reg_tables.specs.Shows.{Shows};
 ghost use Rattle.reg_tables.specs.Stays.{IsCallFault, Looked};
 
+use crate::answering::embeds_own;
+use crate::machine::Machine;
+use reg_causes::Cause;
 use reg_core::Fault;
-use reg_crl::Signer;
+use reg_crl::{DigestSeal, Signer};
 use reg_endings::Failure;
+use reg_office::Responder;
 use reg_signer::{Algorithm, BadSigner, DeviceSigner, KeyOrDigest, SocketDevice, crl_algorithm};
 use reg_store::{Store, StoreFault};
 use reg_words::{KeyHolder, Word};
@@ -24,31 +31,58 @@ use sqlite::Alter;
 /// What holds the key signs, behind a socket of the machine, or a digest seals.
 pub type FileSigner = KeyOrDigest<SocketDevice<HostRuntime>>;
 
-/// Who signs for the register of a store: as it is told; or, where nothing will be signed, as the latest CRL tells, with nobody who
-/// would answer.
+/// Who signs the CRLs of the register of a store: as it is told; or, where nothing will be signed, as the latest CRL tells, with nobody
+/// who would answer, so that a CRL comes to a fault of the signer. A certificate that stands with the answers of the issuer is looked at.
 ///
 /// # Errors
 /// `BadSigner` where the latest CRL is signed under another algorithm, or under one that is not known here, or the issuer's key is
-/// none of the algorithm; `Memory`, `Store`.
+/// none of the algorithm: which of these is noted, the key first; `BadResponder` where the issuer's certificate has another key, before
+/// these; `Memory`, `Store`.
 pub(crate) fn signer_for<C: Alter>(
-    rt: &HostRuntime,
+    machine: &Machine<'_>,
     store: &mut Store<C>,
     signing: Option<&Option<KeyHolder<'_>>>,
+    responder: &Responder<FileSigner>,
 ) -> Result<FileSigner, Failure>
     ensures told { IfOk result (λ signer. (records : Records) → Shows C.Store store.old records → HasCleanDisk (state C.Store store.new)
         → IsSigning (option_map (λ told. told.now) signing.entry) records.issuer.key (⟦<FileSigner as Signer>⟧.identity signer)) }
     ensures follows { IfOk result (λ signer. (records : Records) → Shows C.Store store.old records → SoundRows records
         → HasCleanDisk (state C.Store store.new) → Follows records (⟦<FileSigner as Signer>⟧.identity signer).algorithm) }
+    ensures embeds { IfOk result (λ signer. (records : Records) → Shows C.Store store.old records → HasCleanDisk (state C.Store store.new)
+        → (crls : Identity) → EmbedsOwn records.issuer.key (answers_by ⟦<FileSigner as Signer>⟧.identity crls responder.now)) }
     ensures looked { Looked C.Store store.old store.new }
     ensures faults { IfErr result IsOpening }
 {
     let latest = latest_crl(store)?;
     match signing {
-        Some(told) => signer_after(rt, store, &latest, told),
+        Some(told) => signer_after(machine, store, &latest, told, responder),
         None => {
             let told = holder_of(&latest);
-            signer_after(rt, store, &latest, &told)
+            silent_after(machine, store, &latest, &told, responder)
         }
+    }
+}
+
+/// Who would sign as it is told, and does not.
+fn silent_after<C: Alter>(
+    machine: &Machine<'_>,
+    store: &mut Store<C>,
+    latest: &Option<Vec<u8>>,
+    told: &Option<KeyHolder<'_>>,
+    responder: &Responder<FileSigner>,
+) -> Result<FileSigner, Failure>
+    ensures told { IfOk result (λ signer. (records : Records) → Shows C.Store store.old records → HasCleanDisk (state C.Store store.new)
+        → ⟦<FileSigner as Signer>⟧.identity signer ≡ identity_told told.now records.issuer.key) }
+    ensures follows { IfOk result (λ signer. (crl : List ℕ) → option_map (λ bytes. bytes.items) latest.now ≡ Some crl
+        → (other : List ℕ) → IsCrlUnder crl other → other ≡ (⟦<FileSigner as Signer>⟧.identity signer).algorithm) }
+    ensures embeds { IfOk result (λ signer. (records : Records) → Shows C.Store store.old records → HasCleanDisk (state C.Store store.new)
+        → (crls : Identity) → EmbedsOwn records.issuer.key (answers_by ⟦<FileSigner as Signer>⟧.identity crls responder.now)) }
+    ensures looked { Looked C.Store store.old store.new }
+    ensures faults { IfErr result IsOpening }
+{
+    match signer_after(machine, store, latest, told, responder) {
+        Ok(signer) => Ok(signer.silent()),
+        Err(why) => Err(why),
     }
 }
 
@@ -65,43 +99,59 @@ fn holder_of(latest: &Option<Vec<u8>>) -> Option<KeyHolder<'static>> {
 
 /// Who signs for the register of a store, as it is told, after its latest CRL.
 fn signer_after<C: Alter>(
-    rt: &HostRuntime,
+    machine: &Machine<'_>,
     store: &mut Store<C>,
     latest: &Option<Vec<u8>>,
     told: &Option<KeyHolder<'_>>,
+    responder: &Responder<FileSigner>,
 ) -> Result<FileSigner, Failure>
     ensures told { IfOk result (λ signer. (records : Records) → Shows C.Store store.old records → HasCleanDisk (state C.Store store.new)
         → ⟦<FileSigner as Signer>⟧.identity signer ≡ identity_told told.now records.issuer.key) }
     ensures follows { IfOk result (λ signer. (crl : List ℕ) → option_map (λ bytes. bytes.items) latest.now ≡ Some crl
         → (other : List ℕ) → IsCrlUnder crl other → other ≡ (⟦<FileSigner as Signer>⟧.identity signer).algorithm) }
+    ensures embeds { IfOk result (λ signer. (records : Records) → Shows C.Store store.old records → HasCleanDisk (state C.Store store.new)
+        → (crls : Identity) → EmbedsOwn records.issuer.key (answers_by ⟦<FileSigner as Signer>⟧.identity crls responder.now)) }
     ensures looked { Looked C.Store store.old store.new }
     ensures faults { IfErr result IsOpening }
 {
     let issuer = store.issuer()?;
-    let signer = signer_told(rt, told, issuer.key())?;
-    if !follows(latest, signer.algorithm()) {
-        return Err(Failure::BadSigner);
+    if !embeds_own(responder, issuer.key()) {
+        return Err(Failure::BadResponder);
     }
-    Ok(signer)
+    let signer = signer_told(machine, told, issuer.key())?;
+    match misfit(latest, signer.algorithm()) {
+        None => Ok(signer),
+        Some(why) => {
+            machine.note(Some(why));
+            Err(Failure::BadSigner)
+        }
+    }
 }
 
-/// Who signs over an issuer's key, as it is told.
+/// Who signs over an issuer's key, as it is told. Where the key is none of the algorithm, that is noted.
 fn signer_told(
-    rt: &HostRuntime,
+    machine: &Machine<'_>,
     told: &Option<KeyHolder<'_>>,
     key: &[u8],
 ) -> Result<FileSigner, Failure>
     ensures ok { IfOk result (λ signer. ⟦<FileSigner as Signer>⟧.identity signer ≡ identity_told told.now key.now) }
     ensures faults { IfErr result IsOpening }
 {
-    match told {
-        Some(holder) => key_signer(rt, holder.socket.as_str(), holder.algorithm, key),
-        None => Ok(KeyOrDigest::digest()),
+    let Some(holder) = told else {
+        return Ok(KeyOrDigest::digest());
+    };
+    match key_signer(&machine.rt, holder.socket.as_str(), holder.algorithm, key) {
+        Ok(signer) => Ok(signer),
+        Err(Failure::BadSigner) => {
+            machine.note(Some(Cause::OtherKey));
+            Err(Failure::BadSigner)
+        }
+        Err(why) => Err(why),
     }
 }
 
 /// What holds a key behind a socket, as who signs.
-fn key_signer(
+pub(crate) fn key_signer(
     rt: &HostRuntime,
     socket: &str,
     algorithm: Algorithm,
@@ -135,23 +185,53 @@ fn latest_crl<C: Alter>(store: &mut Store<C>) -> Result<Option<Vec<u8>>, StoreFa
     }
 }
 
-/// Whether the latest CRL, where there is one, is signed under an algorithm.
-fn follows(latest: &Option<Vec<u8>>, algorithm: &[u8]) -> bool
-    ensures { IsTrue result → (crl : List ℕ) → option_map (λ bytes. bytes.items) latest.now ≡ Some crl
-        → (other : List ℕ) → IsCrlUnder crl other → other ≡ algorithm.now }
+/// Why no CRL under an algorithm follows the latest one, where there is one. `None` where it follows.
+fn misfit(latest: &Option<Vec<u8>>, algorithm: &[u8]) -> Option<Cause>
+    ensures { MatchOption result
+        ((crl : List ℕ) → option_map (λ bytes. bytes.items) latest.now ≡ Some crl
+        → (other : List ℕ) → IsCrlUnder crl other → other ≡ algorithm.now)
+        (IsMisfitAfter (option_map (λ bytes. bytes.items) latest.now) algorithm.now) }
 {
     match latest {
-        Some(crl) => is_under(crl, algorithm),
-        None => true,
+        Some(crl) => misfit_of(crl, algorithm),
+        None => None,
     }
 }
 
-/// Whether a CRL is signed under an algorithm.
-fn is_under(crl: &[u8], algorithm: &[u8]) -> bool
-    ensures { IsTrue result → (other : List ℕ) → IsCrlUnder crl.now other → other ≡ algorithm.now }
+/// Why no CRL under an algorithm follows this one. `None` where it follows.
+fn misfit_of(crl: &[u8], algorithm: &[u8]) -> Option<Cause>
+    ensures { MatchOption result ((other : List ℕ) → IsCrlUnder crl.now other → other ≡ algorithm.now)
+        (IsMisfit crl.now algorithm.now) }
 {
     match crl_algorithm(crl) {
-        Some(found) => is_same(found, algorithm),
+        Some(found) => difference(found, algorithm),
+        None => Some(Cause::UnknownAlgorithm),
+    }
+}
+
+/// How the algorithm of a CRL differs from another. `None` where it does not.
+fn difference(found: &[u8], algorithm: &[u8]) -> Option<Cause>
+    ensures { MatchOption result (found.now ≡ algorithm.now) (Differs found.now algorithm.now) }
+{
+    if is_same(found, algorithm) {
+        None
+    } else if is_known(found) {
+        Some(Cause::OtherAlgorithm)
+    } else {
+        Some(Cause::UnknownAlgorithm)
+    }
+}
+
+/// Whether an algorithm is known here.
+fn is_known(algorithm: &[u8]) -> bool
+    ensures { IsTrue result ↔ IsKnown algorithm.now }
+{
+    let digest = DigestSeal;
+    if is_same(algorithm, digest.algorithm()) {
+        return true;
+    }
+    match Algorithm::identified(algorithm) {
+        Some(_) => true,
         None => false,
     }
 }

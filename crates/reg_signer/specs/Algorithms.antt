@@ -47,3 +47,27 @@ identifier_of EcdsaSha256 = tlv 48 ecdsa_with_sha256
 identifier_of EcdsaSha384 = tlv 48 ecdsa_with_sha384
 identifier_of RsaSha256 = tlv 48 (sha256_with_rsa_encryption ++ null)
 identifier_of Ed25519 = tlv 48 id_ed25519
+
+-- id-ecPublicKey, 1.2.840.10045.2.1 (RFC 5480 2.1.1)
+abbrev pub id_ec_public_key : List ℕ
+id_ec_public_key = tlv 6 (42 ∷ 134 ∷ 72 ∷ 206 ∷ 61 ∷ 2 ∷ 1 ∷ [])
+
+-- the curve P-256, secp256r1, 1.2.840.10045.3.1.7 (RFC 5480 2.1.1.1)
+abbrev pub secp256r1 : List ℕ
+secp256r1 = tlv 6 (42 ∷ 134 ∷ 72 ∷ 206 ∷ 61 ∷ 3 ∷ 1 ∷ 7 ∷ [])
+
+-- the curve P-384, secp384r1, 1.3.132.0.34 (RFC 5480 2.1.1.1)
+abbrev pub secp384r1 : List ℕ
+secp384r1 = tlv 6 (43 ∷ 129 ∷ 4 ∷ 0 ∷ 34 ∷ [])
+
+-- rsaEncryption, 1.2.840.113549.1.1.1 (RFC 3279 2.3.1)
+abbrev pub rsa_encryption : List ℕ
+rsa_encryption = tlv 6 (42 ∷ 134 ∷ 72 ∷ 134 ∷ 247 ∷ 13 ∷ 1 ∷ 1 ∷ 1 ∷ [])
+
+-- The AlgorithmIdentifier of a public key of an algorithm, in a subjectPublicKeyInfo (RFC 5280 4.1.2.7): a key of a curve with ECDSA
+-- (RFC 5480 2.1.1), one of RSA with the parameters NULL (RFC 3279 2.3.1), one of Ed25519 without any (RFC 8410 3)
+abbrev pub key_identifier_of : Algorithm → List ℕ
+key_identifier_of EcdsaSha256 = tlv 48 (id_ec_public_key ++ secp256r1)
+key_identifier_of EcdsaSha384 = tlv 48 (id_ec_public_key ++ secp384r1)
+key_identifier_of RsaSha256 = tlv 48 (rsa_encryption ++ null)
+key_identifier_of Ed25519 = tlv 48 id_ed25519

@@ -1,17 +1,22 @@
 //! Who signs where there may be a key.
 
-ghost use Rattle.std.specs.Prelude.{◌≡◌, Some, None};
+ghost use Rattle.std.specs.Prelude.{◌≡◌, ◌<◌, ◌≤◌, Some, None, false, true, IfOk, IsErrOf, OnOk, length};
+ghost use Rattle.sha1.specs.Sha1.{sha1};
 
 use crate::device::Device;
 use crate::signer::DeviceSigner;
 use reg_crl::{DigestSeal, SignFault, Signer};
 use std::alloc::Global;
 
-/// Who signs for a register: what holds its issuer's key; or, where there is none, a digest, which is no signature.
+/// Who signs for a register: what holds its issuer's key; or, where there is none, a digest, which is no signature; or nobody,
+/// where the digest would.
 #[derive(Drop)]
 pub struct KeyOrDigest<D: Device> {
     digest: DigestSeal,
     key: Option<DeviceSigner<D>>,
+    /// Nobody seals where no key signs: each time counts as a failure.
+    is_silent: bool,
+    failures: u64,
 }
 
 impl<D: Device + Drop> KeyOrDigest<D> {
@@ -22,17 +27,56 @@ impl<D: Device + Drop> KeyOrDigest<D> {
         KeyOrDigest {
             digest: DigestSeal,
             key: Some(signer),
+            is_silent: false,
+            failures: 0,
         }
     }
 
     /// A digest seals.
     pub fn digest() -> KeyOrDigest<D>
-        ensures { result.key ≡ None }
+        ensures key { result.key ≡ None }
+        ensures sealed { result.is_silent ≡ false }
     {
         KeyOrDigest {
             digest: DigestSeal,
             key: None,
+            is_silent: false,
+            failures: 0,
         }
+    }
+
+    /// The same, but nobody seals where no key signs.
+    pub fn silent(self) -> KeyOrDigest<D>
+        ensures key { result.key ≡ self.key }
+        ensures silent { result.is_silent ≡ true }
+    {
+        KeyOrDigest {
+            digest: self.digest,
+            key: self.key,
+            is_silent: true,
+            failures: self.failures,
+        }
+    }
+
+    /// Seals by the digest, unless nobody does. A count that can't rise tells no failure any more.
+    fn seal(&mut self, alloc: Global, message: &[u8]) -> Result<Vec<u8>, SignFault>
+        ensures sealed { IfOk result (λ seal. seal.items ≡ sha1 message.now) }
+        ensures short { IfOk result (λ seal. length seal.items ≤ 65536) }
+        ensures device { IsErrOf result SignFault.Device → self.old.failures < self.new.failures }
+        ensures exhausted { self.old.failures ≡ u64.MAX → ¬ (IsErrOf result SignFault.Device) }
+        ensures memory { IsErrOf result SignFault.Memory → self.new.failures ≡ self.old.failures }
+        ensures ok { OnOk result (self.new.failures ≡ self.old.failures) }
+        ensures silent { self.old.is_silent ≡ true → OnOk result ⊥ }
+        ensures same_key { self.new.key ≡ self.old.key }
+    {
+        if !self.is_silent {
+            return self.digest.sign(alloc, message);
+        }
+        if self.failures == u64::MAX {
+            return Err(SignFault::Memory);
+        }
+        self.failures += 1;
+        Err(SignFault::Device)
     }
 }
 
@@ -45,7 +89,7 @@ impl<D: Device + Drop> Signer for KeyOrDigest<D> {
 
     ghost signs = { SignsBoth D.answers };
 
-    ghost failure_count = { λ it. option_map_or (λ signer. signer.failures) it.key 0 };
+    ghost failure_count = { λ it. option_map_or (λ signer. signer.failures) it.key it.failures };
 
     fn algorithm(&self) -> &[u8] {
         match &self.key {
@@ -57,14 +101,14 @@ impl<D: Device + Drop> Signer for KeyOrDigest<D> {
     fn sign(&mut self, alloc: Global, message: &[u8]) -> Result<Vec<u8>, SignFault> {
         match &mut self.key {
             Some(signer) => signer.sign(alloc, message),
-            None => self.digest.sign(alloc, message),
+            None => self.seal(alloc, message),
         }
     }
 
     fn failures(&self) -> u64 {
         match &self.key {
             Some(signer) => signer.failures(),
-            None => 0,
+            None => self.failures,
         }
     }
 }

@@ -3,6 +3,7 @@
 
 mod algorithm;
 mod both;
+mod certified;
 mod device;
 mod exchange;
 mod forms;
@@ -14,6 +15,7 @@ mod unix;
 
 pub use algorithm::Algorithm;
 pub use both::KeyOrDigest;
+pub use certified::is_key_identifier;
 pub use device::{Device, DeviceFault};
 pub use exchange::{Connection, Connector, SocketDevice};
 pub use signed::crl_algorithm;

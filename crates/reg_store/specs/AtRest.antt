@@ -1,4 +1,4 @@
--- What a stop may find while a register is made, is opened, or has its schedule set.
+-- What a stop may find while a register is made, is opened, or has its schedule or its issuer set.
 use Rattle.std.specs.Prelude.{◌≡◌, ◌⊎◌, ℕ, List, IsTrue}
 use Rattle.sqlite_trees.specs.Tree.{Trees}
 use Rattle.sqlite_trees.specs.declared.store.Store.{Ghosts}
@@ -13,7 +13,8 @@ use Rattle.reg_tables.specs.Kept.{ShowsKept}
 use Rattle.reg_tables.specs.Schema.{no_schema}
 use Rattle.reg_tables.specs.Shows.{Shows}
 use Rattle.reg_writing.specs.AtRest.{IsAtRest}
-use Rattle.reg_changes.specs.AtRest.{IsScheduled}
+use Rattle.reg_changes.specs.AtRest.{IsNamed, IsScheduled}
+use Rattle.reg_der.specs.Issuers.{with_issuer}
 use Rattle.reg_migration.specs.Older.{older_schema, IsShownByOlder, ShowsOlder}
 use Rattle.reg_migration.specs.declared.version.Earlier.{Earlier}
 use Rattle.reg_opening.specs.AtRest.{IsCreated, IsOpened}
@@ -54,3 +55,13 @@ StopsWithASchedule {S = S} g =
     → ShowsKept g old records → IsTrue (state g old).is_open → IsLive (state g old) → Survives (state g old) (state g new) (IsScheduled g old steps) → HasCleanDisk (state g new)
     → (trees : Trees) → (state g new).may_leave trees
     → IsAtRest records trees ⊎ IsAtRest (with_schedule records steps) trees
+
+-- whatever a call left that may have set an issuer with the key that there was, a stop afterwards, or in the middle of it, leaves rows of the
+-- records with the issuer before the call, or with the one that was set, with what is kept beside them: over any disk that may lose what was
+-- not synced
+abbrev pub StopsWithAnIssuer : {S : Type 0} → Ghosts S → Type 0
+StopsWithAnIssuer {S = S} g =
+    (old new : Held S) (records : Records) (issuer : Issuer)
+    → ShowsKept g old records → records.issuer.key ≡ issuer.key → IsTrue (state g old).is_open → IsLive (state g old) → Survives (state g old) (state g new) (IsNamed g old issuer) → HasCleanDisk (state g new)
+    → (trees : Trees) → (state g new).may_leave trees
+    → IsAtRest records trees ⊎ IsAtRest (with_issuer records issuer) trees

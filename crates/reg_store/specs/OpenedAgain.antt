@@ -10,7 +10,8 @@ use Rattle.reg_core.specs.Records.{Records, no_records}
 use Rattle.reg_core.specs.Sound.{SoundRows}
 use Rattle.reg_tables.specs.Kept.{ShowsKept}
 use Rattle.reg_tables.specs.Schema.{no_schema}
-use Rattle.reg_changes.specs.AtRest.{IsScheduled}
+use Rattle.reg_changes.specs.AtRest.{IsNamed, IsScheduled}
+use Rattle.reg_der.specs.Issuers.{with_issuer}
 use Rattle.reg_migration.specs.Older.{ShowsOlder}
 use Rattle.reg_migration.specs.declared.version.Earlier.{Earlier}
 use Rattle.reg_opening.specs.AtRest.{IsCreated, IsOpened}
@@ -45,3 +46,11 @@ OpensWithASchedule {S = S} g =
     (old new again : Held S) (records : Records) (steps : List (ℕ × ℕ))
     → ShowsKept g old records → IsTrue (state g old).is_open → IsLive (state g old) → Survives (state g old) (state g new) (IsScheduled g old steps) → IsOpenedAgain g new again
     → ∥ ShowsKept g again records ⊎ ShowsKept g again (with_schedule records steps) ∥₁
+
+-- an issuer that is set, with the key that there was: after a stop, the register that is opened shows the records with the issuer before the call,
+-- or with the one that was set
+abbrev pub OpensWithAnIssuer : {S : Type 0} → Ghosts S → Type 0
+OpensWithAnIssuer {S = S} g =
+    (old new again : Held S) (records : Records) (issuer : Issuer)
+    → ShowsKept g old records → records.issuer.key ≡ issuer.key → IsTrue (state g old).is_open → IsLive (state g old) → Survives (state g old) (state g new) (IsNamed g old issuer) → IsOpenedAgain g new again
+    → ∥ ShowsKept g again records ⊎ ShowsKept g again (with_issuer records issuer) ∥₁

@@ -12,15 +12,17 @@ ghost use Rattle.reg_tables.specs.Columns.{Columns};
 ghost use Rattle.reg_tables.specs.Kept.{ShowsKept};
 ghost use Rattle.reg_tables.specs.Shows.{KeepsOfficeDays, Shows, ShowsBoth};
 ghost use Rattle.reg_tables.specs.Stays.{Changed, IsCallFault, Stays};
-ghost use Rattle.reg_changes.specs.AtRest.{IsChanged, IsIssued, IsScheduled};
+ghost use Rattle.reg_changes.specs.AtRest.{IsChanged, IsIssued, IsNamed, IsScheduled};
 ghost use Rattle.reg_changes.specs.Beside.{TurnsOne};
 ghost use Rattle.reg_changes.specs.Days.{LeavesOfficeDays};
 ghost use Rattle.reg_changes.specs.Steps.{swept, good_at};
+ghost use Rattle.reg_der.specs.Issuers.{with_issuer};
 
 use crate::store::Store;
 use reg_core::{
     CertRow, Change, CrlRow, Moment, OrderRow, RequestRow, RevocationRow, Schedule, SubscriberRow,
 };
+use reg_der::Issuer;
 use reg_tables::StoreFault;
 use sqlite::Alter;
 
@@ -181,5 +183,21 @@ impl<S: Alter> Store<S> {
         ensures faults { IfErr result IsCallFault }
     {
         Ok(reg_changes::set_schedule(&mut self.connection, &schedule)?)
+    }
+
+    /// Sets the issuer, which has the key that it had: another Name, or other key identifiers of its own. It is no command: no
+    /// record, nothing that is kept beside them and not the last accepted moment changes.
+    ///
+    /// # Errors
+    /// `Memory`; `Store` where the database fails. Nothing has changed then.
+    pub fn set_issuer(&mut self, issuer: &Issuer) -> Result<(), StoreFault>
+        ensures ok { (records : Records) → ShowsKept S.Store self.old records → (HasCleanDisk (state S.Store self.new) → records.issuer.key ≡ issuer.now.key)
+            → OnOk result (ShowsKept S.Store self.new (with_issuer records issuer.now)) }
+        ensures days { (records : Records) → ShowsKept S.Store self.old records → records.issuer.key ≡ issuer.now.key → OnOk result (KeepsOfficeDays S.Store self.old self.new) }
+        ensures changed { Changed S.Store self.old self.new (IsNamed S.Store self.old issuer.now) result }
+        ensures err { OnErr result (Stays (state S.Store self.old) (state S.Store self.new)) }
+        ensures faults { IfErr result IsCallFault }
+    {
+        Ok(reg_changes::set_issuer(&mut self.connection, issuer)?)
     }
 }

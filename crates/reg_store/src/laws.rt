@@ -1,7 +1,7 @@
 //! Each function here does nothing when it runs: its contract is a law, and the check proves it.
 
-ghost use Rattle.reg_store.specs.AtRest.{StopsEmptyOrMade, StopsWithASchedule, StopsWithTheSame};
-ghost use Rattle.reg_store.specs.OpenedAgain.{OpensEmptyOrMade, OpensWithASchedule, OpensWithTheSame};
+ghost use Rattle.reg_store.specs.AtRest.{StopsEmptyOrMade, StopsWithAnIssuer, StopsWithASchedule, StopsWithTheSame};
+ghost use Rattle.reg_store.specs.OpenedAgain.{OpensEmptyOrMade, OpensWithAnIssuer, OpensWithASchedule, OpensWithTheSame};
 
 use sqlite::Alter;
 
@@ -32,6 +32,14 @@ pub fn a_stop_leaves_the_schedule_before_or_after<S: Alter>()
     ensures { StopsWithASchedule S.Store }
 {}
 
+/// A stop at any moment while an issuer is set leaves the records with the issuer before or the one after.
+///
+/// What may be found after [`Store::set_issuer`](crate::Store::set_issuer), or after a stop in the middle of it, is the records
+/// with one of the two issuers, whole, and with what is kept beside them as it was.
+pub fn a_stop_leaves_the_issuer_before_or_after<S: Alter>()
+    ensures { StopsWithAnIssuer S.Store }
+{}
+
 /// A register opened after a stop while it was made is none, or an empty one.
 ///
 /// The machine stops after [`Store::create`](crate::Store::create), or in the middle of it, and the database is opened again: it
@@ -57,4 +65,12 @@ pub fn a_register_opened_after_a_stop_during_a_migration_shows_the_same_records<
 /// opened again: it shows the records with one of the two schedules, and what is kept beside them as it was.
 pub fn a_register_opened_after_a_stop_has_the_schedule_before_or_after<S: Alter>()
     ensures { OpensWithASchedule S.Store }
+{}
+
+/// A register opened after a stop while an issuer was set has the issuer before or the one after.
+///
+/// The machine stops after [`Store::set_issuer`](crate::Store::set_issuer), or in the middle of it, and the register is opened
+/// again: it shows the records with one of the two issuers, and what is kept beside them as it was.
+pub fn a_register_opened_after_a_stop_has_the_issuer_before_or_after<S: Alter>()
+    ensures { OpensWithAnIssuer S.Store }
 {}

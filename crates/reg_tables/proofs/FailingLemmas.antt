@@ -25,7 +25,7 @@ use Rattle.sqlite.specs.Listing.{understood, reads_listing, IsSourceOf}
 use Rattle.sqlite.specs.State.{State, HasCleanDisk, HasCause, IsStatement, IsNoStatement, IsNotRun, FailsToShow, FailsToQuery, store_error}
 use Rattle.reg_core.specs.Records.{Records}
 use Rattle.reg_tables.specs.Schema.{register_schema}
-use Rattle.reg_der.specs.Authority.{IsName, IsKey}
+use Rattle.reg_der.specs.Authority.{IsKept, IsKey}
 use Rattle.reg_der.specs.declared.issuer.IssuerFault.{IssuerFault}
 use Rattle.reg_der.specs.declared.issuer.IssuerFault.TheVariants as of_issuer
 use Rattle.reg_tables.specs.Faults.{call_fault_of, issuer_fault_of}
@@ -205,7 +205,7 @@ made_of R r (Some x) e is some = subst (λ r. IfErr r R) (sym is) tt
 made_of R r None e is some = absurd (let no : false ≡ true = some in cc)
 
 -- bytes that are an issuer's are told as none's for want of memory alone
-pub no_issuer_fault : {T : Type 0} {name key : List ℕ} (e : IssuerFault) → IsName name → IsKey key → (◌≡◌ {A = Result T IssuerFault} (Err e) (Err of_issuer.BadName) → ¬ IsName name) → (◌≡◌ {A = Result T IssuerFault} (Err e) (Err of_issuer.BadKey) → IsName name × ¬ IsKey key)
+pub no_issuer_fault : {T : Type 0} {name key : List ℕ} (e : IssuerFault) → IsKept name → IsKey key → (◌≡◌ {A = Result T IssuerFault} (Err e) (Err of_issuer.BadName) → ¬ IsKept name) → (◌≡◌ {A = Result T IssuerFault} (Err e) (Err of_issuer.BadKey) → IsKept name × ¬ IsKey key)
     → issuer_fault_of e ≡ Store → ⊥
 no_issuer_fault of_issuer.Memory is_name is_key bad_name bad_key store = absurd (let no : call.Memory ≡ Store = store in cc)
 no_issuer_fault of_issuer.BadName is_name is_key bad_name bad_key store = bad_name refl is_name

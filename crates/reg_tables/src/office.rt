@@ -43,7 +43,7 @@ pub fn issuer<S: Alter>(conn: &mut Connection<S>) -> Result<Issuer, CallFault>
 {
     let found = read(conn, ISSUER, &[])?;
     let row = only(&found)?;
-    Ok(Issuer::new(*found.allocator(), bytes_at(row, 0)?, bytes_at(row, 1)?)?)
+    Ok(Issuer::of_kept(*found.allocator(), bytes_at(row, 0)?, bytes_at(row, 1)?)?)
 }
 
 /// What OCSP answers are made from beside the certificates, read by one statement: the last accepted moment, the issuer, and
@@ -62,7 +62,7 @@ pub fn responding<S: Alter>(conn: &mut Connection<S>) -> Result<(Moment, Issuer,
     let found = read(conn, RESPONDING, &[])?;
     let row = only(&found)?;
     let last = clock_moment_at(row, 0)?;
-    let issuer = Issuer::new(*found.allocator(), bytes_at(row, 1)?, bytes_at(row, 2)?)?;
+    let issuer = Issuer::of_kept(*found.allocator(), bytes_at(row, 1)?, bytes_at(row, 2)?)?;
     let life = life_at(row, 3)?;
     Ok((last, issuer, life))
 }

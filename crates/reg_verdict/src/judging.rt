@@ -13,6 +13,7 @@ ghost use Rattle.reg_tables.specs.Stays.{IsRegister, Stays};
 ghost use Rattle.reg_opening.specs.Said.{HasVersion, SaysNoRegister};
 ghost use Rattle.reg_auditing.specs.Complete.{ShowsSound};
 ghost use Rattle.reg_auditing.specs.Stored.{IsSomeCrl};
+ghost use Rattle.reg_verdict.specs.Judged.{IsJudged};
 ghost use Rattle.reg_verdict.specs.Presumed.{IsOverRegister, IsPresumed};
 ghost use Rattle.reg_verdict.specs.Verdicts.{CountedBy, DeniedBy, IsSound, TellsOf, verdict_of};
 
@@ -83,6 +84,18 @@ pub fn judge<S: Alter, W: Watch>(
     ensures same { Stays (state S.Store conn.old) (state S.Store conn.new) }
     ensures idle { conn.new.in_transaction ≡ false }
     ensures faults { IfErr result (λ fault. fault ≢ StoreFault.NotEmpty) }
+{
+    judged(alloc, conn, watch)
+}
+
+/// What [`judge`] says, and leaves.
+fn judged<S: Alter, W: Watch>(
+    alloc: Global,
+    conn: &mut Connection<S>,
+    watch: &mut W,
+) -> Result<Verdict, StoreFault>
+    requires { conn.old.in_transaction ≡ false }
+    ensures { IsJudged S.Store conn.old conn.new result }
 {
     let is_register = is_over_register(conn);
     let older = examine(conn)?;

@@ -1,12 +1,12 @@
 -- The rows of the table, added one after the other.
-use Rattle.std.proofs.Common.{◌≡◌, ℕ, ◌+◌, ◌<◌, ◌≤◌, List, map, length, drop, get_or, sym, ap, ◌∙◌, add-one, drop-cons, drop_of_length-le}
+use Rattle.std.proofs.Common.{◌≡◌, ℕ, ◌+◌, ◌<◌, ◌≤◌, List, [], ◌∷◌, ◌++◌, refl, map, length, drop, get_or, sym, ap, ◌∙◌, add-one, drop-cons, drop_of_length-le}
 use Rattle.std.specs.Prelude.{◌||◌, false}
-use Rattle.clap.specs.Words.{AddsArg, App, Rule, app_of, rule_of, with_rule, with_subcommand}
+use Rattle.clap.specs.Words.{AddsArg, AddsInTurn, AddsSubcommand, App, Rule, app_of, rule_of, with_rule, with_subcommand}
 use Rattle.clap.specs.declared.builder.arg.Arg.{Arg}
 use Rattle.clap.specs.declared.builder.command.Command.{Command}
 use Rattle.clap.specs.declared.builder.command.Command.TheViews.{out-Command as fields_of}
 use Rattle.reg_words.specs.Desk.{with_rules}
-use Rattle.reg_words.specs.Table.{app_told, rule_told, with_entries}
+use Rattle.reg_words.specs.Table.{AreLocal, app_told, rule_told, with_entries, with_made}
 use Rattle.reg_words.specs.declared.table.Entry.{Entry}
 use Rattle.reg_words.specs.declared.table.Part.{Part}
 
@@ -44,3 +44,19 @@ rule_added old new arg added local is = added.shape local ∙ ap (with_rule (app
 pub still_local : (old new : Command) (arg : Arg) → AddsArg old arg new → (fields_of old).has_globals ≡ false → arg.global ≡ false
     → (fields_of new).has_globals ≡ false
 still_local old new arg added before local = added.globals ∙ ap (λ b. b || arg.global) before ∙ local
+
+-- one more command behind those that were made
+pub one_made : (app : App) (commands : List Command) (command : Command)
+    → with_made app (commands ++ command ∷ []) ≡ with_subcommand (with_made app commands) (app_of command).top
+one_made app [] command = refl
+one_made app (first ∷ rest) command = one_made (with_subcommand app (app_of first).top) rest command
+
+pub one_local : (commands : List Command) (command : Command) → (fields_of command).has_globals ≡ false → AreLocal commands → AreLocal (commands ++ command ∷ [])
+one_local [] command is before = (is, tt)
+one_local (first ∷ rest) command is before = (before.0, one_local rest command is before.1)
+
+-- what clap says of commands that are added in turn
+pub all_added : (old new : Command) (commands : List Command) → AddsInTurn AddsSubcommand old commands new → AreLocal commands
+    → app_of new ≡ with_made (app_of old) commands
+all_added old new [] added local = sym (ap app_of added)
+all_added old new (first ∷ rest) added local = all_added added.0 new rest added.2 local.1 ∙ ap (λ a. with_made a rest) (added.1.shape local.0)

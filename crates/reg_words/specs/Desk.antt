@@ -33,10 +33,10 @@ abbrev pub with_rules : App → List Rule → App
 with_rules app [] = app
 with_rules app (rule ∷ rest) = with_rules (with_rule app rule) rest
 
--- `init FILE --name HEX --key HEX [--days N] [--crl-life N] [--ocsp-life N] [--cap N] [--why]`
+-- `init FILE --name HEX --key HEX [--key-id HEX] [--days N] [--crl-life N] [--ocsp-life N] [--cap N] [--why]`
 abbrev pub init_app : App
 init_app = with_rules (new_app (codes "init"))
-    (must (codes "file") ∷ needs (codes "name") ∷ needs (codes "key") ∷ takes (codes "days")
+    (must (codes "file") ∷ needs (codes "name") ∷ needs (codes "key") ∷ takes (codes "key-id") ∷ takes (codes "days")
     ∷ takes (codes "crl-life") ∷ takes (codes "ocsp-life") ∷ takes (codes "cap") ∷ flag (codes "why") ∷ [])
 
 -- `script [FILE] [--signer SOCKET --algorithm NAME] [--clock] [--strict] [--why]`
@@ -52,16 +52,22 @@ import_app = with_rules (new_app (codes "import")) (must (codes "file") ∷ need
 abbrev pub crl_app : App
 crl_app = with_rules (new_app (codes "crl")) (must (codes "file") ∷ takes (codes "number") ∷ flag (codes "why") ∷ [])
 
--- `serve FILE --port N --requests N [--signer SOCKET --algorithm NAME] [--log] [--why]`
+-- `serve FILE --port N --requests N [--signer SOCKET --algorithm NAME]
+-- [--responder CERT --responder-signer SOCKET --responder-algorithm NAME | --embed CERT] [--log] [--why]`
 abbrev pub serve_app : App
 serve_app = with_rules (new_app (codes "serve"))
-    (must (codes "file") ∷ needs (codes "port") ∷ needs (codes "requests") ∷ takes (codes "signer") ∷ takes (codes "algorithm") ∷ flag (codes "log") ∷ flag (codes "why") ∷ [])
+    (must (codes "file") ∷ needs (codes "port") ∷ needs (codes "requests") ∷ takes (codes "signer") ∷ takes (codes "algorithm")
+    ∷ takes (codes "responder") ∷ takes (codes "responder-signer") ∷ takes (codes "responder-algorithm") ∷ takes (codes "embed")
+    ∷ flag (codes "log") ∷ flag (codes "why") ∷ [])
 
--- `open FILE --port N --counter SOCKET [--signer SOCKET --algorithm NAME] [--unsigned] [--log] [--why]`; which of the two must be given says `Jobs.holder_chosen`
+-- `open FILE --port N --counter SOCKET [--signer SOCKET --algorithm NAME] [--unsigned]
+-- [--responder CERT --responder-signer SOCKET --responder-algorithm NAME | --embed CERT] [--log] [--why]`;
+-- whether `--signer` or `--unsigned` must be given says `Jobs.holder_chosen`
 abbrev pub open_app : App
 open_app = with_rules (new_app (codes "open"))
-    (must (codes "file") ∷ needs (codes "port") ∷ needs (codes "counter") ∷ takes (codes "signer") ∷ takes (codes "algorithm")
-    ∷ flag (codes "unsigned") ∷ flag (codes "log") ∷ flag (codes "why") ∷ [])
+    (must (codes "file") ∷ needs (codes "port") ∷ needs (codes "counter") ∷ takes (codes "signer") ∷ takes (codes "algorithm") ∷ flag (codes "unsigned")
+    ∷ takes (codes "responder") ∷ takes (codes "responder-signer") ∷ takes (codes "responder-algorithm") ∷ takes (codes "embed")
+    ∷ flag (codes "log") ∷ flag (codes "why") ∷ [])
 
 -- `at SOCKET [--why]`
 abbrev pub at_app : App
@@ -70,6 +76,10 @@ at_app = with_rules (new_app (codes "at")) (must (codes "counter") ∷ flag (cod
 -- `schedule FILE MOMENT=DAYS .. [--why]`
 abbrev pub schedule_app : App
 schedule_app = with_rules (new_app (codes "schedule")) (must (codes "file") ∷ some (codes "steps") ∷ flag (codes "why") ∷ [])
+
+-- `key-id FILE HEX [--why]`
+abbrev pub key_id_app : App
+key_id_app = with_rules (new_app (codes "key-id")) (must (codes "file") ∷ must (codes "key-id") ∷ flag (codes "why") ∷ [])
 
 -- `audit FILE [--why]`
 abbrev pub audit_app : App
@@ -93,4 +103,4 @@ with_commands app (command ∷ rest) = with_commands (with_subcommand app comman
 -- `desk [--why] COMMAND ..`
 abbrev pub desk_app : App
 desk_app = with_commands begun_app
-    (init_app ∷ script_app ∷ import_app ∷ crl_app ∷ serve_app ∷ open_app ∷ at_app ∷ schedule_app ∷ audit_app ∷ [])
+    (init_app ∷ script_app ∷ import_app ∷ crl_app ∷ serve_app ∷ open_app ∷ at_app ∷ schedule_app ∷ key_id_app ∷ audit_app ∷ [])

@@ -8,8 +8,10 @@ use Rattle.reg_core.specs.Number.{number_of}
 use Rattle.reg_words.specs.Desk.{desk_app}
 use Rattle.reg_words.specs.Values.{moment_of, steps_of, within}
 use Rattle.reg_signer.specs.Algorithms.{algorithm_named}
+use Rattle.reg_words.specs.declared.job.Answerer.{Answerer}
+use Rattle.reg_words.specs.declared.job.Answerer.TheVariants.{Issuer, Delegate}
 use Rattle.reg_words.specs.declared.job.Job.{Job}
-use Rattle.reg_words.specs.declared.job.Job.TheVariants.{Init, Script, Lines, Import, Crl, Serve, Open, At, Schedule, Audit}
+use Rattle.reg_words.specs.declared.job.Job.TheVariants.{Init, Script, Lines, Import, Crl, Serve, Open, At, Schedule, KeyId, Audit}
 use Rattle.reg_words.specs.declared.job.KeyHolder.{KeyHolder}
 use Rattle.reg_words.specs.declared.job.Order.{Order}
 use Rattle.reg_words.specs.declared.commands.Terms.{Terms}
@@ -42,24 +44,51 @@ holder_told (Some socket) None = None
 holder_told None (Some name) = None
 holder_told None None = Some None
 
+-- the same by the ids of the two options
+abbrev pub holder_by_options : Text → Text → List Row → Option (Option KeyHolder)
+holder_by_options socket algorithm rows = holder_told (first_of socket rows) (first_of algorithm rows)
+
 -- what holds the key, if it is told
 abbrev pub holder_in : List Row → Option (Option KeyHolder)
-holder_in rows = holder_told (first_of (codes "signer") rows) (first_of (codes "algorithm") rows)
+holder_in rows = holder_by_options (codes "signer") (codes "algorithm") rows
+
+-- who answers OCSP requests, by the file of a responder's certificate, what holds its key, and the file of a certificate that stands
+-- with the issuer's own answers: a responder is told whole, or not at all, and then the issuer's certificate may be told
+abbrev pub answerer_told : Option Text → Option KeyHolder → Option Text → Option Answerer
+answerer_told (Some certificate) (Some holder) None = Some (Delegate certificate holder)
+answerer_told (Some certificate) (Some holder) (Some embedded) = None
+answerer_told (Some certificate) None embedded = None
+answerer_told None (Some holder) embedded = None
+answerer_told None None embedded = Some (Issuer embedded)
+
+-- who answers OCSP requests, by the words of these options
+unfoldable pub answerer_in : List Row → Option Answerer
+answerer_in rows = do
+  holder ← holder_by_options (codes "responder-signer") (codes "responder-algorithm") rows
+  answerer_told (first_of (codes "responder") rows) holder (first_of (codes "embed") rows)
 
 -- whether an option is given that takes no value
 abbrev pub is_given : Text → List Row → Bool
 is_given id rows = option_map_or (λ text. bytes_eq text (codes "true")) (first_of id rows) false
 
--- what holds the key where it is to be chosen: one that does, or the word that none does; neither says nothing, and nor do both
-abbrev pub chosen : Option KeyHolder → Bool → Option (Option KeyHolder)
-chosen (Some holder) false = Some (Some holder)
-chosen (Some holder) true = None
-chosen None false = None
-chosen None true = Some None
+-- whether who answers has a key of its own
+abbrev pub has_own_key : Answerer → Bool
+has_own_key (Issuer certificate) = false
+has_own_key (Delegate certificate holder) = true
 
--- what holds the key, by `--signer` with `--algorithm`, or none by `--unsigned`
-abbrev pub holder_chosen : List Row → Option (Option KeyHolder)
-holder_chosen rows = option_and_then (λ signer. chosen signer (is_given (codes "unsigned") rows)) (holder_in rows)
+-- what holds the issuer's key where it is to be chosen: one that does, or the word that a digest alone seals; neither and both say nothing.
+-- Beside one who answers with a key of its own it is one that does, or neither.
+abbrev pub chosen : Option KeyHolder → Bool → Bool → Option (Option KeyHolder)
+chosen (Some holder) false own = Some (Some holder)
+chosen (Some holder) true own = None
+chosen None false false = None
+chosen None true false = Some None
+chosen None false true = Some None
+chosen None true true = None
+
+-- what holds the issuer's key, by `--signer` with `--algorithm`, or none by `--unsigned`, or by neither beside a responder
+abbrev pub holder_chosen : Answerer → List Row → Option (Option KeyHolder)
+holder_chosen answerer rows = option_and_then (λ signer. chosen signer (is_given (codes "unsigned") rows) (has_own_key answerer)) (holder_in rows)
 
 -- how the lines of a script are run
 abbrev pub way_in : List Row → Way
@@ -86,7 +115,7 @@ init_of rows = do
   name ← first_of (codes "name") rows
   key ← first_of (codes "key") rows
   terms ← terms_of rows
-  Some (Init file name key terms.days terms.crl_life terms.ocsp_life terms.cap)
+  Some (Init file name key (first_of (codes "key-id") rows) terms.days terms.crl_life terms.ocsp_life terms.cap)
 
 unfoldable pub script_of : List Row → Option Job
 script_of rows = do
@@ -111,15 +140,17 @@ serve_of rows = do
   port ← number_in 1 65535 (codes "port") rows
   requests ← number_in 1 1000000 (codes "requests") rows
   signer ← holder_in rows
-  Some (Serve file port requests signer)
+  answerer ← answerer_in rows
+  Some (Serve file port requests signer answerer)
 
 unfoldable pub open_of : List Row → Option Job
 open_of rows = do
   file ← first_of (codes "file") rows
   port ← number_in 1 65535 (codes "port") rows
   counter ← first_of (codes "counter") rows
-  signer ← holder_chosen rows
-  Some (Open file port counter signer)
+  answerer ← answerer_in rows
+  signer ← holder_chosen answerer rows
+  Some (Open file port counter signer answerer)
 
 unfoldable pub at_of : List Row → Option Job
 at_of rows = do
@@ -132,6 +163,12 @@ schedule_of rows = do
   steps ← option_and_then steps_of (all_of (codes "steps") rows)
   Some (Schedule file steps)
 
+unfoldable pub key_id_of : List Row → Option Job
+key_id_of rows = do
+  file ← first_of (codes "file") rows
+  key_id ← first_of (codes "key-id") rows
+  Some (KeyId file key_id)
+
 unfoldable pub audit_of : List Row → Option Job
 audit_of rows = do
   file ← first_of (codes "file") rows
@@ -141,6 +178,7 @@ audit_of rows = do
 unfoldable pub keeping_job_in : Text → List Row → Option Job
 keeping_job_in name rows =
     if bytes_eq name (codes "schedule") then schedule_of rows
+    else if bytes_eq name (codes "key-id") then key_id_of rows
     else if bytes_eq name (codes "audit") then audit_of rows
     else None
 

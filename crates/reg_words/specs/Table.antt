@@ -1,6 +1,8 @@
 -- What the rows of the table say, in clap's own terms.
-use Rattle.std.specs.Prelude.{List, [], ◌∷◌, map}
-use Rattle.clap.specs.Words.{App, Rule, new_app, with_subcommand}
+use Rattle.std.specs.Prelude.{◌≡◌, false, List, [], ◌∷◌, map}
+use Rattle.clap.specs.Words.{App, Rule, app_of, new_app, with_subcommand}
+use Rattle.clap.specs.declared.builder.command.Command.{Command}
+use Rattle.clap.specs.declared.builder.command.Command.TheViews.{out-Command as fields_of}
 use Rattle.reg_words.specs.Desk.{must, may, needs, takes, flag, some, with_rules}
 use Rattle.reg_words.specs.declared.table.Entry.{Entry}
 use Rattle.reg_words.specs.declared.table.Part.{Part}
@@ -23,3 +25,13 @@ app_told entry = with_rules (new_app entry.name.now) (map rule_told entry.parts.
 abbrev pub with_entries : App → List Entry → App
 with_entries app [] = app
 with_entries app (entry ∷ rest) = with_entries (with_subcommand app (app_told entry).top) rest
+
+-- the command line with commands that were made, each behind those before it
+abbrev pub with_made : App → List Command → App
+with_made app [] = app
+with_made app (command ∷ rest) = with_made (with_subcommand app (app_of command).top) rest
+
+-- no command has an option that those below it have too
+abbrev pub AreLocal : List Command → Type 0
+AreLocal [] = Unit {0}
+AreLocal (command ∷ rest) = ((fields_of command).has_globals ≡ false) × AreLocal rest

@@ -2,12 +2,12 @@
 
 ghost use Rattle.std.specs.Prelude.{◌≡◌, codes, IfOk};
 ghost use Rattle.clap.specs.Words.{found_of, rows_of};
-ghost use Rattle.reg_words.specs.Jobs.{job_in, serving_job_in, keeping_job_in, init_of, terms_of, script_by, script_of, import_of, crl_of, number_in, serve_of, open_of, at_of, schedule_of, audit_of};
+ghost use Rattle.reg_words.specs.Jobs.{job_in, serving_job_in, keeping_job_in, init_of, terms_of, script_by, script_of, import_of, crl_of, number_in, serve_of, open_of, at_of, schedule_of, key_id_of, audit_of};
 
 use crate::job::{Job, KeyHolder, Way};
 use crate::values::{
-    chosen_holder, key_holder, moment, number_if_given, number_or, number_within, steps, way_of,
-    word_of,
+    answerer, chosen_holder, key_holder, moment, number_if_given, number_or, number_within, steps,
+    way_of, word_of,
 };
 use crate::word::Word;
 use crate::wrong::{LAST_PORT, MOST_REQUESTS};
@@ -88,6 +88,8 @@ fn read_keeping<'a>(
 {
     if name == "schedule" {
         read_schedule(alloc, given)
+    } else if name == "key-id" {
+        Ok(read_key_id(given))
     } else if name == "audit" {
         Ok(read_audit(given))
     } else {
@@ -107,6 +109,7 @@ fn read_init<'a>(given: &ArgMatches<'a>) -> Option<Job<'a>>
         file,
         name,
         key,
+        key_id: word_of(given, "key-id"),
         days: terms.days,
         crl_life: terms.crl_life,
         ocsp_life: terms.ocsp_life,
@@ -186,6 +189,7 @@ fn read_serve<'a>(given: &ArgMatches<'a>) -> Option<Job<'a>>
         port: port_of(given)?,
         requests: number_within(given, "requests", 1, MOST_REQUESTS)? as u32,
         signer: key_holder(given)?,
+        answerer: answerer(given)?,
     })
 }
 
@@ -193,11 +197,17 @@ fn read_serve<'a>(given: &ArgMatches<'a>) -> Option<Job<'a>>
 fn read_open<'a>(given: &ArgMatches<'a>) -> Option<Job<'a>>
     ensures { result ≡ open_of (rows_of (found_of given.now)) }
 {
+    let file = word_of(given, "file")?;
+    let port = port_of(given)?;
+    let counter = word_of(given, "counter")?;
+    let answering = answerer(given)?;
+    let signer = chosen_holder(given, &answering)?;
     Some(Job::Open {
-        file: word_of(given, "file")?,
-        port: port_of(given)?,
-        counter: word_of(given, "counter")?,
-        signer: chosen_holder(given)?,
+        file,
+        port,
+        counter,
+        signer,
+        answerer: answering,
     })
 }
 
@@ -221,6 +231,16 @@ fn read_schedule<'a>(alloc: Global, given: &ArgMatches<'a>) -> Result<Option<Job
         Some(steps) => Ok(Some(Job::Schedule { file, steps })),
         None => Ok(None),
     }
+}
+
+#[tactic(auto, unfolding(crate::specs::Jobs::key_id_of))]
+fn read_key_id<'a>(given: &ArgMatches<'a>) -> Option<Job<'a>>
+    ensures { result ≡ key_id_of (rows_of (found_of given.now)) }
+{
+    Some(Job::KeyId {
+        file: word_of(given, "file")?,
+        key_id: word_of(given, "key-id")?,
+    })
 }
 
 #[tactic(auto, unfolding(crate::specs::Jobs::audit_of))]

@@ -4,7 +4,7 @@ ghost use Rattle.std.specs.Prelude.{◌≡◌, IfOk, false, map};
 ghost use Rattle.clap.specs.Words.{App, app_of, rule_of, with_subcommand};
 ghost use Rattle.clap.specs.declared.builder.command.Command.TheViews.{out-Command as fields_of};
 ghost use Rattle.reg_words.specs.Desk.{must, may, needs, takes, flag, some, bare_app, begun_app, desk_app, with_rules};
-ghost use Rattle.reg_words.specs.Table.{app_told, rule_told, with_entries};
+ghost use Rattle.reg_words.specs.Table.{AreLocal, app_told, rule_told, with_entries, with_made};
 
 use crate::table::{BEFORE, COMMANDS, Entry, Part};
 use clap::{Arg, ArgAction, Command};
@@ -17,14 +17,41 @@ const VERSION: &str = "0.1";
 pub(crate) fn desk<'a>(alloc: Global) -> Result<Command<'a>, AllocError>
     ensures { IfOk result (λ made. app_of made ≡ desk_app) }
 {
-    with_commands(alloc, begun(alloc)?, commands())
+    let commands = each_command(alloc, entries())?;
+    begun(alloc)?.subcommands(commands)
 }
 
 /// The commands of the table, which are those of the program.
-fn commands() -> &'static [Entry]
+fn entries() -> &'static [Entry]
     ensures { with_entries begun_app result.now ≡ desk_app }
 {
     COMMANDS
+}
+
+/// The command of each entry.
+fn each_command<'a>(alloc: Global, entries: &[Entry]) -> Result<Vec<Command<'a>>, AllocError>
+    ensures app { IfOk result (λ made. with_made begun_app made.items ≡ with_entries begun_app entries.now) }
+    ensures local { IfOk result (λ made. AreLocal made.items) }
+{
+    let mut commands = Vec::new(alloc);
+    for entry in entries {
+        add_command(alloc, &mut commands, entry)?;
+    }
+    Ok(commands)
+}
+
+/// Adds the command of an entry to those before it.
+fn add_command<'a>(
+    alloc: Global,
+    commands: &mut Vec<Command<'a>>,
+    entry: &Entry,
+) -> Result<(), AllocError>
+    ensures app { IfOk result (λ done. (app : App)
+        → with_made app commands.new.items ≡ with_subcommand (with_made app commands.old.items) (app_told entry.now).top) }
+    ensures local { IfOk result (λ done. AreLocal commands.old.items → AreLocal commands.new.items) }
+{
+    commands.push(command(alloc, entry)?)?;
+    Ok(())
 }
 
 /// The command line with no command yet.
@@ -48,40 +75,6 @@ fn bare<'a>(alloc: Global) -> Command<'a>
         )
         .subcommand_required(true)
         .disable_help_subcommand(true)
-}
-
-/// The command line with these commands, each behind those before it.
-fn with_commands<'a>(
-    alloc: Global,
-    desk: Command<'a>,
-    commands: &[Entry],
-) -> Result<Command<'a>, AllocError>
-    requires { (fields_of desk).has_globals ≡ false }
-    ensures app { IfOk result (λ made. app_of made ≡ with_entries (app_of desk.entry) commands.now) }
-    ensures local { IfOk result (λ made. (fields_of made).has_globals ≡ false) }
-{
-    let mut desk = desk;
-    for entry in commands {
-        desk = with_command(desk, command(alloc, entry))?;
-    }
-    Ok(desk)
-}
-
-/// The command line with one more command, where there is one.
-fn with_command<'a>(
-    desk: Command<'a>,
-    command: Result<Command<'a>, AllocError>,
-) -> Result<Command<'a>, AllocError>
-    requires desk { (fields_of desk).has_globals ≡ false }
-    requires command { IfOk command (λ command. (fields_of command).has_globals ≡ false) }
-    ensures app { (sub : App) → IfOk command.entry (λ command. app_of command ≡ sub)
-        → IfOk result (λ made. app_of made ≡ with_subcommand (app_of desk.entry) sub.top) }
-    ensures local { IfOk result (λ made. (fields_of made).has_globals ≡ false) }
-{
-    match command {
-        Ok(command) => desk.subcommand(command),
-        Err(error) => Err(error),
-    }
 }
 
 /// A command of the table.

@@ -16,6 +16,20 @@ pub struct KeyHolder<'a> {
     pub algorithm: Algorithm,
 }
 
+/// Who answers OCSP requests where a register is served (RFC 6960 2.2).
+#[derive(Drop)]
+pub enum Answerer<'a> {
+    /// Who signs its CRLs. A certificate stands with each answer, where the path of the file that has it is told.
+    Issuer {
+        certificate: Option<Word<'a>>,
+    },
+    /// What holds a key of its own, by the certificate in the file at a path, which stands with each answer (RFC 6960 4.2.2.2).
+    Delegate {
+        certificate: Word<'a>,
+        holder: KeyHolder<'a>,
+    },
+}
+
 /// How the lines of a script are run that is run line by line.
 #[derive(Clone, Copy, PartialEq, Eq)]
 pub struct Way {
@@ -29,12 +43,13 @@ pub struct Way {
 #[derive(Drop)]
 pub enum Job<'a> {
     /// Makes a register: the DER of the issuer's Name and the bytes of its public key, both in hexadecimal, the
-    /// longest validity in days, the seconds from thisUpdate to nextUpdate of a CRL and of an OCSP answer, and the
-    /// most rows of a table.
+    /// key identifier of its certificate in hexadecimal too, where it is told, the longest validity in days, the seconds from
+    /// thisUpdate to nextUpdate of a CRL and of an OCSP answer, and the most rows of a table.
     Init {
         file: Word<'a>,
         name: Word<'a>,
         key: Word<'a>,
+        key_id: Option<Word<'a>>,
         days: u64,
         crl_life: u64,
         ocsp_life: u64,
@@ -68,14 +83,17 @@ pub enum Job<'a> {
         port: u16,
         requests: u32,
         signer: Option<KeyHolder<'a>>,
+        answerer: Answerer<'a>,
     },
     /// Keeps a register open until the program is ended: answers requests over HTTP at a port, 1 to 65,535, and lines at a
-    /// counter, a Unix socket at a path. What holds the key signs; a digest seals only where `--unsigned` says that none does.
+    /// counter, a Unix socket at a path. What holds the key signs; a digest seals only where `--unsigned` says that none does. Where
+    /// one answers with a key of its own and nothing holds the issuer's, no CRL is signed.
     Open {
         file: Word<'a>,
         port: u16,
         counter: Word<'a>,
         signer: Option<KeyHolder<'a>>,
+        answerer: Answerer<'a>,
     },
     /// Tells the lines of standard input to the counter at a path.
     At {
@@ -85,6 +103,11 @@ pub enum Job<'a> {
     Schedule {
         file: Word<'a>,
         steps: Steps,
+    },
+    /// Gives the issuer a key identifier of its own, in hexadecimal, for the CRLs from the next one on.
+    KeyId {
+        file: Word<'a>,
+        key_id: Word<'a>,
     },
     /// Looks whether the tables are those of sound records, and changes nothing.
     Audit {

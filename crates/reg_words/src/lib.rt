@@ -10,6 +10,6 @@ mod values;
 mod word;
 mod wrong;
 
-pub use job::{Job, KeyHolder, Order, Usage, Way};
+pub use job::{Answerer, Job, KeyHolder, Order, Usage, Way};
 pub use reading::{no_text, read_words};
 pub use word::{Steps, Word};

@@ -35,6 +35,12 @@ const NAME: &str = "The issuer's Name, its DER in hexadecimal, at most 1024 byte
 const KEY: &str =
     "The issuer's public key, the bits of its subjectPublicKey in hexadecimal, 1 to 2048 bytes";
 
+const KEY_ID: &str =
+    "The key identifier of the CA certificate, its subjectKeyIdentifier in hexadecimal, 1 to 64 bytes";
+
+const KEY_ID_OR_DIGEST: &str =
+    "The key identifier of the CA certificate, its subjectKeyIdentifier in hexadecimal, 1 to 64 bytes [default: the SHA-1 of the key]";
+
 const DAYS: &str = "The longest validity of a certificate in days, 1 to 398 [default: 398]";
 
 const CRL_LIFE: &str =
@@ -62,13 +68,21 @@ const SIGNER: &str =
     "The Unix socket of what holds the issuer's key [default: none, and a digest seals, which is no signature]";
 
 const OPEN_SIGNER: &str =
-    "The Unix socket of what holds the issuer's key; wants --algorithm; left out only with --unsigned";
+    "The Unix socket of what holds the issuer's key; wants --algorithm; left out only with --unsigned, or with --responder, and then no CRL is signed";
 
 const UNSIGNED: &str =
-    "In place of --signer: a digest alone seals CRLs and answers, which no client accepts";
+    "In place of --signer: a digest alone seals CRLs and answers, which no client accepts; not with --responder";
 
 const ALGORITHM: &str =
     "The algorithm of its signatures: ecdsa-sha256, ecdsa-sha384, rsa-sha256 or ed25519";
+
+const RESPONDER: &str =
+    "The file of the certificate, in DER, by which a key of its own answers OCSP [default: none, and who signs CRLs answers]";
+
+const RESPONDER_SIGNER: &str = "The Unix socket of what holds the responder's key";
+
+const EMBED: &str =
+    "The file of the CA's certificate, in DER, which is put into each OCSP answer [default: none]";
 
 const CLOCK: &str =
     "Lines have no moment: the machine's clock is theirs; wants FILE [default: a line begins with its moment]";
@@ -103,6 +117,7 @@ pub(crate) const COMMANDS: &[Entry] = &[
             Part::Must("file", "FILE", NEW_FILE),
             Part::Needs("name", "HEX", NAME),
             Part::Needs("key", "HEX", KEY),
+            Part::Takes("key-id", "HEX", KEY_ID_OR_DIGEST),
             Part::Takes("days", "N", DAYS),
             Part::Takes("crl-life", "N", CRL_LIFE),
             Part::Takes("ocsp-life", "N", OCSP_LIFE),
@@ -153,6 +168,10 @@ pub(crate) const COMMANDS: &[Entry] = &[
             Part::Needs("requests", "N", REQUESTS),
             Part::Takes("signer", "SOCKET", SIGNER),
             Part::Takes("algorithm", "NAME", ALGORITHM),
+            Part::Takes("responder", "CERT", RESPONDER),
+            Part::Takes("responder-signer", "SOCKET", RESPONDER_SIGNER),
+            Part::Takes("responder-algorithm", "NAME", ALGORITHM),
+            Part::Takes("embed", "CERT", EMBED),
             Part::Flag("log", LOG),
             Part::Flag("why", CAUSE),
         ],
@@ -168,6 +187,10 @@ pub(crate) const COMMANDS: &[Entry] = &[
             Part::Takes("signer", "SOCKET", OPEN_SIGNER),
             Part::Takes("algorithm", "NAME", ALGORITHM),
             Part::Flag("unsigned", UNSIGNED),
+            Part::Takes("responder", "CERT", RESPONDER),
+            Part::Takes("responder-signer", "SOCKET", RESPONDER_SIGNER),
+            Part::Takes("responder-algorithm", "NAME", ALGORITHM),
+            Part::Takes("embed", "CERT", EMBED),
             Part::Flag("log", LOG),
             Part::Flag("why", CAUSE),
         ],
@@ -188,6 +211,16 @@ pub(crate) const COMMANDS: &[Entry] = &[
         parts: &[
             Part::Must("file", "FILE", FILE),
             Part::Rest("steps", "MOMENT=DAYS", STEPS),
+            Part::Flag("why", CAUSE),
+        ],
+    },
+    Entry {
+        name: "key-id",
+        about: "Set the key identifier of the CA certificate, which CRLs have from the next one on.",
+        example: "Example:\n  desk key-id ca.db 0A1B2C3D4E5F",
+        parts: &[
+            Part::Must("file", "FILE", FILE),
+            Part::Must("key-id", "HEX", KEY_ID),
             Part::Flag("why", CAUSE),
         ],
     },

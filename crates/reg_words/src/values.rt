@@ -3,10 +3,10 @@
 ghost use Rattle.std.specs.Prelude.{◌≡◌, ◌≤◌, IfOk, IfSome, List, ℕ, map, option_and_then, option_map};
 ghost use Rattle.reg_core.specs.Number.{number_of};
 ghost use Rattle.clap.specs.Words.{all_of, first_of, found_of, rows_of};
-ghost use Rattle.reg_words.specs.Jobs.{given, given_or, chosen, holder_chosen, holder_in, is_given, number_in, way_in};
+ghost use Rattle.reg_words.specs.Jobs.{answerer_in, answerer_told, given, given_or, chosen, has_own_key, holder_by_options, holder_chosen, holder_in, is_given, number_in, way_in};
 ghost use Rattle.reg_words.specs.Values.{moment_of, step_of, steps_of, within};
 
-use crate::job::{KeyHolder, Way};
+use crate::job::{Answerer, KeyHolder, Way};
 use crate::word::{Steps, Word};
 use clap::ArgMatches;
 use reg_core::{Moment, read_number};
@@ -90,7 +90,55 @@ pub(crate) fn moment(matches: &ArgMatches<'_>, id: &str) -> Option<Moment>
 pub(crate) fn key_holder<'a>(matches: &ArgMatches<'a>) -> Option<Option<KeyHolder<'a>>>
     ensures { result ≡ holder_in (rows_of (found_of matches.now)) }
 {
-    match (word_of(matches, "signer"), text_of(matches, "algorithm")) {
+    holder_by(matches, "signer", "algorithm")
+}
+
+/// Who answers OCSP requests; `None` where an option of a responder is given without the others, no algorithm has the name, or
+/// `--embed` is given beside them.
+#[tactic(auto, unfolding(crate::specs::Jobs::answerer_in))]
+pub(crate) fn answerer<'a>(matches: &ArgMatches<'a>) -> Option<Answerer<'a>>
+    ensures { result ≡ answerer_in (rows_of (found_of matches.now)) }
+{
+    let holder = holder_by(matches, "responder-signer", "responder-algorithm")?;
+    let embedded = word_of(matches, "embed");
+    answerer_of(word_of(matches, "responder"), holder, embedded)
+}
+
+/// Who answers, by the paths of both certificates and what holds the responder's key.
+fn answerer_of<'a>(
+    responder: Option<Word<'a>>,
+    holder: Option<KeyHolder<'a>>,
+    embedded: Option<Word<'a>>,
+) -> Option<Answerer<'a>>
+    ensures { result ≡ answerer_told responder.entry holder.entry embedded.entry }
+{
+    match (responder, holder) {
+        (Some(certificate), Some(holder)) => {
+            if embedded.is_some() {
+                return None;
+            }
+            Some(Answerer::Delegate {
+                certificate,
+                holder,
+            })
+        }
+        (None, None) => Some(Answerer::Issuer {
+            certificate: embedded,
+        }),
+        (Some(_), None) => None,
+        (None, Some(_)) => None,
+    }
+}
+
+/// What holds a key, by the ids of its two options.
+fn holder_by<'a>(
+    matches: &ArgMatches<'a>,
+    socket: &str,
+    algorithm: &str,
+) -> Option<Option<KeyHolder<'a>>>
+    ensures { result ≡ holder_by_options socket.now algorithm.now (rows_of (found_of matches.now)) }
+{
+    match (word_of(matches, socket), text_of(matches, algorithm)) {
         (Some(socket), Some(name)) => {
             let algorithm = Algorithm::read(name)?;
             Some(Some(KeyHolder { socket, algorithm }))
@@ -100,17 +148,37 @@ pub(crate) fn key_holder<'a>(matches: &ArgMatches<'a>) -> Option<Option<KeyHolde
     }
 }
 
-/// What holds the key where that is to be chosen: one that does, or `--unsigned`; `None` where neither is told, or both.
-pub(crate) fn chosen_holder<'a>(matches: &ArgMatches<'a>) -> Option<Option<KeyHolder<'a>>>
-    ensures { result ≡ holder_chosen (rows_of (found_of matches.now)) }
+/// What holds the issuer's key where that is to be chosen: one that does, or `--unsigned`, or neither where who answers has a key of
+/// its own; `None` where it is told otherwise.
+pub(crate) fn chosen_holder<'a>(
+    matches: &ArgMatches<'a>,
+    answerer: &Answerer<'_>,
+) -> Option<Option<KeyHolder<'a>>>
+    ensures { result ≡ holder_chosen answerer.now (rows_of (found_of matches.now)) }
 {
-    choose(key_holder(matches)?, is_set(matches, "unsigned"))
+    let is_unsigned = is_set(matches, "unsigned");
+    choose(key_holder(matches)?, is_unsigned, is_delegate(answerer))
 }
 
-fn choose<'a>(holder: Option<KeyHolder<'a>>, is_unsigned: bool) -> Option<Option<KeyHolder<'a>>>
-    ensures { result ≡ chosen holder.entry is_unsigned }
+/// Whether who answers has a key of its own.
+fn is_delegate(answerer: &Answerer<'_>) -> bool
+    ensures { result ≡ has_own_key answerer.now }
 {
-    if holder.is_some() == is_unsigned {
+    match answerer {
+        Answerer::Issuer { .. } => false,
+        Answerer::Delegate { .. } => true,
+    }
+}
+
+fn choose<'a>(
+    holder: Option<KeyHolder<'a>>,
+    is_unsigned: bool,
+    is_delegated: bool,
+) -> Option<Option<KeyHolder<'a>>>
+    ensures { result ≡ chosen holder.entry is_unsigned is_delegated }
+{
+    let has_other = holder.is_some() || is_delegated;
+    if has_other == is_unsigned {
         None
     } else {
         Some(holder)

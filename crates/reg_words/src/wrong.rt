@@ -1,6 +1,6 @@
 //! What is said of a value that is out of its form or range.
 
-use crate::values::{key_holder, moment, number_within, read_step, text_of};
+use crate::values::{answerer, key_holder, moment, number_within, read_step, text_of};
 use clap::ArgMatches;
 use std::alloc::Global;
 
@@ -24,6 +24,13 @@ const NUMBERS: [(&str, &str, u64, u64); 7] = [
     ("requests", "--requests", 1, MOST_REQUESTS),
 ];
 
+/// The options that tell of a responder: the id and the name of each.
+const RESPONDERS: [(&str, &str); 3] = [
+    ("responder-algorithm", "--responder-algorithm"),
+    ("responder-signer", "--responder-signer"),
+    ("responder", "--responder"),
+];
+
 const NUMBER_WANTED: &str = "a number is 1 to 18 digits and within the range that help tells";
 
 const MOMENT_WANTED: &str = "a moment is written as 2026-01-01T00:00:00Z";
@@ -33,10 +40,13 @@ const STEP_WANTED: &str = "a step is written as 2026-01-01T00:00:00Z=200";
 const KEY_HOLDER_WANTED: &str =
     "--signer and --algorithm are given both or neither, and an algorithm is ecdsa-sha256, ecdsa-sha384, rsa-sha256 or ed25519";
 
+const RESPONDER_WANTED: &str =
+    "--responder, --responder-signer and --responder-algorithm are given together, without --embed; an algorithm is ecdsa-sha256, ecdsa-sha384, rsa-sha256 or ed25519";
+
 const FILE_WANTED: &str = "--clock and --strict want a FILE";
 
 const CHOICE_WANTED: &str =
-    "open wants --signer SOCKET with --algorithm NAME, or --unsigned, by which a digest alone seals: one of both";
+    "open wants --signer SOCKET with --algorithm NAME, or --unsigned, by which a digest alone seals: one of both; beside --responder the first, or neither";
 
 /// A value that is out of its form or range, the option that it was given for, and what is wanted in its place.
 #[derive(Clone, Copy)]
@@ -75,7 +85,10 @@ fn first_wrong<'a>(matches: &ArgMatches<'a>) -> Option<Wrong<'a>> {
     if let Some(wrong) = wrong_step(given) {
         return Some(wrong);
     }
-    wrong_holder(given)
+    if let Some(wrong) = wrong_holder(given) {
+        return Some(wrong);
+    }
+    wrong_responder(given)
 }
 
 /// The first number that is none, or out of its range.
@@ -135,4 +148,21 @@ fn wrong_holder<'a>(given: &ArgMatches<'a>) -> Option<Wrong<'a>> {
         value,
         wanted: KEY_HOLDER_WANTED,
     })
+}
+
+/// Who answers OCSP requests, where that is not told whole, or told twice.
+fn wrong_responder<'a>(given: &ArgMatches<'a>) -> Option<Wrong<'a>> {
+    if answerer(given).is_some() {
+        return None;
+    }
+    for (id, option) in RESPONDERS {
+        if let Some(value) = text_of(given, id) {
+            return Some(Wrong {
+                option,
+                value,
+                wanted: RESPONDER_WANTED,
+            });
+        }
+    }
+    None
 }

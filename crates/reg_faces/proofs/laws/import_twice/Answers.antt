@@ -7,6 +7,6 @@ use Rattle.reg_faces.proofs.laws.import_twice.Goals as goal
 pub returns : goal.returns
 returns g c = λ identity.
     comes_twice
-    (signed_by g.K.Keeper.signs identity)
+    (signed_by g.K.Keeper.signs identity.crls)
     (Lines g.K.Keeper.signs identity)
     (λ s now command outcome t happened. happened)

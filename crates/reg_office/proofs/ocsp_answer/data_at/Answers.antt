@@ -1,22 +1,26 @@
 use Rattle.std.proofs.Common.{◌≡◌, ◌+◌, ◌∙◌, ap}
-use Rattle.std.specs.Prelude.{option_copied}
+use Rattle.std.specs.Prelude.{option_copied, unwrap_or}
+use Rattle.reg_core.specs.Issuer as core
 use Rattle.reg_ocsp.specs.Response.{response_data}
 use Rattle.reg_ocsp.specs.Views.{answered, answers_seen}
 use Rattle.reg_ocsp.proofs.Answering.{answers_fit}
 use Rattle.reg_office.proofs.Responding.{each_answer}
 use Rattle.reg_office.proofs.ocsp_answer.data_at.Goals as goal
 
-pub response_data-requires : goal.response_data-requires
-response_data-requires g c =
+pub response_data_by-requires : goal.response_data_by-requires
+response_data_by-requires g c =
     answers_fit c.deref-2.result.now c.args.asked.now.ids.items (option_copied c.args.asked.now.nonce) (ap answered c.deref-2.ensures.value ∙ c.in_ok-answers.ensures.ids ∙ c.deref.ensures.value) c.requires
 
 pub returns-clause-found : goal.returns-clause-found
 returns-clause-found g c records shows clean issuer next =
     let told = c.in_ok-answers.ensures.found records shows clean issuer in
     let asked : answered c.in_ok-answers.answers.items ≡ c.args.asked.now.ids.items = c.in_ok-answers.ensures.ids ∙ c.deref.ensures.value in
-    let data_is = c.in_ok-response_data.ensures.data in
-    let spelled : c.in_ok-response_data.field-0.items ≡ response_data records.issuer.key c.args.now (c.args.now + records.policy.ocsp_life) (answers_seen c.in_ok-answers.answers.items) (option_copied c.args.asked.now.nonce) =
-    data_is ∙ (λ i. response_data (issuer i).key c.args.now (next i) (answers_seen (c.deref-2.ensures.value i)) (option_copied c.args.asked.now.nonce)) in
+    let own = option_copied c.args.own_key in
+    let key_is : c.key_of.result.now ≡ unwrap_or own records.issuer.key =
+    c.key_of.ensures ∙ ap (λ (it : core.Issuer). unwrap_or own it.key) issuer in
+    let data_is = c.in_ok-response_data_by.ensures.data in
+    let spelled : c.in_ok-response_data_by.field-0.items ≡ response_data (unwrap_or own records.issuer.key) c.args.now (c.args.now + records.policy.ocsp_life) (answers_seen c.in_ok-answers.answers.items) (option_copied c.args.asked.now.nonce) =
+    data_is ∙ (λ i. response_data (key_is i) c.args.now (next i) (answers_seen (c.deref-2.ensures.value i)) (option_copied c.args.asked.now.nonce)) in
     record {
       answers = answers_seen c.in_ok-answers.answers.items;
       each = each_answer records c.args.now c.args.asked.now.ids.items c.in_ok-answers.answers.items asked told;

@@ -5,4 +5,4 @@ use Rattle.reg_office.proofs.ocsp_answer.response.Goals as goal
 
 pub returns-clause-whole : goal.returns-clause-whole
 returns-clause-whole g c =
-    ok_then c.signed.result c.signed.ensures.signed (λ bytes signed same. whole_apart _ _ _ (sym signed.2 ∙ same))
+    ok_then c.signed.result c.signed.ensures.signed (λ bytes signed same. whole_apart _ _ _ _ (sym signed.2 ∙ same))

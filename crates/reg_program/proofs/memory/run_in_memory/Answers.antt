@@ -1,11 +1,13 @@
-use Rattle.std.proofs.Common.{refl}
-use Rattle.reg_jobs.specs.Digest.{digest}
+use Rattle.std.proofs.Common.{ap}
+use Rattle.reg_jobs.specs.Digest.{digest, digest_alone}
 use Rattle.reg_jobs.specs.Sample.{sample_records}
+use Rattle.reg_office.specs.Answering.{signatory_of}
 use Rattle.reg_program.proofs.Clean.{always_clean}
 use Rattle.reg_program.proofs.memory.run_in_memory.Goals as goal
 
 pub returns : goal.returns
 returns g c =
     let clean = always_clean c.run_script.new.office.store in
-    let (after, ran, stands) = c.run_script.ensures.ends.1 digest sample_records (refl, c.requires) clean in
+    let alone = ap (signatory_of (λ seal. digest) digest) c.requires.alone in
+    let (after, ran, stands) = c.run_script.ensures.ends.1 digest_alone sample_records (alone, c.requires.stands) clean in
     (after, ran)

@@ -26,18 +26,30 @@ returns-in-Some-clause-follows g c =
     c.signer_after.ensures.follows
 
 pub returns-clause-looked : goal.returns-clause-looked
-returns-clause-looked g c = looked_then c.latest_crl.ensures.looked c.signer_after-in-None.ensures.looked
+returns-clause-looked g c = looked_then c.latest_crl.ensures.looked c.silent_after.ensures.looked
 
 pub returns-clause-told : goal.returns-clause-told
 returns-clause-told g c =
-    IfOk-weaker c.signer_after-in-None.result _ _ (λ signer told. λ records shown clean.
+    IfOk-weaker c.silent_after.result _ _ (λ signer told. λ records shown clean.
     as_found (λ told. told.now) c.args.signing _ _ _ c.in-None.is (told records (looked_shows c.latest_crl.ensures.looked records shown) clean))
-    c.signer_after-in-None.ensures.told
+    c.silent_after.ensures.told
 
 pub returns-clause-follows : goal.returns-clause-follows
 returns-clause-follows g c =
-    IfOk-weaker c.signer_after-in-None.result _ _ (λ signer follows. λ records shown sound clean crl is other under.
-    let clean_1 = was_clean (state g.C.Store c.latest_crl.new.store) (state g.C.Store c.signer_after-in-None.new.store) c.signer_after-in-None.ensures.looked.survives.clean clean in
+    IfOk-weaker c.silent_after.result _ _ (λ signer follows. λ records shown sound clean crl is other under.
+    let clean_1 = was_clean (state g.C.Store c.latest_crl.new.store) (state g.C.Store c.silent_after.new.store) c.silent_after.ensures.looked.survives.clean clean in
     let latest_is = c.in_ok-latest.ensures.found records shown sound clean_1 in
     follows crl.bytes (latest_is ∙ ap (option_map (λ (crl : Crl). crl.bytes)) is) other under)
-    c.signer_after-in-None.ensures.follows
+    c.silent_after.ensures.follows
+
+pub returns-in-Some-clause-embeds : goal.returns-in-Some-clause-embeds
+returns-in-Some-clause-embeds g c =
+    IfOk-weaker c.signer_after.result _ _ (λ signer embeds. λ records shown clean crls.
+    embeds records (looked_shows c.latest_crl.ensures.looked records shown) clean crls)
+    c.signer_after.ensures.embeds
+
+pub returns-clause-embeds : goal.returns-clause-embeds
+returns-clause-embeds g c =
+    IfOk-weaker c.silent_after.result _ _ (λ signer embeds. λ records shown clean crls.
+    embeds records (looked_shows c.latest_crl.ensures.looked records shown) clean crls)
+    c.silent_after.ensures.embeds

@@ -6,7 +6,7 @@ use Rattle.reg_tables.proofs.OfficeLemmas.{reading_issuer, issuer_one, asked_iss
 use Rattle.reg_tables.specs.Failing.{HasFailed}
 use Rattle.reg_tables.specs.declared.fault.CallFault.TheVariants.{Store}
 use Rattle.reg_tables.proofs.FailingLemmas.{written_register, written_shown, no_issuer_fault}
-use Rattle.reg_der.specs.Authority.{IsName, IsKey}
+use Rattle.reg_der.specs.Authority.{IsKept, IsKey}
 use Rattle.reg_tables.specs.Faults.{issuer_fault_of}
 use Rattle.reg_tables.proofs.office.issuer.Goals as goal
 
@@ -17,7 +17,7 @@ returns-clause-found g c records shows clean =
     let row = issuer_one (state g.S.Store c.args.conn.now).now records shown c.in_ok-found.found.items c.in_ok-row.row.now (sym c.deref.ensures.value ∙ c.in_ok-row.ensures.found) answer.reads in
     let name = c.in_ok-bytes_at.ensures.read records.issuer.name (ap (λ (r : Row). column r 0) row) in
     let key = c.in_ok-bytes_at-2.ensures.read records.issuer.key (ap (λ (r : Row). column r 1) row) in
-    let made = c.in_ok-new.ensures.ok in
+    let made = c.in_ok-of_kept.ensures.ok in
     λ i. record { name = (made.0 ∙ name) i; key = (made.1 ∙ key) i }
 
 pub returns-in_err-found-clause-fails : goal.returns-in_err-found-clause-fails
@@ -45,13 +45,13 @@ returns-in_err-bytes_at-2-clause-fails g c records written clean =
     let row = issuer_one (state g.S.Store c.args.conn.now).now records shown c.in_ok-found.found.items c.in_ok-row.row.now (sym c.deref.ensures.value ∙ c.in_ok-row.ensures.found) answer.reads in
     absurd (c.in_err-bytes_at-2.ensures.read records.issuer.key (ap (λ (r : Row). column r 1) row))
 
-pub returns-in_err-new-clause-fails : goal.returns-in_err-new-clause-fails
-returns-in_err-new-clause-fails g c records written clean =
+pub returns-in_err-of_kept-clause-fails : goal.returns-in_err-of_kept-clause-fails
+returns-in_err-of_kept-clause-fails g c records written clean =
     let answer = c.in_ok-found.ensures.rows reading_issuer (written_register g.S.Store c.args.conn.now records written) clean in
     let shown = written_shown {g = g.S.Store} {old = c.args.conn.now} c.read.new.conn records c.read.ensures.clean clean written answer in
     let row = issuer_one (state g.S.Store c.args.conn.now).now records shown c.in_ok-found.found.items c.in_ok-row.row.now (sym c.deref.ensures.value ∙ c.in_ok-row.ensures.found) answer.reads in
     let name = c.in_ok-bytes_at.ensures.read records.issuer.name (ap (λ (r : Row). column r 0) row) in
     let key = c.in_ok-bytes_at-2.ensures.read records.issuer.key (ap (λ (r : Row). column r 1) row) in
-    let told : issuer_fault_of c.in_err-new.field-0.0 ≡ Store → HasFailed (state g.S.Store c.args.conn.now) (state g.S.Store c.read.new.conn) =
-    λ store. absurd (no_issuer_fault c.in_err-new.field-0.0 (subst IsName (sym name) written.issuer.name) (subst IsKey (sym key) written.issuer.key) c.in_err-new.ensures.bad_name.0 c.in_err-new.ensures.bad_key.0 store) in
+    let told : issuer_fault_of c.in_err-of_kept.field-0.0 ≡ Store → HasFailed (state g.S.Store c.args.conn.now) (state g.S.Store c.read.new.conn) =
+    λ store. absurd (no_issuer_fault c.in_err-of_kept.field-0.0 (subst IsKept (sym name) written.issuer.name) (subst IsKey (sym key) written.issuer.key) c.in_err-of_kept.ensures.bad_name.0 c.in_err-of_kept.ensures.bad_key.0 store) in
     search rules

@@ -6,7 +6,7 @@ use Rattle.reg_tables.proofs.OfficeLemmas.{reading_responding, responding_one, a
 use Rattle.reg_tables.specs.Failing.{HasFailed}
 use Rattle.reg_tables.specs.declared.fault.CallFault.TheVariants.{Store}
 use Rattle.reg_tables.proofs.FailingLemmas.{written_register, written_shown, no_issuer_fault}
-use Rattle.reg_der.specs.Authority.{IsName, IsKey}
+use Rattle.reg_der.specs.Authority.{IsKept, IsKey}
 use Rattle.reg_tables.specs.Faults.{issuer_fault_of}
 use Rattle.reg_tables.proofs.office.responding.Goals as goal
 
@@ -64,7 +64,7 @@ returns-in_err-issuer-clause-fails g c records written clean =
     let name = c.in_ok-bytes_at.ensures.read records.issuer.name (ap (λ (r : Row). column r 1) row) in
     let key = c.in_ok-bytes_at-2.ensures.read records.issuer.key (ap (λ (r : Row). column r 2) row) in
     let told : issuer_fault_of c.in_err-issuer.field-0.0 ≡ Store → HasFailed (state g.S.Store c.args.conn.now) (state g.S.Store c.read.new.conn) =
-    λ store. absurd (no_issuer_fault c.in_err-issuer.field-0.0 (subst IsName (sym name) written.issuer.name) (subst IsKey (sym key) written.issuer.key) c.in_err-issuer.ensures.bad_name.0 c.in_err-issuer.ensures.bad_key.0 store) in
+    λ store. absurd (no_issuer_fault c.in_err-issuer.field-0.0 (subst IsKept (sym name) written.issuer.name) (subst IsKey (sym key) written.issuer.key) c.in_err-issuer.ensures.bad_name.0 c.in_err-issuer.ensures.bad_key.0 store) in
     search rules
 
 pub returns-in_err-life-clause-fails : goal.returns-in_err-life-clause-fails

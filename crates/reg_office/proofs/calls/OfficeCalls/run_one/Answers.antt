@@ -1,8 +1,10 @@
+use Rattle.reg_office.proofs.Answering.{same_signatory}
 use Rattle.reg_office.proofs.Leading.{command_leads}
 use Rattle.reg_office.proofs.calls.OfficeCalls.run_one.Goals as goal
 
 pub returns : goal.returns
 returns g c = (
-  command_leads g.C.Store g.S.Signer.signs _ _ _ _ c.run_one.ensures.changed.survives.clean c.run_one.ensures.same_identity _ _ _ c.run_one.ensures.step,
+  command_leads g.C.Store g.S.Signer.signs _ _ _ _ c.run_one.ensures.changed.survives.clean
+      (same_signatory g.S.Signer.identity _ _ _ _ c.run_one.ensures.same_identity c.run_one.ensures.same_responder) _ _ _ c.run_one.ensures.step,
   (λ failed. (c.run_one.ensures.device failed).1),
 )

@@ -18,6 +18,7 @@ loop-now-init g c = record {
   room = omega (arith, c.in-Ok.ensures.ok);
   clean = omega arith;
   same_identity = refl;
+  same_responder = refl;
   each = ([], c.in-Ok.ensures.items ∙ sym (append_nil c.args.outcomes.now.items), refl);
   ran = λ records stands clean. (
     [],
@@ -47,6 +48,7 @@ loop-now-preserved g c =
       room = omega (arith, c.in-Ok-push.ensures.len, c.in-Ok-push.ensures.capacity, c.loop-now.invariant.room);
       clean = omega (arith, c.loop-now.invariant.clean, c.run_one-outcome.ensures.changed.survives.clean);
       same_identity = c.run_one-outcome.ensures.same_identity ∙ c.loop-now.invariant.same_identity;
+      same_responder = c.run_one-outcome.ensures.same_responder ∙ c.loop-now.invariant.same_responder;
       each =
           let earlier = c.loop-now.invariant.each in (
             earlier.0 ++ outcome ∷ [],

@@ -16,6 +16,7 @@ invariant-loop-now g l = record {
   room : vec_len l.outcomes + length l.commands ≤ vec_capacity l.outcomes + l.now-index;
   clean : doubt (state g.C.Store l.fn.self.store).is_clean ≤ doubt (state g.C.Store l.self.store).is_clean;
   same_identity : g.S.Signer.identity l.self.signer ≡ g.S.Signer.identity l.fn.self.signer;
+  same_responder : l.self.responder ≡ l.fn.self.responder;
   each : (came : List (Result Reply Fault)) × (l.outcomes.items ≡ l.fn.outcomes.items ++ came) × (length came ≡ length (take l.now-index l.commands));
   ran : (records : Records)
       → Stands g.C.Store g.S.Signer.signs l.fn.self.store (g.S.Signer.identity l.fn.self.signer) records

@@ -1,0 +1,27 @@
+-- Who signs for an office.
+use Rattle.std.specs.Prelude.{ℕ, List, Option, None, unwrap_or}
+use Rattle.reg_core.specs.Records.{Records}
+use Rattle.reg_crl.specs.Signing.{Identity}
+
+-- Who answers OCSP requests for an issuer (RFC 6960 2.2, 4.2.2.2): under whose algorithm and key; the key of its own by which it is named,
+-- or none where that is the issuer's; the certificate that stands with each answer, where one does.
+pub record Responder : Type 0 where
+  pub identity : Identity
+  pub own_key : Option (List ℕ)
+  pub certificate : Option (List ℕ)
+
+-- the key by which a responder is named (ResponderID, RFC 6960 4.2.1): its own, or the issuer's
+abbrev pub responder_key : Responder → Records → List ℕ
+responder_key responder records = unwrap_or responder.own_key records.issuer.key
+
+-- who signs for an office: its CRLs, and its OCSP answers
+pub record Signatory : Type 0 where
+  pub crls : Identity
+  pub answers : Responder
+
+-- the issuer's key signs both, and no certificate stands with an answer
+abbrev pub signs_both : Identity → Signatory
+signs_both identity = record {
+  crls = identity;
+  answers = record { identity = identity; own_key = None; certificate = None };
+}

@@ -1,0 +1,98 @@
+//! Key identifiers that an issuer has of its own, as they are kept behind its Name.
+
+ghost use Rattle.std.specs.Prelude.{◌≡◌, ◌+◌, ◌<◌, ◌≤◌, length, IfSome, IsSome, IsTrue, ◌↔◌, unwrap_or, []};
+ghost use Rattle.reg_core.specs.Integer.{value};
+ghost use Rattle.reg_der.specs.Authority as authority;
+ghost use Rattle.reg_der.specs.Reading.{Gives};
+
+use crate::reading::take;
+use reg_core::Label;
+
+/// The tag octet [0] of a key identifier (RFC 5280 4.2.1.1).
+pub(crate) const KEY_IDENTIFIER: u8 = 0x80;
+
+/// How many octets tell the number of the first CRL that has it.
+const NUMBER_OCTETS: usize = 8;
+
+/// The most octets of a number and a key identifier.
+const MOST_OCTETS: usize = 72;
+
+/// A key identifier of an issuer's own, and the number of the first CRL that has it.
+#[derive(Clone, Copy, PartialEq, Eq)]
+pub struct KeyIdentifier {
+    pub first: u64,
+    pub octets: Label,
+}
+
+/// The number that the octets spell, the highest first.
+fn number(octets: &[u8]) -> u64
+    requires { length octets.now ≤ 8 }
+    ensures { result ≡ value octets.now }
+{
+    let mut number = 0;
+    for octet in octets {
+        number = number * 256 + u64::from(*octet);
+    }
+    number
+}
+
+/// The key identifier at the front, and what follows.
+#[tactic(auto, unfolding(crate::specs::Authority::identifier_at))]
+fn front(bytes: &[u8]) -> Option<(KeyIdentifier, &[u8])>
+    ensures exact { Gives (λ x. (x.0, x.1.now)) result (authority.identifier_at bytes.now) }
+    ensures shorter { IfSome result (λ x. length x.1.now < length bytes.now) }
+{
+    let (value, rest) = take(bytes)?;
+    if value.tag != KEY_IDENTIFIER
+        || value.contents.len() <= NUMBER_OCTETS
+        || value.contents.len() > MOST_OCTETS
+    {
+        return None;
+    }
+    let (first, octets) = value.contents.split_at(NUMBER_OCTETS);
+    let identifier = KeyIdentifier {
+        first: number(first),
+        octets: Label::joined(octets, &[]),
+    };
+    Some((identifier, rest))
+}
+
+/// Whether the bytes are key identifiers and nothing else.
+pub(crate) fn are_identifiers(bytes: &[u8]) -> bool
+    ensures { IsTrue result ↔ IsSome (authority.identifiers_at bytes.now) }
+{
+    let mut rest = bytes;
+    while !rest.is_empty() {
+        let Some((_, after)) = front(rest) else {
+            return false;
+        };
+        rest = after;
+    }
+    true
+}
+
+/// The key identifiers but for the latest, where that begins with the CRL of this number too.
+#[tactic(auto, unfolding(crate::specs::Authority::others_than))]
+pub(crate) fn others_than(bytes: &[u8], first: u64) -> &[u8]
+    ensures { result.now ≡ authority.others_than first bytes.now }
+{
+    match front(bytes) {
+        Some((latest, rest)) if latest.first == first => rest,
+        _ => bytes,
+    }
+}
+
+/// The first of the key identifiers that a CRL of this number has.
+pub(crate) fn identifier_for(bytes: &[u8], number: u64) -> Option<Label>
+    requires { IsSome (authority.identifiers_at bytes.now) }
+    ensures { result ≡ authority.identifier_for (unwrap_or (authority.identifiers_at bytes.now) []) number }
+{
+    let mut rest = bytes;
+    while let Some((identifier, after)) = front(rest) {
+        if identifier.first <= number {
+            return Some(identifier.octets);
+        }
+        rest = after;
+    }
+    None
+}

@@ -1,0 +1,351 @@
+-- Certificates: what is read is spelled so, and what is spelled so is read.
+use Rattle.std.proofs.Common.{◌≡◌, ℕ, suc, ◌≤◌, ◌&&◌, true, false, cond, eqb, leb, ltb, List, [], ◌∷◌, ◌++◌, length, Option, Some, None, refl, sym, ap, subst, ◌∙◌, arith}
+use Rattle.std.specs.Prelude.{IfSome, option_map}
+use Rattle.std.proofs.lemmas.Bool.{eqb-true, le-ltb, ltb-false}
+use Rattle.std.proofs.lemmas.Bool.Decides.{nat_tests}
+use Rattle.std.proofs.lemmas.List.{length-append}
+use Rattle.reg_core.specs.Integer.{IsBytes}
+use Rattle.reg_der.specs.Authority.{IsKey}
+use Rattle.reg_der.specs.Der.{tlv}
+use Rattle.reg_der.specs.Reading.{◌>>=◌, Gives, Takes}
+use Rattle.reg_der.specs.Values.{bits_value}
+use Rattle.reg_der.proofs.PublicLaws.{value_size}
+use Rattle.reg_ocsp.specs.declared.certificate.CertifiedKey.{CertifiedKey}
+use Rattle.reg_ocsp.specs.Certificate.{Form, IsCertificateOf, key_info, to_be_signed, certificate, no_unused, as_key, key_info_at, after_subject_at, signed_part_at, certificate_at}
+use Rattle.reg_ocsp.specs.Reading.{expect_at, whole_at, optional_at}
+use Rattle.reg_ocsp.specs.Request.{optional}
+use Rattle.reg_ocsp.specs.Views.{key_seen}
+use Rattle.reg_ocsp.proofs.Steps.{bind_then, some_is, kept}
+use Rattle.reg_ocsp.proofs.PartLaws.{chosen, expect_takes, expect_again, whole_takes, whole_again, optional_takes, optional_again, IsSmall, begins_value}
+
+-- ---- the key
+
+-- bits that are a key: the string's contents are the octet 0 and these
+record IsBits (string key : List ℕ) : Type 0 where
+  spelled : string ≡ 0 ∷ key
+  some : 1 ≤ length key
+  short : length key ≤ 2048
+
+bits_used : (string bits : List ℕ) → no_unused string ≡ Some bits → string ≡ 0 ∷ bits
+bits_used [] bits e = absurd cc
+bits_used (unused ∷ rest) bits e =
+    let g = chosen (eqb unused 0) (Some rest) bits e in
+    let zero : unused ≡ 0 = eqb-true unused 0 g.0 in
+    let same : rest ≡ bits = some_is rest bits g.1 in
+    λ i. zero i ∷ same i
+
+bits_take : (string bits key : List ℕ) → no_unused string ≡ Some bits → as_key bits ≡ Some key → IsBits string key
+bits_take string bits key used is =
+    let g = chosen (leb 1 (length bits) && leb (length bits) 2048) (Some bits) key is in
+    let some : 1 ≤ length bits = grind (arith, nat_tests, g.0) in
+    let short : length bits ≤ 2048 = grind (arith, nat_tests, g.0) in
+    subst (λ (k : List ℕ). IsBits string k) (some_is bits key g.1)
+    (record { spelled = bits_used string bits used; some = some; short = short })
+
+key_again : (key : List ℕ) → 1 ≤ length key → length key ≤ 2048 → as_key key ≡ Some key
+key_again key some short =
+    let passes : (leb 1 (length key) && leb (length key) 2048) ≡ true = grind (arith, nat_tests) in
+    rw passes refl
+
+-- the contents of a SubjectPublicKeyInfo
+record TakesKey (bytes raw key : List ℕ) : Type 0 where
+  algorithm : List ℕ
+  spelled : bytes ≡ tlv 0x30 algorithm ++ bits_value key
+  same : raw ≡ tlv 0x30 algorithm
+  is_key : IsKey key
+
+abbrev after_key : List ℕ × List ℕ → List ℕ → Option (List ℕ × List ℕ)
+after_key algorithm key = Some (tlv 0x30 algorithm.0, key)
+
+abbrev after_bits : List ℕ × List ℕ → List ℕ → Option (List ℕ × List ℕ)
+after_bits algorithm bits = as_key bits >>= after_key algorithm
+
+abbrev after_string : List ℕ × List ℕ → List ℕ → Option (List ℕ × List ℕ)
+after_string algorithm string = no_unused string >>= after_bits algorithm
+
+abbrev after_algorithm : List ℕ × List ℕ → Option (List ℕ × List ℕ)
+after_algorithm algorithm = whole_at 0x03 algorithm.1 >>= after_string algorithm
+
+key_bytes : (key : List ℕ) → IsBytes (0 ∷ key) → IsBytes key
+key_bytes key each = λ i. each (suc i)
+
+key_info_takes : (bytes : List ℕ) (x : List ℕ × List ℕ) → IsBytes bytes → key_info_at bytes ≡ Some x → TakesKey bytes x.0 x.1
+unfolding key_info_at
+key_info_takes bytes x each e =
+    bind_then (expect_at 0x30 bytes) after_algorithm x e (λ algorithm read_algorithm e1.
+    bind_then (whole_at 0x03 algorithm.1) (after_string algorithm) x e1 (λ string read_string e2.
+    bind_then (no_unused string) (after_bits algorithm) x e2 (λ bits read_bits e3.
+    bind_then (as_key bits) (after_key algorithm) x e3 (λ key read_key e4.
+    let t0 = expect_takes 0x30 bytes algorithm each read_algorithm in
+    let t1 = whole_takes 0x03 algorithm.1 string t0.taken.each read_string in
+    let b = bits_take string bits key read_bits read_key in
+    let spelled : bytes ≡ tlv 0x30 algorithm.0 ++ bits_value key =
+    t0.taken.parts ∙ ap (λ (r : List ℕ). tlv 0x30 algorithm.0 ++ r) (t1.spelled ∙ ap (tlv 0x03) b.spelled) in
+    let is_bytes : IsBytes (0 ∷ key) = subst IsBytes b.spelled t1.inner in
+    subst (λ (y : List ℕ × List ℕ). TakesKey bytes y.0 y.1) (some_is (tlv 0x30 algorithm.0, key) x e4)
+    (record {
+      algorithm = algorithm.0;
+      spelled = spelled;
+      same = refl;
+      is_key = record { each = key_bytes key is_bytes; some = b.some; short = b.short };
+    })))))
+
+key_info_again : (algorithm key : List ℕ) → IsKey key → length algorithm ≤ 65536 → key_info_at (tlv 0x30 algorithm ++ bits_value key) ≡ Some (tlv 0x30 algorithm, key)
+unfolding key_info_at
+key_info_again algorithm key is small =
+    let e0 = expect_again 0x30 algorithm (bits_value key) (omega arith) small in
+    let e1 = whole_again 0x03 (0 ∷ key) (omega arith) (omega (arith, is.short)) in
+    let e2 = key_again key is.some is.short in
+    rw (e0, e1, e2) refl
+
+-- ---- what stands before it
+
+record TakesSubject (bytes rest : List ℕ) : Type 0 where
+  version : Option (List ℕ)
+  serial : List ℕ
+  signature : List ℕ
+  issuer : List ℕ
+  validity : List ℕ
+  subject : List ℕ
+  each : IsBytes rest
+  spelled : bytes ≡ optional 0xA0 version ++ (tlv 0x02 serial ++ (tlv 0x30 signature ++ (tlv 0x30 issuer ++ (tlv 0x30 validity ++ (tlv 0x30 subject ++ rest)))))
+
+abbrev after_subject : List ℕ × List ℕ → Option (List ℕ)
+after_subject subject = Some subject.1
+
+abbrev after_validity : List ℕ × List ℕ → Option (List ℕ)
+after_validity validity = expect_at 0x30 validity.1 >>= after_subject
+
+abbrev after_issuer : List ℕ × List ℕ → Option (List ℕ)
+after_issuer issuer = expect_at 0x30 issuer.1 >>= after_validity
+
+abbrev after_signature : List ℕ × List ℕ → Option (List ℕ)
+after_signature signature = expect_at 0x30 signature.1 >>= after_issuer
+
+abbrev after_serial : List ℕ × List ℕ → Option (List ℕ)
+after_serial serial = expect_at 0x30 serial.1 >>= after_signature
+
+abbrev after_version : Option (List ℕ) × List ℕ → Option (List ℕ)
+after_version version = expect_at 0x02 version.1 >>= after_serial
+
+subject_takes : (bytes rest : List ℕ) → IsBytes bytes → after_subject_at bytes ≡ Some rest → TakesSubject bytes rest
+unfolding after_subject_at
+subject_takes bytes rest each e =
+    bind_then (optional_at 0xA0 bytes) after_version rest e (λ version read_version e1.
+    bind_then (expect_at 0x02 version.1) after_serial rest e1 (λ serial read_serial e2.
+    bind_then (expect_at 0x30 serial.1) after_signature rest e2 (λ signature read_signature e3.
+    bind_then (expect_at 0x30 signature.1) after_issuer rest e3 (λ issuer read_issuer e4.
+    bind_then (expect_at 0x30 issuer.1) after_validity rest e4 (λ validity read_validity e5.
+    bind_then (expect_at 0x30 validity.1) after_subject rest e5 (λ subject read_subject e6.
+    let t0 = optional_takes 0xA0 bytes version each read_version in
+    let t1 = expect_takes 0x02 version.1 serial t0.taken.each read_serial in
+    let t2 = expect_takes 0x30 serial.1 signature t1.taken.each read_signature in
+    let t3 = expect_takes 0x30 signature.1 issuer t2.taken.each read_issuer in
+    let t4 = expect_takes 0x30 issuer.1 validity t3.taken.each read_validity in
+    let t5 = expect_takes 0x30 validity.1 subject t4.taken.each read_subject in
+    let s5 = t5.taken.parts in
+    let s4 = t4.taken.parts ∙ ap (λ (r : List ℕ). tlv 0x30 validity.0 ++ r) s5 in
+    let s3 = t3.taken.parts ∙ ap (λ (r : List ℕ). tlv 0x30 issuer.0 ++ r) s4 in
+    let s2 = t2.taken.parts ∙ ap (λ (r : List ℕ). tlv 0x30 signature.0 ++ r) s3 in
+    let s1 = t1.taken.parts ∙ ap (λ (r : List ℕ). tlv 0x02 serial.0 ++ r) s2 in
+    let s0 = t0.taken.parts ∙ ap (λ (r : List ℕ). optional 0xA0 version.0 ++ r) s1 in
+    subst (λ (y : List ℕ). TakesSubject bytes y) (some_is subject.1 rest e6)
+    (record {
+      version = version.0;
+      serial = serial.0;
+      signature = signature.0;
+      issuer = issuer.0;
+      validity = validity.0;
+      subject = subject.0;
+      each = t5.taken.each;
+      spelled = s0;
+    })))))))
+
+optional_small : (tag : ℕ) (written : Option (List ℕ)) (rest : List ℕ) → length (optional tag written ++ rest) ≤ 65536 → IsSmall written
+optional_small tag None rest small = tt
+optional_small tag (Some contents) rest small =
+    omega (arith, (value_size tag contents).least, length-append (tlv tag contents) rest)
+
+subject_again : (version : Option (List ℕ)) (serial signature issuer validity subject rest : List ℕ)
+    → length (optional 0xA0 version ++ (tlv 0x02 serial ++ (tlv 0x30 signature ++ (tlv 0x30 issuer ++ (tlv 0x30 validity ++ (tlv 0x30 subject ++ rest)))))) ≤ 65536
+    → after_subject_at (optional 0xA0 version ++ (tlv 0x02 serial ++ (tlv 0x30 signature ++ (tlv 0x30 issuer ++ (tlv 0x30 validity ++ (tlv 0x30 subject ++ rest)))))) ≡ Some rest
+unfolding after_subject_at
+subject_again version serial signature issuer validity subject rest small =
+    let b5 = tlv 0x30 subject ++ rest in
+    let b4 = tlv 0x30 validity ++ b5 in
+    let b3 = tlv 0x30 issuer ++ b4 in
+    let b2 = tlv 0x30 signature ++ b3 in
+    let b1 = tlv 0x02 serial ++ b2 in
+    let l0 = length-append (optional 0xA0 version) b1 in
+    let l1 = length-append (tlv 0x02 serial) b2 in
+    let l2 = length-append (tlv 0x30 signature) b3 in
+    let l3 = length-append (tlv 0x30 issuer) b4 in
+    let l4 = length-append (tlv 0x30 validity) b5 in
+    let l5 = length-append (tlv 0x30 subject) rest in
+    let e0 = optional_again 0xA0 version b1 (omega arith) (optional_small 0xA0 version b1 small) (begins_value 0xA0 0x02 serial b2 (λ same. absurd (omega (arith, same)))) in
+    let e1 = expect_again 0x02 serial b2 (omega arith) (omega (arith, (value_size 0x02 serial).least)) in
+    let e2 = expect_again 0x30 signature b3 (omega arith) (omega (arith, (value_size 0x30 signature).least)) in
+    let e3 = expect_again 0x30 issuer b4 (omega arith) (omega (arith, (value_size 0x30 issuer).least)) in
+    let e4 = expect_again 0x30 validity b5 (omega arith) (omega (arith, (value_size 0x30 validity).least)) in
+    let e5 = expect_again 0x30 subject rest (omega arith) (omega (arith, (value_size 0x30 subject).least)) in
+    rw (e0, e1, e2, e3, e4, e5) refl
+
+-- ---- what is signed
+
+record TakesPart (bytes part : List ℕ) : Type 0 where
+  short : length bytes ≤ 65536
+  signed_under : List ℕ
+  signed : List ℕ
+  each : IsBytes part
+  spelled : bytes ≡ tlv 0x30 (tlv 0x30 part ++ (tlv 0x30 signed_under ++ tlv 0x03 signed))
+
+abbrev after_signed : List ℕ → List ℕ → Option (List ℕ)
+after_signed part signed = Some part
+
+abbrev after_under : List ℕ → List ℕ × List ℕ → Option (List ℕ)
+after_under part under = whole_at 0x03 under.1 >>= after_signed part
+
+abbrev after_part : List ℕ × List ℕ → Option (List ℕ)
+after_part part = expect_at 0x30 part.1 >>= after_under part.0
+
+abbrev after_outer : List ℕ → Option (List ℕ)
+after_outer outer = expect_at 0x30 outer >>= after_part
+
+part_takes : (bytes part : List ℕ) → IsBytes bytes → signed_part_at bytes ≡ Some part → TakesPart bytes part
+unfolding signed_part_at
+part_takes bytes part each e =
+    let g = kept (ltb 65536 (length bytes)) (whole_at 0x30 bytes >>= after_outer) part e in
+    bind_then (whole_at 0x30 bytes) after_outer part g.1 (λ outer read_outer e1.
+    bind_then (expect_at 0x30 outer) after_part part e1 (λ first read_first e2.
+    bind_then (expect_at 0x30 first.1) (after_under first.0) part e2 (λ under read_under e3.
+    bind_then (whole_at 0x03 under.1) (after_signed first.0) part e3 (λ signed read_signed e4.
+    let t0 = whole_takes 0x30 bytes outer each read_outer in
+    let t1 = expect_takes 0x30 outer first t0.inner read_first in
+    let t2 = expect_takes 0x30 first.1 under t1.taken.each read_under in
+    let t3 = whole_takes 0x03 under.1 signed t2.taken.each read_signed in
+    let inner : outer ≡ tlv 0x30 first.0 ++ (tlv 0x30 under.0 ++ tlv 0x03 signed) =
+    t1.taken.parts ∙ ap (λ (r : List ℕ). tlv 0x30 first.0 ++ r) (t2.taken.parts ∙ ap (λ (r : List ℕ). tlv 0x30 under.0 ++ r) t3.spelled) in
+    let short = ltb-false 65536 (length bytes) g.0 in
+    subst (λ (y : List ℕ). TakesPart bytes y) (some_is first.0 part e4)
+    (record {
+      short = short;
+      signed_under = under.0;
+      signed = signed;
+      each = t1.inner;
+      spelled = t0.spelled ∙ ap (tlv 0x30) inner;
+    })))))
+
+part_again : (part signed_under signed : List ℕ) → length (tlv 0x30 (tlv 0x30 part ++ (tlv 0x30 signed_under ++ tlv 0x03 signed))) ≤ 65536
+    → signed_part_at (tlv 0x30 (tlv 0x30 part ++ (tlv 0x30 signed_under ++ tlv 0x03 signed))) ≡ Some part
+unfolding signed_part_at
+part_again part signed_under signed small =
+    let b2 = tlv 0x03 signed in
+    let b1 = tlv 0x30 signed_under ++ b2 in
+    let b0 = tlv 0x30 part ++ b1 in
+    let l0 = length-append (tlv 0x30 part) b1 in
+    let l1 = length-append (tlv 0x30 signed_under) b2 in
+    let within : length b0 ≤ 65536 = omega (arith, (value_size 0x30 b0).least) in
+    let t : ltb 65536 (length (tlv 0x30 b0)) ≡ false = le-ltb 65536 (length (tlv 0x30 b0)) small in
+    let e0 = whole_again 0x30 b0 (omega arith) within in
+    let e1 = expect_again 0x30 part b1 (omega arith) (omega (arith, (value_size 0x30 part).least)) in
+    let e2 = expect_again 0x30 signed_under b2 (omega arith) (omega (arith, (value_size 0x30 signed_under).least)) in
+    let e3 = whole_again 0x03 signed (omega arith) (omega (arith, (value_size 0x03 signed).least)) in
+    rw (t, e0, e1, e2, e3) refl
+
+-- ---- the whole
+
+abbrev after_info : List ℕ × List ℕ → Option (List ℕ × List ℕ)
+after_info info = key_info_at info.0
+
+abbrev after_rest : List ℕ → Option (List ℕ × List ℕ)
+after_rest rest = expect_at 0x30 rest >>= after_info
+
+abbrev after_whole : List ℕ → Option (List ℕ × List ℕ)
+after_whole part = after_subject_at part >>= after_rest
+
+certificate_takes : (bytes : List ℕ) (x : List ℕ × List ℕ) → IsBytes bytes → certificate_at bytes ≡ Some x → IsCertificateOf bytes x.0 x.1
+unfolding certificate_at
+certificate_takes bytes x each e =
+    bind_then (signed_part_at bytes) after_whole x e (λ part read_part e1.
+    bind_then (after_subject_at part) after_rest x e1 (λ rest read_rest e2.
+    bind_then (expect_at 0x30 rest) after_info x e2 (λ info read_info e3.
+    let t0 = part_takes bytes part each read_part in
+    let t1 = subject_takes part rest t0.each read_rest in
+    let t2 = expect_takes 0x30 rest info t1.each read_info in
+    let t3 = key_info_takes info.0 x t2.inner e3 in
+    let form : Form = record {
+      version = t1.version;
+      serial = t1.serial;
+      signature = t1.signature;
+      issuer = t1.issuer;
+      validity = t1.validity;
+      subject = t1.subject;
+      algorithm = t3.algorithm;
+      key = x.1;
+      behind = info.1;
+      signed_under = t0.signed_under;
+      signed = t0.signed;
+    } in
+    let of_info : rest ≡ key_info form ++ info.1 = t2.taken.parts ∙ ap (λ (c : List ℕ). tlv 0x30 c ++ info.1) t3.spelled in
+    let of_part : part ≡ optional 0xA0 form.version ++ (tlv 0x02 form.serial ++ (tlv 0x30 form.signature ++ (tlv 0x30 form.issuer ++ (tlv 0x30 form.validity ++ (tlv 0x30 form.subject ++ (key_info form ++ form.behind)))))) =
+    t1.spelled ∙ ap (λ (r : List ℕ). optional 0xA0 t1.version ++ (tlv 0x02 t1.serial ++ (tlv 0x30 t1.signature ++ (tlv 0x30 t1.issuer ++ (tlv 0x30 t1.validity ++ (tlv 0x30 t1.subject ++ r)))))) of_info in
+    record {
+      each = each;
+      short = t0.short;
+      form = form;
+      spelled = t0.spelled ∙ ap (λ (p : List ℕ). tlv 0x30 (tlv 0x30 p ++ (tlv 0x30 t0.signed_under ++ tlv 0x03 t0.signed))) of_part;
+      under = t3.same;
+      of_key = refl;
+      is_key = t3.is_key;
+    })))
+
+certificate_reads : (c : Form) → IsKey c.key → length (certificate c) ≤ 65536 → certificate_at (certificate c) ≡ Some (tlv 0x30 c.algorithm, c.key)
+unfolding certificate_at
+certificate_reads c is small =
+    let info = tlv 0x30 c.algorithm ++ bits_value c.key in
+    let rest = tlv 0x30 info ++ c.behind in
+    let b5 = tlv 0x30 c.subject ++ rest in
+    let b4 = tlv 0x30 c.validity ++ b5 in
+    let b3 = tlv 0x30 c.issuer ++ b4 in
+    let b2 = tlv 0x30 c.signature ++ b3 in
+    let b1 = tlv 0x02 c.serial ++ b2 in
+    let part = optional 0xA0 c.version ++ b1 in
+    let after = tlv 0x30 c.signed_under ++ tlv 0x03 c.signed in
+    let whole = tlv 0x30 part ++ after in
+    let short : length (tlv 0x30 whole) ≤ 65536 = small in
+    let l0 = length-append (tlv 0x30 part) after in
+    let within : length part ≤ 65536 = omega (arith, (value_size 0x30 whole).least, (value_size 0x30 part).least) in
+    let l1 = length-append (optional 0xA0 c.version) b1 in
+    let l2 = length-append (tlv 0x02 c.serial) b2 in
+    let l3 = length-append (tlv 0x30 c.signature) b3 in
+    let l4 = length-append (tlv 0x30 c.issuer) b4 in
+    let l5 = length-append (tlv 0x30 c.validity) b5 in
+    let l6 = length-append (tlv 0x30 c.subject) rest in
+    let l7 = length-append (tlv 0x30 info) c.behind in
+    let l8 = length-append (tlv 0x30 c.algorithm) (bits_value c.key) in
+    let of_info : length info ≤ 65536 = omega (arith, (value_size 0x30 info).least) in
+    let e0 = part_again part c.signed_under c.signed small in
+    let e1 = subject_again c.version c.serial c.signature c.issuer c.validity c.subject rest within in
+    let e2 = expect_again 0x30 info c.behind (omega arith) of_info in
+    let e3 = key_info_again c.algorithm c.key is (omega (arith, (value_size 0x30 c.algorithm).least)) in
+    rw (e0, e1, e2, e3) refl
+
+-- a certificate is read so
+pub certificate_again : (bytes algorithm key : List ℕ) → IsCertificateOf bytes algorithm key → certificate_at bytes ≡ Some (algorithm, key)
+certificate_again bytes algorithm key is =
+    let short : length (certificate is.form) ≤ 65536 = subst (λ (b : List ℕ). length b ≤ 65536) is.spelled is.short in
+    let its : IsKey is.form.key = subst IsKey is.of_key is.is_key in
+    ap certificate_at is.spelled ∙ certificate_reads is.form its short
+    ∙ (λ i. Some (sym is.under i, sym is.of_key i))
+
+-- ---- what the call gives
+
+pub is_found : (bytes : List ℕ) (result : Option CertifiedKey) → IsBytes bytes → Gives key_seen result (certificate_at bytes)
+    → IfSome result (λ it. IsCertificateOf bytes it.algorithm.now it.key.now)
+is_found bytes (Some it) each gives = certificate_takes bytes (key_seen it) each gives
+is_found bytes None each gives = tt
+
+pub is_only : (bytes : List ℕ) (result : Option CertifiedKey) → Gives key_seen result (certificate_at bytes)
+    → (algorithm key : List ℕ) → IsCertificateOf bytes algorithm key → option_map key_seen result ≡ Some (algorithm, key)
+is_only bytes (Some it) gives algorithm key is = sym gives ∙ certificate_again bytes algorithm key is
+is_only bytes None gives algorithm key is = absurd (let bad : None ≡ Some (algorithm, key) = sym gives ∙ certificate_again bytes algorithm key is in cc)

@@ -1,0 +1,104 @@
+-- What is read of a certificate (RFC 5280 4.1): its public key. A tree of what stands in one, how a tree is spelled, and how it is read.
+use Rattle.std.specs.Prelude.{◌≡◌, ℕ, ◌≤◌, ◌==◌, ◌&&◌, nat_le, nat_lt, if◌then◌else◌, List, [], ◌∷◌, ◌++◌, length, Option, Some, None}
+use Rattle.reg_core.specs.Integer.{IsBytes}
+use Rattle.reg_der.specs.Authority.{IsKey}
+use Rattle.reg_der.specs.Der.{tlv}
+use Rattle.reg_der.specs.Reading.{◌>>=◌}
+use Rattle.reg_der.specs.Values.{bits_value}
+use Rattle.reg_ocsp.specs.Request.{optional}
+use Rattle.reg_ocsp.specs.Reading.{expect_at, whole_at, optional_at}
+
+-- ---- the tree
+
+-- A Certificate. Of what is not looked into it has the contents: of the version, where it is written, the serial number, the signature's
+-- algorithm, the issuer, the validity and the subject; of the AlgorithmIdentifier of its public key; what stands behind the key in the
+-- TBSCertificate (unique identifiers, extensions); the algorithm and the bits of the signature.
+pub record Form : Type 0 where
+  pub version : Option (List ℕ)
+  pub serial : List ℕ
+  pub signature : List ℕ
+  pub issuer : List ℕ
+  pub validity : List ℕ
+  pub subject : List ℕ
+  pub algorithm : List ℕ
+  pub key : List ℕ
+  pub behind : List ℕ
+  pub signed_under : List ℕ
+  pub signed : List ℕ
+
+-- SubjectPublicKeyInfo ::= SEQUENCE { algorithm AlgorithmIdentifier, subjectPublicKey BIT STRING }: of the bits none is unused
+abbrev pub key_info : Form → List ℕ
+key_info c = tlv 0x30 (tlv 0x30 c.algorithm ++ bits_value c.key)
+
+-- TBSCertificate ::= SEQUENCE { version [0] EXPLICIT Version DEFAULT v1, serialNumber INTEGER, signature AlgorithmIdentifier, issuer Name,
+-- validity SEQUENCE, subject Name, subjectPublicKeyInfo, .. }
+abbrev pub to_be_signed : Form → List ℕ
+to_be_signed c =
+    tlv 0x30 (optional 0xA0 c.version ++ (tlv 0x02 c.serial ++ (tlv 0x30 c.signature ++ (tlv 0x30 c.issuer
+    ++ (tlv 0x30 c.validity ++ (tlv 0x30 c.subject ++ (key_info c ++ c.behind)))))))
+
+-- Certificate ::= SEQUENCE { tbsCertificate, signatureAlgorithm AlgorithmIdentifier, signatureValue BIT STRING }
+abbrev pub certificate : Form → List ℕ
+certificate c = tlv 0x30 (to_be_signed c ++ (tlv 0x30 c.signed_under ++ tlv 0x03 c.signed))
+
+-- the bytes, 65,536 at most, are a certificate of this public key, the bits of its subjectPublicKey, under this AlgorithmIdentifier
+pub record IsCertificateOf (bytes algorithm key : List ℕ) : Type 0 where
+  pub each : IsBytes bytes
+  pub short : length bytes ≤ 65536
+  pub form : Form
+  pub spelled : bytes ≡ certificate form
+  pub under : algorithm ≡ tlv 0x30 form.algorithm
+  pub of_key : key ≡ form.key
+  pub is_key : IsKey key
+
+-- a certificate: its bytes, the whole value of the AlgorithmIdentifier of its public key, and that key
+pub record Certified : Type 0 where
+  pub der : List ℕ
+  pub algorithm : List ℕ
+  pub key : List ℕ
+
+-- ---- reading it, as functions on lists
+
+-- the bits of a BIT STRING of which none is unused
+abbrev pub no_unused : List ℕ → Option (List ℕ)
+no_unused [] = None
+no_unused (unused ∷ bits) = if unused == 0 then Some bits else None
+
+-- 1 to 2,048 bytes of a key
+abbrev pub as_key : List ℕ → Option (List ℕ)
+as_key bits = if nat_le 1 (length bits) && nat_le (length bits) 2048 then Some bits else None
+
+-- the algorithm's whole value and the key, of the contents of a SubjectPublicKeyInfo
+unfoldable pub key_info_at : List ℕ → Option (List ℕ × List ℕ)
+key_info_at bytes = do
+  algorithm ← expect_at 0x30 bytes
+  string ← whole_at 0x03 algorithm.1
+  bits ← no_unused string
+  key ← as_key bits
+  Some (tlv 0x30 algorithm.0, key)
+
+-- what follows a subject, in the contents of a TBSCertificate
+unfoldable pub after_subject_at : List ℕ → Option (List ℕ)
+after_subject_at bytes = do
+  version ← optional_at 0xA0 bytes
+  serial ← expect_at 0x02 version.1
+  signature ← expect_at 0x30 serial.1
+  issuer ← expect_at 0x30 signature.1
+  validity ← expect_at 0x30 issuer.1
+  subject ← expect_at 0x30 validity.1
+  Some subject.1
+
+-- the contents of the TBSCertificate of a certificate
+unfoldable pub signed_part_at : List ℕ → Option (List ℕ)
+signed_part_at bytes =
+    if nat_lt 65536 (length bytes) then None
+    else (whole_at 0x30 bytes >>= λ outer. expect_at 0x30 outer >>= λ part. expect_at 0x30 part.1 >>= λ under. whole_at 0x03 under.1
+    >>= λ signed. Some part.0)
+
+-- the algorithm's whole value and the key, of a certificate
+unfoldable pub certificate_at : List ℕ → Option (List ℕ × List ℕ)
+certificate_at bytes = do
+  part ← signed_part_at bytes
+  rest ← after_subject_at part
+  info ← expect_at 0x30 rest
+  key_info_at info.0

@@ -1,0 +1,196 @@
+//! The public key that stands in a certificate (RFC 5280 4.1).
+
+ghost use Rattle.std.specs.Prelude.{◌≡◌, ◌≤◌, ℕ, List, Some, IfOk, IfSome, IsErrOf, length, option_map};
+ghost use Rattle.reg_der.specs.Reading.{Gives};
+ghost use Rattle.reg_ocsp.specs.Certificate.{IsCertificateOf, after_subject_at, as_key, certificate_at, key_info_at, no_unused, signed_part_at};
+ghost use Rattle.reg_ocsp.specs.Views.{key_seen};
+ghost use Rattle.reg_ocsp.specs.declared.certificate.CertificateFault.TheVariants.{Memory};
+
+use crate::tags::{BIT_STRING, INTEGER, SEQUENCE, TAGGED_0};
+use crate::values::{expect, optional, whole};
+use std::alloc::{AllocError, Global};
+use std::marker::Model;
+
+/// The most bytes that a certificate may have.
+const LONGEST_CERTIFICATE: usize = 65_536;
+
+/// The most bytes that a public key may have.
+const LONGEST_KEY: usize = 2_048;
+
+/// Why bytes make no certificate.
+#[derive(Clone, Copy, PartialEq, Eq)]
+pub enum CertificateFault {
+    /// They are no certificate with a public key, as [`certified_key`] says.
+    Bad,
+    /// Memory could not be had.
+    Memory,
+}
+
+impl From<AllocError> for CertificateFault {
+    ghost from_gives = { λ _ e. e ≡ Memory };
+
+    fn from(_e: AllocError) -> CertificateFault {
+        CertificateFault::Memory
+    }
+}
+
+/// A certificate that is to stand with answers. Contracts see its bytes, and its public key with the algorithm of that.
+#[derive(Drop)]
+pub struct Certificate {
+    /// All of it, in DER.
+    der: Vec<u8>,
+    /// The whole value of the AlgorithmIdentifier of its subjectPublicKeyInfo.
+    algorithm: Vec<u8>,
+    /// The bits of its subjectPublicKey.
+    key: Vec<u8>,
+}
+
+impl Model for Certificate {
+    ghost use Rattle.reg_ocsp.specs.Certificate.{Certified, IsCertificateOf};
+
+    ghost Value = { Certified };
+
+    ghost view = { λ it. record { der = it.der.items; algorithm = it.algorithm.items; key = it.key.items } };
+
+    ghost invariant = { λ it. IsCertificateOf it.der.items it.algorithm.items it.key.items };
+}
+
+impl Certificate {
+    /// The certificate that the bytes are.
+    ///
+    /// # Errors
+    /// `Bad` where they are none with a public key ([`certified_key`]); `Memory`.
+    pub fn new(alloc: Global, der: &[u8]) -> Result<Certificate, CertificateFault>
+        ensures der { IfOk result (λ it. it.der ≡ der.now) }
+        ensures bad { IsErrOf result CertificateFault.Bad → (algorithm key : List ℕ) → ¬ (IsCertificateOf der.now algorithm key) }
+    {
+        let certified = match certified_key(der) {
+            Some(certified) => certified,
+            None => return Err(CertificateFault::Bad),
+        };
+        let algorithm = Vec::from_slice(alloc, certified.algorithm)?;
+        let key = Vec::from_slice(alloc, certified.key)?;
+        let der = Vec::from_slice(alloc, der)?;
+        Ok(Certificate {
+            der,
+            algorithm,
+            key,
+        })
+    }
+
+    /// All of it, in DER: 65,536 bytes at most.
+    pub fn der(&self) -> &[u8]
+        ensures der { result.now ≡ self.now.der }
+        ensures short { length result.now ≤ 65536 }
+    {
+        &self.der
+    }
+
+    /// The whole value of the AlgorithmIdentifier of its public key (RFC 5280 4.1.2.7).
+    pub fn algorithm(&self) -> &[u8]
+        ensures { result.now ≡ self.now.algorithm }
+    {
+        &self.algorithm
+    }
+
+    /// The bits of its subjectPublicKey, without the octet that counts unused ones.
+    pub fn key(&self) -> &[u8]
+        ensures key { result.now ≡ self.now.key }
+        ensures certified { IsCertificateOf self.now.der self.now.algorithm result.now }
+    {
+        &self.key
+    }
+}
+
+/// The public key of a certificate, in slices of the certificate's bytes.
+#[derive(Clone, Copy)]
+pub struct CertifiedKey<'a> {
+    /// The whole value of the AlgorithmIdentifier of its subjectPublicKeyInfo.
+    pub algorithm: &'a [u8],
+    /// The bits of its subjectPublicKey, without the octet that counts unused ones: 1 to 2,048 bytes.
+    pub key: &'a [u8],
+}
+
+/// The public key of a certificate.
+///
+/// All bytes, 65,536 at most, are one Certificate in DER. Of it only what stands before the key is read, and by the tags of
+/// its parts alone: whose certificate it is, for what and until when, and whether its signature verifies, isn't looked at.
+/// `None` exactly for bytes that are no such certificate, or whose key has other bits than whole bytes, none, or more than
+/// 2,048.
+pub fn certified_key(certificate: &[u8]) -> Option<CertifiedKey<'_>>
+    ensures found { IfSome result (λ it. IsCertificateOf certificate.now it.algorithm.now it.key.now) }
+    ensures only { (algorithm key : List ℕ) → IsCertificateOf certificate.now algorithm key → option_map key_seen result ≡ Some (algorithm, key) }
+{
+    read_certificate(certificate)
+}
+
+#[tactic(auto, unfolding(crate::specs::Certificate::certificate_at))]
+fn read_certificate(bytes: &[u8]) -> Option<CertifiedKey<'_>>
+    ensures { Gives key_seen result (certificate_at bytes.now) }
+{
+    let part = signed_part(bytes)?;
+    let (info, _) = expect(SEQUENCE, after_subject(part)?)?;
+    key_info(info.contents)
+}
+
+/// The contents of the TBSCertificate of a certificate.
+#[tactic(auto, unfolding(crate::specs::Certificate::signed_part_at))]
+fn signed_part(bytes: &[u8]) -> Option<&[u8]>
+    ensures { Gives (λ x. x.now) result (signed_part_at bytes.now) }
+{
+    if bytes.len() > LONGEST_CERTIFICATE {
+        return None;
+    }
+    let (part, rest) = expect(SEQUENCE, whole(SEQUENCE, bytes)?)?;
+    let (_, rest) = expect(SEQUENCE, rest)?;
+    whole(BIT_STRING, rest)?;
+    Some(part.contents)
+}
+
+/// What follows the subject, in the contents of a TBSCertificate.
+#[tactic(auto, unfolding(crate::specs::Certificate::after_subject_at))]
+fn after_subject(part: &[u8]) -> Option<&[u8]>
+    ensures { Gives (λ x. x.now) result (after_subject_at part.now) }
+{
+    let (_, rest) = optional(TAGGED_0, part)?;
+    let (_, rest) = expect(INTEGER, rest)?;
+    let (_, rest) = expect(SEQUENCE, rest)?;
+    let (_, rest) = expect(SEQUENCE, rest)?;
+    let (_, rest) = expect(SEQUENCE, rest)?;
+    let (_, rest) = expect(SEQUENCE, rest)?;
+    Some(rest)
+}
+
+/// The key of the contents of a SubjectPublicKeyInfo.
+#[tactic(auto, unfolding(crate::specs::Certificate::key_info_at))]
+fn key_info(bytes: &[u8]) -> Option<CertifiedKey<'_>>
+    ensures { Gives key_seen result (key_info_at bytes.now) }
+{
+    let (algorithm, rest) = expect(SEQUENCE, bytes)?;
+    let bits = used(whole(BIT_STRING, rest)?)?;
+    let key = key_of(bits)?;
+    Some(CertifiedKey {
+        algorithm: algorithm.raw,
+        key,
+    })
+}
+
+/// The bits of the contents of a BIT STRING, of which none is unused (X.690 8.6.2).
+fn used(contents: &[u8]) -> Option<&[u8]>
+    ensures { Gives (λ x. x.now) result (no_unused contents.now) }
+{
+    match contents {
+        [unused, bits @ ..] if *unused == 0 => Some(bits),
+        _ => None,
+    }
+}
+
+/// The bits, if they are as many as a key has.
+fn key_of(bits: &[u8]) -> Option<&[u8]>
+    ensures { Gives (λ x. x.now) result (as_key bits.now) }
+{
+    if bits.is_empty() || bits.len() > LONGEST_KEY {
+        return None;
+    }
+    Some(bits)
+}

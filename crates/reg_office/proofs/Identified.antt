@@ -1,0 +1,67 @@
+-- With a key identifier more, which CRLs have from the next one on, the CRLs that were issued are signed over what they list.
+use Rattle.std.proofs.Common.{◌≡◌, ℕ, ◌+◌, ◌<◌, ◌≤◌, List, [], ◌∷◌, length, Result, Ok, Err, OnOk, refl, ap, subst, sym, ◌∙◌, arith}
+use Rattle.std.specs.Prelude.{unwrap_or}
+use Rattle.std.specs.List.{AllByRecursion}
+use Rattle.sha1.specs.Sha1.{sha1}
+use Rattle.reg_core.specs.Crls.{CertList, cert_list, next_number}
+use Rattle.reg_core.specs.Issuer.{Issuer}
+use Rattle.reg_core.specs.Records.{Records, Crl}
+use Rattle.reg_core.specs.Sound.{NumberedFrom, Sound, SoundRows}
+use Rattle.reg_core.specs.declared.rows.Entry.{Entry}
+use Rattle.reg_crl.specs.Crl.{crl_extensions, key_identifier, tbs_cert_list, tbs_of}
+use Rattle.reg_crl.specs.Signing.{Identity, signed_by}
+use Rattle.reg_der.specs.Authority.{HasIdentifier, key_identifier_at, name_of, with_identifier}
+use Rattle.reg_der.specs.Issuers.{with_issuer, with_key_identifier}
+use Rattle.reg_laws.proofs.Contents.{next_is}
+
+-- what is signed goes by the issuer's Name and by the key identifier that a CRL of this number has
+same_tbs : (a b : Issuer) (algorithm : List ℕ) (number this_update next_update : ℕ) (entries : List Entry) → name_of a ≡ name_of b → key_identifier a number ≡ key_identifier b number
+    → tbs_cert_list a algorithm number this_update next_update entries ≡ tbs_cert_list b algorithm number this_update next_update entries
+unfolding tbs_cert_list crl_extensions
+same_tbs a b algorithm number this_update next_update entries name identifier = rw (name, identifier) refl
+
+module _ (signs : Identity → List ℕ → List ℕ → Type 0) (identity : Identity) (records : Records) (octets : List ℕ)
+    (has : HasIdentifier records.issuer (next_number records.crls) octets) where
+  abbrev after : Records
+  after = with_key_identifier records octets
+
+  tbs_stays : (number this_update : ℕ) → number < next_number records.crls → tbs_of identity.algorithm (cert_list after number this_update) ≡ tbs_of identity.algorithm (cert_list records number this_update)
+  tbs_stays number this_update before =
+      same_tbs after.issuer records.issuer identity.algorithm number this_update (this_update + records.policy.crl_life) (cert_list records number this_update).entries has.name
+      (ap (λ o. unwrap_or o (sha1 records.issuer.key)) (has.earlier number before))
+
+  signed_stays : (number this_update : ℕ) (bytes : List ℕ) → number < next_number records.crls
+      → signed_by signs identity (cert_list records number this_update) bytes → signed_by signs identity (cert_list after number this_update) bytes
+  signed_stays number this_update bytes before signed =
+      subst (λ tbs. (signature : List ℕ) × signs identity tbs signature × (bytes ≡ Rattle.reg_crl.specs.Crl.certificate_list tbs identity.algorithm signature)) (sym (tbs_stays number this_update before)) signed
+
+  all_signed : (from : ℕ) (crls : List Crl) → NumberedFrom (λ crl. crl.number) from crls → from + length crls ≤ next_number records.crls
+      → AllByRecursion (λ crl. signed_by signs identity (cert_list records crl.number crl.this_update) crl.bytes) crls
+      → AllByRecursion (λ crl. signed_by signs identity (cert_list after crl.number crl.this_update) crl.bytes) crls
+  all_signed from [] numbered few all = tt
+  all_signed from (crl ∷ crls) numbered few all =
+      let here : crl.number ≡ from = numbered.0 in
+      let before : crl.number < next_number records.crls = omega arith in
+      (signed_stays crl.number crl.this_update crl.bytes before all.0, all_signed (from + 1) crls numbered.1 (omega arith) all.1)
+
+  rows_stay : SoundRows records → SoundRows after
+  rows_stay sound = record {
+    before_clock_end = sound.before_clock_end;
+    subscribers = sound.subscribers;
+    orders = sound.orders;
+    certificates = sound.certificates;
+    requests = sound.requests;
+    revocations = sound.revocations;
+    crls = sound.crls;
+  }
+
+  pub identifier_keeps_sound : Sound (signed_by signs identity) records → Sound (signed_by signs identity) after
+  identifier_keeps_sound sound = record {
+    rows = rows_stay sound.rows;
+    signatures = all_signed 1 records.crls sound.rows.crls.numbered (let next = next_is records.crls sound.rows.crls.numbered in omega arith) sound.signatures;
+  }
+
+-- two facts of an Ok, and what follows from both
+pub both_on_ok : {T E : Type 0} {P Q R : Type 0} (r : Result T E) → (P → Q → R) → OnOk r P → OnOk r Q → OnOk r R
+both_on_ok (Ok x) leads p q = leads p q
+both_on_ok (Err e) leads p q = tt

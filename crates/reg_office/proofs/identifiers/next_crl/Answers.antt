@@ -1,0 +1,9 @@
+use Rattle.std.proofs.Common.{ap, ◌∙◌}
+use Rattle.reg_core.specs.Crls.{number_after}
+use Rattle.reg_tables.proofs.Staying.{some_then}
+use Rattle.reg_office.proofs.identifiers.next_crl.Goals as goal
+
+pub returns-clause-found : goal.returns-clause-found
+returns-clause-found g c records shows clean =
+    let latest_is = c.in_ok-latest.ensures.found records shows clean in
+    some_then c.ok_or.result c.number_behind.result _ c.ok_or.ensures.value c.number_behind.ensures (λ number is. is ∙ ap number_after latest_is)

@@ -1,0 +1,37 @@
+-- Who answers OCSP requests for an office.
+use Rattle.std.specs.Prelude.{ℕ, List, Option, Some, None, option_copied, option_map}
+use Rattle.reg_crl.specs.Signing.{Identity}
+use Rattle.reg_calls.specs.Signatories.{Responder, Signatory}
+use Rattle.reg_office.specs.declared.responder.Naming.{Naming}
+use Rattle.reg_office.specs.declared.responder.Responder.{Responder as Held}
+use Rattle.reg_office.specs.declared.responder.Responder.TheVariants.{Issuer, Delegate}
+
+-- one who signs under this identity, with what an answer has of it
+abbrev pub responder_named : Identity → Naming → Responder
+responder_named identity naming = record {
+  identity = identity;
+  own_key = option_copied naming.own_key;
+  certificate = option_copied naming.certificate;
+}
+
+-- who answers, where this one signs CRLs: the same, under the issuer's key; or another one, under the key of its certificate
+abbrev pub answers_by : {S : Type 0} → (S → Identity) → Identity → Held S → Responder
+answers_by identity crls (Issuer certificate) = record {
+  identity = crls;
+  own_key = None;
+  certificate = option_map (λ it. it.der) certificate;
+}
+answers_by identity crls (Delegate signer certificate) = record {
+  identity = identity signer;
+  own_key = Some certificate.key;
+  certificate = Some certificate.der;
+}
+
+-- who signs for an office
+abbrev pub signatory_of : {S : Type 0} → (S → Identity) → Identity → Held S → Signatory
+signatory_of identity crls responder = record { crls = crls; answers = answers_by identity crls responder }
+
+-- how many failures who answers has counted, where who signs CRLs has counted so many
+abbrev pub failures_of : {S : Type 0} → (S → ℕ) → ℕ → Held S → ℕ
+failures_of count crls (Issuer certificate) = crls
+failures_of count crls (Delegate signer certificate) = count signer

@@ -1,0 +1,25 @@
+-- What one command of an office comes to, over its store and its signer.
+use Rattle.std.specs.Prelude.{◌≡◌, ℕ, ◌<◌, List, Result, IsErrOf, IfErr}
+use Rattle.sqlite_trees.specs.declared.store.Store.{Ghosts}
+use Rattle.sqlite.specs.Held.{Held, state}
+use Rattle.sqlite.specs.State.{HasCleanDisk}
+use Rattle.reg_core.specs.Records.{Records}
+use Rattle.reg_core.specs.declared.command.Command.{Command}
+use Rattle.reg_core.specs.declared.command.Command.TheVariants.{Crl as IssueCrl}
+use Rattle.reg_core.specs.declared.command.Reply.{Reply}
+use Rattle.reg_core.specs.declared.refusal.Fault.{Fault}
+use Rattle.reg_core.specs.declared.refusal.Fault.TheVariants.{Signer as SignerFailed}
+use Rattle.reg_crl.specs.Signing.{Identity}
+use Rattle.reg_tables.specs.Stays.{Changed}
+use Rattle.reg_office.specs.AtRest.{Does}
+use Rattle.reg_office.specs.Faults.{IsOfficeFault}
+use Rattle.reg_office.specs.Stands.{Stands, CameTo}
+
+-- The command was run: records that stood came to the outcome, and those after it stand; a stop leaves the records before it or after
+-- it; who signs is the same, and a fault of the signer comes of a CRL at which it counted a failure.
+pub record IsCommandRun {C S : Type 0} (g : Ghosts C) (signs : Identity → List ℕ → List ℕ → Type 0) (identity : S → Identity) (failures : S → ℕ) (old new : Held C) (signer left : S) (now : ℕ) (command : Command) (outcome : Result Reply Fault) : Type 0 where
+  pub step : (records : Records) → Stands g signs old (identity signer) records → HasCleanDisk (state g new) → CameTo g signs new (identity left) records now command outcome
+  pub changed : Changed g old new (Does g signs old (identity signer) now command) outcome
+  pub same_identity : identity left ≡ identity signer
+  pub device : IsErrOf outcome SignerFailed → (command ≡ IssueCrl) × (failures signer < failures left)
+  pub faults : IfErr outcome IsOfficeFault

@@ -1,0 +1,80 @@
+//! A key identifier of the issuer's own, for the CRLs from the next one on (RFC 5280 5.2.1).
+
+ghost use Rattle.std.specs.Prelude.{◌≡◌, IfErr, IfOk, IfSome, OnOk};
+ghost use Rattle.sqlite.specs.Held.{state};
+ghost use Rattle.sqlite.specs.State.{HasCleanDisk};
+ghost use Rattle.reg_core.specs.Crls.{next_number, number_after};
+ghost use Rattle.reg_core.specs.Records.{Records};
+ghost use Rattle.reg_der.specs.Authority.{with_identifier, HasIdentifier};
+ghost use Rattle.reg_der.specs.Issuers.{with_key_identifier};
+ghost use Rattle.reg_tables.specs.Kept.{ShowsKept};
+ghost use Rattle.reg_tables.specs.Shows.{Shows};
+ghost use Rattle.reg_tables.specs.Stays.{Changed, IsCallFault, Looked};
+ghost use Rattle.reg_office.specs.AtRest.{IsIdentified};
+
+use reg_core::{CrlRow, Label};
+use reg_der::Issuer;
+use reg_store::{Store, StoreFault};
+use sqlite::Alter;
+use std::alloc::Global;
+
+/// The number of the next CRL.
+fn next_crl<C: Alter>(store: &mut Store<C>) -> Result<u64, StoreFault>
+    ensures found { (records : Records) → Shows C.Store store.old records → HasCleanDisk (state C.Store store.new) → IfOk result (λ number. number ≡ next_number records.crls) }
+    ensures looked { Looked C.Store store.old store.new }
+    ensures faults { IfErr result IsCallFault }
+{
+    let latest = store.latest_crl()?;
+    number_behind(latest).ok_or(StoreFault::Store)
+}
+
+/// The number behind the one of the latest CRL, 1 where there is none; `None` where no number is behind it.
+fn number_behind(latest: Option<CrlRow>) -> Option<u64>
+    ensures { IfSome result (λ number. number ≡ number_after latest) }
+{
+    match latest {
+        Some(latest) => latest.number.checked_add(1),
+        None => Some(1),
+    }
+}
+
+/// The issuer with a key identifier more.
+fn identified<C: Alter>(
+    store: &mut Store<C>,
+    alloc: Global,
+    octets: Label,
+) -> Result<Issuer, StoreFault>
+    ensures found { (records : Records) → Shows C.Store store.old records → HasCleanDisk (state C.Store store.new)
+        → IfOk result (λ issuer. issuer ≡ with_identifier records.issuer (next_number records.crls) octets) }
+    ensures follows { (records : Records) → Shows C.Store store.old records → HasCleanDisk (state C.Store store.new)
+        → OnOk result (HasIdentifier records.issuer (next_number records.crls) octets) }
+    ensures looked { Looked C.Store store.old store.new }
+    ensures faults { IfErr result IsCallFault }
+{
+    let first = next_crl(store)?;
+    let issuer = store.issuer()?;
+    match issuer.with_key_identifier(alloc, first, octets) {
+        Ok(issuer) => Ok(issuer),
+        Err(_) => Err(StoreFault::Memory),
+    }
+}
+
+/// Gives the issuer a key identifier of its own, which its CRLs have from the next one on.
+///
+/// # Errors
+/// `Memory`, `Store`. Nothing has changed then.
+pub(crate) fn set_key_identifier<C: Alter>(
+    store: &mut Store<C>,
+    alloc: Global,
+    octets: Label,
+) -> Result<(), StoreFault>
+    ensures ok { (records : Records) → ShowsKept C.Store store.old records → HasCleanDisk (state C.Store store.new)
+        → OnOk result (ShowsKept C.Store store.new (with_key_identifier records octets)) }
+    ensures follows { (records : Records) → ShowsKept C.Store store.old records → HasCleanDisk (state C.Store store.new)
+        → OnOk result (HasIdentifier records.issuer (next_number records.crls) octets) }
+    ensures changed { Changed C.Store store.old store.new (IsIdentified C.Store store.old octets) result }
+    ensures faults { IfErr result IsCallFault }
+{
+    let issuer = identified(store, alloc, octets)?;
+    store.set_issuer(&issuer)
+}

@@ -1,0 +1,5 @@
+use Rattle.reg_program.proofs.Misfitting.{of_found}
+use Rattle.reg_program.proofs.signing.misfit_of.Goals as goal
+
+pub returns-in-Some : goal.returns-in-Some
+returns-in-Some c = of_found c.args.crl.now c.in-Some.found.now c.args.algorithm.now c.difference.result c.in-Some.ensures c.difference.ensures

@@ -1,0 +1,128 @@
+//! Who answers OCSP requests for a register in a file.
+
+ghost use Rattle.std.specs.Prelude.{◌≡◌, ◌⊎◌, IsTrue, IfOk, IfErr};
+ghost use Rattle.reg_crl.specs.Signing.{Identity};
+ghost use Rattle.reg_jobs.specs.Failing.{IsOpening};
+ghost use Rattle.reg_jobs.specs.Signing.{EmbedsOwn, IsAnswering, IsDelegate};
+ghost use Rattle.reg_office.specs.Answering.{answers_by, failures_of, signatory_of};
+ghost use Rattle.reg_words.specs.declared.job.Answerer.TheVariants.{Issuer};
+
+use crate::machine::Machine;
+use crate::signing::{FileSigner, key_signer};
+use reg_causes::of_io;
+use reg_core::Fault;
+use reg_crl::Signer;
+use reg_endings::Failure;
+use reg_ocsp::{Certificate, CertificateFault};
+use reg_office::Responder;
+use reg_signer::is_key_identifier;
+use reg_words::{Answerer, KeyHolder, Word};
+use std::fs;
+use std::io::ErrorKind;
+
+/// Who answers, as it is told: certificates are read, and nothing is opened.
+///
+/// # Errors
+/// `BadResponder` where a certificate can't be read, is none, or has a key that is none of the algorithm; `Memory`.
+pub(crate) fn responder_told(
+    machine: &Machine<'_>,
+    answerer: &Answerer<'_>,
+) -> Result<Responder<FileSigner>, Failure>
+    ensures ok { IfOk result (λ responder. (crls : Identity) → IsAnswering answerer.now (signatory_of ⟦<FileSigner as Signer>⟧.identity crls responder)) }
+    ensures faults { IfErr result IsOpening }
+{
+    match answerer {
+        Answerer::Issuer { certificate } => issuer_told(machine, certificate),
+        Answerer::Delegate {
+            certificate,
+            holder,
+        } => delegate_told(machine, certificate, holder),
+    }
+}
+
+/// Who signs CRLs answers, with the certificate in the file at a path, where one is told.
+fn issuer_told(
+    machine: &Machine<'_>,
+    path: &Option<Word<'_>>,
+) -> Result<Responder<FileSigner>, Failure>
+    ensures ok { IfOk result (λ responder. (crls : Identity) → IsAnswering (Issuer path.now) (signatory_of ⟦<FileSigner as Signer>⟧.identity crls responder)) }
+    ensures faults { IfErr result IsOpening }
+{
+    match path {
+        None => Ok(Responder::Issuer(None)),
+        Some(path) => match certificate_at(machine, path.as_str()) {
+            Ok(certificate) => Ok(Responder::Issuer(Some(certificate))),
+            Err(why) => Err(why),
+        },
+    }
+}
+
+/// What holds a key of its own answers, by the certificate in the file at a path.
+fn delegate_told(
+    machine: &Machine<'_>,
+    path: &Word<'_>,
+    holder: &KeyHolder<'_>,
+) -> Result<Responder<FileSigner>, Failure>
+    ensures ok { IfOk result (λ responder. (crls : Identity) → IsDelegate holder.now (answers_by ⟦<FileSigner as Signer>⟧.identity crls responder)) }
+    ensures faults { IfErr result IsOpening }
+{
+    let certificate = match certificate_at(machine, path.as_str()) {
+        Ok(certificate) => certificate,
+        Err(why) => return Err(why),
+    };
+    if !is_key_identifier(holder.algorithm, certificate.algorithm()) {
+        return Err(Failure::BadResponder);
+    }
+    match key_signer(
+        &machine.rt,
+        holder.socket.as_str(),
+        holder.algorithm,
+        certificate.key(),
+    ) {
+        Ok(signer) => Ok(Responder::Delegate(signer, certificate)),
+        Err(Failure::BadSigner) => Err(Failure::BadResponder),
+        Err(why) => Err(why),
+    }
+}
+
+/// The certificate in the file at a path. Where the file can't be read, the cause is noted.
+fn certificate_at(machine: &Machine<'_>, path: &str) -> Result<Certificate, Failure>
+    ensures { IfErr result (λ why. (why ≡ Failure.Fault Fault.Memory) ⊎ (why ≡ Failure.BadResponder)) }
+{
+    let der = match fs::read(&machine.rt, path) {
+        Ok(der) => der,
+        Err(error) if error.kind() == ErrorKind::OutOfMemory => {
+            return Err(Failure::Fault(Fault::Memory));
+        }
+        Err(error) => {
+            machine.note(of_io(error.kind()));
+            return Err(Failure::BadResponder);
+        }
+    };
+    match Certificate::new(machine.rt.alloc(), &der) {
+        Ok(certificate) => Ok(certificate),
+        Err(CertificateFault::Memory) => Err(Failure::Fault(Fault::Memory)),
+        Err(CertificateFault::Bad) => Err(Failure::BadResponder),
+    }
+}
+
+/// Whether a certificate that stands with the answers of an issuer is of its key.
+pub(crate) fn embeds_own(responder: &Responder<FileSigner>, key: &[u8]) -> bool
+    ensures { IsTrue result → (crls : Identity) → EmbedsOwn key.now (answers_by ⟦<FileSigner as Signer>⟧.identity crls responder.now) }
+{
+    match responder {
+        Responder::Issuer(Some(certificate)) => certificate.key() == key,
+        Responder::Issuer(None) => true,
+        Responder::Delegate(_, _) => true,
+    }
+}
+
+/// How many failures who answers has counted, where who signs CRLs has counted so many.
+pub(crate) fn failures_in(responder: &Responder<FileSigner>, crls: u64) -> u64
+    ensures { result ≡ failures_of ⟦<FileSigner as Signer>⟧.failure_count crls responder.now }
+{
+    match responder {
+        Responder::Issuer(_) => crls,
+        Responder::Delegate(own, _) => own.failures(),
+    }
+}
