@@ -160,9 +160,10 @@ def build_library(crates, crate, jobs, is_first):
         return built
 
 
-def build_program(crate, jobs, is_first):
-    """Builds a program where it stands, once all below it is built. A run with --help touches no file of the caller's."""
-    return Built(rt_command(jobs, is_first, "run", "--", "--help"), crate.folder)
+def build_program(crate, is_first):
+    """Builds a program where it stands, once all below it is built. A run with --help touches no file of the caller's. It has one
+    job: each loads all that the program reaches, which takes longer than its proofs."""
+    return Built(rt_command(1, is_first, "run", "--", "--help"), crate.folder)
 
 
 def tell(text):
@@ -252,8 +253,8 @@ def build(crates, names):
                     jobs -= 1
                 if (is_first or idle > 0) and room_for(jobs, running):
                     left.remove(name)
-                    call = (build_program, crates[name]) if crates[name].is_program() else (build_library, crates, crates[name])
-                    running[pool.submit(*call, jobs, is_first)] = name, jobs
+                    call = (build_program, crates[name]) if crates[name].is_program() else (build_library, crates, crates[name], jobs)
+                    running[pool.submit(*call, is_first)] = name, jobs
                     progress.started[name] = time.monotonic()
             for it in wait(running, return_when=FIRST_COMPLETED).done:
                 (name, _), built = running.pop(it), it.result()
