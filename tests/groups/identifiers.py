@@ -5,7 +5,7 @@ import hashlib
 import random
 
 from lib import authority, program
-from lib.authority import DAY, EXAMPLES, Authority, moment_of, values_of
+from lib.authority import DAY, EXAMPLES, Authority, moment_of, values_of, with_key_identifier
 from lib.documents import block
 from lib.registers import tlv
 from lib.trial import Skipped, each, need, test
@@ -38,12 +38,6 @@ public class Pkix {
 """
 
 
-def renamed(t, it, identifier):
-    """Another certificate of a CA's key, with this as its subjectKeyIdentifier, as openssl is told of it."""
-    words = ("-key", it.key, "-out", it.pem, "-subj", "/CN=T", "-days", "3650")
-    t.tool("openssl", "req", "-x509", *words, "-addext", f"subjectKeyIdentifier={identifier}", "-addext", "authorityKeyIdentifier=none")
-
-
 class Identified(Authority):
     """A CA with this key identifier, which has issued 05 and 06, as 05.pem and 06.pem."""
 
@@ -52,7 +46,7 @@ class Identified(Authority):
         if not isinstance(identifier, str):
             identifier = identifier(bytes.fromhex(self.words()[3]))
         self.identifier = identifier
-        renamed(t, self, identifier)
+        with_key_identifier(self, identifier)
         # Spelled out: openssl 3.0 copies no key identifier of one or two bytes.
         named = tlv(0x30, tlv(0x80, bytes.fromhex(identifier))).hex(":")
         (t.room / "leaf.cnf").write_text(f"authorityKeyIdentifier = DER:{named}\nsubjectKeyIdentifier = hash\n")
@@ -216,7 +210,7 @@ def issuer_words_tells_a_key_identifier_that_is_not_the_sha_1_of_the_key(t, said
     if not isinstance(said, str):
         said = said(bytes.fromhex(name_and_key[3]))
         told = (said,)
-    renamed(t, it, said)
+    with_key_identifier(it, said)
     wanted = [*name_and_key, *(("--key-id", *told) if told else ())]
     t.same(it.words(), wanted, "of PEM")
     t.tool("openssl", "x509", "-in", it.pem, "-outform", "DER", "-out", "ca.der")
@@ -236,7 +230,7 @@ def issuer_words_tells_a_key_identifier_that_is_not_the_sha_1_of_the_key(t, said
 def issuer_words_of_a_key_identifier_that_no_register_has(t):
     """Of 65 bytes and more: `init` says so, and no file is made."""
     it = Authority(t)
-    renamed(t, it, "a5" * 65)
+    with_key_identifier(it, "a5" * 65)
     t.same(it.words()[4:], ["--key-id", "a5" * 65])
     ran = t.desk("init", "ca.db", *it.words())
     t.same((ran.status, ran.out, ran.err, (t.room / "ca.db").exists()), (1, b"", b"bad-issuer\n", False))

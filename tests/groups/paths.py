@@ -199,6 +199,19 @@ def only_ours_before_openssl(t):
     ends_well(t, told, crls=2, answers=1)
 
 
+@test(seconds=4)
+def only_ours_before_a_responder_s_key(t):
+    """The line for it in the place of the one of "A responder"."""
+    need("bash", "curl", "socat")
+    authority.need_cryptography(t)
+    port = str(program.free_port())
+    (line,) = [line for lines in blocks("Only what the desk has signed") for line in lines if "ocsp.sign" in line]
+    lines = of_a_responder("openssl req", port)
+    place = next(at for at, it in enumerate(lines) if it.startswith("examples/signer.py"))
+    told = typed(t, folder_of(t), [*block("Setting up", "./desk init"), *lines[:place], f"{line} &", *lines[place + 1 :]])
+    ends_well(t, told, crls=2, answers=1, replies=("created\n", "crl 1 entries 0\n", "crl 2 entries 0\n"))
+
+
 @each({it: it for it in ("ecdsa-sha256", "ecdsa-sha384", "rsa-sha256")}, seconds=4)
 def a_key_in_a_token(t, algorithm):
     """The recipe with SoftHSM2, with a key of each kind: the CRL, and an answer of OCSP."""

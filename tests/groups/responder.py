@@ -6,7 +6,7 @@ import os
 from pathlib import Path
 
 from lib import authority, faults, program, registers
-from lib.authority import EXAMPLES, INTERNAL, KEYS, Authority, body_of, first_day, inside, path_of, values_of
+from lib.authority import EXAMPLES, INTERNAL, KEYS, Authority, body_of, first_day, inside, path_of, values_of, with_key_identifier
 from lib.documents import block
 from lib.registers import tlv
 from lib.trial import Skipped, each, need, test
@@ -517,9 +517,9 @@ def leaf(t, it, name, serial, more=""):
 LEAVES = (("good", 6), ("revoked", 5))
 
 
-def checked(t, it):
+def checked(t, it, extensions=DELEGATED):
     """A leaf of the CA for each status, and the words that start each form of a desk over its register."""
-    responder = Responder(it)
+    responder = Responder(it, extensions=extensions)
     der_of(t, "ca")
     it.signer()
     responder.signer()
@@ -538,26 +538,33 @@ def below_a_root(t, it):
     (t.room / "all.pem").write_bytes(it.pem.read_bytes() + root.pem.read_bytes())
 
 
-def below(t, name):
-    """A CA that is a root, or stands below one: what trusts it, root.pem, and what lies between a leaf and that, ca.pem."""
+# A CA that stands below another, or that has a key identifier of its own, as its responder has.
+BELOW, OWN = ", below a root", ", by key identifiers of their own"
+
+
+def asked(t, form):
+    """A CA, and the words that start this form of a desk: what is trusted is root.pem, and all.pem has what lies between a leaf and that too."""
     it = Authority(t)
-    if name.endswith(BELOW):
+    if form.endswith(BELOW):
         below_a_root(t, it)
-    else:
+    if form.endswith(OWN):
+        with_key_identifier(it, "0102030405")
+    if not form.endswith(BELOW):
         for copy in ("root.pem", "all.pem"):
             (t.room / copy).write_bytes(it.pem.read_bytes())
-    return it, checked(t, it).get(name.removesuffix(BELOW), ())
+    extensions = DELEGATED + ("subjectKeyIdentifier=0a0b0c\n" if form.endswith(OWN) else "subjectKeyIdentifier=hash\n")
+    return it, checked(t, it, extensions).get(form.removesuffix(BELOW).removesuffix(OWN), ())
 
 
-BELOW = ", below a root"
-FORMS = {"a responder": "a responder", "the CA's certificate": "the CA's certificate"}
-BELOW_TOO = {**FORMS, **{f"{form}{BELOW}": f"{form}{BELOW}" for form in FORMS}}
+def forms(*more):
+    names = [f"{form}{ending}" for form in ("a responder", "the CA's certificate") for ending in ("", *more)]
+    return {it: it for it in names}
 
 
-@each(BELOW_TOO, seconds=4)
+@each(forms(BELOW, OWN), seconds=4)
 def openssl_takes_both_forms(t, form):
     """It trusts the root alone, and knows the CA as the issuer that it asks about. The CRL is of the CA too."""
-    it, words = below(t, form)
+    it, words = asked(t, form)
     desk = t.open("ca.db", *it.signing(), *words)
     for name, _ in LEAVES:
         told = t.tool("openssl", "ocsp", "-issuer", it.pem, "-CAfile", "root.pem", "-cert", f"{name}.pem", "-url", f"http://127.0.0.1:{desk.port}/ocsp").decode()
@@ -592,10 +599,10 @@ public class Checked {
 """
 
 
-@each(BELOW_TOO, seconds=12)
+@each(forms(BELOW, OWN), seconds=12)
 def java_takes_both_forms(t, form):
     need("javac", "java")
-    it, words = below(t, form)
+    it, words = asked(t, form)
     desk = t.open("ca.db", *it.signing(), *words)
     if form.endswith(BELOW):
         for name, _ in LEAVES:
@@ -606,11 +613,10 @@ def java_takes_both_forms(t, form):
     t.same(told, ["good", "REVOKED"])
 
 
-@each(FORMS, seconds=5)
+@each(forms(OWN), seconds=5)
 def gnutls_takes_both_forms(t, form):
     need("ocsptool")
-    it = Authority(t)
-    words = checked(t, it)[form]
+    it, words = asked(t, form)
     desk = t.open("ca.db", *it.signing(), *words)
     for name, told in (("good", "good"), ("revoked", "revoked")):
         said = t.tool("ocsptool", f"--ask=http://127.0.0.1:{desk.port}/ocsp", "--load-issuer", it.pem, "--load-cert", f"{name}.pem",
@@ -619,12 +625,11 @@ def gnutls_takes_both_forms(t, form):
         t.has(said, f"Certificate Status: {told}", name)
 
 
-@each(FORMS, seconds=6)
+@each(forms(OWN), seconds=6)
 def nss_takes_both_forms(t, form):
     """By the URL in the leaves, with a GET."""
     need("certutil", "vfychain")
-    it = Authority(t)
-    words = checked(t, it)[form]
+    it, words = asked(t, form)
     desk = t.open("ca.db", *it.signing(), *words)
     (t.room / "nss").mkdir()
     t.tool("certutil", "-N", "-d", "sql:nss", "--empty-password")
@@ -666,14 +671,13 @@ func main() {
 """
 
 
-@each(FORMS, seconds=8)
+@each(forms(), seconds=8)
 def go_takes_both_forms(t, form):
     need("go")
     source = Path("/usr/share/gocode")
     if not (source / "src/golang.org/x/crypto/ocsp").is_dir():
         raise Skipped("no golang.org/x/crypto here: apt install golang-golang-x-crypto-dev")
-    it = Authority(t)
-    words = checked(t, it)[form]
+    it, words = asked(t, form)
     desk = t.open("ca.db", *it.signing(), *words)
     (t.room / "checked.go").write_text(GO)
     env = {**os.environ, "GO111MODULE": "off", "GOPATH": str(source), "GOCACHE": str(t.room / "cache"), "HOME": str(t.room)}
@@ -691,11 +695,11 @@ STAPLING = """    server {{
 """
 
 
-@each({**BELOW_TOO, "neither": "neither"}, seconds=8)
+@each({**forms(BELOW), "neither": "neither"}, seconds=8)
 def nginx_staples_with_the_leaf_alone(t, form):
     """By the lines of docs/OPERATIONS.md: where the chain is the leaf, nginx takes an answer only with a certificate in it. And curl takes what is stapled."""
     need("nginx")
-    it, words = below(t, form)
+    it, words = asked(t, form)
     desk = t.open("ca.db", *it.signing(), *words)
     folder, port = t.room / "nginx", program.free_port()
     folder.mkdir()
