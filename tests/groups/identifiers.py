@@ -87,8 +87,8 @@ class Identified(Authority):
     def by_gnutls(self, serial):
         """What certtool says of a certificate by the CRL."""
         ran = self.t.tried("certtool", "--verify", "--load-ca-certificate", self.pem, "--load-crl", "ca.crl", "--infile", f"{serial}.pem")
-        told = (ran.stdout + ran.stderr).decode()
-        return (ran.returncode == 0, "The certificate is revoked." in told, "The certificate is trusted." in told)
+        told = (ran.stdout + ran.stderr).decode().partition("\nChain verification output: ")[2]
+        return ran.returncode, "certificate chain is revoked." in told, "The certificate is trusted." in told
 
 
 def need_java(t):
@@ -182,7 +182,7 @@ def gnutls_takes_the_crls_of_a_ca_with_its_own_key_identifier(t):
     it.registers()
     it.runs("crl")
     it.crl()
-    t.same((it.by_gnutls("05"), it.by_gnutls("06")), ((False, True, False), (True, False, True)), "status, revoked, trusted")
+    t.same((it.by_gnutls("05"), it.by_gnutls("06")), ((1, True, False), (0, False, True)), "status, revoked, trusted")
 
 
 # What examples/issuer-words.sh reads
