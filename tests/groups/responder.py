@@ -375,20 +375,29 @@ def a_certificate_without_a_key_of_its_algorithm(t, change):
     t.same((ran.status, ran.err), (1, b"F2 store\n"))
 
 
+def gencrl(t):
+    """What openssl wants to be told before it makes a CRL."""
+    path = t.room / "ca.cnf"
+    path.write_text("[ca]\ndatabase = index.txt\ndefault_md = sha256\ndefault_crl_days = 8\n")
+    return path
+
+
 # What openssl writes in DER that is no certificate.
 OTHERS = {
     "a request for one": ("req", "-in", "responder.csr", "-outform", "DER"),
     "its key": ("pkey", "-in", "responder.key", "-outform", "DER"),
     "its public key": ("pkey", "-in", "responder.key", "-pubout", "-outform", "DER"),
     "both certificates in PKCS #7": ("crl2pkcs7", "-nocrl", "-certfile", "ca.pem", "-certfile", "responder.pem", "-outform", "DER"),
-    "a certificate with what trusts it": ("x509", "-in", "responder.pem", "-trustout", "-addtrust", "OCSPSigning", "-outform", "DER"),
+    "a CRL": ("crl", "-in", "empty.crl", "-outform", "DER"),
 }
 
 
 @each(OTHERS, seconds=2)
-def what_is_in_der_and_no_certificate(t, words):
+def what_is_in_der_and_no_certificate(t, *words):
     it = Authority(t)
     responder = Responder(it)
+    (t.room / "index.txt").touch()
+    t.tool("openssl", "ca", "-gencrl", "-name", "ca", "-config", gencrl(t), "-keyfile", it.key, "-cert", it.pem, "-out", "empty.crl")
     made = t.tool("openssl", *words)
     t.true(made[:1] == b"\x30" and made != responder.der, f"{words[0]} gives a SEQUENCE, and not the certificate")
     (t.room / "responder.der").write_bytes(made)
@@ -687,8 +696,8 @@ def go_takes_both_forms(t, form):
 
 STAPLING = """    server {{
         listen 127.0.0.1:{port} ssl;
-        ssl_certificate {room}/{name}.pem;
-        ssl_certificate_key {room}/{name}.key;
+        ssl_certificate {room}/{chain}.pem;
+        ssl_certificate_key {room}/good.key;
         {lines}
         return 204;
     }}
@@ -697,17 +706,20 @@ STAPLING = """    server {{
 
 @each({**forms(BELOW), "neither": "neither"}, seconds=8)
 def nginx_staples_with_the_leaf_alone(t, form):
-    """By the lines of docs/OPERATIONS.md: where the chain is the leaf, nginx takes an answer only with a certificate in it. And curl takes what is stapled."""
+    """By the lines of docs/OPERATIONS.md: where the chain is the leaf, nginx takes an answer only with a certificate in it. Where the CA is in the chain it
+    takes each, and so does curl, which looks for the CA there."""
     need("nginx")
     it, words = asked(t, form)
     desk = t.open("ca.db", *it.signing(), *words)
-    folder, port = t.room / "nginx", program.free_port()
+    folder, port, other = t.room / "nginx", program.free_port(), program.free_port()
     folder.mkdir()
+    (t.room / "chain.pem").write_bytes((t.room / "good.pem").read_bytes() + it.pem.read_bytes())
     lines = "\n".join(block("A responder", "ssl_stapling on;"))
     for was, now in (("/etc/nginx/ca.pem", t.room / "all.pem"), ("127.0.0.1:8080", f"127.0.0.1:{desk.port}")):
         t.same(lines.count(was), 1, f"how often {lines} has {was}")
         lines = lines.replace(was, str(now))
-    (folder / "desk.conf").write_text(STAPLING.format(port=port, room=t.room, name="good", lines=lines))
+    servers = (STAPLING.format(port=at, room=t.room, chain=chain, lines=lines) for at, chain in ((port, "good"), (other, "chain")))
+    (folder / "desk.conf").write_text("".join(servers))
     (folder / "nginx.conf").write_text(AROUND.format(user="user root;\n", folder=folder))
     authority.started(t, ["nginx", "-c", folder / "nginx.conf", "-e", folder / "error.log", "-g", "daemon off;"], folder / "nginx.pid")
 
@@ -715,10 +727,10 @@ def nginx_staples_with_the_leaf_alone(t, form):
         ran = t.tried("openssl", "s_client", "-connect", f"127.0.0.1:{port}", "-status", "-servername", "localhost", "-CAfile", "all.pem")
         return b"OCSP Response Status: successful" in ran.stdout and b"Cert Status: good" in ran.stdout
 
+    asks = ("curl", "-sS", "-o", "/dev/null", "-w", "%{http_code}", "--cert-status", "--cacert", "all.pem", f"https://localhost:{other}/")
+    authority.until(lambda: t.tried(*asks).stdout == b"204", "what is stapled and curl takes", 10)
     if words:
         authority.until(stapled, "a stapled answer", 10)
-        asks = ("curl", "-s", "-o", "/dev/null", "-w", "%{http_code}", "--cert-status", "--cacert", "all.pem", f"https://localhost:{port}/")
-        t.same(t.tried(*asks).stdout, b"204", "the status that curl gets, which wants a stapled answer that is good")
         return
     stapled()
     authority.until(lambda: "OCSP_basic_verify() failed" in (folder / "error.log").read_text(), "nginx to refuse it", 10)
