@@ -129,7 +129,7 @@ def a_key_identifier_that_a_register_lacks(t):
     need("curl", "bash")
     authority.need_cryptography(t)
     top = authority.stood_in(t)
-    it = Authority(t, more=("-addext", "subjectKeyIdentifier=0A1B2C3D4E5F6071"))
+    it = Authority(t, more=("-addext", "subjectKeyIdentifier=0A1B2C3D4E5F6071", "-addext", "authorityKeyIdentifier=none"))
     t.tool("openssl", "req", "-newkey", *KEYS["ecdsa-sha256"], "-nodes", "-keyout", "a.key", "-out", "a.csr", "-subj", "/CN=a")
     (t.room / "a.cnf").write_text("authorityKeyIdentifier = keyid:always\n")
     t.tool("openssl", "x509", "-req", "-in", "a.csr", "-CA", it.pem, "-CAkey", it.key, "-set_serial", 5, "-days", 90, "-extfile", "a.cnf", "-out", "a.pem")
