@@ -386,17 +386,40 @@ def behind(t, root, machine, it, port):
     told = t.tool(*at, "bash", "-ec", "\n".join(["cd /root", *responder_steps(port)])).decode()
     t.has(told, "Response verify OK", "a responder's key, told to what is installed")
     t.same(it.asked_by_openssl("05", f"http://127.0.0.1:{port}/ocsp", verify=True), "unknown", "by the responder")
+    while_the_key_is_away(t, root, it, at, port)
+
+
+def while_the_key_is_away(t, root, it, at, port):
+    """The CA's key leaves the machine, and comes back for a CRL."""
+    url = f"http://127.0.0.1:{port}"
+    answers = lambda: t.tried("curl", "-s", f"{url}/counts").returncode == 0
+    types = lambda beginning: t.tool(*at, "bash", "-ec", "\n".join(["cd /root", *block("A responder's key, installed", beginning)])).decode()
+    types("sed -i")
+    authority.until(answers, "desk@ca.service without the CA's key")
+    t.same(it.asked_by_openssl("05", f"{url}/ocsp", verify=True), "unknown", "by the responder alone")
+    ran = t.tried(*at, "desk", "at", COUNTER, given="crl\n")
+    t.same((ran.returncode, ran.stdout), (3, b"F3 signer\n"), "a CRL at the counter")
+    t.tool(*at, "systemctl", "start", "desk-crl@ca.service")
+    t.has(types("systemctl stop"), "crl 2 entries 0\n", "a CRL while the key is back")
+    authority.until(answers, "desk@ca.service behind that")
+    crl = t.tool("curl", "-s", f"{url}/crl")
+    it.verifies(crl)
+    t.has(t.tool("openssl", "crl", "-inform", "DER", "-noout", "-crlnumber", given=crl), b"crlNumber=0x02", "its number")
+    t.same(it.asked_by_openssl("05", f"{url}/ocsp", verify=True), "unknown", "by the responder alone, again")
+    t.same((root.path / KEY[1:]).exists(), False, "the key is gone")
 
 
 def removed(t, root):
+    folders = {what: root.path / os.path.dirname(path)[1:] for what, path in (("registers", REGISTER), ("keys", KEY))}
+    names = {what: sorted(it.name for it in folder.iterdir()) for what, folder in folders.items()}
+    t.same((names["registers"], "ca.ocsp.key" in names["keys"]), (["ca.db", "ca.db-wal"], True), "what is there before")
     root.run("dpkg", "--remove", "durshavon")
     left = [str(it) for part in ("usr", "lib/systemd", "etc") for it in sorted((root.path / part).rglob("*"))
             if "/usr/share/doc" not in str(it) and not it.is_dir()
             and ("durshavon" in it.name or (it.name.startswith("desk") and "systemd" in str(it)) or str(it).endswith("usr/bin/desk"))]
     t.same(left, [], "what is left of it")
     ran = root.tried("dpkg", "--purge", "durshavon")
-    for what, path, names in (("registers", REGISTER, ["ca.db", "ca.db-wal"]), ("keys", KEY, ["ca.key", "ca.ocsp.key"])):
-        folder = os.path.dirname(path)
-        t.has((ran.stdout + ran.stderr).decode(), f"the {what} in {folder} stay", f"purged, it tells of the {what}")
-        t.same(sorted(it.name for it in (root.path / folder[1:]).iterdir()), names, "and they do stay")
-        t.same(stat.S_IMODE((root.path / folder[1:]).stat().st_mode), 0o700, "for nobody else")
+    for what, folder in folders.items():
+        t.has((ran.stdout + ran.stderr).decode(), f"the {what} in /{folder.relative_to(root.path)} stay", f"purged, it tells of the {what}")
+        t.same(sorted(it.name for it in folder.iterdir()), names[what], "and they do stay")
+        t.same(stat.S_IMODE(folder.stat().st_mode), 0o700, "for nobody else")
