@@ -14,18 +14,18 @@ use Rattle.reg_jobs.specs.declared.asking.Next.TheVariants as next
 
 -- ---- what the bytes are
 
-has_some : (bytes : List ℕ) → nat_lt 0 (length bytes) ≡ true → 0 < length bytes
-has_some [] is = absurd (false≢true is)
-has_some (byte ∷ rest) is = omega arith
+one_tested : (bytes : List ℕ) → nat_lt 0 (length bytes) ≡ true → 0 < length bytes
+one_tested [] is = absurd (false≢true is)
+one_tested (byte ∷ rest) is = omega arith
 
-is_some : (bytes : List ℕ) → (length bytes == 0) ≡ false → 0 < length bytes
-is_some [] is = absurd (false≢true (sym is))
-is_some (byte ∷ rest) is = omega arith
+one_there : (bytes : List ℕ) → (length bytes == 0) ≡ false → 0 < length bytes
+one_there [] is = absurd (false≢true (sym is))
+one_there (byte ∷ rest) is = omega arith
 
 pub read_whole : (bytes : List ℕ) (found : Bool) → StopsAt bytes 10 → found ≡ ends_with_byte 10 bytes → found ≡ true → IsWhole bytes
-read_whole bytes found stops is yes =
-    let both = and_parts (nat_lt 0 (length bytes)) (slice_index bytes (length bytes - 1) == 10) (sym is ∙ yes) in
-    let some = has_some bytes both.0 in
+read_whole bytes found stops is holds =
+    let both = and_parts (nat_lt 0 (length bytes)) (slice_index bytes (length bytes - 1) == 10) (sym is ∙ holds) in
+    let some = one_tested bytes both.0 in
     let last = length bytes - 1 in (
       take last bytes,
       sym (take_all (last + 1) bytes (omega arith)) ∙ take_more bytes last 0 (omega arith)
@@ -34,7 +34,7 @@ read_whole bytes found stops is yes =
     )
 
 pub read_nothing : (bytes : List ℕ) (found : Bool) → found ≡ (length bytes == 0) → found ≡ true → bytes ≡ []
-read_nothing bytes found is yes = nil_from_length bytes (eqb-true (length bytes) 0 (sym is ∙ yes))
+read_nothing bytes found is holds = nil_from_length bytes (eqb-true (length bytes) 0 (sym is ∙ holds))
 
 -- bytes that have an LF at their end
 lf_ends : (bytes : List ℕ) → 0 < length bytes → get_or bytes (length bytes - 1) 0 ≡ 10 → ends_with_byte 10 bytes ≡ true
@@ -42,11 +42,11 @@ lf_ends bytes some lf = rw (lt-ltb 0 (length bytes) some, eq-eqb (get_or bytes (
 
 pub read_cut : (bytes : List ℕ) (found empty : Bool) → StopsAt bytes 10 → found ≡ ends_with_byte 10 bytes → found ≡ false
     → empty ≡ (length bytes == 0) → empty ≡ false → IsCut bytes
-read_cut bytes found empty stops is no is_empty some_there =
-    let some = is_some bytes (sym is_empty ∙ some_there) in
+read_cut bytes found empty stops is fails is_empty some_there =
+    let some = one_there bytes (sym is_empty ∙ some_there) in
     let last = length bytes - 1 in
     let byte = get_or bytes last 0 in
-    let other : byte ≢ 10 = λ lf. false≢true (sym (sym is ∙ no) ∙ lf_ends bytes some lf) in (
+    let other : byte ≢ 10 = λ lf. false≢true (sym (sym is ∙ fails) ∙ lf_ends bytes some lf) in (
       All-of_StopsAt bytes 10 (length bytes) byte refl (λ none. omega (arith, none, some)) (get_or_default bytes last 0 byte (omega arith)) other stops,
       some,
     )

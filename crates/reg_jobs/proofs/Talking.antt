@@ -121,6 +121,6 @@ module _ (input sent came out : Option (List ℕ)) where
         let here = stays accepted so sends comes says in
         let all = input_is input input' (concat here.0) left here.3 rest in
         elim how [
-          | inl (is, yes) ↦ inr (here.0, here.1, left, here.2, all, inr (inl (is, cut, here.4.0 yes)))
-          | inr (is, no) ↦ inr (here.0, here.1, left, here.2, all, inr (inr (is, cut, (λ each. false≢true (sym no ∙ here.4.1 each)))))
+          | inl (is, holds) ↦ inr (here.0, here.1, left, here.2, all, inr (inl (is, cut, here.4.0 holds)))
+          | inr (is, refused) ↦ inr (here.0, here.1, left, here.2, all, inr (inr (is, cut, (λ each. false≢true (sym refused ∙ here.4.1 each)))))
         ]

@@ -27,7 +27,7 @@ enum Next {
 }
 
 /// What the next line of a talk came to.
-#[derive(Clone, Copy, PartialEq, Eq)]
+#[derive(Clone, Copy)]
 enum Step {
     /// It was told, and its reply was accepted or was not.
     Told(bool),
