@@ -75,8 +75,9 @@ pub(crate) fn write_reply<W: Write>(
     ensures { Said is_strict (W.contents writer.old) (W.contents writer.new) (with_lf (outcome_line outcome.now)) result }
 {
     let text = ReplyText::of(outcome);
-    match write_whole(writer, text.as_bytes()) {
-        Ok(()) => Ok(goes_on(is_strict, text.as_bytes())),
+    let reply = text.as_bytes();
+    match write_whole(writer, reply) {
+        Ok(()) => Ok(goes_on(is_strict, reply)),
         Err(fault) => Err(fault),
     }
 }
