@@ -262,3 +262,8 @@ pub strict_ran : {S : Type 0} (answers : S → Meaning → Answer → S → Type
 strict_ran answers now s t out out' text imported.Whole rows ends = (rows, ends)
 strict_ran answers now s t out out' text imported.NoLineEnd rows ends = (rows, ends)
 strict_ran answers now s t out out' text imported.Refused rows ends = absurd ends
+
+-- a run of these rows came to a fault
+pub strict_failed : {S : Type 0} (answers : S → Meaning → Answer → S → Type 0) (now : ℕ) (s t : S) (out out' : Option (List ℕ)) (text ended : List ℕ) (fault : Fault)
+    → ended ≡ ended_part text → RowsEnd answers true now s t out out' ended (Err fault) → StrictRan answers now s t out out' text (Err fault)
+strict_failed answers now s t out out' text ended fault is ran = subst (λ l. RowsEnd answers true now s t out out' l (Err fault)) is ran

@@ -22,7 +22,7 @@ pub returns-in-Ok-false-take_row : goal.returns-in-Ok-false-take_row
 returns-in-Ok-false-take_row g c = λ text reads.
     let so_far = c.loop-index.invariant in
     let read = rw c.in-Ok-true.field-0-test at (c.in-Ok-true.ensures.reads so_far.untrimmed so_far.ready) in
-    one_refused (ByCalls g.O.Calls.runs g.O.Calls.asks g.O.Calls.ocsps) c.args.is_strict c.args.now _ _ _ _ _ _ text (λ (s : Bor (List ℕ)). Some s.now) c.loop-index.rows c.read_byte_record.new.self _ c.loop-index.index
+    one_refused (ByCalls g.O.Calls.runs g.O.Calls.asks g.O.Calls.ocsps) c.args.is_strict c.args.now _ _ c.take_row.new.office _ _ _ text (λ (s : Bor (List ℕ)). Some s.now) c.loop-index.rows c.read_byte_record.new.self _ c.loop-index.index
     (so_far.going text reads) so_far.config read (rw c.in-Ok-false-take_row.field-0-test at c.in-Ok-false-take_row.ensures)
 
 pub returns-in-Ok-false : goal.returns-in-Ok-false
