@@ -14,6 +14,6 @@ pub use file::{Unlaid, claim_file, open_file, remove_file};
 pub use looking::{Found, look};
 pub use overlay::{Overlay, overlaid};
 pub use read_file::ReadFile;
-pub use reading::{Unread, copy_of, look_at, open_begun, open_sources, open_to_read};
+pub use reading::{Sources, Unread, copy_of, look_at, open_begun, open_sources, read_at};
 pub use source::Source;
 pub use unopened::Unopened;

@@ -33,6 +33,45 @@ pub enum Unread {
     Unopened(Unopened),
 }
 
+/// The files of a database, which are only read, and how it is to be opened.
+#[derive(Drop)]
+pub struct Sources<F: Source> {
+    /// The bytes of the log.
+    pub log: Vec<u8>,
+    /// The database's file.
+    pub db: F,
+    /// The key of digests.
+    pub key: u64,
+    /// How much is kept in memory.
+    pub options: Options,
+}
+
+/// The files at a path, opened for reading alone, where a link leads. They stay as they are, byte for byte, and none is made; the log
+/// is copied into memory. Until they are let go others may read them, and nobody may open them to write. There is to be room for
+/// pages as [`crate::open_file`] has it.
+///
+/// # Errors
+/// `Memory`; `Store` where the files can't be opened, with the cause that the failing call told.
+pub fn read_at(rt: &HostRuntime, path: &str) -> Result<Sources<ReadFile>, Unopened>
+    ensures { IfErr result (λ why. (why.fault ≡ Fault.Memory) ⊎ (why.fault ≡ Fault.Store)) }
+{
+    let options = options_for(rt, path)?;
+    let HeldFiles { log, db } = hold(rt, path)?;
+    let log = match &log {
+        Some(log) => copy_of(rt.alloc(), log)?,
+        None => Vec::new(rt.alloc()),
+    };
+    match RandomState::new(rt) {
+        Ok(state) => Ok(Sources {
+            log,
+            db,
+            key: state.hash_one(&0u8),
+            options,
+        }),
+        Err(error) => Err(of_call(error.kind())),
+    }
+}
+
 /// Looks whether a database was begun in the files at a path. They are opened for reading alone, and are as they were.
 ///
 /// # Errors
@@ -41,61 +80,40 @@ pub enum Unread {
 pub fn look_at(rt: &HostRuntime, path: &str) -> Result<(), Unread>
     ensures { IfErr result IsUnread }
 {
-    match held_at(rt, path) {
-        Ok((log, db, key)) => {
-            let mut files = overlaid(rt.alloc(), log, db, key);
-            is_begun(rt.alloc(), &mut files)
-        }
+    match read_at(rt, path) {
+        Ok(sources) => look_into(rt.alloc(), sources),
         Err(why) => Err(Unread::Unopened(why)),
     }
 }
 
-/// Opens the files at a path as a database, and leaves them as they are, byte for byte: they are opened for reading alone, and
-/// none is made. What an opening writes goes into a copy of the log in memory. What the log has is found as a part of the database.
-/// Others may read the files meanwhile, and nobody may open them to write. There is room for pages as [`crate::open_file`] has it.
-///
-/// # Errors
-/// `Nothing` where no database was begun; else `Memory`, or `Store` where the files can't be opened or hold none, with the cause
-/// that the failing call told.
-pub fn open_to_read(
-    rt: &HostRuntime,
-    path: &str,
-) -> Result<Connection<FileStore<Overlay<ReadFile>>>, Unread>
-    ensures opened { IfOk result (λ connection. HasCleanDisk (file_state connection) → IsOpened connection) }
-    ensures fresh { IfOk result IsNew }
-    ensures idle { IfOk result (λ connection. connection.in_transaction ≡ false) }
+/// Looks whether a database was begun in files that are only read.
+fn look_into<F: Source + Drop>(alloc: Global, sources: Sources<F>) -> Result<(), Unread>
+    ensures begun { OnOk result (IsTrue (F.Source.is_honest sources.db) → ¬ IsNothing (image sources.log.items (F.Source.bytes sources.db))) }
     ensures faults { IfErr result IsUnread }
 {
-    let options = match options_for(rt, path) {
-        Ok(options) => options,
-        Err(why) => return Err(Unread::Unopened(why)),
-    };
-    match held_at(rt, path) {
-        Ok((log, db, key)) => open_sources(rt.alloc(), log, db, key, options),
-        Err(why) => Err(Unread::Unopened(why)),
-    }
+    let mut files = overlaid(alloc, sources.log, sources.db, sources.key);
+    is_begun(alloc, &mut files)
 }
 
-/// Opens a database whose log has these bytes, over a file that has no call that writes: so whatever is asked of the connection,
-/// the file is as it was. `key` is that of digests.
+/// Opens a database over files that have no call that writes: so whatever is asked of the connection, they are as they were. What an
+/// opening writes goes into the copy of the log. What the log has is found as a part of the database.
 ///
 /// # Errors
 /// As [`open_begun`].
 pub fn open_sources<F: Source + Drop>(
     alloc: Global,
-    log: Vec<u8>,
-    db: F,
-    key: u64,
-    options: Options,
+    sources: Sources<F>,
 ) -> Result<Connection<FileStore<Overlay<F>>>, Unread>
     ensures opened { IfOk result (λ connection. HasCleanDisk (file_state connection) → IsOpened connection) }
-    ensures found { IfOk result (λ connection. HasCleanDisk (file_state connection) → FindsIn (image log.items (F.Source.bytes db)) (file_state connection)) }
-    ensures begun { IfOk result (λ connection. HasCleanDisk (file_state connection) → ¬ IsNothing (image log.items (F.Source.bytes db))) }
+    ensures found { IfOk result (λ connection. HasCleanDisk (file_state connection)
+        → FindsIn (image sources.log.items (F.Source.bytes sources.db)) (file_state connection)) }
+    ensures begun { IfOk result (λ connection. HasCleanDisk (file_state connection) → ¬ IsNothing (image sources.log.items (F.Source.bytes sources.db))) }
     ensures fresh { IfOk result IsNew }
     ensures idle { IfOk result (λ connection. connection.in_transaction ≡ false) }
     ensures faults { IfErr result IsUnread }
 {
-    let files = overlaid(alloc, log, db, key);
+    let options = sources.options;
+    let files = overlaid(alloc, sources.log, sources.db, sources.key);
     open_begun(alloc, files, options)
 }
 
@@ -141,21 +159,6 @@ fn is_begun<D: Disk>(alloc: Global, files: &mut Files<D>) -> Result<(), Unread>
         Ok(Found::Nothing) => Err(Unread::Nothing),
         Ok(Found::Other) => Err(Unread::Unopened(damaged())),
         Err(why) => Err(Unread::Unopened(why)),
-    }
-}
-
-/// The bytes of the log that lies at a path, and the file beside it, held for reading alone; with a random key.
-fn held_at(rt: &HostRuntime, path: &str) -> Result<(Vec<u8>, ReadFile, u64), Unopened>
-    ensures { IfErr result (λ why. (why.fault ≡ Fault.Memory) ⊎ (why.fault ≡ Fault.Store)) }
-{
-    let HeldFiles { log, db } = hold(rt, path)?;
-    let bytes = match &log {
-        Some(log) => copy_of(rt.alloc(), log)?,
-        None => Vec::new(rt.alloc()),
-    };
-    match RandomState::new(rt) {
-        Ok(state) => Ok((bytes, db, state.hash_one(&0u8))),
-        Err(error) => Err(of_call(error.kind())),
     }
 }
 

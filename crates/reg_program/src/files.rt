@@ -10,8 +10,9 @@ ghost use Rattle.reg_core.specs.Sound.{SoundRows};
 ghost use Rattle.reg_migration.specs.Older.{ShowsOlder};
 ghost use Rattle.reg_migration.specs.declared.version.Earlier.{Earlier};
 ghost use Rattle.reg_jobs.specs.Failing.{IsMaking, IsOpening};
+ghost use Rattle.reg_files.specs.Overlaid.{image};
 ghost use Rattle.reg_files.specs.Reading.{IsUnread};
-ghost use Rattle.reg_program.specs.Files.{IsAudited, IsOpenedFor, IsOpenedFrom, IsMadeFrom, Showed};
+ghost use Rattle.reg_program.specs.Files.{IsAudited, IsAuditOf, IsOpenedFor, IsOpenedFrom, IsMadeFrom, Showed};
 ghost use Rattle.reg_jobs.specs.Signing.{EmbedsOwn, Follows, IsSigning, crls_told};
 ghost use Rattle.reg_calls.specs.Leads.{Leads};
 ghost use Rattle.reg_jobs.specs.Identifiers.{Identifies};
@@ -32,7 +33,8 @@ use reg_crl::Signer;
 use reg_der::Issuer;
 use reg_endings::Failure;
 use reg_files::{
-    Overlay, ReadFile, Unlaid, Unread, claim_file, look_at, open_file, open_to_read, remove_file,
+    Overlay, ReadFile, Source, Sources, Unlaid, Unread, claim_file, look_at, open_file,
+    open_sources, read_at, remove_file,
 };
 use reg_findings::Verdict;
 use reg_jobs::Place;
@@ -287,28 +289,30 @@ fn identify<C: Alter, S: Signer>(
     office.set_key_identifier(alloc, octets)
 }
 
-/// The database at a path, opened to be read alone. Where it is not opened, the cause is noted.
-fn open_noted_to_read(
-    machine: &Machine<'_>,
-    path: &str,
-) -> Result<Connection<FileStore<Overlay<ReadFile>>>, Failure>
-    ensures opened { IfOk result (λ connection. HasCleanDisk (file_state connection) → IsOpened connection) }
-    ensures fresh { IfOk result IsNew }
-    ensures idle { IfOk result (λ connection. connection.in_transaction ≡ false) }
-    ensures faults { IfErr result IsOpening }
-{
-    match open_to_read(&machine.rt, path) {
-        Ok(connection) => Ok(connection),
-        Err(why) => Err(unread(machine, why)),
-    }
-}
-
-/// What an audit says of the register in a file, which is opened to be read alone.
+/// What an audit says of the register in a file, which is opened for reading alone.
 fn audit_file(machine: &Machine<'_>, path: &str) -> Result<Verdict, Failure>
     ensures ok { IfOk result (λ verdict. IsAudited ⟦<Overlay<ReadFile> as Disk>⟧ verdict) }
     ensures err { IfErr result IsOpening }
 {
-    let mut connection = open_noted_to_read(machine, path)?;
+    match read_at(&machine.rt, path) {
+        Ok(sources) => audit_sources(machine, sources),
+        Err(why) => Err(Failure::Fault(machine.noted(&why))),
+    }
+}
+
+/// What an audit says of the register in files that have no call that writes, whatever they are: they are as they were. It is found as
+/// what the file and the copy of its log hold.
+fn audit_sources<F: Source + Drop>(
+    machine: &Machine<'_>,
+    sources: Sources<F>,
+) -> Result<Verdict, Failure>
+    ensures ok { IfOk result (λ verdict. IsAuditOf ⟦<Overlay<F> as Disk>⟧ (image sources.log.items (F.Source.bytes sources.db)) verdict) }
+    ensures err { IfErr result IsOpening }
+{
+    let mut connection = match open_sources(machine.rt.alloc(), sources) {
+        Ok(connection) => connection,
+        Err(why) => return Err(unread(machine, why)),
+    };
     let mut teller = Teller::of(machine);
     let told = judge(machine.rt.alloc(), &mut connection, &mut teller);
     match told {
