@@ -123,7 +123,7 @@ pub fn open_sources<F: Source + Drop>(
 /// `Nothing` where none was begun; else `Memory`, or `Store` where they hold none or a call failed.
 pub fn open_begun<D: Disk + Drop>(
     alloc: Global,
-    files: Files<D>,
+    mut files: Files<D>,
     options: Options,
 ) -> Result<Connection<FileStore<D>>, Unread>
     requires log { IsTrue (D.Disk.is_usable files.log) }
@@ -135,10 +135,7 @@ pub fn open_begun<D: Disk + Drop>(
     ensures idle { IfOk result (λ connection. connection.in_transaction ≡ false) }
     ensures faults { IfErr result IsUnread }
 {
-    let mut files = files;
-    if let Err(why) = is_begun(alloc, &mut files) {
-        return Err(why);
-    }
+    is_begun(alloc, &mut files)?;
     match Connection::open_files_with(alloc, files, options, false) {
         Ok(connection) => Ok(connection),
         Err((error, _)) => Err(Unread::Unopened(no_database(&error))),

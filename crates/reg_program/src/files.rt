@@ -33,7 +33,7 @@ use reg_crl::Signer;
 use reg_der::Issuer;
 use reg_endings::Failure;
 use reg_files::{
-    Overlay, ReadFile, Source, Sources, Unlaid, Unread, claim_file, look_at, open_file,
+    Overlay, ReadFile, Source, Sources, Unlaid, Unopened, Unread, claim_file, look_at, open_file,
     open_sources, read_at, remove_file,
 };
 use reg_findings::Verdict;
@@ -179,8 +179,16 @@ fn unread(machine: &Machine<'_>, why: Unread) -> Failure
 {
     match why {
         Unread::Nothing => Failure::NotARegister,
-        Unread::Unopened(why) => Failure::Fault(machine.noted(&why)),
+        Unread::Unopened(why) => unopened(machine, &why),
     }
+}
+
+/// How it is told that files are not opened. The cause is noted.
+fn unopened(machine: &Machine<'_>, why: &Unopened) -> Failure
+    requires { (why.now.fault ≡ Fault.Memory) ⊎ (why.now.fault ≡ Fault.Store) }
+    ensures { IsOpening result }
+{
+    Failure::Fault(machine.noted(why))
 }
 
 /// The file at a path as a database. Where it is not opened, the cause is noted.
@@ -296,7 +304,7 @@ fn audit_file(machine: &Machine<'_>, path: &str) -> Result<Verdict, Failure>
 {
     match read_at(&machine.rt, path) {
         Ok(sources) => audit_sources(machine, sources),
-        Err(why) => Err(Failure::Fault(machine.noted(&why))),
+        Err(why) => Err(unopened(machine, &why)),
     }
 }
 
