@@ -3,6 +3,7 @@
 ghost use Rattle.std.specs.Prelude.{◌≡◌, ◌≤◌, ◌⊎◌, None, Some, false, IfOk, IfErr, IsFalse, IsTrue, MatchBool, MatchResult, OnErr, option_map};
 ghost use Rattle.sqlite.specs.Files.{file_state, over_files, IsOpened};
 ghost use Rattle.sqlite.specs.Held.{state, IsNew};
+ghost use Rattle.sqlite.specs.Start.{FindsIn};
 ghost use Rattle.sqlite.specs.State.{HasCleanDisk};
 ghost use Rattle.sqlite_trees.specs.View.{doubt};
 ghost use Rattle.reg_core.specs.Records.{Records, no_records};
@@ -308,6 +309,24 @@ fn audit_file(machine: &Machine<'_>, path: &str) -> Result<Verdict, Failure>
     }
 }
 
+/// Files that are only read, as a database. Where it is not opened, the cause is noted.
+fn open_to_read<F: Source + Drop>(
+    machine: &Machine<'_>,
+    sources: Sources<F>,
+) -> Result<Connection<FileStore<Overlay<F>>>, Failure>
+    ensures opened { IfOk result (λ connection. HasCleanDisk (file_state connection) → IsOpened connection) }
+    ensures found { IfOk result (λ connection. HasCleanDisk (file_state connection)
+        → FindsIn (image sources.log.items (F.Source.bytes sources.db)) (file_state connection)) }
+    ensures fresh { IfOk result IsNew }
+    ensures idle { IfOk result (λ connection. connection.in_transaction ≡ false) }
+    ensures faults { IfErr result IsOpening }
+{
+    match open_sources(machine.rt.alloc(), sources) {
+        Ok(connection) => Ok(connection),
+        Err(why) => Err(unread(machine, why)),
+    }
+}
+
 /// What an audit says of the register in files that have no call that writes, whatever they are: they are as they were. It is found as
 /// what the file and the copy of its log hold.
 fn audit_sources<F: Source + Drop>(
@@ -317,10 +336,7 @@ fn audit_sources<F: Source + Drop>(
     ensures ok { IfOk result (λ verdict. IsAuditOf ⟦<Overlay<F> as Disk>⟧ (image sources.log.items (F.Source.bytes sources.db)) verdict) }
     ensures err { IfErr result IsOpening }
 {
-    let mut connection = match open_sources(machine.rt.alloc(), sources) {
-        Ok(connection) => connection,
-        Err(why) => return Err(unread(machine, why)),
-    };
+    let mut connection = open_to_read(machine, sources)?;
     let mut teller = Teller::of(machine);
     let told = judge(machine.rt.alloc(), &mut connection, &mut teller);
     match told {

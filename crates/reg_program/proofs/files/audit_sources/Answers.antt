@@ -3,10 +3,10 @@ use Rattle.reg_program.proofs.files.audit_sources.Goals as goal
 
 pub returns-in-Ok-clause-ok : goal.returns-in-Ok-clause-ok
 returns-in-Ok-clause-ok g c =
-    let found = c.in-Ok-open_sources.ensures in
+    let found = c.in_ok-connection.ensures in
     record {
       audited = record {
-        connection = c.in-Ok-open_sources.connection;
+        connection = c.in_ok-connection.connection;
         after = c.judge-told.new.conn;
         connects = record { fresh = found.fresh; whole = found.opened };
         sound = c.in-Ok.ensures.sound;
