@@ -101,11 +101,11 @@ module _ {W P K : Type 0} (contents : W → Option (List ℕ)) (writer writer' :
         × Visits places keeper place place' path None (λ identity before after. Crls before number given after)
         × SaysGiven contents writer writer' given result)
 
-    -- an audit of the register at a path: it could not be looked at, or what was found is told
+    -- an audit of the register at a path: it could not be looked at, or what was found is told; the place is as it was
     abbrev pub AuditAt : List ℕ → Result (Unit {0}) Failure → Type 0
     AuditAt path result =
-        (NotAudited places place place' path result × (writer' ≡ writer))
-        ⊎ ((found : Verdict) × places.audited place path found place' × TellsVerdict contents writer writer' found result)
+        (place' ≡ place) × ((NotAudited places place path result × (writer' ≡ writer))
+        ⊎ ((found : Verdict) × places.audited place path found × TellsVerdict contents writer writer' found result))
 
     -- another schedule for the register at a path: its steps are looked at before the path is
     abbrev pub ScheduleAt : List ℕ → List (ℕ × ℕ) → Result (Unit {0}) Failure → Type 0

@@ -56,5 +56,5 @@ module _ {P K : Type 0} (places : Place P K) (keeper : Keeper K) (place place' :
   NotMade path result = (why : Failure) × (result ≡ Err why) × places.unmade place path why place' × IsMaking why
 
 -- no audit was had of what lies at a path, and that is how the job ends
-abbrev pub NotAudited : {P K : Type 0} → Place P K → P → P → List ℕ → Result (Unit {0}) Failure → Type 0
-NotAudited places place place' path result = (why : Failure) × (result ≡ Err why) × places.unaudited place path why place' × IsOpening why
+abbrev pub NotAudited : {P K : Type 0} → Place P K → P → List ℕ → Result (Unit {0}) Failure → Type 0
+NotAudited places place path result = (why : Failure) × (result ≡ Err why) × places.unaudited place path why × IsOpening why

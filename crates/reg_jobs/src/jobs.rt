@@ -283,14 +283,14 @@ fn tell_set<W: Write>(
     }
 }
 
-/// Audits the register at a path, and tells what was found.
+/// Audits the register at a path, and tells what was found. It only reads: the place is as it was.
 pub fn audit<P: Place, W: Write>(
     alloc: Global,
-    place: &mut P,
+    place: &P,
     path: &str,
     writer: &mut W,
 ) -> Result<(), Failure>
-    ensures { AuditAt W.contents writer.old writer.new P.Place P.Opened.Keeper.own place.old place.new path.now result }
+    ensures { AuditAt W.contents writer.old writer.new P.Place P.Opened.Keeper.own place.now place.now path.now result }
 {
     let verdict = place.audit(path)?;
     tell_verdict(alloc, writer, verdict)

@@ -33,8 +33,8 @@ pub record FoundSound {D : Type 0} (g : disk.Ghosts D) : Type 0 where
 abbrev pub tables_of : {D : Type 0} {g : disk.Ghosts D} → FoundSound g → Database
 tables_of found = (file_state found.audited.connection).now
 
--- a register that was opened over the very tables that were audited
-pub record OpensSame {D : Type 0} {g : disk.Ghosts D} (found : FoundSound g) (register : Held (FileStore D g)) (who : Signatory) : Type 0 where
+-- a register that was opened over the very tables that were audited: those of a file that is read alone, and then of one that is written
+pub record OpensSame {A D : Type 0} {a : disk.Ghosts A} {g : disk.Ghosts D} (found : FoundSound a) (register : Held (FileStore D g)) (who : Signatory) : Type 0 where
   pub signing : OfCrls
   pub opened : IsOpenedFrom signing register who
   pub same : (file_state opened.connection).now ≡ tables_of found
@@ -42,7 +42,7 @@ pub record OpensSame {D : Type 0} {g : disk.Ghosts D} (found : FoundSound g) (re
 -- There are records that the audited tables show: they are sound, what is kept beside them follows from them, and they are as many as
 -- was told. And whatever records the tables show, they stand in each register that is opened over these tables, where each stored CRL
 -- has the signature of who signs there: that an audit does not tell.
-pub record StandsOnceAudited {D : Type 0} {g : disk.Ghosts D} (signs : Identity → List ℕ → List ℕ → Type 0) (found : FoundSound g) : Type 0 where
+pub record StandsOnceAudited {A D : Type 0} {a : disk.Ghosts A} (g : disk.Ghosts D) (signs : Identity → List ℕ → List ℕ → Type 0) (found : FoundSound a) : Type 0 where
   pub shown : ShowsSound (tables_of found)
   pub counted : CountedBy found.verdict shown.records
   pub stand : (records : Records) (columns : Columns) → AreBoth (tables_of found) records columns

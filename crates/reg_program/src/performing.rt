@@ -185,6 +185,6 @@ fn run<P: Place, F: Front, R: Read, W: Write>(
         Job::At { counter } => at(alloc, front, counter.as_str(), reader, writer),
         Job::Schedule { file, steps } => schedule(alloc, place, file.as_str(), steps, writer),
         Job::KeyId { file, key_id } => key_identifier(alloc, place, file.as_str(), key_id, writer),
-        Job::Audit { file } => audit(alloc, place, file.as_str(), writer),
+        Job::Audit { file } => audit(alloc, &*place, file.as_str(), writer),
     }
 }
