@@ -565,6 +565,7 @@ def a_signer_that_hangs_holds_nobody_up_for_ten_seconds_more(t):
     at_once(t, lambda: counter.ask("request 05 asked"), "request 1 due 2026-01-02T00:00:00Z", "a request at the counter")
     at_once(t, lambda: counter.ask("revoke 1"), "revoked", "a revocation at the counter")
     at_once(t, lambda: program.parted(desk.ask("GET", "/status/05"))[2][:19], b'{"status":"revoked"', "GET /status")
+    at_once(t, lambda: counter.ask("crl"), "F3 signer", "a CRL at the counter")
     t.same(signer.asked, 1, "how often the signer was asked")
     signer.mended.set()
     at_once(t, lambda: is_signed(desk), False, "OCSP before it is tried again")
@@ -575,7 +576,7 @@ def a_signer_that_hangs_holds_nobody_up_for_ten_seconds_more(t):
     told = [re.search(r'("POST|"GET|counter).*?( signer)?$', it) for it in desk.end().told]
     unsigned = [it[2] is not None for it in told if it[1] == '"POST']
     t.same(unsigned, [True] * (len(unsigned) - 4) + [False] * 4, "which OCSP answers have the word `signer` in the log")
-    t.same([it[0] for it in told if it[1] != '"POST' and it[2]], [], "which other lines have it")
+    t.same(len([it for it in told if it[1] != '"POST' and it[2]]), 1, "other lines that have it: that of the CRL")
 
 
 @test(seconds=32)
