@@ -565,7 +565,6 @@ def a_signer_that_hangs_holds_nobody_up_for_ten_seconds_more(t):
     at_once(t, lambda: counter.ask("request 05 asked"), "request 1 due 2026-01-02T00:00:00Z", "a request at the counter")
     at_once(t, lambda: counter.ask("revoke 1"), "revoked", "a revocation at the counter")
     at_once(t, lambda: program.parted(desk.ask("GET", "/status/05"))[2][:19], b'{"status":"revoked"', "GET /status")
-    at_once(t, lambda: counter.ask("crl"), "F3 signer", "a CRL at the counter")
     t.same(signer.asked, 1, "how often the signer was asked")
     signer.mended.set()
     at_once(t, lambda: is_signed(desk), False, "OCSP before it is tried again")
@@ -576,7 +575,7 @@ def a_signer_that_hangs_holds_nobody_up_for_ten_seconds_more(t):
     told = [re.search(r'("POST|"GET|counter).*?( signer)?$', it) for it in desk.end().told]
     unsigned = [it[2] is not None for it in told if it[1] == '"POST']
     t.same(unsigned, [True] * (len(unsigned) - 4) + [False] * 4, "which OCSP answers have the word `signer` in the log")
-    t.same(len([it for it in told if it[1] != '"POST' and it[2]]), 1, "other lines that have it: that of the CRL")
+    t.same([it[0] for it in told if it[1] != '"POST' and it[2]], [], "which other lines have it")
 
 
 @test(seconds=32)
@@ -591,3 +590,19 @@ def a_signer_that_still_hangs_is_tried_once_in_ten_seconds(t):
         t.same(told, False, "OCSP that nobody signs")
     t.true(9 < waited < 15 and 9.9 <= seconds < 20, f"it was tried again after {waited:.1f} s, for {seconds:.1f} s")
     at_once(t, lambda: is_signed(desk), False, "OCSP behind that")
+
+
+@test(seconds=25)
+def a_crl_asks_a_signer_that_is_left_alone(t):
+    """While it hangs the CRL waits for its own ten seconds; once it answers the CRL is issued at once, and OCSP is signed again."""
+    signer, desk = hung(t)
+    counter = t.counter()
+    told, seconds = timed(lambda: counter.ask("crl"))
+    t.same((told, signer.asked), ("F3 signer", 2), "a CRL")
+    t.true(9.9 <= seconds < 20, f"it took {seconds:.1f} s in place of ten")
+    at_once(t, lambda: is_signed(desk), False, "OCSP behind it")
+    signer.mended.set()
+    at_once(t, lambda: is_signed(desk), False, "OCSP once it would answer")
+    at_once(t, lambda: counter.ask("crl"), "crl 1 entries 0", "a CRL then")
+    at_once(t, lambda: is_signed(desk), True, "OCSP behind that")
+    t.same(signer.asked, 4, "how often the signer was asked")

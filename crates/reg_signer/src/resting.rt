@@ -73,7 +73,7 @@ impl<D: Device, C: Clock> RestingDevice<D, C> {
 }
 
 impl<D: Device, C: Clock> Device for RestingDevice<D, C> {
-    ghost use Rattle.std.specs.Prelude.{◌≡◌, ◌⊎◌};
+    ghost use Rattle.std.specs.Prelude.{◌≡◌, ◌⊎◌, None};
     ghost use Rattle.reg_signer.specs.Resting.{IsLeftAlone};
 
     ghost public_key = { λ it. D.public_key it.device };
@@ -94,6 +94,15 @@ impl<D: Device, C: Clock> Device for RestingDevice<D, C> {
             // Without a clock nobody can tell how long it has been left alone.
             Err(_) => self.device.exchange(message, room),
         }
+    }
+
+    /// It is left alone no longer.
+    fn rouse(&mut self)
+        ensures same_key { D.public_key self.new.device ≡ D.public_key self.old.device }
+        ensures awake { self.new.since ≡ None }
+    {
+        self.device.rouse();
+        self.since = None;
     }
 }
 

@@ -49,6 +49,10 @@ impl Device for Scripted {
             _ => Err(DeviceFault),
         }
     }
+
+    fn rouse(&mut self)
+        ensures same_key { self.new.key ≡ self.old.key }
+    {}
 }
 
 /// Puts an answer at the front of the room, which has to be longer.
@@ -118,4 +122,8 @@ impl Device for Lasting {
             Err(DeviceFault)
         }
     }
+
+    fn rouse(&mut self)
+        ensures same_key { self.new.key ≡ self.old.key }
+    {}
 }
