@@ -245,10 +245,10 @@ def build(crates, names):
             ready = [it for it in left if all(other in took for other in crates[it].uses)]
             for at, name in enumerate(ready):
                 idle = lanes - sum(jobs for _, jobs in running.values())
-                # all else waits for the longest chain: its crate leaves one processor to the others at most, who give way to it
+                # all else waits for the longest chain: its crate has two jobs at least, and the others give way to it
                 is_first = at == 0 and behind[name] >= max([behind[it] for it, _ in running.values()], default=0)
-                wanted = lanes - (len(ready) > 1 or len(running) > 0) if is_first else idle // (len(ready) - at)
-                jobs = max(1, min(MOST_JOBS, wanted))
+                share = idle // (len(ready) - at)
+                jobs = max(1, min(MOST_JOBS, max(2, share) if is_first else share))
                 while jobs > 1 and not room_for(jobs, running):
                     jobs -= 1
                 if (is_first or idle > 0) and room_for(jobs, running):
