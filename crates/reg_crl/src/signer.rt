@@ -70,6 +70,11 @@ pub trait Signer {
         ensures ok { OnOk result (failure_count self.new ≡ failure_count self.old) }
         ensures same_identity { identity self.new ≡ identity self.old };
 
+    /// Has what signs asked at the next signature, also where it would be left alone for a while.
+    fn rouse(&mut self)
+        ensures same_identity { identity self.new ≡ identity self.old }
+        ensures same_failures { failure_count self.new ≡ failure_count self.old };
+
     /// How many failures of what signs the signer has counted.
     fn failures(&self) -> u64
         ensures { result ≡ failure_count self.now };

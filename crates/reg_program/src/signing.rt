@@ -23,13 +23,15 @@ use reg_core::Fault;
 use reg_crl::{DigestSeal, Signer};
 use reg_endings::Failure;
 use reg_office::Responder;
-use reg_signer::{Algorithm, BadSigner, DeviceSigner, KeyOrDigest, SocketDevice, crl_algorithm};
+use reg_signer::{
+    Algorithm, BadSigner, DeviceSigner, KeyOrDigest, RestingDevice, SocketDevice, crl_algorithm,
+};
 use reg_store::{Store, StoreFault};
 use reg_words::{KeyHolder, Word};
 use sqlite::Alter;
 
-/// What holds the key signs, behind a socket of the machine, or a digest seals.
-pub type FileSigner = KeyOrDigest<SocketDevice<HostRuntime>>;
+/// What holds the key signs, behind a socket of the machine, and left alone for a while where it hangs; or a digest seals.
+pub type FileSigner = KeyOrDigest<RestingDevice<SocketDevice<HostRuntime>, HostRuntime>>;
 
 /// Who signs the CRLs of the register of a store: as it is told; or, where nothing will be signed, as the latest CRL tells, with nobody
 /// who would answer, so that a CRL comes to a fault of the signer. A certificate that stands with the answers of the issuer is looked at.
@@ -166,7 +168,8 @@ pub(crate) fn key_signer(
     ) else {
         return Err(Failure::Fault(Fault::Memory));
     };
-    match DeviceSigner::new(SocketDevice::new(*rt, path, key), algorithm) {
+    let device = RestingDevice::new(SocketDevice::new(*rt, path, key), *rt);
+    match DeviceSigner::new(device, algorithm) {
         Ok(signer) => Ok(KeyOrDigest::key(signer)),
         Err(BadSigner) => Err(Failure::BadSigner),
     }
