@@ -71,7 +71,7 @@ module _ {D : Type 0} {g : disk.Ghosts D} {O L : Type 0} (store : O → Held (Fi
       (records : Records) → Showed over_files connection records → HasCleanDisk (file_state (store office))
       → IsSigning signing records.issuer.key (who office).crls
 
-  -- who signs, under the algorithm of the latest CRL
+  -- who signs, behind the latest CRL
   abbrev pub FollowsLatest : (O → Signatory) → O → Type 0
   FollowsLatest who office =
       (records : Records) → Showed over_files connection records → SoundRows records → HasCleanDisk (file_state (store office))
