@@ -227,11 +227,11 @@ fn difference(found: &[u8], algorithm: &[u8]) -> Option<Cause>
 fn may_follow(algorithm: &[u8], earlier: &[u8]) -> bool
     ensures { IsTrue result ↔ MayFollow algorithm.now earlier.now }
 {
-    if is_same(earlier, algorithm) {
+    let digest = DigestSeal;
+    if is_same(earlier, digest.algorithm()) {
         return true;
     }
-    let digest = DigestSeal;
-    is_same(earlier, digest.algorithm())
+    is_same(earlier, algorithm)
 }
 
 /// Whether an algorithm of a key is known here.
