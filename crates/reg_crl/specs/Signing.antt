@@ -28,11 +28,14 @@ signed_by signs identity crl bytes =
     × signs identity (tbs_of identity.algorithm crl) signature
     × (bytes ≡ certificate_list (tbs_of identity.algorithm crl) identity.algorithm signature)
 
--- The bytes are the CRL sealed by the digest, which stands where there is no key and is no signature: under the AlgorithmIdentifier of
--- SHA-1, with the SHA-1 of the TBSCertList in the place of a signature.
+-- a TBSCertList sealed by the digest, which stands where there is no key and is no signature: under the AlgorithmIdentifier of SHA-1,
+-- with the SHA-1 of the TBSCertList in the place of a signature
+abbrev pub seal_of : List ℕ → List ℕ
+seal_of tbs = certificate_list tbs sha1_algorithm (sha1 tbs)
+
+-- the bytes are the CRL sealed so
 abbrev pub sealed : CertList → List ℕ → Type 0
-sealed crl bytes =
-    bytes ≡ certificate_list (tbs_of sha1_algorithm crl) sha1_algorithm (sha1 (tbs_of sha1_algorithm crl))
+sealed crl bytes = bytes ≡ seal_of (tbs_of sha1_algorithm crl)
 
 -- The bytes are the CRL as a register has it whose key followed the digest: sealed by the digest below a number, and from that number on
 -- signed by who signs (RFC 5280 5.2.3).

@@ -1,15 +1,13 @@
 -- With a key identifier more, which CRLs have from the next one on, the CRLs that were issued are signed over what they list.
 use Rattle.std.proofs.Common.{◌≡◌, ℕ, ◌+◌, ◌<◌, ◌≤◌, List, [], ◌∷◌, length, Result, Ok, Err, OnOk, inl, inr, refl, ap, subst, sym, ◌∙◌, arith}
-use Rattle.std.specs.Prelude.{unwrap_or}
 use Rattle.std.specs.List.{AllByRecursion}
-use Rattle.sha1.specs.Sha1.{sha1}
 use Rattle.reg_core.specs.Crls.{CertList, cert_list, next_number}
 use Rattle.reg_core.specs.Issuer.{Issuer}
 use Rattle.reg_core.specs.Records.{Records, Crl}
 use Rattle.reg_core.specs.Sound.{NumberedFrom, SoundRows}
 use Rattle.reg_core.specs.declared.rows.Entry.{Entry}
 use Rattle.reg_crl.specs.Crl.{certificate_list, crl_extensions, key_identifier, tbs_cert_list, tbs_of}
-use Rattle.reg_crl.specs.Signing.{Identity, sealed_until, sha1_algorithm}
+use Rattle.reg_crl.specs.Signing.{Identity, seal_of, sealed_until, sha1_algorithm}
 use Rattle.reg_der.specs.Authority.{HasIdentifier, key_identifier_at, name_of, with_identifier}
 use Rattle.reg_der.specs.Issuers.{with_issuer, with_key_identifier}
 use Rattle.reg_laws.proofs.Contents.{next_is}
@@ -21,6 +19,10 @@ same_tbs : (a b : Issuer) (algorithm : List ℕ) (number this_update next_update
 unfolding tbs_cert_list crl_extensions
 same_tbs a b algorithm number this_update next_update entries name identifier = rw (name, identifier) refl
 
+-- that key identifier is the issuer's own, or follows from its key
+same_identifier : (a b : Issuer) (number : ℕ) → key_identifier_at a number ≡ key_identifier_at b number → a.key ≡ b.key → key_identifier a number ≡ key_identifier b number
+same_identifier a b number own key = rw (own, key) refl
+
 module _ (signs : Identity → List ℕ → List ℕ → Type 0) (identity : Identity) (records : Records) (octets : List ℕ)
     (has : HasIdentifier records.issuer (next_number records.crls) octets) where
   abbrev after : Records
@@ -29,12 +31,12 @@ module _ (signs : Identity → List ℕ → List ℕ → Type 0) (identity : Ide
   tbs_stays : (algorithm : List ℕ) (number this_update : ℕ) → number < next_number records.crls → tbs_of algorithm (cert_list after number this_update) ≡ tbs_of algorithm (cert_list records number this_update)
   tbs_stays algorithm number this_update before =
       same_tbs after.issuer records.issuer algorithm number this_update (this_update + records.policy.crl_life) (cert_list records number this_update).entries has.name
-      (ap (λ o. unwrap_or o (sha1 records.issuer.key)) (has.earlier number before))
+      (same_identifier after.issuer records.issuer number (has.earlier number before) has.key)
 
   stored_stays : (since number this_update : ℕ) (bytes : List ℕ) → number < next_number records.crls
       → sealed_until since signs identity (cert_list records number this_update) bytes → sealed_until since signs identity (cert_list after number this_update) bytes
   stored_stays since number this_update bytes before (inl (below, is)) =
-      inl (below, subst (λ tbs. bytes ≡ certificate_list tbs sha1_algorithm (sha1 tbs)) (sym (tbs_stays sha1_algorithm number this_update before)) is)
+      inl (below, subst (λ tbs. bytes ≡ seal_of tbs) (sym (tbs_stays sha1_algorithm number this_update before)) is)
   stored_stays since number this_update bytes before (inr (from, signed)) =
       inr (from, subst (λ tbs. (signature : List ℕ) × signs identity tbs signature × (bytes ≡ certificate_list tbs identity.algorithm signature)) (sym (tbs_stays identity.algorithm number this_update before)) signed)
 
