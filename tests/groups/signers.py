@@ -111,6 +111,34 @@ def examples_signer_py_signs_under_each_algorithm(t, algorithm):
         it.verifies(t.done("crl", "ca.db", "--number", number).encode("latin-1"), f"CRL {number}")
 
 
+@each(ALGORITHMS, seconds=4)
+def a_key_follows_a_digest(t, algorithm):
+    """The next CRL is signed, with the next number and what the sealed one lists, which stays as it was; from then on no digest follows."""
+    it = Authority(t, algorithm)
+    it.register()
+    begun = authority.now()
+    t.same(t.done("script", "ca.db", given=first_day(begun)).splitlines(), first_day_replies(begun), "the first day, sealed")
+    read = lambda number: t.done("crl", "ca.db", "--number", number).encode("latin-1")
+    algorithm_of = lambda crl: authority.signed_part(crl)[1].hex().upper()
+    sealed = read(1)
+    t.same(algorithm_of(sealed), "300906052B0E03021A0500", "the digest's AlgorithmIdentifier: SHA-1 with NULL")
+    signer = it.signer()
+    desk = t.open("ca.db", "--requests", "1000", *it.signing(), command="serve")
+    t.same(it.asked_by_openssl("05", f"http://127.0.0.1:{desk.port}/ocsp", verify=True), "revoked", "OCSP is signed from the first answer on")
+    t.same(body_of(t, desk.ask("GET", "/crl"), "application/pkix-crl"), sealed, "GET /crl is the sealed one as yet")
+    desk.end()
+    t.same(t.done("script", "ca.db", *it.signing(), given=f"{moment_of(begun)} crl\n"), "crl 2 entries 1\n", "the number goes on")
+    signed = read(2)
+    it.verifies(signed)
+    t.same((algorithm_of(signed), signer.asked[-1]), (IDENTIFIERS[algorithm], authority.signed_part(signed)[0]), "how it is signed, and what")
+    t.has(t.tool("openssl", "crl", "-inform", "DER", "-noout", "-crlnumber", given=signed), b"2\n", "its number")
+    t.same(authority.listed(t, signed), authority.listed(t, sealed), "what both list")
+    t.same(read(1), sealed, "the sealed one stays")
+    for words in ([], *(["--signer", "ca.sign", "--algorithm", other] for other in KEYS if other != algorithm)):
+        refused(t, ["script", "ca.db", *words])
+    t.same(t.done("audit", "ca.db"), "sound, 2 certificates, 1 revoked, 2 CRLs\n")
+
+
 # A digest, which is no signature
 
 

@@ -38,8 +38,8 @@ module _ {D : Type 0} {g : disk.Ghosts D} where
 
   -- What a register holds was opened by a connection, and shows the records that the connection showed, also those that its
   -- tables showed as ones of an older version. Who signs CRLs is as it was told, or as the latest CRL tells where nothing will be
-  -- signed; over the issuer's key, and under the algorithm of the latest CRL. A certificate that stands with OCSP answers by the
-  -- issuer's key is of that key.
+  -- signed; over the issuer's key, and under the algorithm of the latest CRL, or behind one that the digest sealed. A certificate that
+  -- stands with OCSP answers by the issuer's key is of that key.
   pub record IsOpenedFrom (signing : OfCrls) (register : Held (FileStore D g)) (who : Signatory) : Type 0 where
     pub connection : Held (FileStore D g)
     pub connects : IsConnection connection

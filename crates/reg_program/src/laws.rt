@@ -1,8 +1,11 @@
-//! A function that does nothing when it runs: its contract is a law, and the check proves it.
+//! Each function here does nothing when it runs: its contract is a law, and the check proves it.
 
+ghost use Rattle.reg_office.specs.Following.{IsSeal};
 ghost use Rattle.reg_program.specs.Audited.{FoundSound, StandsOnceAudited};
+ghost use Rattle.reg_signer.specs.Both.{SignsBoth, digest};
 
 use reg_crl::Signer;
+use reg_signer::Device;
 use sqlite_disk::Disk;
 
 /// The register in a file that an audit found sound stands.
@@ -15,4 +18,10 @@ use sqlite_disk::Disk;
 /// what the crate `sqlite` keeps of a connection and does not say.
 pub fn a_register_that_was_found_sound_stands<A: Disk, D: Disk, S: Signer>()
     ensures { (found : FoundSound A.Disk) → StandsOnceAudited D.Disk S.signs found }
+{}
+
+/// Where nothing holds the key of a register in a file, what signs is a seal and nothing else: so a key may follow it, by
+/// [`reg_office::laws::a_key_follows_the_digest`].
+pub fn the_digest_is_a_seal<D: Device>()
+    ensures { IsSeal (SignsBoth D.answers) digest }
 {}
