@@ -5,7 +5,7 @@
     desk init ca.db --name HEX --key HEX
     desk script ca.db --signer SOCKET --algorithm NAME < moved.txt
 
-With --crlnumber the script issues CRLs: without a signer a digest would seal them, and no signer could follow it (docs/OPERATIONS.md).
+With --crlnumber the script issues CRLs: without a signer a digest would seal them, which no client takes (docs/OPERATIONS.md).
 
 The script is for a new register: it counts its ids from 1, and tells each event at the moment at which it was, in their order. So a
 revocation of last year stands in the register with last year's moment. What can't be carried over is told on standard error, a line each.

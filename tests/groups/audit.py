@@ -1,10 +1,15 @@
-"""`desk audit`: a sound register is found sound; a copy that is broken by one statement is told by its table and row, with status 1; an audit changes no byte of the file."""
+"""`desk audit`: a sound register is found sound; a copy that is broken by one statement is told by its table and row, with status 1; an audit leaves
+each file as it was, whatever lies there, and makes none."""
 
+import os
+import shutil
+import signal
 import sqlite3
+import subprocess
 from functools import cache
 
-from lib import program, registers
-from lib.trial import each, test
+from lib import faults, program, registers
+from lib.trial import Skipped, each, need, test
 
 NAME = "300C310A300806035504030C0154"
 KEY = "0102"
@@ -153,10 +158,9 @@ def alter(t, statements, file="ca.db"):
 
 
 def audited(t, file="ca.db", *words):
-    """The exit status, what was printed and what was told; no byte of the file is another afterwards."""
-    before = (t.room / file).read_bytes()
-    ran = t.desk("audit", file, *words)
-    t.true((t.room / file).read_bytes() == before, "the audit changed the file")
+    """The exit status, what was printed and what was told; no file is another afterwards, and none is more."""
+    with t.untouched("the audit"):
+        ran = t.desk("audit", file, *words)
     return ran.status, ran.out.decode(), ran.err.decode()
 
 
@@ -321,3 +325,117 @@ def a_file_of_more_than_50_mb_is_counted_and_found_sound(t):
     told = t.done("script", "ca.db", given="".join(f"{last} {it}\n" for it in asked)).splitlines()
     t.same(told, [f"good {good} revoked {revoked} expired {expired}", "order 135001", "registered", "good", listing])
     t.same(t.done("audit", "ca.db"), f"sound, 135001 certificates, {revoked} revoked, 60 CRLs\n")
+
+
+# An audit only reads
+
+def left_behind(t, file="ca.db"):
+    """A register whose last revocation lies in its log alone: the desk that had it open was killed. What an audit says of it."""
+    t.register(file, lines=FULL)
+    t.clock("2026-01-03T00:00:00Z")
+    opened = t.open(file)
+    t.same(t.counter().ask("revoke 2"), "revoked")
+    opened.end(signal.SIGKILL)
+    t.true((t.room / f"{file}-wal").stat().st_size > 4096, "there is a log")
+    return "sound, 2 certificates, 2 revoked, 1 CRLs\n"
+
+
+@test
+def what_a_log_has_is_found_and_left_there(t):
+    told = left_behind(t)
+    for _ in range(2):
+        t.same(audited(t), (0, told, ""))
+    # The file alone is as it was before.
+    shutil.copyfile(t.room / "ca.db", t.room / "alone.db")
+    t.same(audited(t, "alone.db"), (0, "sound, 2 certificates, 1 revoked, 1 CRLs\n", ""), "the file without its log")
+    # And who opens them to write finds the same.
+    t.same(t.done("script", "ca.db", given="2026-01-03T00:00:00Z counts\n"), "good 0 revoked 2 expired 0\n")
+
+
+@test
+def no_call_writes(t):
+    told = left_behind(t)
+    ran, count = faults.run(t, ["audit", "ca.db"])
+    t.same((ran.status, ran.out.decode()), (0, told))
+    t.same({kind: count[kind] for kind in ("sync", "cut", "unlink")}, {"sync": 0, "cut": 0, "unlink": 0})
+    _, count = faults.run(t, ["audit", "ca.db"], only="ca.db,ca.db-wal")
+    t.same(count["write"], 0, "writes into the register's files")
+
+
+# What lies at the path, and the line that tells of it.
+OTHERS = {
+    "no byte": (b"", "not-a-register"),
+    "one byte": (b"x", "not-a-register"),
+    "three bytes": (b"abc", "F2 store"),
+    "a page of zeros": (bytes(4096), "F2 store"),
+    "a text": (b"no database\n" * 100, "F2 store"),
+    "a text that begins with the letter of SQLite": (b"Serial,notBefore,notAfter\n" * 200, "F2 store"),
+    "the head of a database and nothing behind it": (b"SQLite format 3\0\x10\0\x02\x02\0\x40\x20\x20", "F2 store"),
+    "a database's first page, cut": (b"SQLite format 3\0\x10\0\x02\x02\0\x40\x20\x20" + bytes(2000), "F2 store"),
+}
+
+
+@each(OTHERS)
+def what_is_no_register_stays_as_it_is(t, contents, line):
+    (t.room / "ca.db").write_bytes(contents)
+    t.same(audited(t), (1, "", f"{line}\n"))
+    # A log that lies beside it is left too.
+    (t.room / "ca.db-wal").write_bytes(bytes(40))
+    t.same(audited(t), (1, "", f"{line}\n"), "with a log beside it")
+
+
+@test
+def where_no_file_is_none_is_made(t):
+    t.same(audited(t, "none.db", "--why"), (1, "", "F2 store\n  no such file\n"))
+    (t.room / "lost.db-wal").write_bytes(bytes(40))
+    t.same(audited(t, "lost.db", "--why"), (1, "", "F2 store\n  no such file\n"), "a log alone")
+
+
+@test(seconds=2)
+def who_may_only_read_may_audit(t):
+    """Another user, of files and a folder that nobody may write."""
+    told = left_behind(t)
+    for name in ("ca.db", "ca.db-wal"):
+        os.chmod(t.room / name, 0o444)
+    t.as_nobody("--version")
+    os.chmod(t.room, 0o555)
+    t.callback(os.chmod, t.room, 0o755)
+    with t.untouched("the audit"):
+        ran = t.as_nobody("audit", "ca.db")
+    t.same((ran.returncode, ran.stdout.decode(), ran.stderr), (0, told, b""))
+
+
+@test(seconds=2)
+def a_file_system_that_is_read_only(t):
+    if os.geteuid():
+        raise Skipped("a file system of its own wants root")
+    need("mount")
+    told = left_behind(t)
+    folder = t.room / "disk"
+    folder.mkdir()
+    if subprocess.run(["mount", "-t", "tmpfs", "tmpfs", folder], capture_output=True).returncode:
+        raise Skipped("no file system can be mounted here")
+    t.callback(subprocess.run, ["umount", folder], check=True)
+    for name in ("ca.db", "ca.db-wal"):
+        shutil.copyfile(t.room / name, folder / name)
+    subprocess.run(["mount", "-o", "remount,ro", folder], check=True)
+    t.same(audited(t, "disk/ca.db"), (0, told, ""))
+
+
+@test(seconds=4)
+def eight_at_once_all_succeed(t):
+    records = registers.Records(2_000)
+    registers.make(t.room / "ca.db", records, 3)
+    words = [program.program(), "audit", "ca.db"]
+    with t.untouched("eight audits"):
+        begun = [subprocess.Popen(words, cwd=t.room, stdout=subprocess.PIPE, stderr=subprocess.PIPE, env=program.environment()) for _ in range(8)]
+        ended = [(*it.communicate(timeout=60), it.returncode) for it in begun]
+    told = f"sound, 2000 certificates, {len(records.revocations)} revoked, {len(records.crls)} CRLs\n".encode()
+    t.same(ended, [(told, b"", 0)] * 8)
+
+
+@test
+def an_open_register_is_in_use(t):
+    t.register(lines=FULL)
+    t.open()
+    t.same(audited(t, "ca.db", "--why"), (1, "", "F2 store\n  in use by another program\n"))

@@ -106,6 +106,8 @@ def at_tells_each_reply_in_order_and_its_status(t):
     t.same((ran.status, ran.out, ran.err), (0, b"good 1 revoked 0 expired 0\ngood\nunknown\nnext-crl at-once\n", b""))
     ran = t.desk("at", "counter", given="counts\nrevoke 7\nstatus 05\n")
     t.same((ran.status, ran.out, ran.err), (3, b"good 1 revoked 0 expired 0\nE17 no-request\ngood\n", b"refused\n"))
+    ran = t.desk("at", "counter", given="counts\nrevoke 7")
+    t.same((ran.status, ran.out, ran.err), (3, b"good 1 revoked 0 expired 0\n", b"no-line-end\n"), "a last line without its end")
     ran = t.desk("at", "counter", given="")
     t.same((ran.status, ran.out, ran.err), (0, b"", b""), "no line")
     ran = t.desk("at", "nobody", given="counts\n")

@@ -9,14 +9,17 @@ TEXT = "".join(f"{asked}\n" for asked, _ in LIFE)
 ENTERED = "".join(f"{asked}\n" for asked, _ in REGISTERED)
 
 
-@each({"fails": "", "moves nothing": "=0", "is interrupted": "=EINTR"}, seconds=3)
-def a_write_of_an_import_fails(t, how):
+WRITES = {"fails": "", "moves nothing": "=0", "is interrupted": "=EINTR"}
+
+
+@each({f"{name}{kind}": (how, words) for name, how in WRITES.items() for kind, words in (("", []), (", strictly", ["--strict"]))}, seconds=3)
+def a_write_of_an_import_fails(t, how, words):
     base = t.register("base.db", f"{DAY_1} subscriber acme\n{DAY_1} order 1 398\n{DAY_1} order 1 398\n")
     rows = f"order,serial,notBefore,notAfter\n1,05,{DAY_1},2026-01-10T00:00:00Z\n2,06,{DAY_1},2026-01-10T00:00:00Z\n2,06\n"
     replies = b"registered\nregistered\nE22 syntax\n"
     for at in range(1, len(replies) + 1):
         faults.copy(base, t.room / "ca.db")
-        ran, count = faults.run(t, ["import", "ca.db", "--now", DAY_1], rows, only="stdout", short=1, fail=f"write:{at}{how}")
+        ran, count = faults.run(t, ["import", "ca.db", "--now", DAY_1, *words], rows, only="stdout", short=1, fail=f"write:{at}{how}")
         t.same((ran.status, ran.out, ran.err, count["met"]), (1, replies[: at - 1], b"F5 write\n", 1), f"write {at}")
         # The row whose reply was cut stands, and none behind it.
         stand = 1 if at <= 11 else 2

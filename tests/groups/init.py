@@ -2,8 +2,8 @@
 
 import subprocess
 
-from lib import program
-from lib.trial import test
+from lib import faults, program
+from lib.trial import each, test
 
 WORDS = ("--name", program.NAME, "--key", program.KEY)
 ROUNDS = 60
@@ -37,3 +37,23 @@ def a_register_that_can_not_be_told_is_not_left(t):
         )
     t.same((ran.returncode, ran.stderr), (1, b"F5 write\n"))
     t.same(sorted(it.name for it in t.room.iterdir()), [], "what is left")
+
+
+@each({"one sync": "", "each from then on": "+"}, seconds=3)
+def a_register_that_can_not_be_synced_is_not_left(t, how):
+    words = ["init", "ca.db", *WORDS]
+    last, told = faults.total(t, words, "sync"), 0
+    for at in range(1, last + 1):
+        for path in t.room.glob("ca.db*"):
+            path.unlink()
+        ran, count = faults.run(t, words, fail=f"sync:{at}{how}")
+        where = f"sync {at}{how}"
+        t.true(count["met"], f"{where} was not met")
+        if ran.status:
+            told += 1
+            t.same((ran.status, ran.out, ran.err), (1, b"", b"F2 store\n"), where)
+            t.same(sorted(it.name for it in t.room.glob("ca.db*")), [], f"{where}: what is left")
+        else:
+            t.same((ran.out, ran.err), (b"created\n", b""), where)
+            faults.audited(t, "ca.db", (0, 0, 0), where)
+    t.true(told, "no sync was told")

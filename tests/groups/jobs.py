@@ -5,7 +5,6 @@ import contextlib
 import os
 import pty
 import re
-import shutil
 import socket
 import struct
 import subprocess
@@ -274,29 +273,13 @@ def nothing_is_told_where_standard_error_is_no_terminal(t):
 A_LINE = b"2026-01-01T00:00:00Z counts\n"
 
 
-def as_nobody(t, *words):
-    """Runs the program as a user who has no rights here."""
-    if os.geteuid() == 0:
-        need("setpriv")
-        # The program is copied to where that user may come.
-        desk = t.room / "desk"
-        if not desk.exists():
-            shutil.copy(program.program(), desk)
-            os.chmod(desk, 0o755)
-            os.chmod(t.room, 0o755)
-        before = ["setpriv", "--reuid", "65534", "--regid", "65534", "--clear-groups", str(desk)]
-    else:
-        before = [program.program()]
-    return subprocess.run([*before, *words], cwd=t.room, input=A_LINE, capture_output=True, timeout=60, env=program.environment())
-
-
 @test
 def no_right_to_read(t):
     t.register()
     os.chmod(t.room / "ca.db", 0)
     for command in ("crl", "script"):
         for more, told in ((("--why",), b"F2 store\n  no right\n"), ((), b"F2 store\n")):
-            ran = as_nobody(t, command, "ca.db", *more)
+            ran = t.as_nobody(command, "ca.db", *more, given=A_LINE)
             t.same((ran.returncode, ran.stdout, ran.stderr), (1, b"", told), f"{command} {more}")
 
 
@@ -304,7 +287,7 @@ def no_right_to_read(t):
 def no_right_to_make(t):
     folder = t.room / "closed"
     folder.mkdir(mode=0o555)
-    ran = as_nobody(t, "init", "closed/ca.db", "--name", program.NAME, "--key", program.KEY, "--why")
+    ran = t.as_nobody("init", "closed/ca.db", "--name", program.NAME, "--key", program.KEY, "--why")
     t.same((ran.returncode, ran.stdout, ran.stderr), (1, b"", b"F2 store\n  no right\n"))
     t.same(list(folder.iterdir()), [])
 

@@ -283,20 +283,15 @@ def coming_from_openssl_ca(t):
 
 @test(seconds=4)
 def the_way_out_of_a_digest(t):
-    """A register whose CRL was sealed by a digest takes no signer; a new one of the same lines does."""
+    """A register whose CRL was sealed by a digest is opened with a signer, and a line at the counter issues a CRL that verifies."""
     it = Authority(t)
     it.signer()
+    it.register()
     begun = authority.now()
-    for file in ("sealed.db", "signed.db"):
-        it.register(file)
-    day = authority.first_day(begun)
-    t.same(t.done("script", "sealed.db", given=day).splitlines(), authority.first_day_replies(begun))
-    for words in (["script", "sealed.db"], ["open", "sealed.db", "--port", program.free_port(), "--counter", "counter"]):
-        ran = t.desk(*words, *it.signing())
-        t.same((ran.status, ran.out, ran.err), (1, b"", b"bad-signer\n"), "a signer where a digest was")
-    t.same(t.done("script", "signed.db", *it.signing(), given=day).splitlines(), authority.first_day_replies(begun))
-    it.verifies(t.done("crl", "signed.db").encode("latin-1"))
-    t.same(t.done("script", "signed.db", *it.signing(), given=f"{moment_of(begun)} status 05\n").split()[0], "revoked")
+    t.same(t.done("script", "ca.db", given=authority.first_day(begun)).splitlines(), authority.first_day_replies(begun))
+    desk = t.open("ca.db", *it.signing())
+    t.same(t.counter().ask("crl"), "crl 2 entries 1")
+    it.verifies(authority.body_of(t, desk.ask("GET", "/crl"), "application/pkix-crl"))
 
 
 @test

@@ -3,6 +3,7 @@ certificate in its own answers; both as openssl, Java, GnuTLS, NSS, Go and nginx
 
 import hashlib
 import os
+import time
 from pathlib import Path
 
 from lib import authority, faults, program, registers
@@ -209,6 +210,26 @@ def a_responder_that_fails(t):
         said.write_bytes(answer(t, it, desk, "05"))
         ran = t.tried("openssl", "ocsp", "-issuer", it.pem, "-CAfile", it.pem, "-serial", "0x05", "-no_nonce", "-respin", said)
         t.has(ran.stdout + ran.stderr, b"Response Verify Failure", "another key's")
+
+
+@test(seconds=15)
+def a_responder_that_hangs_holds_up_no_crl(t):
+    """It is left alone for ten seconds once one request has waited for its ten; the CA's signer is not."""
+    it = Authority(t)
+    responder = Responder(it)
+    it.signer()
+    a_day(t, it, *it.signing())
+    hanging = t.signer("responder.sign", lambda message, call: "hang")
+    desk = t.open("ca.db", *it.signing(), *responder.words())
+    counter, request = t.counter(), it.asks("05")
+    for least, most in ((9.9, 20), (0, 2), (0, 2)):
+        begun = time.monotonic()
+        t.same(body_of(t, desk.ask("POST", "/ocsp", request)), INTERNAL)
+        t.same(least <= time.monotonic() - begun < most, True, f"it took {time.monotonic() - begun:.1f} s")
+    begun = time.monotonic()
+    t.same(counter.ask("crl"), "crl 2 entries 1", "a CRL")
+    t.true(time.monotonic() - begun < 2, f"a CRL took {time.monotonic() - begun:.1f} s")
+    t.same(len(hanging.asked), 1, "how often the responder was asked")
 
 
 @test(seconds=4)

@@ -1,7 +1,10 @@
 """What holds the issuer's key, at a Unix socket: real keys and signatures of openssl under each algorithm, what is no signature, and signers
 that fail."""
 
+import re
+import select
 import socket
+import threading
 import time
 from concurrent.futures import ThreadPoolExecutor
 
@@ -106,6 +109,34 @@ def examples_signer_py_signs_under_each_algorithm(t, algorithm):
     t.same(tried(t, ["crl"] * 12, it.signing()), [f"crl {number} entries 0" for number in range(1, 13)])
     for number in (1, 8, 12):
         it.verifies(t.done("crl", "ca.db", "--number", number).encode("latin-1"), f"CRL {number}")
+
+
+@each(ALGORITHMS, seconds=4)
+def a_key_follows_a_digest(t, algorithm):
+    """The next CRL is signed, with the next number and what the sealed one lists, which stays as it was; from then on no digest follows."""
+    it = Authority(t, algorithm)
+    it.register()
+    begun = authority.now()
+    t.same(t.done("script", "ca.db", given=first_day(begun)).splitlines(), first_day_replies(begun), "the first day, sealed")
+    read = lambda number: t.done("crl", "ca.db", "--number", number).encode("latin-1")
+    algorithm_of = lambda crl: authority.signed_part(crl)[1].hex().upper()
+    sealed = read(1)
+    t.same(algorithm_of(sealed), "300906052B0E03021A0500", "the digest's AlgorithmIdentifier: SHA-1 with NULL")
+    signer = it.signer()
+    desk = t.open("ca.db", "--requests", "1000", *it.signing(), command="serve")
+    t.same(it.asked_by_openssl("05", f"http://127.0.0.1:{desk.port}/ocsp", verify=True), "revoked", "OCSP is signed from the first answer on")
+    t.same(body_of(t, desk.ask("GET", "/crl"), "application/pkix-crl"), sealed, "GET /crl is the sealed one as yet")
+    desk.end()
+    t.same(t.done("script", "ca.db", *it.signing(), given=f"{moment_of(begun)} crl\n"), "crl 2 entries 1\n", "the number goes on")
+    signed = read(2)
+    it.verifies(signed)
+    t.same((algorithm_of(signed), signer.asked[-1]), (IDENTIFIERS[algorithm], authority.signed_part(signed)[0]), "how it is signed, and what")
+    t.has(t.tool("openssl", "crl", "-inform", "DER", "-noout", "-crlnumber", given=signed), b"2\n", "its number")
+    t.same(authority.listed(t, signed), authority.listed(t, sealed), "what both list")
+    t.same(read(1), sealed, "the sealed one stays")
+    for words in ([], *(["--signer", "ca.sign", "--algorithm", other] for other in KEYS if other != algorithm)):
+        refused(t, ["script", "ca.db", *words])
+    t.same(t.done("audit", "ca.db"), "sound, 2 certificates, 1 revoked, 2 CRLs\n")
 
 
 # A digest, which is no signature
@@ -488,3 +519,118 @@ def a_signer_has_ten_seconds_in_all(t):
             t.same(told, ["F3 signer", "good 0 revoked 0 expired 0"], name)
             # As long on a machine that is busy, and never less.
             t.true(9.9 <= seconds < 20, f"{name} took {seconds:.1f} s in place of ten")
+
+
+# Signers that hang, and what is answered meanwhile
+
+# An OCSP request for a certificate of another issuer, in the form of RFC 6960 4.1.1.
+OCSP = bytes.fromhex("30423040303E303C303A300906052B0E03021A05000414" + "00" * 20 + "0414" + "00" * 20 + "020105")
+# What is answered at once takes less than this on a machine that is busy.
+AT_ONCE = 2
+ENTERED = ["subscriber acme", "order 1 398", f"register 1 05 {MOMENT} 2026-12-31T00:00:00Z"]
+
+
+class Hanging:
+    """A signer at a socket that keeps whoever comes waiting until they go, and answers once it is mended."""
+
+    def __init__(self, t, path="ca.sign"):
+        self.mended = threading.Event()
+        self.peer = t.enter_context(Peer(t.room / path, self.manner))
+
+    def manner(self, peer, it):
+        gone = select.poll()
+        # Where nothing is waited for, it tells that the other side has closed.
+        gone.register(peer, 0)
+        while not (self.mended.is_set() or it.ended.is_set() or gone.poll(50)):
+            pass
+        gives(ANY_SIGNATURE)(peer, it)
+
+    @property
+    def asked(self):
+        return self.peer.asked
+
+
+def timed(work):
+    """What it gives, and how many seconds it took."""
+    begun = time.monotonic()
+    return work(), time.monotonic() - begun
+
+
+def at_once(t, work, wanted, what):
+    """It gives this, and nobody waits for a signer."""
+    told, seconds = timed(work)
+    t.same(told, wanted, what)
+    t.true(seconds < AT_ONCE, f"{what} took {seconds:.1f} s")
+
+
+def is_signed(desk):
+    """Whether an OCSP request is answered by more than internalError."""
+    return not desk.ask("POST", "/ocsp", OCSP).endswith(INTERNAL)
+
+
+def hung(t, *words):
+    """A desk whose signer hangs, at which one OCSP request has waited for its ten seconds."""
+    t.register(key=P256_KEY, lines="".join(f"{MOMENT} {it}\n" for it in ENTERED))
+    t.clock(MOMENT)
+    signer = Hanging(t)
+    desk = t.open("ca.db", *words, *P256)
+    told, seconds = timed(lambda: is_signed(desk))
+    t.same((told, signer.asked), (False, 1), "an answer that nobody signs, and how often the signer was asked")
+    t.true(9.9 <= seconds < 20, f"it took {seconds:.1f} s in place of ten")
+    return signer, desk
+
+
+@test(seconds=24)
+def a_signer_that_hangs_holds_nobody_up_for_ten_seconds_more(t):
+    """Each OCSP request is internalError at once, and all else is answered at once. Then one request tries the signer, and all is as before."""
+    signer, desk = hung(t, "--log")
+    tired = time.monotonic()
+    counter = t.counter()
+    while time.monotonic() < tired + 4:
+        at_once(t, lambda: is_signed(desk), False, "OCSP behind it")
+        at_once(t, lambda: program.parted(desk.ask("GET", "/counts"))[0], 200, "GET /counts")
+        time.sleep(0.5)
+    at_once(t, lambda: counter.ask("request 05 asked"), "request 1 due 2026-01-02T00:00:00Z", "a request at the counter")
+    at_once(t, lambda: counter.ask("revoke 1"), "revoked", "a revocation at the counter")
+    at_once(t, lambda: program.parted(desk.ask("GET", "/status/05"))[2][:19], b'{"status":"revoked"', "GET /status")
+    t.same(signer.asked, 1, "how often the signer was asked")
+    signer.mended.set()
+    at_once(t, lambda: is_signed(desk), False, "OCSP before it is tried again")
+    authority.until(lambda: is_signed(desk), "an answer that is signed", 15)
+    t.true(time.monotonic() - tired > 9, f"it was tried again {time.monotonic() - tired:.1f} s after it had hung")
+    for _ in range(3):
+        at_once(t, lambda: is_signed(desk), True, "OCSP once it answers again")
+    told = [re.search(r'("POST|"GET|counter).*?( signer)?$', it) for it in desk.end().told]
+    unsigned = [it[2] is not None for it in told if it[1] == '"POST']
+    t.same(unsigned, [True] * (len(unsigned) - 4) + [False] * 4, "which OCSP answers have the word `signer` in the log")
+    t.same([it[0] for it in told if it[1] != '"POST' and it[2]], [], "which other lines have it")
+
+
+@test(seconds=32)
+def a_signer_that_still_hangs_is_tried_once_in_ten_seconds(t):
+    signer, desk = hung(t)
+    tired = time.monotonic()
+    waited = seconds = 0
+    while signer.asked == 1 and waited < 15:
+        time.sleep(0.2)
+        waited = time.monotonic() - tired
+        told, seconds = timed(lambda: is_signed(desk))
+        t.same(told, False, "OCSP that nobody signs")
+    t.true(9 < waited < 15 and 9.9 <= seconds < 20, f"it was tried again after {waited:.1f} s, for {seconds:.1f} s")
+    at_once(t, lambda: is_signed(desk), False, "OCSP behind that")
+
+
+@test(seconds=25)
+def a_crl_asks_a_signer_that_is_left_alone(t):
+    """While it hangs the CRL waits for its own ten seconds; once it answers the CRL is issued at once, and OCSP is signed again."""
+    signer, desk = hung(t)
+    counter = t.counter()
+    told, seconds = timed(lambda: counter.ask("crl"))
+    t.same((told, signer.asked), ("F3 signer", 2), "a CRL")
+    t.true(9.9 <= seconds < 20, f"it took {seconds:.1f} s in place of ten")
+    at_once(t, lambda: is_signed(desk), False, "OCSP behind it")
+    signer.mended.set()
+    at_once(t, lambda: is_signed(desk), False, "OCSP once it would answer")
+    at_once(t, lambda: counter.ask("crl"), "crl 1 entries 0", "a CRL then")
+    at_once(t, lambda: is_signed(desk), True, "OCSP behind that")
+    t.same(signer.asked, 4, "how often the signer was asked")

@@ -69,6 +69,8 @@ UNKNOWN = {
     "audit of two files": ("audit", "none.db", "G"),
     "clock with a value": ("script", "none.db", "--clock=1"),
     "strict with a value": ("script", "none.db", "--strict="),
+    "a strict import with a value": ("import", "none.db", "--now", "2026-01-01T00:00:00Z", "--strict=1"),
+    "a strict import without a file": ("import", "--now", "2026-01-01T00:00:00Z", "--strict"),
 }
 
 
@@ -178,7 +180,7 @@ def a_responder_is_told_whole(t, words, named):
 
 @each({" ".join(it): it for it in (
     ("import", "--signer=ca.sign"), ("script", "--embed=ca.der"), ("script", "--responder=r.der"), ("crl", "--embed=ca.der"), ("crl", "--algorithm=ed25519"), ("schedule", "--signer=ca.sign"),
-    ("key-id", "--signer=ca.sign"), ("script", "--key-id=00"), ("import", "--clock"), ("import", "--strict"),
+    ("key-id", "--signer=ca.sign"), ("script", "--key-id=00"), ("import", "--clock"), ("at", "--strict"),
     ("crl", "--log"), ("script", "--log"), ("at", "--log"), ("audit", "--log"), ("script", "--unsigned"), ("serve", "--unsigned"), ("schedule", "--unsigned"),
 )})
 def an_option_of_another_command_is_unexpected(t, command, option):
@@ -210,7 +212,7 @@ HELPED = {
     "init --help": ("<FILE>", "--name <HEX>", "--key <HEX>", "--key-id <HEX>", "--days <N>", "--crl-life <N>", "--ocsp-life <N>", "--cap <N>", "--why"),
     "init -h": ("<FILE>", "--name <HEX>"),
     "script --help": ("[FILE]", "--signer <SOCKET>", "--algorithm <NAME>", "--clock", "--strict", "--why", "desk script ca.db"),
-    "import --help": ("<FILE>", "--now <MOMENT>", "--why"),
+    "import --help": ("<FILE>", "--now <MOMENT>", "--strict", "--why"),
     "crl --help": ("<FILE>", "--number <N>", "--why"),
     "serve --help": ("<FILE>", "--port <N>", "--requests <N>", "--signer <SOCKET>", "--algorithm <NAME>", *RESPONDER_HELP, "--log", "--why"),
     "open --help": ("<FILE>", "--port <N>", "--counter <SOCKET>", "--signer <SOCKET>", "--algorithm <NAME>", "--unsigned", *RESPONDER_HELP, "--log", "--why"),
@@ -244,6 +246,8 @@ TAKEN = {
     "clocked, then strict": ("script", "--clock", "--strict", "none.db"),
     "a file behind --": ("script", "--clock", "--", "none.db"),
     "strict before --": ("script", "--strict", "--", "none.db"),
+    "a strict import": ("import", "none.db", "--now", "2026-01-01T00:00:00Z", "--strict"),
+    "a strict import, strict first": ("import", "--strict", "none.db", "--now=2026-01-01T00:00:00Z"),
     "a schedule of 16 steps": (*SCHEDULE, FIRST_STEP, *[f"20{it}-01-01T00:00:00Z=0{it}" for it in range(27, 42)]),
     **{
         f"{command} and {name}": (command, "none.db", *more, "--signer", "ca.sign", "--algorithm", name)

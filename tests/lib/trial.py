@@ -1,6 +1,7 @@
 """What a test is given: a folder of its own, the program, and comparisons that tell what was given, wanted and got."""
 
 import contextlib
+import os
 import shutil
 import sqlite3
 import subprocess
@@ -86,6 +87,21 @@ class Trial(contextlib.ExitStack):
         self.same((ran.status, ran.err), (0, b""), "status and standard error")
         return ran.out.decode("latin-1")
 
+    def as_nobody(self, *words, given=b""):
+        """Runs the program to its end as a user who has no rights here but those that everybody has."""
+        before = [program.program()]
+        if os.geteuid() == 0:
+            need("setpriv")
+            # The program is copied to where that user may come.
+            desk = self.room / "desk"
+            if not desk.exists():
+                shutil.copy(program.program(), desk)
+                os.chmod(desk, 0o755)
+                os.chmod(self.room, 0o755)
+            before = ["setpriv", "--reuid", "65534", "--regid", "65534", "--clear-groups", str(desk)]
+        self.note(f"as nobody: {program.shown(words)}")
+        return subprocess.run([*before, *map(str, words)], cwd=self.room, input=given, capture_output=True, timeout=60, env=program.environment())
+
     def register(self, file="ca.db", lines="", name=program.NAME, key=program.KEY, options=()):
         """Makes a register, and runs lines over it that are all accepted; its path."""
         self.same(self.done("init", file, "--name", name, "--key", key, *options), "created\n")
@@ -140,6 +156,19 @@ class Trial(contextlib.ExitStack):
         return subprocess.run(words, input=given, capture_output=True, cwd=self.room, timeout=timeout, **how)
 
     # What came of it
+
+    def lying(self):
+        """What lies in the test's folder: of each file by its name the bytes, the mode and the moment of its last change."""
+        found = [it for it in self.room.rglob("*") if it.is_file()]
+        return {str(it.relative_to(self.room)): (it.read_bytes(), it.stat().st_mode, it.stat().st_mtime_ns) for it in found}
+
+    @contextlib.contextmanager
+    def untouched(self, what):
+        """Wants that what is done meanwhile leaves each file in the test's folder as it was, and makes and removes none."""
+        before = self.lying()
+        yield
+        after = self.lying()
+        self.same(sorted(it for it in {*before, *after} if before.get(it) != after.get(it)), [], f"files that {what} touched")
 
     def same(self, got, wanted, what=""):
         if got != wanted:

@@ -1,5 +1,6 @@
 -- Signers, and what it is that a CRL is signed.
-use Rattle.std.specs.Prelude.{◌≡◌, ℕ, ◌≤◌, List, [], ◌∷◌, ◌++◌, length}
+use Rattle.std.specs.Prelude.{◌≡◌, ◌⊎◌, ℕ, ◌<◌, ◌≤◌, List, [], ◌∷◌, ◌++◌, length}
+use Rattle.sha1.specs.Sha1.{sha1}
 use Rattle.reg_core.specs.Crls.{CertList}
 use Rattle.reg_der.specs.Der.{IsTlv, tlv}
 use Rattle.reg_crl.specs.Crl.{tbs_of, certificate_list}
@@ -26,3 +27,18 @@ signed_by signs identity crl bytes =
     (signature : List ℕ)
     × signs identity (tbs_of identity.algorithm crl) signature
     × (bytes ≡ certificate_list (tbs_of identity.algorithm crl) identity.algorithm signature)
+
+-- a TBSCertList sealed by the digest, which stands where there is no key and is no signature: under the AlgorithmIdentifier of SHA-1,
+-- with the SHA-1 of the TBSCertList in the place of a signature
+abbrev pub seal_of : List ℕ → List ℕ
+seal_of tbs = certificate_list tbs sha1_algorithm (sha1 tbs)
+
+-- the bytes are the CRL sealed so
+abbrev pub sealed : CertList → List ℕ → Type 0
+sealed crl bytes = bytes ≡ seal_of (tbs_of sha1_algorithm crl)
+
+-- The bytes are the CRL as a register has it whose key followed the digest: sealed by the digest below a number, and from that number on
+-- signed by who signs (RFC 5280 5.2.3).
+abbrev pub sealed_until : ℕ → (Identity → List ℕ → List ℕ → Type 0) → Identity → CertList → List ℕ → Type 0
+sealed_until since signs identity crl bytes =
+    ((crl.number < since) × sealed crl bytes) ⊎ ((since ≤ crl.number) × signed_by signs identity crl bytes)

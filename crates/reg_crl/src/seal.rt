@@ -34,6 +34,8 @@ impl Signer for DigestSeal {
         Ok(Vec::from_slice(alloc, &Sha1::digest(message))?)
     }
 
+    fn rouse(&mut self) {}
+
     fn failures(&self) -> u64 {
         0
     }

@@ -70,19 +70,26 @@ pub trait Signer {
         ensures ok { OnOk result (failure_count self.new ≡ failure_count self.old) }
         ensures same_identity { identity self.new ≡ identity self.old };
 
+    /// Has what signs asked at the next signature, also where it would be left alone for a while.
+    fn rouse(&mut self)
+        ensures same_identity { identity self.new ≡ identity self.old }
+        ensures same_failures { failure_count self.new ≡ failure_count self.old };
+
     /// How many failures of what signs the signer has counted.
     fn failures(&self) -> u64
         ensures { result ≡ failure_count self.now };
 }
 
-/// A signer as the laws of the register see it: for them it relates what is signed in a CRL to the CRL's DER.
+/// A signer as the laws of the register see it: for them it relates what is signed in a CRL to the CRL's DER. CRLs with numbers below
+/// `since` are sealed by the digest, as they are where the signer's key followed it.
 #[derive(Drop)]
 pub struct CrlSigner<S> {
     pub signer: S,
+    pub since: u64,
 }
 
 impl<S: Signer> SignsCrls for CrlSigner<S> {
-    ghost use Rattle.reg_crl.specs.Signing.{signed_by};
+    ghost use Rattle.reg_crl.specs.Signing.{sealed_until};
 
-    ghost signed = { λ it. signed_by S.signs (S.identity it.signer) };
+    ghost signed = { λ it. sealed_until it.since S.signs (S.identity it.signer) };
 }

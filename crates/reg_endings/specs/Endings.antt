@@ -7,7 +7,7 @@ use Rattle.reg_tables.specs.declared.fault.StoreFault.{StoreFault}
 use Rattle.reg_tables.specs.declared.fault.StoreFault.TheVariants as stored
 use Rattle.reg_core.specs.declared.refusal.Fault.TheVariants as fault
 
--- the line of standard error that tells a failure, without its LF
+-- the line of standard error that tells a failure, without its LF; where two things are told, the lines of both with an LF between them
 unfoldable pub failure_line : Failure → List ℕ
 failure_line (failure.Fault fault) = fault_line fault
 failure_line failure.NotEmpty = codes "not-empty"
@@ -19,12 +19,17 @@ failure_line failure.BadPolicy = codes "bad-policy"
 failure_line failure.BadSigner = codes "bad-signer"
 failure_line failure.BadResponder = codes "bad-responder"
 failure_line failure.Refused = codes "refused"
+failure_line failure.NoLineEnd = codes "no-line-end"
+failure_line failure.RefusedNoLineEnd = codes "refused\nno-line-end"
 failure_line failure.Broken = codes "broken"
 
--- the exit status: 0 where the job is done, 3 where a reply at a counter was a refusal or a fault, 1 where the job is not done
+-- the exit status: 0 where the job is done; 3 where a reply at a counter, in a strict script or in a strict import was a refusal or a
+-- fault, or the last line there has no end; 1 where the job is not done
 abbrev pub status : {T : Type 0} → Result T Failure → ℕ
 status (Ok done) = 0
 status (Err failure.Refused) = 3
+status (Err failure.NoLineEnd) = 3
+status (Err failure.RefusedNoLineEnd) = 3
 status (Err (failure.Fault fault)) = 1
 status (Err failure.NotEmpty) = 1
 status (Err failure.NotARegister) = 1

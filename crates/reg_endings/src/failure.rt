@@ -27,14 +27,18 @@ pub enum Failure {
     BadSigner,
     /// A certificate that is to stand with OCSP answers is none, or is of another key than it is told for.
     BadResponder,
-    /// A reply at a counter was a refusal or a fault.
+    /// A reply at a counter, in a strict script or in a strict import was a refusal or a fault.
     Refused,
+    /// The last line of standard input has no end, and was not run.
+    NoLineEnd,
+    /// Both: a reply was a refusal or a fault, and the last line has no end.
+    RefusedNoLineEnd,
     /// An audit told what is not sound.
     Broken,
 }
 
 impl Failure {
-    /// The one line of standard error that tells it, without LF.
+    /// The line of standard error that tells it, without LF; where two things are told, the lines of both with an LF between them.
     #[tactic(auto, unfolding(crate::specs::Endings::failure_line))]
     pub fn line(&self) -> Label
         ensures { result ≡ failure_line self.now }
@@ -50,6 +54,8 @@ impl Failure {
             Failure::BadSigner => words(b"bad-signer"),
             Failure::BadResponder => words(b"bad-responder"),
             Failure::Refused => words(b"refused"),
+            Failure::NoLineEnd => words(b"no-line-end"),
+            Failure::RefusedNoLineEnd => words(b"refused\nno-line-end"),
             Failure::Broken => words(b"broken"),
         }
     }
@@ -82,13 +88,16 @@ impl From<StoreFault> for Failure {
     }
 }
 
-/// The exit status of a job: 0 where it is done, 3 where a reply at a counter was a refusal or a fault, 1 where it is not done.
+/// The exit status of a job: 0 where it is done; 3 where a reply at a counter, in a strict script or in a strict import was a refusal
+/// or a fault, or the last line there has no end; 1 where it is not done.
 pub fn status_of(ending: &Result<(), Failure>) -> u8
     ensures { result ≡ status ending.now }
 {
     match ending {
         Ok(()) => 0,
         Err(Failure::Refused) => 3,
+        Err(Failure::NoLineEnd) => 3,
+        Err(Failure::RefusedNoLineEnd) => 3,
         Err(_) => 1,
     }
 }

@@ -1,14 +1,17 @@
 -- Scripts and imports over an office that keeps records.
-use Rattle.std.proofs.Common.{◌≡◌, ℕ, List, map, inl, inr}
+use Rattle.std.proofs.Common.{◌≡◌, ℕ, Bool, true, false, List, map, inl, inr}
 use Rattle.std.specs.Prelude.{Result, Ok, Err}
 use Rattle.std.specs.declared.option.Option.{Option}
 use Rattle.reg_core.specs.declared.refusal.Fault.{Fault}
 use Rattle.reg_core.specs.declared.refusal.Fault.TheVariants.{Refused, Memory, Store, Signer, Read, Write}
 use Rattle.reg_wire.specs.Run.{Answered}
 use Rattle.reg_lines.specs.Answer.{Answer, Replies, came_to}
-use Rattle.reg_lines.specs.Import.{Row, RowReplies, ImportEnds, data_rows}
+use Rattle.reg_lines.specs.Import.{Row, RowReplies, RowsEnd, ImportEnds, data_rows}
 use Rattle.reg_lines.specs.Meaning.{Meaning, tells}
 use Rattle.reg_lines.specs.Script.{Finished, ScriptEnds, StoppedAtRead, StoppedAtWrite, line_of, pieces}
+use Rattle.reg_lines.specs.Strict.{StrictEnds, StrictRan, ended_part}
+use Rattle.reg_lines.specs.declared.strict.Imported.{Imported}
+use Rattle.reg_lines.specs.declared.strict.Imported.TheVariants as imported
 use Rattle.reg_calls.specs.Leads.{Leads}
 use Rattle.reg_faces.proofs.Steps.{stays, follows, chains, runs}
 
@@ -254,3 +257,123 @@ module _ {S I R : Type 0} (is_clean : S → Type 0) (stands : I → S → R → 
   import_moves remaining contents now s t reader reader' writer writer' (Err Store) ended = absurd ended
   import_moves remaining contents now s t reader reader' writer writer' (Err Signer) ended = absurd ended
   import_moves remaining contents now s t reader reader' writer writer' (Err (Refused refusal)) ended = absurd ended
+
+  -- a run of rows that ends at the first refusal, if it is strict
+  row_run_moves : (is_strict : Bool) (now : ℕ) (s t : S) (out out' : Option (List ℕ)) (text : List ℕ) (result : Result Bool Fault)
+      → RowsEnd answers is_strict now s t out out' text result
+      → Leads is_clean stands (λ i before after. RowsEnd (kept i) is_strict now before after out out' text result) s t
+  row_run_moves is_strict now s t out out' text (Ok true) (ran, passed) =
+      follows is_clean stands
+      (λ i before after. Answered (RowReplies (kept i) now) before (data_rows ran.rows) ran.replies after)
+      (λ i before after. RowsEnd (kept i) is_strict now before after out out' text (Ok true))
+      (λ i before after moved. (
+        record { rows = ran.rows; replies = ran.replies; all = ran.all; answered = moved; wrote = ran.wrote },
+        passed,
+      ))
+      s
+      t
+      (rows_move now s t (data_rows ran.rows) ran.replies ran.answered)
+  row_run_moves is_strict now s t out out' text (Ok false) (ran, strict, refused) =
+      follows is_clean stands
+      (λ i before after. Answered (RowReplies (kept i) now) before (data_rows ran.rows) ran.replies after)
+      (λ i before after. RowsEnd (kept i) is_strict now before after out out' text (Ok false))
+      (λ i before after moved. (
+        record { rows = ran.rows; replies = ran.replies; first = ran.first; answered = moved; wrote = ran.wrote },
+        strict,
+        refused,
+      ))
+      s
+      t
+      (rows_move now s t (data_rows ran.rows) ran.replies ran.answered)
+  row_run_moves is_strict now s t out out' text (Err Write) (ran, passed) =
+      follows is_clean stands
+      (λ i before after. (middle : R)
+      × Answered (RowReplies (kept i) now) before (data_rows ran.rows) ran.replies middle
+      × RowReplies (kept i) now middle ran.row ran.reply after)
+      (λ i before after. RowsEnd (kept i) is_strict now before after out out' text (Err Write))
+      (λ i before after both. (
+        record {
+          rows = ran.rows;
+          replies = ran.replies;
+          middle = both.0;
+          row = ran.row;
+          reply = ran.reply;
+          part = ran.part;
+          first = ran.first;
+          no_header = ran.no_header;
+          answered = both.1;
+          replied = both.2;
+          partly = ran.partly;
+          wrote = ran.wrote;
+        },
+        passed,
+      ))
+      s
+      t
+      (chains is_clean stands
+      (λ i before middle. Answered (RowReplies (kept i) now) before (data_rows ran.rows) ran.replies middle)
+      (λ i middle after. RowReplies (kept i) now middle ran.row ran.reply after)
+      s
+      ran.middle
+      t
+      (rows_move now s ran.middle (data_rows ran.rows) ran.replies ran.answered)
+      (row_moves now ran.middle ran.row ran.reply t ran.replied))
+  row_run_moves is_strict now s t out out' text (Err Memory) (ran, passed) =
+      follows is_clean stands
+      (λ i before after. Answered (RowReplies (kept i) now) before (data_rows ran.rows) ran.replies after)
+      (λ i before after. RowsEnd (kept i) is_strict now before after out out' text (Err Memory))
+      (λ i before after moved. (
+        record { rows = ran.rows; replies = ran.replies; first = ran.first; answered = moved; wrote = ran.wrote },
+        passed,
+      ))
+      s
+      t
+      (rows_move now s t (data_rows ran.rows) ran.replies ran.answered)
+  row_run_moves is_strict now s t out out' text (Err Read) ended = absurd ended
+  row_run_moves is_strict now s t out out' text (Err Store) ended = absurd ended
+  row_run_moves is_strict now s t out out' text (Err Signer) ended = absurd ended
+  row_run_moves is_strict now s t out out' text (Err (Refused refusal)) ended = absurd ended
+
+  -- the run of a text up to its last line end
+  strict_run_moves : (now : ℕ) (s t : S) (out out' : Option (List ℕ)) (text : List ℕ) (result : Result Imported Fault)
+      → StrictRan answers now s t out out' text result
+      → Leads is_clean stands (λ i before after. StrictRan (kept i) now before after out out' text result) s t
+  strict_run_moves now s t out out' text (Ok imported.Whole) (ran, ends) =
+      follows is_clean stands
+      (λ i before after. RowsEnd (kept i) true now before after out out' (ended_part text) (Ok true))
+      (λ i before after. StrictRan (kept i) now before after out out' text (Ok imported.Whole))
+      (λ i before after moved. (moved, ends))
+      s
+      t
+      (row_run_moves true now s t out out' (ended_part text) (Ok true) ran)
+  strict_run_moves now s t out out' text (Ok imported.NoLineEnd) (ran, ends) =
+      follows is_clean stands
+      (λ i before after. RowsEnd (kept i) true now before after out out' (ended_part text) (Ok true))
+      (λ i before after. StrictRan (kept i) now before after out out' text (Ok imported.NoLineEnd))
+      (λ i before after moved. (moved, ends))
+      s
+      t
+      (row_run_moves true now s t out out' (ended_part text) (Ok true) ran)
+  strict_run_moves now s t out out' text (Ok imported.Refused) ran = row_run_moves true now s t out out' (ended_part text) (Ok false) ran
+  strict_run_moves now s t out out' text (Err fault) ran = row_run_moves true now s t out out' (ended_part text) (Err fault) ran
+
+  -- a strict import
+  pub strict_import_moves : {E W : Type 0} (remaining : E → Option (List ℕ)) (contents : W → Option (List ℕ)) (now : ℕ) (s t : S) (reader reader' : E)
+      (writer writer' : W) (result : Result Imported Fault) → StrictEnds answers remaining contents now s t reader reader' writer writer' result
+      → Leads is_clean stands (λ i before after. StrictEnds (kept i) remaining contents now before after reader reader' writer writer' result) s t
+  strict_import_moves remaining contents now s t reader reader' writer writer' result (inl (text, took, ran)) =
+      follows is_clean stands
+      (λ i before after. StrictRan (kept i) now before after (contents writer) (contents writer') text result)
+      (λ i before after. StrictEnds (kept i) remaining contents now before after reader reader' writer writer' result)
+      (λ i before after moved. inl (text, took, moved))
+      s
+      t
+      (strict_run_moves now s t (contents writer) (contents writer') text result ran)
+  strict_import_moves remaining contents now s t reader reader' writer writer' result (inr (why, some, same, unwritten)) =
+      follows is_clean stands
+      (λ i before after. after ≡ before)
+      (λ i before after. StrictEnds (kept i) remaining contents now before after reader reader' writer writer' result)
+      (λ i before after stayed. inr (why, some, stayed, unwritten))
+      s
+      t
+      (stays is_clean stands s t same)

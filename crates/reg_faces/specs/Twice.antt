@@ -2,10 +2,9 @@
 use Rattle.std.specs.Prelude.{◌≡◌, ◌⊎◌, ℕ, List, Option, Result, codes}
 use Rattle.std.specs.List.{AllByRecursion, AllZip}
 use Rattle.reg_core.specs.Records.{Records}
-use Rattle.reg_core.specs.Sound.{Sound}
+use Rattle.reg_core.specs.Sound.{SoundRows}
 use Rattle.reg_core.specs.declared.command.Reply.{Reply}
 use Rattle.reg_core.specs.declared.refusal.Fault.{Fault}
-use Rattle.reg_crl.specs.Signing.{signed_by}
 use Rattle.reg_laws.specs.Import.{IsFault}
 use Rattle.reg_lines.specs.Import.{AllRan}
 use Rattle.reg_lines.specs.Replies.{outcome_line, with_lf}
@@ -23,7 +22,8 @@ RepliedAgain first second =
     (first ≡ with_lf (codes "registered")) ⊎ (first ≡ with_lf (codes "same")) → (second ≡ with_lf (codes "same")) ⊎ TellsFault second
 
 -- Of a text that is imported twice at one moment, with nothing between, where each row ran both times and no fault was told the
--- first time: the second time adds no certificate, and each of its replies is as above.
+-- first time, over records that hold together, whatever signed their CRLs: the second time adds no certificate, and each of its replies
+-- is as above.
 abbrev pub ImportsTwice : Signs → Type 0
 ImportsTwice signs =
     (identity : Signatory)
@@ -31,7 +31,7 @@ ImportsTwice signs =
     (now : ℕ)
     (text : List ℕ)
     (out out' again again' : Option (List ℕ))
-    → Sound (signed_by signs identity.crls) records
+    → SoundRows records
     → (first : AllRan (Lines signs identity) now records between out out' text)
     → AllByRecursion (λ reply. ¬ TellsFault reply) first.replies
     → (second : AllRan (Lines signs identity) now between after again again' text)

@@ -10,11 +10,13 @@ ghost use Rattle.reg_http.specs.Asked.{asked};
 ghost use Rattle.reg_http.specs.Served.{ServingEnds};
 ghost use Rattle.reg_lines.specs.Import.{ImportEnds};
 ghost use Rattle.reg_lines.specs.Script.{ScriptEnds};
+ghost use Rattle.reg_lines.specs.Strict.{StrictEnds};
 
 use http::Method;
 use reg_calls::Keeper;
 use reg_core::{Fault, Memory, Moment};
 use reg_heads::Answer;
+use reg_lines::Imported;
 use std::alloc::Global;
 use std::io::{Read, Write};
 
@@ -58,6 +60,27 @@ pub fn import<R: Read, W: Write, K: Keeper>(
         office.old office.new }
 {
     reg_lines::import(alloc, reader, writer, now, office)
+}
+
+/// Registers the certificates of an import over an office that keeps records, up to the first refusal or fault, as
+/// [`reg_lines::import_strictly`] says.
+///
+/// # Errors
+///
+/// As of [`reg_lines::import_strictly`].
+pub fn import_strictly<R: Read, W: Write, K: Keeper>(
+    alloc: Global,
+    reader: &mut R,
+    writer: &mut W,
+    now: Moment,
+    office: &mut K,
+) -> Result<Imported, Fault>
+    ensures { Leads K.is_clean K.stands
+        (λ identity before after. StrictEnds (Lines K.signs identity) R.remaining W.contents now before after
+        reader.old reader.new writer.old writer.new result)
+        office.old office.new }
+{
+    reg_lines::import_strictly(alloc, reader, writer, now, office)
 }
 
 /// Answers one HTTP request over an office that keeps records, as [`reg_http::routes::answer`] says.

@@ -1,12 +1,13 @@
--- What a connection to files finds, by what the files have returned so far.
-use Rattle.std.proofs.Common.{ℕ, Bool, cond, List}
+-- What a connection to files finds, by what the files have returned so far; and what a copy of a file holds.
+use Rattle.std.proofs.Common.{◌≡◌, ◌<◌, ℕ, Bool, cond, List, length, sym, arith}
+use Rattle.std.proofs.lemmas.List.{ext_get_or}
+use Rattle.sqlite_disk.specs.Disk.{Holds}
 use Rattle.sqlite_disk.specs.Events.{Event, replay}
-use Rattle.sqlite_wal.specs.Recovery.{Image}
-
--- a log and a database file
-abbrev pub image : List ℕ → List ℕ → Image
-image log db = record { log = log; db = db }
 
 -- what a file that held these bytes shows after a history
 abbrev pub shown : List ℕ → List ℕ → Bool → List Event → List ℕ
 shown log db is_log history = (replay (cond is_log log db) history).seen
+
+-- as many bytes as a file has, and those that it has from its beginning on, are its bytes
+pub whole : (file copy : List ℕ) → length copy ≡ length file → (0 < length copy → Holds file 0 copy) → copy ≡ file
+whole file copy same holds = ext_get_or 0 copy file same (λ i low. sym ((holds (omega (arith, low))).each i low))

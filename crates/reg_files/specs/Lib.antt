@@ -1,0 +1,2 @@
+pub mod Overlaid
+pub mod Reading

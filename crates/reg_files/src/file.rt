@@ -1,19 +1,18 @@
 //! Files that hold databases.
 
-ghost use Rattle.std.specs.Prelude.{◌≡◌, ◌≢◌, ◌⊎◌, ◌≤◌, ◌++◌, codes, false, string_bytes, IfOk, IfErr, IfSome};
+ghost use Rattle.std.specs.Prelude.{◌≡◌, ◌≢◌, ◌⊎◌, ◌≤◌, false, IfOk, IfErr};
 ghost use Rattle.sqlite.specs.Files.{file_state, IsOpened};
 ghost use Rattle.sqlite.specs.Held.{IsNew};
 ghost use Rattle.sqlite.specs.Start.{FindsIn};
 ghost use Rattle.sqlite.specs.State.{HasCleanDisk};
-ghost use Rattle.sqlite_std_file.specs.File.{file_is_usable, IsFresh};
 ghost use Rattle.sqlite_wal.specs.Files.{image_at};
 
-use reg_causes::{Cause, of_database, of_io, of_opening};
+use crate::holding::{held_alone, log_of};
+use crate::unopened::{Unopened, no_database, not_found, with_cause};
+use reg_causes::{Cause, of_io};
 use reg_core::Fault;
-use sqlite::{Connection, Error, ErrorCode, FileFrom, FileStore, Options};
-use sqlite_disk::{Start, Unknown};
-use sqlite_std_file::OpenError;
-use std::alloc::AllocError;
+use sqlite::{Connection, FileFrom, FileStore, Options};
+use sqlite_disk::Start;
 use std::fs;
 use std::fs::OpenOptions;
 use std::hash::{BuildHasher, RandomState};
@@ -31,15 +30,6 @@ const MOST_PAGES: usize = 131_072;
 
 /// The mode of a file that its owner alone may read and write.
 const OWNER_ALONE: u32 = 0o600;
-
-/// Why a file is not opened: the fault, and its cause where that is known.
-#[derive(Clone, Copy, PartialEq, Eq)]
-pub struct Unopened {
-    /// The fault.
-    pub fault: Fault,
-    /// The cause that the call told which failed.
-    pub cause: Option<Cause>,
-}
 
 /// Opens the file at a path as a database, or makes it, with its checks for damage; `start` stands for what the file and
 /// its log hold. There is room in memory for twice the pages that the file has now, 8 MB at least and 512 MiB at most, and for
@@ -74,51 +64,9 @@ pub fn open_file<S: Start>(
     }
 }
 
-/// A fault with its cause.
-fn with_cause(fault: Fault, cause: Option<Cause>) -> Unopened
-    ensures fault { result.fault ≡ fault }
-    ensures cause { result.cause ≡ cause }
-{
-    Unopened { fault, cause }
-}
-
-/// Why files are not opened.
-fn not_found(error: &OpenError) -> Unopened
-    ensures { (result.fault ≡ Fault.Memory) ⊎ (result.fault ≡ Fault.Store) }
-{
-    let fault = match error {
-        OpenError::OutOfMemory => Fault::Memory,
-        OpenError::Io(error) if error.kind() == ErrorKind::OutOfMemory => Fault::Memory,
-        _ => Fault::Store,
-    };
-    with_cause(fault, of_opening(error))
-}
-
-/// Why files hold no database.
-fn no_database(error: &Error) -> Unopened
-    ensures { (result.fault ≡ Fault.Memory) ⊎ (result.fault ≡ Fault.Store) }
-{
-    let fault = match error {
-        Error::SqliteFailure(ErrorCode::OutOfMemory) => Fault::Memory,
-        _ => Fault::Store,
-    };
-    with_cause(fault, of_database(error))
-}
-
-/// Why nothing is found at a path; `None` where something is.
-pub fn absent(rt: &HostRuntime, path: &str) -> Option<Unopened>
-    ensures { IfSome result (λ why. why.fault ≡ Fault.Store) }
-{
-    match fs::exists(rt, path) {
-        Ok(true) => None,
-        Ok(false) => Some(with_cause(Fault::Store, Some(Cause::NoFile))),
-        Err(error) => Some(with_cause(Fault::Store, of_io(error.kind()))),
-    }
-}
-
 /// How a file is opened: with room for its pages, and as much for changed ones before they go to the log; and with a random
 /// number for the marks in its log.
-fn options_for(rt: &HostRuntime, path: &str) -> Result<Options, Unopened>
+pub(crate) fn options_for(rt: &HostRuntime, path: &str) -> Result<Options, Unopened>
     ensures room { IfOk result (λ options. (2000 ≤ options.cache_pages) × (options.cache_pages ≤ 131072)
         × (options.spill_pages ≡ options.cache_pages)) }
     ensures faults { IfErr result (λ why. why.fault ≡ Fault.Store) }
@@ -194,9 +142,9 @@ fn unlaid_by(kind: ErrorKind) -> Unlaid
 }
 
 /// Removes a database's file and its log. It holds them meanwhile, as who opens them does, so that what another program
-/// has open stays; what can't be removed stays too.
+/// has open stays; what can't be removed stays too. Nothing is written before, so a disk that fails does not keep it from that.
 pub fn remove_file(rt: &HostRuntime, path: &str) {
-    let Ok(held) = sqlite_std_file::open(rt, path, Unknown) else {
+    let Some(held) = held_alone(rt, path) else {
         return;
     };
     drop(fs::remove_file(rt, path));
@@ -204,14 +152,4 @@ pub fn remove_file(rt: &HostRuntime, path: &str) {
         drop(fs::remove_file(rt, log.as_str()));
     }
     drop(held);
-}
-
-/// The path of the log that lies beside a database's file.
-fn log_of(rt: &HostRuntime, path: &str) -> Result<String, AllocError>
-    ensures { IfOk result (λ log. string_bytes log ≡ path.now ++ codes "-wal") }
-{
-    let mut log = String::new(rt.alloc());
-    log.push_str(path)?;
-    log.push_str("-wal")?;
-    Ok(log)
 }

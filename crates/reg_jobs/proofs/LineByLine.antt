@@ -1,5 +1,5 @@
 -- A script that is run line by line.
-use Rattle.std.proofs.Common.{◌≡◌, ◌≢◌, ◌⊎◌, ℕ, ◌+◌, ◌-◌, ◌<◌, ◌≤◌, Bool, true, false, List, [], ◌∷◌, ◌++◌, length, take, drop, IsTrue, Option, Some, None, Result, Ok, Err, refl, sym, ap, ◌∙◌, subst, arith, inl, inr, length-append, length-take, length-drop, append-nil, append_assoc}
+use Rattle.std.proofs.Common.{◌≡◌, ◌≢◌, ◌⊎◌, ℕ, ◌+◌, ◌-◌, ◌<◌, ◌≤◌, Bool, true, false, List, [], ◌∷◌, ◌++◌, length, take, drop, IsFalse, IsTrue, Option, Some, None, Result, Ok, Err, refl, sym, ap, ◌∙◌, subst, arith, inl, inr, length-append, length-take, length-drop, append-nil, append_assoc}
 use Rattle.std.specs.Io.KnownBytes.{Appends, Consumes, IsAtEnd}
 use Rattle.std.specs.List.{AllByRecursion, concat}
 use Rattle.std.proofs.lemmas.Bool.{false≢true}
@@ -11,12 +11,13 @@ use Rattle.reg_calls.specs.Steps.{Signs}
 use Rattle.reg_calls.specs.Leads.{Leads}
 use Rattle.reg_endings.specs.declared.failure.Failure.{Failure}
 use Rattle.reg_endings.specs.declared.failure.Failure.TheVariants as failure
-use Rattle.reg_lines.specs.Script.{HasNoLf, IsWhole}
-use Rattle.reg_jobs.proofs.Pieces.{AreWhole, concat_push, turned, whole_at}
+use Rattle.reg_lines.specs.Accepted.{IsAccepted}
+use Rattle.reg_lines.specs.Script.{IsWhole}
+use Rattle.reg_jobs.proofs.Pieces.{concat_push, turned, whole_at, whole_push}
 use Rattle.reg_jobs.proofs.Talking.{all_push}
-use Rattle.reg_jobs.specs.Asking.{IsAccepted, IsOfTalk}
+use Rattle.reg_jobs.specs.Asking.{AreWhole, IsCut, IsOfTalk}
 use Rattle.reg_jobs.specs.Exchanges.{Entry, LineRuns}
-use Rattle.reg_jobs.specs.Lined.{AreLines, EndsOrNot, EndsRefused, Fails, IsLine, LineBy, LinesEnd, NextEnds, TellEnds, TellsLast, TellsNot, TellsWhole}
+use Rattle.reg_jobs.specs.Lined.{AreLines, EndsOrNot, IsLine, LastEnds, LineBy, LinesEnd, TellEnds, TellsLast, TellsNot, TellsWhole}
 use Rattle.reg_wire.proofs.PublicLaws.{answered_push, cut_at_mark, front_of_second, held_now, no_byte}
 use Rattle.reg_wire.specs.Fill.{FillsShort, FillsTo}
 use Rattle.reg_wire.specs.Put.{AppendsFront}
@@ -25,19 +26,15 @@ use Rattle.reg_wire.specs.declared.fill.Reached.TheVariants.{Mark, Full, End}
 
 -- ---- lines
 
-whole_push : (lines : List (List ℕ)) (line : List ℕ) → AreWhole lines → IsWhole line → AreWhole (lines ++ line ∷ [])
-whole_push [] line all one = (one, tt)
-whole_push (first ∷ rest) line all one = (all.0, whole_push rest line all.1 one)
+are_lines : (is_strict : Bool) (lines : List (List ℕ)) → AreWhole lines → AreLines is_strict lines
+are_lines is_strict [] all = tt
+are_lines is_strict (line ∷ []) all = inl all.0
+are_lines is_strict (line ∷ next ∷ rest) all = (all.0, are_lines is_strict (next ∷ rest) all.1)
 
-are_lines : (lines : List (List ℕ)) → AreWhole lines → AreLines lines
-are_lines [] all = tt
-are_lines (line ∷ []) all = inl all.0
-are_lines (line ∷ next ∷ rest) all = (all.0, are_lines (next ∷ rest) all.1)
-
-lines_push : (lines : List (List ℕ)) (line : List ℕ) → AreWhole lines → IsLine line → AreLines (lines ++ line ∷ [])
-lines_push [] line all is = is
-lines_push (first ∷ []) line all is = (all.0, is)
-lines_push (first ∷ next ∷ rest) line all is = (all.0, lines_push (next ∷ rest) line all.1 is)
+lines_push : (is_strict : Bool) (lines : List (List ℕ)) (line : List ℕ) → AreWhole lines → IsLine is_strict line → AreLines is_strict (lines ++ line ∷ [])
+lines_push is_strict [] line all is = is
+lines_push is_strict (first ∷ []) line all is = (all.0, is)
+lines_push is_strict (first ∷ next ∷ rest) line all is = (all.0, lines_push is_strict (next ∷ rest) line all.1 is)
 
 -- what was taken behind what was held, cut behind one line more
 joined : (lines : List (List ℕ)) (held took line rest : List ℕ) → held ++ took ≡ line ++ rest
@@ -87,10 +84,22 @@ module _ {H : Type 0} (tells : H → List ℕ → List ℕ → H → Type 0) (is
     consumed = to.fills.consumed;
     failed = elim told [
       | inl quiet ↦ inl quiet
-      | inr (reply, fails) ↦
-          inr (take end after, drop end (take now after), reply, cut_at_mark (10 ∷ []) input left before after held end now to, inl (whole_at input left before after held end now to), fails)
+      | inr (reply, fails) ↦ inr (inl (
+        take end after,
+        drop end (take now after),
+        reply,
+        cut_at_mark (10 ∷ []) input left before after held end now to,
+        inl (whole_at input left before after held end now to),
+        fails,
+      ))
     ];
   }
+
+  -- one that is told, where a script is not strict
+  pub last_told : (s t : H) (out out' : Option (List ℕ)) (line : List ℕ) (result : Result (Unit {0}) Failure) → IsFalse is_strict
+      → TellEnds tells is_strict s t out out' line result → LastEnds tells is_strict s t out out' line result
+  last_told s t out out' line (Ok done) lax told = (lax, told)
+  last_told s t out out' line (Err why) lax told = inr (lax, told)
 
   pub tells_none : (s : H) (input left out : Option (List ℕ)) (before after : List ℕ) (held : ℕ)
       → FillsTo (10 ∷ []) input left before after held (End 0) → TellsLast tells is_strict s s out out input left (take held before)
@@ -104,8 +113,13 @@ module _ {H : Type 0} (tells : H → List ℕ → List ℕ → H → Type 0) (is
   last_some : (after : List ℕ) (now : ℕ) → now < length after → now ≢ 0 → 0 < length (take now after)
   last_some after now room some = omega (arith, length-take now after)
 
+  -- the bytes that are left there
+  last_cut : (input left : Option (List ℕ)) (before after : List ℕ) (held now : ℕ) → FillsTo (10 ∷ []) input left before after held (End now) → now ≢ 0
+      → IsCut (take now after)
+  last_cut input left before after held now to some = (no_byte 10 (take now after) to.rests.1, last_some after now to.rests.0 some)
+
   pub tells_last : (s t : H) (input left out out' : Option (List ℕ)) (before after : List ℕ) (held now : ℕ)
-      → FillsTo (10 ∷ []) input left before after held (End now) → now ≢ 0 → TellEnds tells is_strict s t out out' (take now after) (Ok tt)
+      → FillsTo (10 ∷ []) input left before after held (End now) → now ≢ 0 → LastEnds tells is_strict s t out out' (take now after) (Ok tt)
       → TellsLast tells is_strict s t out out' input left (take held before)
   tells_last s t input left out out' before after held now to some told =
       let same = held_now (10 ∷ []) input left before after held (End now) to in record {
@@ -113,30 +127,31 @@ module _ {H : Type 0} (tells : H → List ℕ → List ℕ → H → Type 0) (is
         consumed = to.fills.consumed;
         at_end = to.rests.2;
         told = inr (
-          subst HasNoLf same (no_byte 10 (take now after) to.rests.1),
-          subst (λ (l : List ℕ). 0 < length l) same (last_some after now to.rests.0 some),
-          subst (λ l. TellEnds tells is_strict s t out out' l (Ok tt)) same told,
+          subst IsCut same (last_cut input left before after held now to some),
+          told.0,
+          subst (λ l. TellEnds tells is_strict s t out out' l (Ok tt)) same told.1,
         );
       }
 
   pub tells_not_last : (s t : H) (input left out out' : Option (List ℕ)) (before after : List ℕ) (held now : ℕ) (why : Failure)
-      → FillsTo (10 ∷ []) input left before after held (End now) → now ≢ 0 → TellEnds tells is_strict s t out out' (take now after) (Err why)
+      → FillsTo (10 ∷ []) input left before after held (End now) → now ≢ 0 → LastEnds tells is_strict s t out out' (take now after) (Err why)
       → TellsNot tells is_strict s t out out' input left (take held before) why
   tells_not_last s t input left out out' before after held now why to some told =
       let same = held_now (10 ∷ []) input left before after held (End now) to in record {
         took = to.took;
         consumed = to.fills.consumed;
         failed = elim told [
-          | inl quiet ↦ inl quiet
-          | inr (reply, fails) ↦
-              inr (
-                take now after,
-                [],
-                reply,
-                sym same ∙ sym (append-nil (take now after)),
-                inr (no_byte 10 (take now after) to.rests.1, last_some after now to.rests.0 some),
-                fails,
-              )
+          | inl (is, strict, stays, quiet) ↦
+              inr (inr (is, strict, subst IsCut same (last_cut input left before after held now to some), to.rests.2, stays, quiet))
+          | inr (lax, inl quiet) ↦ inl quiet
+          | inr (lax, inr (reply, fails)) ↦ inr (inl (
+            take now after,
+            [],
+            reply,
+            sym same ∙ sym (append-nil (take now after)),
+            inr (lax, last_cut input left before after held now to some),
+            fails,
+          ))
         ];
       }
 
@@ -211,19 +226,19 @@ module _ {H : Type 0} (tells : H → List ℕ → List ℕ → H → Type 0) (is
           g.replies,
           subst (λ v. Answered tells s g.lines g.replies v) (sym same) g.answered,
           (
-            are_lines g.lines g.whole,
+            are_lines is_strict g.lines g.whole,
             subst (Consumes input left) (none_joined g.lines held last.took none) consumed,
             last.at_end,
             subst (λ o. Appends out o (concat g.replies)) (sym quiet) g.said,
             g.passed,
           ),
         )
-        | inr (free, some, (reply, step, said, passes)) ↦ (
+        | inr (cut, lax, (reply, step, said, passes)) ↦ (
           g.lines ++ (held ++ last.took) ∷ [],
           g.replies ++ reply ∷ [],
           answered_push tells s m t g.lines g.replies (held ++ last.took) reply g.answered step,
           (
-            lines_push g.lines (held ++ last.took) g.whole (inr (free, some)),
+            lines_push is_strict g.lines (held ++ last.took) g.whole (inr (lax, cut)),
             subst (Consumes input left) (last_joined g.lines held last.took) consumed,
             last.at_end,
             said_more out middle out' g.replies reply g.said said,
@@ -241,13 +256,11 @@ module _ {H : Type 0} (tells : H → List ℕ → List ℕ → H → Type 0) (is
     g.replies,
     subst (λ v. Answered tells s g.lines g.replies v) (sym same) g.answered,
     (
-      are_lines g.lines g.whole,
-      (
-        held ++ took,
-        subst (Consumes input left) (append_assoc (concat g.lines) held took)
-            (Consumes-trans input between left (concat g.lines ++ held) took g.consumed more),
-      ),
-      inr (talk, inl (subst (λ o. Appends out o (concat g.replies)) (sym quiet) g.said)),
+      are_lines is_strict g.lines g.whole,
+      held ++ took,
+      subst (Consumes input left) (append_assoc (concat g.lines) held took)
+          (Consumes-trans input between left (concat g.lines ++ held) took g.consumed more),
+      inr (inr (talk, inl (subst (λ o. Appends out o (concat g.replies)) (sym quiet) g.said))),
     ),
   )
 
@@ -257,17 +270,27 @@ module _ {H : Type 0} (tells : H → List ℕ → List ℕ → H → Type 0) (is
   going_failed s m t input between left out middle out' held why g not =
       elim not.failed [
         | inl (talk, same, quiet) ↦ stopped s m t input between left out middle out' held not.took why g not.consumed talk same quiet
-        | inr (line, rest, reply, cut, is, (step, how)) ↦ (
+        | inr (inr (is, strict, cut, at_end, same, quiet)) ↦ (
+          g.lines,
+          g.replies,
+          subst (λ v. Answered tells s g.lines g.replies v) (sym same) g.answered,
+          (
+            are_lines is_strict g.lines g.whole,
+            held ++ not.took,
+            subst (Consumes input left) (append_assoc (concat g.lines) held not.took)
+                (Consumes-trans input between left (concat g.lines ++ held) not.took g.consumed not.consumed),
+            inr (inl (is, strict, cut, at_end, subst (λ o. Appends out o (concat g.replies)) (sym quiet) g.said, g.passed strict)),
+          ),
+        )
+        | inr (inl (line, rest, reply, cut, is, (step, how))) ↦ (
           g.lines ++ line ∷ [],
           g.replies ++ reply ∷ [],
           answered_push tells s m t g.lines g.replies line reply g.answered step,
           (
-            lines_push g.lines line g.whole is,
-            (
-              rest,
-              subst (Consumes input left) (joined g.lines held not.took line rest cut)
-                  (Consumes-trans input between left (concat g.lines ++ held) not.took g.consumed not.consumed),
-            ),
+            lines_push is_strict g.lines line g.whole is,
+            rest,
+            subst (Consumes input left) (joined g.lines held not.took line rest cut)
+                (Consumes-trans input between left (concat g.lines ++ held) not.took g.consumed not.consumed),
             elim how [
               | inl (refused, strict, said, bad) ↦
                   inl (
@@ -276,13 +299,13 @@ module _ {H : Type 0} (tells : H → List ℕ → List ℕ → H → Type 0) (is
                     said_more out middle out' g.replies reply g.said said,
                     record { accepted = g.replies; refused = reply; parts = refl; each = g.passed strict; last = bad },
                   )
-              | inr (talk, inl said) ↦ inr (talk, inl (said_more out middle out' g.replies reply g.said said))
+              | inr (talk, inl said) ↦ inr (inr (talk, inl (said_more out middle out' g.replies reply g.said said)))
               | inr (talk, inr front) ↦
-                  inr (
+                  inr (inr (
                     talk,
                     inr (subst (AppendsFront out out') (sym (concat_push g.replies reply))
                         (front_of_second out middle out' (concat g.replies) reply g.said front)),
-                  )
+                  ))
             ],
           ),
         )
@@ -307,7 +330,7 @@ module _ {H : Type 0} (tells : H → List ℕ → List ℕ → H → Type 0) (is
     g.replies,
     g.answered,
     (
-      are_lines g.lines g.whole,
+      are_lines is_strict g.lines g.whole,
       subst (Consumes input left) (none_joined g.lines held [] (append-nil held ∙ none))
           (Consumes-trans input between left (concat g.lines ++ held) [] g.consumed ends.0),
       ends.1,

@@ -7,6 +7,7 @@ use Rattle.reg_lines.specs.Script.{IsWhole}
 use Rattle.reg_wire.proofs.PublicLaws.{byte_first}
 use Rattle.reg_wire.specs.Fill.{FillsTo}
 use Rattle.reg_wire.specs.declared.fill.Reached.TheVariants.{Mark}
+use Rattle.reg_jobs.specs.Asking.{AreWhole}
 
 -- one more list at the end of those that are joined
 pub concat_push : (xs : List (List ℕ)) (x : List ℕ) → concat (xs ++ x ∷ []) ≡ concat xs ++ x
@@ -19,10 +20,10 @@ turned buffer end now below fits =
     ∙ sym (drop-take end (now - end) buffer)
     ∙ ap (λ n. drop end (take n buffer)) (let e : end + (now - end) ≡ now = omega arith in e)
 
--- each of the lines ends with its LF
-abbrev pub AreWhole : List (List ℕ) → Type 0
-AreWhole [] = Unit {0}
-AreWhole (line ∷ rest) = IsWhole line × AreWhole rest
+-- one line more that ends with its LF
+pub whole_push : (lines : List (List ℕ)) (line : List ℕ) → AreWhole lines → IsWhole line → AreWhole (lines ++ line ∷ [])
+whole_push [] line all one = (one, tt)
+whole_push (first ∷ rest) line all one = (all.0, whole_push rest line all.1 one)
 
 -- what is read up to an LF is a whole line
 pub whole_at : (input left : Option (List ℕ)) (before after : List ℕ) (held end now : ℕ)

@@ -1,5 +1,5 @@
 -- How a job of the program ends.
-use Rattle.std.specs.Prelude.{◌≡◌, ◌≢◌, ◌⊎◌, ℕ, List, codes, Result, Ok, Err, Some, None}
+use Rattle.std.specs.Prelude.{◌≡◌, ◌≢◌, ◌⊎◌, ℕ, Bool, true, false, List, codes, Result, Ok, Err, Some, None}
 use Rattle.std.specs.declared.option.Option.{Option}
 use Rattle.std.specs.Io.KnownBytes.{Appends}
 use Rattle.reg_core.specs.Issuer.{Issuer}
@@ -19,6 +19,8 @@ use Rattle.reg_endings.specs.declared.failure.Failure.{Failure}
 use Rattle.reg_endings.specs.declared.failure.Failure.TheVariants as failure
 use Rattle.reg_lines.specs.Import.{ImportEnds}
 use Rattle.reg_lines.specs.Script.{ScriptEnds}
+use Rattle.reg_lines.specs.Strict.{StrictEnds}
+use Rattle.reg_lines.specs.declared.strict.Imported.{Imported}
 use Rattle.reg_tables.specs.Stays.{IsCallFault}
 use Rattle.reg_tables.specs.declared.fault.StoreFault.{StoreFault}
 use Rattle.reg_findings.specs.Lines.{broken_text, sound_text}
@@ -41,7 +43,7 @@ use Rattle.reg_jobs.specs.Sample.{sample_records}
 use Rattle.reg_jobs.specs.Schedules.{Reschedules}
 use Rattle.reg_jobs.specs.Serving.{OpenedAt, Opens, Serves, ServedAt}
 use Rattle.reg_jobs.specs.Signing.{Signing, by_itself}
-use Rattle.reg_jobs.specs.Visits.{Visits, NotAudited, NotOpened, Makes, NotMade, ending_of}
+use Rattle.reg_jobs.specs.Visits.{Visits, NotAudited, NotOpened, Makes, NotMade, ending_of, ending_of_import}
 use Rattle.reg_jobs.specs.declared.front.Front.{Ghosts as Front}
 use Rattle.reg_jobs.specs.declared.place.Place.{Ghosts as Place}
 
@@ -99,11 +101,11 @@ module _ {W P K : Type 0} (contents : W → Option (List ℕ)) (writer writer' :
         × Visits places keeper place place' path None (λ identity before after. Crls before number given after)
         × SaysGiven contents writer writer' given result)
 
-    -- an audit of the register at a path: it could not be looked at, or what was found is told
+    -- an audit of the register at a path: it could not be looked at, or what was found is told; the place is as it was
     abbrev pub AuditAt : List ℕ → Result (Unit {0}) Failure → Type 0
     AuditAt path result =
-        (NotAudited places place place' path result × (writer' ≡ writer))
-        ⊎ ((found : Verdict) × places.audited place path found place' × TellsVerdict contents writer writer' found result)
+        (place' ≡ place) × ((NotAudited places place path result × (writer' ≡ writer))
+        ⊎ ((found : Verdict) × places.audited place path found × TellsVerdict contents writer writer' found result))
 
     -- another schedule for the register at a path: its steps are looked at before the path is
     abbrev pub ScheduleAt : List ℕ → List (ℕ × ℕ) → Result (Unit {0}) Failure → Type 0
@@ -191,10 +193,18 @@ module _ {E W : Type 0} (remaining : E → Option (List ℕ)) (contents : W → 
         (λ identity before after. Answered (LineBy way.is_clocked keeper.signs front.told identity) before lines replies after)
         × LinesEnd way.is_strict lines replies (remaining reader) (remaining reader') (contents writer) (contents writer') result)
 
-    -- an import into the register at a path, at a moment
-    abbrev pub ImportAt : List ℕ → ℕ → Result (Unit {0}) Failure → Type 0
-    ImportAt path now = RunsAt path None (λ ran identity before after.
+    -- a strict import into the register at a path, at a moment
+    abbrev pub StrictImportAt : List ℕ → ℕ → Result (Unit {0}) Failure → Type 0
+    StrictImportAt path now result =
+        (NotOpened places keeper place place' path None result × IsSilent)
+        ⊎ ((ran : Result Imported Fault) × (result ≡ ending_of_import ran) × Visits places keeper place place' path None
+        (λ identity before after. StrictEnds (Lines keeper.signs identity) remaining contents now before after reader reader' writer writer' ran))
+
+    -- an import into the register at a path, at a moment, which is strict or is not
+    abbrev pub ImportAt : Bool → List ℕ → ℕ → Result (Unit {0}) Failure → Type 0
+    ImportAt false path now = RunsAt path None (λ ran identity before after.
         ImportEnds (Lines keeper.signs identity) remaining contents now before after reader reader' writer writer' ran)
+    ImportAt true path now = StrictImportAt path now
 
     -- the end of a job: what it read, what it did at its place to the register at its path and nothing else, and what it wrote; nothing
     -- holds the key of the sample issuer in memory
@@ -205,7 +215,7 @@ module _ {E W : Type 0} (remaining : E → Option (List ℕ)) (contents : W → 
     Ends front (job.Script None None) result = (place' ≡ place) × ScriptInMemory result
     Ends front (job.Script None (Some holder)) result = (place' ≡ place) × IsSilent × (result ≡ Err failure.BadSigner)
     Ends front (job.Lines file signer way) result = LinesAt front file signer way result
-    Ends front (job.Import file now) result = ImportAt file now result
+    Ends front (job.Import file now is_strict) result = ImportAt is_strict file now result
     Ends front (job.Crl file number) result = (reader' ≡ reader) × CrlAt contents writer writer' places keeper place place' file number result
     Ends front (job.Schedule file steps) result =
         (reader' ≡ reader) × ScheduleAt contents writer writer' places keeper place place' file steps result
@@ -216,4 +226,4 @@ module _ {E W : Type 0} (remaining : E → Option (List ℕ)) (contents : W → 
     Ends front (job.Open file port counter signer answerer) result =
         (reader' ≡ reader) × OpenAt contents writer writer' places keeper place place' front file signer answerer port counter result
     Ends front (job.Audit file) result = (reader' ≡ reader) × AuditAt contents writer writer' places keeper place place' file result
-    Ends front (job.At counter) result = (place' ≡ place) × AtCounter (front.met counter) (contents writer) (contents writer') result
+    Ends front (job.At counter) result = (place' ≡ place) × AtCounter (front.met counter) (remaining reader) (contents writer) (contents writer') result

@@ -25,6 +25,8 @@ IsMaking failure.BadPolicy = ⊥
 IsMaking failure.BadSigner = ⊥
 IsMaking failure.BadResponder = ⊥
 IsMaking failure.Refused = ⊥
+IsMaking failure.NoLineEnd = ⊥
+IsMaking failure.RefusedNoLineEnd = ⊥
 IsMaking failure.Broken = ⊥
 
 -- of one that is opened: such a fault, a file that holds no register of a version up to this program's, `bad-signer` or `bad-responder`
@@ -39,4 +41,6 @@ IsOpening failure.BadPolicy = ⊥
 IsOpening failure.BadSigner = Unit {0}
 IsOpening failure.BadResponder = Unit {0}
 IsOpening failure.Refused = ⊥
+IsOpening failure.NoLineEnd = ⊥
+IsOpening failure.RefusedNoLineEnd = ⊥
 IsOpening failure.Broken = ⊥

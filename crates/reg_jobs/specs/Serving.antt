@@ -53,6 +53,8 @@ Served port requests inputs out out' (Err failure.BadPolicy) = ⊥
 Served port requests inputs out out' (Err failure.BadSigner) = ⊥
 Served port requests inputs out out' (Err failure.BadResponder) = ⊥
 Served port requests inputs out out' (Err failure.Refused) = ⊥
+Served port requests inputs out out' (Err failure.NoLineEnd) = ⊥
+Served port requests inputs out out' (Err failure.RefusedNoLineEnd) = ⊥
 Served port requests inputs out out' (Err failure.Broken) = ⊥
 
 -- the port was not bound and nothing was written; or it was, and that was served there

@@ -1,5 +1,5 @@
 -- Who signs for a register that is opened.
-use Rattle.std.specs.Prelude.{◌≡◌, ℕ, List, Option, Some, None, IfSome, MatchOption}
+use Rattle.std.specs.Prelude.{◌≡◌, ◌⊎◌, ℕ, List, Option, Some, None, IfSome, MatchOption}
 use Rattle.reg_calls.specs.Signatories.{Responder, Signatory, signs_both}
 use Rattle.reg_core.specs.Crls.{latest}
 use Rattle.reg_core.specs.Records.{Crl, Records}
@@ -71,7 +71,12 @@ EmbedsOwn key responder =
     (IfSome responder.certificate (λ certificate. (algorithm : List ℕ) × IsCertificateOf certificate algorithm key))
     (λ own. Unit {0})
 
--- no CRL was issued yet, or the latest is signed under no other algorithm (RFC 5280 5.1.1.2)
+-- what is signed under an algorithm may stand behind a CRL under this one: it is the same, or that of the digest, which any key may follow
+-- (RFC 5280 5.1.1.2)
+abbrev pub MayFollow : List ℕ → List ℕ → Type 0
+MayFollow algorithm earlier = (earlier ≡ algorithm) ⊎ (earlier ≡ digest.algorithm)
+
+-- no CRL was issued yet, or what is signed under this algorithm may stand behind the latest one
 abbrev pub Follows : Records → List ℕ → Type 0
 Follows records algorithm =
-    (crl : Crl) → latest records.crls ≡ Some crl → (other : List ℕ) → IsCrlUnder crl.bytes other → other ≡ algorithm
+    (crl : Crl) → latest records.crls ≡ Some crl → (other : List ℕ) → IsCrlUnder crl.bytes other → MayFollow algorithm other

@@ -7,6 +7,8 @@ use Rattle.reg_calls.specs.Leads.{Leads}
 use Rattle.reg_calls.specs.declared.keeper.Keeper.{Ghosts as Keeper}
 use Rattle.reg_endings.specs.declared.failure.Failure.{Failure}
 use Rattle.reg_endings.specs.declared.failure.Failure.TheVariants as failure
+use Rattle.reg_lines.specs.declared.strict.Imported.{Imported}
+use Rattle.reg_lines.specs.declared.strict.Imported.TheVariants as imported
 use Rattle.reg_jobs.specs.Failing.{IsMaking, IsOpening}
 use Rattle.reg_jobs.specs.Signing.{Signing}
 use Rattle.reg_jobs.specs.declared.place.Place.{Ghosts as Place}
@@ -15,6 +17,13 @@ use Rattle.reg_jobs.specs.declared.place.Place.{Ghosts as Place}
 abbrev pub ending_of : Result (Unit {0}) Fault → Result (Unit {0}) Failure
 ending_of (Ok done) = Ok done
 ending_of (Err fault) = Err (failure.Fault fault)
+
+-- how a job ends whose strict import of rows ended so
+abbrev pub ending_of_import : Result Imported Fault → Result (Unit {0}) Failure
+ending_of_import (Ok imported.Whole) = Ok tt
+ending_of_import (Ok imported.Refused) = Err failure.Refused
+ending_of_import (Ok imported.NoLineEnd) = Err failure.NoLineEnd
+ending_of_import (Err fault) = Err (failure.Fault fault)
 
 -- What calls of a place did: the place before them and after them. No other call that may change it lies between.
 module _ {P K : Type 0} (places : Place P K) (keeper : Keeper K) (place place' : P) where
@@ -47,5 +56,5 @@ module _ {P K : Type 0} (places : Place P K) (keeper : Keeper K) (place place' :
   NotMade path result = (why : Failure) × (result ≡ Err why) × places.unmade place path why place' × IsMaking why
 
 -- no audit was had of what lies at a path, and that is how the job ends
-abbrev pub NotAudited : {P K : Type 0} → Place P K → P → P → List ℕ → Result (Unit {0}) Failure → Type 0
-NotAudited places place place' path result = (why : Failure) × (result ≡ Err why) × places.unaudited place path why place' × IsOpening why
+abbrev pub NotAudited : {P K : Type 0} → Place P K → P → List ℕ → Result (Unit {0}) Failure → Type 0
+NotAudited places place path result = (why : Failure) × (result ≡ Err why) × places.unaudited place path why × IsOpening why

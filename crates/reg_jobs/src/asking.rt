@@ -1,17 +1,43 @@
 //! The job `at`: lines told to the counter of an open desk, and its replies.
 
-ghost use Rattle.std.specs.Prelude.{◌≡◌, ◌↔◌, IsFalse, IsTrue, IfErr, IfOk, MatchResult};
+ghost use Rattle.std.specs.Prelude.{◌≡◌, ◌⊎◌, ◌↔◌, IsFalse, IsTrue, IfErr, IfOk, MatchResult};
+ghost use Rattle.std.specs.Io.{StopsAt};
+ghost use Rattle.std.specs.Io.BufRead.{ends_with_byte};
 ghost use Rattle.std.specs.Io.KnownBytes.{Consumes};
-ghost use Rattle.reg_jobs.specs.Asking.{AtCounter, IsAccepted, IsOfTalk, Talks, TalksOnce};
+ghost use Rattle.reg_jobs.specs.Asking.{AtCounter, IsOfTalk, IsReadAs, NextIs, Talks, TalksOnce, TalksOver};
 
 use crate::front::Front;
 use crate::telling::say;
 use reg_core::Fault;
 use reg_endings::Failure;
+use reg_lines::is_accepted;
 use std::alloc::Global;
 use std::io::{BufRead, BufReader, Read, Write};
+use std::os::unix::net::UnixStream;
 
-/// Tells each line of standard input to the counter at a path, and says its replies.
+/// What an input has next.
+#[derive(Drop)]
+enum Next {
+    /// A line, with its LF.
+    Line(Vec<u8>),
+    /// A last line without its end.
+    Cut,
+    /// Nothing.
+    End,
+}
+
+/// What the next line of a talk came to.
+#[derive(Clone, Copy)]
+enum Step {
+    /// It was told, and its reply was accepted or was not.
+    Told(bool),
+    /// It has no end, and was not told.
+    Cut,
+    /// There is none.
+    End,
+}
+
+/// Tells each line of standard input to the counter at a path, and says its replies. A last line without its end is not told.
 pub fn at<F: Front, R: Read, W: Write>(
     alloc: Global,
     front: &F,
@@ -19,28 +45,41 @@ pub fn at<F: Front, R: Read, W: Write>(
     reader: &mut R,
     writer: &mut W,
 ) -> Result<(), Failure>
-    ensures { AtCounter (F.met counter.now) (W.contents writer.old) (W.contents writer.new) result }
+    ensures { AtCounter (F.met counter.now) (R.remaining reader.old) (W.contents writer.old) (W.contents writer.new) result }
 {
-    let Ok(link) = front.meet(counter) else {
-        return Err(Failure::Fault(Fault::Read));
-    };
-    let (Ok(mut input), Ok(mut came)) = (
-        BufReader::new(alloc, reader),
-        BufReader::new(alloc, &link),
-    ) else {
-        return Err(Failure::Fault(Fault::Memory));
-    };
-    let mut sent = &link;
-    talk(alloc, &mut input, writer, &mut came, &mut sent)
+    match front.meet(counter) {
+        Ok(link) => talk_over(alloc, &link, reader, writer),
+        Err(_) => Err(Failure::Fault(Fault::Read)),
+    }
 }
 
-/// Tells each line of the input to a counter, each once the reply to the one before it came, and says each reply. A last line with
-/// no LF gets one.
+/// Tells each line of a reader over a connection to a counter, and says its replies.
+fn talk_over<R: Read, W: Write>(
+    alloc: Global,
+    link: &UnixStream,
+    reader: &mut R,
+    writer: &mut W,
+) -> Result<(), Failure>
+    ensures { TalksOver (R.remaining reader.old) (W.contents writer.old) (W.contents writer.new) result }
+{
+    let Ok(mut came) = BufReader::new(alloc, link) else {
+        return Err(Failure::Fault(Fault::Memory));
+    };
+    let mut sent = link;
+    match BufReader::new(alloc, reader) {
+        Ok(mut input) => talk(alloc, &mut input, writer, &mut came, &mut sent),
+        Err(_) => Err(Failure::Fault(Fault::Memory)),
+    }
+}
+
+/// Tells each line of the input to a counter, each once the reply to the one before it came, and says each reply. A last line without
+/// its end is not told.
 ///
 /// # Errors
 ///
-/// `Refused` where a reply was a refusal or a fault, once all are told. `Read` where the input fails, or the counter fails or ends
-/// before a reply is whole; `Write` where the counter takes no line, or a reply can't be said; `Memory`.
+/// Once all lines are told, `Refused` where a reply was a refusal or a fault, `NoLineEnd` where a last line without its end is left, and
+/// `RefusedNoLineEnd` for both. `Read` where the input fails, or the counter fails or ends before a reply is whole; `Write` where the
+/// counter takes no line, or a reply can't be said; `Memory`.
 pub fn talk<R: BufRead, W: Write, C: BufRead, S: Write>(
     alloc: Global,
     input: &mut R,
@@ -49,17 +88,18 @@ pub fn talk<R: BufRead, W: Write, C: BufRead, S: Write>(
     sent: &mut S,
 ) -> Result<(), Failure>
     ensures { Talks (S.contents sent.old) (S.contents sent.new) (C.remaining came.old) (C.remaining came.new)
-        (W.contents writer.old) (W.contents writer.new) result }
+        (W.contents writer.old) (W.contents writer.new) (R.remaining input.old) result }
 {
     let mut is_accepted = true;
     for _ in 0..u64::MAX {
-        let told = match talk_once(alloc, input, writer, came, sent) {
-            Ok(told) => told,
+        let step = match talk_once(alloc, input, writer, came, sent) {
+            Ok(step) => step,
             Err(why) => return Err(why),
         };
-        match told {
-            Some(accepted) => is_accepted = both(is_accepted, accepted),
-            None => return ended(is_accepted),
+        match step {
+            Step::Told(accepted) => is_accepted = both(is_accepted, accepted),
+            Step::Cut => return Err(cut_off(is_accepted)),
+            Step::End => return ended(is_accepted),
         }
     }
     Err(Failure::Fault(Fault::Read))
@@ -83,41 +123,72 @@ fn ended(is_accepted: bool) -> Result<(), Failure>
     }
 }
 
-/// Tells the next line, and says its reply: whether it was accepted. `None` where the input is at its end.
+/// The same where a last line without its end is left.
+fn cut_off(is_accepted: bool) -> Failure
+    ensures { ((result ≡ Failure.NoLineEnd) × IsTrue is_accepted) ⊎ ((result ≡ Failure.RefusedNoLineEnd) × IsFalse is_accepted) }
+{
+    if is_accepted {
+        Failure::NoLineEnd
+    } else {
+        Failure::RefusedNoLineEnd
+    }
+}
+
+/// Tells the next line, and says its reply.
 fn talk_once<R: BufRead, W: Write, C: BufRead, S: Write>(
     alloc: Global,
     input: &mut R,
     writer: &mut W,
     came: &mut C,
     sent: &mut S,
-) -> Result<Option<bool>, Failure>
+) -> Result<Step, Failure>
     ensures { TalksOnce (S.contents sent.old) (S.contents sent.new) (C.remaining came.old) (C.remaining came.new)
-        (W.contents writer.old) (W.contents writer.new) result }
+        (W.contents writer.old) (W.contents writer.new) (R.remaining input.old) (R.remaining input.new) result }
 {
-    let line = next_line(alloc, input)?;
-    if line.is_empty() {
-        return Ok(None);
-    }
+    let next = next_line(alloc, input)?;
+    let line = match next {
+        Next::Line(line) => line,
+        Next::Cut => return Ok(Step::Cut),
+        Next::End => return Ok(Step::End),
+    };
     say(sent, &line)?;
     let reply = next_reply(alloc, came)?;
     say(writer, &reply)?;
-    Ok(Some(is_accepted(&reply)))
+    Ok(Step::Told(is_accepted(&reply)))
 }
 
-/// The next line of the input, with its LF; nothing at the input's end.
-fn next_line<R: BufRead>(alloc: Global, input: &mut R) -> Result<Vec<u8>, Failure>
-    ensures { IfErr result IsOfTalk }
+/// What the input has next.
+fn next_line<R: BufRead>(alloc: Global, input: &mut R) -> Result<Next, Failure>
+    ensures ok { IfOk result (NextIs (R.remaining input.old) (R.remaining input.new)) }
+    ensures err { IfErr result IsOfTalk }
 {
     let mut line = Vec::new(alloc);
-    let Ok(_) = input.read_until(b'\n', &mut line) else {
-        return Err(Failure::Fault(Fault::Read));
-    };
-    if !line.is_empty() && !line.ends_with(b"\n") {
-        let Ok(()) = line.push(b'\n') else {
-            return Err(Failure::Fault(Fault::Memory));
-        };
+    match input.read_until(b'\n', &mut line) {
+        Ok(_) => Ok(next_of(line)),
+        Err(_) => Err(Failure::Fault(Fault::Read)),
     }
-    Ok(line)
+}
+
+/// What the bytes are that were read up to and with the first LF.
+fn next_of(line: Vec<u8>) -> Next
+    requires { StopsAt line.items 10 }
+    ensures { IsReadAs line.items result }
+{
+    if has_end(line.as_slice()) {
+        return Next::Line(line);
+    }
+    if line.as_slice().is_empty() {
+        return Next::End;
+    }
+    Next::Cut
+}
+
+/// Whether a line ends with its LF.
+fn has_end(line: &[u8]) -> bool
+    ensures { result ≡ ends_with_byte 10 line.now }
+{
+    let len = line.len();
+    len > 0 && line[len - 1] == b'\n'
 }
 
 /// The next reply of a counter, with its LF.
@@ -129,15 +200,5 @@ fn next_reply<C: BufRead>(alloc: Global, came: &mut C) -> Result<Vec<u8>, Failur
     match came.read_until(b'\n', &mut reply) {
         Ok(_) if reply.ends_with(b"\n") => Ok(reply),
         _ => Err(Failure::Fault(Fault::Read)),
-    }
-}
-
-/// Whether a reply tells neither a refusal nor a fault.
-pub(crate) fn is_accepted(reply: &[u8]) -> bool
-    ensures { IsTrue result ↔ IsAccepted reply.now }
-{
-    match reply.first() {
-        Some(first) => *first != b'E' && *first != b'F',
-        None => true,
     }
 }

@@ -1,12 +1,12 @@
 //! The jobs but `serve`.
 
-ghost use Rattle.std.specs.Prelude.{◌≡◌, Result, IfErr};
+ghost use Rattle.std.specs.Prelude.{◌≡◌, Result, IfErr, false};
 ghost use Rattle.reg_calls.specs.Items.{items_of};
 ghost use Rattle.reg_endings.specs.Checks.{terms_of};
 ghost use Rattle.reg_calls.specs.Steps.{Crls};
 ghost use Rattle.reg_calls.specs.Leads.{Leads};
-ghost use Rattle.reg_jobs.specs.Ends.{AuditAt, CrlAt, ImportAt, InitAt, KeyIdAt, MakesAt, SaysGiven, ScheduleAt, ScriptAt, TellsBroken, TellsSet, TellsSound, TellsVerdict};
-ghost use Rattle.reg_jobs.specs.Visits.{ending_of};
+ghost use Rattle.reg_jobs.specs.Ends.{AuditAt, CrlAt, ImportAt, InitAt, KeyIdAt, MakesAt, SaysGiven, ScheduleAt, ScriptAt, StrictImportAt, TellsBroken, TellsSet, TellsSound, TellsVerdict};
+ghost use Rattle.reg_jobs.specs.Visits.{ending_of, ending_of_import};
 ghost use Rattle.reg_tables.specs.Stays.{IsCallFault};
 ghost use Rattle.reg_findings.specs.Lines.{broken_text, sound_text};
 
@@ -18,8 +18,9 @@ use reg_calls::{Calls, Keeper};
 use reg_core::{Fault, Moment, Policy};
 use reg_der::Issuer;
 use reg_endings::{Failure, key_identifier_of, office_of, schedule_of};
-use reg_faces::{import, run_script};
+use reg_faces::{import, import_strictly, run_script};
 use reg_findings::{Audited, Broken, OTHER_SCHEMA, Verdict, broken_line, sound_line};
+use reg_lines::Imported;
 use reg_tables::StoreFault;
 use reg_words::{Answerer, KeyHolder, Steps, Word};
 use std::alloc::Global;
@@ -127,8 +128,58 @@ pub fn script<P: Place, F: Front, R: Read, W: Write>(
     ended(ran)
 }
 
-/// Imports standard input into the register at a path.
+/// Imports standard input into the register at a path. A strict import ends at the first refusal or fault, and runs no last row without
+/// its line end.
 pub fn import_rows<P: Place, R: Read, W: Write>(
+    alloc: Global,
+    place: &mut P,
+    path: &str,
+    now: Moment,
+    is_strict: bool,
+    reader: &mut R,
+    writer: &mut W,
+) -> Result<(), Failure>
+    ensures { ImportAt R.remaining W.contents reader.old reader.new writer.old writer.new
+        P.Place P.Opened.Keeper.own place.old place.new is_strict path.now now result }
+{
+    if is_strict {
+        return import_to_refusal(alloc, place, path, now, reader, writer);
+    }
+    import_all(alloc, place, path, now, reader, writer)
+}
+
+/// Imports standard input into the register at a path, up to the first refusal or fault.
+fn import_to_refusal<P: Place, R: Read, W: Write>(
+    alloc: Global,
+    place: &mut P,
+    path: &str,
+    now: Moment,
+    reader: &mut R,
+    writer: &mut W,
+) -> Result<(), Failure>
+    ensures { StrictImportAt R.remaining W.contents reader.old reader.new writer.old writer.new
+        P.Place P.Opened.Keeper.own place.old place.new path.now now result }
+{
+    let mut office = place.open(path)?;
+    let imported = import_strictly(alloc, reader, writer, now, &mut office);
+    place.close(path, office);
+    import_ended(imported)
+}
+
+/// How a job ends whose strict import of rows ended so.
+fn import_ended(ran: Result<Imported, Fault>) -> Result<(), Failure>
+    ensures { result ≡ ending_of_import ran }
+{
+    match ran {
+        Ok(Imported::Whole) => Ok(()),
+        Ok(Imported::Refused) => Err(Failure::Refused),
+        Ok(Imported::NoLineEnd) => Err(Failure::NoLineEnd),
+        Err(fault) => Err(Failure::Fault(fault)),
+    }
+}
+
+/// Imports standard input into the register at a path, also what is behind a refusal or a fault.
+fn import_all<P: Place, R: Read, W: Write>(
     alloc: Global,
     place: &mut P,
     path: &str,
@@ -137,7 +188,7 @@ pub fn import_rows<P: Place, R: Read, W: Write>(
     writer: &mut W,
 ) -> Result<(), Failure>
     ensures { ImportAt R.remaining W.contents reader.old reader.new writer.old writer.new
-        P.Place P.Opened.Keeper.own place.old place.new path.now now result }
+        P.Place P.Opened.Keeper.own place.old place.new false path.now now result }
 {
     let mut office = place.open(path)?;
     let imported = import(alloc, reader, writer, now, &mut office);
@@ -232,14 +283,14 @@ fn tell_set<W: Write>(
     }
 }
 
-/// Audits the register at a path, and tells what was found.
+/// Audits the register at a path, and tells what was found. It only reads: the place is as it was.
 pub fn audit<P: Place, W: Write>(
     alloc: Global,
-    place: &mut P,
+    place: &P,
     path: &str,
     writer: &mut W,
 ) -> Result<(), Failure>
-    ensures { AuditAt W.contents writer.old writer.new P.Place P.Opened.Keeper.own place.old place.new path.now result }
+    ensures { AuditAt W.contents writer.old writer.new P.Place P.Opened.Keeper.own place.now place.now path.now result }
 {
     let verdict = place.audit(path)?;
     tell_verdict(alloc, writer, verdict)

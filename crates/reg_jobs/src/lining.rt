@@ -4,10 +4,9 @@ ghost use Rattle.std.specs.Prelude.{◌≡◌, ℕ, ◌≤◌, ◌<◌, List, le
 ghost use Rattle.reg_calls.specs.Leads.{Leads};
 ghost use Rattle.reg_jobs.specs.Ends.{LinesAt};
 ghost use Rattle.reg_jobs.specs.Exchanges.{Entry, LineRuns};
-ghost use Rattle.reg_jobs.specs.Lined.{EndsOrNot, LinesEnd, NextEnds, Passed, TellEnds};
+ghost use Rattle.reg_jobs.specs.Lined.{EndsOrNot, LastEnds, LinesEnd, NextEnds, Passed, TellEnds};
 ghost use Rattle.reg_wire.specs.Run.{Answered};
 
-use crate::asking::is_accepted;
 use crate::front::Front;
 use crate::handling::{ClockedDesk, LinedDesk};
 use crate::place::Place;
@@ -17,7 +16,7 @@ use reg_calls::Keeper;
 use reg_core::Fault;
 use reg_endings::Failure;
 use reg_hub::Handler;
-use reg_lines::{LONGEST_LINE, MOST_LINES};
+use reg_lines::{LONGEST_LINE, MOST_LINES, is_accepted};
 use reg_wire::{Reached, fill_to_mark};
 use reg_words::{Answerer, KeyHolder, Way};
 use std::alloc::Global;
@@ -29,8 +28,8 @@ const ROOM: usize = LONGEST_LINE + 1;
 /// The same where a moment and a space come before it.
 const CLOCKED_ROOM: usize = ROOM - 21;
 
-/// Runs the script of standard input over the register at a path, line by line. Where a digest seals its first CRL, that is said at the
-/// front.
+/// Runs the script of standard input over the register at a path, line by line. A strict one ends at the first refusal or fault, and runs
+/// no last line without its end. Where a digest seals its first CRL, that is said at the front.
 pub fn script_by_lines<P: Place, F: Front, R: Read, W: Write>(
     alloc: Global,
     front: &F,
@@ -176,13 +175,31 @@ fn tell_next<H: Handler, R: Read, W: Write>(
             }
         }
         Ok(Reached::End { held: 0 }) => Ok(None),
-        Ok(Reached::End { held }) => match tell_line(handler, is_strict, writer, &buffer[..held]) {
+        Ok(Reached::End { held }) => match tell_last(handler, is_strict, writer, &buffer[..held]) {
             Ok(()) => Ok(None),
             Err(why) => Err(why),
         },
         Ok(Reached::Full) => Err(Failure::Fault(Fault::Read)),
         Err(_) => Err(Failure::Fault(Fault::Read)),
     }
+}
+
+/// Tells a last line that has no end, and says its reply.
+///
+/// # Errors
+/// `NoLineEnd` where it is strict, and the line did not run; else as of [`tell_line`].
+fn tell_last<H: Handler, W: Write>(
+    handler: &mut H,
+    is_strict: bool,
+    writer: &mut W,
+    line: &[u8],
+) -> Result<(), Failure>
+    ensures { LastEnds H.tells is_strict handler.old handler.new (W.contents writer.old) (W.contents writer.new) line.now result }
+{
+    if is_strict {
+        return Err(Failure::NoLineEnd);
+    }
+    tell_line(handler, is_strict, writer, line)
 }
 
 /// Tells a line, and says its reply.

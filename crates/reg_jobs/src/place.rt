@@ -52,11 +52,11 @@ pub trait Place {
     /// What was opened at the path was closed, with this register in it, and the place after it.
     ghost closed: { Self → List ℕ → Self.Opened → Self → Type 0 };
 
-    /// An audit of what lies at the path said this, and the place after it.
-    ghost audited: { Self → List ℕ → Verdicts → Self → Type 0 };
+    /// An audit of what lies at the path said this.
+    ghost audited: { Self → List ℕ → Verdicts → Type 0 };
 
-    /// For this no audit was had of what lies at the path, and the place after it.
-    ghost unaudited: { Self → List ℕ → Failing → Self → Type 0 };
+    /// For this no audit was had of what lies at the path.
+    ghost unaudited: { Self → List ℕ → Failing → Type 0 };
 
     /// Lays an empty file at a path where nothing lies, and no log either, in one step, so that of two who do so at once one
     /// has it; and answers whether it did. Its owner alone may read and write it. A link that leads nowhere is something that
@@ -148,15 +148,16 @@ pub trait Place {
         ensures crls { result.0 ≡ Self.Opened.failures register.now }
         ensures answers { result.1 ≡ Self.Opened.answer_failures register.now };
 
-    /// Audits the register that lies at a path, and changes nothing of it: one of an older version is not made newer.
+    /// Audits the register that lies at a path. It only reads, so the place is as it was: what lies at the path keeps each byte, nothing
+    /// is laid beside it, and one of an older version is not made newer.
     ///
     /// # Errors
     ///
     /// `NotARegister` and `NewVersion` for other tables; `Fault` of `Memory`, and of `Store` where nothing lies there or it
     /// can't be opened.
-    fn audit(&mut self, path: &str) -> Result<Verdict, Failure>
-        ensures ok { IfOk result (λ verdict. audited self.old path.now verdict self.new) }
-        ensures err { IfErr result (λ why. unaudited self.old path.now why self.new) }
+    fn audit(&self, path: &str) -> Result<Verdict, Failure>
+        ensures ok { IfOk result (λ verdict. audited self.now path.now verdict) }
+        ensures err { IfErr result (λ why. unaudited self.now path.now why) }
         ensures faults { IfErr result IsOpening };
 
     /// Closes what was opened at a path.

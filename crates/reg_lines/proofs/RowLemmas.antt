@@ -1,10 +1,11 @@
 -- Lemmas on an import, row after row.
 use Rattle.std.proofs.Common.{◌≡◌, ℕ, ◌+◌, ◌==◌, ◌&&◌, Bool, Bor, true, false, List, [], ◌∷◌, ◌++◌, length, take, Option, None, Some, Ok, Err, is_some, option_map, refl, sym, ap, ◌∙◌, subst, arith, inl, inr, length-append, append-nil}
-use Rattle.std.specs.Prelude.{Result}
-use Rattle.std.specs.List.{concat}
+use Rattle.std.specs.Prelude.{IsTrue, Result}
+use Rattle.std.specs.List.{AllByRecursion, concat}
+use Rattle.std.specs.Result.{result_map_both}
 use Rattle.std.specs.Io.KnownBytes.{Appends}
 use Rattle.std.proofs.KnownBytes.{Appends-nil, Appends-trans}
-use Rattle.std.proofs.lemmas.Bool.{and_parts, eqb-true}
+use Rattle.std.proofs.lemmas.Bool.{and_parts, eqb-true, false≢true}
 use Rattle.csv.specs.Reading.{Reached, ReadRecord, default_config, source_of, strip_bom}
 use Rattle.csv.specs.Records.{field_at}
 use Rattle.csv.specs.declared.parser.State.{State}
@@ -17,10 +18,14 @@ use Rattle.reg_wire.proofs.PublicLaws.{answered_push}
 use Rattle.reg_lines.proofs.Pieces.{concat_push}
 use Rattle.reg_core.specs.declared.refusal.Fault.{Fault}
 use Rattle.reg_core.specs.declared.refusal.Fault.TheVariants.{Refused, Memory, Store, Signer, Read, Write}
+use Rattle.reg_lines.specs.Accepted.{IsAccepted}
 use Rattle.reg_lines.specs.Answer.{Answer}
-use Rattle.reg_lines.specs.Import.{AllRan, FirstRan, ImportEnds, OneCut, Row, RowReplies, TookAll, RowsEnd, TextRead, TookRow, data_rows, is_header}
+use Rattle.reg_lines.specs.Import.{ImportEnds, Row, RowReplies, TookAll, RowsEnd, TextRead, TookRow, data_rows, is_header}
 use Rattle.reg_lines.specs.Meaning.{Meaning}
 use Rattle.reg_lines.specs.Reading.{four, four_at}
+use Rattle.reg_lines.specs.Strict.{EndsBehind, StrictEnds, StrictRan, ended_part}
+use Rattle.reg_lines.specs.declared.strict.Imported.{Imported}
+use Rattle.reg_lines.specs.declared.strict.Imported.TheVariants as imported
 
 -- ---- the fields of a row
 
@@ -49,8 +54,14 @@ data_push (first ∷ rest) row data' = by (is_header first) refl
 
 -- ---- a run so far
 
+-- one reply more that is accepted
+accepted_push : (replies : List (List ℕ)) (reply : List ℕ) → AllByRecursion IsAccepted replies → IsAccepted reply
+    → AllByRecursion IsAccepted (replies ++ reply ∷ [])
+accepted_push [] reply each one = (one, tt)
+accepted_push (first ∷ rest) reply each one = (each.0, accepted_push rest reply each.1 one)
+
 -- the rows that ran so far, and where the reader is
-pub record Going {S : Type 0} (answers : S → Meaning → Answer → S → Type 0) (now : ℕ) (s t : S) (out out' : Option (List ℕ)) (text : List ℕ) (source : Option (List ℕ)) (state : State) (index : ℕ) : Type 0 where
+pub record Going {S : Type 0} (answers : S → Meaning → Answer → S → Type 0) (is_strict : Bool) (now : ℕ) (s t : S) (out out' : Option (List ℕ)) (text : List ℕ) (source : Option (List ℕ)) (state : State) (index : ℕ) : Type 0 where
   pub rows : List Row
   pub replies : List (List ℕ)
   pub left : List ℕ
@@ -59,11 +70,12 @@ pub record Going {S : Type 0} (answers : S → Meaning → Answer → S → Type
   pub counted : length rows ≡ index
   pub answered : Answered (RowReplies answers now) s (data_rows rows) replies t
   pub wrote : Appends out out' (concat replies)
+  pub passed : IsTrue is_strict → AllByRecursion IsAccepted replies
 
-pub going_start : {S : Type 0} (answers : S → Meaning → Answer → S → Type 0) (now : ℕ) (s : S) (out : Option (List ℕ)) (text : List ℕ) (source : Option (List ℕ)) (state : State)
-    → source ≡ Some (strip_bom text) → state ≡ st.StartRecord → Going answers now s s out out text source state 0
+pub going_start : {S : Type 0} (answers : S → Meaning → Answer → S → Type 0) (is_strict : Bool) (now : ℕ) (s : S) (out : Option (List ℕ)) (text : List ℕ) (source : Option (List ℕ)) (state : State)
+    → source ≡ Some (strip_bom text) → state ≡ st.StartRecord → Going answers is_strict now s s out out text source state 0
 unfolding Reached
-going_start answers now s out text source state known is = record {
+going_start answers is_strict now s out text source state known is = record {
   rows = [];
   replies = [];
   left = strip_bom text;
@@ -72,6 +84,7 @@ going_start answers now s out text source state known is = record {
   counted = refl;
   answered = refl;
   wrote = Appends-nil out;
+  passed = λ strict. tt;
 }
 
 some_mapped : (o : Option (Bor (List ℕ))) → is_some o ≡ is_some (option_map (λ a. a.now) o)
@@ -92,10 +105,13 @@ row_four fields o0 o1 o2 o3 o4 r e0 e1 e2 e3 e4 is =
     ∙ ap (λ b. four_at (field_at fields 0) (field_at fields 1) (field_at fields 2) (field_at fields 3) b) fifth
     ∙ sym (four_by fields)
 
-pub first_ran : {S : Type 0} (answers : S → Meaning → Answer → S → Type 0) (now : ℕ) (s t : S) (out out' : Option (List ℕ)) (text : List ℕ) (source : Option (List ℕ)) (state : State) (index : ℕ)
-    → Going answers now s t out out' text source state index → FirstRan answers now s t out out' text
-first_ran answers now s t out out' text source state index g =
-    record { rows = g.rows; replies = g.replies; first = (state, g.left, g.reached); answered = g.answered; wrote = g.wrote }
+-- no memory is left for a row
+pub first_ran : {S : Type 0} (answers : S → Meaning → Answer → S → Type 0) (is_strict : Bool) (now : ℕ) (s t : S) (out out' : Option (List ℕ)) (text : List ℕ) (source : Option (List ℕ)) (state : State) (index : ℕ)
+    → Going answers is_strict now s t out out' text source state index → RowsEnd answers is_strict now s t out out' text (Err Memory)
+first_ran answers is_strict now s t out out' text source state index g = (
+  record { rows = g.rows; replies = g.replies; first = (state, g.left, g.reached); answered = g.answered; wrote = g.wrote },
+  g.passed,
+)
 
 -- one row more was read
 record More (text : List ℕ) (rows : List Row) (row : Row) (source : Option (List ℕ)) (state : State) : Type 0 where
@@ -103,14 +119,15 @@ record More (text : List ℕ) (rows : List Row) (row : Row) (source : Option (Li
   pub known : source ≡ Some left
   pub reached : Reached default_config st.StartRecord (strip_bom text) (rows ++ row ∷ []) state left
 
-module _ {S R : Type 0} (answers : S → Meaning → Answer → S → Type 0) (now : ℕ) (s m t : S) (out middle out' : Option (List ℕ)) (text : List ℕ) (rem : R → Option (List ℕ)) (a b : Reader R) (row : Row) (index : ℕ) where
-  more_of : (g : Going answers now s m out middle text (source_of rem a) a.state index) → a.config ≡ default_config → ReadRecord rem a b true row → More text g.rows row (source_of rem b) b.state
+module _ {S R : Type 0} (answers : S → Meaning → Answer → S → Type 0) (is_strict : Bool) (now : ℕ) (s m t : S) (out middle out' : Option (List ℕ)) (text : List ℕ) (rem : R → Option (List ℕ)) (a b : Reader R) (row : Row) (index : ℕ) where
+  more_of : (g : Going answers is_strict now s m out middle text (source_of rem a) a.state index) → a.config ≡ default_config → ReadRecord rem a b true row → More text g.rows row (source_of rem b) b.state
   more_of g config read =
       let more = rows-more rem a b row default_config st.StartRecord (strip_bom text) g.left g.rows config g.known g.reached read in
       record { left = more.0; known = more.1; reached = more.2 }
 
-  pub going_more : Going answers now s m out middle text (source_of rem a) a.state index → a.config ≡ default_config → ReadRecord rem a b true row
-      → TookRow answers now m t (index == 0) row middle out' (Ok tt) → Going answers now s t out out' text (source_of rem b) b.state (index + 1)
+  pub going_more : Going answers is_strict now s m out middle text (source_of rem a) a.state index → a.config ≡ default_config → ReadRecord rem a b true row
+      → TookRow answers is_strict now m t (index == 0) row middle out' (Ok true)
+      → Going answers is_strict now s t out out' text (source_of rem b) b.state (index + 1)
   going_more g config read (inl (header, same, done, kept)) =
       let more = more_of g config read in
       let both = and_parts (index == 0) (is_header row) header in
@@ -124,6 +141,7 @@ module _ {S R : Type 0} (answers : S → Meaning → Answer → S → Type 0) (n
         counted = length-append g.rows (row ∷ []) ∙ ap (λ (n : ℕ). n + 1) g.counted;
         answered = rw (rows, same) g.answered;
         wrote = subst (Appends out out') (append-nil (concat g.replies)) (Appends-trans out middle out' (concat g.replies) [] g.wrote kept);
+        passed = g.passed;
       }
   going_more g config read (inr (data', ran)) =
       let more = more_of g config read in
@@ -135,58 +153,117 @@ module _ {S R : Type 0} (answers : S → Meaning → Answer → S → Type 0) (n
         reached = more.reached;
         counted = length-append g.rows (row ∷ []) ∙ ap (λ (n : ℕ). n + 1) g.counted;
         answered = rw rows (answered_push (RowReplies answers now) s m t (data_rows g.rows) g.replies row ran.reply g.answered ran.replied);
-        wrote = subst (Appends out out') (sym (concat_push g.replies ran.reply)) (Appends-trans out middle out' (concat g.replies) ran.reply g.wrote ran.wrote);
+        wrote = subst (Appends out out') (sym (concat_push g.replies ran.reply)) (Appends-trans out middle out' (concat g.replies) ran.reply g.wrote ran.said.0);
+        passed = λ strict. accepted_push g.replies ran.reply (g.passed strict) (ran.said.1 strict);
       }
 
-  pub one_cut : (fault : WriteFault) → Going answers now s m out middle text (source_of rem a) a.state index → a.config ≡ default_config → ReadRecord rem a b true row
-      → TookRow answers now m t (index == 0) row middle out' (Err fault) → OneCut answers now s t out out' text
+  -- a row is refused, and a strict run ends
+  pub one_refused : Going answers is_strict now s m out middle text (source_of rem a) a.state index → a.config ≡ default_config → ReadRecord rem a b true row
+      → TookRow answers is_strict now m t (index == 0) row middle out' (Ok false) → RowsEnd answers is_strict now s t out out' text (Ok false)
+  one_refused g config read (inl (header, same, done, kept)) = cc done
+  one_refused g config read (inr (data', ran)) =
+      let more = more_of g config read in
+      let goes = ran.said.1 in
+      let rows : data_rows (g.rows ++ row ∷ []) ≡ data_rows g.rows ++ row ∷ [] = data_push g.rows row (ap (λ (n : ℕ). (n == 0) && is_header row) g.counted ∙ data') in (
+        record {
+          rows = g.rows ++ row ∷ [];
+          replies = g.replies ++ ran.reply ∷ [];
+          first = (b.state, more.left, more.reached);
+          answered = rw rows (answered_push (RowReplies answers now) s m t (data_rows g.rows) g.replies row ran.reply g.answered ran.replied);
+          wrote = subst (Appends out out') (sym (concat_push g.replies ran.reply)) (Appends-trans out middle out' (concat g.replies) ran.reply g.wrote ran.said.0);
+        },
+        goes.0,
+        record { accepted = g.replies; refused = ran.reply; parts = refl; each = g.passed goes.0; last = goes.1 },
+      )
+
+  pub one_cut : (fault : WriteFault) → Going answers is_strict now s m out middle text (source_of rem a) a.state index → a.config ≡ default_config → ReadRecord rem a b true row
+      → TookRow answers is_strict now m t (index == 0) row middle out' (Err fault) → RowsEnd answers is_strict now s t out out' text (Err Write)
   one_cut fault g config read (inl (header, same, done, kept)) = cc done
   one_cut fault g config read (inr (data', ran)) =
-      let more = more_of g config read in record {
-        rows = g.rows;
-        replies = g.replies;
-        middle = m;
-        row = row;
-        reply = ran.reply;
-        part = ran.wrote.count;
-        first = (b.state, more.left, more.reached);
-        no_header = data_push g.rows row (ap (λ (n : ℕ). (n == 0) && is_header row) g.counted ∙ data');
-        answered = g.answered;
-        replied = ran.replied;
-        partly = ran.wrote.short;
-        wrote = Appends-trans out middle out' (concat g.replies) (take ran.wrote.count ran.reply) g.wrote ran.wrote.written;
-      }
+      let more = more_of g config read in (
+        record {
+          rows = g.rows;
+          replies = g.replies;
+          middle = m;
+          row = row;
+          reply = ran.reply;
+          part = ran.said.count;
+          first = (b.state, more.left, more.reached);
+          no_header = data_push g.rows row (ap (λ (n : ℕ). (n == 0) && is_header row) g.counted ∙ data');
+          answered = g.answered;
+          replied = ran.replied;
+          partly = ran.said.short;
+          wrote = Appends-trans out middle out' (concat g.replies) (take ran.said.count ran.reply) g.wrote ran.said.written;
+        },
+        g.passed,
+      )
 
-  pub all_ran : Going answers now s m out middle text (source_of rem a) a.state index → a.config ≡ default_config → ReadRecord rem a b false row
-      → AllRan answers now s m out middle text
-  all_ran g config read = record {
-    rows = g.rows;
-    replies = g.replies;
-    all = (a.state, g.left, g.reached, rows-end rem a b row default_config g.left config g.known read);
-    answered = g.answered;
-    wrote = g.wrote;
-  }
+  pub all_ran : Going answers is_strict now s m out middle text (source_of rem a) a.state index → a.config ≡ default_config → ReadRecord rem a b false row
+      → RowsEnd answers is_strict now s m out middle text (Ok true)
+  all_ran g config read = (
+    record {
+      rows = g.rows;
+      replies = g.replies;
+      all = (a.state, g.left, g.reached, rows-end rem a b row default_config g.left config g.known read);
+      answered = g.answered;
+      wrote = g.wrote;
+    },
+    g.passed,
+  )
 
 -- ---- the whole import
 
-pub import_of_rows : {S R W : Type 0} (answers : S → Meaning → Answer → S → Type 0) (remaining : R → Option (List ℕ)) (contents : W → Option (List ℕ)) (now : ℕ)
-    (s t : S) (reader reader' : R) (writer writer' : W) (text : List ℕ) (result : Result (Unit {0}) Fault)
-    → TookAll (remaining reader) (remaining reader') text → RowsEnd answers now s t (contents writer) (contents writer') text result
-    → ImportEnds answers remaining contents now s t reader reader' writer writer' result
-import_of_rows answers remaining contents now s t reader reader' writer writer' text (Ok done) took ends = (text, took, ends)
-import_of_rows answers remaining contents now s t reader reader' writer writer' text (Err Write) took ends = (text, took, ends)
-import_of_rows answers remaining contents now s t reader reader' writer writer' text (Err Memory) took ends = inr (text, took, ends)
-import_of_rows answers remaining contents now s t reader reader' writer writer' text (Err Read) took ends = absurd ends
-import_of_rows answers remaining contents now s t reader reader' writer writer' text (Err (Refused refusal)) took ends = absurd ends
-import_of_rows answers remaining contents now s t reader reader' writer writer' text (Err Store) took ends = absurd ends
-import_of_rows answers remaining contents now s t reader reader' writer writer' text (Err Signer) took ends = absurd ends
+module _ {S R W : Type 0} (answers : S → Meaning → Answer → S → Type 0) (remaining : R → Option (List ℕ)) (contents : W → Option (List ℕ)) (now : ℕ)
+    (s t : S) (reader reader' : R) (writer writer' : W) where
+  -- one that goes on behind a refusal
+  pub import_of_rows : (text : List ℕ) (ran : Result Bool Fault) → TookAll (remaining reader) (remaining reader') text
+      → RowsEnd answers false now s t (contents writer) (contents writer') text ran
+      → ImportEnds answers remaining contents now s t reader reader' writer writer' (result_map_both (λ all. tt) (λ fault. fault) ran)
+  import_of_rows text (Ok true) took ends = (text, took, ends.0)
+  import_of_rows text (Ok false) took ends = absurd (false≢true ends.1)
+  import_of_rows text (Err Write) took ends = (text, took, ends.0)
+  import_of_rows text (Err Memory) took ends = inr (text, took, ends.0)
+  import_of_rows text (Err Read) took ends = absurd ends
+  import_of_rows text (Err (Refused refusal)) took ends = absurd ends
+  import_of_rows text (Err Store) took ends = absurd ends
+  import_of_rows text (Err Signer) took ends = absurd ends
 
-pub import_of_read : {S R W : Type 0} (answers : S → Meaning → Answer → S → Type 0) (remaining : R → Option (List ℕ)) (contents : W → Option (List ℕ)) (now : ℕ)
-    (s : S) (reader reader' : R) (writer : W) (fault : Fault) → TextRead (remaining reader) (remaining reader') (Err fault)
-    → ImportEnds answers remaining contents now s s reader reader' writer writer (Err fault)
-import_of_read answers remaining contents now s reader reader' writer Read ends = (ends, refl, refl)
-import_of_read answers remaining contents now s reader reader' writer Memory ends = inl (ends, refl, refl)
-import_of_read answers remaining contents now s reader reader' writer Write ends = absurd ends
-import_of_read answers remaining contents now s reader reader' writer (Refused refusal) ends = absurd ends
-import_of_read answers remaining contents now s reader reader' writer Store ends = absurd ends
-import_of_read answers remaining contents now s reader reader' writer Signer ends = absurd ends
+  -- a strict one
+  pub strict_of_rows : (text : List ℕ) (result : Result Imported Fault) → TookAll (remaining reader) (remaining reader') text
+      → StrictRan answers now s t (contents writer) (contents writer') text result
+      → StrictEnds answers remaining contents now s t reader reader' writer writer' result
+  strict_of_rows text result took ran = inl (text, took, ran)
+
+-- nothing ran, since the text could not be read
+module _ {S R W : Type 0} (answers : S → Meaning → Answer → S → Type 0) (remaining : R → Option (List ℕ)) (contents : W → Option (List ℕ)) (now : ℕ)
+    (s : S) (reader reader' : R) (writer : W) where
+  pub import_of_read : (fault : Fault) → TextRead (remaining reader) (remaining reader') (Err fault)
+      → ImportEnds answers remaining contents now s s reader reader' writer writer (Err fault)
+  import_of_read Read ends = (ends, refl, refl)
+  import_of_read Memory ends = inl (ends, refl, refl)
+  import_of_read Write ends = absurd ends
+  import_of_read (Refused refusal) ends = absurd ends
+  import_of_read Store ends = absurd ends
+  import_of_read Signer ends = absurd ends
+
+  pub strict_of_read : (fault : Fault) → TextRead (remaining reader) (remaining reader') (Err fault)
+      → StrictEnds answers remaining contents now s s reader reader' writer writer (Err fault)
+  strict_of_read Read ends = inr (inl refl, ends, refl, refl)
+  strict_of_read Memory ends = inr (inr refl, ends, refl, refl)
+  strict_of_read Write ends = absurd ends
+  strict_of_read (Refused refusal) ends = absurd ends
+  strict_of_read Store ends = absurd ends
+  strict_of_read Signer ends = absurd ends
+
+-- all was accepted up to the last line end of a text
+pub strict_ran : {S : Type 0} (answers : S → Meaning → Answer → S → Type 0) (now : ℕ) (s t : S) (out out' : Option (List ℕ)) (text : List ℕ) (how : Imported)
+    → RowsEnd answers true now s t out out' (ended_part text) (Ok true) → EndsBehind (length (ended_part text)) (length text) how
+    → StrictRan answers now s t out out' text (Ok how)
+strict_ran answers now s t out out' text imported.Whole rows ends = (rows, ends)
+strict_ran answers now s t out out' text imported.NoLineEnd rows ends = (rows, ends)
+strict_ran answers now s t out out' text imported.Refused rows ends = absurd ends
+
+-- a run of these rows came to a fault
+pub strict_failed : {S : Type 0} (answers : S → Meaning → Answer → S → Type 0) (now : ℕ) (s t : S) (out out' : Option (List ℕ)) (text ended : List ℕ) (fault : Fault)
+    → ended ≡ ended_part text → RowsEnd answers true now s t out out' ended (Err fault) → StrictRan answers now s t out out' text (Err fault)
+strict_failed answers now s t out out' text ended fault is ran = subst (λ l. RowsEnd answers true now s t out out' l (Err fault)) is ran

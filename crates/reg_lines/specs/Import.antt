@@ -1,9 +1,9 @@
 -- An import: the rows of a text, and how a run of it ends.
 use denote.Ref.{Bor}
-use Rattle.std.specs.Prelude.{◌≡◌, ◌⊎◌, ℕ, ◌+◌, ◌<◌, ◌≤◌, Bool, true, false, ◌&&◌, List, [], ◌∷◌, ◌++◌, length, take, codes, bytes_eq, if◌then◌else◌, None, Some, Result, Ok, Err}
+use Rattle.std.specs.Prelude.{◌≡◌, ◌⊎◌, ℕ, ◌+◌, ◌<◌, ◌≤◌, Bool, true, false, ◌&&◌, IsTrue, List, [], ◌∷◌, ◌++◌, length, take, codes, bytes_eq, if◌then◌else◌, None, Some, Result, Ok, Err}
 use Rattle.std.specs.declared.option.Option.{Option}
 use Rattle.std.specs.Io.KnownBytes.{Appends, Consumes, IsAtEnd}
-use Rattle.std.specs.List.{concat}
+use Rattle.std.specs.List.{AllByRecursion, concat}
 use Rattle.csv.specs.Reading.{AreRecords, Reached, Ready, default_config, reader_config, reader_state, reader_trim, source_of, strip_bom}
 use Rattle.csv.specs.declared.parser.State.{State}
 use Rattle.csv.specs.declared.parser.State.TheVariants as st
@@ -14,13 +14,14 @@ use Rattle.reg_core.specs.declared.command.Reply.{Reply}
 use Rattle.reg_core.specs.declared.refusal.Fault.{Fault}
 use Rattle.reg_core.specs.declared.refusal.Fault.TheVariants.{Refused, Memory, Store, Signer, Read, Write}
 use Rattle.reg_core.specs.declared.refusal.Refusal.TheVariants.{Syntax}
+use Rattle.reg_wire.specs.Put.{AppendsFront}
 use Rattle.reg_wire.specs.Run.{Answered}
 use Rattle.reg_wire.specs.declared.put.WriteFault.{WriteFault}
+use Rattle.reg_lines.specs.Accepted.{EndsRefused, GoesOn, IsAccepted}
 use Rattle.reg_lines.specs.Answer.{Answer, came_to}
 use Rattle.reg_lines.specs.Meaning.{Meaning, tells, SpellsCommand}
 use Rattle.reg_lines.specs.Reading.{four}
 use Rattle.reg_lines.specs.Replies.{outcome_line, with_lf}
-use Rattle.reg_lines.specs.Steps.{Wrote}
 
 -- the most bytes of an import
 abbrev pub most_bytes : ℕ
@@ -143,24 +144,35 @@ pub record IsAtStart (rows : Reader (Bor (List ℕ))) : Type 0 where
 abbrev pub ReadsText : Reader (Bor (List ℕ)) → List ℕ → Type 0
 ReadsText rows text = source_of (λ (s : Bor (List ℕ)). Some s.now) rows ≡ Some (strip_bom text)
 
--- how the run of its rows ends
-abbrev pub RowsEnd : {S : Type 0} → (S → Meaning → Answer → S → Type 0) → ℕ → S → S → Option (List ℕ) → Option (List ℕ) → List ℕ → Result (Unit {0}) Fault → Type 0
-RowsEnd answers now s t out out' text (Ok done) = AllRan answers now s t out out' text
-RowsEnd answers now s t out out' text (Err Write) = OneCut answers now s t out out' text
-RowsEnd answers now s t out out' text (Err Memory) = FirstRan answers now s t out out' text
-RowsEnd answers now s t out out' text (Err Read) = ⊥
-RowsEnd answers now s t out out' text (Err (Refused refusal)) = ⊥
-RowsEnd answers now s t out out' text (Err Store) = ⊥
-RowsEnd answers now s t out out' text (Err Signer) = ⊥
+-- How the run of its rows ends: whether each ran, or at a fault. Of a strict one each reply is accepted, or the last one is the first
+-- that is not, and no row behind it ran.
+abbrev pub RowsEnd : {S : Type 0} → (S → Meaning → Answer → S → Type 0) → Bool → ℕ → S → S → Option (List ℕ) → Option (List ℕ) → List ℕ → Result Bool Fault → Type 0
+RowsEnd answers is_strict now s t out out' text (Ok true) =
+    (ran : AllRan answers now s t out out' text) × (IsTrue is_strict → AllByRecursion IsAccepted ran.replies)
+RowsEnd answers is_strict now s t out out' text (Ok false) =
+    (ran : FirstRan answers now s t out out' text) × IsTrue is_strict × EndsRefused ran.replies
+RowsEnd answers is_strict now s t out out' text (Err Write) =
+    (ran : OneCut answers now s t out out' text) × (IsTrue is_strict → AllByRecursion IsAccepted ran.replies)
+RowsEnd answers is_strict now s t out out' text (Err Memory) =
+    (ran : FirstRan answers now s t out out' text) × (IsTrue is_strict → AllByRecursion IsAccepted ran.replies)
+RowsEnd answers is_strict now s t out out' text (Err Read) = ⊥
+RowsEnd answers is_strict now s t out out' text (Err (Refused refusal)) = ⊥
+RowsEnd answers is_strict now s t out out' text (Err Store) = ⊥
+RowsEnd answers is_strict now s t out out' text (Err Signer) = ⊥
+
+-- a reply was written, and whether the run goes on behind it; or a front of it was
+abbrev pub Said : Bool → Option (List ℕ) → Option (List ℕ) → List ℕ → Result Bool WriteFault → Type 0
+Said is_strict out out' reply (Ok goes_on) = Appends out out' reply × GoesOn is_strict reply goes_on
+Said is_strict out out' reply (Err fault) = AppendsFront out out' reply
 
 -- a row ran, and its reply was written, or a front of it
-pub record RanRow {S : Type 0} (answers : S → Meaning → Answer → S → Type 0) (now : ℕ) (s t : S) (row : Row) (out out' : Option (List ℕ)) (result : Result (Unit {0}) WriteFault) : Type 0 where
+pub record RanRow {S : Type 0} (answers : S → Meaning → Answer → S → Type 0) (is_strict : Bool) (now : ℕ) (s t : S) (row : Row) (out out' : Option (List ℕ)) (result : Result Bool WriteFault) : Type 0 where
   pub reply : List ℕ
   pub replied : RowReplies answers now s row reply t
-  pub wrote : Wrote out out' reply result
+  pub said : Said is_strict out out' reply result
 
 -- a row ran, or was passed over as the header, if it is the first one
-abbrev pub TookRow : {S : Type 0} → (S → Meaning → Answer → S → Type 0) → ℕ → S → S → Bool → Row → Option (List ℕ) → Option (List ℕ) → Result (Unit {0}) WriteFault → Type 0
-TookRow answers now s t first row out out' result =
-    (((first && is_header row) ≡ true) × (t ≡ s) × (result ≡ Ok tt) × Appends out out' [])
-    ⊎ (((first && is_header row) ≡ false) × RanRow answers now s t row out out' result)
+abbrev pub TookRow : {S : Type 0} → (S → Meaning → Answer → S → Type 0) → Bool → ℕ → S → S → Bool → Row → Option (List ℕ) → Option (List ℕ) → Result Bool WriteFault → Type 0
+TookRow answers is_strict now s t first row out out' result =
+    (((first && is_header row) ≡ true) × (t ≡ s) × (result ≡ Ok true) × Appends out out' [])
+    ⊎ (((first && is_header row) ≡ false) × RanRow answers is_strict now s t row out out' result)

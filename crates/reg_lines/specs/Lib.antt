@@ -1,3 +1,4 @@
+pub mod Accepted
 pub mod Answer
 pub mod ByCalls
 pub mod Fields
@@ -8,3 +9,4 @@ pub mod Reading
 pub mod Replies
 pub mod Script
 pub mod Steps
+pub mod Strict

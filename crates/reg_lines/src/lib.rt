@@ -1,6 +1,7 @@
 //! Script lines and imported rows, from bytes in to reply lines out, over any reader and writer.
 #![tactic(auto)]
 
+mod accepted;
 mod fields;
 pub mod laws;
 mod line;
@@ -8,8 +9,11 @@ mod reply;
 mod rows;
 mod run;
 mod script;
+mod strict;
 
+pub use accepted::is_accepted;
 pub use line::{Line, read_line};
 pub use reply::ReplyText;
 pub use rows::{MOST_BYTES, import};
 pub use script::{LONGEST_LINE, MOST_LINES, run_script};
+pub use strict::{Imported, import_strictly};

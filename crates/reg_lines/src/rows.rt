@@ -8,7 +8,7 @@ ghost use Rattle.reg_lines.specs.Import.{ImportEnds, IsAtStart, RanRow, ReadsTex
 ghost use Rattle.reg_lines.specs.Reading.{four, four_at, register_of};
 
 use crate::line::read_registration;
-use crate::run::write_outcome;
+use crate::run::write_reply;
 use csv::{ByteRecord, Reader, ReaderBuilder};
 use reg_calls::Calls;
 use reg_core::{Command, Fault, Moment, Refusal};
@@ -41,13 +41,23 @@ pub fn import<R: Read, W: Write, O: Calls>(
         office.old office.new reader.old reader.new writer.old writer.new result }
 {
     match read_text(alloc, reader) {
-        Ok(text) => run_rows(alloc, writer, now, office, &text),
+        Ok(text) => all_rows(run_rows(alloc, writer, now, office, false, &text)),
+        Err(fault) => Err(fault),
+    }
+}
+
+/// How a run ends that goes on behind a refusal.
+fn all_rows(ran: Result<bool, Fault>) -> Result<(), Fault>
+    ensures { result ≡ result_map_both (λ all. tt) (λ fault. fault) ran }
+{
+    match ran {
+        Ok(_) => Ok(()),
         Err(fault) => Err(fault),
     }
 }
 
 /// Reads a text to its end.
-fn read_text<R: Read>(alloc: Global, reader: &mut R) -> Result<Vec<u8>, Fault>
+pub(crate) fn read_text<R: Read>(alloc: Global, reader: &mut R) -> Result<Vec<u8>, Fault>
     ensures { TextRead (R.remaining reader.old) (R.remaining reader.new) (result_map_both (λ text. text.items) (λ fault. fault) result) }
 {
     let mut text = Vec::new(alloc);
@@ -66,22 +76,23 @@ fn read_text<R: Read>(alloc: Global, reader: &mut R) -> Result<Vec<u8>, Fault>
     Err(Fault::Read)
 }
 
-/// Runs each row of a text.
-fn run_rows<W: Write, O: Calls>(
+/// Runs each row of a text; where it is strict, up to the first reply that is a refusal or a fault. Whether each row ran.
+pub(crate) fn run_rows<W: Write, O: Calls>(
     alloc: Global,
     writer: &mut W,
     now: Moment,
     office: &mut O,
+    is_strict: bool,
     text: &[u8],
-) -> Result<(), Fault>
-    ensures { RowsEnd (ByCalls O.runs O.asks O.ocsps) now office.old office.new (W.contents writer.old) (W.contents writer.new) text.now result }
+) -> Result<bool, Fault>
+    ensures { RowsEnd (ByCalls O.runs O.asks O.ocsps) is_strict now office.old office.new (W.contents writer.old) (W.contents writer.new) text.now result }
 {
     let mut rows = ReaderBuilder::new()
         .has_headers(false)
         .flexible(true)
         .from_reader(alloc, text);
     let mut row = ByteRecord::new(alloc);
-    run_each(alloc, writer, now, office, &mut rows, &mut row)
+    run_each(alloc, writer, now, office, is_strict, &mut rows, &mut row)
 }
 
 /// Runs each row that a reader has, which read none yet: one after the other in one record.
@@ -90,20 +101,22 @@ fn run_each<W: Write, O: Calls>(
     writer: &mut W,
     now: Moment,
     office: &mut O,
+    is_strict: bool,
     rows: &mut Reader<&[u8]>,
     row: &mut ByteRecord,
-) -> Result<(), Fault>
+) -> Result<bool, Fault>
     requires { IsAtStart rows.old }
-    ensures { (text : List ℕ) → ReadsText rows.old text → RowsEnd (ByCalls O.runs O.asks O.ocsps) now office.old office.new
+    ensures { (text : List ℕ) → ReadsText rows.old text → RowsEnd (ByCalls O.runs O.asks O.ocsps) is_strict now office.old office.new
         (W.contents writer.old) (W.contents writer.new) text result }
 {
     for index in 0..u64::MAX {
         match rows.read_byte_record(row) {
-            Ok(true) => match take_row(alloc, writer, now, office, row, index == 0) {
-                Ok(()) => {}
+            Ok(true) => match take_row(alloc, writer, now, office, is_strict, row, index == 0) {
+                Ok(true) => {}
+                Ok(false) => return Ok(false),
                 Err(_) => return Err(Fault::Write),
             },
-            Ok(false) => return Ok(()),
+            Ok(false) => return Ok(true),
             // Over bytes in memory, with rows of any length, a read can want nothing but memory.
             Err(_) => return Err(Fault::Memory),
         }
@@ -112,41 +125,43 @@ fn run_each<W: Write, O: Calls>(
     Err(Fault::Memory)
 }
 
-/// Runs a row, if it is not the header, which only the first row can be.
+/// Runs a row, if it is not the header, which only the first row can be. Whether the next one is run.
 fn take_row<W: Write, O: Calls>(
     alloc: Global,
     writer: &mut W,
     now: Moment,
     office: &mut O,
+    is_strict: bool,
     row: &ByteRecord,
     first: bool,
-) -> Result<(), WriteFault>
-    ensures { TookRow (ByCalls O.runs O.asks O.ocsps) now office.old office.new first (fields_of row.now)
+) -> Result<bool, WriteFault>
+    ensures { TookRow (ByCalls O.runs O.asks O.ocsps) is_strict now office.old office.new first (fields_of row.now)
         (W.contents writer.old) (W.contents writer.new) result }
 {
     if first && is_header(row) {
-        return Ok(());
+        return Ok(true);
     }
-    run_row(alloc, writer, now, office, row)
+    run_row(alloc, writer, now, office, is_strict, row)
 }
 
-/// Runs a row and writes its reply.
+/// Runs a row and writes its reply. Whether the next one is run.
 fn run_row<W: Write, O: Calls>(
     alloc: Global,
     writer: &mut W,
     now: Moment,
     office: &mut O,
+    is_strict: bool,
     row: &ByteRecord,
-) -> Result<(), WriteFault>
-    ensures { RanRow (ByCalls O.runs O.asks O.ocsps) now office.old office.new (fields_of row.now)
+) -> Result<bool, WriteFault>
+    ensures { RanRow (ByCalls O.runs O.asks O.ocsps) is_strict now office.old office.new (fields_of row.now)
         (W.contents writer.old) (W.contents writer.new) result }
 {
     match read_row(row) {
         Some(command) => {
             let outcome = office.run_one(alloc, now, &command);
-            write_outcome(writer, &outcome)
+            write_reply(writer, &outcome, is_strict)
         }
-        None => write_outcome(writer, &Err(Fault::Refused(Refusal::Syntax))),
+        None => write_reply(writer, &Err(Fault::Refused(Refusal::Syntax)), is_strict),
     }
 }
 

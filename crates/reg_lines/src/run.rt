@@ -4,9 +4,11 @@ ghost use Rattle.std.specs.Prelude.{◌≡◌, ℕ, List, ◌++◌, codes, Ok, I
 ghost use Rattle.hex.specs.Hex.{encode_lower};
 ghost use Rattle.reg_lines.specs.Answer.{Tells, responded};
 ghost use Rattle.reg_lines.specs.ByCalls.{ByCalls};
+ghost use Rattle.reg_lines.specs.Import.{Said};
 ghost use Rattle.reg_lines.specs.Replies.{with_lf, outcome_line};
 ghost use Rattle.reg_lines.specs.Steps.{RanLine, RanOcsp, RanSaid, Wrote};
 
+use crate::accepted::goes_on;
 use crate::line::{Line, read_line};
 use crate::reply::ReplyText;
 use reg_calls::Calls;
@@ -62,6 +64,22 @@ pub(crate) fn write_outcome<W: Write>(writer: &mut W, outcome: &Outcome) -> Resu
 {
     let text = ReplyText::of(outcome);
     write_whole(writer, text.as_bytes())
+}
+
+/// Writes the line of what a row came to. Whether the next row is run: in a strict import, only behind one that is accepted.
+pub(crate) fn write_reply<W: Write>(
+    writer: &mut W,
+    outcome: &Outcome,
+    is_strict: bool,
+) -> Result<bool, WriteFault>
+    ensures { Said is_strict (W.contents writer.old) (W.contents writer.new) (with_lf (outcome_line outcome.now)) result }
+{
+    let text = ReplyText::of(outcome);
+    let reply = text.as_bytes();
+    match write_whole(writer, reply) {
+        Ok(()) => Ok(goes_on(is_strict, reply)),
+        Err(fault) => Err(fault),
+    }
 }
 
 /// Answers an OCSP request, by its digits, and writes the reply.

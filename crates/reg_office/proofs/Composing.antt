@@ -1,5 +1,5 @@
 -- Look-ups, a decision and a change, put together.
-use Rattle.std.proofs.Common.{◌≡◌, ◌≤◌, ◌<◌, inl, inr, ℕ, List, Option, None, Some, Result, Ok, Err, refl, sym, subst, arith}
+use Rattle.std.proofs.Common.{◌≡◌, ◌≤◌, ◌<◌, inl, inr, ℕ, List, Result, Ok, Err, refl, sym, subst, arith}
 use Rattle.std.specs.Prelude.{IfErr, IfOk, IsErr, IsErrAnd, OnErr}
 use Rattle.sqlite_trees.specs.View.{doubt}
 use Rattle.sqlite_trees.specs.declared.store.Store.{Ghosts}
@@ -8,13 +8,13 @@ use Rattle.sqlite.specs.State.{State, HasCleanDisk}
 use Rattle.reg_core.specs.Checks.{clock_end}
 use Rattle.reg_core.specs.Crls.{CertList}
 use Rattle.reg_core.specs.Records.{Records}
-use Rattle.reg_core.specs.Step.{StepBy, IsSigned, refusal}
 use Rattle.reg_core.specs.declared.command.Command.{Command}
 use Rattle.reg_core.specs.declared.command.Command.TheVariants.{Subscriber, Order, Register, Request, Decline, Revoke, Crl}
 use Rattle.reg_core.specs.declared.command.Reply.{Reply}
 use Rattle.reg_core.specs.declared.refusal.Refusal.{Refusal}
 use Rattle.reg_core.specs.declared.refusal.Fault.{Fault}
 use Rattle.reg_core.specs.declared.refusal.Fault.TheVariants.{Refused, Memory, Store, Signer, Read, Write}
+use Rattle.reg_calls.proofs.Happening.{happens_by}
 use Rattle.reg_laws.specs.Run.{Happens}
 use Rattle.reg_laws.proofs.Decided.{Refuses, Accepts}
 use Rattle.reg_tables.specs.Faults.{fault_of}
@@ -172,41 +172,14 @@ IssuesNone (Decline id) = Unit {0}
 IssuesNone (Revoke id) = Unit {0}
 IssuesNone Crl = ⊥
 
-no_bytes :
-    (signed : CertList → List ℕ → Type 0) (records : Records) (now : ℕ) (command : Command) (bytes : List ℕ)
-    → IssuesNone command → IsSigned unsigned records now command bytes → IsSigned signed records now command bytes
-no_bytes signed records now (Subscriber name) bytes none h = h
-no_bytes signed records now (Order subscriber days) bytes none h = h
-no_bytes signed records now (Register order serial not_before not_after) bytes none h = h
-no_bytes signed records now (Request serial word) bytes none h = h
-no_bytes signed records now (Decline id) bytes none h = h
-no_bytes signed records now (Revoke id) bytes none h = h
-no_bytes signed records now Crl bytes none h = absurd none
-
-step_as :
-    (signed : CertList → List ℕ → Type 0) (records : Records) (now : ℕ) (command : Command)
-    (outcome : Result Reply Fault) (after : Records) (found : Option Refusal)
-    → IssuesNone command → StepBy unsigned found records now command outcome after
-    → StepBy signed found records now command outcome after
-step_as signed records now command outcome after (Some why) none h = h
-step_as signed records now command outcome after None none h =
-    (h.0, h.1, no_bytes signed records now command h.0 none h.2, h.3)
-
 -- what happens of it happens whoever signs
 pub happens_as :
     (signed : CertList → List ℕ → Type 0) (records : Records) (now : ℕ) (command : Command)
     (outcome : Result Reply Fault) (after : Records)
     → IssuesNone command → Happens unsigned records now command outcome after
     → Happens signed records now command outcome after
-happens_as signed records now command (Ok reply) after none h =
-    step_as signed records now command (Ok reply) after (refusal records now command) none h
-happens_as signed records now command (Err (Refused why)) after none h =
-    step_as signed records now command (Err (Refused why)) after (refusal records now command) none h
-happens_as signed records now command (Err Memory) after none h = h
-happens_as signed records now command (Err Store) after none h = h
-happens_as signed records now command (Err Signer) after none h = h
-happens_as signed records now command (Err Read) after none h = h
-happens_as signed records now command (Err Write) after none h = h
+happens_as signed records now command outcome after none =
+    happens_by unsigned signed records now (λ bytes bad. absurd bad) command outcome after
 
 -- where nothing is looked up, nothing changes
 pub looked_none : {C : Type 0} {g : Ghosts C} {a : Held C} → Looked g a a

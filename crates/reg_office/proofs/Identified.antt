@@ -1,16 +1,17 @@
 -- With a key identifier more, which CRLs have from the next one on, the CRLs that were issued are signed over what they list.
-use Rattle.std.proofs.Common.{◌≡◌, ℕ, ◌+◌, ◌<◌, ◌≤◌, List, [], ◌∷◌, length, Result, Ok, Err, OnOk, refl, ap, subst, sym, ◌∙◌, arith}
+use Rattle.std.proofs.Common.{◌≡◌, ℕ, ◌+◌, ◌<◌, ◌≤◌, List, [], ◌∷◌, length, Result, Ok, Err, OnOk, inl, inr, refl, ap, subst, sym, ◌∙◌, arith}
 use Rattle.std.specs.List.{AllByRecursion}
 use Rattle.reg_core.specs.Crls.{CertList, cert_list, next_number}
 use Rattle.reg_core.specs.Issuer.{Issuer}
 use Rattle.reg_core.specs.Records.{Records, Crl}
-use Rattle.reg_core.specs.Sound.{NumberedFrom, Sound, SoundRows}
+use Rattle.reg_core.specs.Sound.{NumberedFrom, SoundRows}
 use Rattle.reg_core.specs.declared.rows.Entry.{Entry}
-use Rattle.reg_crl.specs.Crl.{crl_extensions, key_identifier, tbs_cert_list, tbs_of}
-use Rattle.reg_crl.specs.Signing.{Identity, signed_by}
+use Rattle.reg_crl.specs.Crl.{certificate_list, crl_extensions, key_identifier, tbs_cert_list, tbs_of}
+use Rattle.reg_crl.specs.Signing.{Identity, seal_of, sealed_until, sha1_algorithm}
 use Rattle.reg_der.specs.Authority.{HasIdentifier, key_identifier_at, name_of, with_identifier}
 use Rattle.reg_der.specs.Issuers.{with_issuer, with_key_identifier}
 use Rattle.reg_laws.proofs.Contents.{next_is}
+use Rattle.reg_office.specs.Stands.{SoundFor}
 
 -- what is signed goes by the issuer's Name and by the key identifier that a CRL of this number has
 same_tbs : (a b : Issuer) (algorithm : List ℕ) (number this_update next_update : ℕ) (entries : List Entry) → name_of a ≡ name_of b → key_identifier a number ≡ key_identifier b number
@@ -27,24 +28,26 @@ module _ (signs : Identity → List ℕ → List ℕ → Type 0) (identity : Ide
   abbrev after : Records
   after = with_key_identifier records octets
 
-  tbs_stays : (number this_update : ℕ) → number < next_number records.crls → tbs_of identity.algorithm (cert_list after number this_update) ≡ tbs_of identity.algorithm (cert_list records number this_update)
-  tbs_stays number this_update before =
-      same_tbs after.issuer records.issuer identity.algorithm number this_update (this_update + records.policy.crl_life) (cert_list records number this_update).entries has.name
+  tbs_stays : (algorithm : List ℕ) (number this_update : ℕ) → number < next_number records.crls → tbs_of algorithm (cert_list after number this_update) ≡ tbs_of algorithm (cert_list records number this_update)
+  tbs_stays algorithm number this_update before =
+      same_tbs after.issuer records.issuer algorithm number this_update (this_update + records.policy.crl_life) (cert_list records number this_update).entries has.name
       (same_identifier after.issuer records.issuer number (has.earlier number before) has.key)
 
-  signed_stays : (number this_update : ℕ) (bytes : List ℕ) → number < next_number records.crls
-      → signed_by signs identity (cert_list records number this_update) bytes → signed_by signs identity (cert_list after number this_update) bytes
-  signed_stays number this_update bytes before signed =
-      subst (λ tbs. (signature : List ℕ) × signs identity tbs signature × (bytes ≡ Rattle.reg_crl.specs.Crl.certificate_list tbs identity.algorithm signature)) (sym (tbs_stays number this_update before)) signed
+  stored_stays : (since number this_update : ℕ) (bytes : List ℕ) → number < next_number records.crls
+      → sealed_until since signs identity (cert_list records number this_update) bytes → sealed_until since signs identity (cert_list after number this_update) bytes
+  stored_stays since number this_update bytes before (inl (below, is)) =
+      inl (below, subst (λ tbs. bytes ≡ seal_of tbs) (sym (tbs_stays sha1_algorithm number this_update before)) is)
+  stored_stays since number this_update bytes before (inr (from, signed)) =
+      inr (from, subst (λ tbs. (signature : List ℕ) × signs identity tbs signature × (bytes ≡ certificate_list tbs identity.algorithm signature)) (sym (tbs_stays identity.algorithm number this_update before)) signed)
 
-  all_signed : (from : ℕ) (crls : List Crl) → NumberedFrom (λ crl. crl.number) from crls → from + length crls ≤ next_number records.crls
-      → AllByRecursion (λ crl. signed_by signs identity (cert_list records crl.number crl.this_update) crl.bytes) crls
-      → AllByRecursion (λ crl. signed_by signs identity (cert_list after crl.number crl.this_update) crl.bytes) crls
-  all_signed from [] numbered few all = tt
-  all_signed from (crl ∷ crls) numbered few all =
+  all_stored : (since from : ℕ) (crls : List Crl) → NumberedFrom (λ crl. crl.number) from crls → from + length crls ≤ next_number records.crls
+      → AllByRecursion (λ crl. sealed_until since signs identity (cert_list records crl.number crl.this_update) crl.bytes) crls
+      → AllByRecursion (λ crl. sealed_until since signs identity (cert_list after crl.number crl.this_update) crl.bytes) crls
+  all_stored since from [] numbered few all = tt
+  all_stored since from (crl ∷ crls) numbered few all =
       let here : crl.number ≡ from = numbered.0 in
       let before : crl.number < next_number records.crls = omega arith in
-      (signed_stays crl.number crl.this_update crl.bytes before all.0, all_signed (from + 1) crls numbered.1 (omega arith) all.1)
+      (stored_stays since crl.number crl.this_update crl.bytes before all.0, all_stored since (from + 1) crls numbered.1 (omega arith) all.1)
 
   rows_stay : SoundRows records → SoundRows after
   rows_stay sound = record {
@@ -57,10 +60,12 @@ module _ (signs : Identity → List ℕ → List ℕ → Type 0) (identity : Ide
     crls = sound.crls;
   }
 
-  pub identifier_keeps_sound : Sound (signed_by signs identity) records → Sound (signed_by signs identity) after
+  pub identifier_keeps_sound : SoundFor signs identity records → SoundFor signs identity after
   identifier_keeps_sound sound = record {
+    since = sound.since;
+    reached = sound.reached;
     rows = rows_stay sound.rows;
-    signatures = all_signed 1 records.crls sound.rows.crls.numbered (let next = next_is records.crls sound.rows.crls.numbered in omega arith) sound.signatures;
+    signatures = all_stored sound.since 1 records.crls sound.rows.crls.numbered (let next = next_is records.crls sound.rows.crls.numbered in omega arith) sound.signatures;
   }
 
 -- two facts of an Ok, and what follows from both

@@ -6,6 +6,7 @@ pub mod Composing
 pub mod CommandsRun
 pub mod Deciding
 pub mod Facts
+pub mod Following
 pub mod Identified
 pub mod Issuing
 pub mod Leading

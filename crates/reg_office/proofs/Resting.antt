@@ -6,7 +6,6 @@ use Rattle.sqlite.specs.State.{State, HasCleanDisk}
 use Rattle.reg_core.specs.Crls.{CertList, cert_list, content}
 use Rattle.reg_core.specs.Changes.{with_crl}
 use Rattle.reg_core.specs.Records.{Records}
-use Rattle.reg_core.specs.Sound.{Sound}
 use Rattle.reg_core.specs.declared.command.Command.{Command}
 use Rattle.reg_core.specs.declared.command.Command.TheVariants.{Crl as IssueCrl}
 use Rattle.reg_core.specs.declared.command.Reply.{Reply}
@@ -15,10 +14,11 @@ use Rattle.reg_core.specs.declared.rows.CrlRow.{CrlRow}
 use Rattle.reg_laws.proofs.Decided.{Accepts, AcceptsCrl}
 use Rattle.reg_crl.specs.Signing.{Identity, signed_by}
 use Rattle.reg_writing.specs.AtRest.{IsAtRest}
-use Rattle.reg_laws.proofs.Runs.{step_keeps_sound}
 use Rattle.reg_office.specs.AtRest.{IsStepped, IsDone}
 use Rattle.reg_office.specs.Happened.{unsigned}
+use Rattle.reg_office.specs.Stands.{SoundFor}
 use Rattle.reg_office.proofs.Composing.{IssuesNone, happens_as}
+use Rattle.reg_office.proofs.Following.{step_keeps_sound_for}
 
 -- a command that is accepted, and the rows of the records after it
 pub stepped :
@@ -44,16 +44,16 @@ issued_rests signed records now trees row bytes added says signatures added_is r
 -- an office's records hold together after a command
 pub done :
     (signs : Identity → List ℕ → List ℕ → Type 0) (identity : Identity) (records : Records) (now : ℕ) (command : Command) (trees : Trees)
-    → Sound (signed_by signs identity) records → IsStepped (signed_by signs identity) records now command trees → IsDone signs identity records now command trees
+    → SoundFor signs identity records → IsStepped (signed_by signs identity) records now command trees → IsDone signs identity records now command trees
 done signs identity records now command trees sound step = record {
   stepped = step;
-  sound = step_keeps_sound (signed_by signs identity) records now command (Ok step.answer) step.after sound step.happens;
+  sound = step_keeps_sound_for signs identity records now command (Ok step.answer) step.after sound step.happens;
 }
 
 -- the same of one that issues no CRL
 pub done_unsigned :
     (signs : Identity → List ℕ → List ℕ → Type 0) (identity : Identity) (records : Records) (now : ℕ) (command : Command) (trees : Trees)
-    → IssuesNone command → Sound (signed_by signs identity) records → IsStepped unsigned records now command trees → IsDone signs identity records now command trees
+    → IssuesNone command → SoundFor signs identity records → IsStepped unsigned records now command trees → IsDone signs identity records now command trees
 done_unsigned signs identity records now command trees none sound step =
     done signs identity records now command trees sound (record {
       answer = step.answer;

@@ -17,9 +17,8 @@ use Rattle.reg_core.specs.declared.refusal.Refusal.{Refusal}
 use Rattle.reg_core.specs.declared.refusal.Fault.{Fault}
 use Rattle.reg_core.specs.declared.rows.CertRow.{CertRow}
 use Rattle.reg_core.specs.declared.rows.RevocationRow.{RevocationRow}
-use Rattle.reg_crl.specs.Signing.{Identity, signed_by}
+use Rattle.reg_crl.specs.Signing.{Identity, sealed_until, signed_by}
 use Rattle.reg_der.specs.Der.{tlv}
-use Rattle.reg_laws.specs.Headline.{KeepsSound}
 use Rattle.reg_laws.specs.History.{HistoryStands}
 use Rattle.reg_laws.specs.Revocations.{IsRevocationBy, RevocationsMove, RevocationsMoveExactly}
 use Rattle.reg_laws.specs.Run.{Happens, Run}
@@ -29,6 +28,8 @@ use Rattle.reg_ocsp.specs.Request.{Id}
 use Rattle.reg_ocsp.specs.Response.{Answer, cert_status}
 use Rattle.reg_office.specs.Agreement.{Agrees, OcspAgrees}
 use Rattle.reg_office.specs.Shown.{entry_in, SoundRun, AcceptedRevocation, WasRevoked, IsNowhereShown}
+use Rattle.reg_office.specs.Stands.{SoundFor}
+use Rattle.reg_office.proofs.Following.{after_since, happens_since, over_stored, run_since, step_keeps_sound_for}
 use Rattle.reg_office.proofs.ShownByCrls.{no_entry_of_unrevoked}
 use Rattle.reg_office.proofs.ShownByOcsp.{ocsp_tells}
 
@@ -47,28 +48,10 @@ moved
 moved before now command (Ok (IsRevokedNow late)) after move = inr (late, move.0, refl, move.1, move.2)
 moved before now command outcome after move = inl move
 
--- a run goes on from its first command
-abbrev from_next
-    : (signs : Identity → List ℕ → List ℕ → Type 0) (identity : Identity)
-    → KeepsSound (signed_by signs identity)
-    → (start after : Records) (timed : ℕ × Command) (commands : List (ℕ × Command))
-    → (outcome : Result Reply Fault) (outcomes : List (Result Reply Fault))
-    → Sound (signed_by signs identity) start
-    → Run (signed_by signs identity) start (timed ∷ commands) (outcome ∷ outcomes) after
-    → SoundRun signs identity
-from_next signs identity keeps start after timed commands outcome outcomes sound ran = record {
-  start = ran.0;
-  commands = commands;
-  outcomes = outcomes;
-  after = after;
-  sound = keeps start ran.0 (timed ∷ []) (outcome ∷ []) sound (ran.0, ran.1, refl);
-  ran = ran.2;
-}
-
 abbrev run_of
     : (signs : Identity → List ℕ → List ℕ → Type 0) (identity : Identity)
     → (start after : Records) (commands : List (ℕ × Command)) (outcomes : List (Result Reply Fault))
-    → Sound (signed_by signs identity) start
+    → SoundFor signs identity start
     → Run (signed_by signs identity) start commands outcomes after
     → SoundRun signs identity
 run_of signs identity start after commands outcomes sound ran = record {
@@ -90,15 +73,15 @@ Accepts run serial =
 -- what a run accepted after its first command
 accepted_later
     : (signs : Identity → List ℕ → List ℕ → Type 0) (identity : Identity)
-    → (keeps : KeepsSound (signed_by signs identity))
     → (start after : Records) (timed : ℕ × Command) (commands : List (ℕ × Command))
     → (outcome : Result Reply Fault) (outcomes : List (Result Reply Fault))
-    → (sound : Sound (signed_by signs identity) start)
+    → (sound : SoundFor signs identity start)
     → (ran : Run (signed_by signs identity) start (timed ∷ commands) (outcome ∷ outcomes) after)
+    → (sound_next : SoundFor signs identity ran.0)
     → (serial : ℕ)
-    → Accepts (from_next signs identity keeps start after timed commands outcome outcomes sound ran) serial
+    → Accepts (run_of signs identity ran.0 after commands outcomes sound_next ran.2) serial
     → Accepts (run_of signs identity start after (timed ∷ commands) (outcome ∷ outcomes) sound ran) serial
-accepted_later signs identity keeps start after timed commands outcome outcomes sound ran serial accepts = (
+accepted_later signs identity start after timed commands outcome outcomes sound ran sound_next serial accepts = (
   record {
     id = its.id;
     at = its.at;
@@ -118,7 +101,7 @@ accepted_later signs identity keeps start after timed commands outcome outcomes 
   accepts.1,
 )
   where
-    its : AcceptedRevocation (from_next signs identity keeps start after timed commands outcome outcomes sound ran)
+    its : AcceptedRevocation (run_of signs identity ran.0 after commands outcomes sound_next ran.2)
     its = accepts.0
 
 -- what it accepted as its first command
@@ -126,7 +109,7 @@ accepted_first
     : (signs : Identity → List ℕ → List ℕ → Type 0) (identity : Identity)
     → (start after : Records) (timed : ℕ × Command) (commands : List (ℕ × Command))
     → (outcome : Result Reply Fault) (outcomes : List (Result Reply Fault))
-    → (sound : Sound (signed_by signs identity) start)
+    → (sound : SoundFor signs identity start)
     → (ran : Run (signed_by signs identity) start (timed ∷ commands) (outcome ∷ outcomes) after)
     → (late : Bool) (revocation : RevocationRow)
     → outcome ≡ Ok (IsRevokedNow late)
@@ -175,26 +158,22 @@ only_one added found serial is = go (added.serial == serial) refl is
 -- a revocation after a run stood when it began, or the run accepted it
 pub traced
     : (signs : Identity → List ℕ → List ℕ → Type 0) (identity : Identity)
-    → KeepsSound (signed_by signs identity)
-    → RevocationsMoveExactly (signed_by signs identity)
+    → ((since : ℕ) → RevocationsMoveExactly (sealed_until since signs identity))
     → (start after : Records) (commands : List (ℕ × Command)) (outcomes : List (Result Reply Fault))
-    → (sound : Sound (signed_by signs identity) start)
+    → (sound : SoundFor signs identity start)
     → (ran : Run (signed_by signs identity) start commands outcomes after)
     → (serial : ℕ) (revocation : RevocationRow)
     → revocation_in after.revocations serial ≡ Some revocation
     → WasRevoked (run_of signs identity start after commands outcomes sound ran) serial
-traced signs identity keeps moves start after [] [] sound ran serial revocation is =
+traced signs identity moves start after [] [] sound ran serial revocation is =
     inl (some_here (revocation_in start.revocations serial) revocation (ap (λ r. revocation_in r.revocations serial) (sym ran) ∙ is))
-traced signs identity keeps moves start after [] (outcome ∷ outcomes) sound ran serial revocation is = absurd ran
-traced signs identity keeps moves start after (timed ∷ commands) [] sound ran serial revocation is = absurd ran
-traced signs identity keeps moves start after (timed ∷ commands) (outcome ∷ outcomes) sound ran serial revocation is =
-    later (traced signs identity keeps moves ran.0 after commands outcomes sound_next ran.2 serial revocation is)
+traced signs identity moves start after [] (outcome ∷ outcomes) sound ran serial revocation is = absurd ran
+traced signs identity moves start after (timed ∷ commands) [] sound ran serial revocation is = absurd ran
+traced signs identity moves start after (timed ∷ commands) (outcome ∷ outcomes) sound ran serial revocation is =
+    later (traced signs identity moves ran.0 after commands outcomes sound_next ran.2 serial revocation is)
   where
-    sound_next : Sound (signed_by signs identity) ran.0
-    sound_next = keeps start ran.0 (timed ∷ []) (outcome ∷ []) sound (ran.0, ran.1, refl)
-
-    this : SoundRun signs identity
-    this = run_of signs identity start after (timed ∷ commands) (outcome ∷ outcomes) sound ran
+    sound_next : SoundFor signs identity ran.0
+    sound_next = step_keeps_sound_for signs identity start timed.0 timed.1 outcome ran.0 sound ran.1
 
     -- one that the first command brought
     brought
@@ -243,7 +222,7 @@ traced signs identity keeps moves start after (timed ∷ commands) (outcome ∷ 
         brought found stands its.0 its.1 its.2 its.3 its.4 (revocation_in start.revocations serial) refl
 
     later
-        : WasRevoked (from_next signs identity keeps start after timed commands outcome outcomes sound ran) serial
+        : WasRevoked (run_of signs identity ran.0 after commands outcomes sound_next ran.2) serial
         → WasRevoked (run_of signs identity start after (timed ∷ commands) (outcome ∷ outcomes) sound ran) serial
     later (inl stood) =
         let found : (known : RevocationRow) × (revocation_in ran.0.revocations serial ≡ Some known) = some_of (revocation_in ran.0.revocations serial) stood in
@@ -256,10 +235,22 @@ traced signs identity keeps moves start after (timed ∷ commands) (outcome ∷ 
         timed.1
         outcome
         ran.0
-        (moves start start ran.0 [] [] timed.0 timed.1 outcome sound refl ran.1))
+        (moves
+        sound.since
+        start
+        start
+        ran.0
+        []
+        []
+        timed.0
+        timed.1
+        outcome
+        (over_stored signs identity start sound)
+        refl
+        (happens_since sound.since signs identity start timed.0 timed.1 outcome ran.0 sound.reached ran.1)))
     later (inr accepts) =
         inr
-        (accepted_later signs identity keeps start after timed commands outcome outcomes sound ran serial accepts)
+        (accepted_later signs identity start after timed commands outcome outcomes sound ran sound_next serial accepts)
 
 -- WHERE THERE IS NONE
 
@@ -320,19 +311,24 @@ told_is (Some refusal) status told is = absurd (let bad : ⊥ = cc in bad)
 -- a serial number that was not revoked is nowhere shown, where the headline stands
 pub nowhere_shown
     : (signs : Identity → List ℕ → List ℕ → Type 0) (identity : Identity)
-    → KeepsSound (signed_by signs identity)
-    → HistoryStands (signed_by signs identity)
-    → RevocationsMoveExactly (signed_by signs identity)
+    → ((since : ℕ) → HistoryStands (sealed_until since signs identity))
+    → ((since : ℕ) → RevocationsMoveExactly (sealed_until since signs identity))
     → OcspAgrees
     → (run : SoundRun signs identity)
     → (serial : ℕ)
     → ¬ (WasRevoked run serial)
     → IsNowhereShown run serial
-nowhere_shown signs identity keeps history moves agree run serial not_revoked =
+nowhere_shown signs identity history moves agree run serial not_revoked =
     shown (revocation_in run.after.revocations serial) refl
   where
-    sound : Sound (signed_by signs identity) run.after
-    sound = keeps run.start run.after run.commands run.outcomes run.sound run.ran
+    before : Sound (sealed_until run.sound.since signs identity) run.start
+    before = over_stored signs identity run.start run.sound
+
+    sound : Sound (sealed_until run.sound.since signs identity) run.after
+    sound = (after_since run.sound.since signs identity run.start run.after run.commands run.outcomes before run.sound.reached run.ran).0
+
+    ran : Run (sealed_until run.sound.since signs identity) run.start run.commands run.outcomes run.after
+    ran = run_since run.sound.since signs identity run.start run.after run.commands run.outcomes before run.sound.reached run.ran
 
     shown
         : (found : Option RevocationRow)
@@ -344,7 +340,6 @@ nowhere_shown signs identity keeps history moves agree run serial not_revoked =
         (traced
         signs
         identity
-        keeps
         moves
         run.start
         run.after
@@ -382,7 +377,7 @@ nowhere_shown signs identity keeps history moves agree run serial not_revoked =
           run.after
           crl
           serial
-          ((history run.start run.after run.commands run.outcomes run.sound run.ran).1 crl.number)
+          ((history run.sound.since run.start run.after run.commands run.outcomes before ran).1 crl.number)
           is)
           run.after.crls;
       signed_so = sound.signatures;

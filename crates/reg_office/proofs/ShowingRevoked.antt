@@ -9,7 +9,7 @@ use Rattle.reg_core.specs.Status.{status, status_by}
 use Rattle.reg_core.specs.declared.command.Command.TheVariants.{Revoke}
 use Rattle.reg_core.specs.declared.command.Query.TheVariants.{Status as AskStatus}
 use Rattle.reg_core.specs.declared.command.Reply.{Reply}
-use Rattle.reg_core.specs.declared.command.Reply.TheVariants.{Status as StatusIs}
+use Rattle.reg_core.specs.declared.command.Reply.TheVariants.{Revoked as IsRevokedNow, Status as StatusIs}
 use Rattle.reg_core.specs.declared.command.Status.{Status}
 use Rattle.reg_core.specs.declared.command.Status.TheVariants.{Revoked}
 use Rattle.reg_core.specs.declared.refusal.Refusal.{Refusal}
@@ -18,13 +18,14 @@ use Rattle.reg_core.specs.declared.refusal.Fault.TheVariants.{Refused, Memory, S
 use Rattle.reg_core.specs.declared.rows.CertRow.{CertRow}
 use Rattle.reg_core.specs.declared.rows.Entry.{Entry}
 use Rattle.reg_core.specs.declared.rows.RevocationRow.{RevocationRow}
-use Rattle.reg_crl.specs.Signing.{Identity, signed_by}
-use Rattle.reg_laws.specs.Headline.{KeepsSound, ListsRevoked, lists, ToldByCrls, IsDueEntry}
+use Rattle.reg_crl.specs.Signing.{Identity, sealed_until}
+use Rattle.reg_laws.specs.Headline.{ListsRevoked, lists, ToldByCrls, IsDueEntry}
 use Rattle.reg_laws.specs.Revocations.{IsRevocationBy}
 use Rattle.reg_laws.proofs.Lists.{all_weaker, all_found, key_found, some_at}
 use Rattle.reg_office.specs.Agreement.{OcspAgrees}
 use Rattle.reg_calls.specs.Answered.{IsAnswered}
 use Rattle.reg_office.specs.Shown.{SoundRun, AcceptedRevocation, IsReached, revoked_at, ListedThroughFirstPast, IsShownEverywhere}
+use Rattle.reg_office.proofs.Following.{after_since, happens_since, over_stored, run_since, step_since}
 use Rattle.reg_office.proofs.ShownByCrls.{NotPast, ToldOf, listed_through}
 use Rattle.reg_office.proofs.ShownByOcsp.{on_clock, ocsp_tells}
 
@@ -60,7 +61,7 @@ shown_of
     → OcspAgrees
     → (run : SoundRun signs identity)
     → (its : AcceptedRevocation run)
-    → Sound (signed_by signs identity) run.after
+    → Sound (sealed_until run.sound.since signs identity) run.after
     → (certificate : CertRow) (revocation : RevocationRow)
     → certificate_in run.after.certificates revocation.serial ≡ Some certificate
     → IsRevocationBy its.before its.at (Revoke its.id) revocation
@@ -169,15 +170,19 @@ shown_of signs identity agree run its sound certificate revocation found by tell
 -- each revocation is shown, where the headline stands
 pub shown_everywhere
     : (signs : Identity → List ℕ → List ℕ → Type 0) (identity : Identity)
-    → KeepsSound (signed_by signs identity)
-    → ListsRevoked (signed_by signs identity)
+    → ((since : ℕ) → ListsRevoked (sealed_until since signs identity))
     → OcspAgrees
     → (run : SoundRun signs identity)
     → (its : AcceptedRevocation run)
     → IsShownEverywhere its
-shown_everywhere signs identity keeps lists_them agree run its =
+shown_everywhere signs identity lists_them agree run its =
+    let since = run.sound.since in
+    let sound = over_stored signs identity run.start run.sound in
+    let before = after_since since signs identity run.start its.before its.front its.early sound run.sound.reached its.ran_before in
+    let next = step_since since signs identity its.before its.at (Revoke its.id) (Ok (IsRevokedNow its.is_late)) its.next before.0 before.1 its.accepted in
     let told =
     lists_them
+    since
     run.start
     its.before
     its.next
@@ -189,17 +194,17 @@ shown_everywhere signs identity keeps lists_them agree run its =
     its.at
     (Revoke its.id)
     its.is_late
-    run.sound
-    its.ran_before
-    its.accepted
-    its.ran_after in
+    sound
+    (run_since since signs identity run.start its.before its.front its.early sound run.sound.reached its.ran_before)
+    (happens_since since signs identity its.before its.at (Revoke its.id) (Ok (IsRevokedNow its.is_late)) its.next before.1 its.accepted)
+    (run_since since signs identity its.next run.after its.rest its.late next.0 next.1 its.ran_after) in
     shown_of
     signs
     identity
     agree
     run
     its
-    (keeps run.start run.after run.commands run.outcomes run.sound run.ran)
+    (after_since since signs identity run.start run.after run.commands run.outcomes sound run.sound.reached run.ran).0
     told.0.0
     told.0.1
     told.0.2

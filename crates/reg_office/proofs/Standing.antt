@@ -14,12 +14,13 @@ use Rattle.reg_core.specs.declared.refusal.Fault.TheVariants.{Refused, Memory, S
 use Rattle.reg_crl.specs.Signing.{Identity, signed_by}
 use Rattle.reg_laws.specs.Run.{Run}
 use Rattle.reg_laws.proofs.Decided.{clock_ended}
-use Rattle.reg_laws.proofs.Runs.{run_more, step_keeps_sound}
+use Rattle.reg_laws.proofs.Runs.{run_more}
 use Rattle.reg_tables.specs.Stays.{IsRegister, Looked, Stays}
 use Rattle.reg_office.specs.Faults.{IsOfficeFault, IsTableFault}
 use Rattle.reg_office.specs.Happened.{Happened, unsigned}
 use Rattle.reg_office.specs.Stands.{Stands, CameTo, HasRun}
 use Rattle.reg_office.proofs.Composing.{IssuesNone, after_look, happens_as}
+use Rattle.reg_office.proofs.Following.{step_keeps_sound_for}
 
 -- what stood stands over a call that leaves a register's tables as they are
 pub stands_on :
@@ -53,15 +54,7 @@ came g signs old new identity records now command outcome stands happened = reco
   stands = record {
     shown = happened.shown;
     sound =
-        step_keeps_sound
-        (signed_by signs identity)
-        records
-        now
-        command
-        outcome
-        happened.after
-        stands.sound
-        happened.happens;
+        step_keeps_sound_for signs identity records now command outcome happened.after stands.sound happened.happens;
   };
 }
 

@@ -6,7 +6,7 @@ use Rattle.sqlite.specs.Held.{Held, state}
 use Rattle.sqlite.specs.State.{HasCleanDisk, IsLive, Survives}
 use Rattle.reg_core.specs.Crls.{CertList}
 use Rattle.reg_core.specs.Records.{Records}
-use Rattle.reg_core.specs.Sound.{Sound, SoundRows}
+use Rattle.reg_core.specs.Sound.{SoundRows}
 use Rattle.reg_core.specs.declared.command.Command.{Command}
 use Rattle.reg_core.specs.declared.command.Reply.{Reply}
 use Rattle.reg_core.specs.declared.refusal.Fault.{Fault}
@@ -15,7 +15,7 @@ use Rattle.reg_der.specs.Issuers.{with_key_identifier}
 use Rattle.reg_tables.specs.Kept.{ShowsKept}
 use Rattle.reg_writing.specs.AtRest.{IsAtRest}
 use Rattle.reg_laws.specs.Run.{Happens, Run}
-use Rattle.reg_office.specs.Stands.{Stands, CameTo}
+use Rattle.reg_office.specs.Stands.{SoundFor, Stands, CameTo}
 
 -- the rows show the records after the command, which was accepted over these, and what is kept beside them stands for them
 pub record IsStepped (signed : CertList → List ℕ → Type 0) (records : Records) (now : ℕ) (command : Command) (trees : Trees) : Type 0 where
@@ -28,10 +28,10 @@ pub record IsStepped (signed : CertList → List ℕ → Type 0) (records : Reco
 abbrev pub Steps : {C : Type 0} → Ghosts C → Held C → (CertList → List ℕ → Type 0) → ℕ → Command → Trees → Type 0
 Steps g old signed now command trees = (records : Records) → ShowsKept g old records → SoundRows records → IsStepped signed records now command trees
 
--- the same of an office: the records after the command hold together, and each CRL is signed by who signs for the office
+-- the same of an office: the records after the command are sound for who signs for the office
 pub record IsDone (signs : Identity → List ℕ → List ℕ → Type 0) (identity : Identity) (records : Records) (now : ℕ) (command : Command) (trees : Trees) : Type 0 where
   pub stepped : IsStepped (signed_by signs identity) records now command trees
-  pub sound : Sound (signed_by signs identity) stepped.after
+  pub sound : SoundFor signs identity stepped.after
 
 -- the rows as a command of an office leaves them that is accepted over the records that stood
 abbrev pub Does : {C : Type 0} → Ghosts C → (Identity → List ℕ → List ℕ → Type 0) → Held C → Identity → ℕ → Command → Trees → Type 0
@@ -75,7 +75,7 @@ pub record IsPartlyRun (signs : Identity → List ℕ → List ℕ → Type 0) (
   pub no_reply : HaveNoReply others
   pub after : Records
   pub run : Run (signed_by signs identity) records done came after
-  pub sound : Sound (signed_by signs identity) after
+  pub sound : SoundFor signs identity after
   pub rests : IsAtRest after trees ⊎ IsNextDone signs identity after left trees
 
 -- one command as `run_one` runs it, from one state of an office's tables to the next: what its clauses say

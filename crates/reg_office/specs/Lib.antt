@@ -3,6 +3,7 @@ pub mod Answering
 pub mod AtRest
 pub mod Commands
 pub mod Faults
+pub mod Following
 pub mod Happened
 pub mod Issuing
 pub mod OpenedAgain

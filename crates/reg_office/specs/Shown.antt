@@ -9,7 +9,6 @@ use Rattle.reg_core.specs.Checks.{clock_end}
 use Rattle.reg_core.specs.Crls.{CertList, cert_list}
 use Rattle.reg_core.specs.Grounds.{reason_of}
 use Rattle.reg_core.specs.Records.{Records, Crl, certificate_in, request_in, revocation_in}
-use Rattle.reg_core.specs.Sound.{Sound}
 use Rattle.reg_core.specs.Status.{status, is_revoked}
 use Rattle.reg_core.specs.declared.command.Command.{Command}
 use Rattle.reg_core.specs.declared.command.Command.TheVariants.{Revoke}
@@ -23,7 +22,7 @@ use Rattle.reg_core.specs.declared.refusal.Fault.TheVariants.{Memory, Store}
 use Rattle.reg_core.specs.declared.rows.CertRow.{CertRow}
 use Rattle.reg_core.specs.declared.rows.Entry.{Entry}
 use Rattle.reg_core.specs.declared.rows.RequestRow.{RequestRow}
-use Rattle.reg_crl.specs.Signing.{Identity, signed_by}
+use Rattle.reg_crl.specs.Signing.{Identity, sealed_until, signed_by}
 use Rattle.reg_laws.specs.Run.{Happens, Run}
 use Rattle.reg_ocsp.specs.Matching.{IsMatch}
 use Rattle.reg_ocsp.specs.Request.{Id, IsRequest}
@@ -32,17 +31,18 @@ use Rattle.reg_ocsp.specs.declared.response.RefusalStatus.TheVariants.{Malformed
 use Rattle.reg_calls.specs.Ocsp.{HasNoReading, IsOcspReply, IsResponse}
 use Rattle.reg_calls.specs.Answered.{IsAnswered}
 use Rattle.reg_calls.specs.Signatories.{Responder}
+use Rattle.reg_office.specs.Stands.{SoundFor}
 
 -- A RUN, AND THE REVOCATIONS THAT IT ACCEPTED
 
--- a run: from sound records commands, each at its moment, came to these outcomes, one for each and in order, and led to
--- the records after them
+-- a run: from records that are sound for who signs, commands, each at its moment, came to these outcomes, one for each and in order, and
+-- led to the records after them; each new CRL was signed by who signs
 pub record SoundRun (signs : Identity → List ℕ → List ℕ → Type 0) (identity : Identity) : Type 0 where
   pub start : Records
   pub commands : List (ℕ × Command)
   pub outcomes : List (Result Reply Fault)
   pub after : Records
-  pub sound : Sound (signed_by signs identity) start
+  pub sound : SoundFor signs identity start
   pub ran : Run (signed_by signs identity) start commands outcomes after
 
 -- a revocation that a run accepted: at some place of the run the command to revoke by the request of this id, handed in
@@ -135,10 +135,10 @@ ListedThroughFirstPast records entry not_after (crl ∷ rest) =
     (AllByRecursion (λ later. entry_in records later entry.serial ≡ None) rest)
     (ListedThroughFirstPast records entry not_after rest)
 
--- each recorded CRL is signed over its entries, by the one who signs
-abbrev pub AreSignedSo : (Identity → List ℕ → List ℕ → Type 0) → Identity → Records → Type 0
-AreSignedSo signs identity records =
-    AllByRecursion (λ crl. signed_by signs identity (signed_in records crl) crl.bytes) records.crls
+-- each recorded CRL is signed over its entries, by the one who signs, or sealed by the digest where its number is below this one
+abbrev pub AreSignedSo : ℕ → (Identity → List ℕ → List ℕ → Type 0) → Identity → Records → Type 0
+AreSignedSo since signs identity records =
+    AllByRecursion (λ crl. sealed_until since signs identity (signed_in records crl) crl.bytes) records.crls
 
 -- A REVOKED CERTIFICATE IS SHOWN AS REVOKED EVERYWHERE
 
@@ -190,7 +190,7 @@ pub record IsShownEverywhere
   pub issued_later : run.after.crls ≡ its.before.crls ++ later
   pub by_crls : ListedThroughFirstPast run.after (entry_at its.at request) certificate.not_after later
   -- and each CRL is signed over just these entries
-  pub signed_so : AreSignedSo signs identity run.after
+  pub signed_so : AreSignedSo run.sound.since signs identity run.after
 
 -- NOTHING ELSE IS SHOWN AS REVOKED
 
@@ -226,4 +226,4 @@ pub record IsNowhereShown
   -- no CRL has an entry of it
   pub by_crls : AllByRecursion (λ crl. entry_in run.after crl serial ≡ None) run.after.crls
   -- and each CRL is signed over just its entries
-  pub signed_so : AreSignedSo signs identity run.after
+  pub signed_so : AreSignedSo run.sound.since signs identity run.after

@@ -1,21 +1,29 @@
 -- The records of an office.
-use Rattle.std.specs.Prelude.{ℕ, List, Result}
+use Rattle.std.specs.Prelude.{ℕ, ◌≤◌, List, Result}
 use Rattle.sqlite_trees.specs.declared.store.Store.{Ghosts}
 use Rattle.sqlite.specs.Held.{Held}
+use Rattle.reg_core.specs.Crls.{next_number}
 use Rattle.reg_core.specs.Records.{Records}
-use Rattle.reg_core.specs.Sound.{Sound}
+use Rattle.reg_core.specs.Sound.{CrlsSigned, SoundRows}
 use Rattle.reg_core.specs.declared.command.Command.{Command}
 use Rattle.reg_core.specs.declared.command.Reply.{Reply}
 use Rattle.reg_core.specs.declared.refusal.Fault.{Fault}
-use Rattle.reg_crl.specs.Signing.{Identity, signed_by}
+use Rattle.reg_crl.specs.Signing.{Identity, sealed_until, signed_by}
 use Rattle.reg_tables.specs.Kept.{ShowsKept}
 use Rattle.reg_laws.specs.Run.{Happens, Run}
 
--- the tables show the records, and what is kept beside them stands for these; the records hold together, and each CRL is
--- signed over what it lists by who signs for the office
+-- the records hold together, and each CRL is signed over what it lists: from some number on, the next one at the latest, by who signs for
+-- the office, and below that number it is sealed by the digest, which was there before a key (1 where none was)
+pub record SoundFor (signs : Identity → List ℕ → List ℕ → Type 0) (identity : Identity) (records : Records) : Type 0 where
+  pub since : ℕ
+  pub reached : since ≤ next_number records.crls
+  pub rows : SoundRows records
+  pub signatures : CrlsSigned (sealed_until since signs identity) records
+
+-- the tables show the records, and what is kept beside them stands for these; the records are sound for who signs for the office
 pub record Stands {C : Type 0} (g : Ghosts C) (signs : Identity → List ℕ → List ℕ → Type 0) (held : Held C) (identity : Identity) (records : Records) : Type 0 where
   pub shown : ShowsKept g held records
-  pub sound : Sound (signed_by signs identity) records
+  pub sound : SoundFor signs identity records
 
 -- one command at a moment: it came to the outcome over the records, and the records after it stand
 pub record CameTo {C : Type 0} (g : Ghosts C) (signs : Identity → List ℕ → List ℕ → Type 0) (held : Held C) (identity : Identity) (records : Records) (now : ℕ) (command : Command) (outcome : Result Reply Fault) : Type 0 where

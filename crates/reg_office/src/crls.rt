@@ -22,7 +22,7 @@ ghost use Rattle.reg_calls.specs.Answered.{IsGiven};
 
 use crate::heads::{head_at, latest_crl};
 use reg_core::{CrlRow, Entry, Fault, Moment, Refusal, Reply, decide_crl};
-use reg_crl::{Signer, crl_tbs, crl_whole};
+use reg_crl::{SignFault, Signer, crl_tbs, crl_whole};
 use reg_der::Issuer;
 use reg_store::{Store, Table};
 use sqlite::Alter;
@@ -55,8 +55,26 @@ fn signed_crl<S: Signer>(
         next_update,
         entries,
     )?;
-    let signature = signer.sign(alloc, &tbs)?;
+    let signature = signature_of(alloc, signer, &tbs)?;
     Ok(crl_whole(alloc, &tbs, signer.algorithm(), &signature)?)
+}
+
+/// A signature of what is signed in a CRL. Who issues one waits for what signs, and so it is asked, also where it would be left alone.
+///
+/// # Errors
+/// `Device` where the signer counted a failure; `Memory`.
+fn signature_of<S: Signer>(
+    alloc: Global,
+    signer: &mut S,
+    message: &[u8],
+) -> Result<Vec<u8>, SignFault>
+    ensures signed { IfOk result (λ signature. S.signs (S.identity signer.old) message.now signature.items) }
+    ensures short { IfOk result (λ signature. length signature.items ≤ 65536) }
+    ensures same_identity { S.identity signer.new ≡ S.identity signer.old }
+    ensures device { IsErrOf result SignFault.Device → S.failure_count signer.old < S.failure_count signer.new }
+{
+    signer.rouse();
+    signer.sign(alloc, message)
 }
 
 /// The row of the next CRL, and its nextUpdate.

@@ -1,11 +1,12 @@
 //! Each function here does nothing when it runs: its contract is a law, and the check proves it.
 
 ghost use Rattle.std.specs.Prelude.{ℕ};
-ghost use Rattle.reg_crl.specs.Signing.{signed_by};
+ghost use Rattle.reg_crl.specs.Signing.{sealed_until, signed_by};
 ghost use Rattle.reg_laws.specs.Headline.{CreatedSound, KeepsSound, RunsInParts, StandsInExactlyOne, CountsMoveExactly, ListsRevoked, RefusalsChangeNothing};
 ghost use Rattle.reg_laws.specs.History.{HistoryStands};
 ghost use Rattle.reg_office.specs.Agreement.{OcspAgrees};
 ghost use Rattle.reg_office.specs.AtRest.{StopsBeforeOrAfter, StopsAfterAPrefix};
+ghost use Rattle.reg_office.specs.Following.{FollowsSeal, RunsSince};
 ghost use Rattle.reg_office.specs.OpenedAgain.{OpensAfterAPrefix, OpensBeforeOrAfter};
 ghost use Rattle.reg_office.specs.Decisions.{SubscribersAreSteps, OrdersAreSteps, RegistrationsAreSteps, RequestsAreSteps, DeclinesAreSteps, RevocationsAreSteps, CrlsAreSteps};
 ghost use Rattle.reg_office.specs.Shown.{SoundRun, AcceptedRevocation, IsShownEverywhere, WasRevoked, IsNowhereShown};
@@ -18,21 +19,35 @@ use sqlite::Alter;
 /// the three counts move exactly as accepted commands and passing time record; every CRL after a revocation lists it up
 /// to and including the first issued past its notAfter (RFC 5280 3.3), and lists nothing else; a recorded CRL never
 /// changes, nor what it is signed over; OCSP statuses agree (RFC 6960 2.2); a refused command changes nothing.
+///
+/// Each recorded CRL is signed by who signs; or it is older than all that are, with a number below `since`, and sealed by the digest,
+/// which a key has followed then. Whatever who signs does from such records on is a run of the other clauses (`since`): each
+/// CRL that it adds is signed, and none is sealed.
 pub fn headline<S: Signer>()
-    ensures created { (signer : S) → CreatedSound (signed_by S.signs (S.identity signer)) }
-    ensures sound { (signer : S) → KeepsSound (signed_by S.signs (S.identity signer)) }
-    ensures parts { (signer : S) → RunsInParts (signed_by S.signs (S.identity signer)) }
-    ensures exactly_one { (signer : S) → StandsInExactlyOne (signed_by S.signs (S.identity signer)) }
-    ensures counts { (signer : S) → CountsMoveExactly (signed_by S.signs (S.identity signer)) }
-    ensures lists { (signer : S) → ListsRevoked (signed_by S.signs (S.identity signer)) }
-    ensures history { (signer : S) → HistoryStands (signed_by S.signs (S.identity signer)) }
+    ensures created { (signer : S) (since : ℕ) → CreatedSound (sealed_until since S.signs (S.identity signer)) }
+    ensures since { (signer : S) → RunsSince S.signs (S.identity signer) }
+    ensures sound { (signer : S) (since : ℕ) → KeepsSound (sealed_until since S.signs (S.identity signer)) }
+    ensures parts { (signer : S) (since : ℕ) → RunsInParts (sealed_until since S.signs (S.identity signer)) }
+    ensures exactly_one { (signer : S) (since : ℕ) → StandsInExactlyOne (sealed_until since S.signs (S.identity signer)) }
+    ensures counts { (signer : S) (since : ℕ) → CountsMoveExactly (sealed_until since S.signs (S.identity signer)) }
+    ensures lists { (signer : S) (since : ℕ) → ListsRevoked (sealed_until since S.signs (S.identity signer)) }
+    ensures history { (signer : S) (since : ℕ) → HistoryStands (sealed_until since S.signs (S.identity signer)) }
     ensures statuses { OcspAgrees }
-    ensures refused { (signer : S) → RefusalsChangeNothing (signed_by S.signs (S.identity signer)) }
+    ensures refused { (signer : S) (since : ℕ) → RefusalsChangeNothing (sealed_until since S.signs (S.identity signer)) }
 {
     reg_laws::laws::headline::<CrlSigner<S>>();
     reg_laws::laws::history::<CrlSigner<S>>();
     statuses_agree();
 }
+
+/// A key follows the digest.
+///
+/// Of a register in which the digest alone has sealed: the records that stand for it stand for whoever signs next, with each CRL that
+/// is there sealed and older than all that will be signed. So the clauses of [`Office`](crate::Office) and the laws hold of them as
+/// of any other. That no digest follows a key, and no algorithm another, is looked at where a register is opened.
+pub fn a_key_follows_the_digest<C: Alter, S: Signer>()
+    ensures { FollowsSeal C.Store S.signs }
+{}
 
 /// OCSP statuses agree with the register: in an answer over sound records, a CertID that names the issuer's certificate
 /// of a serial number is told `revoked` with the recorded time and reason where that is revoked, `good` where it is
@@ -69,7 +84,7 @@ pub fn decisions_are_steps<S: Signer>()
 ///   reply is malformedRequest, where the bytes are no request, or internalError (RFC 6960 2.2, 2.3);
 /// - each CRL that is issued later ([`Office::crl_bytes`](crate::Office::crl_bytes)) lists the serial number with that
 ///   moment and that reason, up to and including the first whose thisUpdate is past the certificate's notAfter
-///   (RFC 5280 3.3), and is signed over just what it lists.
+///   (RFC 5280 3.3), and is signed over just what it lists, or sealed by the digest where no key had followed that.
 pub fn a_revoked_certificate_is_shown_as_revoked_everywhere<S: Signer>()
     ensures { (signer : S) (run : SoundRun S.signs (S.identity signer)) (its : AcceptedRevocation run) → IsShownEverywhere its }
 {

@@ -2,23 +2,26 @@
 use Rattle.std.proofs.Common.{◌≡◌, ◌∙◌, ℕ, List, Option, Some, None, sym, subst}
 use Rattle.std.specs.Prelude.{MatchOption}
 use Rattle.reg_causes.specs.declared.cause.Cause.{Cause}
+use Rattle.reg_jobs.specs.Signing.{MayFollow}
 use Rattle.reg_signer.specs.Signed.{IsCrlUnder}
 use Rattle.reg_program.specs.Misfits.{Differs, IsMisfit, IsMisfitAfter}
 
 -- by the algorithm that was found in it
 pub of_found : (crl found algorithm : List ℕ) (result : Option Cause)
     → ((other : List ℕ) → IsCrlUnder crl other → found ≡ other)
-    → MatchOption result (found ≡ algorithm) (Differs found algorithm)
-    → MatchOption result ((other : List ℕ) → IsCrlUnder crl other → other ≡ algorithm) (IsMisfit crl algorithm)
-of_found crl found algorithm None told same = λ other under. sym (told other under) ∙ same
+    → MatchOption result (MayFollow algorithm found) (Differs found algorithm)
+    → MatchOption result ((other : List ℕ) → IsCrlUnder crl other → MayFollow algorithm other) (IsMisfit crl algorithm)
+of_found crl found algorithm None told follows = λ other under.
+    let P : List ℕ → Type 0 = λ b. MayFollow algorithm b in
+    subst P (told other under) follows
 of_found crl found algorithm (Some cause) told differs = λ other under.
     let P : List ℕ → Type 0 = λ b. Differs b algorithm cause in
     subst P (told other under) differs
 
 -- by what was found of the latest
 pub of_latest : (latest : Option (List ℕ)) (crl algorithm : List ℕ) (result : Option Cause) → latest ≡ Some crl
-    → MatchOption result ((other : List ℕ) → IsCrlUnder crl other → other ≡ algorithm) (IsMisfit crl algorithm)
-    → MatchOption result ((it : List ℕ) → latest ≡ Some it → (other : List ℕ) → IsCrlUnder it other → other ≡ algorithm)
+    → MatchOption result ((other : List ℕ) → IsCrlUnder crl other → MayFollow algorithm other) (IsMisfit crl algorithm)
+    → MatchOption result ((it : List ℕ) → latest ≡ Some it → (other : List ℕ) → IsCrlUnder it other → MayFollow algorithm other)
     (IsMisfitAfter latest algorithm)
 of_latest latest crl algorithm None is follows = λ it same other under.
     let both : Some it ≡ Some crl = sym same ∙ is in

@@ -13,9 +13,9 @@ use Rattle.reg_core.specs.Records.{Records, no_records}
 use Rattle.reg_core.specs.Sound.{SoundRows}
 use Rattle.reg_migration.specs.Older.{ShowsOlder}
 use Rattle.reg_migration.specs.declared.version.Earlier.{Earlier}
-use Rattle.reg_crl.specs.Signing.{Identity, signed_by}
+use Rattle.reg_crl.specs.Signing.{Identity}
 use Rattle.reg_endings.specs.declared.failure.Failure.{Failure}
-use Rattle.reg_laws.proofs.Runs.{created_sound}
+use Rattle.reg_office.proofs.Following.{created_sound_for}
 use Rattle.reg_office.specs.Stands.{Stands}
 use Rattle.reg_tables.specs.Kept.{ShowsKept}
 use Rattle.reg_tables.specs.Schema.{no_schema}
@@ -32,7 +32,7 @@ pub made_stands : {C : Type 0} (g : Ghosts C) (signs : Identity → List ℕ →
     → ShowsKept g store (no_records issuer policy) → Stands g signs register identity (no_records issuer policy)
 made_stands {C} g signs identity store register issuer policy is shown =
     let P : Held C → Type 0 = λ v. ShowsKept g v (no_records issuer policy) in
-    record { shown = subst P (sym is) shown; sound = created_sound (signed_by signs identity) issuer policy }
+    record { shown = subst P (sym is) shown; sound = created_sound_for signs identity issuer policy }
 
 -- the records of one that was opened
 pub opened_shows : {C : Type 0} (g : Ghosts C) (store register : Held C) (records : Records)
@@ -71,7 +71,7 @@ module _ {D : Type 0} {g : disk.Ghosts D} {O L : Type 0} (store : O → Held (Fi
       (records : Records) → Showed over_files connection records → HasCleanDisk (file_state (store office))
       → IsSigning signing records.issuer.key (who office).crls
 
-  -- who signs, under the algorithm of the latest CRL
+  -- who signs, behind the latest CRL
   abbrev pub FollowsLatest : (O → Signatory) → O → Type 0
   FollowsLatest who office =
       (records : Records) → Showed over_files connection records → SoundRows records → HasCleanDisk (file_state (store office))

@@ -2,8 +2,10 @@
 use Rattle.std.specs.Prelude.{◌≡◌, ◌≤◌, ◌⊎◌}
 use Rattle.sqlite.specs.Files.{file_state, over_files, IsOpened}
 use Rattle.sqlite.specs.Held.{Held, IsNew}
+use Rattle.sqlite.specs.Start.{FindsIn}
 use Rattle.sqlite.specs.State.{HasCleanDisk}
 use Rattle.sqlite_trees.specs.declared.store.Store.{Ghosts}
+use Rattle.sqlite_wal.specs.Recovery.{Image}
 use Rattle.sqlite_disk.specs.declared.Disk as disk
 use Rattle.sqlite_store.specs.declared.store.FileStore.{FileStore}
 use Rattle.sqlite_trees.specs.View.{doubt}
@@ -36,8 +38,8 @@ module _ {D : Type 0} {g : disk.Ghosts D} where
 
   -- What a register holds was opened by a connection, and shows the records that the connection showed, also those that its
   -- tables showed as ones of an older version. Who signs CRLs is as it was told, or as the latest CRL tells where nothing will be
-  -- signed; over the issuer's key, and under the algorithm of the latest CRL. A certificate that stands with OCSP answers by the
-  -- issuer's key is of that key.
+  -- signed; over the issuer's key, and under the algorithm of the latest CRL, or behind one that the digest sealed. A certificate that
+  -- stands with OCSP answers by the issuer's key is of that key.
   pub record IsOpenedFrom (signing : OfCrls) (register : Held (FileStore D g)) (who : Signatory) : Type 0 where
     pub connection : Held (FileStore D g)
     pub connects : IsConnection connection
@@ -83,3 +85,8 @@ pub record IsAudited {D : Type 0} (g : disk.Ghosts D) (verdict : Verdict) : Type
   pub tells : HasCleanDisk (file_state after) → TellsOf verdict (file_state connection).now
   pub register : IsSound verdict → IsRegister (file_state after)
   pub stays : Stays (file_state connection) (file_state after)
+
+-- the same of files that hold these bytes: the connection finds what these stand for
+pub record IsAuditOf {D : Type 0} (g : disk.Ghosts D) (image : Image) (verdict : Verdict) : Type 0 where
+  pub audited : IsAudited g verdict
+  pub found : HasCleanDisk (file_state audited.connection) → FindsIn image (file_state audited.connection)

@@ -1,20 +1,20 @@
 -- Why who is to sign for a register does not fit it.
-use Rattle.std.specs.Prelude.{◌≡◌, ◌≢◌, ◌⊎◌, ℕ, List, Option, Some}
+use Rattle.std.specs.Prelude.{◌≡◌, ℕ, List, Option, Some}
 use Rattle.reg_causes.specs.declared.cause.Cause.{Cause}
 use Rattle.reg_causes.specs.declared.cause.Cause.TheVariants as cause
+use Rattle.reg_jobs.specs.Signing.{MayFollow}
 use Rattle.reg_signer.specs.Algorithms.{identifier_of}
-use Rattle.reg_signer.specs.Both.{digest}
 use Rattle.reg_signer.specs.Signed.{IsCrlUnder}
 use Rattle.reg_signer.specs.declared.algorithm.Algorithm.{Algorithm}
 
--- an algorithm that is known here: that of the digest, or one of a key (RFC 5280 4.1.1.2)
+-- an algorithm of a key that is known here (RFC 5280 4.1.1.2)
 abbrev pub IsKnown : List ℕ → Type 0
-IsKnown algorithm = (algorithm ≡ digest.algorithm) ⊎ ((known : Algorithm) × (identifier_of known ≡ algorithm))
+IsKnown algorithm = (known : Algorithm) × (identifier_of known ≡ algorithm)
 
--- how the algorithm of a CRL differs from another: it is known here, or it is not
+-- how the algorithm of a CRL differs from another that does not follow it: it is known here, or it is not
 abbrev pub Differs : List ℕ → List ℕ → Cause → Type 0
-Differs found algorithm cause.OtherAlgorithm = (found ≢ algorithm) × IsKnown found
-Differs found algorithm cause.UnknownAlgorithm = (found ≢ algorithm) × (¬ IsKnown found)
+Differs found algorithm cause.OtherAlgorithm = (¬ MayFollow algorithm found) × IsKnown found
+Differs found algorithm cause.UnknownAlgorithm = (¬ MayFollow algorithm found) × (¬ IsKnown found)
 Differs found algorithm cause.OtherKey = ⊥
 Differs found algorithm cause.NoFile = ⊥
 Differs found algorithm cause.NoRight = ⊥

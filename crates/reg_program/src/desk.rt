@@ -12,8 +12,8 @@ use std::{env, io};
 
 /// Reads the words, does the job that they say, and tells by the exit status how it ended: 0 done, or help or the version
 /// was asked for; 1 a fault, with its line on standard error, and the line of its cause where that is asked for and known; 2 words
-/// that can't be read, with the usage on standard error; 3 a reply that was a refusal or a fault, at a counter or in a
-/// strict script.
+/// that can't be read, with the usage on standard error; 3 a reply that was a refusal or a fault, or a last line without its end, at a
+/// counter or in a strict script or import.
 ///
 /// # Errors
 /// What the system says where help, the version or the usage can't be written.

@@ -3,6 +3,7 @@
 ghost use Rattle.std.specs.Prelude.{◌≡◌, ◌≤◌, ◌⊎◌, None, Some, false, IfOk, IfErr, IsFalse, IsTrue, MatchBool, MatchResult, OnErr, option_map};
 ghost use Rattle.sqlite.specs.Files.{file_state, over_files, IsOpened};
 ghost use Rattle.sqlite.specs.Held.{state, IsNew};
+ghost use Rattle.sqlite.specs.Start.{FindsIn};
 ghost use Rattle.sqlite.specs.State.{HasCleanDisk};
 ghost use Rattle.sqlite_trees.specs.View.{doubt};
 ghost use Rattle.reg_core.specs.Records.{Records, no_records};
@@ -10,7 +11,9 @@ ghost use Rattle.reg_core.specs.Sound.{SoundRows};
 ghost use Rattle.reg_migration.specs.Older.{ShowsOlder};
 ghost use Rattle.reg_migration.specs.declared.version.Earlier.{Earlier};
 ghost use Rattle.reg_jobs.specs.Failing.{IsMaking, IsOpening};
-ghost use Rattle.reg_program.specs.Files.{IsAudited, IsOpenedFor, IsOpenedFrom, IsMadeFrom, Showed};
+ghost use Rattle.reg_files.specs.Overlaid.{image};
+ghost use Rattle.reg_files.specs.Reading.{IsUnread};
+ghost use Rattle.reg_program.specs.Files.{IsAudited, IsAuditOf, IsOpenedFor, IsOpenedFrom, IsMadeFrom, Showed};
 ghost use Rattle.reg_jobs.specs.Signing.{EmbedsOwn, Follows, IsSigning, crls_told};
 ghost use Rattle.reg_calls.specs.Leads.{Leads};
 ghost use Rattle.reg_jobs.specs.Identifiers.{Identifies};
@@ -30,7 +33,10 @@ use reg_core::{Fault, Label, Memory, Policy, Schedule};
 use reg_crl::Signer;
 use reg_der::Issuer;
 use reg_endings::Failure;
-use reg_files::{Unlaid, absent, claim_file, open_file, remove_file};
+use reg_files::{
+    Overlay, ReadFile, Source, Sources, Unlaid, Unopened, Unread, claim_file, look_at, open_file,
+    open_sources, read_at, remove_file,
+};
 use reg_findings::Verdict;
 use reg_jobs::Place;
 use reg_office::{Office, Responder};
@@ -69,9 +75,9 @@ impl<'a> Place for Machine<'a> {
 
     ghost unmade = { λ files path why after. Unit {0} };
 
-    ghost audited = { λ files path verdict after. IsAudited ⟦<FileFrom<Unknown> as Disk>⟧ verdict };
+    ghost audited = { λ files path verdict. IsAudited ⟦<Overlay<ReadFile> as Disk>⟧ verdict };
 
-    ghost unaudited = { λ files path why after. Unit {0} };
+    ghost unaudited = { λ files path why. Unit {0} };
 
     ghost closed = { λ files path register after. Unit {0} };
 
@@ -139,7 +145,7 @@ impl<'a> Place for Machine<'a> {
         (crls, failures_in(&register.responder, crls))
     }
 
-    fn audit(&mut self, path: &str) -> Result<Verdict, Failure> {
+    fn audit(&self, path: &str) -> Result<Verdict, Failure> {
         audit_file(self, path)
     }
 
@@ -156,17 +162,34 @@ impl<'a> Place for Machine<'a> {
     }
 }
 
-/// Whether something lies at a path.
-///
-/// # Errors
-/// `Store` where nothing does, or that can't be found out. The cause is noted.
-fn present(machine: &Machine<'_>, path: &str) -> Result<(), Fault>
-    ensures { IfErr result (λ fault. fault ≡ Fault.Store) }
+/// Looks whether a database was begun at a path, and leaves it as it is. Where none was, or what lies there can't be opened, the
+/// cause is noted: so no other command makes a database of what is none.
+fn begun(machine: &Machine<'_>, path: &str) -> Result<(), Failure>
+    ensures { IfErr result IsOpening }
 {
-    match absent(&machine.rt, path) {
-        Some(why) => Err(machine.noted(&why)),
-        None => Ok(()),
+    match look_at(&machine.rt, path) {
+        Ok(()) => Ok(()),
+        Err(why) => Err(unread(machine, why)),
     }
+}
+
+/// How it is told that files are not opened to be read. The cause is noted.
+fn unread(machine: &Machine<'_>, why: Unread) -> Failure
+    requires { IsUnread why }
+    ensures { IsOpening result }
+{
+    match why {
+        Unread::Nothing => Failure::NotARegister,
+        Unread::Unopened(why) => unopened(machine, &why),
+    }
+}
+
+/// How it is told that files are not opened. The cause is noted.
+fn unopened(machine: &Machine<'_>, why: &Unopened) -> Failure
+    requires { (why.now.fault ≡ Fault.Memory) ⊎ (why.now.fault ≡ Fault.Store) }
+    ensures { IsOpening result }
+{
+    Failure::Fault(machine.noted(why))
 }
 
 /// The file at a path as a database. Where it is not opened, the cause is noted.
@@ -241,8 +264,8 @@ fn open_register(
     ensures responder { IfOk result (λ register. register.responder ≡ responder) }
     ensures err { IfErr result IsOpening }
 {
-    // To open a path where no file is would make one.
-    present(machine, path)?;
+    // To open a path where no database is would make one.
+    begun(machine, path)?;
     let connection = open_noted(machine, path)?;
     settled(office_over(machine, connection, signing, responder))
 }
@@ -275,16 +298,47 @@ fn identify<C: Alter, S: Signer>(
     office.set_key_identifier(alloc, octets)
 }
 
-/// What an audit says of the register in a file.
+/// What an audit says of the register in a file, which is opened for reading alone.
 fn audit_file(machine: &Machine<'_>, path: &str) -> Result<Verdict, Failure>
-    ensures ok { IfOk result (λ verdict. IsAudited ⟦<FileFrom<Unknown> as Disk>⟧ verdict) }
+    ensures ok { IfOk result (λ verdict. IsAudited ⟦<Overlay<ReadFile> as Disk>⟧ verdict) }
     ensures err { IfErr result IsOpening }
 {
-    present(machine, path)?;
-    let mut connection = open_noted(machine, path)?;
+    match read_at(&machine.rt, path) {
+        Ok(sources) => audit_sources(machine, sources),
+        Err(why) => Err(unopened(machine, &why)),
+    }
+}
+
+/// Files that are only read, as a database. Where it is not opened, the cause is noted.
+fn open_to_read<F: Source + Drop>(
+    machine: &Machine<'_>,
+    sources: Sources<F>,
+) -> Result<Connection<FileStore<Overlay<F>>>, Failure>
+    ensures opened { IfOk result (λ connection. HasCleanDisk (file_state connection) → IsOpened connection) }
+    ensures found { IfOk result (λ connection. HasCleanDisk (file_state connection)
+        → FindsIn (image sources.log.items (F.Source.bytes sources.db)) (file_state connection)) }
+    ensures fresh { IfOk result IsNew }
+    ensures idle { IfOk result (λ connection. connection.in_transaction ≡ false) }
+    ensures faults { IfErr result IsOpening }
+{
+    match open_sources(machine.rt.alloc(), sources) {
+        Ok(connection) => Ok(connection),
+        Err(why) => Err(unread(machine, why)),
+    }
+}
+
+/// What an audit says of the register in files that have no call that writes, whatever they are: they are as they were. It is found as
+/// what the file and the copy of its log hold.
+fn audit_sources<F: Source + Drop>(
+    machine: &Machine<'_>,
+    sources: Sources<F>,
+) -> Result<Verdict, Failure>
+    ensures ok { IfOk result (λ verdict. IsAuditOf ⟦<Overlay<F> as Disk>⟧ (image sources.log.items (F.Source.bytes sources.db)) verdict) }
+    ensures err { IfErr result IsOpening }
+{
+    let mut connection = open_to_read(machine, sources)?;
     let mut teller = Teller::of(machine);
     let told = judge(machine.rt.alloc(), &mut connection, &mut teller);
-    close(connection);
     match told {
         Ok(verdict) => Ok(verdict),
         Err(fault) => Err(Failure::from(fault)),

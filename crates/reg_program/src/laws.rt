@@ -1,18 +1,27 @@
-//! A function that does nothing when it runs: its contract is a law, and the check proves it.
+//! Each function here does nothing when it runs: its contract is a law, and the check proves it.
 
+ghost use Rattle.reg_office.specs.Following.{IsSeal};
 ghost use Rattle.reg_program.specs.Audited.{FoundSound, StandsOnceAudited};
+ghost use Rattle.reg_signer.specs.Both.{SignsBoth, digest};
 
 use reg_crl::Signer;
+use reg_signer::Device;
 use sqlite_disk::Disk;
 
 /// The register in a file that an audit found sound stands.
 ///
 /// Where [`Place::audit`](reg_jobs::Place::audit) of the machine's files answered `Sound`, there are records that the file's tables
-/// show, sound and with what is kept beside them as it follows from them; and in an office that opens the file afterwards with
-/// these tables they stand, so that the clauses of [`reg_office::Office`] and its laws hold of them. Nothing more is asked of the
+/// show, sound and with what is kept beside them as it follows from them; and in an office that opens the file afterwards, to write,
+/// with these tables they stand, so that the clauses of [`reg_office::Office`] and its laws hold of them. Nothing more is asked of the
 /// rows than what no audit can find: that each of `listed` has its last column (`IsPresumed`). The law rests besides on the
 /// signatures of the stored CRLs, which an audit does not verify, on a disk that returned to the audit what was written, and on
 /// what the crate `sqlite` keeps of a connection and does not say.
-pub fn a_register_that_was_found_sound_stands<D: Disk, S: Signer>()
-    ensures { (found : FoundSound D.Disk) → StandsOnceAudited S.signs found }
+pub fn a_register_that_was_found_sound_stands<A: Disk, D: Disk, S: Signer>()
+    ensures { (found : FoundSound A.Disk) → StandsOnceAudited D.Disk S.signs found }
+{}
+
+/// Where nothing holds the key of a register in a file, what signs is a seal and nothing else: so a key may follow it, by
+/// [`reg_office::laws::a_key_follows_the_digest`].
+pub fn the_digest_is_a_seal<D: Device>()
+    ensures { IsSeal (SignsBoth D.answers) digest }
 {}

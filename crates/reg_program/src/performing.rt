@@ -16,9 +16,9 @@ use reg_words::Job;
 use std::io::{Read, Write};
 
 /// Does a job over standard input and output, the registers of a place, and a front with a clock and ports, and gives its exit
-/// status: 0 where it is done; 3 where a reply at a counter, or in a strict script, was a refusal or a fault; else 1; with one line
-/// on standard error. Where that is asked for, the line of a fault is followed by one that tells its cause, where that was noted: by a
-/// call of the machine, or by the reader or the writer.
+/// status: 0 where it is done; 3 where a reply at a counter, or in a strict script or import, was a refusal or a fault, or the last line
+/// there has no end; else 1; with the line of that on standard error. Where that is asked for, the line of a fault is followed by one
+/// that tells its cause, where that was noted: by a call of the machine, or by the reader or the writer.
 pub fn perform<P: Place, F: Front, R: Read, W: Write, E: Write>(
     rt: &HostRuntime,
     causes: &Causes<'_>,
@@ -134,9 +134,19 @@ fn run<P: Place, F: Front, R: Read, W: Write>(
             reader,
             writer,
         ),
-        Job::Import { file, now } => {
-            import_rows(alloc, place, file.as_str(), *now, reader, writer)
-        }
+        Job::Import {
+            file,
+            now,
+            is_strict,
+        } => import_rows(
+            alloc,
+            place,
+            file.as_str(),
+            *now,
+            *is_strict,
+            reader,
+            writer,
+        ),
         Job::Crl { file, number } => crl(alloc, place, file.as_str(), *number, writer),
         Job::Serve {
             file,
@@ -175,6 +185,6 @@ fn run<P: Place, F: Front, R: Read, W: Write>(
         Job::At { counter } => at(alloc, front, counter.as_str(), reader, writer),
         Job::Schedule { file, steps } => schedule(alloc, place, file.as_str(), steps, writer),
         Job::KeyId { file, key_id } => key_identifier(alloc, place, file.as_str(), key_id, writer),
-        Job::Audit { file } => audit(alloc, place, file.as_str(), writer),
+        Job::Audit { file } => audit(alloc, &*place, file.as_str(), writer),
     }
 }

@@ -8,7 +8,7 @@ ghost use Rattle.reg_core.specs.Records.{Records};
 ghost use Rattle.reg_core.specs.Sound.{SoundRows};
 ghost use Rattle.reg_jobs.specs.Failing.{IsOpening};
 ghost use Rattle.reg_crl.specs.Signing.{Identity};
-ghost use Rattle.reg_jobs.specs.Signing.{EmbedsOwn, Follows, IsSigning, identity_told};
+ghost use Rattle.reg_jobs.specs.Signing.{EmbedsOwn, Follows, IsSigning, MayFollow, identity_told};
 ghost use Rattle.reg_office.specs.Answering.{answers_by};
 ghost use Rattle.reg_signer.specs.Forms.{identity_of};
 ghost use Rattle.reg_signer.specs.Signed.{IsCrlUnder};
@@ -23,21 +23,23 @@ use reg_core::Fault;
 use reg_crl::{DigestSeal, Signer};
 use reg_endings::Failure;
 use reg_office::Responder;
-use reg_signer::{Algorithm, BadSigner, DeviceSigner, KeyOrDigest, SocketDevice, crl_algorithm};
+use reg_signer::{
+    Algorithm, BadSigner, DeviceSigner, KeyOrDigest, RestingDevice, SocketDevice, crl_algorithm,
+};
 use reg_store::{Store, StoreFault};
 use reg_words::{KeyHolder, Word};
 use sqlite::Alter;
 
-/// What holds the key signs, behind a socket of the machine, or a digest seals.
-pub type FileSigner = KeyOrDigest<SocketDevice<HostRuntime>>;
+/// What holds the key signs, behind a socket of the machine, and left alone for a while where it hangs; or a digest seals.
+pub type FileSigner = KeyOrDigest<RestingDevice<SocketDevice<HostRuntime>, HostRuntime>>;
 
 /// Who signs the CRLs of the register of a store: as it is told; or, where nothing will be signed, as the latest CRL tells, with nobody
 /// who would answer, so that a CRL comes to a fault of the signer. A certificate that stands with the answers of the issuer is looked at.
 ///
 /// # Errors
-/// `BadSigner` where the latest CRL is signed under another algorithm, or under one that is not known here, or the issuer's key is
-/// none of the algorithm: which of these is noted, the key first; `BadResponder` where the issuer's certificate has another key, before
-/// these; `Memory`, `Store`.
+/// `BadSigner` where the latest CRL is signed by a key under another algorithm, or under one that is not known here, or the issuer's key
+/// is none of the algorithm: which of these is noted, the key first; `BadResponder` where the issuer's certificate has another key,
+/// before these; `Memory`, `Store`.
 pub(crate) fn signer_for<C: Alter>(
     machine: &Machine<'_>,
     store: &mut Store<C>,
@@ -74,7 +76,7 @@ fn silent_after<C: Alter>(
     ensures told { IfOk result (λ signer. (records : Records) → Shows C.Store store.old records → HasCleanDisk (state C.Store store.new)
         → ⟦<FileSigner as Signer>⟧.identity signer ≡ identity_told told.now records.issuer.key) }
     ensures follows { IfOk result (λ signer. (crl : List ℕ) → option_map (λ bytes. bytes.items) latest.now ≡ Some crl
-        → (other : List ℕ) → IsCrlUnder crl other → other ≡ (⟦<FileSigner as Signer>⟧.identity signer).algorithm) }
+        → (other : List ℕ) → IsCrlUnder crl other → MayFollow (⟦<FileSigner as Signer>⟧.identity signer).algorithm other) }
     ensures embeds { IfOk result (λ signer. (records : Records) → Shows C.Store store.old records → HasCleanDisk (state C.Store store.new)
         → (crls : Identity) → EmbedsOwn records.issuer.key (answers_by ⟦<FileSigner as Signer>⟧.identity crls responder.now)) }
     ensures looked { Looked C.Store store.old store.new }
@@ -108,7 +110,7 @@ fn signer_after<C: Alter>(
     ensures told { IfOk result (λ signer. (records : Records) → Shows C.Store store.old records → HasCleanDisk (state C.Store store.new)
         → ⟦<FileSigner as Signer>⟧.identity signer ≡ identity_told told.now records.issuer.key) }
     ensures follows { IfOk result (λ signer. (crl : List ℕ) → option_map (λ bytes. bytes.items) latest.now ≡ Some crl
-        → (other : List ℕ) → IsCrlUnder crl other → other ≡ (⟦<FileSigner as Signer>⟧.identity signer).algorithm) }
+        → (other : List ℕ) → IsCrlUnder crl other → MayFollow (⟦<FileSigner as Signer>⟧.identity signer).algorithm other) }
     ensures embeds { IfOk result (λ signer. (records : Records) → Shows C.Store store.old records → HasCleanDisk (state C.Store store.new)
         → (crls : Identity) → EmbedsOwn records.issuer.key (answers_by ⟦<FileSigner as Signer>⟧.identity crls responder.now)) }
     ensures looked { Looked C.Store store.old store.new }
@@ -166,7 +168,8 @@ pub(crate) fn key_signer(
     ) else {
         return Err(Failure::Fault(Fault::Memory));
     };
-    match DeviceSigner::new(SocketDevice::new(*rt, path, key), algorithm) {
+    let device = RestingDevice::new(SocketDevice::new(*rt, path, key), *rt);
+    match DeviceSigner::new(device, algorithm) {
         Ok(signer) => Ok(KeyOrDigest::key(signer)),
         Err(BadSigner) => Err(Failure::BadSigner),
     }
@@ -189,7 +192,7 @@ fn latest_crl<C: Alter>(store: &mut Store<C>) -> Result<Option<Vec<u8>>, StoreFa
 fn misfit(latest: &Option<Vec<u8>>, algorithm: &[u8]) -> Option<Cause>
     ensures { MatchOption result
         ((crl : List ℕ) → option_map (λ bytes. bytes.items) latest.now ≡ Some crl
-        → (other : List ℕ) → IsCrlUnder crl other → other ≡ algorithm.now)
+        → (other : List ℕ) → IsCrlUnder crl other → MayFollow algorithm.now other)
         (IsMisfitAfter (option_map (λ bytes. bytes.items) latest.now) algorithm.now) }
 {
     match latest {
@@ -200,7 +203,7 @@ fn misfit(latest: &Option<Vec<u8>>, algorithm: &[u8]) -> Option<Cause>
 
 /// Why no CRL under an algorithm follows this one. `None` where it follows.
 fn misfit_of(crl: &[u8], algorithm: &[u8]) -> Option<Cause>
-    ensures { MatchOption result ((other : List ℕ) → IsCrlUnder crl.now other → other ≡ algorithm.now)
+    ensures { MatchOption result ((other : List ℕ) → IsCrlUnder crl.now other → MayFollow algorithm.now other)
         (IsMisfit crl.now algorithm.now) }
 {
     match crl_algorithm(crl) {
@@ -209,11 +212,11 @@ fn misfit_of(crl: &[u8], algorithm: &[u8]) -> Option<Cause>
     }
 }
 
-/// How the algorithm of a CRL differs from another. `None` where it does not.
+/// How the algorithm of a CRL differs from another, which does not follow it. `None` where it follows.
 fn difference(found: &[u8], algorithm: &[u8]) -> Option<Cause>
-    ensures { MatchOption result (found.now ≡ algorithm.now) (Differs found.now algorithm.now) }
+    ensures { MatchOption result (MayFollow algorithm.now found.now) (Differs found.now algorithm.now) }
 {
-    if is_same(found, algorithm) {
+    if may_follow(algorithm, found) {
         None
     } else if is_known(found) {
         Some(Cause::OtherAlgorithm)
@@ -222,14 +225,22 @@ fn difference(found: &[u8], algorithm: &[u8]) -> Option<Cause>
     }
 }
 
-/// Whether an algorithm is known here.
+/// Whether what is signed under an algorithm may stand behind a CRL under this one: it is the same, or that of the digest, which any
+/// key may follow.
+fn may_follow(algorithm: &[u8], earlier: &[u8]) -> bool
+    ensures { IsTrue result ↔ MayFollow algorithm.now earlier.now }
+{
+    let digest = DigestSeal;
+    if is_same(earlier, digest.algorithm()) {
+        return true;
+    }
+    is_same(earlier, algorithm)
+}
+
+/// Whether an algorithm of a key is known here.
 fn is_known(algorithm: &[u8]) -> bool
     ensures { IsTrue result ↔ IsKnown algorithm.now }
 {
-    let digest = DigestSeal;
-    if is_same(algorithm, digest.algorithm()) {
-        return true;
-    }
     match Algorithm::identified(algorithm) {
         Some(_) => true,
         None => false,

@@ -2,4 +2,5 @@ pub mod Algorithms
 pub mod Both
 pub mod Exchange
 pub mod Forms
+pub mod Resting
 pub mod Signed

@@ -105,6 +105,13 @@ impl<D: Device + Drop> Signer for KeyOrDigest<D> {
         }
     }
 
+    fn rouse(&mut self) {
+        match &mut self.key {
+            Some(signer) => signer.rouse(),
+            None => {}
+        }
+    }
+
     fn failures(&self) -> u64 {
         match &self.key {
             Some(signer) => signer.failures(),

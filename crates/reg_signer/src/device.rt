@@ -32,4 +32,8 @@ pub trait Device {
         ensures answered { IfOk result (λ count. answers (public_key self.old) message.now (take count room.new)) }
         ensures failed { OnErr result (fails self.old message.now self.new) }
         ensures same_key { public_key self.new ≡ public_key self.old };
+
+    /// Has it asked at the next exchange, also where it would be left alone for a while.
+    fn rouse(&mut self)
+        ensures same_key { public_key self.new ≡ public_key self.old };
 }

@@ -90,6 +90,8 @@ impl<C: Connector> Device for SocketDevice<C> {
         let mut link = self.connector.connect(self.path.as_str())?;
         converse(&mut link, message, room)
     }
+
+    fn rouse(&mut self) {}
 }
 
 /// One exchange over a connection: the whole message goes out, the peer is told that no more comes, and its answer is read

@@ -128,6 +128,10 @@ impl<D: Device + Drop> Signer for DeviceSigner<D> {
         Err(self.fail())
     }
 
+    fn rouse(&mut self) {
+        self.device.rouse();
+    }
+
     fn failures(&self) -> u64 {
         self.failures
     }

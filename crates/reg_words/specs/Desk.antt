@@ -44,9 +44,9 @@ abbrev pub script_app : App
 script_app = with_rules (new_app (codes "script"))
     (may (codes "file") ∷ takes (codes "signer") ∷ takes (codes "algorithm") ∷ flag (codes "clock") ∷ flag (codes "strict") ∷ flag (codes "why") ∷ [])
 
--- `import FILE --now MOMENT [--why]`
+-- `import FILE --now MOMENT [--strict] [--why]`
 abbrev pub import_app : App
-import_app = with_rules (new_app (codes "import")) (must (codes "file") ∷ needs (codes "now") ∷ flag (codes "why") ∷ [])
+import_app = with_rules (new_app (codes "import")) (must (codes "file") ∷ needs (codes "now") ∷ flag (codes "strict") ∷ flag (codes "why") ∷ [])
 
 -- `crl FILE [--number N] [--why]`
 abbrev pub crl_app : App

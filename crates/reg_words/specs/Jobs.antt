@@ -126,7 +126,7 @@ unfoldable pub import_of : List Row → Option Job
 import_of rows = do
   file ← first_of (codes "file") rows
   now ← option_and_then moment_of (first_of (codes "now") rows)
-  Some (Import file now)
+  Some (Import file now (is_given (codes "strict") rows))
 
 unfoldable pub crl_of : List Row → Option Job
 crl_of rows = do

@@ -6,8 +6,8 @@ ghost use Rattle.reg_words.specs.Jobs.{job_in, serving_job_in, keeping_job_in, i
 
 use crate::job::{Job, KeyHolder, Way};
 use crate::values::{
-    answerer, chosen_holder, key_holder, moment, number_if_given, number_or, number_within, steps,
-    way_of, word_of,
+    answerer, chosen_holder, is_set, key_holder, moment, number_if_given, number_or, number_within,
+    steps, way_of, word_of,
 };
 use crate::word::Word;
 use crate::wrong::{LAST_PORT, MOST_REQUESTS};
@@ -160,6 +160,7 @@ fn read_import<'a>(given: &ArgMatches<'a>) -> Option<Job<'a>>
     Some(Job::Import {
         file: word_of(given, "file")?,
         now: moment(given, "now")?,
+        is_strict: is_set(given, "strict"),
     })
 }
 

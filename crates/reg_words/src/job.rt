@@ -35,7 +35,7 @@ pub enum Answerer<'a> {
 pub struct Way {
     /// A line has no moment: the machine's clock tells it.
     pub is_clocked: bool,
-    /// The script ends at the first refusal or fault.
+    /// The script ends at the first refusal or fault, and runs no last line without its end.
     pub is_strict: bool,
 }
 
@@ -67,10 +67,12 @@ pub enum Job<'a> {
         signer: Option<KeyHolder<'a>>,
         way: Way,
     },
-    /// Registers the rows of standard input at a moment.
+    /// Registers the rows of standard input at a moment. Where it is strict, it ends at the first refusal or fault, and registers no
+    /// last row without its line end.
     Import {
         file: Word<'a>,
         now: Moment,
+        is_strict: bool,
     },
     /// Writes a CRL, the latest where no number is given.
     Crl {

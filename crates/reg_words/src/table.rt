@@ -88,7 +88,10 @@ const CLOCK: &str =
     "Lines have no moment: the machine's clock is theirs; wants FILE [default: a line begins with its moment]";
 
 const STRICT: &str =
-    "End at the first refusal or fault, with status 3; wants FILE [default: run the lines behind it]";
+    "End at the first refusal or fault, and run no last line without its end: with status 3; wants FILE [default: run all lines]";
+
+const STRICT_IMPORT: &str =
+    "End at the first refusal or fault, and register no last row without its line end: with status 3 [default: register all rows]";
 
 const COUNTER: &str = "The Unix socket of the counter, which is made with mode 0600";
 
@@ -145,6 +148,7 @@ pub(crate) const COMMANDS: &[Entry] = &[
         parts: &[
             Part::Must("file", "FILE", FILE),
             Part::Needs("now", "MOMENT", NOW),
+            Part::Flag("strict", STRICT_IMPORT),
             Part::Flag("why", CAUSE),
         ],
     },
@@ -198,7 +202,7 @@ pub(crate) const COMMANDS: &[Entry] = &[
     Entry {
         name: "at",
         about: "Tell the lines of standard input to an open desk, and write one reply line for each; a line has no moment.",
-        example: "Example:\n  echo counts | desk at ca.counter\n\nExit status 3 where a reply is a refusal or a fault.",
+        example: "Example:\n  echo counts | desk at ca.counter\n\nExit status 3 where a reply is a refusal or a fault, or the last line has no end: that one is not told.",
         parts: &[
             Part::Must("counter", "SOCKET", AT_COUNTER),
             Part::Flag("why", CAUSE),

@@ -3,12 +3,12 @@
 ghost use Rattle.std.specs.Prelude.{◌≡◌, length, IfOk};
 
 use crate::connections::{Journal, Manner, Peer, Slow, Ticking};
-use crate::devices::{Given, Scripted};
+use crate::devices::{Given, Lasting, Scripted, Standing};
 use crate::vectors::{ED25519_KEY, ED25519_SIGNATURE, RSA_KEY, VECTORS, Vector, bytes_of};
 use reg_crl::{SignFault, Signer};
 use reg_signer::{
-    Algorithm, BadSigner, Device, DeviceFault, DeviceSigner, SocketDevice, read_in_time, time_left,
-    write_in_time,
+    Algorithm, BadSigner, Device, DeviceFault, DeviceSigner, RestingDevice, SocketDevice,
+    read_in_time, time_left, write_in_time,
 };
 use std::alloc::Global;
 use std::cell::{Cell, RefCell};
@@ -576,6 +576,55 @@ fn a_write_is_handed_no_more_than_a_piece(rt: HostRuntime) -> Result<(), Fail> {
         assert!(rt;
             written == longest && stream.longest == longest,
             "at {length}"
+        );
+    }
+    Ok(())
+}
+
+/// What a device takes for each call, and whether it answers: it hangs twice, answers, fails soon enough, and answers. Later calls fail at
+/// once.
+const TAKES: [(u64, bool); 5] = [
+    (10_000, false),
+    (10_000, false),
+    (5, true),
+    (9_999, false),
+    (10_000, true),
+];
+
+// The bounds of the ten seconds in which a device is left alone, by a clock of the tests.
+#[test]
+fn a_device_that_hangs_is_left_alone_for_ten_seconds(rt: HostRuntime) -> Result<(), Fail> {
+    let millis = Rc::new(rt.alloc(), Cell::new(0))?;
+    let calls = Rc::new(rt.alloc(), Cell::new(0))?;
+    let device = Lasting {
+        key: Vec::new(rt.alloc()),
+        millis: millis.clone()?,
+        takes: Vec::from_slice(rt.alloc(), &TAKES)?,
+        calls: calls.clone()?,
+    };
+    let clock = Standing {
+        millis: millis.clone()?,
+    };
+    let mut device = RestingDevice::new(device, clock);
+    // When it is asked, whether that is answered, how often the device was asked until then, and what the clock tells.
+    for (at, is_answered, asked, ended) in [
+        (0, false, 1, 10_000),
+        (10_000, false, 1, 10_000),
+        (19_999, false, 1, 19_999),
+        (20_000, false, 2, 30_000),
+        (30_001, false, 2, 30_001),
+        (39_999, false, 2, 39_999),
+        (40_000, true, 3, 40_005),
+        (40_005, false, 4, 50_004),
+        (50_004, true, 5, 60_004),
+        (60_004, false, 6, 60_004),
+        (60_005, false, 7, 60_005),
+    ] {
+        millis.set(at);
+        let told = device.exchange(b"", &mut [0; 1]).is_ok();
+        assert!(rt;
+            (told, calls.get(), millis.get()) == (is_answered, asked, ended),
+            "at {at}"
         );
     }
     Ok(())

@@ -1,12 +1,31 @@
--- A text that is imported twice, by its lemma.
+-- A text that is imported twice, by its lemma, in which nothing is asked of what signed a CRL.
+use Rattle.std.proofs.Common.{ℕ, List}
+use Rattle.reg_core.specs.Crls.{CertList, cert_list}
 use Rattle.reg_crl.specs.Signing.{signed_by}
+use Rattle.reg_calls.proofs.Happening.{happens_by}
 use Rattle.reg_faces.specs.Faces.{Lines}
 use Rattle.reg_faces.proofs.Twice.{comes_twice}
 use Rattle.reg_faces.proofs.laws.import_twice.Goals as goal
+use Rattle.reg_laws.proofs.Lists.{all_any}
+
+-- any bytes at all
+abbrev AnyBytes : CertList → List ℕ → Type 0
+AnyBytes crl bytes = Unit {0}
 
 pub returns : goal.returns
-returns g c = λ identity.
+returns g c = λ identity records between after now text out out' again again' rows.
     comes_twice
-    (signed_by g.K.Keeper.signs identity.crls)
+    AnyBytes
     (Lines g.K.Keeper.signs identity)
-    (λ s now command outcome t happened. happened)
+    (λ s moment command outcome t happened.
+    happens_by (signed_by g.K.Keeper.signs identity.crls) AnyBytes s moment (λ bytes signed. tt) command outcome t happened)
+    records
+    between
+    after
+    now
+    text
+    out
+    out'
+    again
+    again'
+    (record { rows = rows; signatures = all_any (λ crl. AnyBytes (cert_list records crl.number crl.this_update) crl.bytes) (λ crl. tt) records.crls })

@@ -1,7 +1,8 @@
 use Rattle.std.proofs.Common.{ap₂, subst}
 use Rattle.sqlite.specs.Files.{file_state}
 use Rattle.sqlite.specs.Start.{FindsIn}
-use Rattle.reg_files.proofs.Finding.{image, shown}
+use Rattle.reg_files.specs.Overlaid.{image}
+use Rattle.reg_files.proofs.Finding.{shown}
 use Rattle.reg_files.proofs.file.open_file.Goals as goal
 
 pub returns-in-Ok-open_files_with-clause-found : goal.returns-in-Ok-open_files_with-clause-found

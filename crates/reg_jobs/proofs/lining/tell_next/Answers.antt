@@ -13,17 +13,17 @@ returns-in-Err-tell_line g c =
     c.args.held c.in-Ok-Mark.end c.in-Ok-Mark.held c.in-Err-tell_line.why
     (rw c.in-Ok-Mark.field-0-is at c.in-Ok-Mark.ensures.ok) c.in-Err-tell_line.ensures
 
-pub returns-in-Ok-tell_line : goal.returns-in-Ok-tell_line
-returns-in-Ok-tell_line g c =
+pub returns-in-Ok-tell_last : goal.returns-in-Ok-tell_last
+returns-in-Ok-tell_last g c =
     tells_last g.H.Handler.tells c.args.is_strict _ _ _ _ _ _ c.args.buffer.now c.fill_to_mark.new.buf
     c.args.held c.in-Ok-End.held
-    (rw c.in-Ok-End.field-0-is at c.in-Ok-End.ensures.ok) c.in-Ok-End.held-test.1 c.in-Ok-tell_line.ensures
+    (rw c.in-Ok-End.field-0-is at c.in-Ok-End.ensures.ok) c.in-Ok-End.held-test.1 c.in-Ok-tell_last.ensures
 
-pub returns-in-Err-tell_line-2 : goal.returns-in-Err-tell_line-2
-returns-in-Err-tell_line-2 g c =
+pub returns-in-Err-tell_last : goal.returns-in-Err-tell_last
+returns-in-Err-tell_last g c =
     tells_not_last g.H.Handler.tells c.args.is_strict _ _ _ _ _ _ c.args.buffer.now c.fill_to_mark.new.buf
-    c.args.held c.in-Ok-End.held c.in-Err-tell_line-2.why
-    (rw c.in-Ok-End.field-0-is at c.in-Ok-End.ensures.ok) c.in-Ok-End.held-test.1 c.in-Err-tell_line-2.ensures
+    c.args.held c.in-Ok-End.held c.in-Err-tell_last.why
+    (rw c.in-Ok-End.field-0-is at c.in-Ok-End.ensures.ok) c.in-Ok-End.held-test.1 c.in-Err-tell_last.ensures
 
 pub returns-in-Ok-Full : goal.returns-in-Ok-Full
 returns-in-Ok-Full g c =

@@ -7,7 +7,6 @@ returns g c = λ signer run its.
     shown_everywhere
     (g.S.Signer.signs)
     (g.S.Signer.identity signer)
-    (c.headline.ensures.sound signer)
     (c.headline.ensures.lists signer)
     c.headline.ensures.statuses
     run

@@ -7,9 +7,8 @@ returns g c = λ signer run serial not_revoked.
     nowhere_shown
     (g.S.Signer.signs)
     (g.S.Signer.identity signer)
-    (c.headline.ensures.sound signer)
     (c.headline.ensures.history signer)
-    (c.revocations.ensures (record { signer = signer }))
+    (λ since. c.revocations.ensures (record { signer = signer; since = since }))
     c.headline.ensures.statuses
     run
     serial

@@ -20,12 +20,12 @@ returns g c = λ found.
     record {
       shown = some;
       counted = audited.counted some.records some.columns (by_connection found some.records some.columns some.both) found.clean;
-      stand = λ records columns shown register who opens signed.
+      stand = λ records columns shown register who opens since reached signed.
           let opened = opens.opened in
           let it = audited.sound records columns (by_connection found records columns shown) found.clean found.sound in
           let there = subst (λ db. AreBoth db records columns) (sym opens.same) shown in
           record {
             shown = opened.kept records (columns, record { saved = λ clean up. (opened.connects.whole clean).0.clean; tables = λ clean up. there }, it.1);
-            sound = record { rows = it.0.rows; signatures = signed };
+            sound = record { since = since; reached = reached; rows = it.0.rows; signatures = signed };
           };
     }

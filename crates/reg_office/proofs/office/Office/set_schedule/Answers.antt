@@ -1,17 +1,16 @@
 use Rattle.std.proofs.lemmas.Result.{on_ok_weaker}
 use Rattle.reg_core.specs.Changes.{with_schedule}
-use Rattle.reg_crl.specs.Signing.{signed_by}
-use Rattle.reg_laws.proofs.Runs.{schedule_keeps_sound}
 use Rattle.reg_tables.specs.Kept.{ShowsKept}
+use Rattle.reg_office.proofs.Following.{schedule_keeps_sound_for}
 use Rattle.reg_office.proofs.office.Office.set_schedule.Goals as goal
 
 pub returns-clause-ok : goal.returns-clause-ok
 returns-clause-ok g c records stands =
-    let signed = signed_by g.S.Signer.signs (g.S.Signer.identity c.args.self.now.signer) in
+    let identity = g.S.Signer.identity c.args.self.now.signer in
     on_ok_weaker
     c.set_schedule.result
     (λ (shown : ShowsKept g.C.Store c.set_schedule.new.self (with_schedule records c.args.schedule)). record {
       shown = shown;
-      sound = schedule_keeps_sound signed records c.args.schedule stands.sound;
+      sound = schedule_keeps_sound_for g.S.Signer.signs identity records c.args.schedule stands.sound;
     })
     (c.set_schedule.ensures.ok records stands.shown)

@@ -1,0 +1,117 @@
+//! What files hold before a database is opened in them.
+
+ghost use Rattle.std.specs.Prelude.{◌≡◌, ◌≢◌, ◌↔◌, ◌⊎◌, false, IfErr, IfOk, IsTrue};
+ghost use Rattle.sqlite.specs.Files.{HoldsDatabase, IsBlankAs, IsNothing, image_of};
+ghost use Rattle.sqlite_pool.specs.Stored.{stored_size};
+ghost use Rattle.sqlite_trees.specs.Tree.{Trees};
+ghost use Rattle.sqlite_wal.specs.PageSize.{bytes_of};
+ghost use Rattle.sqlite_wal.specs.Reads.{AreClean, OnlyReads};
+
+use crate::unopened::{Unopened, unlooked};
+use reg_core::Fault;
+use sqlite_disk::{Disk, Files};
+use sqlite_pool::probe_blank;
+use sqlite_wal::{Error, PageSize, probe_first_page, probe_page_size};
+use std::alloc::Global;
+
+/// How many bytes a page of a new database has.
+const NEW_PAGE: usize = 4096;
+
+/// What files hold.
+#[derive(Clone, Copy, PartialEq, Eq)]
+pub enum Found {
+    /// No database yet: the file is empty, or is what an opening that was stopped left of a first page. Who opens it makes one.
+    Nothing,
+    /// No database, and something else.
+    Other,
+    /// What begins as a database does. Who opens it finds whether it is one.
+    Begun,
+}
+
+/// What files hold, as who opens them would find it. They are read, and nothing is written.
+///
+/// # Errors
+/// `Memory`; `Store` where a call failed, or the log is none of a database.
+pub fn look<D: Disk>(alloc: Global, files: &mut Files<D>) -> Result<Found, Unopened>
+    requires log { IsTrue (D.Disk.is_usable files.old.log) }
+    requires db { IsTrue (D.Disk.is_usable files.old.db) }
+    ensures nothing { IfOk result (λ found. AreClean D.Disk files.new.log files.new.db → (found ≡ Found.Nothing ↔ IsNothing (image_of D.Disk files.old))) }
+    ensures other { IfOk result (λ found. AreClean D.Disk files.new.log files.new.db → found ≡ Found.Other
+        → (db : Trees) → ¬ HoldsDatabase (image_of D.Disk files.old) db) }
+    ensures log { OnlyReads D.Disk files.old.log files.new.log }
+    ensures db { OnlyReads D.Disk files.old.db files.new.db }
+    ensures faults { IfErr result (λ why. (why.fault ≡ Fault.Memory) ⊎ (why.fault ≡ Fault.Store)) }
+{
+    match is_nothing(alloc, files) {
+        Ok(true) => return Ok(Found::Nothing),
+        Ok(false) => {}
+        Err(error) => return Err(unlooked(&error)),
+    }
+    match begins(alloc, files) {
+        Ok(true) => Ok(Found::Begun),
+        Ok(false) => Ok(Found::Other),
+        Err(error) => Err(unlooked(&error)),
+    }
+}
+
+/// Whether there is no database yet, with sums on its pages or without.
+fn is_nothing<D: Disk>(alloc: Global, files: &mut Files<D>) -> Result<bool, Error>
+    requires log { IsTrue (D.Disk.is_usable files.old.log) }
+    requires db { IsTrue (D.Disk.is_usable files.old.db) }
+    ensures nothing { IfOk result (λ is. AreClean D.Disk files.new.log files.new.db → (IsTrue is ↔ IsNothing (image_of D.Disk files.old))) }
+    ensures log { OnlyReads D.Disk files.old.log files.new.log }
+    ensures db { OnlyReads D.Disk files.old.db files.new.db }
+{
+    if is_blank(alloc, files, false)? {
+        return Ok(true);
+    }
+    is_blank(alloc, files, true)
+}
+
+/// Whether a new database, with sums on its pages or without, has still to be made.
+fn is_blank<D: Disk>(alloc: Global, files: &mut Files<D>, has_sums: bool) -> Result<bool, Error>
+    requires log { IsTrue (D.Disk.is_usable files.old.log) }
+    requires db { IsTrue (D.Disk.is_usable files.old.db) }
+    ensures blank { IfOk result (λ is. AreClean D.Disk files.new.log files.new.db → (IsTrue is ↔ IsBlankAs has_sums (image_of D.Disk files.old))) }
+    ensures log { OnlyReads D.Disk files.old.log files.new.log }
+    ensures db { OnlyReads D.Disk files.old.db files.new.db }
+{
+    let size = new_page();
+    probe_blank(alloc, files, size, has_sums)
+}
+
+/// The size of the pages of a new database.
+fn new_page() -> PageSize
+    ensures { bytes_of result ≡ 4096 }
+{
+    PageSize::new(NEW_PAGE).unwrap()
+}
+
+/// Whether files name the size of a page, and begin as a database of such pages does.
+fn begins<D: Disk>(alloc: Global, files: &mut Files<D>) -> Result<bool, Error>
+    requires log { IsTrue (D.Disk.is_usable files.old.log) }
+    requires db { IsTrue (D.Disk.is_usable files.old.db) }
+    ensures none { IfOk result (λ is. AreClean D.Disk files.new.log files.new.db → is ≡ false → (db : Trees) → ¬ HoldsDatabase (image_of D.Disk files.old) db) }
+    ensures log { OnlyReads D.Disk files.old.log files.new.log }
+    ensures db { OnlyReads D.Disk files.old.db files.new.db }
+{
+    let named = probe_page_size(files)?;
+    match named {
+        Some(size) => begins_with(alloc, files, size),
+        None => Ok(false),
+    }
+}
+
+/// Whether the first page that is found in files, of this size, begins as that of a database: with the S of SQLite (SQLite's file
+/// format, 1.3.1).
+fn begins_with<D: Disk>(alloc: Global, files: &mut Files<D>, size: PageSize) -> Result<bool, Error>
+    requires log { IsTrue (D.Disk.is_usable files.old.log) }
+    requires db { IsTrue (D.Disk.is_usable files.old.db) }
+    ensures none { IfOk result (λ is. AreClean D.Disk files.new.log files.new.db → is ≡ false → (db : Trees) → (held : HoldsDatabase (image_of D.Disk files.old) db)
+        → stored_size held.0 ≢ bytes_of size) }
+    ensures log { OnlyReads D.Disk files.old.log files.new.log }
+    ensures db { OnlyReads D.Disk files.old.db files.new.db }
+{
+    let head = probe_first_page(alloc, files, size)?;
+    Ok(head.0 == b'S')
+}

@@ -1,0 +1,32 @@
+-- A key behind the digest: how the CRLs of a register are signed.
+use Rattle.std.specs.Prelude.{◌≡◌, ℕ, ◌≤◌, List, Result}
+use Rattle.sha1.specs.Sha1.{sha1}
+use Rattle.sqlite_trees.specs.declared.store.Store.{Ghosts}
+use Rattle.sqlite.specs.Held.{Held}
+use Rattle.reg_core.specs.Crls.{next_number}
+use Rattle.reg_core.specs.Records.{Records}
+use Rattle.reg_core.specs.declared.command.Command.{Command}
+use Rattle.reg_core.specs.declared.command.Reply.{Reply}
+use Rattle.reg_core.specs.declared.refusal.Fault.{Fault}
+use Rattle.reg_crl.specs.Signing.{Identity, sealed_until, sha1_algorithm, signed_by}
+use Rattle.reg_laws.specs.Run.{Run}
+use Rattle.reg_office.specs.Stands.{SoundFor, Stands}
+
+-- a run in which who signs signs each new CRL is one whose CRLs are sealed by the digest below a number that was reached before it
+abbrev pub RunsSince : (Identity → List ℕ → List ℕ → Type 0) → Identity → Type 0
+RunsSince signs identity =
+    (records after : Records) (commands : List (ℕ × Command)) (outcomes : List (Result Reply Fault))
+    → (sound : SoundFor signs identity records)
+    → Run (signed_by signs identity) records commands outcomes after
+    → Run (sealed_until sound.since signs identity) records commands outcomes after
+
+-- who signs so is the digest: under the AlgorithmIdentifier of SHA-1, and each signature is the SHA-1 of its message
+pub record IsSeal (signs : Identity → List ℕ → List ℕ → Type 0) (identity : Identity) : Type 0 where
+  pub algorithm : identity.algorithm ≡ sha1_algorithm
+  pub seals : (message signature : List ℕ) → signs identity message signature → signature ≡ sha1 message
+
+-- records that stood for the digest stand for whoever signs next: the CRLs that are there were all sealed by the digest
+abbrev pub FollowsSeal : {C : Type 0} → Ghosts C → (Identity → List ℕ → List ℕ → Type 0) → Type 0
+FollowsSeal {C = C} g signs =
+    (held : Held C) (seal identity : Identity) (records : Records)
+    → IsSeal signs seal → Stands g signs held seal records → Stands g signs held identity records

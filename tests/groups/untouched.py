@@ -1,0 +1,38 @@
+"""What is no register is left as it was by each command: an empty file, and one that is no database; nothing is laid beside it."""
+
+from lib import program
+from lib.trial import each
+
+DAY = "2026-01-01T00:00:00Z"
+# A command, and what it is given.
+COMMANDS = {
+    "script": (["script", "ca.db"], f"{DAY} subscriber acme\n"),
+    "script by the clock": (["script", "ca.db", "--clock"], "subscriber acme\n"),
+    "import": (["import", "ca.db", "--now", DAY], f"1,05,{DAY},{DAY}\n"),
+    "crl": (["crl", "ca.db"], ""),
+    "schedule": (["schedule", "ca.db", "1970-01-01T00:00:00Z=90"], ""),
+    "key-id": (["key-id", "ca.db", "0102"], ""),
+    "serve": (["serve", "ca.db", "--requests", "1", "--port"], ""),
+    "open": (["open", "ca.db", "--counter", "counter", "--unsigned", "--port"], ""),
+    "audit": (["audit", "ca.db"], ""),
+}
+# What lies at the path, the line that tells of it, and the cause, where there is one.
+FILES = {
+    "no byte": (b"", "not-a-register\n", ""),
+    "one byte": (b"x", "not-a-register\n", ""),
+    "three bytes": (b"abc", "F2 store\n", "  damaged\n"),
+    "a page of zeros": (bytes(4096), "F2 store\n", "  damaged\n"),
+    "a text": (b"no database, and longer than the head of one\n" * 100, "F2 store\n", "  damaged\n"),
+    "a text that begins with the letter of SQLite": (b"Serial,notBefore,notAfter\n" * 200, "F2 store\n", "  damaged\n"),
+    "bytes of each value": (bytes(range(256)) * 64, "F2 store\n", "  damaged\n"),
+}
+
+
+@each({f"{command}, {file}": (*COMMANDS[command], *FILES[file]) for command in COMMANDS for file in FILES})
+def a_command_leaves_it(t, words, given, contents, line, cause):
+    (t.room / "ca.db").write_bytes(contents)
+    words = [*words, program.free_port()] if words[-1] == "--port" else words
+    for more, told in (([], line), (["--why"], line + cause)):
+        with t.untouched(words[0]):
+            ran = t.desk(*words, *more, given=given)
+        t.same((ran.status, ran.out, ran.err), (1, b"", told.encode()))
