@@ -4,4 +4,4 @@
 mod faces;
 pub mod laws;
 
-pub use faces::{answer, import, run_script, serve_one};
+pub use faces::{answer, begin_one, import, run_script, serve_one};

@@ -5,6 +5,7 @@ mod asking;
 mod front;
 mod handling;
 mod jobs;
+mod leaving;
 mod lining;
 mod log_lines;
 mod logging;
@@ -16,6 +17,7 @@ mod telling;
 
 pub use asking::{at, talk};
 pub use front::Front;
+pub use leaving::Unsigned;
 pub use jobs::{NewOffice, audit, crl, ended, import_rows, init, key_identifier, schedule, script};
 pub use lining::script_by_lines;
 pub use opening::hold_open;
