@@ -11,9 +11,7 @@ use crate::losses::{Loss, Losses};
 use crate::shared::Shared;
 use crate::signings::{Asker, Pending, Signings};
 use crate::tellers::Tellers;
-use crate::watcher::{
-    COUNTER, FIRST_CALLER, FIRST_SIGNING, FIRST_TELLER, LISTENER, MOST_SIGNINGS,
-};
+use crate::watcher::{COUNTER, FIRST_CALLER, FIRST_SIGNING, FIRST_TELLER, LISTENER, MOST_SIGNINGS};
 use mio::net::{TcpListener, TcpStream, UnixListener, UnixStream};
 use std::alloc::AllocGlobal;
 use std::io;
@@ -333,12 +331,7 @@ impl Hub {
     }
 
     /// Asks for what is left to be signed, as far as there is room.
-    fn ask_all<H: Handler>(
-        &mut self,
-        handler: &H,
-        signings: &mut Signings<H::Ticket>,
-        now: u64,
-    ) {
+    fn ask_all<H: Handler>(&mut self, handler: &H, signings: &mut Signings<H::Ticket>, now: u64) {
         for _ in 0..MOST_CALLERS {
             match signings.next(now) {
                 Some(pending) => self.ask_next(pending, handler, signings, now),

@@ -103,7 +103,11 @@ impl<T: Drop> Signings<T> {
             Some(first) => first.until <= now,
             None => false,
         };
-        if is_late { self.queue.pop_front() } else { None }
+        if is_late {
+            self.queue.pop_front()
+        } else {
+            None
+        }
     }
 }
 

@@ -155,11 +155,7 @@ impl<'a, K: Keeper, F: Front> Handler for ClockedDesk<'a, K, F> {
 
     ghost finishes = { λ ticket text. Unit {0} };
 
-    fn answer(
-        &mut self,
-        _peer: SocketAddr,
-        _request: &[u8],
-    ) -> Result<Given<NoTicket>, Stopped> {
+    fn answer(&mut self, _peer: SocketAddr, _request: &[u8]) -> Result<Given<NoTicket>, Stopped> {
         Err(Stopped)
     }
 
@@ -193,11 +189,7 @@ impl<K: Keeper> Handler for LinedDesk<K> {
 
     ghost finishes = { λ ticket text. Unit {0} };
 
-    fn answer(
-        &mut self,
-        _peer: SocketAddr,
-        _request: &[u8],
-    ) -> Result<Given<NoTicket>, Stopped> {
+    fn answer(&mut self, _peer: SocketAddr, _request: &[u8]) -> Result<Given<NoTicket>, Stopped> {
         Err(Stopped)
     }
 

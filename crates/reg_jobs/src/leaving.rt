@@ -108,11 +108,7 @@ pub(crate) fn finish_logged<P: Place, F: Front>(
 }
 
 /// The signature that came on a connection, where one did and it has the form of one by who is to sign.
-fn signature_of<P: Place>(
-    alloc: Global,
-    draft: &Draft,
-    link: Option<UnixStream>,
-) -> Option<Vec<u8>>
+fn signature_of<P: Place>(alloc: Global, draft: &Draft, link: Option<UnixStream>) -> Option<Vec<u8>>
     ensures signed { IsSignatureOf P.gave draft.now (option_map (λ signature. signature.items) result) }
     ensures short { IfSome result (λ signature. length signature.items ≤ 4096) }
 {

@@ -17,8 +17,8 @@ mod telling;
 
 pub use asking::{at, talk};
 pub use front::Front;
-pub use leaving::Unsigned;
 pub use jobs::{NewOffice, audit, crl, ended, import_rows, init, key_identifier, schedule, script};
+pub use leaving::Unsigned;
 pub use lining::script_by_lines;
 pub use opening::hold_open;
 pub use place::Place;

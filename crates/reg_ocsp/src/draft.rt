@@ -29,10 +29,10 @@ impl Model for Draft {
     ghost Value = { Drafted };
 
     ghost view = { λ it. record {
-        message = it.message.items;
-        algorithm = it.algorithm.items;
-        key = it.key.items;
-        certificate = option_map (λ bytes. bytes.items) it.certificate;
+      message = it.message.items;
+      algorithm = it.algorithm.items;
+      key = it.key.items;
+      certificate = option_map (λ bytes. bytes.items) it.certificate;
     } };
 
     ghost invariant = { λ it. (length it.message.items ≤ 2 ^ 27) × (length it.algorithm.items ≤ 1024)
@@ -54,8 +54,12 @@ impl Draft {
         requires short_message { length message.now ≤ 2 ^ 27 }
         requires short_algorithm { length algorithm.now ≤ 1024 }
         requires short_certificate { IfSome (option_copied certificate) (λ bytes. length bytes ≤ 65536) }
-        ensures { IfOk result (λ it. it ≡ record { message = message.now; algorithm = algorithm.now; key = key.now;
-            certificate = option_copied certificate.entry }) }
+        ensures { IfOk result (λ it. it ≡ record {
+          message = message.now;
+          algorithm = algorithm.now;
+          key = key.now;
+          certificate = option_copied certificate.entry;
+        }) }
     {
         let message = copy_of(alloc, message)?;
         let algorithm = copy_of(alloc, algorithm)?;

@@ -323,7 +323,7 @@ fn begin_response<C: Alter, S: Signer>(
     ensures same_identity { S.identity signer.new ≡ S.identity signer.old }
 {
     let message = ocsp_data(alloc, store, naming.own_key, now, asked)?;
-    match drafted(alloc, &*signer, naming, &message)? {
+    match drafted(alloc, signer, naming, &message)? {
         Some(draft) => Ok(Begun::Left(draft)),
         None => Ok(Begun::Whole(signed(alloc, signer, naming, &message)?)),
     }
@@ -338,8 +338,12 @@ fn drafted<S: Signer>(
 ) -> Result<Option<Draft>, Memory>
     requires short { length message.now ≤ 2 ^ 27 }
     requires short_certificate { IfSome (option_copied naming.certificate) (λ bytes. length bytes ≤ 65536) }
-    ensures { IfOk result (λ left. IfSome left (λ draft. draft ≡ record { message = message.now; algorithm = (S.identity signer.now).algorithm;
-        key = (S.identity signer.now).public_key; certificate = option_copied naming.certificate })) }
+    ensures { IfOk result (λ left. IfSome left (λ draft. draft ≡ record {
+      message = message.now;
+      algorithm = (S.identity signer.now).algorithm;
+      key = (S.identity signer.now).public_key;
+      certificate = option_copied naming.certificate;
+    })) }
 {
     match signer.public_key() {
         Some(key) => Ok(Some(Draft::of(
