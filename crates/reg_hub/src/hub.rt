@@ -181,7 +181,7 @@ impl Hub {
         most: u64,
         longest: Duration,
     ) -> Result<u64, Stopped> {
-        let wait = self.wait(signings.pause(), most).min(longest);
+        let wait = self.wait(signings.longest_wait(), most).min(longest);
         self.shared.watcher.wait(wait)?;
         let now = now_of(clock)?;
         self.advance_all(signings, now);
@@ -192,13 +192,13 @@ impl Hub {
         Ok(now)
     }
 
-    /// How long may be waited, where what signs is asked again after a pause.
-    fn wait(&self, pause: Option<u64>, most: u64) -> Duration {
+    /// How long may be waited; for signatures no longer than so many milliseconds.
+    fn wait(&self, for_signatures: Option<u64>, most: u64) -> Duration {
         if self.door.may_seat(most) || self.tellers.is_ready() || self.has_work() {
             return Duration::ZERO;
         }
-        if let Some(pause) = pause {
-            return Duration::from_millis(pause);
+        if let Some(millis) = for_signatures {
+            return Duration::from_millis(millis);
         }
         if self.callers.taken() == 0 {
             return Duration::from_secs(3_600);

@@ -10,7 +10,11 @@ use std::collections::VecDeque;
 const PATIENCE: u64 = 10_000;
 
 /// How many milliseconds pass before what signs is asked again that had no room for one more.
-pub(crate) const PAUSE: u64 = 10;
+const PAUSE: u64 = 10;
+
+/// How often a signature that was asked for is looked for before it is waited for, a hundred microseconds or two: most are there by then,
+/// and to be woken takes as long as to sign.
+const LOOKS: u32 = 100;
 
 /// A peer that waits for its answer: its place, and its number, which no other peer has.
 #[derive(Clone, Copy)]
@@ -43,6 +47,8 @@ pub struct Signings<T> {
     places: Vec<Option<Asked<T>>>,
     /// Until when what signs is not asked, since it had no room.
     paused: Option<u64>,
+    /// How often it is still looked for one before it is waited for.
+    looks: u32,
 }
 
 impl<T: Drop> Signings<T> {
@@ -52,6 +58,7 @@ impl<T: Drop> Signings<T> {
             queue: VecDeque::new(alloc),
             places: Vec::new(alloc),
             paused: None,
+            looks: 0,
         }
     }
 
@@ -68,8 +75,12 @@ impl<T: Drop> Signings<T> {
         }
     }
 
-    /// How long may be waited before what signs is asked again, in milliseconds, where it had no room.
-    pub(crate) fn pause(&self) -> Option<u64> {
+    /// How many milliseconds may be waited at the longest, where a signature is looked for, or what signs is to be asked again.
+    pub(crate) fn longest_wait(&mut self) -> Option<u64> {
+        if self.looks > 0 {
+            self.looks = self.looks.saturating_sub(1);
+            return Some(0);
+        }
         match self.paused {
             Some(_) => Some(PAUSE),
             None => None,
@@ -140,6 +151,7 @@ impl<T: Drop> Signings<T> {
         if watched.is_err() {
             return Err(pending);
         }
+        self.looks = LOOKS;
         self.put(
             place,
             Asked {

@@ -51,7 +51,7 @@ pub(crate) struct OpenDesk<'a, P: Place, F: Front> {
 }
 
 /// What is left to be signed where nobody asks over HTTP: nothing.
-#[derive(Clone, Copy)]
+#[derive(Drop)]
 pub(crate) struct NoTicket;
 
 /// A desk that runs lines, each at a moment of the clock, and has no peers.

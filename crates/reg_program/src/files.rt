@@ -82,7 +82,7 @@ impl<'a> Place for Machine<'a> {
 
     ghost gave_signs = { λ identity message answer given form. inr (inr given, form) };
 
-    fn hear(alloc: Global, link: &mut UnixStream, message: &[u8]) -> Option<Vec<u8>>
+    fn hear(alloc: Global, link: &mut UnixStream, _message: &[u8]) -> Option<Vec<u8>>
         ensures given { IfSome result (λ answer. Unit {0}) }
         ensures short { IfSome result (λ answer. length answer.items ≤ 4096) }
     {
