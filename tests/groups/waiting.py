@@ -220,3 +220,26 @@ def what_signs_has_no_room_for_a_while(t):
                 program.read_all(peer)
                 peer.sendall(ANY_SIGNATURE)
         t.same([is_signed(it.result()) for it in waits], [True] * 8)
+
+
+@test(seconds=4)
+def a_signer_of_many_processes(t):
+    """They sign at one socket, and end together."""
+    authority.need_cryptography(t)
+    it = Authority(t)
+    it.register()
+    words = ["python3", authority.EXAMPLES / "signer.py", "--processes", 3, it.key, "ca.sign"]
+    signer = authority.started(t, words, t.room / "ca.sign")
+    children = lambda: t.tried("pgrep", "-P", signer.pid).stdout.split()
+    authority.until(lambda: len(children()) == 2, "two processes more")
+    others = children()
+    desk = t.open("ca.db", *it.signing())
+    requests = [it.asks(f"11{at:02x}") for at in range(12)]
+    with ThreadPoolExecutor(12) as pool:
+        answers = list(pool.map(lambda request: desk.ask("POST", "/ocsp", request), requests))
+    for at, response in enumerate(answers):
+        t.same(it.reads(f"11{at:02x}", body_of(t, response)), "unknown")
+    signer.terminate()
+    signer.wait(20)
+    is_there = lambda pid: t.tried("kill", "-0", pid.decode()).returncode == 0
+    authority.until(lambda: not any(map(is_there, others)), "the end of the others")
