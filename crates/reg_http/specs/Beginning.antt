@@ -29,6 +29,16 @@ IsBeginning (Ok (begun.Left given)) (Left draft) = draft ≡ given
 IsBeginning (Err memory) (Told answer) = shown answer ≡ ocsp_told (Err memory)
 IsBeginning (Err memory) (Left draft) = ⊥
 
+-- the text of an answer was written, whole or from the front; or what is left is given, and nothing was written
+abbrev pub SendsOrLeaves : ℕ → Beginning → Option (List ℕ) → Option (List ℕ) → Result (Option Drafted) Fault → Type 0
+SendsOrLeaves now (Told answer) out written (Ok None) = (text : List ℕ) × IsText (shown answer) now text × Appends out written text
+SendsOrLeaves now (Told answer) out written (Ok (Some draft)) = ⊥
+SendsOrLeaves now (Told answer) out written (Err fault) =
+    (fault ≡ Write) × ((text : List ℕ) × IsText (shown answer) now text × AppendsFront out written text)
+SendsOrLeaves now (Left given) out written (Ok (Some draft)) = (draft ≡ given) × (written ≡ out)
+SendsOrLeaves now (Left given) out written (Ok None) = ⊥
+SendsOrLeaves now (Left given) out written (Err fault) = ⊥
+
 -- The office's relations, as in `RespondsTo`, and what is left to be signed; `s` is the office before, `t` after.
 module _ {S : Type 0} (runs : S → ℕ → Command → Result Reply Fault → S → Type 0)
     (asks : S → ℕ → Query → Result Reply Fault → S → Type 0)

@@ -1,6 +1,6 @@
 //! What is asked of the office, and its answer.
 
-ghost use Rattle.std.specs.Prelude.{◌≡◌, ◌≤◌, [], codes, vec_capacity};
+ghost use Rattle.std.specs.Prelude.{◌≡◌, ◌≤◌, [], Ok, codes, vec_capacity};
 ghost use Rattle.reg_calls.specs.Items.{items_of};
 ghost use Rattle.reg_heads.specs.Response.{shown};
 ghost use Rattle.reg_http.specs.RespondsTo.{RespondsTo};
@@ -126,8 +126,19 @@ fn begun(room: Vec<u8>, given: Result<Begun, Memory>) -> Beginning
     ensures { IsBeginning given result }
 {
     match given {
-        Ok(Begun::Whole(response)) => Beginning::Told(told_ocsp(room, Ok(response))),
-        Ok(Begun::Left(draft)) => Beginning::Left(draft),
+        Ok(begun) => told_or_left(room, begun),
         Err(memory) => Beginning::Told(told_ocsp(room, Err(memory))),
+    }
+}
+
+/// The whole answer to an OCSP request, or what is left to be signed for it.
+fn told_or_left(room: Vec<u8>, begun: Begun) -> Beginning
+    requires empty { room.items ≡ [] }
+    requires room { 256 ≤ vec_capacity room }
+    ensures { IsBeginning (Ok begun) result }
+{
+    match begun {
+        Begun::Whole(response) => Beginning::Told(told_ocsp(room, Ok(response))),
+        Begun::Left(draft) => Beginning::Left(draft),
     }
 }

@@ -1,12 +1,12 @@
 //! One request read, answered and written.
 
-ghost use Rattle.std.specs.Prelude.{◌≡◌, ◌≢◌, ◌≤◌, ◌⊎◌, [], ℕ, List, None, Some, IfErr, MatchOption, OnOk, vec_capacity};
+ghost use Rattle.std.specs.Prelude.{◌≡◌, ◌≢◌, ◌≤◌, ◌⊎◌, [], ℕ, List, IfErr, OnOk, vec_capacity};
 ghost use Rattle.std.specs.Io.KnownBytes.{Appends};
 ghost use Rattle.reg_wire.specs.Put.{AppendsFront};
 ghost use Rattle.reg_heads.specs.Frame.{part_of};
 ghost use Rattle.reg_heads.specs.Response.{IsText, memory_text, shown};
 ghost use Rattle.reg_calls.specs.Items.{items_of};
-ghost use Rattle.reg_http.specs.Beginning.{BeginningEnds, BeginsReply, FinishingEnds};
+ghost use Rattle.reg_http.specs.Beginning.{BeginningEnds, BeginsReply, FinishingEnds, SendsOrLeaves};
 ghost use Rattle.reg_http.specs.Bodies.{refusal as refusal_of};
 ghost use Rattle.reg_http.specs.Served.{ServingEnds, Responds};
 
@@ -137,6 +137,26 @@ pub fn serve_one<R: Read, W: Write, O: Calls>(
     }
 }
 
+/// Writes an answer, or gives what is left to be signed for it.
+fn send_or_leave<W: Write>(
+    writer: &mut W,
+    room: Vec<u8>,
+    beginning: Beginning,
+    now: Moment,
+) -> Result<Option<Draft>, Fault>
+    requires empty { room.items ≡ [] }
+    requires room { 512 ≤ vec_capacity room }
+    ensures { SendsOrLeaves now beginning (W.contents writer.old) (W.contents writer.new) result }
+{
+    match beginning {
+        Beginning::Told(answer) => match send(writer, room, &answer, now) {
+            Ok(()) => Ok(None),
+            Err(fault) => Err(fault),
+        },
+        Beginning::Left(draft) => Ok(Some(draft)),
+    }
+}
+
 /// Begins to answer a request that was read: writes the response, or gives what is left to be signed for it.
 fn begin_reply<W: Write, O: Calls>(
     alloc: Global,
@@ -148,16 +168,16 @@ fn begin_reply<W: Write, O: Calls>(
 ) -> Result<Option<Draft>, Fault>
     requires empty { room.items ≡ [] }
     requires room { 512 ≤ vec_capacity room }
-    ensures { BeginsReply O.runs O.asks O.ocsps O.crls O.drafts now office.old office.new (part_of request)
+    ensures ends { BeginsReply O.runs O.asks O.ocsps O.crls O.drafts now office.old office.new (part_of request)
         (W.contents writer.old) (W.contents writer.new) result }
     ensures silent { IfErr result (λ fault. fault ≢ Fault.Write
         → (writer.new ≡ writer.old) × (office.new ≡ office.old)) }
 {
     match request {
-        Request::Refused(status) => {
-            refuse(alloc, writer, room, status, now)?;
-            Ok(None)
-        }
+        Request::Refused(status) => match refuse(alloc, writer, room, status, now) {
+            Ok(()) => Ok(None),
+            Err(fault) => Err(fault),
+        },
         Request::Asked {
             method,
             target,
@@ -170,15 +190,11 @@ fn begin_reply<W: Write, O: Calls>(
             now,
             office,
         ) {
-            Ok(Beginning::Told(answer)) => {
-                send(writer, room, &answer, now)?;
-                Ok(None)
-            }
-            Ok(Beginning::Left(draft)) => Ok(Some(draft)),
-            Err(_) => {
-                send_memory_fault(writer)?;
-                Ok(None)
-            }
+            Ok(beginning) => send_or_leave(writer, room, beginning, now),
+            Err(_) => match send_memory_fault(writer) {
+                Ok(()) => Ok(None),
+                Err(fault) => Err(fault),
+            },
         },
     }
 }

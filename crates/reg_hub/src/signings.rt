@@ -71,7 +71,10 @@ impl<T: Drop> Signings<T> {
         };
         match self.queue.push_back(pending) {
             Ok(()) => Ok(()),
-            Err(refused) => Err(refused.value.ticket),
+            Err(refused) => {
+                let pending = refused.value;
+                Err(pending.ticket)
+            }
         }
     }
 

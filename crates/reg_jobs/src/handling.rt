@@ -336,9 +336,10 @@ fn begin_in<P: Place>(
         office.old office.new }
 {
     let mut reader = request;
-    match begin_one(alloc, &mut reader, &mut text, now, office) {
-        Ok(Some(draft)) => Given::Left(draft),
+    let begun = begin_one(alloc, &mut reader, &mut text, now, office);
+    match begun {
         Ok(None) => Given::Whole(response_of(Ok(()), text)),
+        Ok(Some(draft)) => Given::Left(draft),
         Err(fault) => Given::Whole(response_of(Err(fault), text)),
     }
 }
