@@ -113,14 +113,14 @@ pub(crate) fn begin<O: Calls>(
     ensures { BeginsTo O.runs O.asks O.ocsps O.crls O.drafts now office.old (part_asks body.now part) result office.new }
 {
     match part {
-        Part::Posted => begun(room, office.begin_ocsp(alloc, now, body)),
-        Part::Ocsp(request) => begun(room, office.begin_ocsp(alloc, now, request.as_slice())),
+        Part::Posted => come_to(room, office.begin_ocsp(alloc, now, body)),
+        Part::Ocsp(request) => come_to(room, office.begin_ocsp(alloc, now, request.as_slice())),
         other => Beginning::Told(respond(alloc, room, other, body, now, office)),
     }
 }
 
 /// What an OCSP request comes to, as the office gives it.
-fn begun(room: Vec<u8>, given: Result<Begun, Memory>) -> Beginning
+fn come_to(room: Vec<u8>, given: Result<Begun, Memory>) -> Beginning
     requires empty { room.items ≡ [] }
     requires room { 256 ≤ vec_capacity room }
     ensures { IsBeginning given result }
