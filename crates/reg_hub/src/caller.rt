@@ -44,7 +44,7 @@ pub enum Next {
     Due,
     /// It is waited for.
     Waits(Interest),
-    /// It waits, and nothing more comes of it.
+    /// It waits, and is not watched.
     Rests,
     /// It is to be let go.
     Gone,
@@ -182,7 +182,7 @@ impl<S: Link> Caller<S> {
         }
     }
 
-    /// Drops what the peer still sends while it waits for its answer, and sees where it goes.
+    /// Drops what the peer still sends while it waits for its answer, and sees whether it goes.
     fn wait(&mut self, room: &mut [u8]) -> Next {
         for _ in 0..MOST_DROPPED {
             match self.link.read(room) {
@@ -195,7 +195,7 @@ impl<S: Link> Caller<S> {
                 Err(_) => return Next::Gone,
             }
         }
-        Next::Waits(Interest::READABLE)
+        Next::Rests
     }
 
     /// Sends on its answer.

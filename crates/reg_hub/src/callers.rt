@@ -93,6 +93,11 @@ impl Callers {
         }
     }
 
+    /// Puts back a peer that was lifted out of a place, and waits for its answer.
+    pub(crate) fn put_back(&mut self, place: usize, caller: Caller<TcpStream>) {
+        self.places.put(place, caller);
+    }
+
     /// Goes on with a peer that was lifted out of a place, and puts it back unless it is to be let go.
     pub(crate) fn settle(
         &mut self,

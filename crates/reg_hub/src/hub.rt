@@ -302,14 +302,28 @@ impl Hub {
         let before = caller.unsent();
         note_fault(&mut caller, &mut self.shared.losses, now);
         let number = caller.number;
-        let answered = caller.answer(handler, made, now);
+        match caller.answer(handler, made, now) {
+            Ok(Some(ticket)) => {
+                self.callers.put_back(place, caller);
+                self.leave(Asker { place, number }, ticket, handler, signings, now);
+                Ok(())
+            }
+            Ok(None) => {
+                self.send_on(place, caller, before, now);
+                Ok(())
+            }
+            Err(stopped) => {
+                self.send_on(place, caller, before, now);
+                Err(stopped)
+            }
+        }
+    }
+
+    /// Sends on the answer of a peer that was lifted out of a place, of whose answer so many bytes were not sent before.
+    fn send_on(&mut self, place: usize, caller: Caller<TcpStream>, before: usize, now: u64) {
         self.callers.count_unsent(before, caller.unsent());
         self.callers.settle(place, caller, &mut self.shared, now);
         self.callers.shed(place, &mut self.shared);
-        if let Some(ticket) = answered? {
-            self.leave(Asker { place, number }, ticket, handler, signings, now);
-        }
-        Ok(())
     }
 }
 
@@ -348,6 +362,8 @@ impl Hub {
         signings: &mut Signings<H::Ticket>,
         now: u64,
     ) {
+        let place = pending.asker.place;
+        self.callers.advance(place, &mut self.shared, now);
         if !self.callers.is_waiting(pending.asker) {
             return;
         }
