@@ -60,8 +60,7 @@ impl Handler for Echo {
     fn answer(&mut self, peer: SocketAddr, request: &[u8]) -> Result<Given<Vec<u8>>, Stopped> {
         self.last = Some(peer);
         match self.answered(request) {
-            Ok(text) if request.starts_with(b"GET /signed") => Ok(Given::Left(text)),
-            Ok(text) => Ok(Given::Whole(text)),
+            Ok(text) => Ok(given_of(request, text)),
             Err(_) => Ok(Given::Whole(Vec::new(self.alloc))),
         }
     }
@@ -86,6 +85,15 @@ impl Handler for Echo {
 
     fn lose(&self, peer: Option<SocketAddr>, why: Lost) {
         self.lost.set(Some((peer, why)));
+    }
+}
+
+/// What a request comes to, by the text of its answer.
+fn given_of(request: &[u8], text: Vec<u8>) -> Given<Vec<u8>> {
+    if request.starts_with(b"GET /signed") {
+        Given::Left(text)
+    } else {
+        Given::Whole(text)
     }
 }
 
