@@ -102,17 +102,23 @@ module _ {C : Type 0} (g : Ghosts C) (signs : Signs) (old new : Held C) (who who
   )
 
   -- an OCSP request whose answer may be left to be signed
-  pub begin_leads : (now : ℕ) (request : List ℕ) (result : Result Begun Memory)
+  pub begin_leads : {S : Type 0} (answers : S → ℕ → List ℕ → Result (List ℕ) Memory → S → Type 0)
+      (drafts : S → ℕ → List ℕ → Drafted → S → Type 0) (s t : S) (now : ℕ) (request : List ℕ) (result : Result Begun Memory)
+      → ((given : Result (List ℕ) Memory)
+      → LeadsOver g signs (λ those before after. Ocsps signs those before now request given after) (old, who) (new, who')
+      → answers s now request given t)
+      → ((draft : Drafted)
+      → LeadsOver g signs (λ those before after. Drafts those before now request draft after) (old, who) (new, who')
+      → drafts s now request draft t)
       → ((records : Records) → Stands g signs old who.crls records → HasCleanDisk (state g new)
       → IfOk result (IsBegun signs who.answers records now request))
       → ((records : Records) → Stands g signs old who.crls records → Stands g signs new who'.crls records)
-      → Begins {S = Held C × Signatory}
-      (λ s now request given t. LeadsOver g signs (λ those before after. Ocsps signs those before now request given after) s t)
-      (λ s now request draft t. LeadsOver g signs (λ those before after. Drafts those before now request draft after) s t)
-      (old, who) now request result (new, who')
-  begin_leads now request (Ok (Whole bytes)) begun stays = ocsp_leads now request (Ok bytes) begun stays
-  begin_leads now request (Ok (Left draft)) begun stays = draft_leads now request draft begun stays
-  begin_leads now request (Err memory) begun stays = ocsp_leads {Z = Unit {0}} now request (Err memory) (λ records stands is_clean. tt) stays
+      → Begins answers drafts s now request result t
+  begin_leads answers drafts s t now request (Ok (Whole bytes)) answered left begun stays =
+      answered (Ok bytes.items) (ocsp_leads now request (Ok bytes) begun stays)
+  begin_leads answers drafts s t now request (Ok (Left draft)) answered left begun stays = left draft (draft_leads now request draft begun stays)
+  begin_leads answers drafts s t now request (Err memory) answered left begun stays =
+      answered (Err memory) (ocsp_leads {Z = Unit {0}} now request (Err memory) (λ records stands is_clean. tt) stays)
 
 -- a fault of the tables is none of the signer
 pub table_fault : (outcome : Result Reply Fault) → IfErr outcome IsTableFault → ¬ (IsErrOf outcome Signer)
