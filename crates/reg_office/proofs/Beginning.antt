@@ -8,8 +8,10 @@ use Rattle.reg_crl.specs.Signing.{Identity}
 use Rattle.reg_ocsp.specs.Request.{Id, IsRequest}
 use Rattle.reg_ocsp.specs.Response.{refusal_response}
 use Rattle.reg_ocsp.specs.declared.response.RefusalStatus.{RefusalStatus}
-use Rattle.reg_calls.specs.Ocsp.{IsOcspReply, IsResponse, IsTimely}
-use Rattle.reg_calls.specs.Signatories.{Responder}
+use Rattle.reg_calls.specs.Drafts.{IsReadDraft}
+use Rattle.reg_calls.specs.Ocsp.{IsOcspData, IsOcspReply, IsResponse, IsTimely}
+use Rattle.reg_calls.specs.Signatories.{Responder, responder_key}
+use Rattle.reg_ocsp.specs.Drafts.{Drafted}
 use Rattle.reg_calls.specs.declared.begun.Begun.{Begun}
 use Rattle.reg_calls.specs.declared.begun.Begun.TheVariants.{Whole, Left}
 use Rattle.reg_office.specs.Beginning.{IsBegun, IsReadBegun, IsRefusedWhole}
@@ -31,3 +33,16 @@ module _ {signs : Identity → List ℕ → List ℕ → Type 0} {responder : Re
       inr (ids, nonce, is, inr (subst P (sym none) whole))
   read_begun ids nonce (Left draft) is none left =
       record { ids = ids; nonce = nonce; is_request = is; timely = none; read = left }
+
+-- what is left to be signed of a request that was read, with what its answer has of who answers
+pub left_draft : (responder : Responder) (records : Records) (now : ℕ) (ids : List Id) (nonce : Option (List ℕ)) (message : List ℕ) (draft : Drafted)
+    → draft ≡ record {
+      message = message;
+      algorithm = responder.identity.algorithm;
+      key = responder.identity.public_key;
+      certificate = responder.certificate;
+    }
+    → IsOcspData (responder_key responder records) records now ids nonce message → IsReadDraft responder records now ids nonce draft
+left_draft responder records now ids nonce message draft is of_records =
+    let P : Drafted → Type 0 = λ it. IsReadDraft responder records now ids nonce it in
+    subst P (sym is) (record { of_records = of_records; by = record { algorithm = refl; key = refl; certificate = refl } })
