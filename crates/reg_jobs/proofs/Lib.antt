@@ -1,5 +1,5 @@
 pub mod Fates
-pub mod Leaving
+pub mod Finishing
 pub mod LineByLine
 pub mod Peers
 pub mod Pieces

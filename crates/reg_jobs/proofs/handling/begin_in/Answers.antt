@@ -1,6 +1,6 @@
 use Rattle.std.proofs.Common.{ℕ, Global, Vec}
 use Rattle.std.specs.Prelude.{Ok, Err}
-use Rattle.reg_jobs.proofs.Leaving.{left_moves}
+use Rattle.reg_jobs.proofs.Finishing.{left_moves}
 use Rattle.reg_jobs.proofs.Peers.{exchange_over}
 use Rattle.reg_jobs.proofs.handling.begin_in.Goals as goal
 
