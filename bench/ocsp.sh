@@ -4,7 +4,8 @@
 # for eight certificates and for 4,096, and beside 200 silent peers, with the latency of the median and of one in a hundred. Then commands a second at
 # the desk's counter, beside `desk script`.
 # The desk seals with a digest, which costs next to nothing and is no signature; with --signed as the first word it signs with the same
-# P-256 key as openssl, which examples/signer.py holds.
+# P-256 key as openssl, which examples/signer.py holds, in as many processes as SIGNERS says (3). Then also with a signer that takes 5 ms, one
+# answer after the other and 32 at once, and how long others wait while one hangs.
 # Run it from the repository's root; needs openssl and python3, for --signed also python3's package cryptography.
 set -eu
 signed=
@@ -40,7 +41,7 @@ openssl ocsp -index index.txt -port 8091 -rsigner ca.pem -rkey ca.key -CA ca.pem
 theirs=$!
 set -- open ca.db --port 8092 --counter ca.counter
 if [ -n "$signed" ]; then
-    "$signer" ca.key ca.sign >/dev/null &
+    "$signer" --processes "${SIGNERS:-3}" ca.key ca.sign >/dev/null &
     holder=$!
     sleep 2
     set -- "$@" --signer ca.sign --algorithm ecdsa-sha256
@@ -57,4 +58,26 @@ python3 "$client" commands "$commands" counter "$desk" at ca.counter
 kill "$ours"
 wait "$ours" 2>/dev/null || true
 ours=''
+
+# open_with NAME MILLISECONDS: `desk open` with a signer that takes so long, or hangs.
+open_with() {
+    kill "$holder" 2>/dev/null || true
+    python3 "$client" sign "$1.sign" "$2" &
+    holder=$!
+    until [ -S "$1.sign" ]; do sleep 0.1; done
+    "$desk" open ca.db --port 8092 --counter ca.counter --signer "$1.sign" --algorithm ecdsa-sha256 >/dev/null &
+    ours=$!
+    sleep 3
+}
+if [ -n "$signed" ]; then
+    open_with slow 5
+    python3 "$client" slow 2000 8092 ./*.der
+    kill "$ours"
+    wait "$ours" 2>/dev/null || true
+    open_with hangs -1
+    python3 "$client" hung 8092 ca.counter ./*.der
+    kill "$ours"
+    wait "$ours" 2>/dev/null || true
+    ours=''
+fi
 python3 "$client" commands "$commands" script "$desk" script ca.db

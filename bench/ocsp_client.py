@@ -1,10 +1,11 @@
 #!/usr/bin/env python3
-"""The inputs and the client of bench/ocsp.sh: orders, rows and index write them, ask and commands measure."""
+"""The inputs and the client of bench/ocsp.sh: orders, rows and index write them, ask, commands, slow and hung measure; sign is a signer."""
 import collections
 import multiprocessing
 import socket
 import subprocess
 import sys
+import threading
 import time
 
 FIRST = 0x1000
@@ -169,6 +170,61 @@ def commands(count, kind, words):
     print(f"{kind}: {count} commands in {many:.2f} s, {count / many:,.0f} a second; one alone {alone * 1e3:.0f} ms")
 
 
+# The form of an ECDSA signature, r = s = 1 (RFC 5480 appendix A).
+ANY_SIGNATURE = bytes.fromhex("3006020101020101")
+
+
+def sign_one(peer, millis):
+    """Takes a message, and gives what has the form of a signature so many milliseconds later; none at all where these are below 0."""
+    with peer:
+        while peer.recv(65536):
+            pass
+        if millis < 0:
+            threading.Event().wait()
+        time.sleep(millis / 1000)
+        peer.sendall(ANY_SIGNATURE)
+
+
+def sign(path, millis):
+    """A signer at a socket, for as many at once as come."""
+    with socket.socket(socket.AF_UNIX) as server:
+        server.bind(path)
+        server.listen(128)
+        while True:
+            peer, _ = server.accept()
+            threading.Thread(target=sign_one, args=(peer, millis), daemon=True).start()
+
+
+def slow(count, port, files):
+    """Answers a second where a signature takes a while: one after the other, and so many at once."""
+    few = [whole(open(name, "rb").read()) for name in files]
+    rates = [max(clients(port, few, count, at_once)[0] for _ in range(ROUNDS)) for at_once in (1, AT_ONCE)]
+    print(f"a signer that takes 5 ms: {rates[0]:,.0f} answers a second in turn, {rates[1]:,.0f} at {AT_ONCE} at once, {rates[1] / rates[0]:.1f} times")
+
+
+def hung(port, counter, files):
+    """How long who wants no signature waits while a signer hangs that OCSP answers want: the longest of some times."""
+    few = [whole(open(name, "rb").read()) for name in files]
+    waiting, took = [], {"GET /counts": [], "a line at the counter": []}
+    with socket.socket(socket.AF_UNIX) as teller:
+        teller.connect(counter)
+        for at in range(10 * ROUNDS):
+            waiting.append(ask_one(("127.0.0.1", port), few[at % len(few)]))
+            start = time.perf_counter()
+            with ask_one(("127.0.0.1", port), b"GET /counts HTTP/1.0\r\n\r\n") as peer:
+                while peer.recv(65536):
+                    pass
+            took["GET /counts"].append(time.perf_counter() - start)
+            start = time.perf_counter()
+            teller.sendall(b"subscriber hung%d\n" % at)
+            teller.recv(65536)
+            took["a line at the counter"].append(time.perf_counter() - start)
+    for peer in waiting:
+        peer.close()
+    told = ", ".join(f"{name} {max(times) * 1e3:.1f} ms at the longest" for name, times in took.items())
+    print(f"a signer that hangs, and {len(waiting)} who wait for it: {told}")
+
+
 def main():
     job, *words = sys.argv[1:]
     if job == "orders":
@@ -177,6 +233,12 @@ def main():
         rows(int(words[0]), words[1], words[2])
     elif job == "index":
         index(int(words[0]), words[1])
+    elif job == "sign":
+        sign(words[0], float(words[1]))
+    elif job == "slow":
+        slow(int(words[0]), int(words[1]), words[2:])
+    elif job == "hung":
+        hung(int(words[0]), words[1], words[2:])
     elif job == "commands":
         commands(int(words[0]), words[1], words[2:])
     else:

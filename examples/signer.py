@@ -16,7 +16,10 @@ With P-256 it draws nonces before their messages come, by the system's libcrypto
 depends on the nonce alone. Some are in memory at any time, and so is the key: never copy a machine, nor set it back, with its memory
 while this runs, for then one nonce may sign two messages, which gives the key away.
 
-Usage: examples/signer.py [--only-ours CA.pem [--responder RESPONDER.pem]] KEY.pem SOCKET
+With --processes N so many processes take connections at the one socket, each with the key in its memory: the desk has up to 32 signatures of
+OCSP answers made at once.
+
+Usage: examples/signer.py [--only-ours CA.pem [--responder RESPONDER.pem]] [--processes N] KEY.pem SOCKET
        examples/signer.py [--only-ours CA.pem ..] KEY.pem --inherited  at the socket that systemd made for it (sd_listen_fds(3))
        examples/signer.py KEY.pem                                      prints the NAME of the key's algorithm, and ends
 
@@ -222,11 +225,22 @@ def serve(listener, sign, draw):
         answer(connection, sign)
 
 
+def share(count):
+    """Starts so many processes in all, each of which ends where the first does. Whether this is the first."""
+    for _ in range(count - 1):
+        if os.fork() == 0:
+            # PR_SET_PDEATHSIG (prctl(2)).
+            ctypes.CDLL(None).prctl(1, signal.SIGTERM)
+            return False
+    return True
+
+
 def read_words():
     parser = argparse.ArgumentParser(usage=__doc__.partition("Usage: ")[2].partition("\n\n")[0])
     parser.add_argument("--only-ours", metavar="CA.pem")
     parser.add_argument("--responder", metavar="RESPONDER.pem")
     parser.add_argument("--inherited", action="store_true")
+    parser.add_argument("--processes", metavar="N", type=int, default=1)
     parser.add_argument("key", metavar="KEY.pem")
     parser.add_argument("socket", metavar="SOCKET", nargs="?")
     words = parser.parse_args()
@@ -246,16 +260,20 @@ def main():
         sign = guarded(sign, words, key)
     if words.inherited:
         print(f"{name} at a socket that was handed over", flush=True)
-        serve(handed_over(), sign, draw)
+        listener = handed_over()
+        share(words.processes)
+        serve(listener, sign, draw)
     if not words.socket:
         print(name)
         return
     listener = listen(words.socket)
     print(f"{name} at {words.socket}", flush=True)
+    is_first = share(words.processes)
     try:
         serve(listener, sign, draw)
     finally:
-        os.remove(words.socket)
+        if is_first:
+            os.remove(words.socket)
 
 
 main()

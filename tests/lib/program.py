@@ -274,6 +274,56 @@ class Signer:
             os.unlink(self.path)
 
 
+class Signers:
+    """The same, for as many at once as connect, each on a thread of its own. `answer(message)` gives a signature, or None; `now` are those that
+    are answered just now, and `most` how many these were at most."""
+
+    def __init__(self, path, answer=lambda message: ANY_SIGNATURE):
+        self.path, self.answer, self.asked, self.now, self.most = str(path), answer, [], 0, 0
+        self.lock = threading.Lock()
+        self.server = socket.socket(socket.AF_UNIX)
+        self.server.bind(self.path)
+        self.server.listen(128)
+        threading.Thread(target=self.serve, daemon=True).start()
+
+    def serve(self):
+        with contextlib.suppress(OSError):
+            while True:
+                peer, _ = self.server.accept()
+                threading.Thread(target=self.sign, args=(peer,), daemon=True).start()
+
+    def sign(self, peer):
+        with peer, contextlib.suppress(OSError):
+            message = read_all(peer)
+            with self.lock:
+                self.asked.append(message)
+                self.now += 1
+                self.most = max(self.most, self.now)
+            signature = self.answer(message)
+            with self.lock:
+                self.now -= 1
+            if signature is not None:
+                peer.sendall(signature)
+
+    def until(self, count, seconds=10):
+        """Waits until so many are answered at once; whether they are."""
+        ends = time.monotonic() + seconds * PATIENCE
+        while self.now < count and time.monotonic() < ends:
+            time.sleep(0.005)
+        return self.now >= count
+
+    def __enter__(self):
+        return self
+
+    def __exit__(self, *_):
+        # Wakes who accepts.
+        with contextlib.suppress(OSError):
+            self.server.shutdown(socket.SHUT_RDWR)
+        self.server.close()
+        with contextlib.suppress(OSError):
+            os.unlink(self.path)
+
+
 def seconds_of(moment):
     """The seconds since 1970 of a moment in text."""
     import datetime

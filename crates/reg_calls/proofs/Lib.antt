@@ -1,1 +1,2 @@
+pub mod Drafting
 pub mod Happening

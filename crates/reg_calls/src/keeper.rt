@@ -13,7 +13,9 @@ pub trait Keeper: Calls {
     ghost use Rattle.reg_core.specs.declared.refusal.Fault.{Fault};
     ghost use Rattle.reg_core.specs.declared.refusal.Fault.TheVariants.{Signer};
     ghost use Rattle.reg_crl.specs.Signing.{Identity};
+    ghost use Rattle.reg_calls.specs.Drafts.{Drafts};
     ghost use Rattle.reg_calls.specs.Steps.{Runs, Asks, Ocsps, Crls};
+    ghost use Rattle.reg_ocsp.specs.Drafts.{Drafted};
     ghost use Rattle.reg_calls.specs.Leads.{Leads};
     ghost use Rattle.reg_calls.specs.Signatories.{Signatory};
 
@@ -54,6 +56,11 @@ pub trait Keeper: Calls {
     ghost ocsps_lead: { (s : Self) (now : ℕ) (request : List ℕ) (given : Result (List ℕ) Memory) (t : Self)
         → Self.ocsps s now request given t
         → Leads is_clean stands (λ who before after. Ocsps signs who before now request given after) s t };
+
+    /// What is left to be signed for an OCSP request is the ResponseData of the records, and the records stay.
+    ghost drafts_lead: { (s : Self) (now : ℕ) (request : List ℕ) (draft : Drafted) (t : Self)
+        → Self.drafts s now request draft t
+        → Leads is_clean stands (λ who before after. Drafts who before now request draft after) s t };
 
     /// The bytes of a CRL are those that the records have, and the records stay.
     ghost crls_lead: { (s : Self) (number : Option ℕ) (given : Result (List ℕ) Fault) (t : Self)

@@ -30,6 +30,10 @@ impl Signer for DigestSeal {
         &ALGORITHM
     }
 
+    fn public_key(&self) -> Option<&[u8]> {
+        None
+    }
+
     fn sign(&mut self, alloc: Global, message: &[u8]) -> Result<Vec<u8>, SignFault> {
         Ok(Vec::from_slice(alloc, &Sha1::digest(message))?)
     }

@@ -1,6 +1,6 @@
 //! Who signs.
 
-ghost use Rattle.std.specs.Prelude.{◌≡◌, ◌<◌, ◌≤◌, length, IfOk, IsErrOf, OnOk};
+ghost use Rattle.std.specs.Prelude.{◌≡◌, ◌<◌, ◌≤◌, length, IfOk, IfSome, IsErrOf, OnOk, option_copied};
 ghost use Rattle.reg_crl.specs.declared.signer.SignFault.TheVariants.{Memory};
 
 use reg_core::{Fault, SignsCrls};
@@ -55,6 +55,10 @@ pub trait Signer {
     fn algorithm(&self) -> &[u8]
         ensures value { result.now ≡ (identity self.now).algorithm }
         ensures within { IsAlgorithm result.now };
+
+    /// The public key, where what holds it can be asked for a signature by others, too; `None` where nothing holds one.
+    fn public_key(&self) -> Option<&[u8]>
+        ensures { IfSome (option_copied result) (λ key. key ≡ (identity self.now).public_key) };
 
     /// A signature of the message, of at most 65,536 bytes.
     ///

@@ -1,6 +1,6 @@
 -- HTTP exchanges over an office that keeps records.
-use Rattle.std.proofs.Common.{◌≡◌, ◌≢◌, ℕ, List, inl, inr, refl, sym, ◌∙◌}
-use Rattle.std.specs.Prelude.{Option, Result, Ok, Err, IfErr}
+use Rattle.std.proofs.Common.{◌≡◌, ◌≢◌, ℕ, List, inl, inr, refl, sym, ap, ◌∙◌}
+use Rattle.std.specs.Prelude.{Option, Some, None, Result, Ok, Err, IfErr}
 use Rattle.reg_core.specs.declared.command.Command.{Command}
 use Rattle.reg_core.specs.declared.command.Command.TheVariants.{Request}
 use Rattle.reg_core.specs.declared.command.Query.{Query}
@@ -13,7 +13,9 @@ use Rattle.reg_heads.specs.Frame.{Part, refused, asked}
 use Rattle.reg_heads.specs.Response.{Response}
 use Rattle.reg_http.specs.RespondsTo.{RespondsTo}
 use Rattle.reg_http.specs.Asked.{Asked, refused as refuses, only, unread, malformed, ocsp_of, crl_of, status_of, counts_of, request_of, asked as asks_for}
+use Rattle.reg_http.specs.Beginning.{BeginningEnds, LeftOf}
 use Rattle.reg_http.specs.Served.{ServingEnds, Responds}
+use Rattle.reg_ocsp.specs.Drafts.{Drafted}
 use Rattle.reg_calls.specs.Leads.{Leads}
 use Rattle.reg_faces.proofs.Steps.{stays, follows}
 
@@ -185,6 +187,49 @@ module _ {S I R : Type 0} (is_clean : S → Type 0) (stands : I → S → R → 
   served_moves now s t input left out written (Err Signer) ended read memory = absurd ended
   served_moves now s t input left out written (Err (Refused why)) ended read memory = absurd ended
 
+  -- What is left to be signed.
+  module _ (drafts : S → ℕ → List ℕ → Drafted → S → Type 0) (kept_drafts : I → R → ℕ → List ℕ → Drafted → R → Type 0)
+      (lifts_drafts : (s : S) (now : ℕ) (request : List ℕ) (draft : Drafted) (t : S) → drafts s now request draft t
+      → Leads is_clean stands (λ i before after. kept_drafts i before now request draft after) s t) where
+    -- the beginnings of the records
+    abbrev pub KeptBegins : ℕ → Option (List ℕ) → Option (List ℕ) → Option (List ℕ) → Option (List ℕ) → Result (Option Drafted) Fault → I → R → R → Type 0
+    KeptBegins now input left out written result i before after =
+        BeginningEnds (kept_runs i) (kept_asks i) (kept_ocsps i) (kept_crls i) (kept_drafts i) now before after input left out written result
+
+    -- one request begun
+    pub begun_moves : (now : ℕ) (s t : S) (input left out written : Option (List ℕ)) (result : Result (Option Drafted) Fault)
+        → BeginningEnds runs asks ocsps crls drafts now s t input left out written result
+        → (result ≡ Err Read → t ≡ s) → (result ≡ Err Memory → t ≡ s)
+        → Leads is_clean stands (KeptBegins now input left out written result) s t
+    begun_moves now s t input left out written (Ok None) ended read memory =
+        served_moves now s t input left out written (Ok tt) ended (λ same. absurd (cc same)) (λ same. absurd (cc same))
+    begun_moves now s t input left out written (Ok (Some draft)) ended read memory =
+        follows is_clean stands
+        (λ i before after. kept_drafts i before now ended.0.request draft after)
+        (KeptBegins now input left out written (Ok (Some draft)))
+        (λ i before after made. (
+          record {
+            took = ended.0.took;
+            method = ended.0.method;
+            target = ended.0.target;
+            body = ended.0.body;
+            request = ended.0.request;
+            takes = ended.0.takes;
+            framed = ended.0.framed;
+            asks_it = ended.0.asks_it;
+            drafted = made;
+          },
+          ended.1,
+        ))
+        s
+        t
+        (lifts_drafts s now ended.0.request draft t ended.0.drafted)
+    begun_moves now s t input left out written (Err why) ended read memory =
+        served_moves now s t input left out written (Err why) ended (λ same. read (still same)) (λ same. memory (still same))
+      where
+        still : {other : Fault} → Result.Err {A = Unit {0}} why ≡ Err other → Result.Err {A = Option Drafted} why ≡ Err other
+        still same = let is : why ≡ _ = cc in ap (λ (f : Fault). Err f) is
+
 -- a failed read is no failed write, and want of memory is none
 pub read_is_not_write : Read ≢ Write
 read_is_not_write same = cc same
@@ -197,5 +242,13 @@ pub stays_silent : {S : Type 0} (A : Type 0) {s t : S} (result : Result (Unit {0
     → IfErr result (λ fault. fault ≢ Write → A × (t ≡ s)) → {other : Fault} → other ≢ Write → result ≡ Err other → t ≡ s
 stays_silent A (Ok done) silent {other = other} is_none same = absurd (cc)
 stays_silent A (Err fault) silent {other = other} is_none same =
+    let is : fault ≡ other = cc in
+    (silent (λ write. is_none (sym is ∙ write))).1
+
+-- the same where an answer may be left to be signed
+pub begun_silent : {S B : Type 0} (A : Type 0) {s t : S} (result : Result B Fault)
+    → IfErr result (λ fault. fault ≢ Write → A × (t ≡ s)) → {other : Fault} → other ≢ Write → result ≡ Err other → t ≡ s
+begun_silent A (Ok done) silent {other = other} is_none same = absurd (cc)
+begun_silent A (Err fault) silent {other = other} is_none same =
     let is : fault ≡ other = cc in
     (silent (λ write. is_none (sym is ∙ write))).1

@@ -3,10 +3,12 @@
 ghost use Rattle.std.specs.Prelude.{◌≡◌, ◌≢◌, IfErr, IfOk, OnErr};
 ghost use Rattle.reg_calls.specs.Leads.{Leads};
 ghost use Rattle.reg_faces.specs.Faces.{Lines, CountsFailure, AddsARequestAtMost};
+ghost use Rattle.reg_calls.specs.Drafts.{Drafts};
 ghost use Rattle.reg_calls.specs.Steps.{Runs, Asks, Ocsps, Crls};
 ghost use Rattle.reg_heads.specs.Response.{shown};
 ghost use Rattle.reg_http.specs.RespondsTo.{RespondsTo};
 ghost use Rattle.reg_http.specs.Asked.{asked};
+ghost use Rattle.reg_http.specs.Beginning.{BeginningEnds};
 ghost use Rattle.reg_http.specs.Served.{ServingEnds};
 ghost use Rattle.reg_lines.specs.Import.{ImportEnds};
 ghost use Rattle.reg_lines.specs.Script.{ScriptEnds};
@@ -17,6 +19,7 @@ use reg_calls::Keeper;
 use reg_core::{Fault, Memory, Moment};
 use reg_heads::Answer;
 use reg_lines::Imported;
+use reg_ocsp::Draft;
 use std::alloc::Global;
 use std::io::{Read, Write};
 
@@ -126,4 +129,26 @@ pub fn serve_one<R: Read, W: Write, K: Keeper>(
         → (writer.new ≡ writer.old) × (office.new ≡ office.old)) }
 {
     reg_http::serve_one(alloc, reader, writer, now, office)
+}
+
+/// Serves one HTTP request over an office that keeps records, as [`reg_http::begin_one`] says: an OCSP answer may be left to be signed.
+///
+/// # Errors
+///
+/// As of [`reg_http::begin_one`].
+pub fn begin_one<R: Read, W: Write, K: Keeper>(
+    alloc: Global,
+    reader: &mut R,
+    writer: &mut W,
+    now: Moment,
+    office: &mut K,
+) -> Result<Option<Draft>, Fault>
+    ensures ends { Leads K.is_clean K.stands
+        (λ identity before after. BeginningEnds (Runs K.signs identity) Asks (Ocsps K.signs identity) Crls (Drafts identity) now before after
+        (R.remaining reader.old) (R.remaining reader.new) (W.contents writer.old) (W.contents writer.new) result)
+        office.old office.new }
+    ensures silent { IfErr result (λ fault. fault ≢ Fault.Write
+        → (writer.new ≡ writer.old) × (office.new ≡ office.old)) }
+{
+    reg_http::begin_one(alloc, reader, writer, now, office)
 }

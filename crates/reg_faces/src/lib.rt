@@ -4,4 +4,4 @@
 mod faces;
 pub mod laws;
 
-pub use faces::{answer, import, import_strictly, run_script, serve_one};
+pub use faces::{answer, begin_one, import, import_strictly, run_script, serve_one};

@@ -1,4 +1,5 @@
 pub mod Asked
+pub mod Beginning
 pub mod Bodies
 pub mod Parts
 pub mod RespondsTo

@@ -9,4 +9,5 @@ pub mod routes;
 mod serve;
 
 pub use reg_heads::Answer;
-pub use serve::serve_one;
+pub use respond::Beginning;
+pub use serve::{begin_one, finish_one, serve_one};

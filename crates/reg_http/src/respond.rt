@@ -1,10 +1,11 @@
 //! What is asked of the office, and its answer.
 
-ghost use Rattle.std.specs.Prelude.{◌≡◌, ◌≤◌, [], codes, vec_capacity};
+ghost use Rattle.std.specs.Prelude.{◌≡◌, ◌≤◌, [], Ok, codes, vec_capacity};
 ghost use Rattle.reg_calls.specs.Items.{items_of};
 ghost use Rattle.reg_heads.specs.Response.{shown};
 ghost use Rattle.reg_http.specs.RespondsTo.{RespondsTo};
 ghost use Rattle.reg_http.specs.Bodies.{crl_told, der, malformed_text, ocsp_told};
+ghost use Rattle.reg_http.specs.Beginning.{BeginsTo, IsBeginning};
 ghost use Rattle.reg_http.specs.Parts.{part_asks};
 
 use crate::bodies::{
@@ -12,16 +13,26 @@ use crate::bodies::{
     told_status,
 };
 use crate::parts::Part;
-use reg_calls::Calls;
+use reg_calls::{Begun, Calls};
 use reg_core::{Command, Fault, Memory, Moment, Query, Refusal};
 use reg_heads::{Answer, put};
+use reg_ocsp::Draft;
 use std::alloc::Global;
 
 /// The OCSPResponse of status malformedRequest (RFC 6960 4.2.1).
 const MALFORMED: &[u8] = b"\x30\x03\x0A\x01\x01";
 
+/// What a request comes to where an OCSP answer may be left to be signed.
+#[derive(Drop)]
+pub enum Beginning {
+    /// The answer.
+    Told(Answer),
+    /// What is left to be signed for it.
+    Left(Draft),
+}
+
 /// The answer that carries an OCSP response.
-fn told_ocsp(room: Vec<u8>, given: Result<Vec<u8>, Memory>) -> Answer
+pub(crate) fn told_ocsp(room: Vec<u8>, given: Result<Vec<u8>, Memory>) -> Answer
     requires empty { room.items ≡ [] }
     requires room { 256 ≤ vec_capacity room }
     ensures { shown result ≡ ocsp_told (items_of given) }
@@ -85,5 +96,49 @@ pub(crate) fn respond<O: Calls>(
             };
             told_request(room, office.run_one(alloc, now, &command))
         }
+    }
+}
+
+/// The same as [`respond`], but an OCSP answer may be left to be signed.
+pub(crate) fn begin<O: Calls>(
+    alloc: Global,
+    room: Vec<u8>,
+    part: Part,
+    body: &[u8],
+    now: Moment,
+    office: &mut O,
+) -> Beginning
+    requires empty { room.items ≡ [] }
+    requires room { 256 ≤ vec_capacity room }
+    ensures { BeginsTo O.runs O.asks O.ocsps O.crls O.drafts now office.old (part_asks body.now part) result office.new }
+{
+    match part {
+        Part::Posted => come_to(room, office.begin_ocsp(alloc, now, body)),
+        Part::Ocsp(request) => come_to(room, office.begin_ocsp(alloc, now, request.as_slice())),
+        other => Beginning::Told(respond(alloc, room, other, body, now, office)),
+    }
+}
+
+/// What an OCSP request comes to, as the office gives it.
+fn come_to(room: Vec<u8>, given: Result<Begun, Memory>) -> Beginning
+    requires empty { room.items ≡ [] }
+    requires room { 256 ≤ vec_capacity room }
+    ensures { IsBeginning given result }
+{
+    match given {
+        Ok(begun) => told_or_left(room, begun),
+        Err(memory) => Beginning::Told(told_ocsp(room, Err(memory))),
+    }
+}
+
+/// The whole answer to an OCSP request, or what is left to be signed for it.
+fn told_or_left(room: Vec<u8>, begun: Begun) -> Beginning
+    requires empty { room.items ≡ [] }
+    requires room { 256 ≤ vec_capacity room }
+    ensures { IsBeginning (Ok begun) result }
+{
+    match begun {
+        Begun::Whole(response) => Beginning::Told(told_ocsp(room, Ok(response))),
+        Begun::Left(draft) => Beginning::Left(draft),
     }
 }

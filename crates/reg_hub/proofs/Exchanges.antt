@@ -3,7 +3,7 @@ use Rattle.std.proofs.Common.{◌≡◌, ℕ, ◌+◌, List, [], ◌∷◌, ◌+
 use Rattle.reg_wire.proofs.PublicLaws.{answered_append}
 use Rattle.std.specs.Prelude.{Result, Ok, Err, OnOk, OnErr, take}
 use Rattle.reg_hub.specs.Lines.{Telling}
-use Rattle.reg_hub.specs.Exchange.{Input, request, line, asked_in, Handles, Exchanged}
+use Rattle.reg_hub.specs.Exchange.{Input, request, line, Outcome, said, asked_in, Handles, Exchanged}
 
 -- the requests of two lists
 pub asked_in_append : (first rest : List Input) → asked_in (first ++ rest) ≡ asked_in first + asked_in rest
@@ -11,17 +11,17 @@ asked_in_append [] rest = omega arith
 asked_in_append (request bytes ∷ first) rest = omega (arith, asked_in_append first rest)
 asked_in_append (line bytes ∷ first) rest = asked_in_append first rest
 
-module _ {S : Type 0} (answers tells : S → List ℕ → List ℕ → S → Type 0) where
+module _ {S T : Type 0} (answers : S → List ℕ → Outcome T → S → Type 0) (tells : S → List ℕ → List ℕ → S → Type 0) where
   -- nothing was exchanged
   pub exchanged_none : (s t : S) (made made' : ℕ) → t ≡ s → made' ≡ made → Exchanged answers tells s t made made'
-  exchanged_none s t made made' same count = record { inputs = []; texts = []; run = same; counted = omega (arith, count) }
+  exchanged_none s t made made' same count = record { inputs = []; outcomes = []; run = same; counted = omega (arith, count) }
 
   -- a request was answered
-  pub exchanged_request : (s t : S) (made made' : ℕ) (bytes text : List ℕ) → answers s bytes text t → made' ≡ made + 1
+  pub exchanged_request : (s t : S) (made made' : ℕ) (bytes : List ℕ) (outcome : Outcome T) → answers s bytes outcome t → made' ≡ made + 1
       → Exchanged answers tells s t made made'
-  exchanged_request s t made made' bytes text step count = record {
+  exchanged_request s t made made' bytes outcome step count = record {
     inputs = request bytes ∷ [];
-    texts = text ∷ [];
+    outcomes = outcome ∷ [];
     run = (t, step, refl);
     counted = omega (arith, count);
   }
@@ -30,7 +30,7 @@ module _ {S : Type 0} (answers tells : S → List ℕ → List ℕ → S → Typ
   pub exchanged_line : (s t : S) (made : ℕ) (bytes text : List ℕ) → tells s bytes text t → Exchanged answers tells s t made made
   exchanged_line s t made bytes text step = record {
     inputs = line bytes ∷ [];
-    texts = text ∷ [];
+    outcomes = said text ∷ [];
     run = (t, step, refl);
     counted = omega arith;
   }
@@ -40,8 +40,8 @@ module _ {S : Type 0} (answers tells : S → List ℕ → List ℕ → S → Typ
       → Exchanged answers tells s t made made''
   exchanged_then s m t made made' made'' first rest = record {
     inputs = first.inputs ++ rest.inputs;
-    texts = first.texts ++ rest.texts;
-    run = answered_append (Handles answers tells) s m t first.inputs first.texts rest.inputs rest.texts first.run rest.run;
+    outcomes = first.outcomes ++ rest.outcomes;
+    run = answered_append (Handles answers tells) s m t first.inputs first.outcomes rest.inputs rest.outcomes first.run rest.run;
     counted = omega (arith, first.counted, rest.counted, asked_in_append first.inputs rest.inputs);
   }
 

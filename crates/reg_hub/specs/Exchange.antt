@@ -7,20 +7,41 @@ pub data Input : Type 0 where
   request : List ℕ → Input
   line : List ℕ → Input
 
+-- what came of it: the text that answers it; or what was left to be signed, and is finished by a text later
+pub data Outcome (T : Type 0) : Type 0 where
+  said : List ℕ → Outcome T
+  pending : T → Outcome T
+
 -- how many requests are among these
 abbrev pub asked_in : List Input → ℕ
 asked_in [] = zero
 asked_in (request bytes ∷ inputs) = suc (asked_in inputs)
 asked_in (line bytes ∷ inputs) = asked_in inputs
 
--- the relation of a handler before and after it to what came and the text that answers it
-abbrev pub Handles : {S : Type 0} → (S → List ℕ → List ℕ → S → Type 0) → (S → List ℕ → List ℕ → S → Type 0) → S → Input → List ℕ → S → Type 0
-Handles answers tells s (request bytes) text t = answers s bytes text t
-Handles answers tells s (line bytes) text t = tells s bytes text t
+-- the relation of a handler before and after it to what came and what came of it: a line is answered at once
+abbrev pub Handles
+    : {S T : Type 0}
+    → (S → List ℕ → Outcome T → S → Type 0)
+    → (S → List ℕ → List ℕ → S → Type 0)
+    → S
+    → Input
+    → Outcome T
+    → S
+    → Type 0
+Handles answers tells s (request bytes) outcome t = answers s bytes outcome t
+Handles answers tells s (line bytes) (said text) t = tells s bytes text t
+Handles answers tells s (line bytes) (pending ticket) t = ⊥
 
--- s became t by these exchanges and nothing else, and their requests were counted
-pub record Exchanged {S : Type 0} (answers tells : S → List ℕ → List ℕ → S → Type 0) (s t : S) (made made' : ℕ) : Type 0 where
+-- s became t by these exchanges and nothing else, and their requests were counted; each that was left to be signed stands where its answer
+-- was begun
+pub record Exchanged
+    {S T : Type 0}
+    (answers : S → List ℕ → Outcome T → S → Type 0)
+    (tells : S → List ℕ → List ℕ → S → Type 0)
+    (s t : S)
+    (made made' : ℕ)
+    : Type 0 where
   pub inputs : List Input
-  pub texts : List (List ℕ)
-  pub run : Answered (Handles answers tells) s inputs texts t
+  pub outcomes : List (Outcome T)
+  pub run : Answered (Handles answers tells) s inputs outcomes t
   pub counted : made' ≡ made + asked_in inputs

@@ -1,9 +1,10 @@
 //! One peer, which is answered once.
 
-ghost use Rattle.std.specs.Prelude.{◌≡◌, ◌≤◌, ◌+◌, OnOk, OnErr};
-ghost use Rattle.reg_hub.specs.Stages.{Answering, Takes, Sends};
+ghost use Rattle.std.specs.Prelude.{◌≡◌, ◌≤◌, ◌+◌, IfOk, OnErr};
+ghost use Rattle.reg_hub.specs.Stages.{Answering, Finishing, Takes, Sends};
 ghost use Rattle.reg_hub.specs.Exchange.{Exchanged};
 
+use crate::given::Given;
 use crate::handler::{Handler, Lost, Stopped, answer_one};
 use crate::link::Link;
 use crate::taking::{Taken, take_in};
@@ -28,6 +29,8 @@ const MOST_DROPPED: usize = 32;
 pub(crate) enum Stage {
     /// Its request comes in.
     Asking(Collected),
+    /// Its request came, and its answer is left to be signed; whether it is let go at once when it has that.
+    Waiting(bool),
     /// Its answer goes out; whether it is let go at once then.
     Answering(Unsent, bool),
     /// It has its answer, and what it still sends is dropped.
@@ -41,6 +44,8 @@ pub enum Next {
     Due,
     /// It is waited for.
     Waits(Interest),
+    /// It waits, and is not watched.
+    Rests,
     /// It is to be let go.
     Gone,
 }
@@ -91,6 +96,8 @@ pub struct Caller<S: Link> {
     pub(crate) stage: Stage,
     /// By what fault no more of its request is waited for, if by one.
     pub(crate) fault: Option<Lost>,
+    /// Whether its side has ended while it waits for its answer.
+    pub(crate) has_ended: bool,
     pub(crate) until: u64,
     pub(crate) number: u64,
     pub(crate) is_registered: bool,
@@ -104,6 +111,7 @@ impl<S: Link> Caller<S> {
             peer,
             stage: Stage::Asking(Collected::new(alloc)),
             fault: None,
+            has_ended: false,
             until: now.saturating_add(PATIENCE),
             number,
             is_registered: false,
@@ -113,6 +121,11 @@ impl<S: Link> Caller<S> {
     /// Whether its request still comes in.
     pub fn is_asking(&self) -> bool {
         matches!(self.stage, Stage::Asking(_))
+    }
+
+    /// Whether its answer is left to be signed.
+    pub fn is_waiting(&self) -> bool {
+        matches!(self.stage, Stage::Waiting(_))
     }
 
     /// Whether its time is over.
@@ -143,6 +156,7 @@ impl<S: Link> Caller<S> {
     pub fn advance(&mut self, room: &mut [u8], now: u64) -> Next {
         match &self.stage {
             Stage::Asking(_) => self.take(room),
+            Stage::Waiting(_) => self.wait(room),
             Stage::Answering(..) => match self.send() {
                 After::Waits => Next::Waits(Interest::WRITABLE),
                 After::Finished => self.finish(now),
@@ -162,9 +176,26 @@ impl<S: Link> Caller<S> {
                 self.fault = fault_of(taken);
                 after_taking(taken)
             }
+            Stage::Waiting(_) => Next::Gone,
             Stage::Answering(..) => Next::Gone,
             Stage::Leaving => Next::Gone,
         }
+    }
+
+    /// Drops what the peer still sends while it waits for its answer, and sees whether it goes.
+    fn wait(&mut self, room: &mut [u8]) -> Next {
+        for _ in 0..MOST_DROPPED {
+            match self.link.read(room) {
+                Ok(0) => {
+                    self.has_ended = true;
+                    return Next::Rests;
+                }
+                Ok(_) => {}
+                Err(error) if error.kind() == ErrorKind::WouldBlock => break,
+                Err(_) => return Next::Gone,
+            }
+        }
+        Next::Rests
     }
 
     /// Sends on its answer.
@@ -177,6 +208,7 @@ impl<S: Link> Caller<S> {
                 *is_last,
             ),
             Stage::Asking(_) => After::Gone,
+            Stage::Waiting(_) => After::Gone,
             Stage::Leaving => After::Gone,
         }
     }
@@ -213,7 +245,8 @@ impl<S: Link> Caller<S> {
         }
     }
 
-    /// Answers what came of its request, whatever it is. Who has an answer is not answered again.
+    /// Answers what came of its request, whatever it is; what is left to be signed of the answer is given. Who has an answer, or waits for
+    /// one, is not answered again.
     ///
     /// # Errors
     ///
@@ -223,21 +256,47 @@ impl<S: Link> Caller<S> {
         handler: &mut H,
         made: &mut u64,
         now: u64,
-    ) -> Result<(), Stopped>
+    ) -> Result<Option<H::Ticket>, Stopped>
         ensures exchanged { Exchanged H.answers H.tells handler.old handler.new made.old made.new }
         ensures one { made.new ≤ made.old + 1 }
-        ensures answered { OnOk result (Answering H.answers handler.old handler.new self.old.stage self.new.stage) }
+        ensures answered { IfOk result (Answering H.answers handler.old handler.new self.old.stage self.new.stage) }
         ensures err { OnErr result ((self.new ≡ self.old) × (handler.new ≡ handler.old)) }
     {
-        let text = match &self.stage {
+        let given = match &self.stage {
             Stage::Asking(collected) => answer_one(handler, made, self.peer, collected.as_slice())?,
-            Stage::Answering(..) => return Ok(()),
-            Stage::Leaving => return Ok(()),
+            Stage::Waiting(_) => return Ok(None),
+            Stage::Answering(..) => return Ok(None),
+            Stage::Leaving => return Ok(None),
         };
-        // Where nothing is sent, there is no answer that unread bytes could cost.
-        let is_last = self.is_exact() || text.is_empty();
-        self.stage = Stage::Answering(Unsent::new(text), is_last);
+        let is_exact = self.is_exact();
         self.until = now.saturating_add(PATIENCE);
-        Ok(())
+        match given {
+            Given::Whole(text) => {
+                // Where nothing is sent, there is no answer that unread bytes could cost.
+                let is_last = is_exact || text.is_empty();
+                self.stage = Stage::Answering(Unsent::new(text), is_last);
+                Ok(None)
+            }
+            Given::Left(ticket) => {
+                self.stage = Stage::Waiting(is_exact);
+                Ok(Some(ticket))
+            }
+        }
+    }
+
+    /// Gives the peer the answer that it waits for. Who does not wait is as it was.
+    pub fn tell(&mut self, text: Vec<u8>, now: u64)
+        ensures { Finishing self.old.stage self.new.stage text.items }
+    {
+        let is_exact = match &self.stage {
+            Stage::Waiting(is_exact) => *is_exact,
+            Stage::Asking(_) => return,
+            Stage::Answering(..) => return,
+            Stage::Leaving => return,
+        };
+        let is_last = is_exact || text.is_empty();
+        let unsent = Unsent::new(text);
+        self.stage = Stage::Answering(unsent, is_last);
+        self.until = now.saturating_add(PATIENCE);
     }
 }

@@ -9,6 +9,7 @@ use crate::handler::Lost;
 use crate::losses::Loss;
 use crate::places::Places;
 use crate::shared::Shared;
+use crate::signings::Asker;
 use crate::sought::{Sought, is_sought};
 use crate::watcher::FIRST_CALLER;
 use mio::Interest;
@@ -92,6 +93,11 @@ impl Callers {
         }
     }
 
+    /// Puts back a peer that was lifted out of a place, and waits for its answer.
+    pub(crate) fn put_back(&mut self, place: usize, caller: Caller<TcpStream>) {
+        self.places.put(place, caller);
+    }
+
     /// Goes on with a peer that was lifted out of a place, and puts it back unless it is to be let go.
     pub(crate) fn settle(
         &mut self,
@@ -106,6 +112,7 @@ impl Callers {
         match next {
             Next::Due => self.put_due(place, caller),
             Next::Waits(interest) => self.wait_for(place, caller, shared, interest),
+            Next::Rests => self.places.put(place, caller),
             Next::Gone => self.let_go(place, caller, shared, Lost::Broken),
         }
     }
@@ -137,7 +144,8 @@ impl Callers {
     fn let_go(&mut self, place: usize, caller: Caller<TcpStream>, shared: &mut Shared, why: Lost)
         ensures { self.new.due ≡ self.old.due }
     {
-        if caller.unsent() > 0 && caller.fault.is_none() {
+        let is_unanswered = caller.unsent() > 0 || caller.is_waiting();
+        if is_unanswered && caller.fault.is_none() {
             let peer = Some(caller.peer);
             shared.losses.note(Loss { peer, why });
         }
@@ -162,20 +170,26 @@ fn watch(caller: &mut Caller<TcpStream>, place: usize, shared: &Shared, interest
 
 /// Who is let go.
 impl Callers {
-    /// Lets one peer go: the oldest that has its answer, or else the oldest, which is answered first.
+    /// Lets one peer go: the oldest that has its answer, or else the oldest, which is answered first, unless its answer is left to be
+    /// signed.
     pub(crate) fn make_room(&mut self, shared: &mut Shared) {
         match self.oldest(Sought::Answered) {
             Some(place) => self.end(place, shared, Lost::Crowded),
-            None => self.hurry(),
+            None => self.hurry(shared),
         }
     }
 
-    /// Has the oldest peer that still asks answered as it is, for others.
-    fn hurry(&mut self) {
-        if let Some(place) = self.oldest(Sought::Asking) {
-            if let Some(mut caller) = self.places.lift(place) {
+    /// Has the oldest peer that has no answer answered as it is, for others, or lets it go.
+    fn hurry(&mut self, shared: &mut Shared) {
+        let Some(place) = self.oldest(Sought::Unanswered) else {
+            return;
+        };
+        if let Some(mut caller) = self.places.lift(place) {
+            if caller.is_asking() {
                 caller.fault = Some(Lost::Crowded);
                 self.put_due(place, caller);
+            } else {
+                self.let_go(place, caller, shared, Lost::Crowded);
             }
         }
     }
@@ -274,6 +288,48 @@ impl Callers {
             } else {
                 self.places.put(place, caller);
             }
+        }
+    }
+}
+
+/// Those whose answers are left to be signed.
+impl Callers {
+    /// Whether this peer waits for its answer.
+    pub(crate) fn is_waiting(&self, asker: Asker) -> bool {
+        match self.places.peek(asker.place) {
+            Some(caller) => caller.number == asker.number && caller.is_waiting(),
+            None => false,
+        }
+    }
+
+    /// Whether it waits, and its side has ended.
+    pub(crate) fn has_ended(&self, asker: Asker) -> bool {
+        match self.places.peek(asker.place) {
+            Some(caller) => caller.number == asker.number && caller.has_ended,
+            None => false,
+        }
+    }
+
+    /// Gives a peer the answer that it waits for, and sends it on.
+    pub(crate) fn tell(&mut self, asker: Asker, text: Vec<u8>, shared: &mut Shared, now: u64) {
+        if !self.is_waiting(asker) {
+            return;
+        }
+        if let Some(mut caller) = self.places.lift(asker.place) {
+            caller.tell(text, now);
+            self.count_unsent(0, caller.unsent());
+            self.settle(asker.place, caller, shared, now);
+            self.shed(asker.place, shared);
+        }
+    }
+
+    /// Lets a peer go that waits for its answer.
+    pub(crate) fn dismiss(&mut self, asker: Asker, shared: &mut Shared) {
+        if !self.is_waiting(asker) {
+            return;
+        }
+        if let Some(caller) = self.places.lift(asker.place) {
+            self.let_go(asker.place, caller, shared, Lost::Broken);
         }
     }
 }

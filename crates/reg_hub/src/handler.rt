@@ -1,7 +1,11 @@
 //! Who answers what the peers send.
 
 ghost use Rattle.std.specs.Prelude.{◌≡◌, ◌+◌, IfOk, OnOk, OnErr};
+ghost use Rattle.reg_hub.specs.Outcomes.{outcome_of};
 
+use crate::given::Given;
+use mio::net::UnixStream;
+use std::io;
 use std::net::SocketAddr;
 
 /// No more can be answered: the clock can't be read, or the sockets fail.
@@ -21,24 +25,45 @@ pub enum Lost {
     Memory,
 }
 
-/// What answers requests and lines, one after the other.
+/// What answers requests and lines, one after the other. What is left to be signed for an answer is asked for while others are answered.
 pub trait Handler {
     ghost use Rattle.std.specs.Prelude.{◌≡◌, ℕ, List, IfOk, OnErr};
+    ghost use Rattle.reg_hub.specs.Exchange.{Outcome};
+    ghost use Rattle.reg_hub.specs.Outcomes.{outcome_of};
 
-    // This request was answered by this text: the handler before and after it.
-    ghost answers: { Self → List ℕ → List ℕ → Self → Type 0 };
+    /// What is kept of a request until its answer is signed.
+    type Ticket: Drop;
+
+    // This came of this request: the handler before and after it.
+    ghost answers: { Self → List ℕ → Outcome Self.Ticket → Self → Type 0 };
 
     // This line was answered by this text: the handler before and after it.
     ghost tells: { Self → List ℕ → List ℕ → Self → Type 0 };
 
-    /// Answers what came of the peer at an address. Where that is no whole request, the text may be empty.
+    // This text finishes what was left of an answer.
+    ghost finishes: { Self.Ticket → List ℕ → Type 0 };
+
+    /// Answers what came of the peer at an address, or leaves what is to be signed for it. Where that is no whole request, the text may
+    /// be empty.
     ///
     /// # Errors
     ///
     /// [`Stopped`], and the handler is as it was.
-    fn answer(&mut self, peer: SocketAddr, request: &[u8]) -> Result<Vec<u8>, Stopped>
-        ensures ok { IfOk result (λ text. answers self.old request.now text.items self.new) }
+    fn answer(&mut self, peer: SocketAddr, request: &[u8]) -> Result<Given<Self::Ticket>, Stopped>
+        ensures ok { IfOk result (λ given. answers self.old request.now (outcome_of given) self.new) }
         ensures err { OnErr result (self.new ≡ self.old) };
+
+    /// Asks for the signature of what was left, and waits for nothing: the connection on which it will come, up to its end.
+    ///
+    /// # Errors
+    ///
+    /// `WouldBlock` where what signs has no room for one more; what else the system says where it can't be asked.
+    fn ask(&self, ticket: &Self::Ticket) -> io::Result<UnixStream>;
+
+    /// The text that finishes what was left: with what came on the connection on which its signature was asked for, which is at its end; or
+    /// without a signature.
+    fn finish(&self, ticket: Self::Ticket, link: Option<UnixStream>) -> Vec<u8>
+        ensures { finishes ticket result.items };
 
     /// Answers one line of a counter.
     ///
@@ -59,15 +84,15 @@ pub(crate) fn answer_one<H: Handler>(
     made: &mut u64,
     peer: SocketAddr,
     request: &[u8],
-) -> Result<Vec<u8>, Stopped>
-    ensures ok { IfOk result (λ text. H.answers handler.old request.now text.items handler.new) }
+) -> Result<Given<H::Ticket>, Stopped>
+    ensures ok { IfOk result (λ given. H.answers handler.old request.now (outcome_of given) handler.new) }
     ensures counted { OnOk result (made.new ≡ made.old + 1) }
     ensures err { OnErr result ((handler.new ≡ handler.old) × (made.new ≡ made.old)) }
 {
     let Some(count) = made.checked_add(1) else {
         return Err(Stopped);
     };
-    let text = handler.answer(peer, request)?;
+    let given = handler.answer(peer, request)?;
     *made = count;
-    Ok(text)
+    Ok(given)
 }

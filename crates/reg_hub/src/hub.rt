@@ -4,16 +4,18 @@ ghost use Rattle.std.specs.Prelude.{◌≡◌, ◌≤◌, ◌+◌, IfOk, OnOk};
 ghost use Rattle.reg_hub.specs.Exchange.{Exchanged};
 
 use crate::caller::Caller;
-use crate::callers::{Callers, SWEEP};
+use crate::callers::{Callers, MOST_CALLERS, SWEEP};
 use crate::door::Door;
 use crate::handler::{Handler, Stopped};
 use crate::losses::{Loss, Losses};
 use crate::shared::Shared;
+use crate::signings::{Asker, Pending, Signings};
 use crate::tellers::Tellers;
-use crate::watcher::{COUNTER, FIRST_CALLER, FIRST_TELLER, LISTENER};
-use mio::net::{TcpListener, TcpStream, UnixListener};
+use crate::watcher::{COUNTER, FIRST_CALLER, FIRST_SIGNING, FIRST_TELLER, LISTENER, MOST_SIGNINGS};
+use mio::net::{TcpListener, TcpStream, UnixListener, UnixStream};
 use std::alloc::AllocGlobal;
 use std::io;
+use std::io::ErrorKind;
 use std::net::Net;
 use std::time::{Clock, Duration};
 
@@ -81,7 +83,8 @@ impl Hub {
     }
 
     /// Answers so many requests, and lines at the counters meanwhile. Each peer that is accepted is one of them, and is answered
-    /// once: when its request is whole, when nothing more of it comes, when its time is over, or when it is let go for others.
+    /// once: when its request is whole, when nothing more of it comes, when its time is over, or when it is let go for others. What is
+    /// left to be signed for an answer is asked for, and nobody else waits for it: the answer is finished by [`Hub::finish`] at the latest.
     ///
     /// # Errors
     ///
@@ -90,6 +93,7 @@ impl Hub {
         &mut self,
         clock: &C,
         handler: &mut H,
+        signings: &mut Signings<H::Ticket>,
         made: &mut u64,
         most: u64,
     ) -> Result<(), Stopped>
@@ -101,7 +105,7 @@ impl Hub {
             if *made == most {
                 return Ok(());
             }
-            match self.turn(clock, handler, made, most, Duration::MAX) {
+            match self.turn(clock, handler, signings, made, most, Duration::MAX) {
                 Ok(()) => {}
                 Err(stopped) => return Err(stopped),
             }
@@ -110,7 +114,8 @@ impl Hub {
     }
 
     /// One turn: waits until something is to be done, no longer than `longest`, and does it. Each connection gets on a little,
-    /// each counter has at most one line answered, and each request that is whole is answered.
+    /// each answer whose signature came is finished, each counter has at most one line answered, each request that is whole is answered,
+    /// and what is left to be signed is asked for.
     ///
     /// # Errors
     ///
@@ -119,6 +124,7 @@ impl Hub {
         &mut self,
         clock: &C,
         handler: &mut H,
+        signings: &mut Signings<H::Ticket>,
         made: &mut u64,
         most: u64,
         longest: Duration,
@@ -127,19 +133,27 @@ impl Hub {
         ensures exchanged { Exchanged H.answers H.tells handler.old handler.new made.old made.new }
         ensures within { made.new ≤ most }
     {
-        let now = self.look(clock, most, longest)?;
+        let now = self.look(clock, signings, most, longest)?;
         self.shared.losses.tell(handler);
+        self.finish_all(handler, signings, now);
         self.tellers.tell_all(&mut self.shared, handler)?;
-        self.answer_all(handler, made, most, now)
+        let answered = self.answer_all(handler, signings, made, most, now);
+        self.ask_all(handler, signings, now);
+        answered
     }
 
-    /// Sends on what was answered, and lets everybody go, until nobody is left or the time of each is over. The handler is told of
-    /// those that end by a fault.
+    /// Sends on what was answered, finishes what is left to be signed, and lets everybody go, until nobody is left or the time of each is
+    /// over. The handler is told of those that end by a fault.
     ///
     /// # Errors
     ///
     /// [`Stopped`], where the sockets are.
-    pub fn finish<C: Clock, H: Handler>(&mut self, clock: &C, handler: &H) -> Result<(), Stopped> {
+    pub fn finish<C: Clock, H: Handler>(
+        &mut self,
+        clock: &C,
+        handler: &H,
+        signings: &mut Signings<H::Ticket>,
+    ) -> Result<(), Stopped> {
         let most = self.door.accepted;
         self.callers.leave_all(&mut self.shared);
         for _ in 0..u64::MAX {
@@ -147,7 +161,9 @@ impl Hub {
             if self.callers.taken() == 0 {
                 return Ok(());
             }
-            self.look(clock, most, Duration::MAX)?;
+            let now = self.look(clock, signings, most, Duration::MAX)?;
+            self.finish_all(handler, signings, now);
+            self.ask_all(handler, signings, now);
             self.callers.leave_due(&mut self.shared);
             self.tellers.has_lines = false;
         }
@@ -158,11 +174,17 @@ impl Hub {
 /// What is done without the handler.
 impl Hub {
     /// Waits until something is to be done, takes in and sends on, accepts, and looks for those whose time is over.
-    fn look<C: Clock>(&mut self, clock: &C, most: u64, longest: Duration) -> Result<u64, Stopped> {
-        let wait = self.wait(most).min(longest);
+    fn look<C: Clock, T: Drop>(
+        &mut self,
+        clock: &C,
+        signings: &mut Signings<T>,
+        most: u64,
+        longest: Duration,
+    ) -> Result<u64, Stopped> {
+        let wait = self.wait(signings.longest_wait(), most).min(longest);
         self.shared.watcher.wait(wait)?;
         let now = now_of(clock)?;
-        self.advance_all(now);
+        self.advance_all(signings, now);
         self.tellers.accept_all(&mut self.shared);
         self.door
             .seat_all(most, &mut self.callers, &mut self.shared, now)?;
@@ -170,10 +192,13 @@ impl Hub {
         Ok(now)
     }
 
-    /// How long may be waited.
-    fn wait(&self, most: u64) -> Duration {
+    /// How long may be waited; for signatures no longer than so many milliseconds.
+    fn wait(&self, for_signatures: Option<u64>, most: u64) -> Duration {
         if self.door.may_seat(most) || self.tellers.is_ready() || self.has_work() {
             return Duration::ZERO;
+        }
+        if let Some(millis) = for_signatures {
+            return Duration::from_millis(millis);
         }
         if self.callers.taken() == 0 {
             return Duration::from_secs(3_600);
@@ -187,23 +212,25 @@ impl Hub {
     }
 
     /// Goes on with each that is ready.
-    fn advance_all(&mut self, now: u64) {
+    fn advance_all<T: Drop>(&mut self, signings: &mut Signings<T>, now: u64) {
         for index in 0..self.shared.watcher.count() {
             if let Some(token) = self.shared.watcher.token_at(index) {
-                self.advance(token, now);
+                self.advance(token, signings, now);
             }
         }
     }
 
     /// What is ready under a token.
-    fn advance(&mut self, token: usize, now: u64) {
+    fn advance<T: Drop>(&mut self, token: usize, signings: &mut Signings<T>, now: u64) {
         if token == LISTENER {
             self.door.has_callers = true;
         } else if token == COUNTER {
             self.tellers.has_tellers = true;
-        } else if token < FIRST_CALLER {
+        } else if token < FIRST_SIGNING {
             let place = token.saturating_sub(FIRST_TELLER);
             self.tellers.advance(place, &mut self.shared);
+        } else if token < FIRST_CALLER {
+            signings.note_come(token.saturating_sub(FIRST_SIGNING));
         } else {
             let place = token.saturating_sub(FIRST_CALLER);
             self.callers.advance(place, &mut self.shared, now);
@@ -217,6 +244,7 @@ impl Hub {
     fn answer_all<H: Handler>(
         &mut self,
         handler: &mut H,
+        signings: &mut Signings<H::Ticket>,
         made: &mut u64,
         most: u64,
         now: u64,
@@ -229,7 +257,7 @@ impl Hub {
             if *made == most {
                 return Ok(());
             }
-            match self.answer_due(index, handler, made, now) {
+            match self.answer_due(index, handler, signings, made, now) {
                 Ok(()) => {}
                 Err(stopped) => return Err(stopped),
             }
@@ -243,6 +271,7 @@ impl Hub {
         &mut self,
         index: usize,
         handler: &mut H,
+        signings: &mut Signings<H::Ticket>,
         made: &mut u64,
         now: u64,
     ) -> Result<(), Stopped>
@@ -250,16 +279,17 @@ impl Hub {
         ensures one { made.new ≤ made.old + 1 }
     {
         match self.callers.due.at(index) {
-            Some(place) => self.answer_at(place, handler, made, now),
+            Some(place) => self.answer_at(place, handler, signings, made, now),
             None => Ok(()),
         }
     }
 
-    /// Answers the peer at a place, if it asks, and sends on its answer.
+    /// Answers the peer at a place, if it asks, and sends on its answer. What is left to be signed of it waits for its turn.
     fn answer_at<H: Handler>(
         &mut self,
         place: usize,
         handler: &mut H,
+        signings: &mut Signings<H::Ticket>,
         made: &mut u64,
         now: u64,
     ) -> Result<(), Stopped>
@@ -271,11 +301,146 @@ impl Hub {
         };
         let before = caller.unsent();
         note_fault(&mut caller, &mut self.shared.losses, now);
-        let answered = caller.answer(handler, made, now);
+        let number = caller.number;
+        match caller.answer(handler, made, now) {
+            Ok(Some(ticket)) => {
+                self.callers.put_back(place, caller);
+                self.leave(Asker { place, number }, ticket, handler, signings, now);
+                Ok(())
+            }
+            Ok(None) => {
+                self.send_on(place, caller, before, now);
+                Ok(())
+            }
+            Err(stopped) => {
+                self.send_on(place, caller, before, now);
+                Err(stopped)
+            }
+        }
+    }
+
+    /// Sends on the answer of a peer that was lifted out of a place, of whose answer so many bytes were not sent before.
+    fn send_on(&mut self, place: usize, caller: Caller<TcpStream>, before: usize, now: u64) {
         self.callers.count_unsent(before, caller.unsent());
         self.callers.settle(place, caller, &mut self.shared, now);
         self.callers.shed(place, &mut self.shared);
-        answered
+    }
+}
+
+/// What is left to be signed.
+impl Hub {
+    /// Has what is left to be signed for a peer wait for its turn.
+    fn leave<H: Handler>(
+        &mut self,
+        asker: Asker,
+        ticket: H::Ticket,
+        handler: &H,
+        signings: &mut Signings<H::Ticket>,
+        now: u64,
+    ) {
+        // Where there is no memory for it, nothing signs.
+        if let Err(ticket) = signings.add(ticket, asker, now) {
+            self.finish_one(asker, ticket, None, handler, now);
+        }
+    }
+
+    /// Asks for what is left to be signed, as far as there is room.
+    fn ask_all<H: Handler>(&mut self, handler: &H, signings: &mut Signings<H::Ticket>, now: u64) {
+        for _ in 0..MOST_CALLERS {
+            match signings.next(now) {
+                Some(pending) => self.ask_next(pending, handler, signings, now),
+                None => return,
+            }
+        }
+    }
+
+    /// Asks for the next, unless who waits for it has gone.
+    fn ask_next<H: Handler>(
+        &mut self,
+        pending: Pending<H::Ticket>,
+        handler: &H,
+        signings: &mut Signings<H::Ticket>,
+        now: u64,
+    ) {
+        let place = pending.asker.place;
+        self.callers.advance(place, &mut self.shared, now);
+        if !self.callers.is_waiting(pending.asker) {
+            return;
+        }
+        if self.callers.has_ended(pending.asker) {
+            self.callers.dismiss(pending.asker, &mut self.shared);
+            return;
+        }
+        match handler.ask(&pending.ticket) {
+            Ok(link) => self.watch(pending, link, handler, signings, now),
+            Err(error) if error.kind() == ErrorKind::WouldBlock => signings.put_off(pending, now),
+            Err(_) => self.finish_one(pending.asker, pending.ticket, None, handler, now),
+        }
+    }
+
+    /// Has the connection watched on which a signature was asked for.
+    fn watch<H: Handler>(
+        &mut self,
+        pending: Pending<H::Ticket>,
+        link: UnixStream,
+        handler: &H,
+        signings: &mut Signings<H::Ticket>,
+        now: u64,
+    ) {
+        if let Err(pending) = signings.hold(pending, link, &self.shared.watcher) {
+            self.finish_one(pending.asker, pending.ticket, None, handler, now);
+        }
+    }
+
+    /// Finishes the answers whose signatures came, and those whose time is over; lets those signatures go for which nobody waits.
+    fn finish_all<H: Handler>(
+        &mut self,
+        handler: &H,
+        signings: &mut Signings<H::Ticket>,
+        now: u64,
+    ) {
+        for place in 0..MOST_SIGNINGS {
+            self.finish_at(place, handler, signings, now);
+        }
+        for _ in 0..MOST_CALLERS {
+            match signings.take_late(now) {
+                Some(late) => self.finish_one(late.asker, late.ticket, None, handler, now),
+                None => return,
+            }
+        }
+    }
+
+    /// The same of the one at a place.
+    fn finish_at<H: Handler>(
+        &mut self,
+        place: usize,
+        handler: &H,
+        signings: &mut Signings<H::Ticket>,
+        now: u64,
+    ) {
+        let Some(asker) = signings.asker_at(place) else {
+            return;
+        };
+        if !self.callers.is_waiting(asker) {
+            signings.let_go(place);
+            return;
+        }
+        if let Some((pending, link)) = signings.take_done(place, now) {
+            self.finish_one(asker, pending.ticket, link, handler, now);
+        }
+    }
+
+    /// Finishes an answer, and sends it on.
+    fn finish_one<H: Handler>(
+        &mut self,
+        asker: Asker,
+        ticket: H::Ticket,
+        link: Option<UnixStream>,
+        handler: &H,
+        now: u64,
+    ) {
+        let text = handler.finish(ticket, link);
+        self.callers.tell(asker, text, &mut self.shared, now);
     }
 }
 

@@ -6,8 +6,8 @@ use mio::net::TcpStream;
 /// Whom among the peers is looked for.
 #[derive(Clone, Copy)]
 pub(crate) enum Sought {
-    /// Who still asks.
-    Asking,
+    /// Who has no answer yet.
+    Unanswered,
     /// Who has its answer.
     Answered,
     /// Whose answer is not sent, but for the peer at this place.
@@ -17,8 +17,13 @@ pub(crate) enum Sought {
 /// Whether the peer at a place is one that is looked for.
 pub(crate) fn is_sought(caller: &Caller<TcpStream>, place: usize, sought: Sought) -> bool {
     match sought {
-        Sought::Asking => caller.is_asking(),
-        Sought::Answered => !caller.is_asking(),
+        Sought::Unanswered => !has_answer(caller),
+        Sought::Answered => has_answer(caller),
         Sought::Unsent(newest) => caller.unsent() > 0 && place != newest,
     }
+}
+
+/// Whether a peer has its answer.
+fn has_answer(caller: &Caller<TcpStream>) -> bool {
+    !caller.is_asking() && !caller.is_waiting()
 }

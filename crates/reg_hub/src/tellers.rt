@@ -107,6 +107,7 @@ impl Tellers {
                 self.places.put(place, teller);
             }
             Next::Waits(interest) => self.wait_for(place, teller, shared, interest),
+            Next::Rests => self.places.put(place, teller),
             Next::Gone => {
                 if teller.unsent.len() > 0 {
                     let why = Lost::Broken;

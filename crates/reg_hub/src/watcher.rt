@@ -13,14 +13,19 @@ use std::time::Duration;
 /// The most events of a turn.
 const MOST_EVENTS: usize = 1_024;
 
-/// The tokens of the listeners; behind them come those of the counters, and then those of the peers.
+/// How many signatures are asked for at once.
+pub(crate) const MOST_SIGNINGS: usize = 32;
+
+/// The tokens of the listeners; behind them come those of the counters, of the signatures that are asked for, and of the peers.
 pub(crate) const LISTENER: usize = 0;
 
 pub(crate) const COUNTER: usize = 1;
 
 pub(crate) const FIRST_TELLER: usize = 2;
 
-pub(crate) const FIRST_CALLER: usize = 10;
+pub(crate) const FIRST_SIGNING: usize = 10;
+
+pub(crate) const FIRST_CALLER: usize = FIRST_SIGNING + MOST_SIGNINGS;
 
 /// Watches connections, and holds the tokens of those that are ready in this turn.
 #[derive(Drop)]
@@ -81,13 +86,15 @@ impl Watcher {
         Ok(())
     }
 
-    /// The tokens of what is ready.
+    /// The tokens of what is ready. A signature is, where all of it is there.
     fn copy_tokens(&mut self) {
         self.tokens.clear();
         for event in &self.events {
             let Token(token) = event.token();
-            // There is room for each event.
-            let _ = self.tokens.push(token);
+            if event.is_read_closed() || !is_of_signing(token) {
+                // There is room for each event.
+                let _ = self.tokens.push(token);
+            }
         }
     }
 
@@ -104,4 +111,9 @@ impl Watcher {
     {
         self.tokens.get(index).copied()
     }
+}
+
+/// Whether a token is one of a signature.
+fn is_of_signing(token: usize) -> bool {
+    FIRST_SIGNING <= token && token < FIRST_CALLER
 }

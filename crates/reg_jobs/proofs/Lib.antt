@@ -1,4 +1,5 @@
 pub mod Fates
+pub mod Finishing
 pub mod LineByLine
 pub mod NextLines
 pub mod Peers

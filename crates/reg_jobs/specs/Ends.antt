@@ -12,7 +12,7 @@ use Rattle.reg_calls.specs.Signatories.{Signatory}
 use Rattle.reg_faces.specs.Faces.{Lines}
 use Rattle.reg_calls.specs.Steps.{Crls}
 use Rattle.reg_calls.specs.declared.keeper.Keeper.{Ghosts as Keeper}
-use Rattle.reg_hub.specs.Exchange.{Input}
+use Rattle.reg_hub.specs.Exchange.{Input, Outcome}
 use Rattle.reg_endings.specs.Checks.{WritesIdentified, WritesIdentifier, IsNoIdentifier, IsNoOffice, IsNoSchedule, terms_of}
 use Rattle.reg_endings.specs.Endings.{store_failure}
 use Rattle.reg_endings.specs.declared.failure.Failure.{Failure}
@@ -45,6 +45,7 @@ use Rattle.reg_jobs.specs.Serving.{OpenedAt, Opens, Serves, ServedAt}
 use Rattle.reg_jobs.specs.Signing.{Signing, by_itself}
 use Rattle.reg_jobs.specs.Visits.{Visits, NotAudited, NotOpened, Makes, NotMade, ending_of, ending_of_import}
 use Rattle.reg_jobs.specs.declared.front.Front.{Ghosts as Front}
+use Rattle.reg_jobs.specs.declared.leaving.Unsigned.{Unsigned}
 use Rattle.reg_jobs.specs.declared.place.Place.{Ghosts as Place}
 
 -- a text is said and the job is done; or a front of it, where the writer fails
@@ -143,20 +144,20 @@ module _ {W P K : Type 0} (contents : W → Option (List ℕ)) (writer writer' :
         × ((start between : P) × Claims path start × MakesAt start between path issuer terms result × Leaves path start between result))
 
     -- HTTP requests over the register at a path (RFC 9112), which is opened before the port is bound: what came of each peer and what
-    -- answered it, in this order
+    -- came of that, in this order
     abbrev pub ServeAt : {F : Type 0} → Front F → List ℕ → Option KeyHolder → Answerer → ℕ → ℕ → Result (Unit {0}) Failure → Type 0
     ServeAt front path signer answerer port requests result =
         (NotOpened places keeper place place' path (Some (signer, answerer)) result × (writer' ≡ writer))
-        ⊎ ((inputs : List Input) × (texts : List (List ℕ))
-        × Visits places keeper place place' path (Some (signer, answerer)) (Serves keeper.signs front.told inputs texts)
+        ⊎ ((inputs : List Input) × (outcomes : List (Outcome Unsigned))
+        × Visits places keeper place place' path (Some (signer, answerer)) (Serves keeper.signs places.gave front.told inputs outcomes)
         × ServedAt contents writer writer' front.bound port requests inputs result)
 
     -- the same, and lines at a counter, until the program is ended
     abbrev pub OpenAt : {F : Type 0} → Front F → List ℕ → Option KeyHolder → Answerer → ℕ → List ℕ → Result (Unit {0}) Failure → Type 0
     OpenAt front path signer answerer port counter result =
         (NotOpened places keeper place place' path (Some (signer, answerer)) result × (writer' ≡ writer))
-        ⊎ ((inputs : List Input) × (texts : List (List ℕ))
-        × Visits places keeper place place' path (Some (signer, answerer)) (Opens keeper.signs front.told inputs texts)
+        ⊎ ((inputs : List Input) × (outcomes : List (Outcome Unsigned))
+        × Visits places keeper place place' path (Some (signer, answerer)) (Opens keeper.signs places.gave front.told inputs outcomes)
         × OpenedAt contents writer writer' front.bound front.laid port counter inputs result)
 
 -- A job over what is read and what is written: the reader and the writer before it and after it.

@@ -62,5 +62,5 @@ abbrev pub Entry : Signs → (ℕ → Type 0) → Signatory → Records → List
 Entry signs told identity before line text after = (now : ℕ) × told now × EntryAt signs now identity before line text after
 
 -- where there is no counter, no line comes
-abbrev pub NoEntry : {S : Type 0} → S → List ℕ → List ℕ → S → Type 0
-NoEntry before line text after = ⊥
+abbrev pub NoEntry : {S A : Type 0} → S → List ℕ → A → S → Type 0
+NoEntry before line answer after = ⊥

@@ -3,6 +3,7 @@ pub mod Digest
 pub mod Ends
 pub mod Exchanges
 pub mod Failing
+pub mod Leaving
 pub mod Lined
 pub mod Log
 pub mod Sample

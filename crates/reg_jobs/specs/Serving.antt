@@ -6,21 +6,34 @@ use Rattle.reg_core.specs.Records.{Records}
 use Rattle.reg_core.specs.declared.refusal.Fault.TheVariants as fault
 use Rattle.reg_calls.specs.Signatories.{Signatory}
 use Rattle.reg_calls.specs.Steps.{Signs}
-use Rattle.reg_hub.specs.Exchange.{Input, Handles, asked_in}
+use Rattle.reg_hub.specs.Exchange.{Input, Outcome, Handles, asked_in}
 use Rattle.reg_endings.specs.declared.failure.Failure.{Failure}
 use Rattle.reg_endings.specs.declared.failure.Failure.TheVariants as failure
 use Rattle.reg_jobs.specs.Exchanges.{Entry, Exchange, NoEntry}
+use Rattle.reg_jobs.specs.Leaving.{Finished, Meets}
+use Rattle.reg_jobs.specs.declared.leaving.Unsigned.{Unsigned}
 use Rattle.reg_wire.specs.Put.{AppendsFront}
 use Rattle.reg_wire.specs.Run.{Answered}
 
+-- What came of a request: its text is that of an exchange; or its answer was left to be signed, and whatever text finishes that is of one. In
+-- both the exchange is one over the records as they are where it stands among the others: so each answer is what they say at one moment
+-- between its request and its sending, and a revocation that was answered before is in it. What signs gave what finishes it (`gave`).
+abbrev pub Exchanging
+    : Signs → (List ℕ → List ℕ → Type 0) → (ℕ → Type 0) → Signatory → Records → List ℕ → Outcome Unsigned → Records → Type 0
+Exchanging signs gave told identity before request outcome after =
+    Meets (Finished gave) (λ text. Exchange signs told identity before request text after) outcome
+
 -- what peers made of the records: exchanges, one after the other, and nothing else
-abbrev pub Serves : Signs → (ℕ → Type 0) → List Input → List (List ℕ) → Signatory → Records → Records → Type 0
-Serves signs told inputs texts identity before after = Answered (Handles (Exchange signs told identity) NoEntry) before inputs texts after
+abbrev pub Serves
+    : Signs → (List ℕ → List ℕ → Type 0) → (ℕ → Type 0) → List Input → List (Outcome Unsigned) → Signatory → Records → Records → Type 0
+Serves signs gave told inputs outcomes identity before after =
+    Answered (Handles (Exchanging signs gave told identity) NoEntry) before inputs outcomes after
 
 -- what peers and lines at counters made of the records, one after the other, and nothing else
-abbrev pub Opens : Signs → (ℕ → Type 0) → List Input → List (List ℕ) → Signatory → Records → Records → Type 0
-Opens signs told inputs texts identity before after =
-    Answered (Handles (Exchange signs told identity) (Entry signs told identity)) before inputs texts after
+abbrev pub Opens
+    : Signs → (List ℕ → List ℕ → Type 0) → (ℕ → Type 0) → List Input → List (Outcome Unsigned) → Signatory → Records → Records → Type 0
+Opens signs gave told inputs outcomes identity before after =
+    Answered (Handles (Exchanging signs gave told identity) (Entry signs told identity)) before inputs outcomes after
 
 -- this machine alone: the address of the loopback interface (RFC 1122 3.2.1.3)
 abbrev pub loopback : List ℕ

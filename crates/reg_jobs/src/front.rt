@@ -1,6 +1,6 @@
 //! A clock, ports and sockets.
 
-use mio::net::{TcpListener, UnixListener};
+use mio::net::{TcpListener, UnixListener, UnixStream as UnwaitingStream};
 use reg_core::{Fault, Moment};
 use std::io;
 use std::os::unix::net::UnixStream;
@@ -59,6 +59,14 @@ pub trait Front {
     /// What the system says where nobody listens there.
     fn meet(&self, path: &str) -> io::Result<UnixStream>
         ensures { OnOk result (met path.now) };
+
+    /// Asks what listens at the socket at a path for the answer to a message, and waits for nothing: the connection on which the answer
+    /// will come, up to its end.
+    ///
+    /// # Errors
+    ///
+    /// `WouldBlock` where the socket has no room for one more; what else the system says where nothing can be asked there.
+    fn ask(&self, path: &str, message: &[u8]) -> io::Result<UnwaitingStream>;
 
     /// Whether exchanges are told in a log.
     fn has_log(&self) -> bool;

@@ -1,6 +1,8 @@
 //! A desk, as it answers who comes: peers, and lines at a counter.
 
 ghost use Rattle.std.specs.Prelude.{◌≡◌, ◌⊎◌, ◌↔◌, ◌<◌, ◌++◌, ◌∷◌, [], ℕ, List, Some, IfOk, IsTrue, OnOk, OnErr};
+ghost use Rattle.reg_hub.specs.Outcomes.{outcome_of};
+ghost use Rattle.reg_jobs.specs.Leaving.{Finished, FinishesAt, Meets};
 ghost use Rattle.reg_core.specs.Lines.{fault_line};
 ghost use Rattle.reg_faces.specs.Faces.{Lines};
 ghost use Rattle.reg_calls.specs.Leads.{Leads};
@@ -9,19 +11,24 @@ ghost use Rattle.reg_heads.specs.Response.{memory_text};
 ghost use Rattle.reg_jobs.specs.Exchanges.{Entry, EntryAt, Exchange, ExchangeAt, LineRuns, Replied, Responded, line_at};
 
 use crate::front::Front;
+use crate::leaving::{Unsigned, ask_for, finish_logged, unsigned_of};
 use crate::logging::{began, log_answer, log_line, log_lost};
 use crate::place::Place;
+use mio::net::UnixStream;
 use reg_calls::Keeper;
 use reg_core::{Fault, Moment};
-use reg_faces::{run_script, serve_one};
+use reg_faces::{begin_one, run_script};
 use reg_heads::write_memory_fault;
-use reg_hub::{Handler, Lost, Stopped};
+use reg_hub::{Given, Handler, Lost, Stopped};
+use reg_ocsp::Draft;
 use std::alloc::{AllocError, Global};
+use std::io;
+use std::io::ErrorKind;
 use std::net::SocketAddr;
 
 /// The bytes of room that are made for the text of a response before anything is asked. Each response that tells of something entered
 /// fits, and so do most of an OCSP answer: memory can't be wanting for them once the office was asked.
-const TEXT_ROOM: usize = 4_096;
+pub(crate) const TEXT_ROOM: usize = 4_096;
 
 /// A desk that answers peers, each at a moment of the clock, and has no counter.
 #[derive(Drop)]
@@ -29,6 +36,8 @@ pub(crate) struct ServedDesk<'a, P: Place, F: Front> {
     pub(crate) office: P::Opened,
     pub(crate) alloc: Global,
     pub(crate) front: &'a F,
+    /// The socket of who signs OCSP answers, where what holds a key does.
+    pub(crate) signer: Option<&'a str>,
 }
 
 /// A desk that answers peers and lines at counters, each at a moment of the clock.
@@ -37,7 +46,13 @@ pub(crate) struct OpenDesk<'a, P: Place, F: Front> {
     pub(crate) office: P::Opened,
     pub(crate) alloc: Global,
     pub(crate) front: &'a F,
+    /// The socket of who signs OCSP answers, where what holds a key does.
+    pub(crate) signer: Option<&'a str>,
 }
+
+/// What is left to be signed where nobody asks over HTTP: nothing.
+#[derive(Drop)]
+pub(crate) struct NoTicket;
 
 /// A desk that runs lines, each at a moment of the clock, and has no peers.
 #[derive(Drop)]
@@ -56,15 +71,29 @@ pub(crate) struct LinedDesk<K: Keeper> {
 
 impl<'a, P: Place, F: Front> Handler for ServedDesk<'a, P, F> {
     ghost use Rattle.reg_calls.specs.Leads.{Leads};
+    ghost use Rattle.reg_jobs.specs.Leaving.{Finished, Meets};
     ghost use Rattle.reg_jobs.specs.Exchanges.{Exchange, NoEntry};
 
-    ghost answers = { λ s request text t. Leads P.Opened.is_clean P.Opened.stands
-        (λ identity before after. Exchange P.Opened.signs F.told identity before request text after) s.office t.office };
+    type Ticket = Unsigned;
+
+    ghost answers = { λ s request outcome t. Leads P.Opened.is_clean P.Opened.stands
+        (λ identity before after. Meets (Finished P.gave) (λ text. Exchange P.Opened.signs F.told identity before request text after) outcome)
+        s.office t.office };
 
     ghost tells = { NoEntry };
 
-    fn answer(&mut self, peer: SocketAddr, request: &[u8]) -> Result<Vec<u8>, Stopped> {
-        answer_now::<P, F>(self.alloc, &mut self.office, self.front, peer, request)
+    ghost finishes = { Finished P.gave };
+
+    fn answer(&mut self, peer: SocketAddr, request: &[u8]) -> Result<Given<Unsigned>, Stopped> {
+        begin_now::<P, F>(self.alloc, &mut self.office, self.front, peer, request)
+    }
+
+    fn ask(&self, ticket: &Unsigned) -> io::Result<UnixStream> {
+        ask_for(self.front, self.signer, ticket)
+    }
+
+    fn finish(&self, ticket: Unsigned, link: Option<UnixStream>) -> Vec<u8> {
+        finish_logged::<P, F>(self.alloc, self.front, ticket, link)
     }
 
     fn tell(&mut self, _line: &[u8]) -> Result<Vec<u8>, Stopped> {
@@ -78,16 +107,30 @@ impl<'a, P: Place, F: Front> Handler for ServedDesk<'a, P, F> {
 
 impl<'a, P: Place, F: Front> Handler for OpenDesk<'a, P, F> {
     ghost use Rattle.reg_calls.specs.Leads.{Leads};
+    ghost use Rattle.reg_jobs.specs.Leaving.{Finished, Meets};
     ghost use Rattle.reg_jobs.specs.Exchanges.{Exchange, Entry};
 
-    ghost answers = { λ s request text t. Leads P.Opened.is_clean P.Opened.stands
-        (λ identity before after. Exchange P.Opened.signs F.told identity before request text after) s.office t.office };
+    type Ticket = Unsigned;
+
+    ghost answers = { λ s request outcome t. Leads P.Opened.is_clean P.Opened.stands
+        (λ identity before after. Meets (Finished P.gave) (λ text. Exchange P.Opened.signs F.told identity before request text after) outcome)
+        s.office t.office };
 
     ghost tells = { λ s line text t. Leads P.Opened.is_clean P.Opened.stands
         (λ identity before after. Entry P.Opened.signs F.told identity before line text after) s.office t.office };
 
-    fn answer(&mut self, peer: SocketAddr, request: &[u8]) -> Result<Vec<u8>, Stopped> {
-        answer_now::<P, F>(self.alloc, &mut self.office, self.front, peer, request)
+    ghost finishes = { Finished P.gave };
+
+    fn answer(&mut self, peer: SocketAddr, request: &[u8]) -> Result<Given<Unsigned>, Stopped> {
+        begin_now::<P, F>(self.alloc, &mut self.office, self.front, peer, request)
+    }
+
+    fn ask(&self, ticket: &Unsigned) -> io::Result<UnixStream> {
+        ask_for(self.front, self.signer, ticket)
+    }
+
+    fn finish(&self, ticket: Unsigned, link: Option<UnixStream>) -> Vec<u8> {
+        finish_logged::<P, F>(self.alloc, self.front, ticket, link)
     }
 
     fn tell(&mut self, line: &[u8]) -> Result<Vec<u8>, Stopped> {
@@ -103,13 +146,27 @@ impl<'a, K: Keeper, F: Front> Handler for ClockedDesk<'a, K, F> {
     ghost use Rattle.reg_calls.specs.Leads.{Leads};
     ghost use Rattle.reg_jobs.specs.Exchanges.{Entry, NoEntry};
 
+    type Ticket = NoTicket;
+
     ghost answers = { NoEntry };
 
     ghost tells = { λ s line text t. Leads K.is_clean K.stands
         (λ identity before after. Entry K.signs F.told identity before line text after) s.office t.office };
 
-    fn answer(&mut self, _peer: SocketAddr, _request: &[u8]) -> Result<Vec<u8>, Stopped> {
+    ghost finishes = { λ ticket text. Unit {0} };
+
+    fn answer(&mut self, _peer: SocketAddr, _request: &[u8]) -> Result<Given<NoTicket>, Stopped> {
         Err(Stopped)
+    }
+
+    fn ask(&self, _ticket: &NoTicket) -> io::Result<UnixStream> {
+        Err(io::Error::from(ErrorKind::NotFound))
+    }
+
+    fn finish(&self, _ticket: NoTicket, _link: Option<UnixStream>) -> Vec<u8>
+        ensures { Unit {0} }
+    {
+        Vec::new(self.alloc)
     }
 
     fn tell(&mut self, line: &[u8]) -> Result<Vec<u8>, Stopped> {
@@ -123,13 +180,27 @@ impl<K: Keeper> Handler for LinedDesk<K> {
     ghost use Rattle.reg_calls.specs.Leads.{Leads};
     ghost use Rattle.reg_jobs.specs.Exchanges.{LineRuns, NoEntry};
 
+    type Ticket = NoTicket;
+
     ghost answers = { NoEntry };
 
     ghost tells = { λ s line text t. Leads K.is_clean K.stands
         (λ identity before after. LineRuns K.signs identity before line text after) s.office t.office };
 
-    fn answer(&mut self, _peer: SocketAddr, _request: &[u8]) -> Result<Vec<u8>, Stopped> {
+    ghost finishes = { λ ticket text. Unit {0} };
+
+    fn answer(&mut self, _peer: SocketAddr, _request: &[u8]) -> Result<Given<NoTicket>, Stopped> {
         Err(Stopped)
+    }
+
+    fn ask(&self, _ticket: &NoTicket) -> io::Result<UnixStream> {
+        Err(io::Error::from(ErrorKind::NotFound))
+    }
+
+    fn finish(&self, _ticket: NoTicket, _link: Option<UnixStream>) -> Vec<u8>
+        ensures { Unit {0} }
+    {
+        Vec::new(self.alloc)
     }
 
     fn tell(&mut self, line: &[u8]) -> Result<Vec<u8>, Stopped> {
@@ -139,21 +210,22 @@ impl<K: Keeper> Handler for LinedDesk<K> {
     fn lose(&self, _peer: Option<SocketAddr>, _why: Lost) {}
 }
 
-/// Answers what came of a peer, at the moment of the clock.
-fn answer_now<P: Place, F: Front>(
+/// Answers what came of a peer, at the moment of the clock, or leaves what is to be signed for it.
+fn begin_now<P: Place, F: Front>(
     alloc: Global,
     office: &mut P::Opened,
     front: &F,
     peer: SocketAddr,
     request: &[u8],
-) -> Result<Vec<u8>, Stopped>
-    ensures ok { IfOk result (λ text. Leads P.Opened.is_clean P.Opened.stands
-        (λ identity before after. Exchange P.Opened.signs F.told identity before request.now text.items after)
+) -> Result<Given<Unsigned>, Stopped>
+    ensures ok { IfOk result (λ given. Leads P.Opened.is_clean P.Opened.stands
+        (λ identity before after. Meets (Finished P.gave) (λ text. Exchange P.Opened.signs F.told identity before request.now text after)
+        (outcome_of given))
         office.old office.new) }
     ensures err { OnErr result (office.new ≡ office.old) }
 {
     match front.moment() {
-        Ok(now) => Ok(answer_logged::<P, F>(alloc, office, front, now, peer, request)),
+        Ok(now) => Ok(begin_logged::<P, F>(alloc, office, front, now, peer, request)),
         Err(_) => Err(Stopped),
     }
 }
@@ -194,24 +266,30 @@ fn tell_clocked<K: Keeper, F: Front>(
     }
 }
 
-/// Answers what came of a peer, at a moment, and puts that into the log, where there is one.
-fn answer_logged<P: Place, F: Front>(
+/// Answers what came of a peer, at a moment, and puts that into the log, where there is one; or leaves what is to be signed for it.
+fn begin_logged<P: Place, F: Front>(
     alloc: Global,
     office: &mut P::Opened,
     front: &F,
     now: Moment,
     peer: SocketAddr,
     request: &[u8],
-) -> Vec<u8>
+) -> Given<Unsigned>
     ensures { Leads P.Opened.is_clean P.Opened.stands
-        (λ identity before after. ExchangeAt P.Opened.signs now identity before request.now result.items after) office.old office.new }
+        (λ identity before after. Meets (Finished P.gave) (λ text. ExchangeAt P.Opened.signs now identity before request.now text after)
+        (outcome_of result))
+        office.old office.new }
 {
     let began = began(front);
     let failures = P::failures(office);
-    let text = answer_at(alloc, office, now, request);
-    let is_unsigned = has_failed::<P>(office, failures);
-    log_answer(alloc, front, began, now, peer, request, &text, is_unsigned);
-    text
+    match begin_at::<P>(alloc, office, now, request) {
+        Given::Whole(text) => {
+            let is_unsigned = has_failed::<P>(office, failures);
+            log_answer(alloc, front, began, now, peer, request, &text, is_unsigned);
+            Given::Whole(text)
+        }
+        Given::Left(draft) => Given::Left(unsigned_of(alloc, draft, now, began, peer, request)),
+    }
 }
 
 /// Whether a signature did not come since the counts of those were these: of a CRL, or of an OCSP answer.
@@ -225,36 +303,49 @@ fn has_failed<P: Place>(office: &P::Opened, failures: (u64, u64)) -> bool
     failures.1 < answers
 }
 
-/// Answers what came of a peer, at a moment. Room for the text is made before anything is asked.
-fn answer_at<K: Keeper>(alloc: Global, office: &mut K, now: Moment, request: &[u8]) -> Vec<u8>
-    ensures { Leads K.is_clean K.stands (λ identity before after. ExchangeAt K.signs now identity before request.now result.items after)
+/// Answers what came of a peer, at a moment, or leaves what is to be signed for it. Room for the text is made before anything is asked.
+fn begin_at<P: Place>(
+    alloc: Global,
+    office: &mut P::Opened,
+    now: Moment,
+    request: &[u8],
+) -> Given<Draft>
+    ensures { Leads P.Opened.is_clean P.Opened.stands
+        (λ identity before after. Meets (λ draft text. FinishesAt P.gave draft now text)
+        (λ text. ExchangeAt P.Opened.signs now identity before request.now text after) (outcome_of result))
         office.old office.new }
 {
     match Vec::with_capacity(alloc, TEXT_ROOM) {
-        Ok(text) => answer_in(alloc, office, now, request, text),
-        Err(_) => Vec::new(alloc),
+        Ok(text) => begin_in::<P>(alloc, office, now, request, text),
+        Err(_) => Given::Whole(Vec::new(alloc)),
     }
 }
 
-/// Answers what came of a peer, at a moment, in a room that is empty.
-fn answer_in<K: Keeper>(
+/// Answers what came of a peer, at a moment, in a room that is empty, or leaves what is to be signed for it.
+fn begin_in<P: Place>(
     alloc: Global,
-    office: &mut K,
+    office: &mut P::Opened,
     now: Moment,
     request: &[u8],
     mut text: Vec<u8>,
-) -> Vec<u8>
+) -> Given<Draft>
     requires { text.items ≡ [] }
-    ensures { Leads K.is_clean K.stands (λ identity before after. ExchangeAt K.signs now identity before request.now result.items after)
+    ensures { Leads P.Opened.is_clean P.Opened.stands
+        (λ identity before after. Meets (λ draft text. FinishesAt P.gave draft now text)
+        (λ text. ExchangeAt P.Opened.signs now identity before request.now text after) (outcome_of result))
         office.old office.new }
 {
     let mut reader = request;
-    let served = serve_one(alloc, &mut reader, &mut text, now, office);
-    response_of(served, text)
+    let begun = begin_one(alloc, &mut reader, &mut text, now, office);
+    match begun {
+        Ok(None) => Given::Whole(response_of(Ok(()), text)),
+        Ok(Some(draft)) => Given::Left(draft),
+        Err(fault) => Given::Whole(response_of(Err(fault), text)),
+    }
 }
 
 /// The answer to a request whose serving ended so, over what it wrote.
-fn response_of(served: Result<(), Fault>, written: Vec<u8>) -> Vec<u8>
+pub(crate) fn response_of(served: Result<(), Fault>, written: Vec<u8>) -> Vec<u8>
     ensures { Responded served written.items result.items }
 {
     match served {

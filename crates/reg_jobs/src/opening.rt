@@ -2,14 +2,15 @@
 
 ghost use Rattle.std.specs.Prelude.{◌≡◌, ◌⊎◌, ℕ, List, OnOk, IfErr};
 ghost use Rattle.reg_calls.specs.Leads.{Leads};
-ghost use Rattle.reg_hub.specs.Exchange.{Input};
+ghost use Rattle.reg_hub.specs.Exchange.{Input, Outcome};
 ghost use Rattle.reg_jobs.specs.Ends.{OpenAt};
+ghost use Rattle.reg_jobs.specs.declared.leaving.Unsigned.{Unsigned};
 ghost use Rattle.reg_jobs.specs.Serving.{OpenedAt, Opens, loopback};
 
 use crate::front::Front;
 use crate::handling::OpenDesk;
 use crate::place::Place;
-use crate::serving::{LOOPBACK, hub_over, serve_hub};
+use crate::serving::{LOOPBACK, answers_at, hub_over, serve_hub};
 use reg_core::Fault;
 use reg_endings::Failure;
 use reg_hub::Hub;
@@ -37,6 +38,7 @@ pub fn hold_open<P: Place, F: Front, W: Write>(
         office,
         alloc,
         front,
+        signer: answers_at(signer, answerer),
     };
     let ending = keep_open(rt, &mut opened, port, counter, writer);
     place.close(path, opened.office);
@@ -51,8 +53,8 @@ fn keep_open<P: Place, F: Front, W: Write>(
     counter: &str,
     writer: &mut W,
 ) -> Result<(), Failure>
-    ensures { (inputs : List Input) × (texts : List (List ℕ))
-        × Leads P.Opened.is_clean P.Opened.stands (Opens P.Opened.signs F.told inputs texts) opened.old.office opened.new.office
+    ensures { (inputs : List Input) × (outcomes : List (Outcome Unsigned))
+        × Leads P.Opened.is_clean P.Opened.stands (Opens P.Opened.signs P.gave F.told inputs outcomes) opened.old.office opened.new.office
         × OpenedAt W.contents writer.old writer.new F.bound F.laid port counter.now inputs result }
 {
     let mut hub = match hub_with_counter(rt, opened.front, port, counter) {

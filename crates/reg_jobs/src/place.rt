@@ -1,5 +1,6 @@
 //! A place where registers lie.
 
+use mio::net::UnixStream;
 use reg_calls::Keeper;
 use reg_core::{Label, Memory, Policy, Schedule};
 use reg_der::Issuer;
@@ -13,7 +14,7 @@ use std::alloc::Global;
 /// register was opened, made or closed. Each call that may change the place is stated by a relation of the place before and
 /// after it: so a clause that leads from one place to another by such calls says that nothing else was done there.
 pub trait Place {
-    ghost use Rattle.std.specs.Prelude.{◌≡◌, ℕ, List, Some, None, IsTrue, IsFalse, OnErr, IfOk, IfErr};
+    ghost use Rattle.std.specs.Prelude.{◌≡◌, ◌≤◌, ℕ, List, Some, None, IsTrue, IsFalse, OnErr, IfOk, IfErr, IfSome, length};
     ghost use Rattle.reg_calls.specs.Leads.{Leads};
     ghost use Rattle.reg_core.specs.Records.{no_records};
     ghost use Rattle.reg_calls.specs.Signatories.{Signatory};
@@ -22,6 +23,8 @@ pub trait Place {
     ghost use Rattle.reg_jobs.specs.Identifiers.{Identifies};
     ghost use Rattle.reg_jobs.specs.Schedules.{Reschedules};
     ghost use Rattle.reg_jobs.specs.Signing.{Signing};
+    ghost use Rattle.reg_crl.specs.Signing.{Identity};
+    ghost use Rattle.reg_signer.specs.Forms.{HasForm};
     ghost use Rattle.reg_findings.specs.declared.verdict.Verdict.{Verdict as Verdicts};
     ghost use Rattle.reg_tables.specs.Stays.{IsCallFault};
 
@@ -57,6 +60,19 @@ pub trait Place {
 
     /// For this no audit was had of what lies at the path.
     ghost unaudited: { Self → List ℕ → Failing → Type 0 };
+
+    /// What holds a key gave this answer to this message.
+    ghost gave: { List ℕ → List ℕ → Type 0 };
+
+    /// What it gave is a signature, where it has the form of one.
+    ghost gave_signs: { (identity : Identity) (message answer : List ℕ) → gave message answer → HasForm identity answer
+        → Self.Opened.signs identity message answer };
+
+    /// What came for a message on the connection on which its answer was asked for, up to the end. `None` where that is not its end yet,
+    /// or is behind 4,096 bytes, and for want of memory.
+    fn hear(alloc: Global, link: &mut UnixStream, message: &[u8]) -> Option<Vec<u8>>
+        ensures given { IfSome result (λ answer. gave message.now answer.items) }
+        ensures short { IfSome result (λ answer. length answer.items ≤ 4096) };
 
     /// Lays an empty file at a path where nothing lies, and no log either, in one step, so that of two who do so at once one
     /// has it; and answers whether it did. Its owner alone may read and write it. A link that leads nowhere is something that

@@ -4,7 +4,7 @@ ghost use Rattle.std.specs.Prelude.{◌↔◌, IsTrue};
 ghost use Rattle.reg_jobs.specs.Sealing.{IsFirstCrl, IsFirstSealed, sealed_line};
 
 use crate::front::Front;
-use reg_calls::{Calls, Keeper};
+use reg_calls::{Begun, Calls, Keeper};
 use reg_core::{Command, Fault, Memory, Moment, Outcome, Query, Reply};
 use std::alloc::Global;
 
@@ -31,6 +31,8 @@ impl<'a, K: Keeper, F: Front> Calls for Sealing<'a, K, F> {
 
     ghost ocsps = { λ s now request given t. K.ocsps s.office now request given t.office };
 
+    ghost drafts = { λ s now request draft t. K.drafts s.office now request draft t.office };
+
     ghost crls = { λ s number given t. K.crls s.office number given t.office };
 
     fn run_one(&mut self, alloc: Global, now: Moment, command: &Command) -> Outcome {
@@ -47,6 +49,10 @@ impl<'a, K: Keeper, F: Front> Calls for Sealing<'a, K, F> {
 
     fn ocsp(&mut self, alloc: Global, now: Moment, request: &[u8]) -> Result<Vec<u8>, Memory> {
         self.office.ocsp(alloc, now, request)
+    }
+
+    fn begin_ocsp(&mut self, alloc: Global, now: Moment, request: &[u8]) -> Result<Begun, Memory> {
+        self.office.begin_ocsp(alloc, now, request)
     }
 
     fn crl_bytes(&mut self, alloc: Global, number: Option<u64>) -> Result<Vec<u8>, Fault> {
@@ -74,6 +80,8 @@ impl<'a, K: Keeper, F: Front> Keeper for Sealing<'a, K, F> {
     ghost asks_unsigned = { λ s now query outcome t asked. K.asks_unsigned s.office now query outcome t.office asked };
 
     ghost ocsps_lead = { λ s now request given t asked. K.ocsps_lead s.office now request given t.office asked };
+
+    ghost drafts_lead = { λ s now request draft t drafted. K.drafts_lead s.office now request draft t.office drafted };
 
     ghost crls_lead = { λ s number given t asked. K.crls_lead s.office number given t.office asked };
 }

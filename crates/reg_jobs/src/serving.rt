@@ -2,8 +2,9 @@
 
 ghost use Rattle.std.specs.Prelude.{◌≡◌, ◌≢◌, ◌⊎◌, ◌++◌, ◌∷◌, [], ℕ, List, decimal, OnOk, IfErr, MatchResult};
 ghost use Rattle.reg_calls.specs.Leads.{Leads};
-ghost use Rattle.reg_hub.specs.Exchange.{Input, Handles, asked_in};
+ghost use Rattle.reg_hub.specs.Exchange.{Input, Outcome, Handles, asked_in};
 ghost use Rattle.reg_jobs.specs.Ends.{Says, ServeAt};
+ghost use Rattle.reg_jobs.specs.declared.leaving.Unsigned.{Unsigned};
 ghost use Rattle.reg_jobs.specs.Serving.{Served, ServedAt, Serves, listening, loopback};
 ghost use Rattle.reg_wire.specs.Run.{Answered};
 
@@ -14,7 +15,7 @@ use crate::telling::say;
 use mio::net::{TcpListener, UnixListener};
 use reg_core::{Decimal, Fault};
 use reg_endings::Failure;
-use reg_hub::{Handler, Hub, MOST_CALLERS};
+use reg_hub::{Handler, Hub, MOST_CALLERS, Signings};
 use reg_words::{Answerer, KeyHolder};
 use std::io::{ErrorKind, Write};
 
@@ -41,10 +42,22 @@ pub fn serve<P: Place, F: Front, W: Write>(
         office,
         alloc,
         front,
+        signer: answers_at(signer, answerer),
     };
     let ending = serve_desk(rt, &mut served, port, requests, writer);
     place.close(path, served.office);
     ending
+}
+
+/// The socket of what signs OCSP answers, where what holds a key does: the responder's, or else the one that signs CRLs.
+pub(crate) fn answers_at<'a>(
+    signer: &'a Option<KeyHolder<'_>>,
+    answerer: &'a Answerer<'_>,
+) -> Option<&'a str> {
+    match answerer {
+        Answerer::Delegate { holder, .. } => Some(holder.socket.as_str()),
+        Answerer::Issuer { .. } => Some(signer.as_ref()?.socket.as_str()),
+    }
 }
 
 /// Binds the port, tells it, and answers so many peers.
@@ -55,8 +68,8 @@ fn serve_desk<P: Place, F: Front, W: Write>(
     requests: u32,
     writer: &mut W,
 ) -> Result<(), Failure>
-    ensures { (inputs : List Input) × (texts : List (List ℕ))
-        × Leads P.Opened.is_clean P.Opened.stands (Serves P.Opened.signs F.told inputs texts) served.old.office served.new.office
+    ensures { (inputs : List Input) × (outcomes : List (Outcome Unsigned))
+        × Leads P.Opened.is_clean P.Opened.stands (Serves P.Opened.signs P.gave F.told inputs outcomes) served.old.office served.new.office
         × ServedAt W.contents writer.old writer.new F.bound port requests inputs result }
 {
     let mut hub = match hub_at(rt, served.front, port) {
@@ -103,7 +116,7 @@ pub(crate) fn serve_hub<H: Handler, W: Write>(
     requests: u64,
     writer: &mut W,
 ) -> Result<(), Failure>
-    ensures { (inputs : List Input) × (texts : List (List ℕ)) × Answered (Handles H.answers H.tells) handler.old inputs texts handler.new
+    ensures { (inputs : List Input) × (outcomes : List (Outcome H.Ticket)) × Answered (Handles H.answers H.tells) handler.old inputs outcomes handler.new
         × Served port requests inputs (W.contents writer.old) (W.contents writer.new) result }
 {
     match tell_port(writer, port) {
@@ -140,17 +153,18 @@ fn answer_all<H: Handler>(
     handler: &mut H,
     requests: u64,
 ) -> Result<(), Failure>
-    ensures { (inputs : List Input) × (texts : List (List ℕ)) × Answered (Handles H.answers H.tells) handler.old inputs texts handler.new
+    ensures { (inputs : List Input) × (outcomes : List (Outcome H.Ticket)) × Answered (Handles H.answers H.tells) handler.old inputs outcomes handler.new
         × MatchResult result (λ done. asked_in inputs ≡ requests)
         (λ why. (why ≡ Failure.Fault Fault.Read) × (asked_in inputs ≢ requests)) }
 {
     let mut made = 0;
+    let mut signings = Signings::new(rt.alloc());
     // It stops early where the clock or the sockets fail.
-    let _ = hub.serve_all(rt, handler, &mut made, requests);
+    let _ = hub.serve_all(rt, handler, &mut signings, &mut made, requests);
     if made != requests {
         return Err(Failure::Fault(Fault::Read));
     }
     // Who does not take its answer in time is let go.
-    let _ = hub.finish(rt, handler);
+    let _ = hub.finish(rt, handler, &mut signings);
     Ok(())
 }

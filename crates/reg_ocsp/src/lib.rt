@@ -3,6 +3,7 @@
 
 mod asked;
 mod certificate;
+mod draft;
 mod extensions;
 mod fault;
 pub mod laws;
@@ -14,6 +15,7 @@ mod values;
 
 pub use asked::{Asked, CertId};
 pub use certificate::{Certificate, CertificateFault, CertifiedKey, certified_key};
+pub use draft::Draft;
 pub use fault::AskFault;
 pub use matching::matches;
 pub use reading::read_request;

@@ -16,7 +16,12 @@ use Rattle.reg_crl.specs.Signing.{signed_by}
 use Rattle.reg_laws.specs.Run.{Happens}
 use Rattle.reg_calls.specs.Signatories.{Signatory}
 use Rattle.reg_calls.specs.Steps.{Signs, Runs, Ocsps}
+use Rattle.reg_calls.specs.Drafts.{Begins, Drafts, IsDraft}
+use Rattle.reg_calls.specs.declared.begun.Begun.{Begun}
+use Rattle.reg_calls.specs.declared.begun.Begun.TheVariants.{Whole, Left}
+use Rattle.reg_ocsp.specs.Drafts.{Drafted}
 use Rattle.reg_office.specs.Calls.{StandsFor, LeadsOver}
+use Rattle.reg_office.specs.Beginning.{IsBegun}
 use Rattle.reg_office.specs.Faults.{IsTableFault}
 use Rattle.reg_office.specs.Stands.{Stands, CameTo}
 use Rattle.reg_calls.specs.Ocsp.{IsOcspReply}
@@ -80,6 +85,40 @@ module _ {C : Type 0} (g : Ghosts C) (signs : Signs) (old new : Held C) (who who
         let Q : Signatory → Type 0 = λ v. Stands g signs new v.crls before in
         (before, refl, (is, subst Q is (stays before (stood_for those before stood))))),
   )
+
+  -- what is left to be signed for one
+  draft_leads : (now : ℕ) (request : List ℕ) (draft : Drafted)
+      → ((records : Records) → Stands g signs old who.crls records → HasCleanDisk (state g new) → IsDraft who.answers records now request draft)
+      → ((records : Records) → Stands g signs old who.crls records → Stands g signs new who'.crls records)
+      → LeadsOver g signs (λ those before after. Drafts those before now request draft after) (old, who) (new, who')
+  draft_leads now request draft left stays = (
+    was_clean (state g old) (state g new) clean,
+    (λ those before stood is_clean.
+        let stands = stood_for those before stood in
+        let is : who' ≡ those = same ∙ stood.0 in
+        let P : Signatory → Type 0 = λ v. IsDraft v.answers before now request draft in
+        let Q : Signatory → Type 0 = λ v. Stands g signs new v.crls before in
+        (before, (subst P stood.0 (left before stands is_clean), refl), (is, subst Q is (stays before stands)))),
+  )
+
+  -- an OCSP request whose answer may be left to be signed
+  pub begin_leads : {S : Type 0} (answers : S → ℕ → List ℕ → Result (List ℕ) Memory → S → Type 0)
+      (drafts : S → ℕ → List ℕ → Drafted → S → Type 0) (s t : S) (now : ℕ) (request : List ℕ) (result : Result Begun Memory)
+      → ((given : Result (List ℕ) Memory)
+      → LeadsOver g signs (λ those before after. Ocsps signs those before now request given after) (old, who) (new, who')
+      → answers s now request given t)
+      → ((draft : Drafted)
+      → LeadsOver g signs (λ those before after. Drafts those before now request draft after) (old, who) (new, who')
+      → drafts s now request draft t)
+      → ((records : Records) → Stands g signs old who.crls records → HasCleanDisk (state g new)
+      → IfOk result (IsBegun signs who.answers records now request))
+      → ((records : Records) → Stands g signs old who.crls records → Stands g signs new who'.crls records)
+      → Begins answers drafts s now request result t
+  begin_leads answers drafts s t now request (Ok (Whole bytes)) answered left begun stays =
+      answered (Ok bytes.items) (ocsp_leads now request (Ok bytes) begun stays)
+  begin_leads answers drafts s t now request (Ok (Left draft)) answered left begun stays = left draft (draft_leads now request draft begun stays)
+  begin_leads answers drafts s t now request (Err memory) answered left begun stays =
+      answered (Err memory) (ocsp_leads {Z = Unit {0}} now request (Err memory) (λ records stands is_clean. tt) stays)
 
 -- a fault of the tables is none of the signer
 pub table_fault : (outcome : Result Reply Fault) → IfErr outcome IsTableFault → ¬ (IsErrOf outcome Signer)

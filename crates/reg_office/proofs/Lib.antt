@@ -1,6 +1,7 @@
 pub mod Agreeing
 pub mod Answering
 pub mod Asking
+pub mod Beginning
 pub mod Changing
 pub mod Composing
 pub mod CommandsRun

@@ -1,6 +1,7 @@
 pub mod Agreement
 pub mod Answering
 pub mod AtRest
+pub mod Beginning
 pub mod Commands
 pub mod Faults
 pub mod Following

@@ -1,7 +1,7 @@
 //! The calls of an office over a store, as the faces make them: each is a step of the records that stand in it.
 
 use crate::office::Office;
-use reg_calls::Calls;
+use reg_calls::{Begun, Calls};
 use reg_core::{Command, Fault, Memory, Moment, Outcome, Query};
 use reg_crl::Signer;
 use sqlite::Alter;
@@ -10,6 +10,7 @@ use std::alloc::Global;
 impl<C: Alter, S: Signer> Calls for Office<C, S> {
     ghost use Rattle.std.specs.Prelude.{◌<◌, IsErrOf};
     ghost use Rattle.reg_core.specs.declared.refusal.Fault.TheVariants.{Signer as SignerFailed};
+    ghost use Rattle.reg_calls.specs.Drafts.{Drafts};
     ghost use Rattle.reg_calls.specs.Steps.{Runs, Asks, Ocsps, Crls};
     ghost use Rattle.reg_office.specs.Answering.{signatory_of};
     ghost use Rattle.reg_office.specs.Calls.{LeadsOver};
@@ -30,6 +31,10 @@ impl<C: Alter, S: Signer> Calls for Office<C, S> {
         LeadsOver C.Store S.signs (λ who before after. Ocsps S.signs who before now request given after)
         (s.store, signatory_of S.identity (S.identity s.signer) s.responder) (t.store, signatory_of S.identity (S.identity t.signer) t.responder) };
 
+    ghost drafts = { λ s now request draft t.
+        LeadsOver C.Store S.signs (λ who before after. Drafts who before now request draft after)
+        (s.store, signatory_of S.identity (S.identity s.signer) s.responder) (t.store, signatory_of S.identity (S.identity t.signer) t.responder) };
+
     ghost crls = { λ s number given t.
         LeadsOver C.Store S.signs (λ who before after. Crls before number given after)
         (s.store, signatory_of S.identity (S.identity s.signer) s.responder) (t.store, signatory_of S.identity (S.identity t.signer) t.responder) };
@@ -44,6 +49,10 @@ impl<C: Alter, S: Signer> Calls for Office<C, S> {
 
     fn ocsp(&mut self, alloc: Global, now: Moment, request: &[u8]) -> Result<Vec<u8>, Memory> {
         self.ocsp(alloc, now, request)
+    }
+
+    fn begin_ocsp(&mut self, alloc: Global, now: Moment, request: &[u8]) -> Result<Begun, Memory> {
+        self.begin_ocsp(alloc, now, request)
     }
 
     fn crl_bytes(&mut self, alloc: Global, number: Option<u64>) -> Result<Vec<u8>, Fault> {

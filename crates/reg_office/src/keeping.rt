@@ -32,5 +32,7 @@ impl<C: Alter, S: Signer> Keeper for Office<C, S> {
 
     ghost ocsps_lead = { λ s now request given t asked. asked };
 
+    ghost drafts_lead = { λ s now request draft t drafted. drafted };
+
     ghost crls_lead = { λ s number given t asked. asked };
 }

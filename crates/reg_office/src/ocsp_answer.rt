@@ -12,16 +12,18 @@ ghost use Rattle.reg_ocsp.specs.Views.{ids_seen};
 ghost use Rattle.reg_tables.specs.Shows.{Shows};
 ghost use Rattle.reg_tables.specs.Stays.{Looked};
 ghost use Rattle.reg_calls.specs.Ocsp.{HasNoReading, IsOcspData, IsOcspReply, IsResponse, response_signed_by};
+ghost use Rattle.reg_office.specs.Beginning.{IsBegun, IsReadBegun, IsRefusedWhole};
 ghost use Rattle.reg_office.specs.Answering.{answers_by, failures_of, responder_named};
 
 use crate::ocsp_faults::ResponseFault;
 use crate::responder::{Naming, Responder, of_delegate, of_issuer};
 use crate::statuses::answers;
+use reg_calls::Begun;
 use reg_core::{Memory, Moment, clock};
 use reg_crl::{SignFault, Signer};
 use reg_der::Issuer;
 use reg_ocsp::{
-    AskFault, Asked, RefusalStatus, basic_with, read_request, refusal, response_data_by,
+    AskFault, Asked, Draft, RefusalStatus, basic_with, read_request, refusal, response_data_by,
 };
 use reg_store::Store;
 use sqlite::Alter;
@@ -230,4 +232,127 @@ fn signed<S: Signer>(
         &signature,
         naming.certificate,
     )?)
+}
+
+/// The same as [`ocsp`], but where who answers has a key that others can have asked for a signature, that is left to them: the ResponseData
+/// is made of the store, and nothing is signed. It changes no table.
+///
+/// # Errors
+/// `Memory`, the only one, where memory could not be had.
+pub(crate) fn begin_ocsp<C: Alter, S: Signer>(
+    alloc: Global,
+    store: &mut Store<C>,
+    signer: &mut S,
+    responder: &mut Responder<S>,
+    now: Moment,
+    request: &[u8],
+) -> Result<Begun, Memory>
+    ensures begun { (records : Records) → Shows C.Store store.old records → HasCleanDisk (state C.Store store.new)
+        → IfOk result (IsBegun S.signs (answers_by S.identity (S.identity signer.old) responder.old) records now request.now) }
+    ensures looked { Looked C.Store store.old store.new }
+    ensures same_identity { S.identity signer.new ≡ S.identity signer.old }
+    ensures same_responder { answers_by S.identity (S.identity signer.new) responder.new ≡ answers_by S.identity (S.identity signer.old) responder.old }
+{
+    match responder {
+        Responder::Issuer(certificate) => {
+            begin(alloc, store, signer, of_issuer(certificate), now, request)
+        }
+        Responder::Delegate(own, certificate) => {
+            begin(alloc, store, own, of_delegate(certificate), now, request)
+        }
+    }
+}
+
+/// The same by one who answers.
+fn begin<C: Alter, S: Signer>(
+    alloc: Global,
+    store: &mut Store<C>,
+    signer: &mut S,
+    naming: Naming<'_>,
+    now: Moment,
+    request: &[u8],
+) -> Result<Begun, Memory>
+    requires { IfSome (option_copied naming.certificate) (λ bytes. length bytes ≤ 65536) }
+    ensures begun { (records : Records) → Shows C.Store store.old records → HasCleanDisk (state C.Store store.new)
+        → IfOk result (IsBegun S.signs (responder_named (S.identity signer.old) naming.entry) records now request.now) }
+    ensures looked { Looked C.Store store.old store.new }
+    ensures same_identity { S.identity signer.new ≡ S.identity signer.old }
+{
+    let asked = match read_request(alloc, request) {
+        Ok(asked) => asked,
+        Err(AskFault::Malformed) => return refused_whole(alloc, RefusalStatus::Malformed),
+        Err(AskFault::Memory) => return Err(Memory),
+    };
+    match begin_response(alloc, store, signer, naming, now, &asked) {
+        Ok(begun) => Ok(begun),
+        Err(ResponseFault::Clock) => refused_whole(alloc, RefusalStatus::TryLater),
+        Err(ResponseFault::Memory) => Err(Memory),
+        Err(ResponseFault::Store) => refused_whole(alloc, RefusalStatus::Internal),
+        Err(ResponseFault::Signer) => refused_whole(alloc, RefusalStatus::Internal),
+    }
+}
+
+/// A refusal, whole.
+fn refused_whole(alloc: Global, status: RefusalStatus) -> Result<Begun, Memory>
+    ensures { IfOk result (IsRefusedWhole status) }
+{
+    match refused(alloc, status) {
+        Ok(answer) => Ok(Begun::Whole(answer)),
+        Err(memory) => Err(memory),
+    }
+}
+
+/// The response to what a request asks, or what is left to be signed of it.
+fn begin_response<C: Alter, S: Signer>(
+    alloc: Global,
+    store: &mut Store<C>,
+    signer: &mut S,
+    naming: Naming<'_>,
+    now: Moment,
+    asked: &Asked<'_>,
+) -> Result<Begun, ResponseFault>
+    requires short { IfSome (option_copied naming.certificate) (λ bytes. length bytes ≤ 65536) }
+    requires answerable { CanBeAnswered (ids_seen asked.now.ids.items) (option_copied asked.now.nonce) }
+    ensures found { (records : Records) → Shows C.Store store.old records → HasCleanDisk (state C.Store store.new)
+        → IfOk result (IsReadBegun S.signs (responder_named (S.identity signer.old) naming.entry) records now (ids_seen asked.now.ids.items) (option_copied asked.now.nonce)) }
+    ensures timely { (records : Records) → Shows C.Store store.old records → HasCleanDisk (state C.Store store.new)
+        → OnOk result (first_of_all (clock_checks now records.last) ≡ None) }
+    ensures untimely { (records : Records) → Shows C.Store store.old records → HasCleanDisk (state C.Store store.new)
+        → IsErrOf result ResponseFault.Clock → IsSome (first_of_all (clock_checks now records.last)) }
+    ensures looked { Looked C.Store store.old store.new }
+    ensures same_identity { S.identity signer.new ≡ S.identity signer.old }
+{
+    let message = ocsp_data(alloc, store, naming.own_key, now, asked)?;
+    match drafted(alloc, signer, naming, &message)? {
+        Some(draft) => Ok(Begun::Left(draft)),
+        None => Ok(Begun::Whole(signed(alloc, signer, naming, &message)?)),
+    }
+}
+
+/// What is left to be signed of a response, where who answers has a key that others can have asked.
+fn drafted<S: Signer>(
+    alloc: Global,
+    signer: &S,
+    naming: Naming<'_>,
+    message: &[u8],
+) -> Result<Option<Draft>, Memory>
+    requires short { length message.now ≤ 2 ^ 27 }
+    requires short_certificate { IfSome (option_copied naming.certificate) (λ bytes. length bytes ≤ 65536) }
+    ensures { IfOk result (λ left. IfSome left (λ draft. draft ≡ record {
+      message = message.now;
+      algorithm = (S.identity signer.now).algorithm;
+      key = (S.identity signer.now).public_key;
+      certificate = option_copied naming.certificate;
+    })) }
+{
+    match signer.public_key() {
+        Some(key) => Ok(Some(Draft::of(
+            alloc,
+            message,
+            signer.algorithm(),
+            key,
+            naming.certificate,
+        )?)),
+        None => Ok(None),
+    }
 }

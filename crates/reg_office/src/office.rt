@@ -18,6 +18,7 @@ ghost use Rattle.reg_calls.specs.Ocsp.{HasNoReading, IsOcspReply};
 ghost use Rattle.reg_der.specs.Issuers.{with_key_identifier};
 ghost use Rattle.reg_office.specs.Answering.{answers_by, failures_of};
 ghost use Rattle.reg_office.specs.AtRest.{Does, IsIdentified};
+ghost use Rattle.reg_office.specs.Beginning.{IsBegun};
 ghost use Rattle.reg_calls.specs.Answered.{IsAnswered, IsGiven};
 ghost use Rattle.reg_office.specs.Faults.{IsOfficeFault, IsTableFault};
 ghost use Rattle.reg_office.specs.Stands.{Stands, CameTo};
@@ -26,9 +27,10 @@ ghost use Rattle.reg_office.specs.declared.responder.Responder.TheVariants.{Issu
 use crate::commands::run_command;
 use crate::crls::bytes_of;
 use crate::identifiers::set_key_identifier;
-use crate::ocsp_answer::ocsp;
+use crate::ocsp_answer::{begin_ocsp, ocsp};
 use crate::queries::answer;
 use crate::responder::Responder;
+use reg_calls::Begun;
 use reg_core::{Command, Fault, Label, Memory, Moment, Query, Refusal, Reply, Schedule};
 use reg_crl::Signer;
 use reg_store::{Store, StoreFault};
@@ -167,6 +169,36 @@ impl<C: Alter, S: Signer> Office<C, S> {
             → IfOk result (λ answer. answer.items ≡ refusal_response Internal) }
     {
         ocsp(
+            alloc,
+            &mut self.store,
+            &mut self.signer,
+            &mut self.responder,
+            now,
+            request,
+        )
+    }
+
+    /// The same, but where who answers has a key, its signature is left to be asked for: what is to be signed is the ResponseData of the
+    /// register as it is now, and it holds all that the answer is made of beside the signature.
+    ///
+    /// # Errors
+    /// `Memory`, the only one, where memory could not be had.
+    pub fn begin_ocsp(
+        &mut self,
+        alloc: Global,
+        now: Moment,
+        request: &[u8],
+    ) -> Result<Begun, Memory>
+        ensures begun { (records : Records) → Stands C.Store S.signs self.old.store (S.identity self.old.signer) records
+            → HasCleanDisk (state C.Store self.new.store)
+            → IfOk result (IsBegun S.signs (answers_by S.identity (S.identity self.old.signer) self.old.responder) records now request.now) }
+        ensures stands { (records : Records) → Stands C.Store S.signs self.old.store (S.identity self.old.signer) records
+            → Stands C.Store S.signs self.new.store (S.identity self.new.signer) records }
+        ensures looked { Looked C.Store self.old.store self.new.store }
+        ensures same_identity { S.identity self.new.signer ≡ S.identity self.old.signer }
+        ensures same_responder { answers_by S.identity (S.identity self.new.signer) self.new.responder ≡ answers_by S.identity (S.identity self.old.signer) self.old.responder }
+    {
+        begin_ocsp(
             alloc,
             &mut self.store,
             &mut self.signer,

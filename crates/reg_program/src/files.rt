@@ -29,6 +29,7 @@ use crate::answering::{failures_in, responder_told};
 use crate::machine::Machine;
 use crate::signing::{FileSigner, signer_for};
 use crate::watching::Teller;
+use mio::net::UnixStream;
 use reg_core::{Fault, Label, Memory, Policy, Schedule};
 use reg_crl::Signer;
 use reg_der::Issuer;
@@ -40,7 +41,7 @@ use reg_files::{
 use reg_findings::Verdict;
 use reg_jobs::Place;
 use reg_office::{Office, Responder};
-use reg_signer::KeyOrDigest;
+use reg_signer::{KeyOrDigest, hear};
 use reg_store::{Store, StoreFault};
 use reg_verdict::judge;
 use reg_words::{Answerer, KeyHolder};
@@ -54,6 +55,8 @@ pub type FileOffice = Office<FileStore<FileFrom<Unknown>>, FileSigner>;
 
 /// The machine's files, as a place where registers lie. No state of theirs stands in the handle, so its relations read none.
 impl<'a> Place for Machine<'a> {
+    ghost use Rattle.std.specs.Prelude.{IfSome, length};
+    ghost use mathlib.Core.Logic.{inr};
     ghost use Rattle.reg_office.specs.Answering.{signatory_of};
     ghost use Rattle.reg_program.specs.Files.{IsAudited, IsOpenedFor, IsMadeFrom};
 
@@ -80,6 +83,17 @@ impl<'a> Place for Machine<'a> {
     ghost unaudited = { λ files path why. Unit {0} };
 
     ghost closed = { λ files path register after. Unit {0} };
+
+    ghost gave = { λ message answer. Unit {0} };
+
+    ghost gave_signs = { λ identity message answer given form. inr (inr given, form) };
+
+    fn hear(alloc: Global, link: &mut UnixStream, _message: &[u8]) -> Option<Vec<u8>>
+        ensures given { IfSome result (λ answer. Unit {0}) }
+        ensures short { IfSome result (λ answer. length answer.items ≤ 4096) }
+    {
+        hear(alloc, link)
+    }
 
     fn claim(&mut self, path: &str) -> Result<bool, Memory>
         ensures ours { IfOk result (λ is_ours. IsTrue is_ours → Unit {0}) }

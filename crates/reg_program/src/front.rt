@@ -4,10 +4,11 @@ ghost use Rattle.std.specs.Prelude.{◌≡◌, IfErr};
 
 use crate::counter::lay_socket;
 use crate::machine::Machine;
-use mio::net::{TcpListener, UnixListener};
+use mio::net::{TcpListener, UnixListener, UnixStream as UnwaitingStream};
 use reg_causes::{Cause, of_io, of_port};
 use reg_core::{Fault, Moment};
 use reg_jobs::Front;
+use reg_signer::ask_unwaiting;
 use reg_wire::write_whole;
 use std::io;
 use std::io::ErrorKind;
@@ -68,6 +69,10 @@ impl<'a> Front for Machine<'a> {
                 Err(error)
             }
         }
+    }
+
+    fn ask(&self, path: &str, message: &[u8]) -> io::Result<UnwaitingStream> {
+        ask_unwaiting(&self.rt, path, message)
     }
 
     fn has_log(&self) -> bool {

@@ -98,6 +98,13 @@ impl<D: Device + Drop> Signer for KeyOrDigest<D> {
         }
     }
 
+    fn public_key(&self) -> Option<&[u8]> {
+        match &self.key {
+            Some(signer) => signer.public_key(),
+            None => None,
+        }
+    }
+
     fn sign(&mut self, alloc: Global, message: &[u8]) -> Result<Vec<u8>, SignFault> {
         match &mut self.key {
             Some(signer) => signer.sign(alloc, message),

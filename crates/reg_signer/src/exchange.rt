@@ -1,11 +1,13 @@
 //! One exchange over a connection, and the device at its other end.
 
-ghost use Rattle.std.specs.Prelude.{◌≡◌, ◌<◌, ◌≤◌, IfOk, OnOk, length, take};
+ghost use Rattle.std.specs.Prelude.{◌≡◌, ◌<◌, ◌≤◌, IfOk, IfSome, OnOk, OnSome, length, take};
 ghost use Rattle.std.specs.Io.KnownBytes.{Appends, Consumes, IsAtEnd};
 ghost use Rattle.reg_signer.specs.Exchange.{GivesBack};
 
 use crate::device::{Device, DeviceFault};
+use crate::signer::LONGEST_ANSWER;
 use reg_wire::write_whole;
+use std::alloc::Global;
 use std::io::{Read, Write};
 
 /// A connection for one message and its answer.
@@ -35,6 +37,9 @@ pub trait Connector {
 
     // No connection could be made to what listens at the path, if anything does.
     ghost unconnected: { List ℕ → Type 0 };
+
+    // Over a connection that never waits, this message was answered so.
+    ghost gave: { List ℕ → List ℕ → Type 0 };
 
     /// Connects to what listens at a path.
     ///
@@ -75,9 +80,10 @@ impl<C: Connector> Device for SocketDevice<C> {
 
     ghost public_key = { λ it. it.key.items };
 
-    // Some connection to what listens at some path took the message whole, and gave the answer until its end.
-    ghost answers = { λ key message answer. (path : List ℕ) × (link : C.Link) × C.connected path link
-        × GivesBack C.Link.Read.remaining C.Link.Write.contents C.Link.Connection.finished link message answer };
+    // Some connection to what listens at some path took the message whole, and gave the answer until its end; or one that never waits did.
+    ghost answers = { λ key message answer. ((path : List ℕ) × (link : C.Link) × C.connected path link
+        × GivesBack C.Link.Read.remaining C.Link.Write.contents C.Link.Connection.finished link message answer)
+        ⊎ C.gave message answer };
 
     // No connection could be made, or one was made and gave no answer.
     ghost fails = { λ it message after. C.unconnected (string_bytes it.path) ⊎ ((link : C.Link) × C.connected (string_bytes it.path) link) };
@@ -110,7 +116,7 @@ fn converse<L: Connection>(
 }
 
 /// Writes the whole message, and tells the peer that no more comes.
-fn send<L: Connection>(link: &mut L, message: &[u8]) -> Result<(), DeviceFault>
+pub(crate) fn send<L: Connection>(link: &mut L, message: &[u8]) -> Result<(), DeviceFault>
     ensures { OnOk result ((asked : L) × Appends (L.contents link.old) (L.contents asked) message.now × L.finished asked link.new) }
 {
     match write_whole(link, message) {
@@ -134,4 +140,23 @@ fn receive<R: Read>(reader: &mut R, room: &mut [u8]) -> Result<usize, DeviceFaul
         }
     }
     Err(DeviceFault)
+}
+
+/// The answer that a reader gives up to its end. `None` where it fails, has not come to its end, or gives more than 4,096 bytes, and for
+/// want of memory.
+pub fn hear<R: Read>(alloc: Global, reader: &mut R) -> Option<Vec<u8>>
+    ensures came { IfSome result (λ answer. Consumes (R.remaining reader.old) (R.remaining reader.new) answer.items) }
+    ensures ended { OnSome result (IsAtEnd (R.remaining reader.new)) }
+    ensures short { IfSome result (λ answer. length answer.items ≤ 4096) }
+{
+    let Ok(mut answer) = vec![in alloc; 0; LONGEST_ANSWER + 1] else {
+        return None;
+    };
+    match receive(reader, &mut answer) {
+        Ok(count) => {
+            answer.truncate(count);
+            Some(answer)
+        }
+        Err(_) => None,
+    }
 }

@@ -10,7 +10,7 @@ use reg_crl::{SignFault, Signer};
 use std::alloc::Global;
 
 /// The most bytes of an answer.
-const LONGEST_ANSWER: usize = 4_096;
+pub(crate) const LONGEST_ANSWER: usize = 4_096;
 
 /// The device's key is none of the algorithm.
 #[derive(Clone, Copy, Debug, PartialEq, Eq)]
@@ -102,6 +102,10 @@ impl<D: Device + Drop> Signer for DeviceSigner<D> {
 
     fn algorithm(&self) -> &[u8] {
         self.algorithm.identifier()
+    }
+
+    fn public_key(&self) -> Option<&[u8]> {
+        Some(self.device.public_key())
     }
 
     /// A signature of the message: what the device answered, where that has the form of one.

@@ -1,11 +1,11 @@
 //! The machine's Unix sockets.
 
 use crate::device::DeviceFault;
-use crate::exchange::{Connection, Connector};
+use crate::exchange::{Connection, Connector, send};
 use crate::timing::{TimedStream, left_now, read_in_time, write_in_time};
 use mio::net::UnixStream as UnwaitingStream;
 use std::io::{ErrorKind, Read, Write};
-use std::net::Shutdown;
+use std::net::{Net, Shutdown};
 use std::os::unix::net::UnixStream;
 use std::time::{Duration, Instant};
 use std::{io, thread};
@@ -70,6 +70,8 @@ impl Connector for HostRuntime {
 
     ghost unconnected = { λ path. Unit {0} };
 
+    ghost gave = { λ message answer. Unit {0} };
+
     fn connect(&self, path: &str) -> Result<UnixLink, DeviceFault>
         ensures { Unit {0} }
     {
@@ -77,6 +79,33 @@ impl Connector for HostRuntime {
             Ok(link) => Ok(link),
             Err(_) => Err(DeviceFault),
         }
+    }
+}
+
+impl Connection for UnwaitingStream {
+    ghost finished = { λ link after. Unit {0} };
+
+    fn finish(&mut self) -> Result<(), DeviceFault>
+        ensures { Unit {0} }
+    {
+        match self.shutdown(Shutdown::Write) {
+            Ok(()) => Ok(()),
+            Err(_) => Err(DeviceFault),
+        }
+    }
+}
+
+/// Asks what listens at a path for the answer to a message, and waits for nothing: the connection on which the answer will come, up to its
+/// end.
+///
+/// # Errors
+/// `WouldBlock` where the socket has no room for one more connection. What else the system says: where nothing listens there, and where
+/// the message is not taken at once, as one of some hundred thousand bytes may be.
+pub fn ask_unwaiting(net: &impl Net, path: &str, message: &[u8]) -> io::Result<UnwaitingStream> {
+    let mut link = UnwaitingStream::connect(net, path)?;
+    match send(&mut link, message) {
+        Ok(()) => Ok(link),
+        Err(DeviceFault) => Err(io::Error::from(ErrorKind::BrokenPipe)),
     }
 }
 

@@ -116,6 +116,8 @@ impl Connector for Peer {
 
     ghost unconnected = { λ path. Unit {0} };
 
+    ghost gave = { λ message answer. ⊥ };
+
     fn connect(&self, path: &str) -> Result<Talk, DeviceFault>
         ensures { Unit {0} }
     {

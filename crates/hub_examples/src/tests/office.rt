@@ -1,7 +1,7 @@
 //! A hub of the tests: who answers, what the clock says, and who comes.
 
-use mio::net::{TcpListener, UnixListener};
-use reg_hub::{Handler, Hub, Lost, Stopped};
+use mio::net::{TcpListener, UnixListener, UnixStream as UnwaitingStream};
+use reg_hub::{Given, Handler, Hub, Lost, Signings, Stopped};
 use std::alloc::{AllocError, Global};
 use std::cell::Cell;
 use std::fmt::Debug;
@@ -36,7 +36,7 @@ pub(super) fn same_bytes(row: usize, got: &[u8], wanted: &[u8]) -> Result<(), Fa
 }
 
 /// Answers each request by its own bytes behind `answer `, and each line by itself, with so many bytes more where it asks for
-/// them; what is no request by nothing.
+/// them; what is no request by nothing. An answer that is to be signed is left to be, and what signs never has room.
 #[derive(Drop)]
 struct Echo {
     alloc: Global,
@@ -49,16 +49,30 @@ struct Echo {
 }
 
 impl Handler for Echo {
+    type Ticket = Vec<u8>;
+
     ghost answers = { λ _ _ _ _. Unit {0} };
 
     ghost tells = { λ _ _ _ _. Unit {0} };
 
-    fn answer(&mut self, peer: SocketAddr, request: &[u8]) -> Result<Vec<u8>, Stopped> {
+    ghost finishes = { λ _ _. Unit {0} };
+
+    fn answer(&mut self, peer: SocketAddr, request: &[u8]) -> Result<Given<Vec<u8>>, Stopped> {
         self.last = Some(peer);
         match self.answered(request) {
-            Ok(text) => Ok(text),
-            Err(_) => Ok(Vec::new(self.alloc)),
+            Ok(text) => Ok(given_of(request, text)),
+            Err(_) => Ok(Given::Whole(Vec::new(self.alloc))),
         }
+    }
+
+    fn ask(&self, _ticket: &Vec<u8>) -> io::Result<UnwaitingStream> {
+        Err(io::Error::from(ErrorKind::WouldBlock))
+    }
+
+    fn finish(&self, ticket: Vec<u8>, _link: Option<UnwaitingStream>) -> Vec<u8>
+        ensures { Unit {0} }
+    {
+        ticket
     }
 
     fn tell(&mut self, line: &[u8]) -> Result<Vec<u8>, Stopped> {
@@ -71,6 +85,15 @@ impl Handler for Echo {
 
     fn lose(&self, peer: Option<SocketAddr>, why: Lost) {
         self.lost.set(Some((peer, why)));
+    }
+}
+
+/// What a request comes to, by the text of its answer.
+fn given_of(request: &[u8], text: Vec<u8>) -> Given<Vec<u8>> {
+    if request.starts_with(b"GET /signed") {
+        Given::Left(text)
+    } else {
+        Given::Whole(text)
     }
 }
 
@@ -132,6 +155,7 @@ impl Clock for At {
 #[derive(Drop)]
 pub(super) struct Office {
     hub: Hub,
+    signings: Signings<Vec<u8>>,
     echo: Echo,
     made: u64,
     at: SocketAddr,
@@ -152,6 +176,7 @@ pub(super) fn office_of(
     let counter = UnixListener::bind(rt, path)?;
     Ok(Office {
         hub: Hub::new(rt, listener, Some(counter), places)?,
+        signings: Signings::new(rt.alloc()),
         echo: new_echo(rt.alloc()),
         made: 0,
         at,
@@ -198,14 +223,21 @@ impl Office {
             // A count that was read is within its type.
             let _count = self.made;
             let wait = Duration::from_millis(1);
-            self.hub.turn(&At(millis), &mut self.echo, &mut self.made, u64::MAX, wait)?;
+            self.hub.turn(
+                &At(millis),
+                &mut self.echo,
+                &mut self.signings,
+                &mut self.made,
+                u64::MAX,
+                wait,
+            )?;
         }
         Ok(())
     }
 
     /// Everybody is let go, and the counter's file goes.
     pub(super) fn finish(&mut self, rt: &HostRuntime) -> Result<(), Fail> {
-        self.hub.finish(rt, &self.echo)?;
+        self.hub.finish(rt, &self.echo, &mut self.signings)?;
         fs::remove_file(rt, self.path)?;
         Ok(())
     }

@@ -45,6 +45,25 @@ fn an_answer_has_30_seconds_to_be_taken(rt: HostRuntime) -> Result<(), Fail> {
     play(&rt, "hub_examples.unread", 1_000, &UNREAD)
 }
 
+static SIGNED: [Step; 10] = [
+    Comes(b"GET /signed HTTP/1.1\r\n\r\n"),
+    Turns(1_000, 3),
+    Comes(REQUEST),
+    Turns(2_000, 3),
+    Gets(1, ANSWER),
+    Turns(10_999, 3),
+    Sees(2, 1),
+    Turns(11_000, 3),
+    Gets(0, b"answer GET /signed HTTP/1.1\r\n\r\n"),
+    Sees(2, 0),
+];
+
+// The millisecond at which it ends, and that nobody else waits.
+#[test]
+fn a_signature_has_10_seconds(rt: HostRuntime) -> Result<(), Fail> {
+    play(&rt, "hub_examples.signed", 1_000, &SIGNED)
+}
+
 static FOLLOWED: [Step; 9] = [
     Comes(b"GARBAGE\r\n\r\n"),
     Turns(5_000, 3),

@@ -1,6 +1,7 @@
 use Rattle.std.proofs.Common.{[], inl, inr, refl}
 use Rattle.reg_faces.proofs.Steps.{stays}
-use Rattle.reg_jobs.specs.Exchanges.{Exchange, NoEntry}
+use Rattle.reg_jobs.specs.Exchanges.{NoEntry}
+use Rattle.reg_jobs.specs.Serving.{Exchanging}
 use Rattle.reg_jobs.proofs.Fates.{unbound}
 use Rattle.reg_jobs.proofs.Peers.{exchanges_move}
 use Rattle.reg_jobs.proofs.serving.serve_desk.Goals as goal
@@ -23,9 +24,9 @@ returns g c =
           (λ identity served records. g.P.Opened.Keeper.stands identity served.office records)
           _
           _
-          (Exchange g.P.Opened.Keeper.signs g.F.Front.told)
+          (Exchanging g.P.Opened.Keeper.signs g.P.Place.gave g.F.Front.told)
           (λ identity. NoEntry)
-          (λ s came text t moved. moved)
+          (λ s came outcome t moved. moved)
           (λ s came text t never. absurd never)
           c.args.served.now
           c.serve_hub.new.handler

@@ -7,4 +7,4 @@ returns-in_err-now-clause-exchanged g c = exchanged_none g.H.Handler.answers g.H
 
 pub returns-clause-exchanged : goal.returns-clause-exchanged
 returns-clause-exchanged g c =
-    exchanged_then g.H.Handler.answers g.H.Handler.tells _ _ _ _ _ _ (c.tell_all.ensures c.args.made.now) c.answer_all.ensures.exchanged
+    exchanged_then g.H.Handler.answers g.H.Handler.tells _ _ _ _ _ _ (c.tell_all.ensures c.args.made.now) c.answer_all-answered.ensures.exchanged

@@ -1,0 +1,136 @@
+-- An answer that was left to be signed, once it is finished: an exchange over the records of where it was begun.
+use Rattle.std.proofs.Common.{◌≡◌, ◌≢◌, ℕ, List, [], inl, inr, refl, sym, subst, ◌∙◌}
+use Rattle.std.specs.Prelude.{Option, Some, None, Result, Ok, Err, IfErr, IfOk}
+use Rattle.reg_core.specs.Records.{Records}
+use Rattle.reg_core.specs.declared.memory.Memory.{Memory as NoMemory}
+use Rattle.reg_core.specs.declared.refusal.Fault.{Fault}
+use Rattle.reg_core.specs.declared.refusal.Fault.TheVariants as fault
+use Rattle.reg_calls.specs.Drafts.{Drafts, IsBy, IsDraft}
+use Rattle.reg_calls.specs.Leads.{Leads}
+use Rattle.reg_calls.specs.Ocsp.{IsOcspReply}
+use Rattle.reg_calls.specs.Signatories.{Responder, Signatory}
+use Rattle.reg_calls.specs.Steps.{Signs, Runs, Asks, Ocsps, Crls}
+use Rattle.reg_calls.proofs.Drafting.{signed_reply, unsigned_reply}
+use Rattle.reg_crl.specs.Signing.{Identity}
+use Rattle.reg_faces.proofs.Steps.{follows}
+use Rattle.reg_heads.specs.Frame.{asked}
+use Rattle.reg_heads.specs.Response.{IsText}
+use Rattle.reg_http.specs.Asked.{Asked, ocsp_of, asked as asks_for}
+use Rattle.reg_http.specs.Beginning.{BeginningEnds, FinishingEnds, LeftOf}
+use Rattle.reg_http.specs.Bodies.{ocsp_told}
+use Rattle.reg_http.specs.RespondsTo.{RespondsTo}
+use Rattle.reg_http.specs.Served.{Responds, ServingEnds}
+use Rattle.reg_ocsp.specs.Drafts.{Drafted, drafted_response}
+use Rattle.reg_signer.specs.Forms.{HasForm}
+use Rattle.reg_jobs.specs.Exchanges.{ExchangeAt}
+use Rattle.reg_jobs.specs.Leaving.{FinishesAt, IsSignatureOf}
+
+-- What holds a key gave, and what that is.
+module _ (signs : Signs) (gave : List ℕ → List ℕ → Type 0)
+    (gave_signs : (identity : Identity) (message answer : List ℕ) → gave message answer → HasForm identity answer → signs identity message answer) where
+  -- what has the form of a signature by who is to sign is one by who answers
+  formed_by : (responder : Responder) (draft : Drafted) (signature : List ℕ) → IsBy responder draft
+      → HasForm (record { algorithm = draft.algorithm; public_key = draft.key }) signature → HasForm responder.identity signature
+  formed_by responder draft signature by form =
+      let P : Identity → Type 0 = λ it. HasForm it signature in
+      let same : record { algorithm = draft.algorithm; public_key = draft.key } ≡ responder.identity =
+      λ i. record { algorithm = by.algorithm i; public_key = by.key i } in
+      subst P same form
+
+  -- what finishes an answer is a reply to its request
+  reply_of : (responder : Responder) (records : Records) (now : ℕ) (request : List ℕ) (draft : Drafted) (signature : Option (List ℕ))
+      → IsDraft responder records now request draft → IsSignatureOf gave draft signature
+      → IsOcspReply signs responder records now request (drafted_response draft signature)
+  reply_of responder records now request draft (Some signature) left (given, form) =
+      signed_reply signs responder records now request draft signature left
+      (gave_signs responder.identity draft.message signature given (formed_by responder draft signature left.read.by form))
+  reply_of responder records now request draft None left given = unsigned_reply signs responder records now request draft left
+
+  -- The moment of an answer, who signs, and the records where it was begun.
+  module _ (now : ℕ) (identity : Signatory) (before after : Records) where
+    -- what was given for a request is what the office says to it
+    ocsps_of : (request : List ℕ) (draft : Drafted) (signature : Option (List ℕ)) (given : Result (List ℕ) NoMemory)
+        → Drafts identity before now request draft after → IsSignatureOf gave draft signature
+        → (IfOk given (λ bytes. bytes ≡ drafted_response draft signature))
+        → Ocsps signs identity before now request given after
+    ocsps_of request draft signature (Ok bytes) (left, same) signed made =
+        let P : List ℕ → Type 0 = λ it. IsOcspReply signs identity.answers before now request it in
+        (subst P (sym made) (reply_of identity.answers before now request draft signature left signed), same)
+    ocsps_of request draft signature (Err memory) (left, same) signed made = same
+
+    -- the response that carries it
+    responds_of : (method target body request : List ℕ) (given : Result (List ℕ) NoMemory) (text : List ℕ)
+        → asks_for method target body ≡ ocsp_of request → Ocsps signs identity before now request given after → IsText (ocsp_told given) now text
+        → Responds (Runs signs identity) Asks (Ocsps signs identity) Crls now before (asked method target body) text after
+    responds_of method target body request given text asks_it said is =
+        let P : Asked → Type 0 = λ what. RespondsTo (Runs signs identity) Asks (Ocsps signs identity) Crls now before what (ocsp_told given) after in
+        inl (ocsp_told given, subst P (sym asks_it) (given, said, refl), is)
+
+    -- how the exchange ended, by how it was finished
+    ends_of : (came left written : List ℕ) (draft : Drafted) (given : Result (List ℕ) NoMemory) (result : Result (Unit {0}) Fault)
+        → (it : LeftOf {S = Records} (Runs signs identity) Asks (Ocsps signs identity) Crls (Drafts identity) now before after (Some came) (Some left) draft)
+        → Ocsps signs identity before now it.request given after
+        → FinishingEnds now given (Some []) (Some written) result
+        → ServingEnds (Runs signs identity) Asks (Ocsps signs identity) Crls now before after (Some came) (Some left) (Some []) (Some written) result
+    ends_of came left written draft given (Ok done) it said (text, is, wrote) = record {
+      took = it.took;
+      part = asked it.method it.target it.body;
+      text = text;
+      takes = it.takes;
+      framed = it.framed;
+      responds = responds_of it.method it.target it.body it.request given text it.asks_it said is;
+      wrote = wrote;
+    }
+    ends_of came left written draft given (Err fault.Write) it said (text, is, wrote) = record {
+      took = it.took;
+      part = asked it.method it.target it.body;
+      text = text;
+      takes = it.takes;
+      framed = it.framed;
+      responds = responds_of it.method it.target it.body it.request given text it.asks_it said is;
+      wrote = wrote;
+    }
+    ends_of came left written draft given (Err fault.Memory) it said ended = (it.took, it.takes)
+    ends_of came left written draft given (Err fault.Read) it said ended = absurd ended
+    ends_of came left written draft given (Err fault.Store) it said ended = absurd ended
+    ends_of came left written draft given (Err fault.Signer) it said ended = absurd ended
+    ends_of came left written draft given (Err (fault.Refused why)) it said ended = absurd ended
+
+    silent_of : (result : Result (Unit {0}) Fault) → after ≡ before → IfErr result (λ why. why ≢ fault.Write → after ≡ before)
+    silent_of (Ok done) same = tt
+    silent_of (Err why) same = λ not. same
+
+    -- the exchange
+    left_exchange : (came left text : List ℕ) (draft : Drafted)
+        → LeftOf {S = Records} (Runs signs identity) Asks (Ocsps signs identity) Crls (Drafts identity) now before after (Some came) (Some left) draft
+        → FinishesAt gave draft now text → ExchangeAt signs now identity before came text after
+    left_exchange came left text draft it finished =
+        let told = finished.wrote.told in
+        let said = ocsps_of it.request draft finished.signature finished.wrote.given it.drafted finished.signed finished.wrote.made in record {
+          left = left;
+          written = told.written;
+          result = told.result;
+          ends = ends_of came left told.written draft finished.wrote.given told.result it said told.ends;
+          silent = silent_of told.result it.drafted.1;
+          responded = told.responded;
+        }
+
+  -- what was left of an exchange over an office that keeps records
+  pub left_moves : {S : Type 0} (is_clean : S → Type 0) (stands : Signatory → S → Records → Type 0) (now : ℕ) (s t : S) (came left : List ℕ)
+      (out written : Option (List ℕ)) (draft : Drafted)
+      → Leads is_clean stands
+      (λ identity before after. BeginningEnds (Runs signs identity) Asks (Ocsps signs identity) Crls (Drafts identity) now before after
+      (Some came) (Some left) out written (Ok (Some draft)))
+      s t
+      → Leads is_clean stands
+      (λ identity before after. (text : List ℕ) → FinishesAt gave draft now text → ExchangeAt signs now identity before came text after)
+      s t
+  left_moves is_clean stands now s t came left out written draft moved =
+      follows is_clean stands
+      (λ identity before after. BeginningEnds (Runs signs identity) Asks (Ocsps signs identity) Crls (Drafts identity) now before after
+      (Some came) (Some left) out written (Ok (Some draft)))
+      (λ identity before after. (text : List ℕ) → FinishesAt gave draft now text → ExchangeAt signs now identity before came text after)
+      (λ identity before after ended text finished. left_exchange now identity before after came left text draft ended.0 finished)
+      s
+      t
+      moved

@@ -1,0 +1,155 @@
+//! An OCSP answer that is left to be signed, and how it is finished.
+
+ghost use Rattle.std.specs.Prelude.{◌≡◌, ◌≤◌, [], IfSome, length, option_copied, option_map};
+ghost use Rattle.reg_calls.specs.Items.{items_of};
+ghost use Rattle.reg_jobs.specs.Exchanges.{Responded};
+ghost use Rattle.reg_jobs.specs.Leaving.{Finished, FinishedOf, IsSignatureOf, Wrote};
+ghost use Rattle.reg_signer.specs.Forms.{HasForm};
+
+use crate::front::Front;
+use crate::handling::{TEXT_ROOM, response_of};
+use crate::logging::log_answer;
+use crate::place::Place;
+use mio::net::UnixStream;
+use reg_core::{Memory, Moment};
+use reg_http::finish_one;
+use reg_ocsp::Draft;
+use reg_signer::has_form;
+use std::alloc::Global;
+use std::io;
+use std::io::ErrorKind;
+use std::net::SocketAddr;
+
+/// How many bytes of what was asked are kept for the log: as many as it tells of a text.
+const MOST_KEPT: usize = 256;
+
+/// An OCSP answer that is left to be signed.
+#[derive(Drop)]
+pub struct Unsigned {
+    /// What is to be signed, and what the answer has beside that.
+    pub(crate) draft: Draft,
+    /// The moment of the answer.
+    pub(crate) moment: Moment,
+    /// When it was begun, where there is a log.
+    pub(crate) began: Option<u64>,
+    /// Who asked.
+    pub(crate) peer: SocketAddr,
+    /// The front of what was asked, where there is a log.
+    pub(crate) asked: Vec<u8>,
+}
+
+/// What is to be signed for an answer of this moment, with what the log will tell of it.
+pub(crate) fn unsigned_of(
+    alloc: Global,
+    draft: Draft,
+    moment: Moment,
+    began: Option<u64>,
+    peer: SocketAddr,
+    request: &[u8],
+) -> Unsigned
+    ensures draft { result.draft ≡ draft }
+    ensures moment { result.moment ≡ moment }
+{
+    Unsigned {
+        draft,
+        moment,
+        began,
+        peer,
+        asked: kept_of(alloc, began, request),
+    }
+}
+
+/// The front of what was asked, where there is a log. What there is no memory for is left out.
+fn kept_of(alloc: Global, began: Option<u64>, request: &[u8]) -> Vec<u8> {
+    if began.is_none() {
+        return Vec::new(alloc);
+    }
+    let front = &request[..request.len().min(MOST_KEPT)];
+    match Vec::from_slice(alloc, front) {
+        Ok(kept) => kept,
+        Err(_) => Vec::new(alloc),
+    }
+}
+
+/// Asks who signs answers, at this socket, and waits for nothing.
+pub(crate) fn ask_for<F: Front>(
+    front: &F,
+    signer: Option<&str>,
+    unsigned: &Unsigned,
+) -> io::Result<UnixStream> {
+    match signer {
+        Some(path) => front.ask(path, unsigned.draft.message()),
+        None => Err(io::Error::from(ErrorKind::NotFound)),
+    }
+}
+
+/// The text that finishes an answer, with what came on a connection, or without a signature; and that is put into the log, where there is one.
+pub(crate) fn finish_logged<P: Place, F: Front>(
+    alloc: Global,
+    front: &F,
+    unsigned: Unsigned,
+    link: Option<UnixStream>,
+) -> Vec<u8>
+    ensures { Finished P.gave unsigned result.items }
+{
+    let signature = signature_of::<P>(alloc, &unsigned.draft, link);
+    let text = finish(alloc, &unsigned.draft, unsigned.moment, &signature);
+    log_answer(
+        alloc,
+        front,
+        unsigned.began,
+        unsigned.moment,
+        unsigned.peer,
+        &unsigned.asked,
+        &text,
+        signature.is_none(),
+    );
+    text
+}
+
+/// The signature that came on a connection, where one did and it has the form of one by who is to sign.
+fn signature_of<P: Place>(alloc: Global, draft: &Draft, link: Option<UnixStream>) -> Option<Vec<u8>>
+    ensures signed { IsSignatureOf P.gave draft.now (option_map (λ signature. signature.items) result) }
+    ensures short { IfSome result (λ signature. length signature.items ≤ 4096) }
+{
+    let mut link = link?;
+    let answer = P::hear(alloc, &mut link, draft.message())?;
+    if has_form(draft.algorithm(), draft.key(), &answer) {
+        Some(answer)
+    } else {
+        None
+    }
+}
+
+/// The text that finishes an answer of a moment, with this signature or without one.
+fn finish(alloc: Global, draft: &Draft, moment: Moment, signature: &Option<Vec<u8>>) -> Vec<u8>
+    requires { IfSome signature.now (λ signature. length signature.items ≤ 4096) }
+    ensures { Wrote draft.now moment (option_map (λ signature. signature.items) signature.now) result.items }
+{
+    let given = draft.response(alloc, slice_of(signature));
+    match Vec::with_capacity(alloc, TEXT_ROOM) {
+        Ok(text) => finish_in(alloc, moment, given, text),
+        Err(_) => Vec::new(alloc),
+    }
+}
+
+/// The text that carries what was given for an OCSP request, in a room that is empty.
+fn finish_in(
+    alloc: Global,
+    moment: Moment,
+    given: Result<Vec<u8>, Memory>,
+    mut text: Vec<u8>,
+) -> Vec<u8>
+    requires { text.items ≡ [] }
+    ensures { FinishedOf moment (items_of given) result.items }
+{
+    let finished = finish_one(alloc, &mut text, moment, given);
+    response_of(finished, text)
+}
+
+/// The bytes, where there are any.
+fn slice_of(bytes: &Option<Vec<u8>>) -> Option<&[u8]>
+    ensures { option_copied result ≡ option_map (λ it. it.items) bytes.now }
+{
+    Some(bytes.as_ref()?.as_slice())
+}

@@ -1,0 +1,140 @@
+//! What is to be signed for an answer, and what the answer has beside it.
+
+ghost use Rattle.std.specs.Prelude.{◌≡◌, ◌^◌, ◌≤◌, IfOk, IfSome, length, option_copied, option_map};
+ghost use Rattle.reg_ocsp.specs.Drafts.{drafted_response};
+
+use crate::response::{RefusalStatus, basic_with, refusal};
+use reg_core::Memory;
+use std::alloc::Global;
+use std::marker::Model;
+
+/// What is to be signed for an OCSP request, and what its answer has beside that (BasicOCSPResponse, RFC 6960 4.2.1). It holds
+/// all that the answer is made of, so that nothing else is looked at once the signature is there.
+#[derive(Drop)]
+pub struct Draft {
+    /// The ResponseData.
+    message: Vec<u8>,
+    /// The AlgorithmIdentifier of the signature.
+    algorithm: Vec<u8>,
+    /// The public key of who is to sign.
+    key: Vec<u8>,
+    /// The certificate that stands with the answer, where one does.
+    certificate: Option<Vec<u8>>,
+}
+
+impl Model for Draft {
+    ghost use Rattle.std.specs.Prelude.{IfSome, option_map};
+    ghost use Rattle.reg_ocsp.specs.Drafts.{Drafted};
+
+    ghost Value = { Drafted };
+
+    ghost view = { λ it. record {
+      message = it.message.items;
+      algorithm = it.algorithm.items;
+      key = it.key.items;
+      certificate = option_map (λ bytes. bytes.items) it.certificate;
+    } };
+
+    ghost invariant = { λ it. (length it.message.items ≤ 2 ^ 27) × (length it.algorithm.items ≤ 1024)
+        × IfSome it.certificate (λ bytes. length bytes.items ≤ 65536) };
+}
+
+impl Draft {
+    /// A draft of these parts.
+    ///
+    /// # Errors
+    /// `Memory`, the only one.
+    pub fn of(
+        alloc: Global,
+        message: &[u8],
+        algorithm: &[u8],
+        key: &[u8],
+        certificate: Option<&[u8]>,
+    ) -> Result<Draft, Memory>
+        requires short_message { length message.now ≤ 2 ^ 27 }
+        requires short_algorithm { length algorithm.now ≤ 1024 }
+        requires short_certificate { IfSome (option_copied certificate) (λ bytes. length bytes ≤ 65536) }
+        ensures { IfOk result (λ it. it ≡ record {
+          message = message.now;
+          algorithm = algorithm.now;
+          key = key.now;
+          certificate = option_copied certificate.entry;
+        }) }
+    {
+        let message = copy_of(alloc, message)?;
+        let algorithm = copy_of(alloc, algorithm)?;
+        let key = copy_of(alloc, key)?;
+        let certificate = copied(alloc, certificate)?;
+        Ok(Draft {
+            message,
+            algorithm,
+            key,
+            certificate,
+        })
+    }
+
+    /// What is to be signed.
+    pub fn message(&self) -> &[u8]
+        ensures { result.now ≡ self.now.message }
+    {
+        &self.message
+    }
+
+    /// The AlgorithmIdentifier of the signature.
+    pub fn algorithm(&self) -> &[u8]
+        ensures { result.now ≡ self.now.algorithm }
+    {
+        &self.algorithm
+    }
+
+    /// The public key of who is to sign.
+    pub fn key(&self) -> &[u8]
+        ensures { result.now ≡ self.now.key }
+    {
+        &self.key
+    }
+
+    /// The whole OCSPResponse with this signature; internalError where there is none (RFC 6960 2.3).
+    ///
+    /// # Errors
+    /// `Memory`, the only one.
+    pub fn response(&self, alloc: Global, signature: Option<&[u8]>) -> Result<Vec<u8>, Memory>
+        requires { IfSome (option_copied signature) (λ bytes. length bytes ≤ 65536) }
+        ensures { IfOk result (λ bytes. bytes.items ≡ drafted_response self.now (option_copied signature.entry)) }
+    {
+        match signature {
+            Some(signature) => basic_with(
+                alloc,
+                &self.message,
+                &self.algorithm,
+                signature,
+                slice_of(&self.certificate),
+            ),
+            None => copy_of(alloc, &refusal(RefusalStatus::Internal)),
+        }
+    }
+}
+
+/// A copy of bytes.
+fn copy_of(alloc: Global, bytes: &[u8]) -> Result<Vec<u8>, Memory>
+    ensures { IfOk result (λ copy. copy.items ≡ bytes.now) }
+{
+    Vec::from_slice(alloc, bytes).map_err(|_| Memory)
+}
+
+/// A copy of bytes, where there are any.
+fn copied(alloc: Global, bytes: Option<&[u8]>) -> Result<Option<Vec<u8>>, Memory>
+    ensures { IfOk result (λ copy. option_map (λ it. it.items) copy ≡ option_copied bytes.entry) }
+{
+    match bytes {
+        Some(bytes) => Ok(Some(copy_of(alloc, bytes)?)),
+        None => Ok(None),
+    }
+}
+
+/// The bytes, where there are any.
+fn slice_of(bytes: &Option<Vec<u8>>) -> Option<&[u8]>
+    ensures { option_copied result ≡ option_map (λ it. it.items) bytes.now }
+{
+    Some(bytes.as_ref()?.as_slice())
+}
