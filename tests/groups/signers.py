@@ -563,31 +563,32 @@ def at_once(t, work, wanted, what):
     t.true(seconds < AT_ONCE, f"{what} took {seconds:.1f} s")
 
 
-def is_signed(desk):
-    """Whether an OCSP request is answered by more than internalError."""
-    return not desk.ask("POST", "/ocsp", OCSP).endswith(INTERNAL)
+def is_signed(counter):
+    """Whether an `ocsp` line is answered by more than internalError."""
+    return counter.ask(f"ocsp {OCSP.hex()}") != f"ocsp {INTERNAL.hex()}"
 
 
 def hung(t, *words):
-    """A desk whose signer hangs, at which one OCSP request has waited for its ten seconds."""
+    """A desk whose signer hangs, at whose counter one `ocsp` line has waited for its ten seconds."""
     t.register(key=P256_KEY, lines="".join(f"{MOMENT} {it}\n" for it in ENTERED))
     t.clock(MOMENT)
     signer = Hanging(t)
     desk = t.open("ca.db", *words, *P256)
-    told, seconds = timed(lambda: is_signed(desk))
+    counter = t.counter()
+    told, seconds = timed(lambda: is_signed(counter))
     t.same((told, signer.asked), (False, 1), "an answer that nobody signs, and how often the signer was asked")
     t.true(9.9 <= seconds < 20, f"it took {seconds:.1f} s in place of ten")
-    return signer, desk
+    return signer, desk, counter
 
 
 @test(seconds=24)
 def a_signer_that_hangs_holds_nobody_up_for_ten_seconds_more(t):
-    """Each OCSP request is internalError at once, and all else is answered at once. Then one request tries the signer, and all is as before."""
-    signer, desk = hung(t, "--log")
+    """Each `ocsp` line is internalError at once, and all else is answered at once. Then one line tries the signer, and all is as before; an
+    OCSP request over HTTP, for which nobody else waits, asks it each time."""
+    signer, desk, counter = hung(t, "--log")
     tired = time.monotonic()
-    counter = t.counter()
     while time.monotonic() < tired + 4:
-        at_once(t, lambda: is_signed(desk), False, "OCSP behind it")
+        at_once(t, lambda: is_signed(counter), False, "a line behind it")
         at_once(t, lambda: program.parted(desk.ask("GET", "/counts"))[0], 200, "GET /counts")
         time.sleep(0.5)
     at_once(t, lambda: counter.ask("request 05 asked"), "request 1 due 2026-01-02T00:00:00Z", "a request at the counter")
@@ -595,42 +596,42 @@ def a_signer_that_hangs_holds_nobody_up_for_ten_seconds_more(t):
     at_once(t, lambda: program.parted(desk.ask("GET", "/status/05"))[2][:19], b'{"status":"revoked"', "GET /status")
     t.same(signer.asked, 1, "how often the signer was asked")
     signer.mended.set()
-    at_once(t, lambda: is_signed(desk), False, "OCSP before it is tried again")
-    authority.until(lambda: is_signed(desk), "an answer that is signed", 15)
+    at_once(t, lambda: is_signed(counter), False, "a line before it is tried again")
+    at_once(t, lambda: desk.ask("POST", "/ocsp", OCSP).endswith(INTERNAL), False, "a request over HTTP")
+    authority.until(lambda: is_signed(counter), "an answer that is signed", 15)
     t.true(time.monotonic() - tired > 9, f"it was tried again {time.monotonic() - tired:.1f} s after it had hung")
     for _ in range(3):
-        at_once(t, lambda: is_signed(desk), True, "OCSP once it answers again")
-    told = [re.search(r'("POST|"GET|counter).*?( signer)?$', it) for it in desk.end().told]
-    unsigned = [it[2] is not None for it in told if it[1] == '"POST']
-    t.same(unsigned, [True] * (len(unsigned) - 4) + [False] * 4, "which OCSP answers have the word `signer` in the log")
-    t.same([it[0] for it in told if it[1] != '"POST' and it[2]], [], "which other lines have it")
+        at_once(t, lambda: is_signed(counter), True, "a line once it answers again")
+    told = [re.search(r'("POST|"GET|counter "ocsp|counter).*?( signer)?$', it) for it in desk.end().told]
+    unsigned = [it[2] is not None for it in told if it[1] == 'counter "ocsp']
+    t.same(unsigned, [True] * (len(unsigned) - 4) + [False] * 4, "which `ocsp` lines have the word `signer` in the log")
+    t.same([it[0] for it in told if it[1] != 'counter "ocsp' and it[2]], [], "which other lines have it")
 
 
 @test(seconds=32)
 def a_signer_that_still_hangs_is_tried_once_in_ten_seconds(t):
-    signer, desk = hung(t)
+    signer, desk, counter = hung(t)
     tired = time.monotonic()
     waited = seconds = 0
     while signer.asked == 1 and waited < 15:
         time.sleep(0.2)
         waited = time.monotonic() - tired
-        told, seconds = timed(lambda: is_signed(desk))
-        t.same(told, False, "OCSP that nobody signs")
+        told, seconds = timed(lambda: is_signed(counter))
+        t.same(told, False, "a line that nobody signs")
     t.true(9 < waited < 15 and 9.9 <= seconds < 20, f"it was tried again after {waited:.1f} s, for {seconds:.1f} s")
-    at_once(t, lambda: is_signed(desk), False, "OCSP behind that")
+    at_once(t, lambda: is_signed(counter), False, "a line behind that")
 
 
 @test(seconds=25)
 def a_crl_asks_a_signer_that_is_left_alone(t):
     """While it hangs the CRL waits for its own ten seconds; once it answers the CRL is issued at once, and OCSP is signed again."""
-    signer, desk = hung(t)
-    counter = t.counter()
+    signer, desk, counter = hung(t)
     told, seconds = timed(lambda: counter.ask("crl"))
     t.same((told, signer.asked), ("F3 signer", 2), "a CRL")
     t.true(9.9 <= seconds < 20, f"it took {seconds:.1f} s in place of ten")
-    at_once(t, lambda: is_signed(desk), False, "OCSP behind it")
+    at_once(t, lambda: is_signed(counter), False, "a line behind it")
     signer.mended.set()
-    at_once(t, lambda: is_signed(desk), False, "OCSP once it would answer")
+    at_once(t, lambda: is_signed(counter), False, "a line once it would answer")
     at_once(t, lambda: counter.ask("crl"), "crl 1 entries 0", "a CRL then")
-    at_once(t, lambda: is_signed(desk), True, "OCSP behind that")
+    at_once(t, lambda: is_signed(counter), True, "a line behind that")
     t.same(signer.asked, 4, "how often the signer was asked")

@@ -133,6 +133,17 @@ def who_has_gone_is_not_signed_for(t):
     t.same([sum(names(it, serial) for it in asked) for serial in (0x2200, 0x3300)], [0, 1], "signatures of who went and of who stayed")
 
 
+@test(seconds=2)
+def who_ended_its_side_behind_its_request_is_answered(t):
+    t.signer()
+    desk = opened(t)
+    with desk.connect() as half:
+        body = asked_for(0x1111)
+        half.sendall(b"POST /ocsp HTTP/1.1\r\nContent-Length: %d\r\n\r\n" % len(body) + body)
+        half.shutdown(socket.SHUT_WR)
+        t.true(is_signed(program.parted(program.read_all(half))[2]), "its answer")
+
+
 @test(seconds=14)
 def ten_seconds_and_for_one_alone(t):
     """What signs hangs for one of them."""

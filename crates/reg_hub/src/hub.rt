@@ -354,7 +354,7 @@ impl Hub {
         }
     }
 
-    /// Asks for the next, unless who waits for it has gone.
+    /// Asks for the next, unless who had to wait for its turn has gone.
     fn ask_next<H: Handler>(
         &mut self,
         pending: Pending<H::Ticket>,
@@ -362,13 +362,7 @@ impl Hub {
         signings: &mut Signings<H::Ticket>,
         now: u64,
     ) {
-        let place = pending.asker.place;
-        self.callers.advance(place, &mut self.shared, now);
-        if !self.callers.is_waiting(pending.asker) {
-            return;
-        }
-        if self.callers.has_ended(pending.asker) {
-            self.callers.dismiss(pending.asker, &mut self.shared);
+        if pending.has_waited(now) && self.has_gone(pending.asker, now) {
             return;
         }
         match handler.ask(&pending.ticket) {
@@ -376,6 +370,15 @@ impl Hub {
             Err(error) if error.kind() == ErrorKind::WouldBlock => signings.put_off(pending, now),
             Err(_) => self.finish_one(pending.asker, pending.ticket, None, handler, now),
         }
+    }
+
+    /// Whether who waits for an answer has gone: the connection broke, or its side of it ended. It is let go then.
+    fn has_gone(&mut self, asker: Asker, now: u64) -> bool {
+        self.callers.advance(asker.place, &mut self.shared, now);
+        if self.callers.has_ended(asker) {
+            self.callers.dismiss(asker, &mut self.shared);
+        }
+        !self.callers.is_waiting(asker)
     }
 
     /// Has the connection watched on which a signature was asked for.

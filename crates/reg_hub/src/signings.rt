@@ -31,6 +31,13 @@ pub(crate) struct Pending<T> {
     until: u64,
 }
 
+impl<T> Pending<T> {
+    /// Whether it had to wait for its turn: what was begun at this moment did not.
+    pub(crate) fn has_waited(&self, now: u64) -> bool {
+        self.until < now.saturating_add(PATIENCE)
+    }
+}
+
 /// A signature that was asked for on a connection.
 #[derive(Drop)]
 struct Asked<T> {

@@ -64,10 +64,6 @@ pub trait Place {
     /// What holds a key gave this answer to this message.
     ghost gave: { List ℕ → List ℕ → Type 0 };
 
-    /// What it gave is a signature, where it has the form of one.
-    ghost gave_signs: { (identity : Identity) (message answer : List ℕ) → gave message answer → HasForm identity answer
-        → Self.Opened.signs identity message answer };
-
     /// What came for a message on the connection on which its answer was asked for, up to the end. `None` where that is not its end yet,
     /// or is behind 4,096 bytes, and for want of memory.
     fn hear(alloc: Global, link: &mut UnixStream, message: &[u8]) -> Option<Vec<u8>>
@@ -183,4 +179,8 @@ pub trait Place {
     /// Removes what lies at a path. What can't be removed, or is in use, stays.
     fn remove(&mut self, path: &str)
         ensures { removed self.old path.now self.new };
+
+    /// What holds a key gave is a signature, where it has the form of one.
+    ghost gave_signs: { (identity : Identity) (message answer : List ℕ) → gave message answer → HasForm identity answer
+        → Self.Opened.signs identity message answer };
 }

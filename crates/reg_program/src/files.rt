@@ -56,7 +56,7 @@ pub type FileOffice = Office<FileStore<FileFrom<Unknown>>, FileSigner>;
 /// The machine's files, as a place where registers lie. No state of theirs stands in the handle, so its relations read none.
 impl<'a> Place for Machine<'a> {
     ghost use Rattle.std.specs.Prelude.{IfSome, length};
-    ghost use mathlib.Core.Logic.{inr};
+    ghost use Rattle.std.proofs.Common.{inr};
     ghost use Rattle.reg_office.specs.Answering.{signatory_of};
     ghost use Rattle.reg_program.specs.Files.{IsAudited, IsOpenedFor, IsMadeFrom};
 
