@@ -1,3 +1,4 @@
 pub mod JsonLemmas
+pub mod Leavings
 pub mod Routed
 pub mod SeekOne
