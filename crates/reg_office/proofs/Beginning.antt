@@ -1,6 +1,7 @@
 -- What an OCSP request comes to where its answer may be left to be signed.
 use Rattle.std.proofs.Common.{◌≡◌, ℕ, List, inl, inr, refl, sym, subst}
-use Rattle.std.specs.Prelude.{Option, None}
+use Rattle.std.proofs.lemmas.Bool.{false≢true}
+use Rattle.std.specs.Prelude.{Option, Some, None, IsSome}
 use Rattle.reg_core.specs.Checks.{clock_checks, first_of_all}
 use Rattle.reg_core.specs.Records.{Records}
 use Rattle.reg_core.specs.declared.refusal.Refusal.{Refusal}
@@ -8,6 +9,7 @@ use Rattle.reg_crl.specs.Signing.{Identity}
 use Rattle.reg_ocsp.specs.Request.{Id, IsRequest}
 use Rattle.reg_ocsp.specs.Response.{refusal_response}
 use Rattle.reg_ocsp.specs.declared.response.RefusalStatus.{RefusalStatus}
+use Rattle.reg_ocsp.specs.declared.response.RefusalStatus.TheVariants.{Internal, TryLater}
 use Rattle.reg_calls.specs.Drafts.{IsReadDraft}
 use Rattle.reg_calls.specs.Ocsp.{IsOcspData, IsOcspReply, IsResponse, IsTimely}
 use Rattle.reg_calls.specs.Signatories.{Responder, responder_key}
@@ -23,6 +25,24 @@ module _ {signs : Identity → List ℕ → List ℕ → Type 0} {responder : Re
       → IsRefusedWhole status begun → IsBegun signs responder records now request begun
   refused_begun status (Whole bytes) answers is = answers bytes.items is
   refused_begun status (Left draft) answers is = absurd is
+
+  -- internalError, or tryLater at a moment that the clock refuses, to a request that was read
+  pub internal_begun : (ids : List Id) (nonce : Option (List ℕ)) (begun : Begun) → IsRequest request ids nonce
+      → IsRefusedWhole Internal begun → IsBegun signs responder records now request begun
+  internal_begun ids nonce begun is refused = refused_begun Internal begun (λ bytes same. inr (ids, nonce, is, inl same)) refused
+
+  late : (found : Option Refusal) (P : List ℕ → Type 0) (bytes : List ℕ) → IsSome found → bytes ≡ refusal_response TryLater → IsTimely found P bytes
+  late (Some why) P bytes some same = same
+  late None P bytes some same = absurd (false≢true some)
+
+  pub late_begun : (ids : List Id) (nonce : Option (List ℕ)) (begun : Begun) → IsRequest request ids nonce
+      → IsSome (first_of_all (clock_checks now records.last))
+      → IsRefusedWhole TryLater begun → IsBegun signs responder records now request begun
+  late_begun ids nonce begun is some refused =
+      refused_begun TryLater begun
+      (λ bytes same. inr (ids, nonce, is, inr (late (first_of_all (clock_checks now records.last))
+          (IsResponse signs responder records now ids nonce) bytes some same)))
+      refused
 
   -- what a request that was read came to, at a moment that the clock takes
   pub read_begun : (ids : List Id) (nonce : Option (List ℕ)) (begun : Begun) → IsRequest request ids nonce
