@@ -40,8 +40,13 @@ module _ {signs : Identity → List ℕ → List ℕ → Type 0} {responder : Re
       → IsRefusedWhole TryLater begun → IsBegun signs responder records now request begun
   late_begun ids nonce begun is some refused =
       refused_begun TryLater begun
-      (λ bytes same. inr (ids, nonce, is, inr (late (first_of_all (clock_checks now records.last))
-          (IsResponse signs responder records now ids nonce) bytes some same)))
+      (λ bytes same. inr (
+        ids,
+        nonce,
+        is,
+        inr (late (first_of_all (clock_checks now records.last))
+            (IsResponse signs responder records now ids nonce) bytes some same),
+      ))
       refused
 
   -- what a request that was read came to, at a moment that the clock takes
