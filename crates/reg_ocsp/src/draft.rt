@@ -23,7 +23,7 @@ pub struct Draft {
 }
 
 impl Model for Draft {
-    ghost use Rattle.std.specs.Prelude.{IfSome, option_map};
+    ghost use Rattle.std.specs.Prelude.{◌^◌, ◌≤◌, IfSome, length, option_map};
     ghost use Rattle.reg_ocsp.specs.Drafts.{Drafted};
 
     ghost Value = { Drafted };
