@@ -1,2 +1,3 @@
 pub mod Finding
-pub mod Looking
+pub mod Looks
+pub mod Overlaying

@@ -1,6 +1,6 @@
 //! A file as a database meets it, of which nothing is ever written.
 
-ghost use Rattle.std.specs.Prelude.{◌≡◌, ◌+◌, ◌≤◌, Some, None, true, false, refl, length, is_ok, IfOk, IsErr, IsTrue, OnOk};
+ghost use Rattle.std.specs.Prelude.{◌≡◌, ◌+◌, ◌≤◌, ◌<◌, Some, None, true, false, refl, length, is_ok, IfOk, IsErr, IsTrue, OnOk};
 ghost use Rattle.sqlite_disk.specs.Disk.{CountsFault, Cut, Holds, Torn};
 ghost use Rattle.sqlite_disk.specs.Refusal.{finds_no_room};
 ghost use Rattle.sqlite_wal.specs.Files.{seen_image};
@@ -132,17 +132,20 @@ impl<F: Source> Disk for Overlay<F> {
 
     fn len(&mut self) -> io::Result<usize> {
         let size = self.size();
-        count(size, &mut self.faults)
+        count(&size, &mut self.faults);
+        size
     }
 
     fn read_at(&mut self, at: usize, buf: &mut [u8]) -> io::Result<()> {
         let filled = self.fill(at, buf);
-        count(filled, &mut self.faults)
+        count(&filled, &mut self.faults);
+        filled
     }
 
     fn read_checked(&mut self, key: u64, want: u64, at: usize, buf: &mut [u8]) -> io::Result<()> {
         let filled = self.fill(at, buf);
-        count(filled, &mut self.faults)?;
+        count(&filled, &mut self.faults);
+        filled?;
         if digest_of(key, buf) != want {
             self.faults = self.faults.saturating_add(1);
             self.caught = self.caught.saturating_add(1);
@@ -154,17 +157,22 @@ impl<F: Source> Disk for Overlay<F> {
     fn write_at(&mut self, at: usize, bytes: &[u8]) -> io::Result<()> {
         match &self.below {
             Some(_) => refused(&mut self.faults),
-            None => count(
-                in_memory(overwrite(&mut self.kept, at, bytes)),
-                &mut self.faults,
-            ),
+            None => {
+                let written = in_memory(overwrite(&mut self.kept, at, bytes));
+                count(&written, &mut self.faults);
+                written
+            }
         }
     }
 
     fn set_len(&mut self, len: usize) -> io::Result<()> {
         match &self.below {
             Some(_) => refused(&mut self.faults),
-            None => count(in_memory(resize(&mut self.kept, len)), &mut self.faults),
+            None => {
+                let resized = in_memory(resize(&mut self.kept, len));
+                count(&resized, &mut self.faults);
+                resized
+            }
         }
     }
 
@@ -175,16 +183,12 @@ impl<F: Source> Disk for Overlay<F> {
 }
 
 /// Counts a call that failed.
-fn count<T>(outcome: io::Result<T>, faults: &mut u64) -> io::Result<T>
-    ensures same { result ≡ outcome }
-    ensures counted { CountsFault outcome faults.old faults.new }
+fn count<T>(outcome: &io::Result<T>, faults: &mut u64)
+    ensures { CountsFault outcome.now faults.old faults.new }
 {
     match outcome {
-        Ok(answer) => Ok(answer),
-        Err(error) => {
-            *faults = faults.saturating_add(1);
-            Err(error)
-        }
+        Ok(_) => {}
+        Err(_) => *faults = faults.saturating_add(1),
     }
 }
 

@@ -1,5 +1,5 @@
 -- A talk at a counter, one line after the other.
-use Rattle.std.proofs.Common.{◌≡◌, ◌↔◌, ◌⊎◌, ℕ, Bool, true, false, List, [], ◌∷◌, ◌++◌, length, length-append, append-nil, IsTrue, IsFalse, Option, Some, None, Result, Ok, Err, MatchResult, ◌∙◌, refl, sym, ap, subst, inl, inr, arith}
+use Rattle.std.proofs.Common.{◌≡◌, ◌↔◌, ◌⊎◌, ℕ, Bool, true, List, [], ◌∷◌, ◌++◌, length-append, append-nil, IsTrue, IsFalse, Option, Some, None, Result, Ok, Err, MatchResult, ◌∙◌, refl, sym, ap, subst, inl, inr, arith}
 use Rattle.std.specs.Io.Buffered.{reader_buffer, reader_capacity, reader_inner, reader_remaining}
 use Rattle.std.specs.Io.KnownBytes.{Appends, Consumes, prepend_known}
 use Rattle.std.specs.List.{AllByRecursion, concat}
@@ -9,7 +9,7 @@ use Rattle.std.proofs.KnownBytes.{Appends-nil, Appends-trans, Consumes-nil, Cons
 use Rattle.reg_endings.specs.declared.failure.Failure.{Failure}
 use Rattle.reg_endings.specs.declared.failure.Failure.TheVariants as failure
 use Rattle.reg_lines.specs.Accepted.{IsAccepted}
-use Rattle.reg_jobs.specs.Asking.{IsInput, IsOfTalk, Talked, Talks, TalksOnce}
+use Rattle.reg_jobs.specs.Asking.{IsCut, IsInput, Talked, Talks, TalksOnce}
 use Rattle.reg_jobs.specs.declared.asking.Step.TheVariants as step
 use Rattle.reg_jobs.proofs.Pieces.{concat_push, whole_push}
 
@@ -34,9 +34,9 @@ prepend_nil : (known : Option (List ℕ)) → prepend_known [] known ≡ known
 prepend_nil None = refl
 prepend_nil (Some xs) = refl
 
-pub all_under : {T A : Type 0} (remaining : T → Option (List ℕ)) (reader : BufReader T A) (inner : T) → reader_inner reader ≡ inner → reader_buffer reader ≡ []
-    → reader_capacity reader ≡ 8192 → reader_remaining remaining reader ≡ remaining inner
-all_under remaining reader inner is empty room = rw (room, empty, is) (prepend_nil (remaining inner))
+pub all_under : {T A : Type 0} (reader : BufReader T A) (inner : T) (remaining : T → Option (List ℕ)) → reader_inner reader ≡ inner
+    → reader_buffer reader ≡ [] → reader_capacity reader ≡ 8192 → reader_remaining remaining reader ≡ remaining inner
+all_under reader inner remaining is empty room = rw (room, empty, is) (prepend_nil (remaining inner))
 
 pub talks_under : (sent sent' came came' out out' input under : Option (List ℕ)) (result : Result (Unit {0}) Failure) → input ≡ under
     → Talks sent sent' came came' out out' input result → Talks sent sent' came came' out out' under result
@@ -61,12 +61,12 @@ module _ (input sent came out : Option (List ℕ)) where
   )
 
   -- What was so at a line, and after it.
-  module _ (input' input'' sent' sent'' came' came'' out' out'' : Option (List ℕ)) where
+  module _ (input' sent' sent'' came' came'' out' out'' : Option (List ℕ)) where
     -- one line more
-    pub goes_on : (before accepted after : Bool) → SoFar input' sent' came' out' before
+    pub goes_on : (input'' : Option (List ℕ)) (before accepted after : Bool) → SoFar input' sent' came' out' before
         → TalksOnce sent' sent'' came' came'' out' out'' input' input'' (Ok (step.Told accepted)) → IsTrue after ↔ (IsTrue before × IsTrue accepted)
         → SoFar input'' sent'' came'' out'' after
-    goes_on before accepted after so once both =
+    goes_on input'' before accepted after so once both =
         let (lines, replies, talked, read, all) = so in
         let (line, reply, whole, took, told, heard, said, is) = once in
         let push = all_push replies reply in (
@@ -95,7 +95,7 @@ module _ (input sent came out : Option (List ℕ)) where
 
     -- no line is left
     pub ends : (accepted : Bool) (result : Result (Unit {0}) Failure) → SoFar input' sent' came' out' accepted
-        → TalksOnce sent' sent'' came' came'' out' out'' input' input'' (Ok step.End)
+        → IsInput input' [] × (sent'' ≡ sent') × (came'' ≡ came') × (out'' ≡ out')
         → MatchResult result (λ done. IsTrue accepted) (λ why. (why ≡ failure.Refused) × IsFalse accepted)
         → Talks sent sent'' came came'' out out'' input result
     ends accepted result so none = go result
@@ -114,7 +114,7 @@ module _ (input sent came out : Option (List ℕ)) where
 
     -- a last line without its end is left
     pub cuts : (accepted : Bool) (why : Failure) → SoFar input' sent' came' out' accepted
-        → TalksOnce sent' sent'' came' came'' out' out'' input' input'' (Ok step.Cut)
+        → (left : List ℕ) × IsCut left × IsInput input' left × (sent'' ≡ sent') × (came'' ≡ came') × (out'' ≡ out')
         → ((why ≡ failure.NoLineEnd) × IsTrue accepted) ⊎ ((why ≡ failure.RefusedNoLineEnd) × IsFalse accepted)
         → Talks sent sent'' came came'' out out'' input (Err why)
     cuts accepted why so (left, cut, rest, sends, comes, says) how =

@@ -1,5 +1,5 @@
 -- What a register is asked from outside: requests of peers, and lines at counters.
-use Rattle.std.specs.Prelude.{◌≡◌, ◌≢◌, ◌⊎◌, ℕ, List, ◌∷◌, [], ◌++◌, Option, Some, Result, Ok, Err, IfErr}
+use Rattle.std.specs.Prelude.{◌≡◌, ◌≢◌, ◌⊎◌, ℕ, List, ◌∷◌, [], ◌++◌, Some, Result, Ok, Err, IfErr}
 use Rattle.reg_core.specs.Calendar.{moment_text}
 use Rattle.reg_core.specs.Lines.{fault_line}
 use Rattle.reg_core.specs.Records.{Records}

@@ -101,7 +101,7 @@ pub trait Place {
     /// # Errors
     ///
     /// `BadResponder` before anything is opened, where a certificate that is to stand with answers can't be read, is none, or has
-    /// a key of another algorithm. Else as [`Place::open`], with `BadSigner` where the latest CRL was signed under another
+    /// a key of another algorithm. Else as [`Place::open`], with `BadSigner` where the latest CRL was signed by a key under another
     /// algorithm, or the issuer's key is none of the algorithm, and `BadResponder` where the issuer's certificate has another key.
     fn open_to_sign(
         &mut self,

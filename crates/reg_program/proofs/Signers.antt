@@ -1,13 +1,11 @@
 -- Who signs, by what a register is opened for.
-use Rattle.std.proofs.Common.{◌≡◌, ℕ, List, get_or, Option, Some, None, inl, inr, sym, ap, subst, arith}
+use Rattle.std.proofs.Common.{◌≡◌, ℕ, List, get_or, Option, Some, None, sym, ap, subst, arith}
 use Rattle.std.specs.Prelude.{option_map}
-use Rattle.sha1.specs.Sha1.{sha1}
 use Rattle.reg_crl.specs.Signing.{Identity, sha1_algorithm}
 use Rattle.reg_der.specs.Der.{tlv, length_octets}
 use Rattle.reg_words.specs.declared.job.KeyHolder.{KeyHolder}
 use Rattle.reg_jobs.specs.Signing.{IsSigning, identity_told}
 use Rattle.reg_signer.specs.Algorithms.{identifier_of}
-use Rattle.reg_signer.specs.Both.{SignsBoth, digest}
 use Rattle.reg_signer.specs.declared.algorithm.Algorithm.{Algorithm}
 use Rattle.reg_signer.specs.declared.algorithm.Algorithm.TheVariants.{EcdsaSha256, EcdsaSha384, RsaSha256, Ed25519}
 
@@ -23,7 +21,7 @@ module _ {A : Type 0} (told_by : A → Option KeyHolder) (signing : Option A) (k
   as_found signer is same = subst (λ (s : Option A). IsSigning (option_map told_by s) key identity) (sym is) (signer, same)
 
 -- the AlgorithmIdentifier of the digest is that of no key: they differ in their lengths
-no_key : (algorithm : Algorithm) → sha1_algorithm ≡ identifier_of algorithm → ⊥
+pub no_key : (algorithm : Algorithm) → sha1_algorithm ≡ identifier_of algorithm → ⊥
 unfolding tlv length_octets
 no_key EcdsaSha256 same =
     let lengths : ◌≡◌ {A = ℕ} 9 10 = ap (λ (bytes : List ℕ). get_or bytes 1 0) same in omega arith
@@ -33,9 +31,3 @@ no_key RsaSha256 same =
     let lengths : ◌≡◌ {A = ℕ} 9 13 = ap (λ (bytes : List ℕ). get_or bytes 1 0) same in omega arith
 no_key Ed25519 same =
     let lengths : ◌≡◌ {A = ℕ} 9 5 = ap (λ (bytes : List ℕ). get_or bytes 1 0) same in omega arith
-
--- what is signed under the identity of the digest is its seal
-pub digest_seals : (answers : List ℕ → List ℕ → List ℕ → Type 0) (message signature : List ℕ)
-    → SignsBoth answers digest message signature → signature ≡ sha1 message
-digest_seals answers message signature (inl (is, sealed)) = sealed
-digest_seals answers message signature (inr (answered, form)) = absurd (no_key form.algorithm form.named)

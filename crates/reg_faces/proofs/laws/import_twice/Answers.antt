@@ -1,6 +1,7 @@
 -- A text that is imported twice, by its lemma, in which nothing is asked of what signed a CRL.
 use Rattle.std.proofs.Common.{ℕ, List}
 use Rattle.reg_core.specs.Crls.{CertList, cert_list}
+use Rattle.reg_core.specs.Records.{Crl}
 use Rattle.reg_crl.specs.Signing.{signed_by}
 use Rattle.reg_calls.proofs.Happening.{happens_by}
 use Rattle.reg_faces.specs.Faces.{Lines}
@@ -28,4 +29,4 @@ returns g c = λ identity records between after now text out out' again again' r
     out'
     again
     again'
-    (record { rows = rows; signatures = all_any (λ crl. AnyBytes (cert_list records crl.number crl.this_update) crl.bytes) (λ crl. tt) records.crls })
+    (record { rows = rows; signatures = all_any (λ (crl : Crl). AnyBytes (cert_list records crl.number crl.this_update) crl.bytes) (λ crl. tt) records.crls })

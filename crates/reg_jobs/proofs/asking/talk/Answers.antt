@@ -9,7 +9,7 @@ loop-preserved g c =
     goes_on _ _ _ _ _ _ _ _ _ _ _ _ _ c.in-Told.accepted _ c.loop.invariant (rw c.in-Told.is at c.in-Ok.ensures) c.both-is_accepted.ensures
 
 pub returns-in-Cut : goal.returns-in-Cut
-returns-in-Cut g c = cuts _ _ _ _ _ _ _ _ _ _ _ _ _ _ c.loop.invariant (rw c.in-Cut.is at c.in-Ok.ensures) c.cut_off.ensures
+returns-in-Cut g c = cuts _ _ _ _ _ _ _ _ _ _ _ _ _ c.loop.invariant (rw c.in-Cut.is at c.in-Ok.ensures) c.cut_off.ensures
 
 pub returns-in-End : goal.returns-in-End
-returns-in-End g c = ends _ _ _ _ _ _ _ _ _ _ _ _ _ _ c.loop.invariant (rw c.in-End.is at c.in-Ok.ensures) c.ended.ensures
+returns-in-End g c = ends _ _ _ _ _ _ _ _ _ _ _ _ _ c.loop.invariant (rw c.in-End.is at c.in-Ok.ensures) c.ended.ensures

@@ -1,4 +1,4 @@
-use Rattle.std.proofs.Common.{◌≡◌, ◌∙◌, length, take, ap, arith}
+use Rattle.std.proofs.Common.{◌≡◌, take, ap, arith}
 use Rattle.reg_jobs.proofs.LineByLine.{going_start, going_more, going_ended, going_failed, going_over, going_checked}
 use Rattle.reg_jobs.proofs.lining.tell_lines.Goals as goal
 

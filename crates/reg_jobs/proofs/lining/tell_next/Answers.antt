@@ -1,4 +1,4 @@
-use Rattle.reg_jobs.proofs.LineByLine.{tells_whole, tells_not_whole, tells_none, tells_last, tells_not_last, reads_full, reads_short}
+use Rattle.reg_jobs.proofs.LineByLine.{tells_whole, tells_not_whole, tells_last, tells_not_last, reads_full, reads_short}
 use Rattle.reg_jobs.proofs.lining.tell_next.Goals as goal
 
 pub returns-in-Ok : goal.returns-in-Ok

@@ -1,5 +1,6 @@
 -- What files hold before a database is opened in them.
-use Rattle.std.proofs.Common.{◌≡◌, ◌≤◌, ℕ, List, length, slice_index, Option, Some, None, Result, Ok, Err, IfOk, Bool, true, false, IsTrue, refl, sym, subst, ◌∙◌, inl, inr, arith}
+use Rattle.std.proofs.Common.{◌≡◌, ◌≤◌, ◌↔◌, ℕ, List, length, slice_index, Some, None, Bool, false, IsTrue, refl, subst, ◌∙◌, arith}
+use Rattle.std.proofs.lemmas.Bool.{iff_false}
 use Rattle.sqlite_pages.specs.PageMap.{PageMap}
 use Rattle.sqlite_pool.specs.Stored.{reserved, stored_size}
 use Rattle.sqlite_pool.proofs.ProbeLemmas.{reserved_word}
@@ -9,7 +10,7 @@ use Rattle.sqlite_wal.specs.PageSize.{bytes_of, size_in_file, Names}
 use Rattle.sqlite_wal.specs.Recovery.{Image, IsIgnored}
 use Rattle.sqlite_wal.specs.Recovery as raw
 use Rattle.sqlite_wal.specs.declared.page_size.PageSize.{PageSize}
-use Rattle.sqlite.specs.Files.{HoldsDatabase, IsBlankAs, IsNothing}
+use Rattle.sqlite.specs.Files.{HoldsDatabase}
 use Rattle.sqlite.proofs.FileLemmas.{probe_finds, probe_size}
 
 -- of files that hold a database of such pages, the first page that is found begins with the S of SQLite
@@ -32,3 +33,7 @@ holds_none old new size same by_log by_file other db held =
 -- nor do files that name no size of a page
 pub names_none : (image : Image) → (¬ IsIgnored image.log → Names None (be32 image.log 8)) → (IsIgnored image.log → Names None (size_in_file image.db)) → (db : Trees) → ¬ HoldsDatabase image db
 names_none image by_log by_file db held = probe_finds image None by_log by_file db held refl
+
+-- where a test says that a thing is not so, another thing that is not either tells of it too
+pub neither : {b : Bool} {P Q : Type 0} → (IsTrue b ↔ P) → b ≡ false → ¬ Q → Q ↔ P
+neither both is_not other = (λ is. absurd (other is), λ p. absurd (iff_false both is_not p))
