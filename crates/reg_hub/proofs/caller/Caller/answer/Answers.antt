@@ -16,8 +16,8 @@ returns-in-Answering-clause-exchanged g c = exchanged_none g.H.Handler.answers g
 pub returns-in-Leaving-clause-exchanged : goal.returns-in-Leaving-clause-exchanged
 returns-in-Leaving-clause-exchanged g c = exchanged_none g.H.Handler.answers g.H.Handler.tells _ _ _ _ refl refl
 
-pub returns-in-Whole-clause-exchanged : goal.returns-in-Whole-clause-exchanged
-returns-in-Whole-clause-exchanged g c =
+pub returns-after-is_exact-clause-exchanged : goal.returns-after-is_exact-clause-exchanged
+returns-after-is_exact-clause-exchanged g c =
     exchanged_request g.H.Handler.answers g.H.Handler.tells _ _ _ _ c.as_slice.result.now (outcome_of c.in_ok-given-in-Asking.given)
     c.in_ok-given-in-Asking.ensures.ok c.in_ok-given-in-Asking.ensures.counted
 
