@@ -1,4 +1,4 @@
 pub mod JsonLemmas
-pub mod Leavings
+mod Leavings
 pub mod Routed
 pub mod SeekOne
