@@ -225,10 +225,11 @@ module _ {S I R : Type 0} (is_clean : S → Type 0) (stands : I → S → R → 
         t
         (lifts_drafts s now ended.0.request draft t ended.0.drafted)
     begun_moves now s t input left out written (Err why) ended read memory =
-        served_moves now s t input left out written (Err why) ended (λ same. read (still same)) (λ same. memory (still same))
+        served_moves now s t input left out written (Err why) ended (λ same. read (still Read same)) (λ same. memory (still Memory same))
       where
-        still : {other : Fault} → Result.Err {A = Unit {0}} why ≡ Err other → Result.Err {A = Option Drafted} why ≡ Err other
-        still same = let is : why ≡ _ = cc in ap (λ (f : Fault). Err f) is
+        still : (other : Fault) → (let first : Result (Unit {0}) Fault = Err why in first ≡ Err other)
+            → (let first : Result (Option Drafted) Fault = Err why in first ≡ Err other)
+        still other same = let is : why ≡ other = cc in λ i. Err (is i)
 
 -- a failed read is no failed write, and want of memory is none
 pub read_is_not_write : Read ≢ Write

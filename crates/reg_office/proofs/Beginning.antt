@@ -18,7 +18,12 @@ use Rattle.reg_calls.specs.declared.begun.Begun.{Begun}
 use Rattle.reg_calls.specs.declared.begun.Begun.TheVariants.{Whole, Left}
 use Rattle.reg_office.specs.Beginning.{IsBegun, IsReadBegun, IsRefusedWhole}
 
-module _ {signs : Identity → List ℕ → List ℕ → Type 0} {responder : Responder} {records : Records} {now : ℕ} {request : List ℕ} where
+-- tryLater, where the clock refuses the moment
+late : (found : Option Refusal) (P : List ℕ → Type 0) (bytes : List ℕ) → IsSome found → bytes ≡ refusal_response TryLater → IsTimely found P bytes
+late (Some why) P bytes some same = same
+late None P bytes some same = absurd (false≢true some)
+
+module _ (signs : Identity → List ℕ → List ℕ → Type 0) (responder : Responder) (records : Records) (now : ℕ) (request : List ℕ) where
   -- a refusal that answers the request
   pub refused_begun : (status : RefusalStatus) (begun : Begun)
       → ((bytes : List ℕ) → bytes ≡ refusal_response status → IsOcspReply signs responder records now request bytes)
@@ -26,15 +31,12 @@ module _ {signs : Identity → List ℕ → List ℕ → Type 0} {responder : Re
   refused_begun status (Whole bytes) answers is = answers bytes.items is
   refused_begun status (Left draft) answers is = absurd is
 
-  -- internalError, or tryLater at a moment that the clock refuses, to a request that was read
+  -- internalError to a request that was read
   pub internal_begun : (ids : List Id) (nonce : Option (List ℕ)) (begun : Begun) → IsRequest request ids nonce
       → IsRefusedWhole Internal begun → IsBegun signs responder records now request begun
   internal_begun ids nonce begun is refused = refused_begun Internal begun (λ bytes same. inr (ids, nonce, is, inl same)) refused
 
-  late : (found : Option Refusal) (P : List ℕ → Type 0) (bytes : List ℕ) → IsSome found → bytes ≡ refusal_response TryLater → IsTimely found P bytes
-  late (Some why) P bytes some same = same
-  late None P bytes some same = absurd (false≢true some)
-
+  -- tryLater to it, at a moment that the clock refuses
   pub late_begun : (ids : List Id) (nonce : Option (List ℕ)) (begun : Begun) → IsRequest request ids nonce
       → IsSome (first_of_all (clock_checks now records.last))
       → IsRefusedWhole TryLater begun → IsBegun signs responder records now request begun

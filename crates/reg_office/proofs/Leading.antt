@@ -102,8 +102,8 @@ module _ {C : Type 0} (g : Ghosts C) (signs : Signs) (old new : Held C) (who who
   )
 
   -- an OCSP request whose answer may be left to be signed
-  pub begin_leads : {S : Type 0} (answers : S → ℕ → List ℕ → Result (List ℕ) Memory → S → Type 0)
-      (drafts : S → ℕ → List ℕ → Drafted → S → Type 0) (s t : S) (now : ℕ) (request : List ℕ) (result : Result Begun Memory)
+  pub begin_leads : {S : Type 0} (s t : S) (answers : S → ℕ → List ℕ → Result (List ℕ) Memory → S → Type 0)
+      (drafts : S → ℕ → List ℕ → Drafted → S → Type 0) (now : ℕ) (request : List ℕ) (result : Result Begun Memory)
       → ((given : Result (List ℕ) Memory)
       → LeadsOver g signs (λ those before after. Ocsps signs those before now request given after) (old, who) (new, who')
       → answers s now request given t)
@@ -114,10 +114,10 @@ module _ {C : Type 0} (g : Ghosts C) (signs : Signs) (old new : Held C) (who who
       → IfOk result (IsBegun signs who.answers records now request))
       → ((records : Records) → Stands g signs old who.crls records → Stands g signs new who'.crls records)
       → Begins answers drafts s now request result t
-  begin_leads answers drafts s t now request (Ok (Whole bytes)) answered left begun stays =
+  begin_leads s t answers drafts now request (Ok (Whole bytes)) answered left begun stays =
       answered (Ok bytes.items) (ocsp_leads now request (Ok bytes) begun stays)
-  begin_leads answers drafts s t now request (Ok (Left draft)) answered left begun stays = left draft (draft_leads now request draft begun stays)
-  begin_leads answers drafts s t now request (Err memory) answered left begun stays =
+  begin_leads s t answers drafts now request (Ok (Left draft)) answered left begun stays = left draft (draft_leads now request draft begun stays)
+  begin_leads s t answers drafts now request (Err memory) answered left begun stays =
       answered (Err memory) (ocsp_leads {Z = Unit {0}} now request (Err memory) (λ records stands is_clean. tt) stays)
 
 -- a fault of the tables is none of the signer

@@ -342,7 +342,7 @@ fn drafted<S: Signer>(
       message = message.now;
       algorithm = (S.identity signer.now).algorithm;
       key = (S.identity signer.now).public_key;
-      certificate = option_copied naming.certificate;
+      certificate = option_copied naming.entry.certificate;
     })) }
 {
     match signer.public_key() {
