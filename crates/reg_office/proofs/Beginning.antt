@@ -1,7 +1,7 @@
 -- What an OCSP request comes to where its answer may be left to be signed.
 use Rattle.std.proofs.Common.{◌≡◌, ℕ, List, inl, inr, refl, sym, subst}
 use Rattle.std.proofs.lemmas.Bool.{false≢true}
-use Rattle.std.specs.Prelude.{Option, Some, None, IsSome}
+use Rattle.std.specs.Prelude.{Option, Some, None, IfSome, IsSome}
 use Rattle.reg_core.specs.Checks.{clock_checks, first_of_all}
 use Rattle.reg_core.specs.Records.{Records}
 use Rattle.reg_core.specs.declared.refusal.Refusal.{Refusal}
@@ -62,14 +62,24 @@ module _ (signs : Identity → List ℕ → List ℕ → Type 0) (responder : Re
       record { ids = ids; nonce = nonce; is_request = is; timely = none; read = left }
 
 -- what is left to be signed of a request that was read, with what its answer has of who answers
-pub left_draft : (responder : Responder) (records : Records) (now : ℕ) (ids : List Id) (nonce : Option (List ℕ)) (message : List ℕ) (draft : Drafted)
-    → draft ≡ record {
+pub left_draft : (responder : Responder) (records : Records) (now : ℕ) (ids : List Id) (nonce : Option (List ℕ)) (message : List ℕ)
+    (left : Option Drafted) (draft : Drafted)
+    → IfSome left (λ it. it ≡ record {
       message = message;
       algorithm = responder.identity.algorithm;
       key = responder.identity.public_key;
       certificate = responder.certificate;
-    }
+    })
+    → left ≡ Some draft
     → IsOcspData (responder_key responder records) records now ids nonce message → IsReadDraft responder records now ids nonce draft
-left_draft responder records now ids nonce message draft is of_records =
-    let P : Drafted → Type 0 = λ it. IsReadDraft responder records now ids nonce it in
-    subst P (sym is) (record { of_records = of_records; by = record { algorithm = refl; key = refl; certificate = refl } })
+left_draft responder records now ids nonce message left draft drafted some of_records =
+    let whole : Drafted = record {
+      message = message;
+      algorithm = responder.identity.algorithm;
+      key = responder.identity.public_key;
+      certificate = responder.certificate;
+    } in
+    let P : Option Drafted → Type 0 = λ found. IfSome found (λ it. it ≡ whole) in
+    let Q : Drafted → Type 0 = λ it. IsReadDraft responder records now ids nonce it in
+    let is : draft ≡ whole = subst P some drafted in
+    subst Q (sym is) (record { of_records = of_records; by = record { algorithm = refl; key = refl; certificate = refl } })

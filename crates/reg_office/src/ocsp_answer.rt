@@ -323,7 +323,8 @@ fn begin_response<C: Alter, S: Signer>(
     ensures same_identity { S.identity signer.new ≡ S.identity signer.old }
 {
     let message = ocsp_data(alloc, store, naming.own_key, now, asked)?;
-    match drafted(alloc, signer, naming, &message)? {
+    let left = drafted(alloc, signer, naming, &message)?;
+    match left {
         Some(draft) => Ok(Begun::Left(draft)),
         None => Ok(Begun::Whole(signed(alloc, signer, naming, &message)?)),
     }

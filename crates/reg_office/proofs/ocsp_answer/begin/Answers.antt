@@ -1,6 +1,7 @@
 use Rattle.std.proofs.Common.{Err, ap, inl}
 use Rattle.std.specs.Prelude.{option_copied}
 use Rattle.reg_ocsp.specs.Views.{ids_seen}
+use Rattle.reg_ocsp.specs.declared.response.RefusalStatus.TheVariants.{Malformed}
 use Rattle.reg_tables.proofs.Staying.{ok_then}
 use Rattle.reg_office.specs.Answering.{responder_named}
 use Rattle.reg_office.proofs.Beginning.{internal_begun, late_begun, read_begun, refused_begun}
@@ -9,7 +10,7 @@ use Rattle.reg_office.proofs.ocsp_answer.begin.Goals as goal
 pub returns-in-Err-Malformed-clause-begun : goal.returns-in-Err-Malformed-clause-begun
 returns-in-Err-Malformed-clause-begun g c records shows clean =
     ok_then c.refused_whole.result c.refused_whole.ensures
-    (λ begun is. refused_begun g.S.Signer.signs (responder_named (g.S.Signer.identity c.args.signer.now) c.args.naming) records c.args.now c.args.request.now _ begun (λ bytes same. inl ((c.in-Err-Malformed.ensures.malformed (ap Err c.in-Err-Malformed.field-0-is)), same)) is)
+    (λ begun is. refused_begun g.S.Signer.signs (responder_named (g.S.Signer.identity c.args.signer.now) c.args.naming) records c.args.now c.args.request.now Malformed begun (λ bytes same. inl ((c.in-Err-Malformed.ensures.malformed (ap Err c.in-Err-Malformed.field-0-is)), same)) is)
 
 pub returns-in-Ok-begin_response-clause-begun : goal.returns-in-Ok-begin_response-clause-begun
 returns-in-Ok-begin_response-clause-begun g c records shows clean =
