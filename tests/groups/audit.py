@@ -429,7 +429,7 @@ def eight_at_once_all_succeed(t):
     words = [program.program(), "audit", "ca.db"]
     with t.untouched("eight audits"):
         begun = [subprocess.Popen(words, cwd=t.room, stdout=subprocess.PIPE, stderr=subprocess.PIPE, env=program.environment()) for _ in range(8)]
-        ended = [(*it.communicate(timeout=60), it.returncode) for it in begun]
+        ended = [(*it.communicate(timeout=60 * program.PATIENCE), it.returncode) for it in begun]
     told = f"sound, 2000 certificates, {len(records.revocations)} revoked, {len(records.crls)} CRLs\n".encode()
     t.same(ended, [(told, b"", 0)] * 8)
 

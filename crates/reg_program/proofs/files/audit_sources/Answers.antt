@@ -20,5 +20,5 @@ returns-in-Ok-clause-ok g c =
       found = found.found;
     }
 
-pub returns-in-Err-clause-err : goal.returns-in-Err-clause-err
-returns-in-Err-clause-err g c = opened _ _ c.from.ensures c.in-Err.ensures.faults
+pub returns-clause-err : goal.returns-clause-err
+returns-clause-err g c = opened _ _ c.from.ensures c.in-Err.ensures.faults
