@@ -1,11 +1,12 @@
 -- An answer that was left to be signed, once it is finished: an exchange over the records of where it was begun.
-use Rattle.std.proofs.Common.{◌≡◌, ◌≢◌, ℕ, List, [], inl, inr, refl, sym, subst, ◌∙◌}
+use Rattle.std.proofs.Common.{◌≡◌, ◌≢◌, ℕ, List, [], Global, Vec, ap, inl, inr, refl, sym, subst, ◌∙◌}
 use Rattle.std.specs.Prelude.{Option, Some, None, Result, Ok, Err, IfErr, IfOk}
 use Rattle.reg_core.specs.Records.{Records}
 use Rattle.reg_core.specs.declared.memory.Memory.{Memory as NoMemory}
 use Rattle.reg_core.specs.declared.refusal.Fault.{Fault}
 use Rattle.reg_core.specs.declared.refusal.Fault.TheVariants as fault
 use Rattle.reg_calls.specs.Drafts.{Drafts, IsBy, IsDraft}
+use Rattle.reg_calls.specs.Items.{items_of}
 use Rattle.reg_calls.specs.Leads.{Leads}
 use Rattle.reg_calls.specs.Ocsp.{IsOcspReply}
 use Rattle.reg_calls.specs.Signatories.{Responder, Signatory}
@@ -64,9 +65,9 @@ module _ (signs : Signs) (gave : List ℕ → List ℕ → Type 0)
     responds_of : (method target body request : List ℕ) (given : Result (List ℕ) NoMemory) (text : List ℕ)
         → asks_for method target body ≡ ocsp_of request → Ocsps signs identity before now request given after → IsText (ocsp_told given) now text
         → Responds (Runs signs identity) Asks (Ocsps signs identity) Crls now before (asked method target body) text after
-    responds_of method target body request given text asks_it said is =
+    responds_of method target body request given text asks_it stated is =
         let P : Asked → Type 0 = λ what. RespondsTo (Runs signs identity) Asks (Ocsps signs identity) Crls now before what (ocsp_told given) after in
-        inl (ocsp_told given, subst P (sym asks_it) (given, said, refl), is)
+        inl (ocsp_told given, subst P (sym asks_it) (given, stated, refl), is)
 
     -- how the exchange ended, by how it was finished
     ends_of : (came left written : List ℕ) (draft : Drafted) (given : Result (List ℕ) NoMemory) (result : Result (Unit {0}) Fault)
@@ -74,29 +75,29 @@ module _ (signs : Signs) (gave : List ℕ → List ℕ → Type 0)
         → Ocsps signs identity before now it.request given after
         → FinishingEnds now given (Some []) (Some written) result
         → ServingEnds (Runs signs identity) Asks (Ocsps signs identity) Crls now before after (Some came) (Some left) (Some []) (Some written) result
-    ends_of came left written draft given (Ok done) it said (text, is, wrote) = record {
+    ends_of came left written draft given (Ok done) it stated (text, is, wrote) = record {
       took = it.took;
       part = asked it.method it.target it.body;
       text = text;
       takes = it.takes;
       framed = it.framed;
-      responds = responds_of it.method it.target it.body it.request given text it.asks_it said is;
+      responds = responds_of it.method it.target it.body it.request given text it.asks_it stated is;
       wrote = wrote;
     }
-    ends_of came left written draft given (Err fault.Write) it said (text, is, wrote) = record {
+    ends_of came left written draft given (Err fault.Write) it stated (text, is, wrote) = record {
       took = it.took;
       part = asked it.method it.target it.body;
       text = text;
       takes = it.takes;
       framed = it.framed;
-      responds = responds_of it.method it.target it.body it.request given text it.asks_it said is;
+      responds = responds_of it.method it.target it.body it.request given text it.asks_it stated is;
       wrote = wrote;
     }
-    ends_of came left written draft given (Err fault.Memory) it said ended = (it.took, it.takes)
-    ends_of came left written draft given (Err fault.Read) it said ended = absurd ended
-    ends_of came left written draft given (Err fault.Store) it said ended = absurd ended
-    ends_of came left written draft given (Err fault.Signer) it said ended = absurd ended
-    ends_of came left written draft given (Err (fault.Refused why)) it said ended = absurd ended
+    ends_of came left written draft given (Err fault.Memory) it stated ended = (it.took, it.takes)
+    ends_of came left written draft given (Err fault.Read) it stated ended = absurd ended
+    ends_of came left written draft given (Err fault.Store) it stated ended = absurd ended
+    ends_of came left written draft given (Err fault.Signer) it stated ended = absurd ended
+    ends_of came left written draft given (Err (fault.Refused why)) it stated ended = absurd ended
 
     silent_of : (result : Result (Unit {0}) Fault) → after ≡ before → IfErr result (λ why. why ≢ fault.Write → after ≡ before)
     silent_of (Ok done) same = tt
@@ -108,11 +109,11 @@ module _ (signs : Signs) (gave : List ℕ → List ℕ → Type 0)
         → FinishesAt gave draft now text → ExchangeAt signs now identity before came text after
     left_exchange came left text draft it finished =
         let told = finished.wrote.told in
-        let said = ocsps_of it.request draft finished.signature finished.wrote.given it.drafted finished.signed finished.wrote.made in record {
+        let stated = ocsps_of it.request draft finished.signature finished.wrote.given it.drafted finished.signed finished.wrote.made in record {
           left = left;
           written = told.written;
           result = told.result;
-          ends = ends_of came left told.written draft finished.wrote.given told.result it said told.ends;
+          ends = ends_of came left told.written draft finished.wrote.given told.result it stated told.ends;
           silent = silent_of told.result it.drafted.1;
           responded = told.responded;
         }
@@ -136,6 +137,12 @@ module _ (signs : Signs) (gave : List ℕ → List ℕ → Type 0)
       s
       t
       moved
+
+-- what was made of a draft, as bytes
+pub items_made : (draft : Drafted) (given : Result (Vec ℕ Global) NoMemory) (first second : Option (List ℕ)) → first ≡ second
+    → IfOk given (λ bytes. bytes.items ≡ drafted_response draft first) → IfOk (items_of given) (λ bytes. bytes ≡ drafted_response draft second)
+items_made draft (Ok bytes) first second same is = is ∙ ap (λ (signature : Option (List ℕ)). drafted_response draft signature) same
+items_made draft (Err memory) first second same is = tt
 
 -- what is wanted of a text may say less
 meets_weaker : {T : Type 0} (finishes : T → List ℕ → Type 0) (wanted other : List ℕ → Type 0) → ((text : List ℕ) → wanted text → other text)

@@ -32,22 +32,22 @@ pub(crate) const TEXT_ROOM: usize = 4_096;
 
 /// A desk that answers peers, each at a moment of the clock, and has no counter.
 #[derive(Drop)]
-pub(crate) struct ServedDesk<'a, P: Place, F: Front> {
+pub(crate) struct ServedDesk<'a, 'w, P: Place, F: Front> {
     pub(crate) office: P::Opened,
     pub(crate) alloc: Global,
     pub(crate) front: &'a F,
     /// The socket of who signs OCSP answers, where what holds a key does.
-    pub(crate) signer: Option<&'a str>,
+    pub(crate) signer: Option<&'w str>,
 }
 
 /// A desk that answers peers and lines at counters, each at a moment of the clock.
 #[derive(Drop)]
-pub(crate) struct OpenDesk<'a, P: Place, F: Front> {
+pub(crate) struct OpenDesk<'a, 'w, P: Place, F: Front> {
     pub(crate) office: P::Opened,
     pub(crate) alloc: Global,
     pub(crate) front: &'a F,
     /// The socket of who signs OCSP answers, where what holds a key does.
-    pub(crate) signer: Option<&'a str>,
+    pub(crate) signer: Option<&'w str>,
 }
 
 /// What is left to be signed where nobody asks over HTTP: nothing.
@@ -69,7 +69,7 @@ pub(crate) struct LinedDesk<K: Keeper> {
     pub(crate) alloc: Global,
 }
 
-impl<'a, P: Place, F: Front> Handler for ServedDesk<'a, P, F> {
+impl<'a, 'w, P: Place, F: Front> Handler for ServedDesk<'a, 'w, P, F> {
     ghost use Rattle.reg_calls.specs.Leads.{Leads};
     ghost use Rattle.reg_jobs.specs.Leaving.{Finished, Meets};
     ghost use Rattle.reg_jobs.specs.Exchanges.{Exchange, NoEntry};
@@ -105,7 +105,7 @@ impl<'a, P: Place, F: Front> Handler for ServedDesk<'a, P, F> {
     }
 }
 
-impl<'a, P: Place, F: Front> Handler for OpenDesk<'a, P, F> {
+impl<'a, 'w, P: Place, F: Front> Handler for OpenDesk<'a, 'w, P, F> {
     ghost use Rattle.reg_calls.specs.Leads.{Leads};
     ghost use Rattle.reg_jobs.specs.Leaving.{Finished, Meets};
     ghost use Rattle.reg_jobs.specs.Exchanges.{Exchange, Entry};

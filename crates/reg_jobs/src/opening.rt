@@ -19,13 +19,13 @@ use std::io::Write;
 
 /// Keeps the register at a path open, until the program is ended. It is opened before the port is bound, and the port is bound
 /// before the counter's socket is laid.
-pub fn hold_open<P: Place, F: Front, W: Write>(
+pub fn hold_open<'w, P: Place, F: Front, W: Write>(
     rt: &HostRuntime,
     front: &F,
     place: &mut P,
     path: &str,
-    signer: &Option<KeyHolder<'_>>,
-    answerer: &Answerer<'_>,
+    signer: &Option<KeyHolder<'w>>,
+    answerer: &Answerer<'w>,
     port: u16,
     counter: &str,
     writer: &mut W,
@@ -34,7 +34,7 @@ pub fn hold_open<P: Place, F: Front, W: Write>(
 {
     let office = place.open_to_sign(path, signer, answerer)?;
     let alloc = rt.alloc();
-    let mut opened: OpenDesk<'_, P, F> = OpenDesk {
+    let mut opened: OpenDesk<'_, '_, P, F> = OpenDesk {
         office,
         alloc,
         front,
@@ -48,7 +48,7 @@ pub fn hold_open<P: Place, F: Front, W: Write>(
 /// Binds the port, lays the counter's socket, tells the port, and answers who comes.
 fn keep_open<P: Place, F: Front, W: Write>(
     rt: &HostRuntime,
-    opened: &mut OpenDesk<'_, P, F>,
+    opened: &mut OpenDesk<'_, '_, P, F>,
     port: u16,
     counter: &str,
     writer: &mut W,

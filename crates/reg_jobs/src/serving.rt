@@ -23,13 +23,13 @@ use std::io::{ErrorKind, Write};
 pub(crate) const LOOPBACK: [u8; 4] = [127, 0, 0, 1];
 
 /// Answers so many peers over a register at a path. It is opened before the port is bound.
-pub fn serve<P: Place, F: Front, W: Write>(
+pub fn serve<'w, P: Place, F: Front, W: Write>(
     rt: &HostRuntime,
     front: &F,
     place: &mut P,
     path: &str,
-    signer: &Option<KeyHolder<'_>>,
-    answerer: &Answerer<'_>,
+    signer: &Option<KeyHolder<'w>>,
+    answerer: &Answerer<'w>,
     port: u16,
     requests: u32,
     writer: &mut W,
@@ -38,7 +38,7 @@ pub fn serve<P: Place, F: Front, W: Write>(
 {
     let office = place.open_to_sign(path, signer, answerer)?;
     let alloc = rt.alloc();
-    let mut served: ServedDesk<'_, P, F> = ServedDesk {
+    let mut served: ServedDesk<'_, '_, P, F> = ServedDesk {
         office,
         alloc,
         front,
@@ -50,10 +50,10 @@ pub fn serve<P: Place, F: Front, W: Write>(
 }
 
 /// The socket of what signs OCSP answers, where what holds a key does: the responder's, or else the one that signs CRLs.
-pub(crate) fn answers_at<'a>(
-    signer: &'a Option<KeyHolder<'_>>,
-    answerer: &'a Answerer<'_>,
-) -> Option<&'a str> {
+pub(crate) fn answers_at<'w>(
+    signer: &Option<KeyHolder<'w>>,
+    answerer: &Answerer<'w>,
+) -> Option<&'w str> {
     match answerer {
         Answerer::Delegate { holder, .. } => Some(holder.socket.as_str()),
         Answerer::Issuer { .. } => Some(signer.as_ref()?.socket.as_str()),
@@ -63,7 +63,7 @@ pub(crate) fn answers_at<'a>(
 /// Binds the port, tells it, and answers so many peers.
 fn serve_desk<P: Place, F: Front, W: Write>(
     rt: &HostRuntime,
-    served: &mut ServedDesk<'_, P, F>,
+    served: &mut ServedDesk<'_, '_, P, F>,
     port: u16,
     requests: u32,
     writer: &mut W,

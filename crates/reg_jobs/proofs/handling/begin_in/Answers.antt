@@ -11,8 +11,8 @@ returns-in-Ok-Some g c =
 
 pub returns-in-Ok-None : goal.returns-in-Ok-None
 returns-in-Ok-None g c =
-    exchange_over g.P.Opened.Keeper.is_clean g.P.Opened.Keeper.stands g.P.Opened.Keeper.signs c.args.now (λ (v : Vec ℕ Global). v.items) _ _ _ _
-    c.args.request.now _ _ (Ok tt) c.requires (rw c.in-Ok-None.field-0-is at c.in-Ok-None.ensures.ends) tt
+    exchange_over g.P.Opened.Keeper.is_clean g.P.Opened.Keeper.stands g.P.Opened.Keeper.signs c.args.now (λ (v : Vec ℕ Global). v.items)
+    c.args.text c.begin_one-begun.new.writer _ _ c.args.request.now _ _ (Ok tt) c.requires (rw c.in-Ok-None.field-0-is at c.in-Ok-None.ensures.ends) tt
     c.response_of.ensures
 
 pub returns-in-Err : goal.returns-in-Err

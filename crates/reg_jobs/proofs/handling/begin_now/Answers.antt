@@ -6,4 +6,4 @@ use Rattle.reg_jobs.proofs.handling.begin_now.Goals as goal
 pub returns-in-Ok-clause-ok : goal.returns-in-Ok-clause-ok
 returns-in-Ok-clause-ok g c =
     told_moves g.P.Opened.Keeper.is_clean g.P.Opened.Keeper.stands g.P.Opened.Keeper.signs c.in-Ok.now _ _ c.args.request.now (Finished g.P.Place.gave)
-    g.F.Front.told (outcome_of c.begin_logged.result) c.in-Ok.ensures c.begin_logged.ensures
+    g.F.Front.told (outcome_of c.begin_logged.result) c.in-Ok.ensures.told c.begin_logged.ensures
