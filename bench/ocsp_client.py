@@ -1,6 +1,7 @@
 #!/usr/bin/env python3
 """The inputs and the client of bench/ocsp.sh: orders, rows and index write them, ask, commands, slow and hung measure; sign is a signer."""
 import collections
+import contextlib
 import multiprocessing
 import socket
 import subprocess
@@ -211,7 +212,7 @@ def hung(port, counter, files):
         for at in range(10 * ROUNDS):
             waiting.append(ask_one(("127.0.0.1", port), few[at % len(few)]))
             start = time.perf_counter()
-            with ask_one(("127.0.0.1", port), b"GET /counts HTTP/1.0\r\n\r\n") as peer:
+            with contextlib.closing(ask_one(("127.0.0.1", port), b"GET /counts HTTP/1.0\r\n\r\n")) as peer:
                 while peer.recv(65536):
                     pass
             took["GET /counts"].append(time.perf_counter() - start)
