@@ -1,5 +1,6 @@
 pub mod Asked
 pub mod Bodies
+pub mod Lists
 pub mod Parts
 pub mod RespondsTo
 pub mod Routes

@@ -2,11 +2,13 @@
 #![tactic(auto)]
 
 mod bodies;
+mod lists;
 mod parts;
 mod paths;
 mod respond;
 pub mod routes;
 mod serve;
 
+pub use lists::{ListAsked, NoPage, asks_list, read_list, refuse_list, send_list, tell_page};
 pub use reg_heads::Answer;
 pub use serve::serve_one;

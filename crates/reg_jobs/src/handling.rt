@@ -6,7 +6,7 @@ ghost use Rattle.reg_faces.specs.Faces.{Lines};
 ghost use Rattle.reg_calls.specs.Leads.{Leads};
 ghost use Rattle.reg_lines.specs.Script.{ScriptEnds};
 ghost use Rattle.reg_heads.specs.Response.{memory_text};
-ghost use Rattle.reg_jobs.specs.Exchanges.{Entry, EntryAt, Exchange, ExchangeAt, LineRuns, Replied, Responded, line_at};
+ghost use Rattle.reg_jobs.specs.Exchanges.{Entry, EntryAt, Exchange, ExchangeAt, LineRuns, ListEnds, ListedAt, OpenExchange, OpenExchangeAt, Replied, Responded, SaysList, line_at};
 
 use crate::front::Front;
 use crate::logging::{began, log_answer, log_line, log_lost};
@@ -15,6 +15,7 @@ use reg_calls::Keeper;
 use reg_core::{Fault, Moment};
 use reg_faces::{run_script, serve_one};
 use reg_heads::write_memory_fault;
+use reg_http::{ListAsked, asks_list, read_list, refuse_list, send_list, tell_page};
 use reg_hub::{Handler, Lost, Stopped};
 use std::alloc::{AllocError, Global};
 use std::net::SocketAddr;
@@ -78,16 +79,16 @@ impl<'a, P: Place, F: Front> Handler for ServedDesk<'a, P, F> {
 
 impl<'a, P: Place, F: Front> Handler for OpenDesk<'a, P, F> {
     ghost use Rattle.reg_calls.specs.Leads.{Leads};
-    ghost use Rattle.reg_jobs.specs.Exchanges.{Exchange, Entry};
+    ghost use Rattle.reg_jobs.specs.Exchanges.{Entry, OpenExchange};
 
     ghost answers = { λ s request text t. Leads P.Opened.is_clean P.Opened.stands
-        (λ identity before after. Exchange P.Opened.signs F.told identity before request text after) s.office t.office };
+        (λ identity before after. OpenExchange P.Opened.signs F.told identity before request text after) s.office t.office };
 
     ghost tells = { λ s line text t. Leads P.Opened.is_clean P.Opened.stands
         (λ identity before after. Entry P.Opened.signs F.told identity before line text after) s.office t.office };
 
     fn answer(&mut self, peer: SocketAddr, request: &[u8]) -> Result<Vec<u8>, Stopped> {
-        answer_now::<P, F>(self.alloc, &mut self.office, self.front, peer, request)
+        answer_open::<P, F>(self.alloc, &mut self.office, self.front, peer, request)
     }
 
     fn tell(&mut self, line: &[u8]) -> Result<Vec<u8>, Stopped> {
@@ -158,6 +159,25 @@ fn answer_now<P: Place, F: Front>(
     }
 }
 
+/// Answers what came of a peer of an open desk, at the moment of the clock.
+fn answer_open<P: Place, F: Front>(
+    alloc: Global,
+    office: &mut P::Opened,
+    front: &F,
+    peer: SocketAddr,
+    request: &[u8],
+) -> Result<Vec<u8>, Stopped>
+    ensures ok { IfOk result (λ text. Leads P.Opened.is_clean P.Opened.stands
+        (λ identity before after. OpenExchange P.Opened.signs F.told identity before request.now text.items after)
+        office.old office.new) }
+    ensures err { OnErr result (office.new ≡ office.old) }
+{
+    match front.moment() {
+        Ok(now) => Ok(open_logged::<P, F>(alloc, office, front, now, peer, request)),
+        Err(_) => Err(Stopped),
+    }
+}
+
 /// Answers a line of a counter, at the moment of the clock.
 fn tell_now<P: Place, F: Front>(
     alloc: Global,
@@ -212,6 +232,101 @@ fn answer_logged<P: Place, F: Front>(
     let is_unsigned = has_failed::<P>(office, failures);
     log_answer(alloc, front, began, now, peer, request, &text, is_unsigned);
     text
+}
+
+/// Answers what came of a peer of an open desk, at a moment, and puts that into the log, where there is one.
+fn open_logged<P: Place, F: Front>(
+    alloc: Global,
+    office: &mut P::Opened,
+    front: &F,
+    now: Moment,
+    peer: SocketAddr,
+    request: &[u8],
+) -> Vec<u8>
+    ensures { Leads P.Opened.is_clean P.Opened.stands
+        (λ identity before after. OpenExchangeAt P.Opened.signs now identity before request.now result.items after) office.old office.new }
+{
+    let began = began(front);
+    let failures = P::failures(office);
+    let text = open_at::<P>(alloc, office, now, request);
+    let is_unsigned = has_failed::<P>(office, failures);
+    log_answer(alloc, front, began, now, peer, request, &text, is_unsigned);
+    text
+}
+
+/// Answers what came of a peer of an open desk, at a moment: with a page of a list, where it asks for one.
+fn open_at<P: Place>(
+    alloc: Global,
+    office: &mut P::Opened,
+    now: Moment,
+    request: &[u8],
+) -> Vec<u8>
+    ensures { Leads P.Opened.is_clean P.Opened.stands
+        (λ identity before after. OpenExchangeAt P.Opened.signs now identity before request.now result.items after) office.old office.new }
+{
+    if asks_list(request) {
+        list_at::<P>(alloc, office, now, request)
+    } else {
+        answer_at(alloc, office, now, request)
+    }
+}
+
+/// Answers a request for a list, at a moment.
+fn list_at<P: Place>(
+    alloc: Global,
+    office: &mut P::Opened,
+    now: Moment,
+    request: &[u8],
+) -> Vec<u8>
+    ensures { Leads P.Opened.is_clean P.Opened.stands
+        (λ identity before after. ListedAt now before request.now result.items after) office.old office.new }
+{
+    let mut text = Vec::new(alloc);
+    let served = serve_list::<P>(alloc, office, now, request, &mut text);
+    response_of(served, text)
+}
+
+/// Writes the answer to a request for a list, at a moment, behind a text that is empty.
+fn serve_list<P: Place>(
+    alloc: Global,
+    office: &mut P::Opened,
+    now: Moment,
+    request: &[u8],
+    text: &mut Vec<u8>,
+) -> Result<(), Fault>
+    requires { text.old.items ≡ [] }
+    ensures { Leads P.Opened.is_clean P.Opened.stands
+        (λ identity before after. ListEnds now before request.now text.new.items result after) office.old office.new }
+{
+    match read_list(alloc, request) {
+        Ok(asked) => tell_list::<P>(alloc, office, now, asked, text),
+        Err(fault) => Err(fault),
+    }
+}
+
+/// Writes the answer to what is asked of lists, at a moment, behind a text that is empty.
+fn tell_list<P: Place>(
+    alloc: Global,
+    office: &mut P::Opened,
+    now: Moment,
+    asked: ListAsked,
+    text: &mut Vec<u8>,
+) -> Result<(), Fault>
+    requires { text.old.items ≡ [] }
+    ensures { Leads P.Opened.is_clean P.Opened.stands
+        (λ identity before after. SaysList before now asked text.new.items result × (after ≡ before)) office.old office.new }
+{
+    let told = match asked {
+        ListAsked::Nothing(why) => refuse_list(alloc, why),
+        ListAsked::Page { from, most } => {
+            let given = P::page(alloc, office, now, from, most);
+            tell_page(alloc, from, &given)
+        }
+    };
+    match told {
+        Ok(answer) => send_list(alloc, text, &answer, now),
+        Err(fault) => Err(fault),
+    }
 }
 
 /// Whether a signature did not come since the counts of those were these: of a CRL, or of an OCSP answer.

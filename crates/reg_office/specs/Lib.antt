@@ -11,3 +11,4 @@ pub mod Stands
 pub mod Calls
 pub mod Cases
 pub mod Decisions
+pub mod Numbered

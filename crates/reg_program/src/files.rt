@@ -13,6 +13,7 @@ ghost use Rattle.reg_jobs.specs.Failing.{IsMaking, IsOpening};
 ghost use Rattle.reg_program.specs.Files.{IsAudited, IsOpenedFor, IsOpenedFrom, IsMadeFrom, Showed};
 ghost use Rattle.reg_jobs.specs.Signing.{EmbedsOwn, Follows, IsSigning, crls_told};
 ghost use Rattle.reg_calls.specs.Leads.{Leads};
+ghost use Rattle.reg_lists.specs.Pages.{Pages};
 ghost use Rattle.reg_jobs.specs.Identifiers.{Identifies};
 ghost use Rattle.reg_jobs.specs.Schedules.{Reschedules};
 ghost use Rattle.reg_office.specs.Answering.{answers_by, failures_of, signatory_of};
@@ -26,13 +27,14 @@ use crate::answering::{failures_in, responder_told};
 use crate::machine::Machine;
 use crate::signing::{FileSigner, signer_for};
 use crate::watching::Teller;
-use reg_core::{Fault, Label, Memory, Policy, Schedule};
+use reg_core::{Fault, Label, Memory, Moment, Policy, Schedule};
 use reg_crl::Signer;
 use reg_der::Issuer;
 use reg_endings::Failure;
 use reg_files::{Unlaid, absent, claim_file, open_file, remove_file};
 use reg_findings::Verdict;
 use reg_jobs::Place;
+use reg_lists::{Cursor, Page};
 use reg_office::{Office, Responder};
 use reg_signer::KeyOrDigest;
 use reg_store::{Store, StoreFault};
@@ -129,6 +131,16 @@ impl<'a> Place for Machine<'a> {
         octets: Label,
     ) -> Result<(), StoreFault> {
         identify(alloc, register, octets)
+    }
+
+    fn page(
+        alloc: Global,
+        register: &mut FileOffice,
+        now: Moment,
+        from: Cursor,
+        most: u64,
+    ) -> Result<Page, Fault> {
+        page_over(alloc, register, now, from, most)
     }
 
     fn failures(register: &FileOffice) -> (u64, u64)
@@ -273,6 +285,21 @@ fn identify<C: Alter, S: Signer>(
     ensures faults { IfErr result IsCallFault }
 {
     office.set_key_identifier(alloc, octets)
+}
+
+/// A page of a list of an office, from a key on.
+fn page_over<C: Alter, S: Signer>(
+    alloc: Global,
+    office: &mut Office<C, S>,
+    now: Moment,
+    from: Cursor,
+    most: u64,
+) -> Result<Page, Fault>
+    ensures { Leads (λ office. HasCleanDisk (state C.Store office.store))
+        (λ who office records. StandsFor C.Store S.signs (office.store, signatory_of S.identity (S.identity office.signer) office.responder) who records)
+        (λ identity before after. Pages before now most from result after) office.old office.new }
+{
+    office.page(alloc, now, from, most)
 }
 
 /// What an audit says of the register in a file.
