@@ -160,11 +160,7 @@ pub fn refuse_list(alloc: Global, why: NoPage) -> Result<Answer, Fault>
 /// # Errors
 ///
 /// [`Fault::Memory`] where memory is refused.
-pub fn tell_page(
-    alloc: Global,
-    from: Cursor,
-    given: &Result<Page, Fault>,
-) -> Result<Answer, Fault>
+pub fn tell_page(alloc: Global, from: Cursor, given: &Result<Page, Fault>) -> Result<Answer, Fault>
     ensures ok { IfOk result (λ answer. shown answer ≡ given_told from given.now) }
     ensures err { IfErr result (λ fault. fault ≡ Fault.Memory) }
 {

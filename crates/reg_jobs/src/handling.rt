@@ -255,12 +255,7 @@ fn open_logged<P: Place, F: Front>(
 }
 
 /// Answers what came of a peer of an open desk, at a moment: with a page of a list, where it asks for one.
-fn open_at<P: Place>(
-    alloc: Global,
-    office: &mut P::Opened,
-    now: Moment,
-    request: &[u8],
-) -> Vec<u8>
+fn open_at<P: Place>(alloc: Global, office: &mut P::Opened, now: Moment, request: &[u8]) -> Vec<u8>
     ensures { Leads P.Opened.is_clean P.Opened.stands
         (λ identity before after. OpenExchangeAt P.Opened.signs now identity before request.now result.items after) office.old office.new }
 {
@@ -272,12 +267,7 @@ fn open_at<P: Place>(
 }
 
 /// Answers a request for a list, at a moment.
-fn list_at<P: Place>(
-    alloc: Global,
-    office: &mut P::Opened,
-    now: Moment,
-    request: &[u8],
-) -> Vec<u8>
+fn list_at<P: Place>(alloc: Global, office: &mut P::Opened, now: Moment, request: &[u8]) -> Vec<u8>
     ensures { Leads P.Opened.is_clean P.Opened.stands
         (λ identity before after. ListedAt now before request.now result.items after) office.old office.new }
 {

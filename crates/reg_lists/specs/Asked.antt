@@ -77,6 +77,6 @@ abbrev pub page_asked : List ℕ → List ℕ → Option (Cursor × ℕ)
 page_asked word told =
     option_and_then
     (λ params. option_and_then
-        (λ start. option_and_then (λ from. option_map (λ most. (from, most)) (at_most params.limit)) (cursor_at start params.after))
-        (cursor_named word params.before))
+    (λ start. option_and_then (λ from. option_map (λ most. (from, most)) (at_most params.limit)) (cursor_at start params.after))
+    (cursor_named word params.before))
     (params_of told)

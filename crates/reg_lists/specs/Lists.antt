@@ -46,8 +46,8 @@ abbrev pub request_line : Records → RequestRow → Option RequestLine
 request_line records request =
     option_and_then
     (λ certificate. option_map
-        (λ subscriber. record { request = request; due = deadline request; certificate = certificate; subscriber = subscriber })
-        (subscriber_of records certificate.order))
+    (λ subscriber. record { request = request; due = deadline request; certificate = certificate; subscriber = subscriber })
+    (subscriber_of records certificate.order))
     (certificate_in records.certificates request.serial)
 
 -- what is told of an order

@@ -184,10 +184,12 @@ fn last_in(listing: Option<Listing>) -> Cell
     ensures { result ≡ last_listing listing }
 {
     match listing {
-        Some(Listing {
-            first: _,
-            last: Some(last),
-        }) => Cell::Number(last),
+        Some(
+            Listing {
+                first: _,
+                last: Some(last),
+            },
+        ) => Cell::Number(last),
         _ => Cell::Empty,
     }
 }

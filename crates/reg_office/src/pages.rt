@@ -246,12 +246,7 @@ fn last_revocation(found: &[RevocationRow], most: u64) -> Option<Serial>
 // ---- the CRLs
 
 /// A page of the CRLs.
-fn crls<C: Alter>(
-    store: &mut Store<C>,
-    alloc: Global,
-    after: u64,
-    most: u64,
-) -> Result<Page, Fault>
+fn crls<C: Alter>(store: &mut Store<C>, alloc: Global, after: u64, most: u64) -> Result<Page, Fault>
     ensures page { (records : Records) → ShowsKept C.Store store.old records → HasCleanDisk (state C.Store store.new) → (now : ℕ) → IfOk result (IsPage records now most (cursor.Crls after)) }
     ensures looked { Looked C.Store store.old store.new }
     ensures faults { IfErr result IsStoreFault }

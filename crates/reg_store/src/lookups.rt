@@ -296,11 +296,7 @@ impl<S: Alter> Store<S> {
         ensures looked { Looked S.Store self.old self.new }
         ensures faults { IfErr result IsCallFault }
     {
-        Ok(reg_tables::revocations_after(
-            &mut self.connection,
-            after,
-            most,
-        )?)
+        Ok(reg_tables::revocations_after(&mut self.connection, after, most)?)
     }
 
     /// The CRLs past a number, without their bytes, in ascending order of their numbers: as many as are wanted, if there are.

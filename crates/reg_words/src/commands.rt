@@ -6,8 +6,8 @@ ghost use Rattle.reg_words.specs.Jobs.{job_in, serving_job_in, keeping_job_in, i
 
 use crate::job::{Job, KeyHolder, Way};
 use crate::values::{
-    answerer, chosen_holder, is_set, key_holder, moment, moment_if_given, number_if_given, number_or,
-    number_within, steps, text_of, way_of, word_of,
+    answerer, chosen_holder, is_set, key_holder, moment, moment_if_given, number_if_given,
+    number_or, number_within, steps, text_of, way_of, word_of,
 };
 use crate::word::Word;
 use crate::wrong::{LAST_PORT, MOST_REQUESTS};
