@@ -23,7 +23,8 @@ use sqlite::{Alter, Connection, params};
 /// The bytes of a serial number, or those of 0, which is below all of them.
 #[tactic(auto, unfolding(reg_core::specs::Serial::serial_bytes))]
 fn bytes_of(after: Option<Serial>) -> [u8; 20]
-    ensures { result ≡ serial_bytes (key_of after) }
+    ensures bytes { result ≡ serial_bytes (key_of after) }
+    ensures low { key_of after < 2 ^ 159 }
 {
     match after {
         Some(serial) => serial.bytes20(),
