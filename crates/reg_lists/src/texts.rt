@@ -68,7 +68,8 @@ fn put_row(alloc: Global, out: &mut Vec<u8>, form: Form, row: &Row) -> Result<()
         Form::Csv => put_record(out, &fields)?,
         Form::Json => put_object(out, &fields)?,
     }
-    out.push(b'\n')
+    out.push(b'\n')?;
+    Ok(())
 }
 
 /// Puts fields behind a text, with commas between them.
@@ -123,7 +124,8 @@ fn put_object(out: &mut Vec<u8>, fields: &[Field]) -> Result<(), AllocError>
         }
         None => {}
     }
-    out.push(b'}')
+    out.push(b'}')?;
+    Ok(())
 }
 
 /// Puts members behind a text, with a comma before each.
@@ -166,7 +168,8 @@ fn put_string(out: &mut Vec<u8>, cell: &Cell) -> Result<(), AllocError>
 {
     out.push(b'"')?;
     put_plain(out, cell)?;
-    out.push(b'"')
+    out.push(b'"')?;
+    Ok(())
 }
 
 /// A page as a JSON object: the word of its list, the key behind which the next page goes on, or `null`, and its rows.

@@ -127,7 +127,8 @@ fn certificate_rows<C: Alter>(
 {
     let mut rows = Vec::new(alloc);
     for certificate in found {
-        put(&mut rows, certificate_row(store, now, *certificate)?)?;
+        let row = certificate_row(store, now, *certificate)?;
+        put(&mut rows, row)?;
     }
     Ok(rows)
 }
@@ -171,7 +172,8 @@ fn ending_rows<C: Alter>(
 {
     let mut rows = Vec::new(alloc);
     for certificate in found {
-        put(&mut rows, ending_row(store, now, before, *certificate)?)?;
+        let row = ending_row(store, now, before, *certificate)?;
+        put(&mut rows, row)?;
     }
     Ok(rows)
 }
@@ -225,7 +227,8 @@ fn revoked_rows<C: Alter>(
 {
     let mut rows = Vec::new(alloc);
     for revocation in found {
-        put(&mut rows, revoked_row(store, now, *revocation)?)?;
+        let row = revoked_row(store, now, *revocation)?;
+        put(&mut rows, row)?;
     }
     Ok(rows)
 }
@@ -304,7 +307,8 @@ fn numbered<C: Alter>(
     let end = end_of(held, after, most);
     let mut rows = Vec::new(alloc);
     for before in after..end {
-        put(&mut rows, row_at(store, now, list, before + 1)?)?;
+        let row = row_at(store, now, list, before + 1)?;
+        put(&mut rows, row)?;
     }
     let next = if end.saturating_sub(after) == most {
         Some(cursor_of(list, end))
