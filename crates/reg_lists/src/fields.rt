@@ -46,17 +46,17 @@ fn of_certificate(alloc: Global, line: &CertificateLine) -> Result<Vec<Field>, A
     Vec::from_slice(
         alloc,
         &[
-            field("serial", Cell::Serial(certificate.serial)),
-            field("subscriber", Cell::Number(line.subscriber.id)),
-            field("name", Cell::Text(line.subscriber.name)),
-            field("order", Cell::Number(certificate.order)),
-            field("notBefore", Cell::At(certificate.not_before)),
-            field("notAfter", Cell::At(certificate.not_after)),
-            field("status", word_of(line.status)),
-            field("revokedAt", at_of(line.status)),
-            field("reason", reason_in(line.status)),
-            field("firstCrl", first_in(line.listing)),
-            field("lastCrl", last_in(line.listing)),
+            named("serial", Cell::Serial(certificate.serial)),
+            named("subscriber", Cell::Number(line.subscriber.id)),
+            named("name", Cell::Text(line.subscriber.name)),
+            named("order", Cell::Number(certificate.order)),
+            named("notBefore", Cell::At(certificate.not_before)),
+            named("notAfter", Cell::At(certificate.not_after)),
+            named("status", word_of(line.status)),
+            named("revokedAt", at_of(line.status)),
+            named("reason", reason_in(line.status)),
+            named("firstCrl", first_in(line.listing)),
+            named("lastCrl", last_in(line.listing)),
         ],
     )
 }
@@ -68,16 +68,16 @@ fn of_request(alloc: Global, line: &RequestLine) -> Result<Vec<Field>, AllocErro
     Vec::from_slice(
         alloc,
         &[
-            field("request", Cell::Number(request.id)),
-            field("serial", Cell::Serial(request.serial)),
-            field("ground", ground_in(request.ground)),
-            field("received", Cell::At(request.received)),
-            field("due", Cell::At(line.due)),
-            field("subscriber", Cell::Number(line.subscriber.id)),
-            field("name", Cell::Text(line.subscriber.name)),
-            field("order", Cell::Number(line.certificate.order)),
-            field("notBefore", Cell::At(line.certificate.not_before)),
-            field("notAfter", Cell::At(line.certificate.not_after)),
+            named("request", Cell::Number(request.id)),
+            named("serial", Cell::Serial(request.serial)),
+            named("ground", ground_in(request.ground)),
+            named("received", Cell::At(request.received)),
+            named("due", Cell::At(line.due)),
+            named("subscriber", Cell::Number(line.subscriber.id)),
+            named("name", Cell::Text(line.subscriber.name)),
+            named("order", Cell::Number(line.certificate.order)),
+            named("notBefore", Cell::At(line.certificate.not_before)),
+            named("notAfter", Cell::At(line.certificate.not_after)),
         ],
     )
 }
@@ -88,8 +88,8 @@ fn of_subscriber(alloc: Global, subscriber: &SubscriberRow) -> Result<Vec<Field>
     Vec::from_slice(
         alloc,
         &[
-            field("subscriber", Cell::Number(subscriber.id)),
-            field("name", Cell::Text(subscriber.name)),
+            named("subscriber", Cell::Number(subscriber.id)),
+            named("name", Cell::Text(subscriber.name)),
         ],
     )
 }
@@ -100,11 +100,11 @@ fn of_order(alloc: Global, line: &OrderLine) -> Result<Vec<Field>, AllocError>
     Vec::from_slice(
         alloc,
         &[
-            field("order", Cell::Number(line.order.id)),
-            field("subscriber", Cell::Number(line.subscriber.id)),
-            field("name", Cell::Text(line.subscriber.name)),
-            field("days", Cell::Number(line.order.days)),
-            field("serial", serial_in(line.serial)),
+            named("order", Cell::Number(line.order.id)),
+            named("subscriber", Cell::Number(line.subscriber.id)),
+            named("name", Cell::Text(line.subscriber.name)),
+            named("days", Cell::Number(line.order.days)),
+            named("serial", serial_in(line.serial)),
         ],
     )
 }
@@ -115,14 +115,14 @@ fn of_crl(alloc: Global, crl: &CrlRow) -> Result<Vec<Field>, AllocError>
     Vec::from_slice(
         alloc,
         &[
-            field("crl", Cell::Number(crl.number)),
-            field("thisUpdate", Cell::At(crl.this_update)),
+            named("crl", Cell::Number(crl.number)),
+            named("thisUpdate", Cell::At(crl.this_update)),
         ],
     )
 }
 
-/// A field by its name.
-fn field(name: &'static str, cell: Cell) -> Field
+/// A field with a name.
+fn named(name: &'static str, cell: Cell) -> Field
     ensures { told result ≡ (name.now, cell) }
 {
     Field { name, cell }

@@ -58,13 +58,13 @@ pub(crate) fn page<C: Alter>(
         Cursor::Certificates(after) => certificates(store, alloc, now, after, most),
         Cursor::Ending { before, after } => ending(store, alloc, now, before, after, most),
         Cursor::OpenRequests(after) => {
-            numbered(store, alloc, now, Numbered::OpenRequests, after, most)
+            page_by_ids(store, alloc, now, Numbered::OpenRequests, after, most)
         }
-        Cursor::Overdue(after) => numbered(store, alloc, now, Numbered::Overdue, after, most),
+        Cursor::Overdue(after) => page_by_ids(store, alloc, now, Numbered::Overdue, after, most),
         Cursor::Subscribers(after) => {
-            numbered(store, alloc, now, Numbered::Subscribers, after, most)
+            page_by_ids(store, alloc, now, Numbered::Subscribers, after, most)
         }
-        Cursor::Orders(after) => numbered(store, alloc, now, Numbered::Orders, after, most),
+        Cursor::Orders(after) => page_by_ids(store, alloc, now, Numbered::Orders, after, most),
         Cursor::Crls(after) => crls(store, alloc, after, most),
     }
 }
@@ -291,7 +291,7 @@ fn last_crl(found: &[CrlRow], most: u64) -> Option<u64>
 // ---- the lists by ids
 
 /// A page of a list whose rows are numbered: the next ids, up to the last that there is.
-fn numbered<C: Alter>(
+fn page_by_ids<C: Alter>(
     store: &mut Store<C>,
     alloc: Global,
     now: Moment,
