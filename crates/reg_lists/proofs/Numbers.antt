@@ -1,10 +1,9 @@
 -- Rows that are numbered from 1 on: those past a number, and the one at a number.
 use Rattle.std.proofs.Common.{◌≡◌, ◌≢◌, ◌≤◌, ◌<◌, ◌+◌, ◌-◌, ◌==◌, ℕ, zero, suc, Bool, true, false, cond, List, [], ◌∷◌, length, map, take, drop, Option, None, Some, refl, sym, ap, subst, ◌∙◌, arith, inl, inr}
 use Rattle.std.specs.Prelude.{nat_lt, slice_get, filter_map, option_and_then, option_map}
-use Rattle.std.specs.List.{filter, find, AllByRecursion}
+use Rattle.std.specs.List.{filter, find, AllByRecursion, cons_option}
 use Rattle.std.proofs.lemmas.Bool.{lt-ltb, le-ltb}
 use Rattle.std.proofs.lemmas.Bool.Decides.{nat_tests}
-use Rattle.core.specs.List.{cons_option}
 use Rattle.reg_core.specs.Sound.{KeysDiffer, NumberedFrom}
 use Rattle.reg_lists.specs.Lists.{put_in, in_order, next_behind, past}
 use Rattle.reg_lists.specs.declared.cursor.Cursor.{Cursor}

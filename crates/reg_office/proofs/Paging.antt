@@ -1,9 +1,8 @@
 -- Pages of lists, row by row.
 use Rattle.std.proofs.Common.{◌≡◌, ◌≤◌, ◌<◌, ◌+◌, ◌-◌, ◌==◌, ℕ, zero, suc, Bool, true, false, cond, List, [], ◌∷◌, ◌++◌, append_assoc, length, map, take, drop, get_or, Option, None, Some, refl, sym, ap, subst, ◌∙◌, arith, inl, inr}
 use Rattle.std.specs.Prelude.{filter_map, min, option_and_then, option_map, slice_get}
-use Rattle.std.specs.List.{AllByRecursion}
+use Rattle.std.specs.List.{AllByRecursion, cons_option}
 use Rattle.std.proofs.lemmas.List.{take_more}
-use Rattle.core.specs.List.{cons_option}
 use Rattle.reg_core.specs.Records.{Records, order_in, request_in, revocation_in, subscriber_in}
 use Rattle.reg_core.specs.Sound.{NumberedFrom, SoundRows}
 use Rattle.reg_core.specs.declared.rows.RevocationRow.{RevocationRow}
