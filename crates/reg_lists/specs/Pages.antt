@@ -28,11 +28,13 @@ IsPaged records now most from (Err Signer) = ⊥
 IsPaged records now most from (Err Read) = ⊥
 IsPaged records now most from (Err Write) = ⊥
 
--- a page of sound records, which stay
-pub record Pages (before : Records) (now most : ℕ) (from : Cursor) (given : Result Page Fault) (after : Records) : Type 0 where
-  pub sound : SoundRows before
-  pub paged : IsPaged before now most from given
-  pub stays : after ≡ before
+-- the same of records that hold together
+abbrev pub IsPagedSoundly : Records → ℕ → ℕ → Cursor → Result Page Fault → Type 0
+IsPagedSoundly records now most from given = SoundRows records × IsPaged records now most from given
+
+-- the same of records that stay
+abbrev pub Pages : Records → ℕ → ℕ → Cursor → Result Page Fault → Records → Type 0
+Pages before now most from given after = IsPagedSoundly before now most from given × (after ≡ before)
 
 -- the rows of the pages from a key on, one page behind the other up to the last
 abbrev pub ArePages : Records → ℕ → ℕ → Option Cursor → List Row → List (List Row) → Type 0

@@ -19,7 +19,7 @@ ghost use Rattle.reg_der.specs.Issuers.{with_key_identifier};
 ghost use Rattle.reg_office.specs.Answering.{answers_by, failures_of};
 ghost use Rattle.reg_office.specs.AtRest.{Does, IsIdentified};
 ghost use Rattle.reg_calls.specs.Answered.{IsAnswered, IsGiven};
-ghost use Rattle.reg_lists.specs.Pages.{Pages};
+ghost use Rattle.reg_lists.specs.Pages.{IsPagedSoundly};
 ghost use Rattle.reg_office.specs.Faults.{IsOfficeFault, IsTableFault};
 ghost use Rattle.reg_office.specs.Stands.{Stands, CameTo};
 ghost use Rattle.reg_office.specs.declared.responder.Responder.TheVariants.{Issuer};
@@ -160,7 +160,7 @@ impl<C: Alter, S: Signer> Office<C, S> {
     ) -> Result<Page, Fault>
         ensures page { (records : Records) → Stands C.Store S.signs self.old.store (S.identity self.old.signer) records
             → HasCleanDisk (state C.Store self.new.store)
-            → Pages records now most from result records × Stands C.Store S.signs self.new.store (S.identity self.new.signer) records }
+            → IsPagedSoundly records now most from result × Stands C.Store S.signs self.new.store (S.identity self.new.signer) records }
         ensures looked { Looked C.Store self.old.store self.new.store }
         ensures same_signer { self.new.signer ≡ self.old.signer }
         ensures same_responder { self.new.responder ≡ self.old.responder }
