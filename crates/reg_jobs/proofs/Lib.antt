@@ -1,6 +1,6 @@
 pub mod Fates
 pub mod LineByLine
-pub mod Listing
+pub mod PageByPage
 pub mod Peers
 pub mod Pieces
 pub mod Talking

@@ -1,5 +1,5 @@
 use Rattle.std.proofs.Common.{[], ◌++◌}
-use Rattle.reg_jobs.proofs.Listing.{all_given, begun, gone_on, lacking, not_given, text_begun, text_more}
+use Rattle.reg_jobs.proofs.PageByPage.{all_given, begun, gone_on, lacking, not_given, text_begun, text_more}
 use Rattle.reg_core.specs.declared.refusal.Fault.TheVariants.{Memory, Store}
 use Rattle.reg_jobs.proofs.listing.given_list.Goals as goal
 

@@ -1,7 +1,7 @@
 use Rattle.std.proofs.Common.{List}
 use Rattle.reg_calls.specs.Leads.{Leads}
 use Rattle.reg_lists.specs.declared.rows.Row.{Row}
-use Rattle.reg_jobs.proofs.Listing.{IsGoing, IsText}
+use Rattle.reg_jobs.proofs.PageByPage.{IsGoing, IsText}
 use Rattle.reg_jobs.proofs.listing.given_list.Given as goal
 
 -- so many rows were given, and are the text so far
