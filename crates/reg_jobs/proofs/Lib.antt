@@ -1,5 +1,6 @@
 pub mod Fates
 pub mod LineByLine
+pub mod ListsTold
 pub mod PageByPage
 pub mod Peers
 pub mod Pieces
