@@ -25,7 +25,7 @@ asks_list request = starts_with (λ a b. a == b) (drop (position_or_len (λ byte
 
 -- the page that was asked for, or that it can't be read
 abbrev pub or_unread : Option (Cursor × ℕ) → ListAsked
-or_unread (Some asked) = Page asked.0 asked.1
+or_unread (Some wanted) = Page wanted.0 wanted.1
 or_unread None = Nothing Unread
 
 -- the page that a path `/list/WORD` and what is told behind it ask for
