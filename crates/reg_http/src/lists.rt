@@ -16,9 +16,6 @@ use reg_lists::{Cursor, Page, page_text, read_page};
 use std::alloc::Global;
 use std::io::Write;
 
-/// What the target of a request for a list begins with.
-const ROUTE: &[u8] = b"/list/";
-
 /// Why a request for a list asks no page.
 #[derive(Clone, Copy)]
 pub enum NoPage {
@@ -120,9 +117,10 @@ fn page_at(alloc: Global, target: &str) -> Result<ListAsked, Memory>
 fn page_behind(path: &[u8], told: &[u8]) -> ListAsked
     ensures { result ≡ page_told path.now told.now }
 {
-    match path.strip_prefix(ROUTE) {
-        Some(word) => page_of(read_page(word, told)),
-        None => ListAsked::Nothing(NoPage::Unread),
+    if path.starts_with(b"/list/") {
+        page_of(read_page(&path[b"/list/".len()..], told))
+    } else {
+        ListAsked::Nothing(NoPage::Unread)
     }
 }
 
