@@ -96,6 +96,7 @@ fn asked_by(alloc: Global, request: &Request) -> Result<ListAsked, Fault>
 }
 
 /// The page that a target asks for.
+#[tactic(auto, unfolding(crate::specs::Lists::page_in))]
 fn page_at(alloc: Global, target: &str) -> Result<ListAsked, Memory>
     ensures { IfOk result (λ asked. asked ≡ page_in target.now) }
 {
