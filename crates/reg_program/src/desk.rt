@@ -1,7 +1,7 @@
 //! The program as the machine runs it: its words, standard input and output, and the exit status.
 
 use crate::machine::Machine;
-use crate::performing::perform;
+use crate::performing::perform_untold;
 use crate::progress::{Counted, tell_opening};
 use reg_jobs::Causes;
 use reg_words::{Order, Usage, no_text, read_words};
@@ -58,7 +58,7 @@ fn do_order(rt: &HostRuntime, order: &Order<'_>) -> u8 {
     let mut input = rt.stdin();
     let mut output = Counted::of(rt, &order.job, &noted);
     let mut errors = rt.stderr();
-    perform(
+    perform_untold(
         rt,
         &causes,
         &front,
