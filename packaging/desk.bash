@@ -18,7 +18,9 @@ _desk() {
     --*:FILE | --*:SOCKET | --*:CERT) mapfile -t COMPREPLY < <(compgen -f -- "$cur") ;;
     --*:?*) COMPREPLY=() ;;
     *)
-        if [[ $cur == -* ]]; then
+        if [[ ${COMP_WORDS[at]} == list && $COMP_CWORD -eq $((at + 2)) ]]; then
+            mapfile -t COMPREPLY < <(compgen -W "revoked certificates ending open-requests overdue subscribers orders crls" -- "$cur")
+        elif [[ $cur == -* ]]; then
             mapfile -t COMPREPLY < <(compgen -W "$(grep -oE -- '^ +(-., )?--[a-z-]+' <<<"$help" | grep -oE -- '--[a-z-]+')" -- "$cur")
         else
             mapfile -t COMPREPLY < <(compgen -f -- "$cur")

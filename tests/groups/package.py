@@ -322,6 +322,7 @@ def documented(t, root):
     opens = "--signer --algorithm --unsigned --responder --responder-signer --responder-algorithm --embed --log --why"
     t.has(" ".join(completed("desk", "open", "ca.db", "--")), opens)
     t.has(" ".join(completed("desk", "import", "ca.db", "--now", "")), time.strftime("%Y-%m-%dT", time.gmtime()))
+    t.same(sorted(completed("desk", "list", "ca.db", "o")), ["open-requests", "orders", "overdue"], "desk list ca.db o..")
     t.has(completed("desk", "script", "durs"), "durshavon.deb")
     for unit in sorted((root.path / "lib/systemd/system").glob("desk*@.*")):
         told = root.tried("systemd-analyze", "verify", "--man=no", unit.name.replace("@", "@ca"))

@@ -24,7 +24,7 @@ use Rattle.reg_http.specs.Served.{Responds, ServingEnds}
 use Rattle.reg_ocsp.specs.Drafts.{Drafted, drafted_response}
 use Rattle.reg_signer.specs.Forms.{HasForm}
 use Rattle.reg_hub.specs.Exchange.{Outcome, said, pending}
-use Rattle.reg_jobs.specs.Exchanges.{Exchange, ExchangeAt}
+use Rattle.reg_jobs.specs.Exchanges.{ExchangeAt}
 use Rattle.reg_jobs.specs.Leaving.{Finished, FinishesAt, IsSignatureOf, Meets}
 use Rattle.reg_jobs.specs.declared.leaving.Unsigned.{Unsigned}
 
@@ -145,23 +145,27 @@ items_made draft (Ok bytes) first second same is = is ∙ ap (λ (signature : Op
 items_made draft (Err memory) first second same is = tt
 
 -- what is wanted of a text may say less
-meets_weaker : {T : Type 0} (finishes : T → List ℕ → Type 0) (wanted other : List ℕ → Type 0) → ((text : List ℕ) → wanted text → other text)
+pub meets_weaker : {T : Type 0} (finishes : T → List ℕ → Type 0) (wanted other : List ℕ → Type 0) → ((text : List ℕ) → wanted text → other text)
     → (outcome : Outcome T) → Meets finishes wanted outcome → Meets finishes other outcome
 meets_weaker finishes wanted other from (said text) met = from text met
 meets_weaker finishes wanted other from (pending ticket) met = λ text finished. from text (met text finished)
 
-module _ {S : Type 0} (is_clean : S → Type 0) (stands : Signatory → S → Records → Type 0) (signs : Signs) (now : ℕ) (s t : S) (came : List ℕ) where
+-- What stands in an office before and after, the moment, and what an exchange at a moment is of this desk.
+module _ {S : Type 0} (is_clean : S → Type 0) (stands : Signatory → S → Records → Type 0) (now : ℕ) (s t : S)
+    (exchanges : ℕ → Signatory → Records → List ℕ → Records → Type 0) where
   -- an exchange at a moment that a clock told
   pub told_moves : {T : Type 0} (finishes : T → List ℕ → Type 0) (told : ℕ → Type 0) (outcome : Outcome T) → told now
-      → Leads is_clean stands (λ identity before after. Meets finishes (λ text. ExchangeAt signs now identity before came text after) outcome) s t
-      → Leads is_clean stands (λ identity before after. Meets finishes (λ text. Exchange signs told identity before came text after) outcome) s t
+      → Leads is_clean stands (λ identity before after. Meets finishes (λ text. exchanges now identity before text after) outcome) s t
+      → Leads is_clean stands
+      (λ identity before after. Meets finishes (λ text. (at : ℕ) × told at × exchanges at identity before text after) outcome)
+      s t
   told_moves finishes told outcome is_told moved =
       follows is_clean stands
-      (λ identity before after. Meets finishes (λ text. ExchangeAt signs now identity before came text after) outcome)
-      (λ identity before after. Meets finishes (λ text. Exchange signs told identity before came text after) outcome)
+      (λ identity before after. Meets finishes (λ text. exchanges now identity before text after) outcome)
+      (λ identity before after. Meets finishes (λ text. (at : ℕ) × told at × exchanges at identity before text after) outcome)
       (λ identity before after met. meets_weaker finishes
-      (λ text. ExchangeAt signs now identity before came text after)
-      (λ text. Exchange signs told identity before came text after)
+      (λ text. exchanges now identity before text after)
+      (λ text. (at : ℕ) × told at × exchanges at identity before text after)
       (λ text made. (now, is_told, made))
       outcome
       met)
@@ -172,15 +176,15 @@ module _ {S : Type 0} (is_clean : S → Type 0) (stands : Signatory → S → Re
   -- what is left to be signed, with what is kept beside it
   pub kept_moves : (gave : List ℕ → List ℕ → Type 0) (draft : Drafted) (unsigned : Unsigned) → unsigned.draft ≡ draft → unsigned.moment ≡ now
       → Leads is_clean stands
-      (λ identity before after. (text : List ℕ) → FinishesAt gave draft now text → ExchangeAt signs now identity before came text after)
+      (λ identity before after. (text : List ℕ) → FinishesAt gave draft now text → exchanges now identity before text after)
       s t
       → Leads is_clean stands
-      (λ identity before after. (text : List ℕ) → Finished gave unsigned text → ExchangeAt signs now identity before came text after)
+      (λ identity before after. (text : List ℕ) → Finished gave unsigned text → exchanges now identity before text after)
       s t
   kept_moves gave draft unsigned same at moved =
       follows is_clean stands
-      (λ identity before after. (text : List ℕ) → FinishesAt gave draft now text → ExchangeAt signs now identity before came text after)
-      (λ identity before after. (text : List ℕ) → Finished gave unsigned text → ExchangeAt signs now identity before came text after)
+      (λ identity before after. (text : List ℕ) → FinishesAt gave draft now text → exchanges now identity before text after)
+      (λ identity before after. (text : List ℕ) → Finished gave unsigned text → exchanges now identity before text after)
       (λ identity before after met text finished.
       let P : Drafted → ℕ → Type 0 = λ it moment. FinishesAt gave it moment text in
       met text (subst (λ it. P it now) same (subst (P unsigned.draft) at finished)))

@@ -1,7 +1,9 @@
 pub mod Fates
 pub mod Finishing
 pub mod LineByLine
+pub mod ListsTold
 pub mod NextLines
+pub mod PageByPage
 pub mod Peers
 pub mod Pieces
 pub mod Talking

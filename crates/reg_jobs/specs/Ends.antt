@@ -18,6 +18,9 @@ use Rattle.reg_endings.specs.Endings.{store_failure}
 use Rattle.reg_endings.specs.declared.failure.Failure.{Failure}
 use Rattle.reg_endings.specs.declared.failure.Failure.TheVariants as failure
 use Rattle.reg_lines.specs.Import.{ImportEnds}
+use Rattle.reg_lists.specs.Pages.{Lists}
+use Rattle.reg_lists.specs.declared.cursor.Cursor.{Cursor}
+use Rattle.reg_lists.specs.declared.texts.Form.{Form}
 use Rattle.reg_lines.specs.Script.{ScriptEnds}
 use Rattle.reg_lines.specs.Strict.{StrictEnds}
 use Rattle.reg_lines.specs.declared.strict.Imported.{Imported}
@@ -83,6 +86,11 @@ TellsVerdict contents writer writer' (verdict.Broken broken) result = TellsBroke
 TellsVerdict contents writer writer' verdict.OtherSchema result = TellsBroken OTHER_SCHEMA.now contents writer writer' result
 TellsVerdict contents writer writer' verdict.Older result = (result ≡ Err failure.OldVersion) × (writer' ≡ writer)
 
+-- the moment that is told, or else one that a clock told
+abbrev pub IsMomentOf : (ℕ → Type 0) → Option ℕ → ℕ → Type 0
+IsMomentOf clock (Some told) now = now ≡ told
+IsMomentOf clock None now = clock now
+
 -- A job that reads nothing, over a register at a path: the writer before it and after it.
 module _ {W P K : Type 0} (contents : W → Option (List ℕ)) (writer writer' : W) (places : Place P K) (keeper : Keeper K) where
   -- a new register at a path, which begins with no records: the place before it is made and after that
@@ -101,6 +109,16 @@ module _ {W P K : Type 0} (contents : W → Option (List ℕ)) (writer writer' :
         ⊎ ((given : Result (List ℕ) Fault)
         × Visits places keeper place place' path None (λ identity before after. Crls before number given after)
         × SaysGiven contents writer writer' given result)
+
+    -- a list of the register at a path, of which no record changes, at a moment: all of its rows are said, each once and in order, or
+    -- none; a clock that can't be read is the end before the path is looked at
+    abbrev pub ListAt : (ℕ → Type 0) → List ℕ → Cursor → Option ℕ → Form → Result (Unit {0}) Failure → Type 0
+    ListAt clock path from told form result =
+        ((result ≡ Err (failure.Fault fault.Read)) × (writer' ≡ writer) × (place' ≡ place))
+        ⊎ ((now : ℕ) × IsMomentOf clock told now × ((NotOpened places keeper place place' path None result × (writer' ≡ writer))
+        ⊎ ((given : Result (List ℕ) Fault)
+        × Visits places keeper place place' path None (λ identity before after. Lists before now form from given after)
+        × SaysGiven contents writer writer' given result)))
 
     -- an audit of the register at a path: it could not be looked at, or what was found is told; the place is as it was
     abbrev pub AuditAt : List ℕ → Result (Unit {0}) Failure → Type 0
@@ -226,5 +244,7 @@ module _ {E W : Type 0} (remaining : E → Option (List ℕ)) (contents : W → 
         (reader' ≡ reader) × ServeAt contents writer writer' places keeper place place' front file signer answerer port requests result
     Ends front (job.Open file port counter signer answerer) result =
         (reader' ≡ reader) × OpenAt contents writer writer' places keeper place place' front file signer answerer port counter result
+    Ends front (job.Listing file from now form) result =
+        (reader' ≡ reader) × ListAt contents writer writer' places keeper place place' front.told file from now form result
     Ends front (job.Audit file) result = (reader' ≡ reader) × AuditAt contents writer writer' places keeper place place' file result
     Ends front (job.At counter) result = (place' ≡ place) × AtCounter (front.met counter) (remaining reader) (contents writer) (contents writer') result

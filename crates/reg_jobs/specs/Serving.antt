@@ -9,7 +9,7 @@ use Rattle.reg_calls.specs.Steps.{Signs}
 use Rattle.reg_hub.specs.Exchange.{Input, Outcome, Handles, asked_in}
 use Rattle.reg_endings.specs.declared.failure.Failure.{Failure}
 use Rattle.reg_endings.specs.declared.failure.Failure.TheVariants as failure
-use Rattle.reg_jobs.specs.Exchanges.{Entry, Exchange, NoEntry}
+use Rattle.reg_jobs.specs.Exchanges.{Entry, Exchange, NoEntry, OpenExchange}
 use Rattle.reg_jobs.specs.Leaving.{Finished, Meets}
 use Rattle.reg_jobs.specs.declared.leaving.Unsigned.{Unsigned}
 use Rattle.reg_wire.specs.Put.{AppendsFront}
@@ -29,11 +29,17 @@ abbrev pub Serves
 Serves signs gave told inputs outcomes identity before after =
     Answered (Handles (Exchanging signs gave told identity) NoEntry) before inputs outcomes after
 
+-- the same of an open desk, where peers may ask for lists, too
+abbrev pub OpenExchanging
+    : Signs → (List ℕ → List ℕ → Type 0) → (ℕ → Type 0) → Signatory → Records → List ℕ → Outcome Unsigned → Records → Type 0
+OpenExchanging signs gave told identity before request outcome after =
+    Meets (Finished gave) (λ text. OpenExchange signs told identity before request text after) outcome
+
 -- what peers and lines at counters made of the records, one after the other, and nothing else
 abbrev pub Opens
     : Signs → (List ℕ → List ℕ → Type 0) → (ℕ → Type 0) → List Input → List (Outcome Unsigned) → Signatory → Records → Records → Type 0
 Opens signs gave told inputs outcomes identity before after =
-    Answered (Handles (Exchanging signs gave told identity) (Entry signs told identity)) before inputs outcomes after
+    Answered (Handles (OpenExchanging signs gave told identity) (Entry signs told identity)) before inputs outcomes after
 
 -- this machine alone: the address of the loopback interface (RFC 1122 3.2.1.3)
 abbrev pub loopback : List ℕ

@@ -8,7 +8,7 @@ ghost use Rattle.reg_faces.specs.Faces.{Lines};
 ghost use Rattle.reg_calls.specs.Leads.{Leads};
 ghost use Rattle.reg_lines.specs.Script.{ScriptEnds};
 ghost use Rattle.reg_heads.specs.Response.{memory_text};
-ghost use Rattle.reg_jobs.specs.Exchanges.{Entry, EntryAt, Exchange, ExchangeAt, LineRuns, Replied, Responded, line_at};
+ghost use Rattle.reg_jobs.specs.Exchanges.{Entry, EntryAt, Exchange, ExchangeAt, LineRuns, ListEnds, ListedAt, OpenExchange, OpenExchangeAt, Replied, Responded, SaysList, line_at};
 
 use crate::front::Front;
 use crate::leaving::{Unsigned, ask_for, finish_logged, unsigned_of};
@@ -19,6 +19,7 @@ use reg_calls::Keeper;
 use reg_core::{Fault, Moment};
 use reg_faces::{begin_one, run_script};
 use reg_heads::write_memory_fault;
+use reg_http::{ListAsked, asks_list, read_list, refuse_list, send_list, tell_page};
 use reg_hub::{Given, Handler, Lost, Stopped};
 use reg_ocsp::Draft;
 use std::alloc::{AllocError, Global};
@@ -108,12 +109,12 @@ impl<'a, 'w, P: Place, F: Front> Handler for ServedDesk<'a, 'w, P, F> {
 impl<'a, 'w, P: Place, F: Front> Handler for OpenDesk<'a, 'w, P, F> {
     ghost use Rattle.reg_calls.specs.Leads.{Leads};
     ghost use Rattle.reg_jobs.specs.Leaving.{Finished, Meets};
-    ghost use Rattle.reg_jobs.specs.Exchanges.{Exchange, Entry};
+    ghost use Rattle.reg_jobs.specs.Exchanges.{Entry, OpenExchange};
 
     type Ticket = Unsigned;
 
     ghost answers = { λ s request outcome t. Leads P.Opened.is_clean P.Opened.stands
-        (λ identity before after. Meets (Finished P.gave) (λ text. Exchange P.Opened.signs F.told identity before request text after) outcome)
+        (λ identity before after. Meets (Finished P.gave) (λ text. OpenExchange P.Opened.signs F.told identity before request text after) outcome)
         s.office t.office };
 
     ghost tells = { λ s line text t. Leads P.Opened.is_clean P.Opened.stands
@@ -122,7 +123,7 @@ impl<'a, 'w, P: Place, F: Front> Handler for OpenDesk<'a, 'w, P, F> {
     ghost finishes = { Finished P.gave };
 
     fn answer(&mut self, peer: SocketAddr, request: &[u8]) -> Result<Given<Unsigned>, Stopped> {
-        begin_now::<P, F>(self.alloc, &mut self.office, self.front, peer, request)
+        open_now::<P, F>(self.alloc, &mut self.office, self.front, peer, request)
     }
 
     fn ask(&self, ticket: &Unsigned) -> io::Result<UnixStream> {
@@ -230,6 +231,26 @@ fn begin_now<P: Place, F: Front>(
     }
 }
 
+/// Answers what came of a peer of an open desk, at the moment of the clock, or leaves what is to be signed for it.
+fn open_now<P: Place, F: Front>(
+    alloc: Global,
+    office: &mut P::Opened,
+    front: &F,
+    peer: SocketAddr,
+    request: &[u8],
+) -> Result<Given<Unsigned>, Stopped>
+    ensures ok { IfOk result (λ given. Leads P.Opened.is_clean P.Opened.stands
+        (λ identity before after. Meets (Finished P.gave) (λ text. OpenExchange P.Opened.signs F.told identity before request.now text after)
+        (outcome_of given))
+        office.old office.new) }
+    ensures err { OnErr result (office.new ≡ office.old) }
+{
+    match front.moment() {
+        Ok(now) => Ok(open_logged::<P, F>(alloc, office, front, now, peer, request)),
+        Err(_) => Err(Stopped),
+    }
+}
+
 /// Answers a line of a counter, at the moment of the clock.
 fn tell_now<P: Place, F: Front>(
     alloc: Global,
@@ -289,6 +310,106 @@ fn begin_logged<P: Place, F: Front>(
             Given::Whole(text)
         }
         Given::Left(draft) => Given::Left(unsigned_of(alloc, draft, now, began, peer, request)),
+    }
+}
+
+/// Answers what came of a peer of an open desk, at a moment, and puts that into the log, where there is one; or leaves what is to be
+/// signed for it.
+fn open_logged<P: Place, F: Front>(
+    alloc: Global,
+    office: &mut P::Opened,
+    front: &F,
+    now: Moment,
+    peer: SocketAddr,
+    request: &[u8],
+) -> Given<Unsigned>
+    ensures { Leads P.Opened.is_clean P.Opened.stands
+        (λ identity before after. Meets (Finished P.gave) (λ text. OpenExchangeAt P.Opened.signs now identity before request.now text after)
+        (outcome_of result))
+        office.old office.new }
+{
+    let began = began(front);
+    let failures = P::failures(office);
+    match open_at::<P>(alloc, office, now, request) {
+        Given::Whole(text) => {
+            let is_unsigned = has_failed::<P>(office, failures);
+            log_answer(alloc, front, began, now, peer, request, &text, is_unsigned);
+            Given::Whole(text)
+        }
+        Given::Left(draft) => Given::Left(unsigned_of(alloc, draft, now, began, peer, request)),
+    }
+}
+
+/// Answers what came of a peer of an open desk, at a moment, or leaves what is to be signed for it. Where it asks for a list, it is answered
+/// with a page of that.
+fn open_at<P: Place>(
+    alloc: Global,
+    office: &mut P::Opened,
+    now: Moment,
+    request: &[u8],
+) -> Given<Draft>
+    ensures { Leads P.Opened.is_clean P.Opened.stands
+        (λ identity before after. Meets (λ draft text. FinishesAt P.gave draft now text)
+        (λ text. OpenExchangeAt P.Opened.signs now identity before request.now text after) (outcome_of result))
+        office.old office.new }
+{
+    if asks_list(request) {
+        Given::Whole(list_at::<P>(alloc, office, now, request))
+    } else {
+        begin_at::<P>(alloc, office, now, request)
+    }
+}
+
+/// Answers a request for a list, at a moment.
+fn list_at<P: Place>(alloc: Global, office: &mut P::Opened, now: Moment, request: &[u8]) -> Vec<u8>
+    ensures { Leads P.Opened.is_clean P.Opened.stands
+        (λ identity before after. ListedAt now before request.now result.items after) office.old office.new }
+{
+    let mut text = Vec::new(alloc);
+    let served = serve_list::<P>(alloc, office, now, request, &mut text);
+    response_of(served, text)
+}
+
+/// Writes the answer to a request for a list, at a moment, behind a text that is empty.
+fn serve_list<P: Place>(
+    alloc: Global,
+    office: &mut P::Opened,
+    now: Moment,
+    request: &[u8],
+    text: &mut Vec<u8>,
+) -> Result<(), Fault>
+    requires { text.old.items ≡ [] }
+    ensures { Leads P.Opened.is_clean P.Opened.stands
+        (λ identity before after. ListEnds now before request.now text.new.items result after) office.old office.new }
+{
+    match read_list(alloc, request) {
+        Ok(asked) => tell_list::<P>(alloc, office, now, asked, text),
+        Err(fault) => Err(fault),
+    }
+}
+
+/// Writes the answer to what is asked of lists, at a moment, behind a text that is empty.
+fn tell_list<P: Place>(
+    alloc: Global,
+    office: &mut P::Opened,
+    now: Moment,
+    asked: ListAsked,
+    text: &mut Vec<u8>,
+) -> Result<(), Fault>
+    requires { text.old.items ≡ [] }
+    ensures { Leads P.Opened.is_clean P.Opened.stands
+        (λ identity before after. SaysList before now asked text.new.items result × (after ≡ before)) office.old office.new }
+{
+    let told = match asked {
+        ListAsked::Nothing(why) => refuse_list(alloc, why),
+        ListAsked::Page { from, most } => {
+            let given = P::page(alloc, office, now, from, most);
+            tell_page(alloc, from, &given)
+        }
+    };
+    match told {
+        Ok(answer) => send_list(alloc, text, &answer, now),
+        Err(fault) => Err(fault),
     }
 }
 

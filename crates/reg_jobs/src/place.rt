@@ -2,10 +2,11 @@
 
 use mio::net::UnixStream;
 use reg_calls::Keeper;
-use reg_core::{Label, Memory, Policy, Schedule};
+use reg_core::{Fault, Label, Memory, Moment, Policy, Schedule};
 use reg_der::Issuer;
 use reg_endings::Failure;
 use reg_findings::Verdict;
+use reg_lists::{Cursor, Page};
 use reg_tables::StoreFault;
 use reg_words::{Answerer, KeyHolder};
 use std::alloc::Global;
@@ -16,6 +17,7 @@ use std::alloc::Global;
 pub trait Place {
     ghost use Rattle.std.specs.Prelude.{◌≡◌, ◌≤◌, ℕ, List, Some, None, IsTrue, IsFalse, OnErr, IfOk, IfErr, IfSome, length};
     ghost use Rattle.reg_calls.specs.Leads.{Leads};
+    ghost use Rattle.reg_lists.specs.Pages.{Pages};
     ghost use Rattle.reg_core.specs.Records.{no_records};
     ghost use Rattle.reg_calls.specs.Signatories.{Signatory};
     ghost use Rattle.reg_endings.specs.declared.failure.Failure.{Failure as Failing};
@@ -153,6 +155,20 @@ pub trait Place {
     ) -> Result<(), StoreFault>
         ensures moves { Leads Self.Opened.is_clean Self.Opened.stands (λ identity. Identifies octets result) register.old register.new }
         ensures faults { IfErr result IsCallFault };
+
+    /// A page of a list of a register that was opened, from a key on, at a moment. It looks at so many rows at most.
+    ///
+    /// # Errors
+    ///
+    /// `ClockEnd`, `ClockBack`; `Memory`, `Store`.
+    fn page(
+        alloc: Global,
+        register: &mut Self::Opened,
+        now: Moment,
+        from: Cursor,
+        most: u64,
+    ) -> Result<Page, Fault>
+        ensures { Leads Self.Opened.is_clean Self.Opened.stands (λ identity before after. Pages before now most from result after) register.old register.new };
 
     /// How many signatures did not come since a register was opened: of those that who signs CRLs was asked for, and of those that
     /// who answers OCSP requests was. Where that is the same, both are one count.

@@ -16,6 +16,7 @@ ghost use Rattle.reg_files.specs.Reading.{IsUnread};
 ghost use Rattle.reg_program.specs.Files.{IsAudited, IsAuditOf, IsOpenedFor, IsOpenedFrom, IsMadeFrom, Showed};
 ghost use Rattle.reg_jobs.specs.Signing.{EmbedsOwn, Follows, IsSigning, crls_told};
 ghost use Rattle.reg_calls.specs.Leads.{Leads};
+ghost use Rattle.reg_lists.specs.Pages.{Pages};
 ghost use Rattle.reg_jobs.specs.Identifiers.{Identifies};
 ghost use Rattle.reg_jobs.specs.Schedules.{Reschedules};
 ghost use Rattle.reg_office.specs.Answering.{answers_by, failures_of, signatory_of};
@@ -30,7 +31,7 @@ use crate::machine::Machine;
 use crate::signing::{FileSigner, signer_for};
 use crate::watching::Teller;
 use mio::net::UnixStream;
-use reg_core::{Fault, Label, Memory, Policy, Schedule};
+use reg_core::{Fault, Label, Memory, Moment, Policy, Schedule};
 use reg_crl::Signer;
 use reg_der::Issuer;
 use reg_endings::Failure;
@@ -40,6 +41,7 @@ use reg_files::{
 };
 use reg_findings::Verdict;
 use reg_jobs::Place;
+use reg_lists::{Cursor, Page};
 use reg_office::{Office, Responder};
 use reg_signer::{KeyOrDigest, hear};
 use reg_store::{Store, StoreFault};
@@ -149,6 +151,16 @@ impl<'a> Place for Machine<'a> {
         octets: Label,
     ) -> Result<(), StoreFault> {
         identify(alloc, register, octets)
+    }
+
+    fn page(
+        alloc: Global,
+        register: &mut FileOffice,
+        now: Moment,
+        from: Cursor,
+        most: u64,
+    ) -> Result<Page, Fault> {
+        page_over(alloc, register, now, from, most)
     }
 
     fn failures(register: &FileOffice) -> (u64, u64)
@@ -310,6 +322,21 @@ fn identify<C: Alter, S: Signer>(
     ensures faults { IfErr result IsCallFault }
 {
     office.set_key_identifier(alloc, octets)
+}
+
+/// A page of a list of an office, from a key on.
+fn page_over<C: Alter, S: Signer>(
+    alloc: Global,
+    office: &mut Office<C, S>,
+    now: Moment,
+    from: Cursor,
+    most: u64,
+) -> Result<Page, Fault>
+    ensures { Leads (λ office. HasCleanDisk (state C.Store office.store))
+        (λ who office records. StandsFor C.Store S.signs (office.store, signatory_of S.identity (S.identity office.signer) office.responder) who records)
+        (λ identity before after. Pages before now most from result after) office.old office.new }
+{
+    office.page(alloc, now, from, most)
 }
 
 /// What an audit says of the register in a file, which is opened for reading alone.

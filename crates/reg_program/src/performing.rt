@@ -10,7 +10,7 @@ use crate::memory::script_in_memory;
 use reg_endings::{Failure, status_of};
 use reg_jobs::{
     Causes, Front, NewOffice, Place, at, audit, crl, explain, hold_open, import_rows, init,
-    key_identifier, schedule, script, script_by_lines, serve, tell,
+    key_identifier, list, schedule, script, script_by_lines, serve, tell,
 };
 use reg_words::Job;
 use std::io::{Read, Write};
@@ -185,6 +185,21 @@ fn run<P: Place, F: Front, R: Read, W: Write>(
         Job::At { counter } => at(alloc, front, counter.as_str(), reader, writer),
         Job::Schedule { file, steps } => schedule(alloc, place, file.as_str(), steps, writer),
         Job::KeyId { file, key_id } => key_identifier(alloc, place, file.as_str(), key_id, writer),
+        Job::Listing {
+            file,
+            from,
+            now,
+            form,
+        } => list(
+            alloc,
+            front,
+            place,
+            file.as_str(),
+            *from,
+            *now,
+            *form,
+            writer,
+        ),
         Job::Audit { file } => audit(alloc, &*place, file.as_str(), writer),
     }
 }

@@ -124,6 +124,7 @@ fn file_of<'a>(job: &Job<'a>) -> Option<&'a str> {
         Job::Open { file, .. } => Some(file.as_str()),
         Job::Schedule { file, .. } => Some(file.as_str()),
         Job::KeyId { file, .. } => Some(file.as_str()),
+        Job::Listing { file, .. } => Some(file.as_str()),
         Job::Audit { file } => Some(file.as_str()),
         Job::Init { .. } => None,
         Job::At { .. } => None,

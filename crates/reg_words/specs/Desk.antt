@@ -81,6 +81,11 @@ schedule_app = with_rules (new_app (codes "schedule")) (must (codes "file") ∷ 
 abbrev pub key_id_app : App
 key_id_app = with_rules (new_app (codes "key-id")) (must (codes "file") ∷ must (codes "key-id") ∷ flag (codes "why") ∷ [])
 
+-- `list FILE LIST [--before MOMENT] [--now MOMENT] [--json] [--why]`
+abbrev pub list_app : App
+list_app = with_rules (new_app (codes "list"))
+    (must (codes "file") ∷ must (codes "list") ∷ takes (codes "before") ∷ takes (codes "now") ∷ flag (codes "json") ∷ flag (codes "why") ∷ [])
+
 -- `audit FILE [--why]`
 abbrev pub audit_app : App
 audit_app = with_rules (new_app (codes "audit")) (must (codes "file") ∷ flag (codes "why") ∷ [])
@@ -103,4 +108,4 @@ with_commands app (command ∷ rest) = with_commands (with_subcommand app comman
 -- `desk [--why] COMMAND ..`
 abbrev pub desk_app : App
 desk_app = with_commands begun_app
-    (init_app ∷ script_app ∷ import_app ∷ crl_app ∷ serve_app ∷ open_app ∷ at_app ∷ schedule_app ∷ key_id_app ∷ audit_app ∷ [])
+    (init_app ∷ script_app ∷ import_app ∷ crl_app ∷ serve_app ∷ open_app ∷ at_app ∷ schedule_app ∷ key_id_app ∷ list_app ∷ audit_app ∷ [])

@@ -5,13 +5,16 @@ use Rattle.clap.specs.Words.{IsAmong, Row, Text, all_of, fault_of, first_of, mat
 use Rattle.clap.specs.declared.error.kind.ErrorKind.{ErrorKind}
 use Rattle.clap.specs.declared.error.kind.ErrorKind.TheVariants.{DisplayHelp, DisplayVersion, OutOfMemory}
 use Rattle.reg_core.specs.Number.{number_of}
+use Rattle.reg_lists.specs.Cursors.{cursor_named}
+use Rattle.reg_lists.specs.declared.texts.Form.{Form}
+use Rattle.reg_lists.specs.declared.texts.Form.TheVariants.{Csv, Json}
 use Rattle.reg_words.specs.Desk.{desk_app}
 use Rattle.reg_words.specs.Values.{moment_of, steps_of, within}
 use Rattle.reg_signer.specs.Algorithms.{algorithm_named}
 use Rattle.reg_words.specs.declared.job.Answerer.{Answerer}
 use Rattle.reg_words.specs.declared.job.Answerer.TheVariants.{Issuer, Delegate}
 use Rattle.reg_words.specs.declared.job.Job.{Job}
-use Rattle.reg_words.specs.declared.job.Job.TheVariants.{Init, Script, Lines, Import, Crl, Serve, Open, At, Schedule, KeyId, Audit}
+use Rattle.reg_words.specs.declared.job.Job.TheVariants.{Init, Script, Lines, Import, Crl, Serve, Open, At, Schedule, KeyId, Listing, Audit}
 use Rattle.reg_words.specs.declared.job.KeyHolder.{KeyHolder}
 use Rattle.reg_words.specs.declared.job.Order.{Order}
 use Rattle.reg_words.specs.declared.commands.Terms.{Terms}
@@ -169,6 +172,23 @@ key_id_of rows = do
   key_id ← first_of (codes "key-id") rows
   Some (KeyId file key_id)
 
+-- a moment that is told, if one is
+abbrev pub moment_given : Text → List Row → Option (Option ℕ)
+moment_given id rows = option_map_or (λ text. option_map (λ moment. Some moment) (moment_of text)) (first_of id rows) (Some None)
+
+-- how a list is written
+abbrev pub form_in : List Row → Form
+form_in rows = if is_given (codes "json") rows then Json else Csv
+
+unfoldable pub list_of : List Row → Option Job
+list_of rows = do
+  file ← first_of (codes "file") rows
+  word ← first_of (codes "list") rows
+  before ← moment_given (codes "before") rows
+  from ← cursor_named word before
+  now ← moment_given (codes "now") rows
+  Some (Listing file from now (form_in rows))
+
 unfoldable pub audit_of : List Row → Option Job
 audit_of rows = do
   file ← first_of (codes "file") rows
@@ -179,6 +199,7 @@ unfoldable pub keeping_job_in : Text → List Row → Option Job
 keeping_job_in name rows =
     if bytes_eq name (codes "schedule") then schedule_of rows
     else if bytes_eq name (codes "key-id") then key_id_of rows
+    else if bytes_eq name (codes "list") then list_of rows
     else if bytes_eq name (codes "audit") then audit_of rows
     else None
 

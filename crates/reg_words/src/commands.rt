@@ -2,16 +2,17 @@
 
 ghost use Rattle.std.specs.Prelude.{◌≡◌, codes, IfOk};
 ghost use Rattle.clap.specs.Words.{found_of, rows_of};
-ghost use Rattle.reg_words.specs.Jobs.{job_in, serving_job_in, keeping_job_in, init_of, terms_of, script_by, script_of, import_of, crl_of, number_in, serve_of, open_of, at_of, schedule_of, key_id_of, audit_of};
+ghost use Rattle.reg_words.specs.Jobs.{job_in, serving_job_in, keeping_job_in, init_of, terms_of, script_by, script_of, import_of, crl_of, number_in, serve_of, open_of, at_of, schedule_of, key_id_of, form_in, list_of, audit_of};
 
 use crate::job::{Job, KeyHolder, Way};
 use crate::values::{
-    answerer, chosen_holder, is_set, key_holder, moment, number_if_given, number_or, number_within,
-    steps, way_of, word_of,
+    answerer, chosen_holder, is_set, key_holder, moment, moment_if_given, number_if_given,
+    number_or, number_within, steps, text_of, way_of, word_of,
 };
 use crate::word::Word;
 use crate::wrong::{LAST_PORT, MOST_REQUESTS};
 use clap::ArgMatches;
+use reg_lists::{Cursor, Form};
 use std::alloc::{AllocError, Global};
 
 /// What a new register is to keep to.
@@ -90,6 +91,8 @@ fn read_keeping<'a>(
         read_schedule(alloc, given)
     } else if name == "key-id" {
         Ok(read_key_id(given))
+    } else if name == "list" {
+        Ok(read_list(given))
     } else if name == "audit" {
         Ok(read_audit(given))
     } else {
@@ -242,6 +245,34 @@ fn read_key_id<'a>(given: &ArgMatches<'a>) -> Option<Job<'a>>
         file: word_of(given, "file")?,
         key_id: word_of(given, "key-id")?,
     })
+}
+
+#[tactic(auto, unfolding(crate::specs::Jobs::list_of))]
+fn read_list<'a>(given: &ArgMatches<'a>) -> Option<Job<'a>>
+    ensures { result ≡ list_of (rows_of (found_of given.now)) }
+{
+    let file = word_of(given, "file")?;
+    let word = text_of(given, "list")?;
+    let before = moment_if_given(given, "before")?;
+    let from = Cursor::named(word.as_bytes(), before)?;
+    let now = moment_if_given(given, "now")?;
+    Some(Job::Listing {
+        file,
+        from,
+        now,
+        form: form_of(given),
+    })
+}
+
+/// How a list is written.
+fn form_of(given: &ArgMatches<'_>) -> Form
+    ensures { result ≡ form_in (rows_of (found_of given.now)) }
+{
+    if is_set(given, "json") {
+        Form::Json
+    } else {
+        Form::Csv
+    }
 }
 
 #[tactic(auto, unfolding(crate::specs::Jobs::audit_of))]

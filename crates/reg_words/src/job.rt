@@ -5,6 +5,7 @@ ghost use Rattle.reg_words.specs.Statuses.{usage_status};
 
 use crate::word::{Steps, Word};
 use reg_core::Moment;
+use reg_lists::{Cursor, Form};
 use reg_signer::Algorithm;
 
 /// What holds the issuer's key: what listens at a Unix socket, and the algorithm of its signatures.
@@ -110,6 +111,13 @@ pub enum Job<'a> {
     KeyId {
         file: Word<'a>,
         key_id: Word<'a>,
+    },
+    /// Writes a list of the register, as CSV with a header or as an object of JSON a line, at a moment or at the machine's clock.
+    Listing {
+        file: Word<'a>,
+        from: Cursor,
+        now: Option<Moment>,
+        form: Form,
     },
     /// Looks whether the tables are those of sound records, and changes nothing.
     Audit {
