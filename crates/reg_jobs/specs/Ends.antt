@@ -228,23 +228,24 @@ module _ {E W : Type 0} (remaining : E → Option (List ℕ)) (contents : W → 
     -- the end of a job: what it read, what it did at its place to the register at its path and nothing else, and what it wrote; nothing
     -- holds the key of the sample issuer in memory
     abbrev pub Ends : {F : Type 0} → Front F → Job → Result (Unit {0}) Failure → Type 0
-    Ends front (job.Init file name key key_id days crl_life ocsp_life cap) result = (reader' ≡ reader)
-        × InitAt contents writer writer' places keeper place place' file name key key_id (terms_of days crl_life ocsp_life cap) result
+    Ends front (job.Init new) result = (reader' ≡ reader)
+        × InitAt contents writer writer' places keeper place place' new.file new.name new.key new.key_id
+        (terms_of new.days new.crl_life new.ocsp_life new.cap) result
     Ends front (job.Script (Some file) signer) result = ScriptAt file signer result
     Ends front (job.Script None None) result = (place' ≡ place) × ScriptInMemory result
     Ends front (job.Script None (Some holder)) result = (place' ≡ place) × IsSilent × (result ≡ Err failure.BadSigner)
-    Ends front (job.Lines file signer way) result = LinesAt front file signer way result
-    Ends front (job.Import file now is_strict) result = ImportAt is_strict file now result
+    Ends front (job.Lines script) result = LinesAt front script.file script.signer script.way result
+    Ends front (job.Import rows) result = ImportAt rows.is_strict rows.file rows.moment result
     Ends front (job.Crl file number) result = (reader' ≡ reader) × CrlAt contents writer writer' places keeper place place' file number result
     Ends front (job.Schedule file steps) result =
         (reader' ≡ reader) × ScheduleAt contents writer writer' places keeper place place' file steps result
     Ends front (job.KeyId file key_id) result =
         (reader' ≡ reader) × KeyIdAt contents writer writer' places keeper place place' file key_id result
-    Ends front (job.Serve file port requests signer answerer) result =
-        (reader' ≡ reader) × ServeAt contents writer writer' places keeper place place' front file signer answerer port requests result
-    Ends front (job.Open file port counter signer answerer) result =
-        (reader' ≡ reader) × OpenAt contents writer writer' places keeper place place' front file signer answerer port counter result
-    Ends front (job.Listing file from now form) result =
-        (reader' ≡ reader) × ListAt contents writer writer' places keeper place place' front.told file from now form result
+    Ends front (job.Serve it) result = (reader' ≡ reader)
+        × ServeAt contents writer writer' places keeper place place' front it.file it.signer it.answerer it.port it.requests result
+    Ends front (job.Open it) result = (reader' ≡ reader)
+        × OpenAt contents writer writer' places keeper place place' front it.file it.signer it.answerer it.port it.counter result
+    Ends front (job.Listing list) result = (reader' ≡ reader)
+        × ListAt contents writer writer' places keeper place place' front.told list.file list.from list.moment list.form result
     Ends front (job.Audit file) result = (reader' ≡ reader) × AuditAt contents writer writer' places keeper place place' file result
     Ends front (job.At counter) result = (place' ≡ place) × AtCounter (front.met counter) (remaining reader) (contents writer) (contents writer') result

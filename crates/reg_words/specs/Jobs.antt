@@ -100,7 +100,7 @@ way_in rows = record { is_clocked = is_given (codes "clock") rows; is_strict = i
 -- a script by its words; only one over a register at a path is run line by line
 abbrev pub script_by : Option Text → Option KeyHolder → Way → Option Job
 script_by None signer way = if way.is_clocked || way.is_strict then None else Some (Script None signer)
-script_by (Some file) signer way = if way.is_clocked || way.is_strict then Some (Lines file signer way) else Some (Script (Some file) signer)
+script_by (Some file) signer way = if way.is_clocked || way.is_strict then Some (Lines (record { file = file; signer = signer; way = way })) else Some (Script (Some file) signer)
 
 -- what an issuer is to keep to; what is left out is as in the usual policy
 unfoldable pub terms_of : List Row → Option Terms
@@ -118,7 +118,16 @@ init_of rows = do
   name ← first_of (codes "name") rows
   key ← first_of (codes "key") rows
   terms ← terms_of rows
-  Some (Init file name key (first_of (codes "key-id") rows) terms.days terms.crl_life terms.ocsp_life terms.cap)
+  Some (Init (record {
+    file = file;
+    name = name;
+    key = key;
+    key_id = first_of (codes "key-id") rows;
+    days = terms.days;
+    crl_life = terms.crl_life;
+    ocsp_life = terms.ocsp_life;
+    cap = terms.cap;
+  }))
 
 unfoldable pub script_of : List Row → Option Job
 script_of rows = do
@@ -128,8 +137,8 @@ script_of rows = do
 unfoldable pub import_of : List Row → Option Job
 import_of rows = do
   file ← first_of (codes "file") rows
-  now ← option_and_then moment_of (first_of (codes "now") rows)
-  Some (Import file now (is_given (codes "strict") rows))
+  moment ← option_and_then moment_of (first_of (codes "now") rows)
+  Some (Import (record { file = file; moment = moment; is_strict = is_given (codes "strict") rows }))
 
 unfoldable pub crl_of : List Row → Option Job
 crl_of rows = do
@@ -144,7 +153,7 @@ serve_of rows = do
   requests ← number_in 1 1000000 (codes "requests") rows
   signer ← holder_in rows
   answerer ← answerer_in rows
-  Some (Serve file port requests signer answerer)
+  Some (Serve (record { file = file; port = port; requests = requests; signer = signer; answerer = answerer }))
 
 unfoldable pub open_of : List Row → Option Job
 open_of rows = do
@@ -153,7 +162,7 @@ open_of rows = do
   counter ← first_of (codes "counter") rows
   answerer ← answerer_in rows
   signer ← holder_chosen answerer rows
-  Some (Open file port counter signer answerer)
+  Some (Open (record { file = file; port = port; counter = counter; signer = signer; answerer = answerer }))
 
 unfoldable pub at_of : List Row → Option Job
 at_of rows = do
@@ -186,8 +195,8 @@ list_of rows = do
   word ← first_of (codes "list") rows
   before ← moment_given (codes "before") rows
   from ← cursor_named word before
-  now ← moment_given (codes "now") rows
-  Some (Listing file from now (form_in rows))
+  moment ← moment_given (codes "now") rows
+  Some (Listing (record { file = file; from = from; moment = moment; form = form_in rows }))
 
 unfoldable pub audit_of : List Row → Option Job
 audit_of rows = do

@@ -4,7 +4,9 @@ ghost use Rattle.std.specs.Prelude.{◌≡◌, codes, IfOk};
 ghost use Rattle.clap.specs.Words.{found_of, rows_of};
 ghost use Rattle.reg_words.specs.Jobs.{job_in, serving_job_in, keeping_job_in, init_of, terms_of, script_by, script_of, import_of, crl_of, number_in, serve_of, open_of, at_of, schedule_of, key_id_of, form_in, list_of, audit_of};
 
-use crate::job::{Job, KeyHolder, Way};
+use crate::job::{
+    Job, KeptOpen, KeyHolder, LinedScript, ListToWrite, NewRegister, RowsToImport, Serving, Way,
+};
 use crate::values::{
     answerer, chosen_holder, is_set, key_holder, moment, moment_if_given, number_if_given,
     number_or, number_within, steps, text_of, way_of, word_of,
@@ -108,7 +110,7 @@ fn read_init<'a>(given: &ArgMatches<'a>) -> Option<Job<'a>>
     let name = word_of(given, "name")?;
     let key = word_of(given, "key")?;
     let terms = read_terms(given)?;
-    Some(Job::Init {
+    Some(Job::Init(NewRegister {
         file,
         name,
         key,
@@ -117,7 +119,7 @@ fn read_init<'a>(given: &ArgMatches<'a>) -> Option<Job<'a>>
         crl_life: terms.crl_life,
         ocsp_life: terms.ocsp_life,
         cap: terms.cap,
-    })
+    }))
 }
 
 #[tactic(auto, unfolding(crate::specs::Jobs::terms_of))]
@@ -150,7 +152,7 @@ fn script_job<'a>(
 {
     let by_lines = way.is_clocked || way.is_strict;
     match file {
-        Some(file) if by_lines => Some(Job::Lines { file, signer, way }),
+        Some(file) if by_lines => Some(Job::Lines(LinedScript { file, signer, way })),
         None if by_lines => None,
         file => Some(Job::Script { file, signer }),
     }
@@ -160,11 +162,11 @@ fn script_job<'a>(
 fn read_import<'a>(given: &ArgMatches<'a>) -> Option<Job<'a>>
     ensures { result ≡ import_of (rows_of (found_of given.now)) }
 {
-    Some(Job::Import {
+    Some(Job::Import(RowsToImport {
         file: word_of(given, "file")?,
-        now: moment(given, "now")?,
+        moment: moment(given, "now")?,
         is_strict: is_set(given, "strict"),
-    })
+    }))
 }
 
 #[tactic(auto, unfolding(crate::specs::Jobs::crl_of))]
@@ -188,13 +190,13 @@ fn port_of(given: &ArgMatches<'_>) -> Option<u16>
 fn read_serve<'a>(given: &ArgMatches<'a>) -> Option<Job<'a>>
     ensures { result ≡ serve_of (rows_of (found_of given.now)) }
 {
-    Some(Job::Serve {
+    Some(Job::Serve(Serving {
         file: word_of(given, "file")?,
         port: port_of(given)?,
         requests: number_within(given, "requests", 1, MOST_REQUESTS)? as u32,
         signer: key_holder(given)?,
         answerer: answerer(given)?,
-    })
+    }))
 }
 
 #[tactic(auto, unfolding(crate::specs::Jobs::open_of))]
@@ -206,13 +208,13 @@ fn read_open<'a>(given: &ArgMatches<'a>) -> Option<Job<'a>>
     let counter = word_of(given, "counter")?;
     let answering = answerer(given)?;
     let signer = chosen_holder(given, &answering)?;
-    Some(Job::Open {
+    Some(Job::Open(KeptOpen {
         file,
         port,
         counter,
         signer,
         answerer: answering,
-    })
+    }))
 }
 
 #[tactic(auto, unfolding(crate::specs::Jobs::at_of))]
@@ -255,13 +257,13 @@ fn read_list<'a>(given: &ArgMatches<'a>) -> Option<Job<'a>>
     let word = text_of(given, "list")?;
     let before = moment_if_given(given, "before")?;
     let from = Cursor::named(word.as_bytes(), before)?;
-    let now = moment_if_given(given, "now")?;
-    Some(Job::Listing {
+    let moment = moment_if_given(given, "now")?;
+    Some(Job::Listing(ListToWrite {
         file,
         from,
-        now,
+        moment,
         form: form_of(given),
-    })
+    }))
 }
 
 /// How a list is written.
