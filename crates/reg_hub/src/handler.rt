@@ -21,6 +21,17 @@ pub enum Lost {
     Memory,
 }
 
+/// How many connections there are.
+#[derive(Clone, Copy, Debug, PartialEq, Eq)]
+pub struct Crowd {
+    /// How many peers there are.
+    pub peers: usize,
+    /// How many counters there are.
+    pub counters: usize,
+    /// How many peers were accepted up to now.
+    pub accepted: u64,
+}
+
 /// What answers requests and lines, one after the other.
 pub trait Handler {
     ghost use Rattle.std.specs.Prelude.{◌≡◌, ℕ, List, IfOk, OnErr};
@@ -51,6 +62,9 @@ pub trait Handler {
 
     /// Is told that the connection of the peer at an address ended by a fault; a counter has no address. Nothing changes by it.
     fn lose(&self, peer: Option<SocketAddr>, why: Lost);
+
+    /// Is told how many connections there are, before it answers any of a turn. Nothing changes by it.
+    fn hold(&self, crowd: Crowd);
 }
 
 /// Answers what came of one peer, and counts it.

@@ -6,7 +6,7 @@ ghost use Rattle.reg_hub.specs.Exchange.{Exchanged};
 use crate::caller::Caller;
 use crate::callers::{Callers, SWEEP};
 use crate::door::Door;
-use crate::handler::{Handler, Stopped};
+use crate::handler::{Crowd, Handler, Stopped};
 use crate::losses::{Loss, Losses};
 use crate::shared::Shared;
 use crate::tellers::Tellers;
@@ -80,6 +80,15 @@ impl Hub {
         self.callers.taken()
     }
 
+    /// How many connections there are.
+    fn crowd(&self) -> Crowd {
+        Crowd {
+            peers: self.callers.taken(),
+            counters: self.tellers.taken(),
+            accepted: self.door.accepted,
+        }
+    }
+
     /// Answers so many requests, and lines at the counters meanwhile. Each peer that is accepted is one of them, and is answered
     /// once: when its request is whole, when nothing more of it comes, when its time is over, or when it is let go for others.
     ///
@@ -129,6 +138,7 @@ impl Hub {
     {
         let now = self.look(clock, most, longest)?;
         self.shared.losses.tell(handler);
+        handler.hold(self.crowd());
         self.tellers.tell_all(&mut self.shared, handler)?;
         self.answer_all(handler, made, most, now)
     }

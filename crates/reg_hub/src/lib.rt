@@ -21,7 +21,7 @@ mod watcher;
 
 pub use caller::{Caller, Next};
 pub use callers::MOST_CALLERS;
-pub use handler::{Handler, Lost, Stopped};
+pub use handler::{Crowd, Handler, Lost, Stopped};
 pub use hub::Hub;
 pub use link::Link;
 pub use taking::{Taken, take_in};

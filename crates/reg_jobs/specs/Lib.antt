@@ -13,3 +13,4 @@ pub mod Serving
 pub mod Signing
 pub mod Told
 pub mod Visits
+pub mod Watched

@@ -7,16 +7,20 @@ ghost use Rattle.reg_calls.specs.Leads.{Leads};
 ghost use Rattle.reg_lines.specs.Script.{ScriptEnds};
 ghost use Rattle.reg_heads.specs.Response.{memory_text};
 ghost use Rattle.reg_jobs.specs.Exchanges.{Entry, EntryAt, Exchange, ExchangeAt, LineRuns, Replied, Responded, line_at};
+ghost use Rattle.reg_jobs.specs.Watched.{Visit, VisitAt};
 
 use crate::front::Front;
-use crate::logging::{began, log_answer, log_line, log_lost};
+use crate::logging::{began, began_of, log_answer, log_line, log_lost};
 use crate::place::Place;
+use crate::watching::{asked_itself, tell_itself};
 use reg_calls::Keeper;
 use reg_core::{Fault, Moment};
 use reg_faces::{run_script, serve_one};
 use reg_heads::write_memory_fault;
-use reg_hub::{Handler, Lost, Stopped};
+use reg_hub::{Crowd, Handler, Lost, Stopped};
+use reg_watch::{Heard, Tally};
 use std::alloc::{AllocError, Global};
+use std::cell::Cell;
 use std::net::SocketAddr;
 
 /// The bytes of room that are made for the text of a response before anything is asked. Each response that tells of something entered
@@ -31,12 +35,16 @@ pub(crate) struct ServedDesk<'a, P: Place, F: Front> {
     pub(crate) front: &'a F,
 }
 
-/// A desk that answers peers and lines at counters, each at a moment of the clock.
+/// A desk that answers peers and lines at counters, each at a moment of the clock, and tells of itself.
 #[derive(Drop)]
 pub(crate) struct OpenDesk<'a, P: Place, F: Front> {
     pub(crate) office: P::Opened,
     pub(crate) alloc: Global,
     pub(crate) front: &'a F,
+    /// What was counted since it was opened.
+    pub(crate) tally: Tally,
+    /// What was heard of connections.
+    pub(crate) heard: &'a Cell<Heard>,
 }
 
 /// A desk that runs lines, each at a moment of the clock, and has no peers.
@@ -74,28 +82,50 @@ impl<'a, P: Place, F: Front> Handler for ServedDesk<'a, P, F> {
     fn lose(&self, peer: Option<SocketAddr>, why: Lost) {
         log_lost(self.alloc, self.front, peer, why);
     }
+
+    fn hold(&self, _crowd: Crowd) {}
 }
 
 impl<'a, P: Place, F: Front> Handler for OpenDesk<'a, P, F> {
     ghost use Rattle.reg_calls.specs.Leads.{Leads};
-    ghost use Rattle.reg_jobs.specs.Exchanges.{Exchange, Entry};
+    ghost use Rattle.reg_jobs.specs.Exchanges.{Entry};
+    ghost use Rattle.reg_jobs.specs.Watched.{Visit};
 
     ghost answers = { λ s request text t. Leads P.Opened.is_clean P.Opened.stands
-        (λ identity before after. Exchange P.Opened.signs F.told identity before request text after) s.office t.office };
+        (λ identity before after. Visit P.Opened.signs F.told identity before request text after) s.office t.office };
 
     ghost tells = { λ s line text t. Leads P.Opened.is_clean P.Opened.stands
         (λ identity before after. Entry P.Opened.signs F.told identity before line text after) s.office t.office };
 
     fn answer(&mut self, peer: SocketAddr, request: &[u8]) -> Result<Vec<u8>, Stopped> {
-        answer_now::<P, F>(self.alloc, &mut self.office, self.front, peer, request)
+        visit_now::<P, F>(
+            self.alloc,
+            &mut self.office,
+            self.front,
+            &mut self.tally,
+            self.heard.get(),
+            peer,
+            request,
+        )
     }
 
     fn tell(&mut self, line: &[u8]) -> Result<Vec<u8>, Stopped> {
-        tell_now::<P, F>(self.alloc, &mut self.office, self.front, line)
+        tell_counted_now::<P, F>(
+            self.alloc,
+            &mut self.office,
+            self.front,
+            &mut self.tally,
+            line,
+        )
     }
 
     fn lose(&self, peer: Option<SocketAddr>, why: Lost) {
+        self.heard.set(with_loss(self.heard.get(), why));
         log_lost(self.alloc, self.front, peer, why);
+    }
+
+    fn hold(&self, crowd: Crowd) {
+        self.heard.set(with_crowd(self.heard.get(), crowd));
     }
 }
 
@@ -117,6 +147,8 @@ impl<'a, K: Keeper, F: Front> Handler for ClockedDesk<'a, K, F> {
     }
 
     fn lose(&self, _peer: Option<SocketAddr>, _why: Lost) {}
+
+    fn hold(&self, _crowd: Crowd) {}
 }
 
 impl<K: Keeper> Handler for LinedDesk<K> {
@@ -137,6 +169,8 @@ impl<K: Keeper> Handler for LinedDesk<K> {
     }
 
     fn lose(&self, _peer: Option<SocketAddr>, _why: Lost) {}
+
+    fn hold(&self, _crowd: Crowd) {}
 }
 
 /// Answers what came of a peer, at the moment of the clock.
@@ -158,20 +192,44 @@ fn answer_now<P: Place, F: Front>(
     }
 }
 
-/// Answers a line of a counter, at the moment of the clock.
-fn tell_now<P: Place, F: Front>(
+/// Answers what came of a peer of an open desk, at the moment of the clock, and counts it.
+fn visit_now<P: Place, F: Front>(
     alloc: Global,
     office: &mut P::Opened,
     front: &F,
+    tally: &mut Tally,
+    heard: Heard,
+    peer: SocketAddr,
+    request: &[u8],
+) -> Result<Vec<u8>, Stopped>
+    ensures ok { IfOk result (λ text. Leads P.Opened.is_clean P.Opened.stands
+        (λ identity before after. Visit P.Opened.signs F.told identity before request.now text.items after)
+        office.old office.new) }
+    ensures err { OnErr result ((office.new ≡ office.old) × (tally.new ≡ tally.old)) }
+{
+    match front.moment() {
+        Ok(now) => Ok(visit_logged::<P, F>(
+            alloc, office, front, tally, heard, now, peer, request,
+        )),
+        Err(_) => Err(Stopped),
+    }
+}
+
+/// Answers a line of a counter, at the moment of the clock, and counts it.
+fn tell_counted_now<P: Place, F: Front>(
+    alloc: Global,
+    office: &mut P::Opened,
+    front: &F,
+    tally: &mut Tally,
     line: &[u8],
 ) -> Result<Vec<u8>, Stopped>
     ensures ok { IfOk result (λ text. Leads P.Opened.is_clean P.Opened.stands
         (λ identity before after. Entry P.Opened.signs F.told identity before line.now text.items after)
         office.old office.new) }
-    ensures err { OnErr result (office.new ≡ office.old) }
+    ensures err { OnErr result ((office.new ≡ office.old) × (tally.new ≡ tally.old)) }
 {
     match front.moment() {
-        Ok(now) => Ok(tell_logged::<P, F>(alloc, office, front, now, line)),
+        Ok(now) => Ok(tell_counted::<P, F>(alloc, office, front, tally, now, line)),
         Err(_) => Err(Stopped),
     }
 }
@@ -212,6 +270,49 @@ fn answer_logged<P: Place, F: Front>(
     let is_unsigned = has_failed::<P>(office, failures);
     log_answer(alloc, front, began, now, peer, request, &text, is_unsigned);
     text
+}
+
+/// Answers what came of a peer of an open desk, at a moment, counts it, and puts it into the log, where there is one.
+fn visit_logged<P: Place, F: Front>(
+    alloc: Global,
+    office: &mut P::Opened,
+    front: &F,
+    tally: &mut Tally,
+    heard: Heard,
+    now: Moment,
+    peer: SocketAddr,
+    request: &[u8],
+) -> Vec<u8>
+    ensures { Leads P.Opened.is_clean P.Opened.stands
+        (λ identity before after. VisitAt P.Opened.signs now identity before request.now result.items after) office.old office.new }
+{
+    let began = front.micros();
+    let failures = P::failures(office);
+    let text = visit_at::<P>(alloc, office, tally, heard, now, request);
+    let is_unsigned = has_failed::<P>(office, failures);
+    let micros = front.micros().saturating_sub(began);
+    tally.count_answer(now, request, &text, micros, is_unsigned);
+    log_answer(alloc, front, began_of(front, began), now, peer, request, &text, is_unsigned);
+    text
+}
+
+/// Answers what came of a peer of an open desk, at a moment: what asks of the desk itself, and what asks of its register.
+fn visit_at<P: Place>(
+    alloc: Global,
+    office: &mut P::Opened,
+    tally: &mut Tally,
+    heard: Heard,
+    now: Moment,
+    request: &[u8],
+) -> Vec<u8>
+    ensures { Leads P.Opened.is_clean P.Opened.stands
+        (λ identity before after. VisitAt P.Opened.signs now identity before request.now result.items after) office.old office.new }
+{
+    match asked_itself(alloc, request) {
+        Ok(Some(ask)) => tell_itself::<P>(alloc, office, now, tally, heard, ask),
+        Ok(None) => answer_at(alloc, office, now, request),
+        Err(_) => Vec::new(alloc),
+    }
 }
 
 /// Whether a signature did not come since the counts of those were these: of a CRL, or of an OCSP answer.
@@ -265,7 +366,7 @@ fn response_of(served: Result<(), Fault>, written: Vec<u8>) -> Vec<u8>
 }
 
 /// The constant text of want of memory in the place of what was written, or nothing where there is no memory for it.
-fn memory_response(written: Vec<u8>) -> Vec<u8>
+pub(crate) fn memory_response(written: Vec<u8>) -> Vec<u8>
     ensures { (result.items ≡ memory_text) ⊎ (result.items ≡ []) }
 {
     let mut text = emptied(written);
@@ -283,22 +384,25 @@ fn emptied(mut text: Vec<u8>) -> Vec<u8>
     text
 }
 
-/// Answers a line of a counter, at a moment, and puts that into the log, where there is one.
-fn tell_logged<P: Place, F: Front>(
+/// Answers a line of a counter, at a moment, counts it, and puts it into the log, where there is one.
+fn tell_counted<P: Place, F: Front>(
     alloc: Global,
     office: &mut P::Opened,
     front: &F,
+    tally: &mut Tally,
     now: Moment,
     line: &[u8],
 ) -> Vec<u8>
     ensures { Leads P.Opened.is_clean P.Opened.stands
         (λ identity before after. EntryAt P.Opened.signs now identity before line.now result.items after) office.old office.new }
 {
-    let began = began(front);
+    let began = front.micros();
     let failures = P::failures(office);
     let reply = tell_at(alloc, office, now, line);
     let is_unsigned = has_failed::<P>(office, failures);
-    log_line(alloc, front, began, now, line, &reply, is_unsigned);
+    let micros = front.micros().saturating_sub(began);
+    tally.count_line(now, &reply, micros, is_unsigned);
+    log_line(alloc, front, began_of(front, began), now, line, &reply, is_unsigned);
     reply
 }
 
@@ -387,4 +491,26 @@ fn put_fault(text: &mut Vec<u8>, fault: Fault) -> Result<(), AllocError>
     text.extend_from_slice(line.as_bytes())?;
     text.push(b'\n')?;
     Ok(())
+}
+
+/// What was heard, with a connection more that ended by a fault.
+fn with_loss(heard: Heard, why: Lost) -> Heard {
+    let mut heard = heard;
+    match why {
+        Lost::Broken => heard.broken = heard.broken.saturating_add(1),
+        Lost::Late => heard.late = heard.late.saturating_add(1),
+        Lost::Crowded => heard.crowded = heard.crowded.saturating_add(1),
+        Lost::Memory => heard.memory = heard.memory.saturating_add(1),
+    }
+    heard
+}
+
+/// What was heard, with so many connections.
+fn with_crowd(heard: Heard, crowd: Crowd) -> Heard {
+    Heard {
+        peers: crowd.peers as u64,
+        counters: crowd.counters as u64,
+        accepted: crowd.accepted,
+        ..heard
+    }
 }

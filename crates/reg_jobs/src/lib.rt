@@ -13,6 +13,7 @@ mod place;
 mod sealing;
 mod serving;
 mod telling;
+mod watching;
 
 pub use asking::{at, talk};
 pub use front::Front;

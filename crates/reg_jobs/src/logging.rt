@@ -19,6 +19,11 @@ pub(crate) fn began<F: Front>(front: &F) -> Option<u64> {
     }
 }
 
+/// The same of an exchange that began then.
+pub(crate) fn began_of<F: Front>(front: &F, began: u64) -> Option<u64> {
+    if front.has_log() { Some(began) } else { None }
+}
+
 /// Logs what a peer was answered at a moment, and whether a signature did not come for it.
 pub(crate) fn log_answer<F: Front>(
     alloc: Global,

@@ -13,7 +13,9 @@ use crate::serving::{LOOPBACK, hub_over, serve_hub};
 use reg_core::Fault;
 use reg_endings::Failure;
 use reg_hub::Hub;
+use reg_watch::{Heard, Tally};
 use reg_words::{Answerer, KeyHolder};
+use std::cell::Cell;
 use std::io::Write;
 
 /// Keeps the register at a path open, until the program is ended. It is opened before the port is bound, and the port is bound
@@ -33,10 +35,13 @@ pub fn hold_open<P: Place, F: Front, W: Write>(
 {
     let office = place.open_to_sign(path, signer, answerer)?;
     let alloc = rt.alloc();
+    let heard = Cell::new(Heard::nothing());
     let mut opened: OpenDesk<'_, P, F> = OpenDesk {
         office,
         alloc,
         front,
+        tally: Tally::new(),
+        heard: &heard,
     };
     let ending = keep_open(rt, &mut opened, port, counter, writer);
     place.close(path, opened.office);

@@ -1,11 +1,12 @@
 //! A place where registers lie.
 
 use reg_calls::Keeper;
-use reg_core::{Label, Memory, Policy, Schedule};
+use reg_core::{Fault, Label, Memory, Moment, Policy, Schedule};
 use reg_der::Issuer;
 use reg_endings::Failure;
 use reg_findings::Verdict;
 use reg_tables::StoreFault;
+use reg_watch::Standing;
 use reg_words::{Answerer, KeyHolder};
 use std::alloc::Global;
 
@@ -18,10 +19,11 @@ pub trait Place {
     ghost use Rattle.reg_core.specs.Records.{no_records};
     ghost use Rattle.reg_calls.specs.Signatories.{Signatory};
     ghost use Rattle.reg_endings.specs.declared.failure.Failure.{Failure as Failing};
-    ghost use Rattle.reg_jobs.specs.Failing.{IsMaking, IsOpening};
+    ghost use Rattle.reg_jobs.specs.Failing.{IsMaking, IsOfStore, IsOpening};
     ghost use Rattle.reg_jobs.specs.Identifiers.{Identifies};
     ghost use Rattle.reg_jobs.specs.Schedules.{Reschedules};
     ghost use Rattle.reg_jobs.specs.Signing.{Signing};
+    ghost use Rattle.reg_jobs.specs.Watched.{HasOpen, HasStanding};
     ghost use Rattle.reg_findings.specs.declared.verdict.Verdict.{Verdict as Verdicts};
     ghost use Rattle.reg_tables.specs.Stays.{IsCallFault};
 
@@ -147,6 +149,24 @@ pub trait Place {
     fn failures(register: &Self::Opened) -> (u64, u64)
         ensures crls { result.0 ≡ Self.Opened.failures register.now }
         ensures answers { result.1 ≡ Self.Opened.answer_failures register.now };
+
+    /// What stands in a register that was opened, beside its counts.
+    ///
+    /// # Errors
+    ///
+    /// `Memory`, `Store`.
+    fn standing(register: &mut Self::Opened) -> Result<Standing, Fault>
+        ensures moves { Leads Self.Opened.is_clean Self.Opened.stands (λ identity before after. HasStanding before result × (after ≡ before)) register.old register.new }
+        ensures faults { IfErr result IsOfStore };
+
+    /// How many requests for revocation are open in a register that was opened, at a moment. To count them takes a walk.
+    ///
+    /// # Errors
+    ///
+    /// `Memory`, `Store`.
+    fn open_count(register: &mut Self::Opened, now: Moment) -> Result<u64, Fault>
+        ensures moves { Leads Self.Opened.is_clean Self.Opened.stands (λ identity before after. HasOpen before now result × (after ≡ before)) register.old register.new }
+        ensures faults { IfErr result IsOfStore };
 
     /// Audits the register that lies at a path, and changes nothing of it: one of an older version is not made newer.
     ///

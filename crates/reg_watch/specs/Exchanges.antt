@@ -55,6 +55,12 @@ route_at path =
 abbrev pub route_in : List ℕ → Route
 route_in request = route_at (path_in request)
 
+-- whether a route is one at which an open register tells of itself
+abbrev pub is_own : Route → Bool
+is_own Health = true
+is_own Metrics = true
+is_own other = false
+
 -- the status of three digits
 unfoldable pub code_at : List ℕ → Code
 code_at digits =

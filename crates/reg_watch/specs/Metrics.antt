@@ -93,7 +93,7 @@ abbrev pub answer_text : ℕ → ℕ → List ℕ
 answer_text place count = if count == 0 then [] else named_answer_text (route_name (place / 11)) (code_name (place % 11)) count
 
 -- the first so many places, in their order
-abbrev pub answers_front : List ℕ → ℕ → List ℕ
+unfoldable pub answers_front : List ℕ → ℕ → List ℕ
 answers_front answers zero = []
 answers_front answers (suc place) = answers_front answers place ++ answer_text place (slice_index_or answers place 0)
 
@@ -148,12 +148,12 @@ abbrev pub bucket_text : List ℕ → ℕ → List ℕ
 bucket_text name count = SECONDS_TO.now ++ name ++ sample LABEL_END.now count
 
 -- the sum of the first so many ranges, up to the greatest number
-abbrev pub sum_of : List ℕ → ℕ → ℕ
+unfoldable pub sum_of : List ℕ → ℕ → ℕ
 sum_of buckets zero = 0
 sum_of buckets (suc place) = min (sum_of buckets place + slice_index_or buckets place 0) greatest
 
 -- the first so many ranges in their order, each with those below it
-abbrev pub buckets_text : List ℕ → ℕ → List ℕ
+unfoldable pub buckets_text : List ℕ → ℕ → List ℕ
 buckets_text buckets zero = []
 buckets_text buckets (suc place) = buckets_text buckets place ++ bucket_text (bucket_name place) (sum_of buckets (suc place))
 

@@ -10,6 +10,7 @@ mod samples;
 mod signing;
 mod tally;
 
+pub use exchange::asks_itself;
 pub use health::Health;
 pub use metrics::metrics;
 pub use numbers::{Found, Heard, Numbers, Requests, Standing};

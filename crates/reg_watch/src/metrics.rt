@@ -181,6 +181,7 @@ fn code_name(place: usize) -> &'static str
 }
 
 /// Puts the answers behind a text: those routes and statuses that there were.
+#[tactic(auto, using(crate::proofs::Fronts::answers_none, crate::proofs::Fronts::answers_next))]
 fn put_answers(text: &mut Vec<u8>, answers: &[u64]) -> Result<(), AllocError>
     requires { length answers.now ≡ 110 }
     ensures { OnOk result (text.new.items ≡ text.old.items ++ answers_text answers.now) }
@@ -307,6 +308,7 @@ fn put_times(text: &mut Vec<u8>, tally: &Tally) -> Result<(), AllocError>
 }
 
 /// Puts the ranges behind a text, each with those below it; how many exchanges there were.
+#[tactic(auto, using(crate::proofs::Fronts::buckets_none, crate::proofs::Fronts::buckets_next, crate::proofs::Fronts::sum_none, crate::proofs::Fronts::sum_next))]
 fn put_buckets(text: &mut Vec<u8>, buckets: &[u64]) -> Result<u64, AllocError>
     requires { length buckets.now ≡ 12 }
     ensures { IfOk result (λ count. (count ≡ sum_of buckets.now 12) × (text.new.items ≡ text.old.items ++ buckets_text buckets.now 12)) }

@@ -1,7 +1,7 @@
 //! A hub of the tests: who answers, what the clock says, and who comes.
 
 use mio::net::{TcpListener, UnixListener};
-use reg_hub::{Handler, Hub, Lost, Stopped};
+use reg_hub::{Crowd, Handler, Hub, Lost, Stopped};
 use std::alloc::{AllocError, Global};
 use std::cell::Cell;
 use std::fmt::Debug;
@@ -72,6 +72,8 @@ impl Handler for Echo {
     fn lose(&self, peer: Option<SocketAddr>, why: Lost) {
         self.lost.set(Some((peer, why)));
     }
+
+    fn hold(&self, _crowd: Crowd) {}
 }
 
 impl Echo {

@@ -1,6 +1,7 @@
 use Rattle.std.proofs.Common.{[], inl, inr, refl}
 use Rattle.reg_faces.proofs.Steps.{stays}
-use Rattle.reg_jobs.specs.Exchanges.{Entry, Exchange}
+use Rattle.reg_jobs.specs.Exchanges.{Entry}
+use Rattle.reg_jobs.specs.Watched.{Visit}
 use Rattle.reg_jobs.proofs.Fates.{unbound}
 use Rattle.reg_jobs.proofs.Peers.{exchanges_move}
 use Rattle.reg_jobs.proofs.opening.keep_open.Goals as goal
@@ -23,7 +24,7 @@ returns g c =
           (λ identity opened records. g.P.Opened.Keeper.stands identity opened.office records)
           _
           _
-          (Exchange g.P.Opened.Keeper.signs g.F.Front.told)
+          (Visit g.P.Opened.Keeper.signs g.F.Front.told)
           (Entry g.P.Opened.Keeper.signs g.F.Front.told)
           (λ s came text t moved. moved)
           (λ s came text t moved. moved)
