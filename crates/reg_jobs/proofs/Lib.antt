@@ -3,3 +3,4 @@ pub mod LineByLine
 pub mod Peers
 pub mod Pieces
 pub mod Talking
+pub mod Watching
