@@ -76,7 +76,7 @@ def health(t, desk):
 def a_register_that_was_just_made(t):
     found = metrics(t, opened(t))
     t.same(of(found, "desk_crl"), {"_number": 0, "_due_timestamp_seconds": 0})
-    t.same([value for series, value in found.items() if series.startswith(("desk_certificates", "desk_requests_o", "desk_sign", "desk_counter", "desk_store"))], [0] * 17)
+    t.same({value for series, value in found.items() if series.startswith(("desk_certificates", "desk_requests_o", "desk_sign", "desk_counter", "desk_store"))}, {0})
     t.same(found["desk_register_readable"], 1)
     t.same(of(found, "desk_http_responses_total"), {}, "no answer yet: this one is counted behind itself")
     t.same(of(found, "desk_connections"), {'{at="port"}': 1, '{at="counter"}': 0, "_accepted_total": 1, **{f'_lost_total{{why="{it}"}}': 0 for it in ("broken", "late", "crowded", "memory")}})
