@@ -208,9 +208,7 @@ fn visit_now<P: Place, F: Front>(
     ensures err { OnErr result ((office.new ≡ office.old) × (tally.new ≡ tally.old)) }
 {
     match front.moment() {
-        Ok(now) => Ok(visit_logged::<P, F>(
-            alloc, office, front, tally, heard, now, peer, request,
-        )),
+        Ok(now) => Ok(visit_logged::<P, F>(alloc, office, front, tally, heard, now, peer, request)),
         Err(_) => Err(Stopped),
     }
 }
@@ -292,7 +290,16 @@ fn visit_logged<P: Place, F: Front>(
     let is_unsigned = has_failed::<P>(office, failures);
     let micros = front.micros().saturating_sub(began);
     tally.count_answer(now, request, &text, micros, is_unsigned);
-    log_answer(alloc, front, began_of(front, began), now, peer, request, &text, is_unsigned);
+    log_answer(
+        alloc,
+        front,
+        began_of(front, began),
+        now,
+        peer,
+        request,
+        &text,
+        is_unsigned,
+    );
     text
 }
 
@@ -402,7 +409,15 @@ fn tell_counted<P: Place, F: Front>(
     let is_unsigned = has_failed::<P>(office, failures);
     let micros = front.micros().saturating_sub(began);
     tally.count_line(now, &reply, micros, is_unsigned);
-    log_line(alloc, front, began_of(front, began), now, line, &reply, is_unsigned);
+    log_line(
+        alloc,
+        front,
+        began_of(front, began),
+        now,
+        line,
+        &reply,
+        is_unsigned,
+    );
     reply
 }
 

@@ -46,11 +46,13 @@ pub(crate) fn asked_itself(alloc: Global, request: &[u8]) -> Result<Option<Ask>,
     }
     let mut reader = request;
     match read_request(alloc, &mut reader) {
-        Ok(Request::Asked {
-            method,
-            target,
-            body: _,
-        }) => Ok(ask_of(method.as_str(), target.as_str())),
+        Ok(
+            Request::Asked {
+                method,
+                target,
+                body: _,
+            },
+        ) => Ok(ask_of(method.as_str(), target.as_str())),
         Ok(Request::Refused(_)) => Ok(None),
         Err(Fault::Memory) => Err(Memory),
         Err(_) => Ok(None),
@@ -178,11 +180,7 @@ fn counts_at<K: Keeper>(alloc: Global, office: &mut K, now: Moment) -> Result<Co
 }
 
 /// When the next CRL is due.
-fn due_at<K: Keeper>(
-    alloc: Global,
-    office: &mut K,
-    now: Moment,
-) -> Result<Option<Moment>, Fault>
+fn due_at<K: Keeper>(alloc: Global, office: &mut K, now: Moment) -> Result<Option<Moment>, Fault>
     ensures { Leads K.is_clean K.stands (λ identity before after. HasDue before now result × (after ≡ before)) office.old office.new }
 {
     due_of(office.ask(alloc, now, &Query::NextCrl))

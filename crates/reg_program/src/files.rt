@@ -313,10 +313,7 @@ fn standing_in<C: Alter>(store: &mut Store<C>) -> Result<Standing, Fault>
 }
 
 /// How many requests for revocation are open in an office.
-fn open_count_of<C: Alter, S: Signer>(
-    office: &mut Office<C, S>,
-    now: Moment,
-) -> Result<u64, Fault>
+fn open_count_of<C: Alter, S: Signer>(office: &mut Office<C, S>, now: Moment) -> Result<u64, Fault>
     ensures moves { Leads (λ office. HasCleanDisk (state C.Store office.store))
         (λ who office records. StandsFor C.Store S.signs (office.store, signatory_of S.identity (S.identity office.signer) office.responder) who records)
         (λ identity before after. HasOpen before now result × (after ≡ before)) office.old office.new }

@@ -174,7 +174,6 @@ pub report_counts : (requests : List RequestRow) (report : Overdue) → Some rep
 report_counts [] report is = absurd (cc)
 report_counts (request ∷ rest) report is = ap (λ (r : Overdue). r.count) (same_report report (record { count = length (request ∷ rest); first = request.id }) is)
 
-
 -- ---- how many are open
 
 -- a request whose certificate is good

@@ -119,13 +119,7 @@ fn past(now: Moment, due: Option<Moment>) -> Option<Moment>
     ensures { result ≡ past_told now due }
 {
     match due {
-        Some(at) => {
-            if at < now {
-                Some(at)
-            } else {
-                None
-            }
-        }
+        Some(at) => { if at < now { Some(at) } else { None } }
         None => None,
     }
 }
@@ -173,11 +167,7 @@ fn put_moment(text: &mut Vec<u8>, at: Moment) -> Result<(), AllocError>
 
 /// Puts the member of the CRL behind a text.
 #[tactic(auto, unfolding(crate::specs::Healths::crl_text))]
-fn put_crl(
-    text: &mut Vec<u8>,
-    has_no_crl: bool,
-    crl: Option<Moment>,
-) -> Result<(), AllocError>
+fn put_crl(text: &mut Vec<u8>, has_no_crl: bool, crl: Option<Moment>) -> Result<(), AllocError>
     ensures { OnOk result (text.new.items ≡ text.old.items ++ crl_said has_no_crl crl) }
 {
     text.extend_from_slice(b",\"crl\":")?;

@@ -113,12 +113,7 @@ fn put_crl(text: &mut Vec<u8>, now: Moment, standing: Standing) -> Result<(), Al
 
 /// Puts a CRL behind a text.
 #[tactic(auto, unfolding(crate::specs::Metrics::issued_text))]
-fn put_issued(
-    text: &mut Vec<u8>,
-    now: Moment,
-    crl: CrlRow,
-    life: u64,
-) -> Result<(), AllocError>
+fn put_issued(text: &mut Vec<u8>, now: Moment, crl: CrlRow, life: u64) -> Result<(), AllocError>
     ensures { OnOk result (text.new.items ≡ text.old.items ++ issued_text now crl life) }
 {
     let this_update = crl.this_update.secs();
@@ -200,7 +195,12 @@ fn put_answer(text: &mut Vec<u8>, place: usize, count: u64) -> Result<(), AllocE
     if count == 0 {
         return Ok(());
     }
-    put_named_answer(text, route_name(place / CODES), code_name(place % CODES), count)
+    put_named_answer(
+        text,
+        route_name(place / CODES),
+        code_name(place % CODES),
+        count,
+    )
 }
 
 /// Puts how often there was an answer of a route and a status behind a text.

@@ -17,12 +17,10 @@ pub(crate) const GOOD: &str =
     "# HELP desk_certificates Registered certificates by status.\n# TYPE desk_certificates gauge\ndesk_certificates{status=\"good\"} ";
 
 /// Revoked ones.
-pub(crate) const REVOKED: &str =
-    "desk_certificates{status=\"revoked\"} ";
+pub(crate) const REVOKED: &str = "desk_certificates{status=\"revoked\"} ";
 
 /// Expired ones.
-pub(crate) const EXPIRED: &str =
-    "desk_certificates{status=\"expired\"} ";
+pub(crate) const EXPIRED: &str = "desk_certificates{status=\"expired\"} ";
 
 /// The last accepted moment.
 pub(crate) const LAST_COMMAND: &str =
@@ -65,52 +63,45 @@ pub(crate) const ACCEPTED_LINES: &str =
     "# HELP desk_counter_lines_total Lines at the counter by their reply.\n# TYPE desk_counter_lines_total counter\ndesk_counter_lines_total{reply=\"accepted\"} ";
 
 /// Lines that were refused.
-pub(crate) const REFUSED_LINES: &str =
-    "desk_counter_lines_total{reply=\"refused\"} ";
+pub(crate) const REFUSED_LINES: &str = "desk_counter_lines_total{reply=\"refused\"} ";
 
 /// Lines that came to a fault.
-pub(crate) const FAULTS: &str =
-    "desk_counter_lines_total{reply=\"fault\"} ";
+pub(crate) const FAULTS: &str = "desk_counter_lines_total{reply=\"fault\"} ";
 
 /// Signatures of CRLs.
 pub(crate) const CRL_SIGNED: &str =
     "# HELP desk_signatures_total Signatures that came.\n# TYPE desk_signatures_total counter\ndesk_signatures_total{of=\"crl\"} ";
 
 /// Signatures of OCSP answers.
-pub(crate) const OCSP_SIGNED: &str =
-    "desk_signatures_total{of=\"ocsp\"} ";
+pub(crate) const OCSP_SIGNED: &str = "desk_signatures_total{of=\"ocsp\"} ";
 
 /// Those of CRLs that did not come.
 pub(crate) const CRL_UNSIGNED: &str =
     "# HELP desk_signature_failures_total Signatures that did not come.\n# TYPE desk_signature_failures_total counter\ndesk_signature_failures_total{of=\"crl\"} ";
 
 /// Those of OCSP answers.
-pub(crate) const OCSP_UNSIGNED: &str =
-    "desk_signature_failures_total{of=\"ocsp\"} ";
+pub(crate) const OCSP_UNSIGNED: &str = "desk_signature_failures_total{of=\"ocsp\"} ";
 
 /// When the last one of a CRL came.
 pub(crate) const CRL_LAST: &str =
     "# HELP desk_signature_timestamp_seconds When the last signature came, 0 where none did.\n# TYPE desk_signature_timestamp_seconds gauge\ndesk_signature_timestamp_seconds{of=\"crl\"} ";
 
 /// When the last one of an OCSP answer came.
-pub(crate) const OCSP_LAST: &str =
-    "desk_signature_timestamp_seconds{of=\"ocsp\"} ";
+pub(crate) const OCSP_LAST: &str = "desk_signature_timestamp_seconds{of=\"ocsp\"} ";
 
 /// When one of a CRL did not come last.
 pub(crate) const CRL_LAST_FAILED: &str =
     "# HELP desk_signature_failure_timestamp_seconds When a signature did not come last, 0 where each did.\n# TYPE desk_signature_failure_timestamp_seconds gauge\ndesk_signature_failure_timestamp_seconds{of=\"crl\"} ";
 
 /// When one of an OCSP answer did not come last.
-pub(crate) const OCSP_LAST_FAILED: &str =
-    "desk_signature_failure_timestamp_seconds{of=\"ocsp\"} ";
+pub(crate) const OCSP_LAST_FAILED: &str = "desk_signature_failure_timestamp_seconds{of=\"ocsp\"} ";
 
 /// Since when none of a CRL comes.
 pub(crate) const CRL_FAILING: &str =
     "# HELP desk_signer_failing_since_timestamp_seconds Since when no signature came, 0 where the last one did.\n# TYPE desk_signer_failing_since_timestamp_seconds gauge\ndesk_signer_failing_since_timestamp_seconds{of=\"crl\"} ";
 
 /// Since when none of an OCSP answer comes.
-pub(crate) const OCSP_FAILING: &str =
-    "desk_signer_failing_since_timestamp_seconds{of=\"ocsp\"} ";
+pub(crate) const OCSP_FAILING: &str = "desk_signer_failing_since_timestamp_seconds{of=\"ocsp\"} ";
 
 /// Since when the store fails.
 pub(crate) const STORE_FAILING: &str =
@@ -121,8 +112,7 @@ pub(crate) const PEERS: &str =
     "# HELP desk_connections Connections that are open.\n# TYPE desk_connections gauge\ndesk_connections{at=\"port\"} ";
 
 /// Counters.
-pub(crate) const COUNTERS: &str =
-    "desk_connections{at=\"counter\"} ";
+pub(crate) const COUNTERS: &str = "desk_connections{at=\"counter\"} ";
 
 /// Peers that were accepted.
 pub(crate) const ACCEPTED: &str =
@@ -133,16 +123,13 @@ pub(crate) const BROKEN: &str =
     "# HELP desk_connections_lost_total Connections that ended by a fault.\n# TYPE desk_connections_lost_total counter\ndesk_connections_lost_total{why=\"broken\"} ";
 
 /// Those whose time was over.
-pub(crate) const LATE: &str =
-    "desk_connections_lost_total{why=\"late\"} ";
+pub(crate) const LATE: &str = "desk_connections_lost_total{why=\"late\"} ";
 
 /// Those that were let go for others.
-pub(crate) const CROWDED: &str =
-    "desk_connections_lost_total{why=\"crowded\"} ";
+pub(crate) const CROWDED: &str = "desk_connections_lost_total{why=\"crowded\"} ";
 
 /// Those for which there was no memory.
-pub(crate) const NO_MEMORY: &str =
-    "desk_connections_lost_total{why=\"memory\"} ";
+pub(crate) const NO_MEMORY: &str = "desk_connections_lost_total{why=\"memory\"} ";
 
 /// The lines of help and of type of the answers.
 pub(crate) const ANSWERED: &str =

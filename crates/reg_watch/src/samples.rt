@@ -32,11 +32,7 @@ pub(crate) fn put_moment(
 }
 
 /// The same of a time in microseconds, told in seconds.
-pub(crate) fn put_seconds(
-    text: &mut Vec<u8>,
-    series: &str,
-    micros: u64,
-) -> Result<(), AllocError>
+pub(crate) fn put_seconds(text: &mut Vec<u8>, series: &str, micros: u64) -> Result<(), AllocError>
     ensures { OnOk result (text.new.items ≡ text.old.items ++ sample_of_seconds series.now micros) }
 {
     let whole = Decimal::of(micros / 1_000_000);

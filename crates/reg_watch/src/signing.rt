@@ -91,11 +91,7 @@ impl Signing {
 }
 
 /// Since when the store fails, after an exchange at a moment.
-pub(crate) fn store_after(
-    since: Option<Moment>,
-    stored: Stored,
-    now: Moment,
-) -> Option<Moment>
+pub(crate) fn store_after(since: Option<Moment>, stored: Stored, now: Moment) -> Option<Moment>
     ensures { result ≡ kept_after stored now since }
 {
     match stored {

@@ -13,8 +13,7 @@ returns-clause-found g c records shown clean =
     let shown_1 = looked_shows c.last.ensures.looked records shown in
     let shown_2 = looked_shows c.latest_crl.ensures.looked records shown_1 in
     let clean_2 = was_clean (state s second) (state s c.policy.new.self) c.policy.ensures.looked.survives.clean clean in
-    let clean_1 = was_clean (state s first) (state s second) c.latest_crl.ensures.looked.survives.clean clean_2 in
-    (
+    let clean_1 = was_clean (state s first) (state s second) c.latest_crl.ensures.looked.survives.clean clean_2 in (
       c.in_ok-last.ensures.found records shown clean_1,
       c.in_ok-latest.ensures.found records shown_1 clean_2,
       c.crl_life.ensures.seconds ∙ ap (λ (terms : Terms). terms.crl_life) (c.in_ok-policy.ensures.found records shown_2 clean),
