@@ -51,14 +51,14 @@ pub trait Handler {
         ensures ok { IfOk result (λ text. answers self.old request.now text.items self.new) }
         ensures err { OnErr result (self.new ≡ self.old) };
 
-    /// Answers one line of a counter.
+    /// Answers one line of a counter. What is noted of that counter is written here alone, and is empty where a counter begins.
     ///
     /// # Errors
     ///
-    /// [`Stopped`], and the handler is as it was.
-    fn tell(&mut self, line: &[u8]) -> Result<Vec<u8>, Stopped>
+    /// [`Stopped`], and the handler and what is noted are as they were.
+    fn tell(&mut self, line: &[u8], noted: &mut Vec<u8>) -> Result<Vec<u8>, Stopped>
         ensures ok { IfOk result (λ text. tells self.old line.now text.items self.new) }
-        ensures err { OnErr result (self.new ≡ self.old) };
+        ensures err { OnErr result ((self.new ≡ self.old) × (noted.new ≡ noted.old)) };
 
     /// Is told that the connection of the peer at an address ended by a fault; a counter has no address. Nothing changes by it.
     fn lose(&self, peer: Option<SocketAddr>, why: Lost);

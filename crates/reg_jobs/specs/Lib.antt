@@ -7,6 +7,7 @@ pub mod Lined
 pub mod Log
 pub mod Sample
 pub mod Identifiers
+pub mod Reasons
 pub mod Schedules
 pub mod Sealing
 pub mod Serving

@@ -9,7 +9,8 @@ use Rattle.reg_calls.specs.Steps.{Signs}
 use Rattle.reg_hub.specs.Exchange.{Input, Handles, asked_in}
 use Rattle.reg_endings.specs.declared.failure.Failure.{Failure}
 use Rattle.reg_endings.specs.declared.failure.Failure.TheVariants as failure
-use Rattle.reg_jobs.specs.Exchanges.{Entry, Exchange, NoEntry}
+use Rattle.reg_jobs.specs.Exchanges.{Exchange, NoEntry}
+use Rattle.reg_jobs.specs.Reasons.{Word}
 use Rattle.reg_jobs.specs.Watched.{Visit}
 use Rattle.reg_wire.specs.Put.{AppendsFront}
 use Rattle.reg_wire.specs.Run.{Answered}
@@ -21,7 +22,7 @@ Serves signs told inputs texts identity before after = Answered (Handles (Exchan
 -- what peers and lines at counters made of the records, one after the other, and nothing else
 abbrev pub Opens : Signs → (ℕ → Type 0) → List Input → List (List ℕ) → Signatory → Records → Records → Type 0
 Opens signs told inputs texts identity before after =
-    Answered (Handles (Visit signs told identity) (Entry signs told identity)) before inputs texts after
+    Answered (Handles (Visit signs told identity) (Word signs told identity)) before inputs texts after
 
 -- this machine alone: the address of the loopback interface (RFC 1122 3.2.1.3)
 abbrev pub loopback : List ℕ

@@ -7,11 +7,13 @@ ghost use Rattle.reg_calls.specs.Leads.{Leads};
 ghost use Rattle.reg_lines.specs.Script.{ScriptEnds};
 ghost use Rattle.reg_heads.specs.Response.{memory_text};
 ghost use Rattle.reg_jobs.specs.Exchanges.{Entry, EntryAt, Exchange, ExchangeAt, LineRuns, Replied, Responded, line_at};
+ghost use Rattle.reg_jobs.specs.Reasons.{Word, WordAt};
 ghost use Rattle.reg_jobs.specs.Watched.{Visit, VisitAt};
 
 use crate::front::Front;
 use crate::logging::{began, began_of, log_answer, log_line, log_lost};
 use crate::place::Place;
+use crate::reasons::{asks_why, is_refusal, note, told_why};
 use crate::watching::{asked_itself, tell_itself};
 use reg_calls::Keeper;
 use reg_core::{Fault, Moment};
@@ -75,7 +77,7 @@ impl<'a, P: Place, F: Front> Handler for ServedDesk<'a, P, F> {
         answer_now::<P, F>(self.alloc, &mut self.office, self.front, peer, request)
     }
 
-    fn tell(&mut self, _line: &[u8]) -> Result<Vec<u8>, Stopped> {
+    fn tell(&mut self, _line: &[u8], _noted: &mut Vec<u8>) -> Result<Vec<u8>, Stopped> {
         Err(Stopped)
     }
 
@@ -88,14 +90,14 @@ impl<'a, P: Place, F: Front> Handler for ServedDesk<'a, P, F> {
 
 impl<'a, P: Place, F: Front> Handler for OpenDesk<'a, P, F> {
     ghost use Rattle.reg_calls.specs.Leads.{Leads};
-    ghost use Rattle.reg_jobs.specs.Exchanges.{Entry};
     ghost use Rattle.reg_jobs.specs.Watched.{Visit};
+    ghost use Rattle.reg_jobs.specs.Reasons.{Word};
 
     ghost answers = { λ s request text t. Leads P.Opened.is_clean P.Opened.stands
         (λ identity before after. Visit P.Opened.signs F.told identity before request text after) s.office t.office };
 
     ghost tells = { λ s line text t. Leads P.Opened.is_clean P.Opened.stands
-        (λ identity before after. Entry P.Opened.signs F.told identity before line text after) s.office t.office };
+        (λ identity before after. Word P.Opened.signs F.told identity before line text after) s.office t.office };
 
     fn answer(&mut self, peer: SocketAddr, request: &[u8]) -> Result<Vec<u8>, Stopped> {
         visit_now::<P, F>(
@@ -109,13 +111,14 @@ impl<'a, P: Place, F: Front> Handler for OpenDesk<'a, P, F> {
         )
     }
 
-    fn tell(&mut self, line: &[u8]) -> Result<Vec<u8>, Stopped> {
+    fn tell(&mut self, line: &[u8], noted: &mut Vec<u8>) -> Result<Vec<u8>, Stopped> {
         tell_counted_now::<P, F>(
             self.alloc,
             &mut self.office,
             self.front,
             &mut self.tally,
             line,
+            noted,
         )
     }
 
@@ -142,7 +145,7 @@ impl<'a, K: Keeper, F: Front> Handler for ClockedDesk<'a, K, F> {
         Err(Stopped)
     }
 
-    fn tell(&mut self, line: &[u8]) -> Result<Vec<u8>, Stopped> {
+    fn tell(&mut self, line: &[u8], _noted: &mut Vec<u8>) -> Result<Vec<u8>, Stopped> {
         tell_clocked(self.alloc, &mut self.office, self.front, line)
     }
 
@@ -164,7 +167,7 @@ impl<K: Keeper> Handler for LinedDesk<K> {
         Err(Stopped)
     }
 
-    fn tell(&mut self, line: &[u8]) -> Result<Vec<u8>, Stopped> {
+    fn tell(&mut self, line: &[u8], _noted: &mut Vec<u8>) -> Result<Vec<u8>, Stopped> {
         Ok(tell_alone(self.alloc, &mut self.office, line))
     }
 
@@ -220,14 +223,15 @@ fn tell_counted_now<P: Place, F: Front>(
     front: &F,
     tally: &mut Tally,
     line: &[u8],
+    noted: &mut Vec<u8>,
 ) -> Result<Vec<u8>, Stopped>
     ensures ok { IfOk result (λ text. Leads P.Opened.is_clean P.Opened.stands
-        (λ identity before after. Entry P.Opened.signs F.told identity before line.now text.items after)
+        (λ identity before after. Word P.Opened.signs F.told identity before line.now text.items after)
         office.old office.new) }
-    ensures err { OnErr result ((office.new ≡ office.old) × (tally.new ≡ tally.old)) }
+    ensures err { OnErr result ((office.new ≡ office.old) × (tally.new ≡ tally.old) × (noted.new ≡ noted.old)) }
 {
     match front.moment() {
-        Ok(now) => Ok(tell_counted::<P, F>(alloc, office, front, tally, now, line)),
+        Ok(now) => Ok(tell_counted::<P, F>(alloc, office, front, tally, now, line, noted)),
         Err(_) => Err(Stopped),
     }
 }
@@ -399,13 +403,14 @@ fn tell_counted<P: Place, F: Front>(
     tally: &mut Tally,
     now: Moment,
     line: &[u8],
+    noted: &mut Vec<u8>,
 ) -> Vec<u8>
     ensures { Leads P.Opened.is_clean P.Opened.stands
-        (λ identity before after. EntryAt P.Opened.signs now identity before line.now result.items after) office.old office.new }
+        (λ identity before after. WordAt P.Opened.signs now identity before line.now result.items after) office.old office.new }
 {
     let began = front.micros();
     let failures = P::failures(office);
-    let reply = tell_at(alloc, office, now, line);
+    let reply = tell_word::<P>(alloc, office, now, line, noted);
     let is_unsigned = has_failed::<P>(office, failures);
     let micros = front.micros().saturating_sub(began);
     tally.count_line(now, &reply, micros, is_unsigned);
@@ -418,6 +423,27 @@ fn tell_counted<P: Place, F: Front>(
         &reply,
         is_unsigned,
     );
+    reply
+}
+
+/// Answers a line of a counter, at a moment: the word that asks why the last refused line of this counter was, or a line of the register.
+fn tell_word<P: Place>(
+    alloc: Global,
+    office: &mut P::Opened,
+    now: Moment,
+    line: &[u8],
+    noted: &mut Vec<u8>,
+) -> Vec<u8>
+    ensures { Leads P.Opened.is_clean P.Opened.stands
+        (λ identity before after. WordAt P.Opened.signs now identity before line.now result.items after) office.old office.new }
+{
+    if asks_why(line) {
+        return told_why(alloc, noted);
+    }
+    let reply = tell_at(alloc, office, now, line);
+    if is_refusal(&reply) {
+        note::<P>(alloc, office, now, line, &reply, noted);
+    }
     reply
 }
 
@@ -465,7 +491,7 @@ fn run_line_at<K: Keeper>(
 }
 
 /// A line with its moment before it.
-fn timed_line(alloc: Global, now: Moment, line: &[u8]) -> Result<Vec<u8>, AllocError>
+pub(crate) fn timed_line(alloc: Global, now: Moment, line: &[u8]) -> Result<Vec<u8>, AllocError>
     ensures { IfOk result (λ text. text.items ≡ line_at now line.now) }
 {
     let mut text = Vec::from_slice(alloc, &now.text())?;

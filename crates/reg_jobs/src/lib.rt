@@ -10,6 +10,7 @@ mod log_lines;
 mod logging;
 mod opening;
 mod place;
+mod reasons;
 mod sealing;
 mod serving;
 mod telling;

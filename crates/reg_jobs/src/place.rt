@@ -21,6 +21,7 @@ pub trait Place {
     ghost use Rattle.reg_endings.specs.declared.failure.Failure.{Failure as Failing};
     ghost use Rattle.reg_jobs.specs.Failing.{IsMaking, IsOfStore, IsOpening};
     ghost use Rattle.reg_jobs.specs.Identifiers.{Identifies};
+    ghost use Rattle.reg_jobs.specs.Reasons.{HasLongest};
     ghost use Rattle.reg_jobs.specs.Schedules.{Reschedules};
     ghost use Rattle.reg_jobs.specs.Signing.{Signing};
     ghost use Rattle.reg_jobs.specs.Watched.{HasOpen, HasStanding};
@@ -167,6 +168,19 @@ pub trait Place {
     fn open_count(register: &mut Self::Opened, now: Moment) -> Result<u64, Fault>
         ensures moves { Leads Self.Opened.is_clean Self.Opened.stands (λ identity before after. HasOpen before now result × (after ≡ before)) register.old register.new }
         ensures faults { IfErr result IsOfStore };
+
+    /// The longest validity in days that an order and the policy allow a certificate that is valid from a moment on; `None` where there is
+    /// no such order.
+    ///
+    /// # Errors
+    ///
+    /// `Memory`, `Store`.
+    fn longest(
+        register: &mut Self::Opened,
+        order: u64,
+        not_before: Moment,
+    ) -> Result<Option<u64>, Fault>
+        ensures { Leads Self.Opened.is_clean Self.Opened.stands (λ identity before after. HasLongest before order not_before result × (after ≡ before)) register.old register.new };
 
     /// Audits the register that lies at a path, and changes nothing of it: one of an older version is not made newer.
     ///

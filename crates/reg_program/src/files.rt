@@ -15,6 +15,7 @@ ghost use Rattle.reg_jobs.specs.Signing.{EmbedsOwn, Follows, IsSigning, crls_tol
 ghost use Rattle.reg_calls.specs.Leads.{Leads};
 ghost use Rattle.reg_jobs.specs.Identifiers.{Identifies};
 ghost use Rattle.reg_jobs.specs.Schedules.{Reschedules};
+ghost use Rattle.reg_jobs.specs.Reasons.{HasLongest};
 ghost use Rattle.reg_jobs.specs.Watched.{HasOpen, HasStanding};
 ghost use Rattle.reg_office.specs.Answering.{answers_by, failures_of, signatory_of};
 ghost use Rattle.reg_office.specs.Calls.{StandsFor};
@@ -148,6 +149,14 @@ impl<'a> Place for Machine<'a> {
 
     fn open_count(register: &mut FileOffice, now: Moment) -> Result<u64, Fault> {
         open_count_of(register, now)
+    }
+
+    fn longest(
+        register: &mut FileOffice,
+        order: u64,
+        not_before: Moment,
+    ) -> Result<Option<u64>, Fault> {
+        longest_of(register, order, not_before)
     }
 
     fn audit(&mut self, path: &str) -> Result<Verdict, Failure> {
@@ -320,6 +329,36 @@ fn open_count_of<C: Alter, S: Signer>(office: &mut Office<C, S>, now: Moment) ->
     ensures faults { IfErr result IsOfStore }
 {
     Ok(office.store.open_count(now)?)
+}
+
+/// The longest validity in days that an order of an office and its policy allow from a moment on.
+fn longest_of<C: Alter, S: Signer>(
+    office: &mut Office<C, S>,
+    order: u64,
+    not_before: Moment,
+) -> Result<Option<u64>, Fault>
+    ensures { Leads (λ office. HasCleanDisk (state C.Store office.store))
+        (λ who office records. StandsFor C.Store S.signs (office.store, signatory_of S.identity (S.identity office.signer) office.responder) who records)
+        (λ identity before after. HasLongest before order not_before result × (after ≡ before)) office.old office.new }
+{
+    longest_in(&mut office.store, order, not_before)
+}
+
+/// The same of a store.
+fn longest_in<C: Alter>(
+    store: &mut Store<C>,
+    order: u64,
+    not_before: Moment,
+) -> Result<Option<u64>, Fault>
+    ensures found { (records : Records) → Shows C.Store store.old records → HasCleanDisk (state C.Store store.new) → HasLongest records order not_before result }
+    ensures looked { Looked C.Store store.old store.new }
+{
+    let row = store.order(order)?;
+    let policy = store.policy()?;
+    match row {
+        Some(row) => Ok(Some(row.days.min(policy.schedule().longest(not_before)))),
+        None => Ok(None),
+    }
 }
 
 /// What an audit says of the register in a file.

@@ -61,7 +61,7 @@ impl Handler for Echo {
         }
     }
 
-    fn tell(&mut self, line: &[u8]) -> Result<Vec<u8>, Stopped> {
+    fn tell(&mut self, line: &[u8], _noted: &mut Vec<u8>) -> Result<Vec<u8>, Stopped> {
         self.lines = self.lines.saturating_add(1);
         match self.told(line) {
             Ok(text) => Ok(text),

@@ -1,6 +1,6 @@
 use Rattle.std.proofs.Common.{[], inl, inr, refl}
 use Rattle.reg_faces.proofs.Steps.{stays}
-use Rattle.reg_jobs.specs.Exchanges.{Entry}
+use Rattle.reg_jobs.specs.Reasons.{Word}
 use Rattle.reg_jobs.specs.Watched.{Visit}
 use Rattle.reg_jobs.proofs.Fates.{unbound}
 use Rattle.reg_jobs.proofs.Peers.{exchanges_move}
@@ -25,7 +25,7 @@ returns g c =
           _
           _
           (Visit g.P.Opened.Keeper.signs g.F.Front.told)
-          (Entry g.P.Opened.Keeper.signs g.F.Front.told)
+          (Word g.P.Opened.Keeper.signs g.F.Front.told)
           (λ s came text t moved. moved)
           (λ s came text t moved. moved)
           c.args.opened.now
