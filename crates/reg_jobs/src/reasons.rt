@@ -186,30 +186,42 @@ fn registration_in(alloc: Global, now: Moment, line: &[u8]) -> Option<Registrati
         return None;
     };
     match read_line(without_end(&timed)) {
-        Some(
-            Line::Tell(
-                _,
-                Command::Register {
-                    order,
-                    not_before,
-                    ..
-                },
-            ),
-        ) => Some(Registration { order, not_before }),
+        Some(said) => registration_said(&said),
+        None => None,
+    }
+}
+
+/// The registration that is said, if it is one.
+fn registration_said(said: &Line<'_>) -> Option<Registration> {
+    match *said {
+        Line::Tell(_, command) => registration_of(&command),
+        _ => None,
+    }
+}
+
+/// The registration that a command is, if it is one.
+fn registration_of(command: &Command) -> Option<Registration> {
+    match *command {
+        Command::Register {
+            order,
+            not_before,
+            ..
+        } => Some(Registration { order, not_before }),
         _ => None,
     }
 }
 
 /// A line without its end.
 fn without_end(line: &[u8]) -> &[u8] {
-    let line = without_last(line, b'\n');
-    without_last(line, b'\r')
+    without_last(without_last(line, b'\n'), b'\r')
 }
 
 /// A text without a byte at its end.
 fn without_last(text: &[u8], byte: u8) -> &[u8] {
-    match text.split_last() {
-        Some((last, rest)) if *last == byte => rest,
-        _ => text,
+    let len = text.len();
+    if len > 0 && text[len - 1] == byte {
+        &text[..len - 1]
+    } else {
+        text
     }
 }

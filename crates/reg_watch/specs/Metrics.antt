@@ -51,10 +51,14 @@ unfoldable pub register_text : ℕ → Result Numbers Fault → List ℕ
 register_text now (Ok numbers) = numbers_text now numbers
 register_text now (Err fault) = sample READABLE.now 0
 
--- requests for revocation, where they were counted
+-- requests for revocation that were counted
+unfoldable pub counted_text : Requests → List ℕ
+counted_text counted = sample OPEN.now counted.open ++ sample OVERDUE.now counted.overdue ++ sample COUNTED.now counted.at
+
+-- the same, where they were
 unfoldable pub requests_text : Option Requests → List ℕ
 requests_text None = []
-requests_text (Some counted) = sample OPEN.now counted.open ++ sample OVERDUE.now counted.overdue ++ sample COUNTED.now counted.at
+requests_text (Some counted) = counted_text counted
 
 -- the name of a route, and of a status, by its place
 unfoldable pub route_name : ℕ → List ℕ

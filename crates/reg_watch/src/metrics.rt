@@ -1,7 +1,7 @@
 //! The metrics of an open register, in the text form of Prometheus, version 0.0.4.
 
 ghost use Rattle.std.specs.Prelude.{◌≡◌, ◌++◌, IfOk, OnOk, length};
-ghost use Rattle.reg_watch.specs.Metrics.{answer_text, answers_text, behind as behind_told, bucket_name as bucket_named, bucket_text, buckets_text, certificates_text, clock_text, code_name as code_named, connections_text, crl_text as crl_told, issued_text, lines_text, lost_text, metrics_text, named_answer_text, numbers_text, register_text, requests_text, route_name as route_named, seconds_text, signers_text, signings_text, sum_of};
+ghost use Rattle.reg_watch.specs.Metrics.{answer_text, answers_text, behind as behind_told, bucket_name as bucket_named, bucket_text, buckets_text, certificates_text, clock_text, code_name as code_named, connections_text, counted_text, crl_text as crl_told, issued_text, lines_text, lost_text, metrics_text, named_answer_text, numbers_text, register_text, requests_text, route_name as route_named, seconds_text, signers_text, signings_text, sum_of};
 
 use crate::names::{
     ACCEPTED, ACCEPTED_LINES, ANSWER, ANSWER_CODE, ANSWERED, BEHIND, BROKEN, CLOCK, COUNTED,
@@ -128,9 +128,17 @@ fn put_issued(text: &mut Vec<u8>, now: Moment, crl: CrlRow, life: u64) -> Result
 fn put_requests(text: &mut Vec<u8>, requests: Option<Requests>) -> Result<(), AllocError>
     ensures { OnOk result (text.new.items ≡ text.old.items ++ requests_text requests) }
 {
-    let Some(counted) = requests else {
-        return Ok(());
-    };
+    match requests {
+        Some(counted) => put_counted(text, counted),
+        None => Ok(()),
+    }
+}
+
+/// Puts requests for revocation that were counted behind a text.
+#[tactic(auto, unfolding(crate::specs::Metrics::counted_text))]
+fn put_counted(text: &mut Vec<u8>, counted: Requests) -> Result<(), AllocError>
+    ensures { OnOk result (text.new.items ≡ text.old.items ++ counted_text counted) }
+{
     put_sample(text, OPEN, counted.open)?;
     put_sample(text, OVERDUE, counted.overdue)?;
     put_sample(text, COUNTED, counted.at.secs())
