@@ -76,7 +76,7 @@ def health(t, desk):
 def a_register_that_was_just_made(t):
     found = metrics(t, opened(t))
     t.same(of(found, "desk_crl"), {"_number": 0, "_due_timestamp_seconds": 0})
-    t.same({value for series, value in found.items() if series.startswith(("desk_certificates", "desk_requests_o", "desk_sign", "desk_counter", "desk_store"))}, {0})
+    t.same({value for series, value in found.items() if series.startswith(("desk_certificates", "desk_requests_o", "desk_sign", "desk_lines", "desk_store"))}, {0})
     t.same(found["desk_register_readable"], 1)
     t.same(of(found, "desk_http_responses_total"), {}, "no answer yet: this one is counted behind itself")
     t.same(of(found, "desk_connections"), {'{at="port"}': 1, '{at="counter"}': 0, "_accepted_total": 1, **{f'_lost_total{{why="{it}"}}': 0 for it in ("broken", "late", "crowded", "memory")}})
@@ -153,7 +153,7 @@ def lines_connections_and_seconds(t):
             counter.ask(line)
         desk.ask("GET", "/counts")
         found = metrics(t, desk)
-    t.same(of(found, "desk_counter_lines_total"), {'{reply="accepted"}': 2, '{reply="refused"}': 2, '{reply="fault"}': 0})
+    t.same(of(found, "desk_lines_total"), {'{reply="accepted"}': 2, '{reply="refused"}': 2, '{reply="fault"}': 0})
     t.same((found['desk_connections{at="port"}'], found['desk_connections{at="counter"}'], found["desk_connections_accepted_total"]), (1, 1, 2))
     seconds = of(found, "desk_exchange_seconds")
     ranges = [seconds[f'_bucket{{le="{it}"}}'] for it in ENDS]
@@ -308,7 +308,7 @@ def a_real_prometheus_scrapes_it(t):
         process = subprocess.Popen(words, cwd=t.room, stdout=told, stderr=told)
         stack.callback(process.wait)
         stack.callback(process.kill)
-        wanted = {"up": "1", "desk_clock_behind_seconds": "0", "desk_register_readable": "1", 'desk_counter_lines_total{reply="accepted"}': "1", "desk_crl_number": "0"}
+        wanted = {"up": "1", "desk_clock_behind_seconds": "0", "desk_register_readable": "1", 'desk_lines_total{reply="accepted"}': "1", "desk_crl_number": "0"}
         got = {}
         for _ in range(int(200 * program.PATIENCE)):
             with contextlib.suppress(OSError, KeyError, IndexError):

@@ -60,13 +60,13 @@ pub(crate) const COUNTED: &str =
 
 /// Lines that were accepted.
 pub(crate) const ACCEPTED_LINES: &str =
-    "# HELP desk_counter_lines_total Lines at the counter by their reply.\n# TYPE desk_counter_lines_total counter\ndesk_counter_lines_total{reply=\"accepted\"} ";
+    "# HELP desk_lines_total Lines at the counter by their reply.\n# TYPE desk_lines_total counter\ndesk_lines_total{reply=\"accepted\"} ";
 
 /// Lines that were refused.
-pub(crate) const REFUSED_LINES: &str = "desk_counter_lines_total{reply=\"refused\"} ";
+pub(crate) const REFUSED_LINES: &str = "desk_lines_total{reply=\"refused\"} ";
 
 /// Lines that came to a fault.
-pub(crate) const FAULTS: &str = "desk_counter_lines_total{reply=\"fault\"} ";
+pub(crate) const FAULTS: &str = "desk_lines_total{reply=\"fault\"} ";
 
 /// Signatures of CRLs.
 pub(crate) const CRL_SIGNED: &str =
