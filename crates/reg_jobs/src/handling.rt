@@ -443,6 +443,7 @@ fn tell_word<P: Place>(
     let reply = tell_at(alloc, office, now, line);
     if is_refusal(&reply) {
         note::<P>(alloc, office, now, line, &reply, noted);
+        return reply;
     }
     reply
 }
