@@ -1,6 +1,6 @@
 //! What an open desk tells of itself, at two routes of its own: `/health` and `/metrics`.
 
-ghost use Rattle.std.specs.Prelude.{◌≡◌, IfOk, IfSome};
+ghost use Rattle.std.specs.Prelude.{◌≡◌, Ok, IfOk, IfSome};
 ghost use Rattle.reg_calls.specs.Leads.{Leads};
 ghost use Rattle.reg_heads.specs.Response.{Response, shown};
 ghost use Rattle.reg_http.specs.Asked.{path_of as path_in};
@@ -154,14 +154,34 @@ fn tell_metrics<P: Place>(
 fn found_at<P: Place>(alloc: Global, office: &mut P::Opened, now: Moment) -> Found
     ensures { Leads P.Opened.is_clean P.Opened.stands (λ identity before after. HasFound before now result × (after ≡ before)) office.old office.new }
 {
-    let counts = match counts_at(alloc, office, now) {
-        Ok(counts) => counts,
-        Err(fault) => return Err(fault),
-    };
-    let due = match due_at(alloc, office, now) {
-        Ok(due) => due,
-        Err(fault) => return Err(fault),
-    };
+    match counts_at(alloc, office, now) {
+        Ok(counts) => found_with::<P>(alloc, office, now, counts),
+        Err(fault) => Err(fault),
+    }
+}
+
+/// The same, with these counts.
+fn found_with<P: Place>(alloc: Global, office: &mut P::Opened, now: Moment, counts: Counts) -> Found
+    ensures { Leads P.Opened.is_clean P.Opened.stands
+        (λ identity before after. (HasCounts before now (Ok counts) → HasFound before now result) × (after ≡ before)) office.old office.new }
+{
+    match due_at(alloc, office, now) {
+        Ok(due) => found_due::<P>(office, now, counts, due),
+        Err(fault) => Err(fault),
+    }
+}
+
+/// The same, with the moment at which the next CRL is due.
+fn found_due<P: Place>(
+    office: &mut P::Opened,
+    now: Moment,
+    counts: Counts,
+    due: Option<Moment>,
+) -> Found
+    ensures { Leads P.Opened.is_clean P.Opened.stands
+        (λ identity before after. (HasCounts before now (Ok counts) → HasDue before now (Ok due) → HasFound before now result) × (after ≡ before))
+        office.old office.new }
+{
     match P::standing(office) {
         Ok(standing) => Ok(Numbers {
             counts,
@@ -236,14 +256,21 @@ fn many_of(overdue: Option<Overdue>) -> u64
     }
 }
 
-/// Counts the requests for revocation anew, where they were not counted within a minute. Where that fails, what was counted stays.
+/// Counts the requests for revocation anew, where they were not counted within a minute.
 fn recount<P: Place>(alloc: Global, office: &mut P::Opened, now: Moment, tally: &mut Tally)
     ensures { Leads P.Opened.is_clean P.Opened.stands (λ identity before after. Recounts before now tally.old tally.new × (after ≡ before))
         office.old office.new }
 {
-    if !tally.wants_requests(now) {
-        return;
+    if tally.wants_requests(now) {
+        recount_now::<P>(alloc, office, now, tally);
     }
+}
+
+/// Counts the requests for revocation anew. Where that fails, what was counted stays.
+fn recount_now<P: Place>(alloc: Global, office: &mut P::Opened, now: Moment, tally: &mut Tally)
+    ensures { Leads P.Opened.is_clean P.Opened.stands (λ identity before after. Recounts before now tally.old tally.new × (after ≡ before))
+        office.old office.new }
+{
     match requests_at::<P>(alloc, office, now) {
         Ok(requests) => tally.note_requests(requests),
         Err(_) => {}
@@ -258,10 +285,21 @@ fn requests_at<P: Place>(
 ) -> Result<Requests, Fault>
     ensures { Leads P.Opened.is_clean P.Opened.stands (λ identity before after. HasRequests before now result × (after ≡ before)) office.old office.new }
 {
-    let overdue = match overdue_at(alloc, office, now) {
-        Ok(overdue) => overdue,
-        Err(fault) => return Err(fault),
-    };
+    match overdue_at(alloc, office, now) {
+        Ok(overdue) => requests_with::<P>(office, now, overdue),
+        Err(fault) => Err(fault),
+    }
+}
+
+/// The same, of which so many are overdue.
+fn requests_with<P: Place>(
+    office: &mut P::Opened,
+    now: Moment,
+    overdue: u64,
+) -> Result<Requests, Fault>
+    ensures { Leads P.Opened.is_clean P.Opened.stands
+        (λ identity before after. (HasOverdue before now (Ok overdue) → HasRequests before now result) × (after ≡ before)) office.old office.new }
+{
     match P::open_count(office, now) {
         Ok(open) => Ok(Requests {
             at: now,
