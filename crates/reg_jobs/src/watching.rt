@@ -1,6 +1,6 @@
 //! What an open desk tells of itself, at two routes of its own: `/health` and `/metrics`.
 
-ghost use Rattle.std.specs.Prelude.{◌≡◌, Ok, IfOk, IfSome};
+ghost use Rattle.std.specs.Prelude.{◌≡◌, ◌≤◌, [], Ok, IfOk, IfSome, vec_capacity};
 ghost use Rattle.reg_calls.specs.Leads.{Leads};
 ghost use Rattle.reg_heads.specs.Response.{Response, shown};
 ghost use Rattle.reg_http.specs.Asked.{path_of as path_in};
@@ -389,12 +389,21 @@ fn written(alloc: Global, made: Result<Answer, AllocError>, now: Moment) -> Vec<
 fn written_whole(alloc: Global, answer: &Answer, now: Moment) -> Vec<u8>
     ensures { Writes (shown answer.now) now result.items }
 {
-    let mut text = Vec::new(alloc);
     match Vec::with_capacity(alloc, HEAD_ROOM) {
-        Ok(room) => match write_answer(&mut text, room, answer, now) {
-            Ok(()) => text,
-            Err(_) => memory_response(text),
-        },
+        Ok(room) => written_in(alloc, room, answer, now),
+        Err(_) => memory_response(Vec::new(alloc)),
+    }
+}
+
+/// The same, with room for its head.
+fn written_in(alloc: Global, room: Vec<u8>, answer: &Answer, now: Moment) -> Vec<u8>
+    requires empty { room.items ≡ [] }
+    requires room { 512 ≤ vec_capacity room }
+    ensures { Writes (shown answer.now) now result.items }
+{
+    let mut text = Vec::new(alloc);
+    match write_answer(&mut text, room, answer, now) {
+        Ok(()) => text,
         Err(_) => memory_response(text),
     }
 }
