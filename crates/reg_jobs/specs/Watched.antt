@@ -105,7 +105,7 @@ HasFound records now (Err Write) = Unit {0}
 -- its requests for revocation at a moment
 abbrev pub HasRequests : Records → ℕ → Result Requests Fault → Type 0
 HasRequests records now (Ok requests) =
-    (requests.at ≡ now) × HasOpen records now (Ok requests.open) × HasOverdue records now (Ok requests.overdue)
+    (requests.at ≡ now) × HasOpen records now (Ok requests.waiting) × HasOverdue records now (Ok requests.overdue)
 HasRequests records now (Err fault) = Unit {0}
 
 -- requests for revocation were counted anew, or what was counted stays

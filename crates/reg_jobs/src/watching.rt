@@ -301,9 +301,9 @@ fn requests_with<P: Place>(
         (λ identity before after. (HasOverdue before now (Ok overdue) → HasRequests before now result) × (after ≡ before)) office.old office.new }
 {
     match P::open_count(office, now) {
-        Ok(open) => Ok(Requests {
+        Ok(waiting) => Ok(Requests {
             at: now,
-            open,
+            waiting,
             overdue,
         }),
         Err(fault) => Err(fault),

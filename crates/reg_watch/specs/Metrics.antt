@@ -53,7 +53,7 @@ register_text now (Err fault) = sample READABLE.now 0
 
 -- requests for revocation that were counted
 unfoldable pub counted_text : Requests → List ℕ
-counted_text counted = sample OPEN.now counted.open ++ sample OVERDUE.now counted.overdue ++ sample COUNTED.now counted.at
+counted_text counted = sample OPEN.now counted.waiting ++ sample OVERDUE.now counted.overdue ++ sample COUNTED.now counted.at
 
 -- the same, where they were
 unfoldable pub requests_text : Option Requests → List ℕ

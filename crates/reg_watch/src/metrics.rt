@@ -139,7 +139,7 @@ fn put_requests(text: &mut Vec<u8>, requests: Option<Requests>) -> Result<(), Al
 fn put_counted(text: &mut Vec<u8>, counted: Requests) -> Result<(), AllocError>
     ensures { OnOk result (text.new.items ≡ text.old.items ++ counted_text counted) }
 {
-    put_sample(text, OPEN, counted.open)?;
+    put_sample(text, OPEN, counted.waiting)?;
     put_sample(text, OVERDUE, counted.overdue)?;
     put_sample(text, COUNTED, counted.at.secs())
 }

@@ -32,7 +32,7 @@ pub struct Requests {
     /// When they were counted.
     pub at: Moment,
     /// Those that wait for a decision.
-    pub open: u64,
+    pub waiting: u64,
     /// Those of them whose limit has passed.
     pub overdue: u64,
 }
