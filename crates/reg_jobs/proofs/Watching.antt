@@ -36,8 +36,8 @@ module _ {S I R : Type 0} (is_clean : S → Type 0) (stands : I → S → R → 
       (λ i before after. (middle : R) × (first before × (middle ≡ before)) × (next middle × (after ≡ middle)))
       (λ i before after. (first before × next before) × (after ≡ before))
       (λ i before after both.
-      let (middle, seen, then) = both in
-      ((seen.0, subst next seen.1 then.0), then.1 ∙ seen.1))
+      let (middle, seen, after_it) = both in
+      ((seen.0, subst next seen.1 after_it.0), after_it.1 ∙ seen.1))
       s
       t
       (chains is_clean stands

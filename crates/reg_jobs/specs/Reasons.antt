@@ -1,5 +1,5 @@
 -- The word by which a counter is told why the last line of it that was refused was.
-use Rattle.std.specs.Prelude.{◌≡◌, ◌⊎◌, ℕ, ◌+◌, ◌-◌, ◌*◌, ◌==◌, ◌^◌, min, Bool, true, false, ◌||◌, List, [], ◌∷◌, ◌++◌, codes, bytes_eq, decimal, IsTrue, Option, option_map, Result, Ok, Err}
+use Rattle.std.specs.Prelude.{◌≡◌, ◌⊎◌, ℕ, ◌+◌, ◌-◌, ◌*◌, ◌==◌, min, Bool, true, false, ◌||◌, List, [], ◌∷◌, ◌++◌, codes, bytes_eq, decimal, IsTrue, Option, option_map, Result, Ok, Err}
 use Rattle.reg_core.specs.Calendar.{moment_text}
 use Rattle.reg_core.specs.Records.{Records, order_in}
 use Rattle.reg_core.specs.Schedule.{longest_at}
@@ -24,7 +24,7 @@ why_text (first ∷ rest) = codes "why " ++ first ∷ rest
 
 -- the last second of so many days from a moment on, both ends counted (RFC 5280 4.1.2.5)
 abbrev pub last_second : ℕ → ℕ → ℕ
-last_second not_before days = min (not_before + (min (days * 86400) (2 ^ 64 - 1) - 1)) (2 ^ 64 - 1)
+last_second not_before days = not_before + (days * 86400 - 1)
 
 -- what is noted of a validity that is too long: the latest notAfter
 unfoldable pub latest_text : ℕ → List ℕ

@@ -149,8 +149,8 @@ fn note_text(text: Result<Vec<u8>, AllocError>, reply: &[u8], noted: &mut Vec<u8
 fn last_of(not_before: Moment, days: u64) -> Option<Moment>
     ensures { IfSome result (λ at. at ≡ last_second not_before days) }
 {
-    let seconds = days.saturating_mul(DAY).saturating_sub(1);
-    Moment::of_secs(not_before.secs().saturating_add(seconds))
+    let seconds = days.checked_mul(DAY)?.checked_sub(1)?;
+    Moment::of_secs(not_before.secs().checked_add(seconds)?)
 }
 
 /// The text that tells the latest notAfter.

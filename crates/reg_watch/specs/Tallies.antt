@@ -3,9 +3,9 @@ use Rattle.std.specs.Prelude.{◌≡◌, ℕ, Bool, true, false, cond, ◌||◌,
 use Rattle.std.specs.declared.option.Option.{Option}
 use Rattle.reg_watch.specs.Exchanges.{route_in, code_in, ocsp_came, answer_stored, crl_came, line_ocsp_came, line_stored}
 use Rattle.reg_watch.specs.declared.exchange.Route.{Route}
-use Rattle.reg_watch.specs.declared.exchange.Route.TheVariants as route
+use Rattle.reg_watch.specs.declared.exchange.Route.TheVariants as routes
 use Rattle.reg_watch.specs.declared.exchange.Code.{Code}
-use Rattle.reg_watch.specs.declared.exchange.Code.TheVariants as code
+use Rattle.reg_watch.specs.declared.exchange.Code.TheVariants as statuses
 use Rattle.reg_watch.specs.declared.exchange.Came.{Came}
 use Rattle.reg_watch.specs.declared.exchange.Came.TheVariants.{Unasked, Signed, Unsigned}
 use Rattle.reg_watch.specs.declared.exchange.Stored.{Stored}
@@ -28,29 +28,29 @@ bumped counts place = slice_set counts place (one_more (slice_index_or counts pl
 
 -- the places of the routes, and of the statuses
 abbrev pub route_number : Route → ℕ
-route_number route.Ocsp = 0
-route_number route.OcspRest = 1
-route_number route.Crl = 2
-route_number route.CrlNumber = 3
-route_number route.Status = 4
-route_number route.Counts = 5
-route_number route.Requests = 6
-route_number route.Health = 7
-route_number route.Metrics = 8
-route_number route.Other = 9
+route_number routes.Ocsp = 0
+route_number routes.OcspRest = 1
+route_number routes.Crl = 2
+route_number routes.CrlNumber = 3
+route_number routes.Status = 4
+route_number routes.Counts = 5
+route_number routes.Requests = 6
+route_number routes.Health = 7
+route_number routes.Metrics = 8
+route_number routes.Other = 9
 
 abbrev pub code_number : Code → ℕ
-code_number code.Okay = 0
-code_number code.BadRequest = 1
-code_number code.NotFound = 2
-code_number code.MethodNotAllowed = 3
-code_number code.Conflict = 4
-code_number code.LengthRequired = 5
-code_number code.PayloadTooLarge = 6
-code_number code.HeadersTooLarge = 7
-code_number code.InternalError = 8
-code_number code.Unavailable = 9
-code_number code.Nothing = 10
+code_number statuses.Okay = 0
+code_number statuses.BadRequest = 1
+code_number statuses.NotFound = 2
+code_number statuses.MethodNotAllowed = 3
+code_number statuses.Conflict = 4
+code_number statuses.LengthRequired = 5
+code_number statuses.PayloadTooLarge = 6
+code_number statuses.HeadersTooLarge = 7
+code_number statuses.InternalError = 8
+code_number statuses.Unavailable = 9
+code_number statuses.Nothing = 10
 
 -- the range of so many microseconds: the first whose end is not below it
 unfoldable pub bucket_of : ℕ → ℕ
