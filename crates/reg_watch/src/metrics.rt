@@ -1,6 +1,6 @@
 //! The metrics of an open register, in the text form of Prometheus, version 0.0.4.
 
-ghost use Rattle.std.specs.Prelude.{◌≡◌, ◌++◌, IfOk, OnOk, length};
+ghost use Rattle.std.specs.Prelude.{◌≡◌, ◌++◌, IfOk, OnOk};
 ghost use Rattle.reg_watch.specs.Metrics.{answer_text, answers_text, behind as behind_told, bucket_name as bucket_named, bucket_text, buckets_text, certificates_text, clock_text, code_name as code_named, connections_text, counted_text, crl_text as crl_told, issued_text, lines_text, lost_text, metrics_text, named_answer_text, numbers_text, register_text, requests_text, route_name as route_named, seconds_text, signers_text, signings_text, sum_of};
 
 use crate::names::{
@@ -185,8 +185,7 @@ fn code_name(place: usize) -> &'static str
 
 /// Puts the answers behind a text: those routes and statuses that there were.
 #[tactic(auto, using(crate::proofs::Fronts::answers_none, crate::proofs::Fronts::answers_next))]
-fn put_answers(text: &mut Vec<u8>, answers: &[u64]) -> Result<(), AllocError>
-    requires { length answers.now ≡ 110 }
+fn put_answers(text: &mut Vec<u8>, answers: &[u64; ANSWERS]) -> Result<(), AllocError>
     ensures { OnOk result (text.new.items ≡ text.old.items ++ answers_text answers.now) }
 {
     text.extend_from_slice(ANSWERED.as_bytes())?;
@@ -317,8 +316,7 @@ fn put_times(text: &mut Vec<u8>, tally: &Tally) -> Result<(), AllocError>
 
 /// Puts the ranges behind a text, each with those below it; how many exchanges there were.
 #[tactic(auto, using(crate::proofs::Fronts::buckets_none, crate::proofs::Fronts::buckets_next, crate::proofs::Fronts::sum_none, crate::proofs::Fronts::sum_next))]
-fn put_buckets(text: &mut Vec<u8>, buckets: &[u64]) -> Result<u64, AllocError>
-    requires { length buckets.now ≡ 12 }
+fn put_buckets(text: &mut Vec<u8>, buckets: &[u64; BUCKETS]) -> Result<u64, AllocError>
     ensures { IfOk result (λ count. (count ≡ sum_of buckets.now 12) × (text.new.items ≡ text.old.items ++ buckets_text buckets.now 12)) }
 {
     let mut sum: u64 = 0;

@@ -1,6 +1,6 @@
 //! What a desk counts while it is open: each exchange once. Sums stop at the greatest number.
 
-ghost use Rattle.std.specs.Prelude.{◌≡◌, ◌<◌, ◌≤◌, ◌+◌, ◌-◌, ◌^◌, min, length, slice_set, slice_index_or};
+ghost use Rattle.std.specs.Prelude.{◌≡◌, ◌<◌};
 ghost use Rattle.reg_watch.specs.Tallies.{is_new, bumped, bucket_of as bucket_told, route_number as number_of_route, code_number as number_of_code, with_reply as replied, with_seconds as timed, with_answer, with_line, heard_as, with_lines as lined, with_counted, wants_requests as wants_counted, is_old as old_at};
 
 use crate::exchange::{
@@ -44,8 +44,8 @@ pub struct Tally {
 }
 
 /// Adds one at a place.
-fn bump(counts: &mut [u64], place: usize)
-    requires { place < length counts.old }
+fn bump<const N: usize>(counts: &mut [u64; N], place: usize)
+    requires { place < N }
     ensures { counts.new ≡ bumped counts.old place }
 {
     counts[place] = one_more(counts[place]);
