@@ -306,6 +306,7 @@ fn standing_of<C: Alter, S: Signer>(office: &mut Office<C, S>) -> Result<Standin
 }
 
 /// The last accepted moment of a store, its latest CRL and the life of its CRLs.
+#[tactic(auto, using(crate::proofs::Looking::told_fault))]
 fn standing_in<C: Alter>(store: &mut Store<C>) -> Result<Standing, Fault>
     ensures found { (records : Records) → Shows C.Store store.old records → HasCleanDisk (state C.Store store.new) → HasStanding records result }
     ensures looked { Looked C.Store store.old store.new }
@@ -322,6 +323,7 @@ fn standing_in<C: Alter>(store: &mut Store<C>) -> Result<Standing, Fault>
 }
 
 /// How many requests for revocation are open in an office.
+#[tactic(auto, using(crate::proofs::Looking::told_fault))]
 fn open_count_of<C: Alter, S: Signer>(office: &mut Office<C, S>, now: Moment) -> Result<u64, Fault>
     ensures moves { Leads (λ office. HasCleanDisk (state C.Store office.store))
         (λ who office records. StandsFor C.Store S.signs (office.store, signatory_of S.identity (S.identity office.signer) office.responder) who records)
