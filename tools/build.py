@@ -31,6 +31,32 @@ TIMES = f"{TOP}/tools/build-times.txt"
 SECONDS_OF_A_LINE = 0.05
 # How often it is told how far the build is, in seconds.
 TELL_EVERY = 60
+# rt, which sums the text of a library once for each way that leads down to it: hundreds of times, for the program. So it sums each
+# once, and anew after each of its own long calls, since the text may have changed meanwhile.
+RT_SUMMING_ONCE = """
+import os, runpy, sys
+sys.dont_write_bytecode = True
+del sys.argv[0]
+sys.path.insert(0, os.path.dirname(os.path.realpath(sys.argv[0])))
+import rtlib
+sums = {}
+def once(stamp):
+    def summed(crate):
+        if crate.folder not in sums:
+            sums[crate.folder] = stamp(crate)
+        return sums[crate.folder]
+    return summed
+def anew(call):
+    def called(*words, **how):
+        try:
+            return call(*words, **how)
+        finally:
+            sums.clear()
+    return called
+if hasattr(rtlib.Crate, "stamp") and hasattr(rtlib.Crate, "call"):
+    rtlib.Crate.stamp, rtlib.Crate.call = once(rtlib.Crate.stamp), anew(rtlib.Crate.call)
+runpy.run_path(sys.argv[0], run_name="__main__")
+"""
 
 
 class Crate:
@@ -115,7 +141,7 @@ class Built:
 
 def rt_command(jobs, is_first, *words):
     """Returns the words of a run of rt. What the longest chain does not wait for gives way to it."""
-    return [*([] if is_first else ["nice", "-n", "10"]), RT, words[0], "--jobs", str(jobs), *words[1:]]
+    return [*([] if is_first else ["nice", "-n", "10"]), sys.executable, "-c", RT_SUMMING_ONCE, RT, words[0], "--jobs", str(jobs), *words[1:]]
 
 
 def build_library(crates, crate, jobs, is_first):
@@ -134,9 +160,10 @@ def build_library(crates, crate, jobs, is_first):
         return built
 
 
-def build_program(crate, jobs, is_first):
-    """Builds a program where it stands, once all below it is built. A run with --help touches no file of the caller's."""
-    return Built(rt_command(jobs, is_first, "run", "--", "--help"), crate.folder)
+def build_program(crate, is_first):
+    """Builds a program where it stands, once all below it is built. A run with --help touches no file of the caller's. It has one
+    job: each loads all that the program reaches, which takes longer than its proofs."""
+    return Built(rt_command(1, is_first, "run", "--", "--help"), crate.folder)
 
 
 def tell(text):
@@ -218,16 +245,16 @@ def build(crates, names):
             ready = [it for it in left if all(other in took for other in crates[it].uses)]
             for at, name in enumerate(ready):
                 idle = lanes - sum(jobs for _, jobs in running.values())
-                # all else waits for the longest chain: its crate leaves one processor to the others at most, who give way to it
+                # all else waits for the longest chain: its crate has two jobs at least, and the others give way to it
                 is_first = at == 0 and behind[name] >= max([behind[it] for it, _ in running.values()], default=0)
-                wanted = lanes - (len(ready) > 1 or len(running) > 0) if is_first else idle // (len(ready) - at)
-                jobs = max(1, min(MOST_JOBS, wanted))
+                share = idle // (len(ready) - at)
+                jobs = max(1, min(MOST_JOBS, max(2, share) if is_first else share))
                 while jobs > 1 and not room_for(jobs, running):
                     jobs -= 1
                 if (is_first or idle > 0) and room_for(jobs, running):
                     left.remove(name)
-                    call = (build_program, crates[name]) if crates[name].is_program() else (build_library, crates, crates[name])
-                    running[pool.submit(*call, jobs, is_first)] = name, jobs
+                    call = (build_program, crates[name]) if crates[name].is_program() else (build_library, crates, crates[name], jobs)
+                    running[pool.submit(*call, is_first)] = name, jobs
                     progress.started[name] = time.monotonic()
             for it in wait(running, return_when=FIRST_COMPLETED).done:
                 (name, _), built = running.pop(it), it.result()

@@ -61,8 +61,8 @@ for name in register-pem.sh backup.sh; do
     put 0755 "examples/$name" "usr/lib/durshavon/$name"
 done
 
-# What signs, behind a socket of its own, as a user of its own.
-for name in desk-signer@.socket desk-signer@.service; do
+# What signs, and what signs for a responder, each behind a socket of its own, as a user of its own.
+for name in desk-signer@.socket desk-signer@.service desk-responder@.socket desk-responder@.service; do
     put 0644 "packaging/$name" "lib/systemd/system/$name"
 done
 for name in signer.py only_ours.py pkcs11-signer.sh issuer-words.sh; do

@@ -106,7 +106,7 @@ def plays(t, name):
 def all_that_there_is_comes_in_the_days(t):
     all_days = [day_of(it) for it in PLANS]
     came = {it for day in all_days for it, many in day.came.items() if many}
-    t.same(sorted((REFUSALS | FORMS | {*STATUSES, *OCSP, "import", "schedule", "crl", "audit", "tell", "at"}) - came), [], "what came in no day")
+    t.same(sorted((REFUSALS | FORMS | {*STATUSES, *OCSP, "import", "schedule", "key-id", "crl", "audit", "tell", "at"}) - came), [], "what came in no day")
     t.same({it.ground for day in all_days for it in day.register.requests}, set(GROUNDS), "grounds")
     t.same({it.reason for day in all_days for it in day.register.revocations.values()}, {reason for _, reason in GROUNDS.values()}, "reasons")
     t.true(sum(day.came["commands and queries"] for day in all_days) > 20_000, "fewer commands and queries than 20,000")

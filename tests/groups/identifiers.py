@@ -1,11 +1,14 @@
 """A CA whose certificate has a key identifier of its own, and not the SHA-1 of its key (RFC 5280 4.2.1.2): its CRLs are to have that one, or relying
-parties find no CRL. Beside openssl and Java."""
+parties find no CRL. As openssl, Java, GnuTLS and NSS take them; what examples/issuer-words.sh reads; and where they stand in the file."""
 
 import hashlib
+import random
 
-from lib import authority
-from lib.authority import DAY, Authority, moment_of
-from lib.trial import Skipped, each, test
+from lib import authority, program
+from lib.authority import DAY, EXAMPLES, Authority, moment_of, values_of, with_key_identifier
+from lib.documents import block
+from lib.registers import tlv
+from lib.trial import Skipped, each, need, test
 
 OWN = "00112233445566778899aabbccddeeff"
 # What openssl says of a certificate by a CRL: that none of this issuer was there, and that it is revoked (its numbers 3 and 23).
@@ -39,8 +42,14 @@ class Identified(Authority):
     """A CA with this key identifier, which has issued 05 and 06, as 05.pem and 06.pem."""
 
     def __init__(self, t, identifier=OWN, algorithm="ecdsa-sha256"):
-        super().__init__(t, algorithm, more=("-addext", f"subjectKeyIdentifier={identifier}", "-addext", "authorityKeyIdentifier=none"))
-        (t.room / "leaf.cnf").write_text("authorityKeyIdentifier = keyid:always\nsubjectKeyIdentifier = hash\n")
+        super().__init__(t, algorithm)
+        if not isinstance(identifier, str):
+            identifier = identifier(bytes.fromhex(self.words()[3]))
+        self.identifier = identifier
+        with_key_identifier(self, identifier)
+        # Spelled out: openssl 3.0 copies no key identifier of one or two bytes.
+        named = tlv(0x30, tlv(0x80, bytes.fromhex(identifier))).hex(":")
+        (t.room / "leaf.cnf").write_text(f"authorityKeyIdentifier = DER:{named}\nsubjectKeyIdentifier = hash\n")
         for serial in ("05", "06"):
             t.tool("openssl", "req", "-newkey", *authority.KEYS["ecdsa-sha256"], "-nodes", "-keyout", f"{serial}.key", "-out", "asked.csr", "-subj", f"/CN={serial}")
             t.tool("openssl", "x509", "-req", "-in", "asked.csr", "-CA", self.pem, "-CAkey", self.key, "-set_serial", serial, "-days", "90", "-extfile", "leaf.cnf",
@@ -75,6 +84,12 @@ class Identified(Authority):
     def by_java(self, serial):
         return self.t.tool("java", "Pkix.java", self.pem, f"{serial}.pem", "ca.crl.der").decode().strip()
 
+    def by_gnutls(self, serial):
+        """What certtool says of a certificate by the CRL."""
+        ran = self.t.tried("certtool", "--verify", "--load-ca-certificate", self.pem, "--load-crl", "ca.crl", "--infile", f"{serial}.pem")
+        told = (ran.stdout + ran.stderr).decode().partition("\nChain verification output: ")[2]
+        return ran.returncode, "certificate chain is revoked." in told, "The certificate is trusted." in told
+
 
 def need_java(t):
     if t.tried("java", "--list-modules").returncode or b"jdk.compiler" not in t.tried("java", "--list-modules").stdout:
@@ -82,10 +97,14 @@ def need_java(t):
     (t.room / "Pkix.java").write_text(JAVA)
 
 
-@each({"of 16 bytes": (OWN,), "of one byte": ("00",), "of 32 bytes, as a SHA-256": ("5a" * 32,), "of 64 bytes": ("a5" * 64,)}, seconds=4)
+# Of 20 bytes as a SHA-1 is, and another: RFC 7093 2, by which new versions of Go's crypto/x509 make them.
+OWN_ONES = {"of 16 bytes": OWN, "of one byte": "00", "of 32 bytes": "5a" * 32, "of 64 bytes": "a5" * 64, "of 20 bytes of a SHA-256": lambda key: hashlib.sha256(key).hexdigest()[:40]}
+
+
+@each(OWN_ONES, seconds=4)
 def openssl_takes_the_crls_of_a_ca_with_its_own_key_identifier(t, identifier):
     it = Identified(t, identifier)
-    t.same(it.words()[4:], ["--key-id", identifier], "words of the certificate")
+    t.same(it.words()[4:], ["--key-id", it.identifier], "words of the certificate")
     it.register()
     it.registers()
     t.same(it.runs("crl"), ["crl 1 entries 1"])
@@ -153,3 +172,142 @@ def java_takes_the_crls_of_a_ca_with_its_own_key_identifier(t):
     it.runs("crl")
     it.crl()
     t.same((it.by_java("05"), it.by_java("06")), ("REVOKED", "good"), "by its own")
+
+
+@test(seconds=5)
+def gnutls_takes_the_crls_of_a_ca_with_its_own_key_identifier(t):
+    need("certtool")
+    it = Identified(t)
+    it.register()
+    it.registers()
+    it.runs("crl")
+    it.crl()
+    t.same((it.by_gnutls("05"), it.by_gnutls("06")), ((1, True, False), (0, False, True)), "status, revoked, trusted")
+
+
+# What examples/issuer-words.sh reads
+
+
+# What a certificate has as its subjectKeyIdentifier, as openssl is told of it, and what is told of it.
+READ = {
+    "the SHA-1 of its key": ("hash", ()),
+    "none": ("none", ()),
+    "one byte": ("00", ("00",)),
+    "bytes that begin with zeros": ("0000a1b2", ("0000a1b2",)),
+    "the SHA-1 of its key but for a bit": (lambda key: f"{int(hashlib.sha1(key).hexdigest(), 16) ^ 1:040x}", None),
+    "the SHA-1 of its key and a byte more": (lambda key: hashlib.sha1(key).hexdigest() + "00", None),
+    "a critical one": ("critical,0a0b", ("0a0b",)),
+    "64 bytes": ("a5" * 64, ("a5" * 64,)),
+}
+
+
+@each(READ, seconds=2)
+def issuer_words_tells_a_key_identifier_that_is_not_the_sha_1_of_the_key(t, said, told):
+    """So a register of the usual CA is made by `--name` and `--key`, and is the one that it was."""
+    it = Authority(t)
+    name_and_key = it.words()
+    t.same((name_and_key[0::2], len(name_and_key)), (["--name", "--key"], 4), "words of a certificate that openssl makes")
+    if not isinstance(said, str):
+        said = said(bytes.fromhex(name_and_key[3]))
+        told = (said,)
+    with_key_identifier(it, said)
+    wanted = [*name_and_key, *(("--key-id", *told) if told else ())]
+    t.same(it.words(), wanted, "of PEM")
+    t.tool("openssl", "x509", "-in", it.pem, "-outform", "DER", "-out", "ca.der")
+    t.same(t.tool("sh", EXAMPLES / "issuer-words.sh", "ca.der").decode().split(), wanted, "of DER")
+    it.register()
+    t.done("init", "bare.db", *name_and_key)
+    t.same(t.sql("ca.db", "SELECT name FROM office") == t.sql("bare.db", "SELECT name FROM office"), not told, "what stands in the file is the Name alone")
+    line, got = f"{moment_of(authority.now())} crl\n", []
+    for file in ("ca.db", "bare.db"):
+        t.same(t.done("script", file, given=line), "crl 1 entries 0\n")
+        got.append(t.desk("crl", file).out)
+    t.same(got[0] == got[1], not told, "the CRL is the same")
+    t.has(got[0], tlv(0x30, tlv(0x80, bytes.fromhex(told[0]) if told else hashlib.sha1(bytes.fromhex(name_and_key[3])).digest())), "its authorityKeyIdentifier")
+
+
+@test(seconds=2)
+def issuer_words_of_a_key_identifier_that_no_register_has(t):
+    """Of 65 bytes and more: `init` says so, and no file is made."""
+    it = Authority(t)
+    with_key_identifier(it, "a5" * 65)
+    t.same(it.words()[4:], ["--key-id", "a5" * 65])
+    ran = t.desk("init", "ca.db", *it.words())
+    t.same((ran.status, ran.out, ran.err, (t.room / "ca.db").exists()), (1, b"", b"bad-issuer\n", False))
+
+
+# Where they stand in the file
+
+
+def identifier_in(crl):
+    """The authorityKeyIdentifier's key identifier in a CRL (RFC 5280 4.2.1.1)."""
+    extensions = values_of(authority.inside(crl, 0)[1])[-1][1]
+    value = values_of(authority.inside(extensions, 0)[1])[1][1]
+    return authority.inside(value, 0)[1]
+
+
+@test(seconds=6)
+def each_crl_keeps_the_one_that_its_number_has(t):
+    """Over many that are set, some without a CRL between them, and CRLs without one set between them."""
+    draws = random.Random(40)
+    t.register()
+    key = hashlib.sha1(bytes.fromhex(program.KEY)).digest()
+    current, kept, firsts = key, [], []
+    for number in range(1, 41):
+        times = draws.choice((0, 1, 1, 2))
+        firsts += [number] * (times > 0)
+        for _ in range(times):
+            current = draws.randbytes(draws.choice((1, 20, 64)))
+            t.same(t.done("key-id", "ca.db", current.hex()), "key-id set\n")
+        t.same(t.done("script", "ca.db", given=f"{program.moment_of(1_800_000_000 + number)} crl\n"), f"crl {number} entries 0\n")
+        kept.append((t.desk("crl", "ca.db").out, current))
+    t.same([identifier_in(crl) for crl, _ in kept], [current for _, current in kept], "what each has")
+    t.same([t.desk("crl", "ca.db", "--number", number).out for number in range(1, 41)], [crl for crl, _ in kept], "and each stays byte for byte")
+    t.same(t.done("audit", "ca.db"), "sound, 0 certificates, 0 revoked, 40 CRLs\n")
+    (name,) = t.sql("ca.db", "SELECT name FROM office")[0]
+    wanted = bytes.fromhex(program.NAME) + b"".join(tlv(0x80, number.to_bytes(8, "big"), kept[number - 1][1]) for number in reversed(firsts))
+    t.same(name.hex(), wanted.hex(), "office.name")
+
+
+# Names by the form of their length (X.690 8.1.3), the longest of 1,024 bytes.
+NAMES = {f"a Name of {size} bytes": size for size in (3, 15, 129, 131, 258, 260, 261, 1024)}
+
+
+def name_of(size):
+    """A value with the tag of a Name, of so many bytes in all."""
+    return next(made for made in (tlv(0x30, bytes(it % 256 for it in range(contents))) for contents in range(size)) if len(made) == size)
+
+
+@each(NAMES, seconds=2)
+def the_documents_statements_take_the_column_apart(t, size):
+    """The Name alone by that of docs/RULES.md, and the key identifiers by that of docs/MODEL.md."""
+    name = name_of(size).hex().upper()
+    alone = "\n".join(block("The tables of a file", "SELECT", "RULES"))
+    apart = "\n".join(block("DER (`crates/reg_der/specs`)", "WITH", "MODEL"))
+    t.same(t.done("init", "ca.db", "--name", name, "--key", program.KEY), "created\n")
+    t.same((t.sql("ca.db", alone), t.sql("ca.db", apart)), ([(name,)], []), "without any")
+    wanted = []
+    for number, identifier in ((1, "0A"), (2, "5A" * 64), (3, "00FF")):
+        t.done("key-id", "ca.db", identifier)
+        t.done("script", "ca.db", given="2026-01-01T00:00:00Z crl\n")
+        wanted.insert(0, (f"{number:016X}", identifier))
+        t.same((t.sql("ca.db", alone), t.sql("ca.db", apart)), ([(name,)], wanted), f"with {number}")
+
+
+@test
+def the_documents_worked_example(t):
+    """The octets that docs/RULES.md and docs/MODEL.md have stand there, at each step that they tell."""
+    lines = block("The tables of a file", "300D", "RULES")
+    parts = [line.split("   ")[0].replace(" ", "") for line in lines]
+    (modelled,) = block("DER (`crates/reg_der/specs`)", "300D", "MODEL")
+    t.same(modelled.split(), parts, "both have the same octets")
+    name = lambda: t.sql("ca.db", "SELECT hex(name) FROM office")[0][0]
+    t.register(options=("--key-id", "0A"))
+    t.same(name(), parts[0] + parts[2], "made with 0A")
+    t.done("script", "ca.db", given="2026-01-01T00:00:00Z crl\n")
+    t.done("key-id", "ca.db", "0B0C")
+    t.same(name(), "".join(parts), "then given 0B0C")
+    t.done("script", "ca.db", given="2026-01-01T00:00:00Z crl\n2026-01-01T00:00:00Z crl\n")
+    t.same([identifier_in(t.desk("crl", "ca.db", "--number", number).out).hex() for number in (1, 2, 3)], ["0a", "0b0c", "0b0c"], "what each CRL has")
+    t.register("bare.db")
+    t.same(t.sql("bare.db", "SELECT hex(name) FROM office"), [(parts[0],)], "with none")

@@ -17,11 +17,15 @@ from pathlib import Path
 
 from lib import authority, program
 from lib.authority import EXAMPLES, Authority, moment_of
+from lib.documents import block
 from lib.program import TOP
 from lib.trial import Failed, Skipped, need, test
 
 REGISTER, KEY = "/var/lib/durshavon/ca.db", "/var/lib/durshavon-signer/ca.key"
 SOCKET, PUBLISHED = "/run/durshavon-signer/ca.sign", "/var/lib/durshavon-crl/ca"
+COUNTER = "/run/durshavon/ca/counter"
+# A responder's key, its socket and its certificate.
+RESPONDER = ("/var/lib/durshavon-signer/ca.ocsp.key", "/run/durshavon-signer/ca.ocsp.sign", "/etc/durshavon/ca.ocsp.der")
 DEBIAN = "bookworm"
 # What the root has besides: systemd, and what the first steps have apt install, with what debootstrap does not find that this stands on.
 MORE = "dbus,systemd,systemd-sysv,python3-cffi-backend,python3-cryptography,openssl,curl"
@@ -125,7 +129,7 @@ def installed(t, root, deb):
 
 def cleared(root):
     """A root in which nothing was done before: it may be one that was kept."""
-    for it in (REGISTER, REGISTER + "-wal", KEY, SOCKET, "/etc/durshavon/ca.conf", "/etc/durshavon/ca.pem", "/run/durshavon/ca/counter"):
+    for it in (REGISTER, REGISTER + "-wal", KEY, SOCKET, *RESPONDER, "/etc/durshavon/ca.conf", "/etc/durshavon/ca.pem", COUNTER):
         (root.path / it[1:]).unlink(missing_ok=True)
     for it in (PUBLISHED, "/srv/copies"):
         shutil.rmtree(root.path / it[1:], ignore_errors=True)
@@ -144,7 +148,7 @@ class Units:
     """What `systemctl` has the units do, as far as their own words say it, where no systemd runs."""
 
     def __init__(self, t, root, running):
-        self.t, self.root, self.running = t, root, running
+        self.t, self.root, self.running, self.kept = t, root, running, {}
 
     def told(self, unit, setting):
         """A setting of a unit for the register `ca`."""
@@ -153,8 +157,11 @@ class Units:
 
     def words(self, unit):
         """The words of a service, with the variables of its register's file."""
-        said = dict(line.split("=", 1) for line in (self.root.path / "etc/durshavon/ca.conf").read_text().splitlines())
-        words = self.told(unit, "ExecStart").replace("${PORT}", said["PORT"]).replace("$OPTIONS", said["OPTIONS"].strip('"'))
+        said = {"OPTIONS": "", "RESPONDER": ""}
+        said |= dict(line.split("=", 1) for line in (self.root.path / "etc/durshavon/ca.conf").read_text().splitlines())
+        words = self.told(unit, "ExecStart").replace("${PORT}", said["PORT"])
+        for name in ("OPTIONS", "RESPONDER"):
+            words = words.replace(f"${name}", said[name].strip('"'))
         return shlex.split(words)
 
     def start(self, unit):
@@ -167,7 +174,12 @@ class Units:
         else:
             for part in ("", "/ca"):
                 self.root.run("install", "-d", "-m", "0700", "-o", "durshavon", "-g", "durshavon", f"/run/durshavon{part}")
-            self.keep(self.words(unit), self.told(unit, "User"))
+            self.keep(unit, self.words(unit), self.told(unit, "User"))
+
+    def stop(self, unit):
+        """Ends a service, with what its RuntimeDirectory holds."""
+        authority.end(self.kept.pop(unit))
+        self.root.run("rm", "-rf", f"/run/{self.told(unit, 'RuntimeDirectory')}")
 
     def once(self, unit):
         """What it prints, with that of the unit that it has started behind it."""
@@ -176,11 +188,11 @@ class Units:
         told = self.root.run(*self.words(unit), user=self.told(unit, "User"))
         return told + (self.once(self.told(unit, "Wants")) if "-crl@" in unit else "")
 
-    def keep(self, words, user, **how):
+    def keep(self, unit, words, user, **how):
         words = ["chroot", self.root.path, *as_user(user), *words]
         self.t.note(" ".join(map(str, words)))
         nothing = subprocess.DEVNULL
-        process = subprocess.Popen([*map(str, words)], stdin=nothing, stdout=nothing, stderr=nothing, **how)
+        self.kept[unit] = process = subprocess.Popen([*map(str, words)], stdin=nothing, stdout=nothing, stderr=nothing, **how)
         self.running.callback(authority.end, process)
 
     def listen(self, unit):
@@ -194,11 +206,13 @@ class Units:
         self.root.run("chmod", self.told(unit, "SocketMode"), path)
         service, at = unit.replace(".socket", ".service"), listener.fileno()
         handed = ["bash", "-c", 'exec 3<&"$0"; export LISTEN_PID=$$ LISTEN_FDS=1; exec "$@"', at]
-        self.keep([*handed, *self.words(service)], self.told(service, "User"), pass_fds=[at])
+        self.keep(service, [*handed, *self.words(service)], self.told(service, "User"), pass_fds=[at])
 
     def typed(self, line):
         words = shlex.split(line)
         for unit in (it for it in words if "@" in it):
+            if "restart" in words:
+                self.stop(unit)
             self.start(unit)
 
 
@@ -221,11 +235,40 @@ def first_steps(t, root, it):
         crl = works(t, root, it, port)
         told = units.once("desk-publish@ca.service")
         t.same((told, published(root)), (f"crl 2 published in {PUBLISHED}\n", crl), "the CRL is published")
+        answers_by_a_responder(t, root, it, units, port)
     later = moment_of(authority.now() + 1)
     told = root.owner("desk", "script", REGISTER, *it.signing(SOCKET), given=f"{later} status 05\n")
     t.same(told.split()[0], "revoked", "ended by SIGTERM, all that was answered stands")
     root.run("install", "-d", "-m", "0700", "-o", "durshavon", "/srv/copies")
-    t.has(root.owner("/usr/lib/durshavon/backup.sh", REGISTER, "/srv/copies"), ": sound, 1 certificates, 1 revoked, 2 CRLs\n", "a copy of it")
+    t.has(root.owner("/usr/lib/durshavon/backup.sh", REGISTER, "/srv/copies"), ": sound, 1 certificates, 1 revoked, 3 CRLs\n", "a copy of it")
+
+
+def responder_steps(port):
+    """The lines that give an installed desk a responder's key, with those that make it; but for the port."""
+    made = block("A responder", "openssl req")
+    made = made[: next(at for at, line in enumerate(made) if line.startswith("examples/signer.py"))]
+    return [*made, *(line.replace("8080", str(port)) for line in block("A responder's key, installed", "install"))]
+
+
+def answers_by_a_responder(t, root, it, units, port):
+    """Typed line by line: a responder's key signs OCSP answers, the CA's the CRLs. Who may reach its key and its signer."""
+    told, lines = "", []
+    for line in [*responder_steps(port), ""]:
+        if line and not line.startswith("systemctl "):
+            lines.append(line)
+            continue
+        ran = root.tried("timeout", "60", "bash", "-ec", "\n".join(["cd /root", *lines]))
+        told += (ran.stdout + ran.stderr).decode()
+        t.same(ran.returncode, 0, f"status of {lines}, which printed {told}")
+        lines = []
+        if line:
+            units.typed(line)
+    t.has(told, "Response verify OK", "what was printed")
+    t.same(it.asked_by_openssl("05", f"http://127.0.0.1:{port}/ocsp", verify=True), "revoked", "by the responder")
+    key, path, _ = RESPONDER
+    t.same(root.run("stat", "-c", "%a %U", key, path).splitlines(), ["400 durshavon-signer", "600 durshavon"], "its key and its socket")
+    t.same(root.owner("desk", "at", COUNTER, given="crl\n"), "crl 3 entries 1\n", "a CRL")
+    it.verifies(t.tool("curl", "-s", f"http://127.0.0.1:{port}/crl"))
 
 
 def published(root):
@@ -238,7 +281,7 @@ def works(t, root, it, port):
     now = authority.now()
     registers = f"register 1 05 {moment_of(now)} {moment_of(now + 90 * authority.DAY)}"
     given = "".join(f"{line}\n" for line in ("subscriber acme", "order 1 398", registers, "request 05 superseded", "revoke 1", "crl"))
-    told = root.owner("desk", "at", "/run/durshavon/ca/counter", given=given).splitlines()
+    told = root.owner("desk", "at", COUNTER, given=given).splitlines()
     t.same([line.partition(" due ")[0] for line in told], ["subscriber 1", "order 1", "registered", "request 1", "revoked", "crl 2 entries 1"])
     t.same(it.asked_by_openssl("05", f"http://127.0.0.1:{port}/ocsp", verify=True), "revoked")
     crl = t.tool("curl", "-s", f"http://127.0.0.1:{port}/crl")
@@ -312,7 +355,7 @@ def booted(t, root, it):
             printed = [line for line in told.read_text().splitlines() if not line.startswith("Created symlink ")]
             t.same(printed, ["created", "verify OK"], "what the first steps printed")
             t.same(it.asked_by_openssl("05", f"http://127.0.0.1:{port}/ocsp", verify=True), "unknown", "desk@ca.service, asked over HTTP")
-            behind(t, root, machine, port)
+            behind(t, root, machine, it, port)
     finally:
         # It has the root shut down in order.
         machine.terminate()
@@ -323,11 +366,11 @@ def booted(t, root, it):
             machine.wait()
     with socket.socket() as peer:
         t.true(peer.connect_ex(("127.0.0.1", port)) != 0, "shut down, nothing answers any more")
-    root.tried("systemctl", "disable", "steps.service", "desk@ca.service", "desk-signer@ca.socket", "desk-crl@ca.timer")
+    root.tried("systemctl", "disable", "steps.service", "desk@ca.service", "desk-signer@ca.socket", "desk-responder@ca.socket", "desk-crl@ca.timer")
 
 
-def behind(t, root, machine, port):
-    """What the units do besides, in the machine that runs: CRLs are published, and copies taken of a register that is closed alone."""
+def behind(t, root, machine, it, port):
+    """What the units do besides, in the machine that runs: CRLs are published, copies taken of a register that is closed alone, and a responder's key is told of."""
     authority.until(lambda: published(root), "the CRL that desk-crl@ca.service has published")
     inside = Path(f"/proc/{machine.pid}/task/{machine.pid}/children").read_text().split()[0]
     at = ("env", "-u", "DESK", "nsenter", "-t", inside, "-a")
@@ -340,17 +383,43 @@ def behind(t, root, machine, port):
     t.has(t.tool(*copy).decode(), ": sound, 0 certificates, 0 revoked, 1 CRLs\n", "a copy of what was stopped")
     t.tool(*at, "systemctl", "start", "desk@ca.service")
     authority.until(lambda: t.tried("curl", "-s", f"http://127.0.0.1:{port}/counts").returncode == 0, "desk@ca.service to answer again")
+    told = t.tool(*at, "bash", "-ec", "\n".join(["cd /root", *responder_steps(port)])).decode()
+    t.has(told, "Response verify OK", "a responder's key, told to what is installed")
+    t.same(it.asked_by_openssl("05", f"http://127.0.0.1:{port}/ocsp", verify=True), "unknown", "by the responder")
+    while_the_key_is_away(t, root, it, at, port)
+
+
+def while_the_key_is_away(t, root, it, at, port):
+    """The CA's key leaves the machine, and comes back for a CRL."""
+    url = f"http://127.0.0.1:{port}"
+    answers = lambda: t.tried("curl", "-s", f"{url}/counts").returncode == 0
+    types = lambda beginning: t.tool(*at, "bash", "-ec", "\n".join(["cd /root", *block("A responder's key, installed", beginning)])).decode()
+    types("sed -i")
+    authority.until(answers, "desk@ca.service without the CA's key")
+    t.same(it.asked_by_openssl("05", f"{url}/ocsp", verify=True), "unknown", "by the responder alone")
+    ran = t.tried(*at, "desk", "at", COUNTER, given="crl\n")
+    t.same((ran.returncode, ran.stdout), (3, b"F3 signer\n"), "a CRL at the counter")
+    t.tool(*at, "systemctl", "start", "desk-crl@ca.service")
+    t.has(types("systemctl stop"), "crl 2 entries 0\n", "a CRL while the key is back")
+    authority.until(answers, "desk@ca.service behind that")
+    crl = t.tool("curl", "-s", f"{url}/crl")
+    it.verifies(crl)
+    t.has(t.tool("openssl", "crl", "-inform", "DER", "-noout", "-crlnumber", given=crl), b"crlNumber=0x02", "its number")
+    t.same(it.asked_by_openssl("05", f"{url}/ocsp", verify=True), "unknown", "by the responder alone, again")
+    t.same((root.path / KEY[1:]).exists(), False, "the key is gone")
 
 
 def removed(t, root):
+    folders = {what: root.path / os.path.dirname(path)[1:] for what, path in (("registers", REGISTER), ("keys", KEY))}
+    names = {what: sorted(it.name for it in folder.iterdir()) for what, folder in folders.items()}
+    t.same((names["registers"], "ca.ocsp.key" in names["keys"]), (["ca.db", "ca.db-wal"], True), "what is there before")
     root.run("dpkg", "--remove", "durshavon")
     left = [str(it) for part in ("usr", "lib/systemd", "etc") for it in sorted((root.path / part).rglob("*"))
             if "/usr/share/doc" not in str(it) and not it.is_dir()
             and ("durshavon" in it.name or (it.name.startswith("desk") and "systemd" in str(it)) or str(it).endswith("usr/bin/desk"))]
     t.same(left, [], "what is left of it")
     ran = root.tried("dpkg", "--purge", "durshavon")
-    for what, path, names in (("registers", REGISTER, ["ca.db", "ca.db-wal"]), ("keys", KEY, ["ca.key"])):
-        folder = os.path.dirname(path)
-        t.has((ran.stdout + ran.stderr).decode(), f"the {what} in {folder} stay", f"purged, it tells of the {what}")
-        t.same(sorted(it.name for it in (root.path / folder[1:]).iterdir()), names, "and they do stay")
-        t.same(stat.S_IMODE((root.path / folder[1:]).stat().st_mode), 0o700, "for nobody else")
+    for what, folder in folders.items():
+        t.has((ran.stdout + ran.stderr).decode(), f"the {what} in /{folder.relative_to(root.path)} stay", f"purged, it tells of the {what}")
+        t.same(sorted(it.name for it in folder.iterdir()), names[what], "and they do stay")
+        t.same(stat.S_IMODE(folder.stat().st_mode), 0o700, "for nobody else")

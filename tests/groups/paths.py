@@ -8,6 +8,7 @@ import sys
 
 from lib import authority, program
 from lib.authority import KEYS, Authority, moment_of
+from lib.documents import block, blocks, document
 from lib.trial import Failed, each, need, test
 
 # What `openssl ca` wants to be told, for a CA in demoCA.
@@ -27,26 +28,6 @@ policy = any
 [any]
 commonName = supplied
 """
-
-
-def document():
-    return (program.TOP / "docs/OPERATIONS.md").read_text(encoding="utf-8")
-
-
-def blocks(heading):
-    """The blocks of lines of a section."""
-    found = re.search(rf"^##+ {re.escape(heading)}\n(.*?)(?=^##+ |\Z)", document(), re.MULTILINE | re.DOTALL)
-    if not found:
-        raise Failed(f"docs/OPERATIONS.md has no section {heading!r}")
-    return [[line[4:] for line in it.splitlines()] for it in re.findall(r"(?:^    [^\n]*\n)+", found[1], re.MULTILINE)]
-
-
-def block(heading, beginning):
-    """The block of a section whose first line begins so."""
-    for lines in blocks(heading):
-        if lines[0].startswith(beginning):
-            return lines
-    raise Failed(f"{heading!r} has no lines that begin with {beginning!r}")
 
 
 def folder_of(t, algorithm="ecdsa-sha256"):
@@ -103,17 +84,66 @@ def setting_up(t):
     ends_well(t, told, crls=2, answers=1, replies=("created\n", "crl 1 entries 0\n", "crl 2 entries 0\n", "cron 0\n"))
 
 
-@test(seconds=4)
-def a_responder(t):
-    """Behind "Setting up": answers that openssl takes by the CA's certificate alone."""
+def of_a_responder(beginning, port):
+    """A block of "A responder" that opens the office by its last line, and what is asked then."""
+    *lines, opens = block("A responder", beginning)
+    opened = opens.replace("8080", port).replace("/run/ca/", "")
+    return [*lines, f"{opened} & desk=$!", *office(port)[1:]]
+
+
+@each({"beside the CA's key": "openssl req", "the CA's key with its certificate": "openssl x509"}, seconds=4)
+def a_responder(t, beginning):
+    """Behind "Setting up": answers that openssl takes by the CA's certificate alone, asked as the document says it too."""
     need("curl", "bash")
     authority.need_cryptography(t)
     port = str(program.free_port())
-    *lines, opens = block("A responder", "openssl req")
-    opened = opens.replace("8080", port).replace("/run/ca/", "")
-    asks = office(port)
-    told = typed(t, folder_of(t), [*block("Setting up", "./desk init"), *lines, f"{opened} &", *asks[1:]])
-    ends_well(t, told, crls=2, answers=1, replies=("created\n", "crl 1 entries 0\n", "crl 2 entries 0\n"))
+    asks = re.search(r"^`(openssl ocsp -issuer ca\.pem [^`]*)` says `Response verify OK`", document(), re.MULTILINE)[1]
+    lines = [*of_a_responder(beginning, port), asks.replace("8080", port)]
+    told = typed(t, folder_of(t), [*block("Setting up", "./desk init"), *lines])
+    ends_well(t, told, crls=2, answers=2, replies=("created\n", "crl 1 entries 0\n", "crl 2 entries 0\n"))
+
+
+@test(seconds=5)
+def a_responder_while_the_ca_s_key_is_away(t):
+    """What holds the CA's key is ended behind the first CRL: answers go on, a CRL is refused by a line, and comes by a script once the key is back."""
+    need("curl", "bash")
+    authority.need_cryptography(t)
+    port = str(program.free_port())
+    first = [f"{line} signer=$!" if line.endswith("&") else line for line in block("Setting up", "./desk init")]
+    starts = [line for line in first if line.startswith(("examples/signer.py", "until"))]
+    t.same(len(starts), 2, f"lines that start the signer, of {first}")
+    ends = ["kill $signer", "while [ -S ca.sign ]; do sleep 0.1; done"]
+    made = block("A responder", "openssl req")[:-1]
+    opened = of_a_responder("./desk open ca.db --port 8080 --counter /run/ca/counter $RESPONDER", port)
+    closed = ["kill $desk", "wait $desk", *starts, *block("A responder", "./desk script ca.db --clock"), first[-1]]
+    told = typed(t, folder_of(t), [*first, *ends, *made, *opened, *closed])
+    t.same(re.findall(r"^verify OK$", told, re.MULTILINE), ["verify OK"] * 3, f"CRLs that verify, in {told}")
+    t.same(told.count("Response verify OK"), 1, f"answers that verify, in {told}")
+    replies = re.findall(r"^(?:[EF][0-9]+ .*|bad-.*|refused.*|crl .*)$", told, re.MULTILINE)
+    t.same(replies, ["crl 1 entries 0", "F3 signer", "crl 2 entries 0", "refused"], f"standard output and then standard error, in {told}")
+
+
+@test(seconds=4)
+def a_key_identifier_that_a_register_lacks(t):
+    """A register of a CA with a key identifier of its own, which it was not told: openssl finds no CRL until the document's lines are typed."""
+    need("curl", "bash")
+    authority.need_cryptography(t)
+    top = authority.stood_in(t)
+    it = Authority(t, more=("-addext", "subjectKeyIdentifier=0A1B2C3D4E5F6071", "-addext", "authorityKeyIdentifier=none"))
+    t.tool("openssl", "req", "-newkey", *KEYS["ecdsa-sha256"], "-nodes", "-keyout", "a.key", "-out", "a.csr", "-subj", "/CN=a")
+    (t.room / "a.cnf").write_text("authorityKeyIdentifier = keyid:always\n")
+    t.tool("openssl", "x509", "-req", "-in", "a.csr", "-CA", it.pem, "-CAkey", it.key, "-set_serial", 5, "-days", 90, "-extfile", "a.cnf", "-out", "a.pem")
+    for made in (it.pem, it.key, t.room / "a.pem"):
+        shutil.copy(made, top)
+    init, *first = block("Setting up", "./desk init")
+    t.has(init, "$(examples/issuer-words.sh ca.pem)")
+    lines = block("The CA's key identifier", "ID=")
+    init = init.replace("ca.pem)", "ca.pem | cut -d ' ' -f 1-4)")
+    told = typed(t, top, [init, *first, lines[-2], f"{lines[-1]} 2>&1", *lines])
+    t.same(re.findall(r"^verify OK$", told, re.MULTILINE), ["verify OK"], f"openssl crl -verify finds nothing wrong before, in {told}")
+    before, _, after = told.partition("key-id set\n")
+    t.has(before, "error 3 at 0 depth lookup: unable to get certificate CRL", "before")
+    t.has(after, "crl 2 entries 0\na.pem: OK\n")
 
 
 # A line of the section "Signatures", by what it has in it.
@@ -167,6 +197,19 @@ def only_ours_before_openssl(t):
     need("bash", "curl", "socat")
     told = typed(t, folder_of(t), [*register_by(started("Only what the desk has signed", "examples/only_ours.py")), *office(str(program.free_port()))])
     ends_well(t, told, crls=2, answers=1)
+
+
+@test(seconds=4)
+def only_ours_before_a_responder_s_key(t):
+    """The line for it in the place of the one of "A responder"."""
+    need("bash", "curl", "socat")
+    authority.need_cryptography(t)
+    port = str(program.free_port())
+    (line,) = [line for lines in blocks("Only what the desk has signed") for line in lines if "ocsp.sign" in line]
+    lines = of_a_responder("openssl req", port)
+    place = next(at for at, it in enumerate(lines) if it.startswith("examples/signer.py"))
+    told = typed(t, folder_of(t), [*block("Setting up", "./desk init"), *lines[:place], f"{line} &", *lines[place + 1 :]])
+    ends_well(t, told, crls=2, answers=1, replies=("created\n", "crl 1 entries 0\n", "crl 2 entries 0\n"))
 
 
 @each({it: it for it in ("ecdsa-sha256", "ecdsa-sha384", "rsa-sha256")}, seconds=4)
@@ -263,7 +306,9 @@ def each_line_that_may_sign_is_told_of_the_signer(t):
     texts = [document(), *(it.read_text(encoding="utf-8") for it in files)]
     found = [line for text in texts for line in re.findall(r"\bdesk (?:script|open|serve) ca\.db[^`\n|]*", text)]
     t.true(len(found) > 8, f"few lines: {found}")
-    t.same([it for it in found if "$SIGNER" not in it and "--signer" not in it], [], "lines with no signer")
+    # Beside a responder no digest seals.
+    is_told = lambda line: "$SIGNER" in line or "--signer" in line or (" open " in line and "$RESPONDER" in line)
+    t.same([it for it in found if not is_told(it)], [], "lines with no signer")
 
 
 @test

@@ -1,19 +1,23 @@
 """Who answers OCSP requests: a responder with a key and a certificate of its own, which the CA delegated (RFC 6960 4.2.2.2), and the CA's
-certificate in its own answers; both as openssl, Java, GnuTLS, Go and nginx take them, and what is refused by its name."""
+certificate in its own answers; both as openssl, Java, GnuTLS, NSS, Go and nginx take them, and what is refused by its name."""
 
 import hashlib
 import os
 from pathlib import Path
 
-from lib import authority, program
-from lib.authority import EXAMPLES, INTERNAL, KEYS, Authority, body_of, first_day, inside, path_of, values_of
+from lib import authority, faults, program, registers
+from lib.authority import EXAMPLES, INTERNAL, KEYS, Authority, body_of, first_day, inside, path_of, values_of, with_key_identifier
+from lib.documents import block
+from lib.registers import tlv
 from lib.trial import Skipped, each, need, test
 from lib.web_server import AROUND
 
 ALGORITHMS = {it: it for it in KEYS}
 DELEGATED = "extendedKeyUsage=critical,OCSPSigning\nbasicConstraints=critical,CA:FALSE\nnoCheck=ignored\n"
 STATUSES = (("05", "revoked"), ("06", "good"), ("07", "unknown"))
-CERTIFICATES = 0xA0
+BITS, OCTETS, IDENTIFIER, SEQUENCE, CERTIFICATES = 0x03, 0x04, 0x06, 0x30, 0xA0
+# The places of the key and of the extensions in a TBSCertificate of version 3 (RFC 5280 4.1).
+KEY, EXTENSIONS = 6, 7
 
 
 class Responder:
@@ -43,6 +47,17 @@ def der_of(t, name):
     """The DER of a certificate, which is put beside its PEM."""
     t.tool("openssl", "x509", "-in", f"{name}.pem", "-outform", "DER", "-out", f"{name}.der")
     return (t.room / f"{name}.der").read_bytes()
+
+
+def whole(value):
+    return [it[2] for it in values_of(value)]
+
+
+def rebuilt(it, der, change, sign=None):
+    """A certificate like another, signed by the CA, whose TBSCertificate has other parts: `change` is given its own."""
+    part, algorithm, _ = whole(inside(der)[1])
+    made = tlv(SEQUENCE, *change(whole(inside(part)[1])))
+    return tlv(SEQUENCE, made, algorithm, tlv(BITS, b"\0" + (sign or it.sign)(made)))
 
 
 def key_hash(der):
@@ -127,28 +142,53 @@ def a_revocation_is_in_the_next_answer(t):
     t.same(it.reads("06", answer(t, it, desk, "06")), "revoked")
 
 
-@each({"before the first CRL": False, "after a CRL that the key signed": True}, seconds=5)
-def a_responder_alone(t, has_crl):
-    """Without `--signer` beside a responder no CRL is signed, by nothing: the counter says so, and the number is the next one's."""
+@each({"before the first CRL": (False, True), "after a CRL that the key signed": (True, True), "after a CRL that a digest sealed": (True, False)}, seconds=5)
+def a_responder_alone(t, has_crl, is_signed):
+    """Without `--signer` beside a responder no CRL is signed, by nothing: the counter says so, OCSP goes on, and the number is the next one's."""
+    it = Authority(t)
+    responder = Responder(it)
+    signer = it.signer()
+    it.register()
+    lines, signing = first_day(authority.now()), it.signing() if is_signed else ()
+    t.done("script", "ca.db", *signing, given=lines if has_crl else lines.rsplit("\n", 2)[0] + "\n")
+    responder.signer()
+    asked = len(signer.asked)
+    for command, more in (("serve", ("--requests", "9")), ("open", ())):
+        desk = t.open("ca.db", *more, *responder.words(), command=command)
+        for serial, told in STATUSES:
+            t.same(it.reads(serial, answer(t, it, desk, serial)), told, f"{command}: {serial}")
+        if command == "serve":
+            desk.end()
+    counter = t.counter()
+    t.same([counter.ask("crl"), counter.ask("crl")], ["F3 signer", "F3 signer"])
+    t.same((it.reads("06", answer(t, it, desk, "06")), counter.ask("request 06 superseded").split()[0]), ("good", "request"), "and all else goes on")
+    ran = t.desk("at", "counter", given="crl\n")
+    t.same((ran.status, ran.out, ran.err), (3, b"F3 signer\n", b"refused\n"), "told to a program")
+    t.same(counter.ask("revoke 2"), "revoked")
+    t.same(it.reads("06", answer(t, it, desk, "06")), "revoked", "a revocation that no CRL lists yet")
+    status, _, _ = program.parted(desk.ask("GET", "/crl"))
+    t.same((status, len(signer.asked)), (200 if has_crl else 404, asked), "the latest CRL is the one before, and the CA's key was not asked")
+    desk.end()
+    told = t.done("script", "ca.db", "--clock", *signing, given="crl\n")
+    t.same(told, f"crl {2 if has_crl else 1} entries 2\n", "a script has the CA's key sign")
+    if is_signed:
+        it.verifies(t.done("crl", "ca.db").encode("latin-1"))
+    t.has(t.done("audit", "ca.db"), "sound, 2 certificates, 2 revoked, ")
+
+
+@each({"none is due": 0, "one is due": 8}, seconds=3)
+def the_timer_s_script_where_a_responder_alone_signs(t, days):
+    """`examples/issue-due-crl.sh` says nothing while no CRL is due, and fails by the line of the fault where one is."""
     it = Authority(t)
     responder = Responder(it)
     it.signer()
-    it.register()
-    lines = first_day(authority.now())
-    t.done("script", "ca.db", *it.signing(), given=lines if has_crl else lines.rsplit("\n", 2)[0] + "\n")
     responder.signer()
-    desk = t.open("ca.db", *responder.words())
-    for serial, told in STATUSES:
-        t.same(it.reads(serial, answer(t, it, desk, serial)), told, serial)
-    counter = t.counter()
-    t.same([counter.ask("crl"), counter.ask("crl")], ["F3 signer", "F3 signer"])
-    t.same(counter.ask("request 06 superseded").split()[0], "request", "and the counter goes on")
-    status, _, _ = program.parted(desk.ask("GET", "/crl"))
-    t.same(status, 200 if has_crl else 404, "the latest CRL is the one before")
-    desk.end()
-    told = t.done("script", "ca.db", "--clock", *it.signing(), given="crl\n")
-    t.same(told, f"crl {2 if has_crl else 1} entries 1\n", "a script has the CA's key sign")
-    it.verifies(t.done("crl", "ca.db").encode("latin-1"))
+    it.register()
+    t.done("script", "ca.db", *it.signing(), given=first_day(authority.now() - days * authority.DAY))
+    t.open("ca.db", *responder.words())
+    ran = t.tried("env", f"DESK={program.program()}", "bash", EXAMPLES / "issue-due-crl.sh", "counter")
+    t.same((ran.returncode, ran.stdout), (3 if days else 0, b""))
+    t.same(b"counter: crl: F3 signer\n" in ran.stderr, bool(days), "whether it is told of")
 
 
 @test(seconds=4)
@@ -189,6 +229,7 @@ def the_log_s_last_word_tells_of_either_key(t):
 
 @each({"a new certificate of the same key": False, "a new key": True}, seconds=6)
 def a_certificate_is_exchanged(t, is_new):
+    """What is open goes on with the one that it read; opened again its next answer has the new one."""
     it = Authority(t)
     it.signer()
     a_day(t, it, *it.signing())
@@ -197,19 +238,22 @@ def a_certificate_is_exchanged(t, is_new):
         desk = t.open("ca.db", *it.signing(), *first.words())
         t.same(certificates_in(answer(t, it, desk, "05")), (CERTIFICATES, [first.der]))
         if is_new:
-            second = Responder(it, serial=2)
+            second = Responder(it, name="next", serial=2)
+            der, sign = second.der, second.sign
         else:
             t.tool("openssl", "x509", "-req", "-in", "responder.csr", "-CA", it.pem, "-CAkey", it.key, "-set_serial", 2, "-days", 60,
-                   "-extfile", "responder.conf", "-out", "responder.pem")
-            second, first.der = first, der_of(t, "responder")
-        if not is_new:
-            t.same(it.reads("05", answer(t, it, desk, "05")), "revoked", "what is open has the one that it read")
-        desk.end()
-    with program.Signer(t.room / "responder.sign", second.sign):
-        desk = t.open("ca.db", *it.signing(), *second.words())
+                   "-extfile", "responder.conf", "-out", "next.pem")
+            der, sign = der_of(t, "next"), first.sign
+        (t.room / "responder.der").write_bytes(der)
         response = answer(t, it, desk, "05")
-        t.same(certificates_in(response), (CERTIFICATES, [second.der]), "the next answer has the new one")
-        t.same((named_by(response), it.reads("05", response)), ((0xA2, key_hash(second.der)), "revoked"))
+        t.same((certificates_in(response), it.reads("05", response)), ((CERTIFICATES, [first.der]), "revoked"), "what is open")
+        desk.end()
+    t.same(key_hash(der) != key_hash(first.der), is_new, "whether the key is another")
+    with program.Signer(t.room / "responder.sign", sign):
+        desk = t.open("ca.db", *it.signing(), *first.words())
+        response = answer(t, it, desk, "05")
+        t.same(certificates_in(response), (CERTIFICATES, [der]), "the next answer has the new one")
+        t.same((named_by(response), it.reads("05", response)), ((0xA2, key_hash(der)), "revoked"))
 
 
 # The CA's certificate in its own answers
@@ -274,6 +318,176 @@ def bytes_that_are_no_certificate(t, broken):
         bad_responder(t, [command, "none.db", "--port", "1", *more, *sealed, "--embed", "responder.der"])
 
 
+def info(*parts):
+    """Another SubjectPublicKeyInfo in a TBSCertificate, of these parts of the key's AlgorithmIdentifier and its bits."""
+    return lambda certified: [*certified[:KEY], tlv(SEQUENCE, *parts_of(certified, parts)), *certified[KEY + 1 :]]
+
+
+def parts_of(certified, parts):
+    algorithm, bits = whole(inside(certified[KEY])[1])
+    return [part(algorithm, inside(bits)[1][1:]) for part in parts]
+
+
+def own_algorithm(identifier, _):
+    return identifier
+
+
+def spelled(make):
+    return lambda _, key: tlv(BITS, *make(key))
+
+
+P256, CURVE = bytes.fromhex("06072A8648CE3D0201"), bytes.fromhex("06082A8648CE3D030107")
+KEYLESS = {
+    "nothing behind its subject": lambda certified: certified[:KEY],
+    "no key": lambda certified: [*certified[:KEY], *certified[EXTENSIONS:]],
+    "its key behind its extensions": lambda certified: [*certified[:KEY], certified[EXTENSIONS], certified[KEY]],
+    "no serial number": lambda certified: [certified[0], *certified[2:]],
+    "a version that is not tagged": lambda certified: [b"\x02\x01\x02", *certified[1:]],
+    "a key in an OCTET STRING": info(own_algorithm, lambda _, key: tlv(OCTETS, key)),
+    "a key of no algorithm": info(spelled(lambda key: (b"\0", key))),
+    "an algorithm of no key": info(own_algorithm),
+    "no bits": info(own_algorithm, spelled(lambda key: (b"\0",))),
+    "not even a count of unused bits": info(own_algorithm, spelled(lambda key: ())),
+    "a bit that is unused": info(own_algorithm, spelled(lambda key: (b"\1", key[:-1], b"\0"))),
+    "a key of 2,049 octets": info(own_algorithm, spelled(lambda key: (b"\0", bytes(2049)))),
+    "a value behind its key": info(own_algorithm, spelled(lambda key: (b"\0", key)), lambda *_: b"\x05\0"),
+    "a point cut short": info(own_algorithm, spelled(lambda key: (b"\0", key[:-1]))),
+    "a point of an octet more": info(own_algorithm, spelled(lambda key: (b"\0", key, b"\0"))),
+    "a hybrid point": info(own_algorithm, spelled(lambda key: (b"\0", bytes([6 + key[-1] % 2]), key[1:]))),
+    "no curve": info(lambda *_: tlv(SEQUENCE, P256), spelled(lambda key: (b"\0", key))),
+    "a curve that is written out": info(lambda *_: tlv(SEQUENCE, P256, tlv(SEQUENCE, CURVE)), spelled(lambda key: (b"\0", key))),
+    "a curve and NULL": info(lambda *_: tlv(SEQUENCE, P256, CURVE, b"\x05\0"), spelled(lambda key: (b"\0", key))),
+}
+
+
+@each(KEYLESS, seconds=2)
+def a_certificate_without_a_key_of_its_algorithm(t, change):
+    """By the grammar of RFC 5280 4.1, all else being as openssl made it."""
+    it = Authority(t)
+    responder = Responder(it)
+    path, usual = t.room / "responder.der", rebuilt(it, responder.der, lambda certified: certified)
+    t.same(inside(usual, 0)[2], inside(responder.der, 0)[2], "put together again it is the same")
+    path.write_bytes(rebuilt(it, responder.der, change))
+    bad_responder(t, ["open", "none.db", "--port", "1", "--counter", "counter", *responder.words()])
+    # As it was it is taken, and FILE is looked at.
+    path.write_bytes(usual)
+    ran = t.desk("open", "none.db", "--port", "1", "--counter", "counter", *responder.words())
+    t.same((ran.status, ran.err), (1, b"F2 store\n"))
+
+
+def gencrl(t):
+    """What openssl wants to be told before it makes a CRL."""
+    path = t.room / "ca.cnf"
+    path.write_text("[ca]\ndatabase = index.txt\ndefault_md = sha256\ndefault_crl_days = 8\n")
+    return path
+
+
+# What openssl writes in DER that is no certificate.
+OTHERS = {
+    "a request for one": ("req", "-in", "responder.csr", "-outform", "DER"),
+    "its key": ("pkey", "-in", "responder.key", "-outform", "DER"),
+    "its public key": ("pkey", "-in", "responder.key", "-pubout", "-outform", "DER"),
+    "both certificates in PKCS #7": ("crl2pkcs7", "-nocrl", "-certfile", "ca.pem", "-certfile", "responder.pem", "-outform", "DER"),
+    "a CRL": ("crl", "-in", "empty.crl", "-outform", "DER"),
+}
+
+
+@each(OTHERS, seconds=2)
+def what_is_in_der_and_no_certificate(t, *words):
+    it = Authority(t)
+    responder = Responder(it)
+    (t.room / "index.txt").touch()
+    t.tool("openssl", "ca", "-gencrl", "-name", "ca", "-config", gencrl(t), "-keyfile", it.key, "-cert", it.pem, "-out", "empty.crl")
+    made = t.tool("openssl", *words)
+    t.true(made[:1] == b"\x30" and made != responder.der, f"{words[0]} gives a SEQUENCE, and not the certificate")
+    (t.room / "responder.der").write_bytes(made)
+    bad_responder(t, ["open", "none.db", "--port", "1", "--counter", "counter", *responder.words()])
+
+
+def padded(it, der, size):
+    """A certificate like another with an extension of its own, of so many octets in all."""
+    def made(octets, sign):
+        extension = tlv(SEQUENCE, bytes.fromhex("06032A0304"), tlv(OCTETS, bytes(octets)))
+        longer = lambda certified: [*certified[:EXTENSIONS], tlv(0xA3, tlv(SEQUENCE, *whole(inside(certified[EXTENSIONS], 0)[1]), extension))]
+        return rebuilt(it, der, longer, sign)
+
+    # A signature of RSA has always as many octets.
+    octets = next(octets for octets in range(size - len(der) - 60, size) if len(made(octets, lambda _: bytes(256))) == size)
+    return made(octets, it.sign)
+
+
+@each({"65,535 octets": 65_535, "65,536 octets": 65_536, "65,537 octets": 65_537, "a million octets": 1_000_000}, seconds=5)
+def a_certificate_of_so_many_octets(t, size):
+    """65,536 are the most; each answer has them as they are."""
+    it = Authority(t, "rsa-sha256")
+    responder, ca = Responder(it), der_of(t, "ca")
+    answers = {("--responder", "responder.der"): padded(it, responder.der, size), ("--embed", "ca.der"): padded(it, ca, size)}
+    it.signer()
+    responder.signer()
+    a_day(t, it, *it.signing())
+    for (option, name), der in answers.items():
+        t.same(len(der), size)
+        (t.room / name).write_bytes(der)
+        if option == "--embed":
+            t.tool("openssl", "x509", "-inform", "DER", "-in", name, "-out", it.pem)
+        words = [*it.signing(), *(responder.words() if option == "--responder" else (option, name))]
+        if size > 65_536:
+            bad_responder(t, ["open", "ca.db", "--port", program.free_port(), "--counter", "counter", *words])
+            continue
+        desk = t.open("ca.db", *words)
+        response = answer(t, it, desk, "05")
+        t.same((it.reads("05", response), certificates_in(response) == (CERTIFICATES, [der])), ("revoked", True), option)
+        desk.end()
+
+
+@each({f"version {it}": it for it in (1, 2, 3)}, seconds=2)
+def before_a_bad_certificate_nothing_is_opened(t, version):
+    """The file stays as it was, to the octet, and has no log: also one that its opening would make newer."""
+    it = Authority(t)
+    responder = Responder(it)
+    registers.make(t.room / "ca.db", registers.Records(20, 3), version)
+    before = faults.contents(t.room / "ca.db")
+    (t.room / "responder.der").write_bytes(responder.der[:-1])
+    for command, more in (("open", ("--counter", "counter")), ("serve", ("--requests", "9"))):
+        opens = [command, "ca.db", "--port", program.free_port(), *more]
+        bad_responder(t, [*opens, *responder.words()])
+        bad_responder(t, [*opens, *(("--unsigned",) if command == "open" else ()), "--embed", "responder.der"])
+    t.same(faults.contents(t.room / "ca.db") == before, True, "the file's octets")
+
+
+@test(seconds=3)
+def a_certificate_that_can_t_be_read(t):
+    """A folder in its place, a read that fails, and one that gives fewer octets than asked."""
+    it = Authority(t)
+    responder = Responder(it)
+    responder.signer()
+    a_day(t, it)
+    opens = ["open", "ca.db", "--port", program.free_port(), "--counter", "counter", *responder.words()]
+    for fail in ("read:1", "open:1"):
+        ran, count = faults.run(t, opens, only="responder.der", fail=fail)
+        t.same((ran.status, ran.out, ran.err, count["met"]), (1, b"", b"bad-responder\n", 1), fail)
+    bad_responder(t, ["open", "ca.db", "--port", program.free_port(), "--counter", "counter", "--unsigned", "--embed", "."])
+    desk = t.open("ca.db", *responder.words(), faults=faults.environment(only="responder.der", short=1))
+    t.same(certificates_in(answer(t, it, desk, "05")), (CERTIFICATES, [responder.der]), "read octet by octet")
+
+
+@test(seconds=15)
+def an_allocation_is_refused_while_it_is_opened(t):
+    """It listens as ever, or `F1 memory` is told, and nothing else: want of memory is no bad certificate."""
+    it = Authority(t)
+    responder = Responder(it)
+    responder.signer()
+    a_day(t, it)
+    words, told = ["serve", "ca.db", "--requests", "9", *responder.words()], 0
+    for at in faults.places(1_000, 150, 13):
+        with program.Opened(words, cwd=t.room, faults=faults.environment(fail=f"alloc:{at}")) as desk:
+            if not desk.listens:
+                told += 1
+                ended = desk.wait()
+                t.same((ended.status, ended.err), (1, b"F1 memory\n"), f"allocation {at}")
+    t.true(told > 100, f"want of memory was told {told} times")
+
+
 @test(seconds=4)
 def a_certificate_that_can_t_be_used(t):
     it, other = Authority(t), Authority(t, name="other", subject="/CN=Other")
@@ -312,9 +526,9 @@ def leaf(t, it, name, serial, more=""):
 LEAVES = (("good", 6), ("revoked", 5))
 
 
-def checked(t, it):
+def checked(t, it, extensions=DELEGATED):
     """A leaf of the CA for each status, and the words that start each form of a desk over its register."""
-    responder = Responder(it)
+    responder = Responder(it, extensions=extensions)
     der_of(t, "ca")
     it.signer()
     responder.signer()
@@ -324,7 +538,53 @@ def checked(t, it):
     return {"a responder": responder.words(), "the CA's certificate": ("--embed", "ca.der")}
 
 
-FORMS = {"a responder": "a responder", "the CA's certificate": "the CA's certificate"}
+def below_a_root(t, it):
+    """The CA has a certificate of another, root.pem, in the place of its own; all.pem has both."""
+    root = Authority(t, name="root", subject="/CN=Root")
+    (t.room / "below.conf").write_text("basicConstraints=critical,CA:TRUE\nkeyUsage=critical,keyCertSign,cRLSign\nsubjectKeyIdentifier=hash\n")
+    t.tool("openssl", "req", "-new", "-key", it.key, "-out", "ca.csr", "-subj", "/CN=T")
+    t.tool("openssl", "x509", "-req", "-in", "ca.csr", "-CA", root.pem, "-CAkey", root.key, "-set_serial", 77, "-days", 300, "-extfile", "below.conf", "-out", it.pem)
+    (t.room / "all.pem").write_bytes(it.pem.read_bytes() + root.pem.read_bytes())
+
+
+# A CA that stands below another, or that has a key identifier of its own, as its responder has.
+BELOW, OWN = ", below a root", ", by key identifiers of their own"
+
+
+def asked(t, form):
+    """A CA, and the words that start this form of a desk: what is trusted is root.pem, and all.pem has what lies between a leaf and that too."""
+    it = Authority(t)
+    if form.endswith(BELOW):
+        below_a_root(t, it)
+    if form.endswith(OWN):
+        with_key_identifier(it, "0102030405")
+    if not form.endswith(BELOW):
+        for copy in ("root.pem", "all.pem"):
+            (t.room / copy).write_bytes(it.pem.read_bytes())
+    extensions = DELEGATED + ("subjectKeyIdentifier=0a0b0c\n" if form.endswith(OWN) else "subjectKeyIdentifier=hash\n")
+    return it, checked(t, it, extensions).get(form.removesuffix(BELOW).removesuffix(OWN), ())
+
+
+def forms(*more):
+    names = [f"{form}{ending}" for form in ("a responder", "the CA's certificate") for ending in ("", *more)]
+    return {it: it for it in names}
+
+
+@each(forms(BELOW, OWN), seconds=4)
+def openssl_takes_both_forms(t, form):
+    """It trusts the root alone, and knows the CA as the issuer that it asks about. The CRL is of the CA too."""
+    it, words = asked(t, form)
+    desk = t.open("ca.db", *it.signing(), *words)
+    for name, _ in LEAVES:
+        told = t.tool("openssl", "ocsp", "-issuer", it.pem, "-CAfile", "root.pem", "-cert", f"{name}.pem", "-url", f"http://127.0.0.1:{desk.port}/ocsp").decode()
+        t.has(told, "Response verify OK", name)
+        t.has(told, f"{name}.pem: {name}\n", name)
+    crl = body_of(t, desk.ask("GET", "/crl"), "application/pkix-crl")
+    it.verifies(crl)
+    (t.room / "ca.crl").write_bytes(t.tool("openssl", "crl", "-inform", "DER", given=crl))
+    for name, told in (("good", "good.pem: OK"), ("revoked", "error 23 at 0 depth lookup: certificate revoked")):
+        ran = t.tried("openssl", "verify", "-CAfile", "root.pem", "-untrusted", it.pem, "-CRLfile", "ca.crl", "-crl_check", f"{name}.pem")
+        t.has((ran.stdout + ran.stderr).decode(), told, f"{name} by the CRL")
 
 JAVA = """
 import java.io.*; import java.net.*; import java.nio.file.*; import java.security.cert.*; import java.util.*;
@@ -334,10 +594,10 @@ public class Checked {
         X509Certificate ca = (X509Certificate) factory.generateCertificate(Files.newInputStream(Path.of(words[0])));
         CertPathValidator validator = CertPathValidator.getInstance("PKIX");
         for (String name : Arrays.asList(words).subList(2, words.length)) {
-            CertPath path = factory.generateCertPath(List.of(factory.generateCertificate(Files.newInputStream(Path.of(name)))));
+            CertPath path = factory.generateCertPath(List.copyOf(factory.generateCertificates(Files.newInputStream(Path.of(name)))));
             PKIXRevocationChecker checker = (PKIXRevocationChecker) validator.getRevocationChecker();
             checker.setOcspResponder(URI.create(words[1]));
-            checker.setOptions(EnumSet.of(PKIXRevocationChecker.Option.NO_FALLBACK));
+            checker.setOptions(EnumSet.of(PKIXRevocationChecker.Option.NO_FALLBACK, PKIXRevocationChecker.Option.ONLY_END_ENTITY));
             PKIXParameters parameters = new PKIXParameters(Set.of(new TrustAnchor(ca, null)));
             parameters.addCertPathChecker(checker);
             try { validator.validate(path, parameters); System.out.println("good"); }
@@ -348,37 +608,37 @@ public class Checked {
 """
 
 
-@each(FORMS, seconds=12)
+@each(forms(BELOW, OWN), seconds=12)
 def java_takes_both_forms(t, form):
     need("javac", "java")
-    it = Authority(t, subject="/CN=T")
-    words = checked(t, it)[form]
+    it, words = asked(t, form)
     desk = t.open("ca.db", *it.signing(), *words)
+    if form.endswith(BELOW):
+        for name, _ in LEAVES:
+            (t.room / f"{name}.pem").write_bytes((t.room / f"{name}.pem").read_bytes() + it.pem.read_bytes())
     (t.room / "Checked.java").write_text(JAVA)
     t.tool("javac", "Checked.java")
-    told = t.tool("java", "-cp", t.room, "Checked", it.pem, f"http://127.0.0.1:{desk.port}/ocsp", "good.pem", "revoked.pem").decode().split()
+    told = t.tool("java", "-cp", t.room, "Checked", "root.pem", f"http://127.0.0.1:{desk.port}/ocsp", "good.pem", "revoked.pem").decode().split()
     t.same(told, ["good", "REVOKED"])
 
 
-@each(FORMS, seconds=5)
+@each(forms(OWN), seconds=5)
 def gnutls_takes_both_forms(t, form):
     need("ocsptool")
-    it = Authority(t)
-    words = checked(t, it)[form]
+    it, words = asked(t, form)
     desk = t.open("ca.db", *it.signing(), *words)
     for name, told in (("good", "good"), ("revoked", "revoked")):
-        said = t.tool("ocsptool", "--ask", f"http://127.0.0.1:{desk.port}/ocsp", "--load-issuer", it.pem, "--load-cert", f"{name}.pem",
+        said = t.tool("ocsptool", f"--ask=http://127.0.0.1:{desk.port}/ocsp", "--load-issuer", it.pem, "--load-cert", f"{name}.pem",
                       "--load-trust", it.pem, "--verify-allow-broken").decode()
         t.has(said, "Verifying OCSP Response: Success", name)
         t.has(said, f"Certificate Status: {told}", name)
 
 
-@each(FORMS, seconds=6)
+@each(forms(OWN), seconds=6)
 def nss_takes_both_forms(t, form):
     """By the URL in the leaves, with a GET."""
     need("certutil", "vfychain")
-    it = Authority(t)
-    words = checked(t, it)[form]
+    it, words = asked(t, form)
     desk = t.open("ca.db", *it.signing(), *words)
     (t.room / "nss").mkdir()
     t.tool("certutil", "-N", "-d", "sql:nss", "--empty-password")
@@ -420,14 +680,13 @@ func main() {
 """
 
 
-@each(FORMS, seconds=8)
+@each(forms(), seconds=8)
 def go_takes_both_forms(t, form):
     need("go")
     source = Path("/usr/share/gocode")
     if not (source / "src/golang.org/x/crypto/ocsp").is_dir():
         raise Skipped("no golang.org/x/crypto here: apt install golang-golang-x-crypto-dev")
-    it = Authority(t)
-    words = checked(t, it)[form]
+    it, words = asked(t, form)
     desk = t.open("ca.db", *it.signing(), *words)
     (t.room / "checked.go").write_text(GO)
     env = {**os.environ, "GO111MODULE": "off", "GOPATH": str(source), "GOCACHE": str(t.room / "cache"), "HOME": str(t.room)}
@@ -437,34 +696,40 @@ def go_takes_both_forms(t, form):
 
 STAPLING = """    server {{
         listen 127.0.0.1:{port} ssl;
-        ssl_certificate {room}/{name}.pem;
-        ssl_certificate_key {room}/{name}.key;
-        ssl_trusted_certificate {room}/ca.pem;
-        ssl_stapling on;
-        ssl_stapling_verify on;
-        ssl_stapling_responder {url};
+        ssl_certificate {room}/{chain}.pem;
+        ssl_certificate_key {room}/good.key;
+        {lines}
+        return 204;
     }}
 """
 
 
-@each({**FORMS, "neither": None}, seconds=8)
+@each({**forms(BELOW), "neither": "neither"}, seconds=8)
 def nginx_staples_with_the_leaf_alone(t, form):
-    """Where the chain is the leaf, nginx takes an answer only with a certificate in it."""
+    """By the lines of docs/OPERATIONS.md: where the chain is the leaf, nginx takes an answer only with a certificate in it. Where the CA is in the chain it
+    takes each, and so does curl, which looks for the CA there."""
     need("nginx")
-    it = Authority(t)
-    words = checked(t, it).get(form, ())
+    it, words = asked(t, form)
     desk = t.open("ca.db", *it.signing(), *words)
-    folder, port = t.room / "nginx", program.free_port()
+    folder, port, other = t.room / "nginx", program.free_port(), program.free_port()
     folder.mkdir()
-    (folder / "desk.conf").write_text(STAPLING.format(port=port, room=t.room, name="good", url=f"http://127.0.0.1:{desk.port}/ocsp"))
+    (t.room / "chain.pem").write_bytes((t.room / "good.pem").read_bytes() + it.pem.read_bytes())
+    lines = "\n".join(block("A responder", "ssl_stapling on;"))
+    for was, now in (("/etc/nginx/ca.pem", t.room / "all.pem"), ("127.0.0.1:8080", f"127.0.0.1:{desk.port}")):
+        t.same(lines.count(was), 1, f"how often {lines} has {was}")
+        lines = lines.replace(was, str(now))
+    servers = (STAPLING.format(port=at, room=t.room, chain=chain, lines=lines) for at, chain in ((port, "good"), (other, "chain")))
+    (folder / "desk.conf").write_text("".join(servers))
     (folder / "nginx.conf").write_text(AROUND.format(user="user root;\n", folder=folder))
     authority.started(t, ["nginx", "-c", folder / "nginx.conf", "-e", folder / "error.log", "-g", "daemon off;"], folder / "nginx.pid")
 
     def stapled():
-        ran = t.tried("openssl", "s_client", "-connect", f"127.0.0.1:{port}", "-status", "-servername", "localhost", "-CAfile", it.pem)
+        ran = t.tried("openssl", "s_client", "-connect", f"127.0.0.1:{port}", "-status", "-servername", "localhost", "-CAfile", "all.pem")
         return b"OCSP Response Status: successful" in ran.stdout and b"Cert Status: good" in ran.stdout
 
-    if form:
+    asks = ("curl", "-sS", "-o", "/dev/null", "-w", "%{http_code}", "--cert-status", "--cacert", "all.pem", f"https://localhost:{other}/")
+    authority.until(lambda: t.tried(*asks).stdout == b"204", "what is stapled and curl takes", 10)
+    if words:
         authority.until(stapled, "a stapled answer", 10)
         return
     stapled()

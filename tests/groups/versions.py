@@ -58,6 +58,7 @@ def each_command_that_opens_makes_it_newer(t, version):
         (["crl", "ca.db"], ""),
         (["import", "ca.db", "--now", moment], "order,serial,notBefore,notAfter\n"),
         (["schedule", "ca.db", "1970-01-01T00:00:00Z=398"], ""),
+        (["key-id", "ca.db", "0A0B"], ""),
         (["script", "ca.db"], f"{moment} crl\n"),
     ):
         (t.room / "ca.db").unlink(missing_ok=True)
@@ -65,6 +66,24 @@ def each_command_that_opens_makes_it_newer(t, version):
         t.same(t.desk(*words, given=given).status, 0, program.shown(words))
         t.same(t.sql("ca.db", "SELECT version FROM office"), [(3,)], f"the version after {words[0]}")
         t.same(t.desk("audit", "ca.db").status, 0, f"the audit after {words[0]}")
+
+
+@each(VERSIONS, seconds=2)
+def it_is_given_a_key_identifier(t, version):
+    """It is made newer by that: its CRLs stay byte for byte, and the next one has it."""
+    records = made(t, 50, version)
+    before = registers.rows_of(t.room / "ca.db")
+    t.same(t.done("key-id", "ca.db", "0A0B"), "key-id set\n")
+    next_one, wanted = len(records.crls) + 1, registers.expected(records)
+    name = bytes.fromhex(program.NAME) + b"\x80\x0a" + next_one.to_bytes(8, "big") + b"\x0a\x0b"
+    wanted["office"] = [(*row[:2], name, *row[3:]) for row in wanted["office"]]
+    t.same(registers.rows_of(t.room / "ca.db"), before, "the records")
+    t.same(registers.beside(t.room / "ca.db"), (wanted, ([("ok",)], [])), "what is kept beside them, with the key identifier behind the Name")
+    t.has(t.done("script", "ca.db", given=f"{moment_of(records.last)} crl\n"), f"crl {next_one} entries ")
+    t.has(t.desk("crl", "ca.db").out, bytes.fromhex("0603551D23040630048002" "0A0B"), "its authorityKeyIdentifier")
+    for number, _, crl in records.crls:
+        t.same(t.desk("crl", "ca.db", "--number", number).out, crl, f"CRL {number}")
+    t.same(t.done("audit", "ca.db"), f"sound, 50 certificates, {len(records.revocations)} revoked, {next_one} CRLs\n")
 
 
 @each(VERSIONS, seconds=2)

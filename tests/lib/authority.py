@@ -110,6 +110,12 @@ class Authority:
         return status_of(told, serial)
 
 
+def with_key_identifier(it, identifier):
+    """Another certificate of a CA's key, with this as its subjectKeyIdentifier, as openssl is told of it."""
+    words = ("-key", it.key, "-out", it.pem, "-subj", "/CN=T", "-days", "3650")
+    it.t.tool("openssl", "req", "-x509", *words, "-addext", f"subjectKeyIdentifier={identifier}", "-addext", "authorityKeyIdentifier=none")
+
+
 def certificate(t, name, subject, key=KEYS["ecdsa-sha256"], more=()):
     """A certificate that signs itself, and its key: NAME.pem and NAME.key."""
     words = ("-keyout", f"{name}.key", "-out", f"{name}.pem", "-subj", subject, "-days", "3650")

@@ -9,7 +9,7 @@ def crl(register, number):
     # revokedCertificates is absent where there is none.
     revoked = value(0x30, *map(entry, rows)) if rows else b""
     times = time(this_update) + time(this_update + register.policy.crl_life)
-    return signed(value(0x30, integer(1), SHA1, NAME, times, revoked, extensions(number)))
+    return signed(value(0x30, integer(1), SHA1, NAME, times, revoked, extensions(register, number)))
 
 
 def entry(row):
@@ -17,7 +17,8 @@ def entry(row):
     return value(0x30, integer(row.serial), time(row.at), value(0x30, reason) if row.reason else b"")
 
 
-def extensions(number):
-    key = value(0x30, value(0x06, b"\x55\x1d\x23"), value(0x04, value(0x30, value(0x80, sha1(KEY)))))
+def extensions(register, number):
+    identifier = register.identifier(number) or sha1(KEY)
+    key = value(0x30, value(0x06, b"\x55\x1d\x23"), value(0x04, value(0x30, value(0x80, identifier))))
     counted = value(0x30, value(0x06, b"\x55\x1d\x14"), value(0x04, integer(number)))
     return value(0xA0, value(0x30, key, counted))

@@ -3,12 +3,14 @@
 A step is a word and what belongs to it, and stands alone, so that steps can be left out:
     script LINE                               a line of a script
     import NOW TEXT, schedule STEPS           these jobs, of a register that is closed
+    key-id HEX                                likewise
     crl NUMBER, audit                         likewise; the latest CRL where the number is None
     http NOW METHOD TARGET FIELDS BODY        a request to an open register, at a moment of the clock
     tell NOW LINE                             a line at its counter
     at NOW LINES                              lines told by `desk at`
 """
 
+import random
 import re
 from collections import Counter
 
@@ -57,6 +59,9 @@ def answer(register, step):
     if word == "schedule":
         register.policy.schedule = given[0]
         return b"schedule set\n"
+    if word == "key-id":
+        register.identify(bytes.fromhex(given[0]))
+        return b"key-id set\n"
     if word == "crl":
         number = given[0] if given[0] is not None else len(register.crls)
         return crls.crl(register, number) if 1 <= number <= len(register.crls) else b"E21 no-crl"
@@ -82,6 +87,8 @@ class Day:
 
     def __init__(self, plan, seed):
         self.plan, self.draws = plan, Draws(seed, plan)
+        # Apart from the others, which so are the same with and without key identifiers.
+        self.identifiers = random.Random(f"key identifiers {seed}")
         self.register = Register(policy_of(plan))
         self.steps, self.wanted = [], []
         # How often each refusal and each form came; the most of what can be many.
@@ -127,7 +134,7 @@ class Day:
             self.count_crl(told)
         elif word == "schedule":
             self.more("schedule", len(given[0]))
-        elif word != "audit":
+        elif word not in ("audit", "key-id"):
             for line in filter(None, told.decode().split("\n")):
                 self.count_line(line)
         it = self.register
@@ -209,6 +216,8 @@ class Day:
         self.take("import", min(now, moments.LAST_SECOND), self.draws.imported(self.register, now))
         if len(self.plan.schedules) > 1:
             self.take("schedule", self.plan.schedules[(part + 1) % len(self.plan.schedules)])
+        for _ in range(self.identifiers.choice((0, 1, 1, 2))):
+            self.take("key-id", self.identifiers.randbytes(self.identifiers.choice((1, 20, 64))).hex())
         crl_numbers = (None, self.draws.below(len(self.register.crls) + 2))
         self.take("crl", crl_numbers[part % 2])
         for _ in range(self.plan.exchanges):

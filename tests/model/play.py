@@ -59,6 +59,8 @@ class Player:
             ran = self.run("import", "ca.db", "--now", text_of(given[0]), given=given[1])
         elif word == "schedule":
             ran = self.run("schedule", "ca.db", *(f"{text_of(since)}={days_}" for since, days_ in given[0]))
+        elif word == "key-id":
+            ran = self.run("key-id", "ca.db", given[0])
         elif word == "crl":
             ran = self.run("crl", "ca.db", *(["--number", given[0]] if given[0] is not None else []))
         else:
@@ -129,6 +131,8 @@ def shown(step):
         return f"script    {text(given[0])}"
     if word == "schedule":
         return "schedule  " + " ".join(f"{text_of(since)}={days_}" for since, days_ in given[0])
+    if word == "key-id":
+        return f"key-id    {given[0]}"
     if word == "import":
         return f"import    --now {text_of(given[0])}  < {text(given[1])}"
     if word == "http":

@@ -89,6 +89,15 @@ class Register:
     revocations: dict = field(default_factory=dict)
     # thisUpdate of each CRL.
     crls: list = field(default_factory=list)
+    # The issuer's own key identifiers in the order in which they were set, each with the number of the first CRL that has it.
+    identifiers: list = field(default_factory=list)
+
+    def identify(self, octets):
+        self.identifiers.append((len(self.crls) + 1, octets))
+
+    def identifier(self, number):
+        """The issuer's own key identifier that a CRL has; None where it has none."""
+        return next((octets for first, octets in reversed(self.identifiers) if first <= number), None)
 
     def clock(self, now):
         refuse(now >= CLOCK_END, "E02 clock-end")

@@ -3,7 +3,7 @@ use Rattle.std.proofs.Common.{◌≡◌, ℕ, zero, suc, ◌+◌, ◌<◌, ◌�
 use Rattle.std.specs.Prelude.{◌&&◌, ◌↔◌, IsSome, unwrap_or}
 use Rattle.std.specs.Int.{bytes_high_first}
 use Rattle.std.proofs.Math.Nat.{mod-eq_of_lt, pow-le-pow_right}
-use Rattle.std.proofs.lemmas.Bool.{cases_Bool, cases_lt, lt-ltb, le-ltb, le-leb, lt-leb, eqb-true}
+use Rattle.std.proofs.lemmas.Bool.{cases_Bool, cases_lt, lt-ltb, le-ltb, le-leb, lt-leb, eqb-true, false≢true}
 use Rattle.std.proofs.lemmas.List.{take_at, drop_at, length-append, length-take, append-nil, nil_from_length, get_or_past, get_or_default}
 use Rattle.reg_core.specs.Integer.{IsBytes, value}
 use Rattle.reg_core.specs.Issuer as core
@@ -124,7 +124,7 @@ pub left_first : (bytes : List ℕ) → IsBytes bytes → AreLeft bytes bytes
 left_first bytes each = record { same = (λ a. a, λ a. a); each = each }
 
 more_some : (x : KeyIdentifier) (read : Option (List KeyIdentifier)) → IsSome read ↔ IsSome (read >>= with_first x)
-more_some x (Some xs) = (λ a. tt, λ a. tt)
+more_some x (Some xs) = (λ a. refl, λ a. refl)
 more_some x None = (λ a. a, λ a. a)
 
 pub left_next : (bytes rest after : List ℕ) (x : KeyIdentifier) → AreLeft rest bytes → 1 ≤ length rest → identifier_at rest ≡ Some (x, after) → AreLeft after bytes
@@ -138,11 +138,11 @@ left_next bytes rest after x left some read =
 
 pub left_none : (bytes rest : List ℕ) → AreLeft rest bytes → length rest ≡ 0 → IsSome (identifiers_at bytes)
 left_none bytes rest left none =
-    left.same.0 (subst (λ (l : List ℕ). IsSome (identifiers_at l)) (sym (nil_from_length rest none)) tt)
+    left.same.0 (subst (λ (l : List ℕ). IsSome (identifiers_at l)) (sym (nil_from_length rest none)) refl)
 
 pub left_wrong : (bytes rest : List ℕ) → AreLeft rest bytes → 1 ≤ length rest → identifier_at rest ≡ None → IsSome (identifiers_at bytes) → ⊥
 left_wrong bytes rest left some read are =
-    subst (λ (o : Option (List KeyIdentifier)). IsSome o) (identifiers_fail rest some read) (left.same.1 are)
+    false≢true (subst (λ (o : Option (List KeyIdentifier)). IsSome o) (identifiers_fail rest some read) (left.same.1 are))
 
 -- ---- the first that a CRL has
 
@@ -159,7 +159,7 @@ seeks_first number bytes each some = record { same = refl; some = some; each = e
 
 some_rest : (x : KeyIdentifier) (read : Option (List KeyIdentifier)) → IsSome (read >>= with_first x) → unwrap_or (read >>= with_first x) [] ≡ x ∷ unwrap_or read []
 some_rest x (Some xs) is = refl
-some_rest x None is = absurd is
+some_rest x None is = absurd (false≢true is)
 
 -- of those that are left the first is this one
 left_are : (number : ℕ) (rest after bytes : List ℕ) (x : KeyIdentifier) → Seeks number rest bytes → 1 ≤ length rest → identifier_at rest ≡ Some (x, after) → (all_of rest ≡ x ∷ all_of after) × IsSome (identifiers_at after)
@@ -187,7 +187,7 @@ seeks_found number rest after bytes x seeks some read reached =
 pub seeks_none : (number : ℕ) (rest bytes : List ℕ) → Seeks number rest bytes → identifier_at rest ≡ None → None ≡ identifier_for (all_of bytes) number
 seeks_none number [] bytes seeks read = seeks.same
 seeks_none number (first ∷ rest) bytes seeks read =
-    absurd (subst (λ (o : Option (List KeyIdentifier)). IsSome o) (identifiers_fail (first ∷ rest) (omega arith) read) seeks.some)
+    absurd (false≢true (subst (λ (o : Option (List KeyIdentifier)). IsSome o) (identifiers_fail (first ∷ rest) (omega arith) read) seeks.some))
 
 -- ---- what is kept of a Name
 
@@ -223,7 +223,7 @@ name_kept name is =
       record {
         each = name_bytes name is;
         name = subst IsName (sym front) is;
-        identifiers = subst (λ (l : List ℕ). IsSome (identifiers_at l)) (sym behind) tt;
+        identifiers = subst (λ (l : List ℕ). IsSome (identifiers_at l)) (sym behind) refl;
       },
       front,
       behind,

@@ -94,7 +94,7 @@ others_than first bytes = but_for first (identifier_at bytes) bytes
 -- the issuer with one key identifier more, which the CRLs have from this number on; it takes the place of one from the same number on
 abbrev pub with_identifier : core.Issuer → ℕ → List ℕ → core.Issuer
 with_identifier issuer first octets =
-    record { name = name_in issuer.name ++ identifier_value first octets ++ others_than first (behind_name issuer.name); key = issuer.key }
+    record { name = name_in issuer.name ++ (identifier_value first octets ++ others_than first (behind_name issuer.name)); key = issuer.key }
 
 -- it has the Name and the key that it had, the new key identifier from that CRL on, and in earlier CRLs what it had there
 pub record HasIdentifier (issuer : core.Issuer) (first : ℕ) (octets : List ℕ) : Type 0 where

@@ -2,7 +2,7 @@
 
 ghost use Rattle.std.specs.Prelude.{◌≡◌, ◌≤◌, ◌↔◌, ◌++◌, length, IfOk, IfSome, OnOk, IsErrOf, IsTrue};
 ghost use Rattle.sha1.specs.Sha1.{sha1};
-ghost use Rattle.reg_der.specs.Authority.{IsName, IsKey, IsKept, IsIssuer, name_in, behind_name, name_of, key_identifier_at, with_identifier, HasIdentifier};
+ghost use Rattle.reg_der.specs.Authority.{IsName, IsKey, IsKept, IsIssuer, name_in, behind_name, name_of, identifier_value, key_identifier_at, others_than, with_identifier, HasIdentifier};
 ghost use Rattle.reg_der.specs.declared.issuer.IssuerFault.TheVariants.{Memory};
 
 use crate::identifiers::{KEY_IDENTIFIER, are_identifiers, identifier_for, others_than};
@@ -116,16 +116,9 @@ impl Issuer {
         ensures ok { IfOk result (λ issuer. issuer ≡ with_identifier self.now first octets) }
         ensures follows { HasIdentifier self.now first octets }
     {
-        let (name, behind) = parts(&self.name);
-        let mut contents = bytes_of(alloc, &first.to_be_bytes())?;
-        append(&mut contents, octets.as_bytes())?;
-        let mut kept = bytes_of(alloc, name)?;
-        put(&mut kept, KEY_IDENTIFIER, &contents)?;
-        append(&mut kept, others_than(behind, first))?;
-        Ok(Issuer {
-            name: kept,
-            key: bytes_of(alloc, &self.key)?,
-        })
+        let name = kept_with(alloc, &self.name, first, octets.as_bytes())?;
+        let key = bytes_of(alloc, &self.key)?;
+        Ok(Issuer { name, key })
     }
 
     /// The DER value of the Name.
@@ -195,6 +188,30 @@ fn is_kept(kept: &[u8]) -> bool
 {
     let (name, behind) = parts(kept);
     is_name(name) && are_identifiers(behind)
+}
+
+/// What is kept of a Name, with one key identifier more. One from the same number on is replaced.
+fn kept_with(alloc: Global, kept: &[u8], first: u64, octets: &[u8]) -> Result<Vec<u8>, Memory>
+    requires { length octets.now ≤ 64 }
+    ensures { IfOk result (λ made. made.items
+        ≡ (name_in kept.now ++ identifier_value first octets.now) ++ others_than first (behind_name kept.now)) }
+{
+    let (name, behind) = parts(kept);
+    let mut made = bytes_of(alloc, name)?;
+    put_identifier(alloc, &mut made, first, octets)?;
+    append(&mut made, others_than(behind, first))?;
+    Ok(made)
+}
+
+/// Appends a key identifier, and the number of the first CRL that has it.
+#[tactic(auto, unfolding(crate::specs::Authority::identifier_value))]
+fn put_identifier(alloc: Global, out: &mut Vec<u8>, first: u64, octets: &[u8]) -> Result<(), Memory>
+    requires { length octets.now ≤ 64 }
+    ensures { OnOk result (out.new.items ≡ out.old.items ++ identifier_value first octets.now) }
+{
+    let mut contents = bytes_of(alloc, &first.to_be_bytes())?;
+    append(&mut contents, octets)?;
+    put(out, KEY_IDENTIFIER, &contents)
 }
 
 /// These bytes as a vector.

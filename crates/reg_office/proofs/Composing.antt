@@ -92,9 +92,9 @@ stored_is NotARegister = inr refl
 stored_is NewVersion = inr refl
 
 -- an error gives nothing
-pub gives_none : {T E : Type 0} {P : T → Type 0} (outcome : Result T E) → IsErr outcome → IfOk outcome P
-gives_none (Ok x) told = absurd (let bad : ⊥ = cc in bad)
-gives_none (Err e) told = tt
+pub gives_none : {T E : Type 0} (P : T → Type 0) (outcome : Result T E) → IsErr outcome → IfOk outcome P
+gives_none P (Ok x) told = absurd (let bad : ⊥ = cc in bad)
+gives_none P (Err e) told = tt
 
 -- a fault that is passed on is of its kind
 pub passed_on : {T : Type 0} (P : Fault → Type 0) (outcome : Result T Fault) (fault : Fault) → IsErrAnd outcome (λ told. told ≡ fault) → P fault → IfErr outcome P

@@ -1,8 +1,6 @@
 -- With a key identifier more, which CRLs have from the next one on, the CRLs that were issued are signed over what they list.
 use Rattle.std.proofs.Common.{◌≡◌, ℕ, ◌+◌, ◌<◌, ◌≤◌, List, [], ◌∷◌, length, Result, Ok, Err, OnOk, refl, ap, subst, sym, ◌∙◌, arith}
-use Rattle.std.specs.Prelude.{unwrap_or}
 use Rattle.std.specs.List.{AllByRecursion}
-use Rattle.sha1.specs.Sha1.{sha1}
 use Rattle.reg_core.specs.Crls.{CertList, cert_list, next_number}
 use Rattle.reg_core.specs.Issuer.{Issuer}
 use Rattle.reg_core.specs.Records.{Records, Crl}
@@ -20,6 +18,10 @@ same_tbs : (a b : Issuer) (algorithm : List ℕ) (number this_update next_update
 unfolding tbs_cert_list crl_extensions
 same_tbs a b algorithm number this_update next_update entries name identifier = rw (name, identifier) refl
 
+-- that key identifier is the issuer's own, or follows from its key
+same_identifier : (a b : Issuer) (number : ℕ) → key_identifier_at a number ≡ key_identifier_at b number → a.key ≡ b.key → key_identifier a number ≡ key_identifier b number
+same_identifier a b number own key = rw (own, key) refl
+
 module _ (signs : Identity → List ℕ → List ℕ → Type 0) (identity : Identity) (records : Records) (octets : List ℕ)
     (has : HasIdentifier records.issuer (next_number records.crls) octets) where
   abbrev after : Records
@@ -28,7 +30,7 @@ module _ (signs : Identity → List ℕ → List ℕ → Type 0) (identity : Ide
   tbs_stays : (number this_update : ℕ) → number < next_number records.crls → tbs_of identity.algorithm (cert_list after number this_update) ≡ tbs_of identity.algorithm (cert_list records number this_update)
   tbs_stays number this_update before =
       same_tbs after.issuer records.issuer identity.algorithm number this_update (this_update + records.policy.crl_life) (cert_list records number this_update).entries has.name
-      (ap (λ o. unwrap_or o (sha1 records.issuer.key)) (has.earlier number before))
+      (same_identifier after.issuer records.issuer number (has.earlier number before) has.key)
 
   signed_stays : (number this_update : ℕ) (bytes : List ℕ) → number < next_number records.crls
       → signed_by signs identity (cert_list records number this_update) bytes → signed_by signs identity (cert_list after number this_update) bytes

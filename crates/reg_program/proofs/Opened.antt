@@ -19,7 +19,7 @@ use Rattle.reg_laws.proofs.Runs.{created_sound}
 use Rattle.reg_office.specs.Stands.{Stands}
 use Rattle.reg_tables.specs.Kept.{ShowsKept}
 use Rattle.reg_tables.specs.Schema.{no_schema}
-use Rattle.reg_office.specs.Answering.{signatory_of}
+use Rattle.reg_office.specs.Answering.{answers_by, signatory_of}
 use Rattle.reg_office.specs.declared.responder.Responder.{Responder as Held_by}
 use Rattle.reg_program.specs.Files.{IsConnection, IsOpenedFor, IsOpenedFrom, IsMadeFrom, Showed}
 use Rattle.reg_words.specs.declared.job.Answerer.{Answerer}
@@ -150,3 +150,10 @@ pub answers_as : {O S : Type 0} (identity : S → Identity) (signer : O → S) (
 answers_as {S = S} identity signer responder answerer read (Ok office) same answers =
     subst (λ (r : Held_by S). IsAnswering answerer (signatory_of identity (identity (signer office)) r)) (sym same) (answers (identity (signer office)))
 answers_as identity signer responder answerer read (Err why) same answers = tt
+
+-- a certificate that stands with answers is of the issuer's key, whoever signs CRLs
+pub embeds_as : {S : Type 0} (identity : S → Identity) (key : List ℕ) (crls : Identity) (read held : Held_by S) → held ≡ read
+    → ((crls : Identity) → EmbedsOwn key (answers_by identity crls read))
+    → EmbedsOwn key (answers_by identity crls held)
+embeds_as {S} identity key crls read held same embeds =
+    subst (λ (r : Held_by S). EmbedsOwn key (answers_by identity crls r)) (sym same) (embeds crls)

@@ -2,7 +2,7 @@
 
 use crate::front::open_log;
 use crate::machine::Machine;
-use crate::performing::perform;
+use crate::performing::perform_untold;
 use crate::progress::{Counted, tell_opening};
 use reg_causes::{Cause, of_io};
 use reg_core::Fault;
@@ -94,7 +94,7 @@ fn do_order(rt: &HostRuntime, order: &Order<'_>) -> u8 {
     let mut input = rt.stdin();
     let mut output = Counted::of(rt, &order.job, &noted);
     let mut errors = rt.stderr();
-    perform(
+    perform_untold(
         rt,
         &causes,
         &front,

@@ -40,6 +40,21 @@ pub fn perform<P: Place, F: Front, R: Read, W: Write, E: Write>(
     status
 }
 
+/// Does the same, and says nothing of it: what is said of the machine's own files would be written out, and proved, once more where
+/// this is called, and nothing stands on it there.
+pub(crate) fn perform_untold<P: Place, F: Front, R: Read, W: Write, E: Write>(
+    rt: &HostRuntime,
+    causes: &Causes<'_>,
+    front: &F,
+    place: &mut P,
+    job: &Job<'_>,
+    reader: &mut R,
+    writer: &mut W,
+    errors: &mut E,
+) -> u8 {
+    perform(rt, causes, front, place, job, reader, writer, errors)
+}
+
 /// Does a job, and gives its exit status; why it is not done is told in one line. Which of its terms make no policy is noted.
 fn perform_at<P: Place, F: Front, R: Read, W: Write, E: Write>(
     rt: &HostRuntime,

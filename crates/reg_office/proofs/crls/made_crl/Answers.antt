@@ -31,7 +31,7 @@ pub returns-clause-looked : goal.returns-clause-looked
 returns-clause-looked g c = looked_then c.issuer.ensures.looked c.entries.ensures.looked
 
 pub returns-in_err-issuer-clause-signed : goal.returns-in_err-issuer-clause-signed
-returns-in_err-issuer-clause-signed g c records kept clean next = gives_none c.from_residual.result c.from_residual.ensures.0
+returns-in_err-issuer-clause-signed g c records kept clean next = gives_none _ c.from_residual.result c.from_residual.ensures.0
 
 pub returns-in_err-issuer-clause-same_identity : goal.returns-in_err-issuer-clause-same_identity
 returns-in_err-issuer-clause-same_identity g c = refl
@@ -40,7 +40,7 @@ pub returns-in_err-issuer-clause-faults : goal.returns-in_err-issuer-clause-faul
 returns-in_err-issuer-clause-faults g c = passed_on IsMakingFault c.from_residual.result (fault_of c.in_err-issuer.field-0.0) c.from_residual.ensures.1 (making_of (fault_of c.in_err-issuer.field-0.0) (stored_is c.in_err-issuer.field-0.0))
 
 pub returns-in_err-entries-clause-signed : goal.returns-in_err-entries-clause-signed
-returns-in_err-entries-clause-signed g c records kept clean next = gives_none c.from_residual-in_err-entries.result c.from_residual-in_err-entries.ensures.0
+returns-in_err-entries-clause-signed g c records kept clean next = gives_none _ c.from_residual-in_err-entries.result c.from_residual-in_err-entries.ensures.0
 
 pub returns-in_err-entries-clause-same_identity : goal.returns-in_err-entries-clause-same_identity
 returns-in_err-entries-clause-same_identity g c = refl
@@ -49,7 +49,7 @@ pub returns-in_err-entries-clause-faults : goal.returns-in_err-entries-clause-fa
 returns-in_err-entries-clause-faults g c = passed_on IsMakingFault c.from_residual-in_err-entries.result (fault_of c.in_err-entries.field-0.0) c.from_residual-in_err-entries.ensures.1 (making_of (fault_of c.in_err-entries.field-0.0) (stored_is c.in_err-entries.field-0.0))
 
 pub returns-in_err-der-clause-signed : goal.returns-in_err-der-clause-signed
-returns-in_err-der-clause-signed g c records kept clean next = gives_none c.from_residual-in_err-der.result c.from_residual-in_err-der.ensures.0
+returns-in_err-der-clause-signed g c records kept clean next = gives_none _ c.from_residual-in_err-der.result c.from_residual-in_err-der.ensures.0
 
 pub returns-in_err-der-clause-same_identity : goal.returns-in_err-der-clause-same_identity
 returns-in_err-der-clause-same_identity g c = c.signed_crl.ensures.same_identity

@@ -33,13 +33,13 @@ pub returns-in_err-last-clause-looked : goal.returns-in_err-last-clause-looked
 returns-in_err-last-clause-looked g c = c.last.ensures.looked
 
 pub returns-in_err-last-clause-found : goal.returns-in_err-last-clause-found
-returns-in_err-last-clause-found g c records shown clean = gives_none c.from_residual.result c.from_residual.ensures.0
+returns-in_err-last-clause-found g c records shown clean = gives_none _ c.from_residual.result c.from_residual.ensures.0
 
 pub returns-in_err-policy-clause-found : goal.returns-in_err-policy-clause-found
-returns-in_err-policy-clause-found g c records shown clean = gives_none c.from_residual-in_err-policy.result c.from_residual-in_err-policy.ensures.0
+returns-in_err-policy-clause-found g c records shown clean = gives_none _ c.from_residual-in_err-policy.result c.from_residual-in_err-policy.ensures.0
 
 pub returns-in_err-held-clause-found : goal.returns-in_err-held-clause-found
-returns-in_err-held-clause-found g c records shown clean = gives_none c.from_residual-in_err-held.result c.from_residual-in_err-held.ensures.0
+returns-in_err-held-clause-found g c records shown clean = gives_none _ c.from_residual-in_err-held.result c.from_residual-in_err-held.ensures.0
 
 pub returns-in_err-last-clause-faults : goal.returns-in_err-last-clause-faults
 returns-in_err-last-clause-faults g c = store_failed c.from_residual.result c.in_err-last.field-0.0 c.from_residual.ensures.1

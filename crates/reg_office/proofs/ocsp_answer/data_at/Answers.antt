@@ -16,8 +16,8 @@ returns-clause-found g c records shows clean issuer next =
     let told = c.in_ok-answers.ensures.found records shows clean issuer in
     let asked : answered c.in_ok-answers.answers.items ≡ c.args.asked.now.ids.items = c.in_ok-answers.ensures.ids ∙ c.deref.ensures.value in
     let own = option_copied c.args.own_key in
-    let key_is : c.key_of.result.now ≡ unwrap_or own records.issuer.key =
-    c.key_of.ensures ∙ ap (λ (it : core.Issuer). unwrap_or own it.key) issuer in
+    let key_is : c.key_of-key.result.now ≡ unwrap_or own records.issuer.key =
+    c.key_of-key.ensures ∙ ap (λ (it : core.Issuer). unwrap_or own it.key) issuer in
     let data_is = c.in_ok-response_data_by.ensures.data in
     let spelled : c.in_ok-response_data_by.field-0.items ≡ response_data (unwrap_or own records.issuer.key) c.args.now (c.args.now + records.policy.ocsp_life) (answers_seen c.in_ok-answers.answers.items) (option_copied c.args.asked.now.nonce) =
     data_is ∙ (λ i. response_data (key_is i) c.args.now (next i) (answers_seen (c.deref-2.ensures.value i)) (option_copied c.args.asked.now.nonce)) in

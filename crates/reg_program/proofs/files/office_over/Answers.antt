@@ -1,5 +1,6 @@
 use Rattle.std.proofs.Common.{sym}
 use Rattle.reg_program.proofs.Holding.{forgets, holds, shown, was_clean}
+use Rattle.reg_program.proofs.Opened.{embeds_as}
 use Rattle.reg_program.proofs.files.office_over.Goals as goal
 
 pub returns-in-Ok-signer_for-clause-kept : goal.returns-in-Ok-signer_for-clause-kept
@@ -36,4 +37,4 @@ returns-in-Ok-signer_for-clause-embeds g c records showed clean =
     let shows = shown g.C.Store c.args.connection c.in-Ok.store c.signer_for.new.store c.answering.result.store c.answering.ensures.store records
     (c.in-Ok.ensures.kept records) (λ version. c.in-Ok.ensures.migrated version records) showed in
     let is_clean = was_clean g.C.Store c.args.connection c.in-Ok.store c.signer_for.new.store c.answering.result.store c.answering.ensures.store clean in
-    rw (sym c.answering.ensures.responder) at (c.in-Ok-signer_for.ensures.embeds records shows is_clean _)
+    embeds_as _ records.issuer.key _ _ _ c.answering.ensures.responder (c.in-Ok-signer_for.ensures.embeds records shows is_clean)

@@ -1,5 +1,6 @@
+use Rattle.std.proofs.Common.{◌≡◌}
 use Rattle.std.specs.Prelude.{option_map}
-use Rattle.reg_program.proofs.Opened.{settled_opened, settled_not}
+use Rattle.reg_program.proofs.Opened.{settled_ok, settled_opened, settled_not}
 use Rattle.reg_jobs.specs.Failing.{IsOpening}
 use Rattle.reg_program.proofs.files.open_register.Goals as goal
 
@@ -11,3 +12,6 @@ returns-clause-ok c =
 
 pub returns-clause-err : goal.returns-clause-err
 returns-clause-err c = settled_not IsOpening (λ left. left.0) c.office_over.result _ c.office_over.ensures.err c.settled.ensures
+
+pub returns-clause-responder : goal.returns-clause-responder
+returns-clause-responder c = settled_ok (λ office. office.responder ≡ c.args.responder) (λ left. left.0) c.office_over.result _ c.office_over.ensures.responder c.settled.ensures

@@ -1,0 +1,13 @@
+use Rattle.std.specs.Prelude.{Some, None}
+use Rattle.reg_program.proofs.Opened.{answers_as, opened_for}
+use Rattle.reg_program.proofs.files.open_told.Goals as goal
+
+pub returns-then-is_silent-clause-ok : goal.returns-then-is_silent-clause-ok
+returns-then-is_silent-clause-ok c =
+    opened_for (λ office. office.store) _ (Some (c.args.signer.now, c.args.answerer.now)) None c.open_register.result c.if-is_silent.ensures c.open_register.ensures.ok
+    (answers_as _ (λ office. office.signer) (λ office. office.responder) c.args.answerer.now c.in_ok-responder.responder c.open_register.result c.open_register.ensures.responder c.in_ok-responder.ensures.ok)
+
+pub returns-clause-ok : goal.returns-clause-ok
+returns-clause-ok c =
+    opened_for (λ office. office.store) _ (Some (c.args.signer.now, c.args.answerer.now)) (Some c.args.signer.now) c.open_register-2.result c.if-is_silent.ensures c.open_register-2.ensures.ok
+    (answers_as _ (λ office. office.signer) (λ office. office.responder) c.args.answerer.now c.in_ok-responder.responder c.open_register-2.result c.open_register-2.ensures.responder c.in_ok-responder.ensures.ok)

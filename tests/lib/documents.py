@@ -1,0 +1,26 @@
+"""The blocks of lines that docs/OPERATIONS.md and docs/RULES.md have, to be typed as they stand."""
+
+import re
+
+from .program import TOP
+from .trial import Failed
+
+
+def document(name="OPERATIONS"):
+    return (TOP / f"docs/{name}.md").read_text(encoding="utf-8")
+
+
+def blocks(heading, name="OPERATIONS"):
+    """The blocks of lines of a section."""
+    found = re.search(rf"^##+ {re.escape(heading)}\n(.*?)(?=^##+ |\Z)", document(name), re.MULTILINE | re.DOTALL)
+    if not found:
+        raise Failed(f"docs/{name}.md has no section {heading!r}")
+    return [[line[4:] for line in it.splitlines()] for it in re.findall(r"(?:^    [^\n]*\n)+", found[1], re.MULTILINE)]
+
+
+def block(heading, beginning, name="OPERATIONS"):
+    """The block of a section whose first line begins so."""
+    for lines in blocks(heading, name):
+        if lines[0].startswith(beginning):
+            return lines
+    raise Failed(f"{heading!r} has no lines that begin with {beginning!r}")
