@@ -5,3 +5,4 @@ pub mod NextLines
 pub mod Peers
 pub mod Pieces
 pub mod Talking
+pub mod Watching

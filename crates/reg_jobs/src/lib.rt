@@ -11,9 +11,11 @@ mod log_lines;
 mod logging;
 mod opening;
 mod place;
+mod reasons;
 mod sealing;
 mod serving;
 mod telling;
+mod watching;
 
 pub use asking::{at, talk};
 pub use front::Front;

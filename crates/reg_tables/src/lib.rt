@@ -26,7 +26,7 @@ pub use fault::{CallFault, StoreFault};
 pub use listed::{entries, listing};
 pub use office::{issuer, last, policy, responding};
 pub use orders::order;
-pub use overdue::open_past_due;
+pub use overdue::{open_count, open_past_due};
 pub use requests::request;
 pub use revocations::{earliest_unlisted, revocation};
 pub use sizes::{Table, held};
