@@ -15,7 +15,7 @@ _desk() {
     value=$(sed -n "s/^ *\(-., \)\?$previous <\([A-Z=]*\)>.*/\2/p" <<<"$help")
     case $previous:$value in
     --*:MOMENT) mapfile -t COMPREPLY < <(compgen -W "$(date -u +%Y-%m-%dT%H:%M:%SZ)" -- "$cur") ;;
-    --*:FILE | --*:SOCKET | --*:CERT) mapfile -t COMPREPLY < <(compgen -f -- "$cur") ;;
+    --*:FILE | --*:SOCKET | --*:CERT | --*:PATH) mapfile -t COMPREPLY < <(compgen -f -- "$cur") ;;
     --*:?*) COMPREPLY=() ;;
     *)
         if [[ ${COMP_WORDS[at]} == list && $COMP_CWORD -eq $((at + 2)) ]]; then

@@ -41,6 +41,8 @@ UNKNOWN = {
     "--why twice": ("crl", "none.db", "--why", "--why"),
     "--log before a command": ("--log", *SERVE, "--port", "80", "--requests", "1"),
     "--log twice": (*SERVE, "--port", "80", "--requests", "1", "--log", "--log"),
+    "--log-file twice": (*SERVE, "--port", "80", "--requests", "1", "--log-file", "a", "--log-file", "b"),
+    "--log-file without a path": (*SERVE, "--port", "80", "--requests", "1", "--log-file"),
     "init alone": ("init",),
     "init without a key": ("init", "none.db", "--name", NAME),
     "init without a name": ("init", "none.db", "--key", KEY),
@@ -201,7 +203,7 @@ def a_list_has_its_word(t, *words):
 @each({" ".join(it): it for it in (
     ("import", "--signer=ca.sign"), ("script", "--embed=ca.der"), ("script", "--responder=r.der"), ("crl", "--embed=ca.der"), ("crl", "--algorithm=ed25519"), ("schedule", "--signer=ca.sign"),
     ("key-id", "--signer=ca.sign"), ("script", "--key-id=00"), ("import", "--clock"), ("at", "--strict"),
-    ("crl", "--log"), ("script", "--log"), ("at", "--log"), ("audit", "--log"), ("audit", "--json"), ("crl", "--before=2026-01-01T00:00:00Z"), ("script", "--unsigned"), ("serve", "--unsigned"), ("schedule", "--unsigned"),
+    ("crl", "--log"), ("script", "--log"), ("at", "--log"), ("audit", "--log"), ("script", "--log-file=l"), ("at", "--log-file=l"), ("audit", "--json"), ("crl", "--before=2026-01-01T00:00:00Z"), ("script", "--unsigned"), ("serve", "--unsigned"), ("schedule", "--unsigned"),
 )})
 def an_option_of_another_command_is_unexpected(t, command, option):
     t.has(refused(t, command, "none.db", option), "unexpected argument")
@@ -234,8 +236,8 @@ HELPED = {
     "script --help": ("[FILE]", "--signer <SOCKET>", "--algorithm <NAME>", "--clock", "--strict", "--why", "desk script ca.db"),
     "import --help": ("<FILE>", "--now <MOMENT>", "--strict", "--why"),
     "crl --help": ("<FILE>", "--number <N>", "--why"),
-    "serve --help": ("<FILE>", "--port <N>", "--requests <N>", "--signer <SOCKET>", "--algorithm <NAME>", *RESPONDER_HELP, "--log", "--why"),
-    "open --help": ("<FILE>", "--port <N>", "--counter <SOCKET>", "--signer <SOCKET>", "--algorithm <NAME>", "--unsigned", *RESPONDER_HELP, "--log", "--why"),
+    "serve --help": ("<FILE>", "--port <N>", "--requests <N>", "--signer <SOCKET>", "--algorithm <NAME>", *RESPONDER_HELP, "--log", "--log-file <PATH>", "--why"),
+    "open --help": ("<FILE>", "--port <N>", "--counter <SOCKET>", "--signer <SOCKET>", "--algorithm <NAME>", "--unsigned", *RESPONDER_HELP, "--log", "--log-file <PATH>", "--why"),
     "at --help": ("<SOCKET>", "--why", "desk at ca.counter"),
     "schedule F --help": ("<FILE>", "<MOMENT=DAYS>...", "--why"),
     "key-id --help": ("<FILE>", "<HEX>", "--why"),

@@ -1,6 +1,6 @@
 -- An answer that was left to be signed, once it is finished: an exchange over the records of where it was begun.
 use Rattle.std.proofs.Common.{◌≡◌, ◌≢◌, ℕ, List, [], Global, Vec, ap, inl, inr, refl, sym, subst, ◌∙◌}
-use Rattle.std.specs.Prelude.{Option, Some, None, Result, Ok, Err, IfErr, IfOk}
+use Rattle.std.specs.Prelude.{Option, Some, None, Result, Ok, Err, IfErr, IfOk, is_none, option_map}
 use Rattle.reg_core.specs.Records.{Records}
 use Rattle.reg_core.specs.declared.memory.Memory.{Memory as NoMemory}
 use Rattle.reg_core.specs.declared.refusal.Fault.{Fault}
@@ -145,28 +145,27 @@ items_made draft (Ok bytes) first second same is = is ∙ ap (λ (signature : Op
 items_made draft (Err memory) first second same is = tt
 
 -- what is wanted of a text may say less
-pub meets_weaker : {T : Type 0} (finishes : T → List ℕ → Type 0) (wanted other : List ℕ → Type 0) → ((text : List ℕ) → wanted text → other text)
+meets_weaker : {T : Type 0} (finishes : T → List ℕ → Type 0) (wanted other : List ℕ → Type 0) → ((text : List ℕ) → wanted text → other text)
     → (outcome : Outcome T) → Meets finishes wanted outcome → Meets finishes other outcome
 meets_weaker finishes wanted other from (said text) met = from text met
 meets_weaker finishes wanted other from (pending ticket) met = λ text finished. from text (met text finished)
 
--- What stands in an office before and after, the moment, and what an exchange at a moment is of this desk.
-module _ {S : Type 0} (is_clean : S → Type 0) (stands : Signatory → S → Records → Type 0) (now : ℕ) (s t : S)
-    (exchanges : ℕ → Signatory → Records → List ℕ → Records → Type 0) where
-  -- an exchange at a moment that a clock told
-  pub told_moves : {T : Type 0} (finishes : T → List ℕ → Type 0) (told : ℕ → Type 0) (outcome : Outcome T) → told now
-      → Leads is_clean stands (λ identity before after. Meets finishes (λ text. exchanges now identity before text after) outcome) s t
-      → Leads is_clean stands
-      (λ identity before after. Meets finishes (λ text. (at : ℕ) × told at × exchanges at identity before text after) outcome)
-      s t
-  told_moves finishes told outcome is_told moved =
+-- What stands in an office before and after.
+module _ {S : Type 0} (is_clean : S → Type 0) (stands : Signatory → S → Records → Type 0) (s t : S) where
+  -- the same of what is wanted of a text between two records
+  pub weaker_moves : {T : Type 0} (finishes : T → List ℕ → Type 0) (wanted other : Signatory → Records → Records → List ℕ → Type 0)
+      → ((identity : Signatory) (before after : Records) (text : List ℕ) → wanted identity before after text → other identity before after text)
+      → (outcome : Outcome T)
+      → Leads is_clean stands (λ identity before after. Meets finishes (λ text. wanted identity before after text) outcome) s t
+      → Leads is_clean stands (λ identity before after. Meets finishes (λ text. other identity before after text) outcome) s t
+  weaker_moves finishes wanted other from outcome moved =
       follows is_clean stands
-      (λ identity before after. Meets finishes (λ text. exchanges now identity before text after) outcome)
-      (λ identity before after. Meets finishes (λ text. (at : ℕ) × told at × exchanges at identity before text after) outcome)
+      (λ identity before after. Meets finishes (λ text. wanted identity before after text) outcome)
+      (λ identity before after. Meets finishes (λ text. other identity before after text) outcome)
       (λ identity before after met. meets_weaker finishes
-      (λ text. exchanges now identity before text after)
-      (λ text. (at : ℕ) × told at × exchanges at identity before text after)
-      (λ text made. (now, is_told, made))
+      (λ text. wanted identity before after text)
+      (λ text. other identity before after text)
+      (from identity before after)
       outcome
       met)
       s
@@ -174,20 +173,22 @@ module _ {S : Type 0} (is_clean : S → Type 0) (stands : Signatory → S → Re
       moved
 
   -- what is left to be signed, with what is kept beside it
-  pub kept_moves : (gave : List ℕ → List ℕ → Type 0) (draft : Drafted) (unsigned : Unsigned) → unsigned.draft ≡ draft → unsigned.moment ≡ now
-      → Leads is_clean stands
-      (λ identity before after. (text : List ℕ) → FinishesAt gave draft now text → exchanges now identity before text after)
-      s t
-      → Leads is_clean stands
-      (λ identity before after. (text : List ℕ) → Finished gave unsigned text → exchanges now identity before text after)
-      s t
-  kept_moves gave draft unsigned same at moved =
+  pub kept_moves : (wanted : Signatory → Records → Records → List ℕ → Type 0) (now : ℕ) (gave : List ℕ → List ℕ → Type 0) (draft : Drafted)
+      (unsigned : Unsigned) → unsigned.draft ≡ draft → unsigned.moment ≡ now
+      → Leads is_clean stands (λ identity before after. (text : List ℕ) → FinishesAt gave draft now text → wanted identity before after text) s t
+      → Leads is_clean stands (λ identity before after. (text : List ℕ) → Finished gave unsigned text → wanted identity before after text) s t
+  kept_moves wanted now gave draft unsigned same at moved =
       follows is_clean stands
-      (λ identity before after. (text : List ℕ) → FinishesAt gave draft now text → exchanges now identity before text after)
-      (λ identity before after. (text : List ℕ) → Finished gave unsigned text → exchanges now identity before text after)
+      (λ identity before after. (text : List ℕ) → FinishesAt gave draft now text → wanted identity before after text)
+      (λ identity before after. (text : List ℕ) → Finished gave unsigned text → wanted identity before after text)
       (λ identity before after met text finished.
       let P : Drafted → ℕ → Type 0 = λ it moment. FinishesAt gave it moment text in
       met text (subst (λ it. P it now) same (subst (P unsigned.draft) at finished)))
       s
       t
       moved
+
+-- whether a signature is there, as bytes
+pub none_of : (signature : Option (Vec ℕ Global)) → is_none signature ≡ is_none (option_map (λ (it : Vec ℕ Global). it.items) signature)
+none_of (Some bytes) = refl
+none_of None = refl

@@ -11,7 +11,7 @@ use Rattle.reg_calls.specs.Steps.{Signs}
 use Rattle.reg_faces.proofs.Steps.{follows, stays}
 use Rattle.reg_heads.specs.Frame.{Framed, Part}
 use Rattle.reg_heads.specs.Response.{IsText, Response}
-use Rattle.reg_hub.specs.Exchange.{Outcome}
+use Rattle.reg_hub.specs.Exchange.{Outcome, said}
 use Rattle.reg_http.specs.Lists.{asks_list, given_told, list_asked, unlisted}
 use Rattle.reg_http.specs.declared.lists.ListAsked.{ListAsked}
 use Rattle.reg_http.specs.declared.lists.ListAsked.TheVariants.{Nothing, Page as APage}
@@ -21,7 +21,8 @@ use Rattle.reg_lists.specs.declared.cursor.Cursor.{Cursor}
 use Rattle.reg_lists.specs.declared.rows.Page.{Page}
 use Rattle.reg_jobs.specs.Exchanges.{ExchangeAt, ListEnds, ListedAt, OpenExchangeAt, Responded, SaysList}
 use Rattle.reg_jobs.specs.Leaving.{Meets}
-use Rattle.reg_jobs.proofs.Finishing.{meets_weaker}
+use Rattle.reg_jobs.proofs.Finishing.{weaker_moves}
+use Rattle.reg_jobs.proofs.Peers.{roomless_moves}
 
 -- want of memory, or a writer that failed
 abbrev pub IsUntold : Fault → Type 0
@@ -119,7 +120,21 @@ module _ {S : Type 0} (is_clean : S → Type 0) (stands : Signatory → S → Re
         → Leads is_clean stands (λ identity before after. Meets finishes (λ text. ExchangeAt signs now identity before request text after) outcome) s t
         → Leads is_clean stands (λ identity before after. Meets finishes (λ text. OpenExchangeAt signs now identity before request text after) outcome) s t
     as_other s t finishes outcome asks moved =
-        follows is_clean stands (λ identity before after. Meets finishes (λ text. ExchangeAt signs now identity before request text after) outcome)
-        (λ identity before after. Meets finishes (λ text. OpenExchangeAt signs now identity before request text after) outcome)
-        (λ identity before after met. meets_weaker finishes (λ text. ExchangeAt signs now identity before request text after)
-        (λ text. OpenExchangeAt signs now identity before request text after) (λ text exchanged. of_other identity before text after asks exchanged) outcome met) s t moved
+        weaker_moves is_clean stands s t finishes
+        (λ identity before after text. ExchangeAt signs now identity before request text after)
+        (λ identity before after text. OpenExchangeAt signs now identity before request text after)
+        (λ identity before after text exchanged. of_other identity before text after asks exchanged)
+        outcome
+        moved
+
+    -- to one for whose answer there was no room
+    pub roomless_open : (s t : S) (text : List ℕ) → t ≡ s → text ≡ []
+        → Leads is_clean stands (λ identity before after. OpenExchangeAt signs now identity before request text after) s t
+    roomless_open s t text same empty = go (asks_list request) refl
+      where
+        go : (asks : Bool) → asks_list request ≡ asks
+            → Leads is_clean stands (λ identity before after. OpenExchangeAt signs now identity before request text after) s t
+        go true asks = as_list s t text asks (list_moves s t request [] text (Err fault.Memory) (inr empty) (unasked_ends s t request [] fault.Memory same (inr refl)))
+        go false asks =
+            as_other {T = Unit {0}} s t (λ ticket given. Unit {0}) (said text) asks
+            (roomless_moves is_clean stands signs now s t request text same empty)

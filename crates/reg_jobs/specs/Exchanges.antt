@@ -92,10 +92,6 @@ EntryAt signs now identity before line text after = LineRuns signs identity befo
 abbrev pub Exchange : Signs → (ℕ → Type 0) → Signatory → Records → List ℕ → List ℕ → Records → Type 0
 Exchange signs told identity before request text after = (now : ℕ) × told now × ExchangeAt signs now identity before request text after
 
-abbrev pub OpenExchange : Signs → (ℕ → Type 0) → Signatory → Records → List ℕ → List ℕ → Records → Type 0
-OpenExchange signs told identity before request text after =
-    (now : ℕ) × told now × OpenExchangeAt signs now identity before request text after
-
 abbrev pub Entry : Signs → (ℕ → Type 0) → Signatory → Records → List ℕ → List ℕ → Records → Type 0
 Entry signs told identity before line text after = (now : ℕ) × told now × EntryAt signs now identity before line text after
 

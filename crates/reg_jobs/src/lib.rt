@@ -11,10 +11,13 @@ mod listing;
 mod log_lines;
 mod logging;
 mod opening;
+mod paging;
 mod place;
+mod reasons;
 mod sealing;
 mod serving;
 mod telling;
+mod watching;
 
 pub use asking::{at, talk};
 pub use front::Front;

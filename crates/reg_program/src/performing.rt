@@ -8,6 +8,7 @@ ghost use Rattle.reg_jobs.specs.Ends.{Ends, ImportAt, InitAt, LinesAt, ListAt, O
 ghost use Rattle.reg_jobs.specs.Told.{Explains, Tells};
 
 use crate::memory::script_in_memory;
+use reg_causes::{Cause, of_terms};
 use reg_endings::{Failure, status_of};
 use reg_jobs::{
     Causes, Front, NewOffice, Place, at, audit, crl, explain, hold_open, import_rows, init,
@@ -36,7 +37,7 @@ pub fn perform<P: Place, F: Front, R: Read, W: Write, E: Write>(
         P.Place P.Opened.Keeper.own place.old place.new F.Front job.now ending
         × (result ≡ status ending) × Explains causes.now.is_told ending (E.contents errors.old) (E.contents errors.new) }
 {
-    let status = perform_at(rt, front, place, job, reader, writer, errors);
+    let status = perform_at(rt, causes, front, place, job, reader, writer, errors);
     explain(errors, causes.is_told, status, causes.noted.get());
     status
 }
@@ -56,9 +57,10 @@ pub(crate) fn perform_untold<P: Place, F: Front, R: Read, W: Write, E: Write>(
     perform(rt, causes, front, place, job, reader, writer, errors)
 }
 
-/// Does a job, and gives its exit status; why it is not done is told in one line.
+/// Does a job, and gives its exit status; why it is not done is told in one line. Which of its terms make no policy is noted.
 fn perform_at<P: Place, F: Front, R: Read, W: Write, E: Write>(
     rt: &HostRuntime,
+    causes: &Causes<'_>,
     front: &F,
     place: &mut P,
     job: &Job<'_>,
@@ -74,9 +76,29 @@ fn perform_at<P: Place, F: Front, R: Read, W: Write, E: Write>(
     let ending = run(rt, front, place, job, reader, writer);
     match &ending {
         Ok(()) => {}
-        Err(failure) => tell(errors, failure),
+        Err(failure) => {
+            note_terms(causes, job, failure);
+            tell(errors, failure);
+        }
     }
     status_of(&ending)
+}
+
+/// Notes which of the terms that a job is told make no policy, where it ended by that.
+fn note_terms(causes: &Causes<'_>, job: &Job<'_>, failure: &Failure) {
+    match failure {
+        Failure::BadPolicy => causes.noted.set(wrong_terms(job)),
+        _ => {}
+    }
+}
+
+/// Which of the terms that a job is told make no policy.
+fn wrong_terms(job: &Job<'_>) -> Option<Cause> {
+    match job {
+        Job::Init(new) => of_terms(new.days, new.crl_life, new.ocsp_life, new.cap),
+        Job::Schedule { .. } => Some(Cause::Steps),
+        _ => None,
+    }
 }
 
 /// Does a job.

@@ -1,10 +1,10 @@
 //! Look-ups.
 
-ghost use Rattle.std.specs.Prelude.{◌≡◌, ◌≤◌, map, option_map, length, take, IfOk, IfErr};
+ghost use Rattle.std.specs.Prelude.{◌≡◌, ◌≤◌, map, option_map, filter, length, take, IfOk, IfErr};
 ghost use Rattle.sqlite.specs.Held.{state};
 ghost use Rattle.sqlite.specs.State.{HasCleanDisk};
 ghost use Rattle.reg_core.specs.Crls.{EntriesAscend, entries, latest, row_of};
-ghost use Rattle.reg_core.specs.Due.{overdue, overdue_report, earliest, unlisted};
+ghost use Rattle.reg_core.specs.Due.{is_open, overdue, overdue_report, earliest, unlisted};
 ghost use Rattle.reg_core.specs.Queries.{listing};
 ghost use Rattle.reg_core.specs.Records.{Records, certificate_in, certificate_of_order, order_in, request_in, revocation_in, subscriber_in, subscriber_named, crl_in};
 ghost use Rattle.reg_core.specs.Sound.{SoundRows};
@@ -220,6 +220,19 @@ impl<S: Alter> Store<S> {
         ensures faults { IfErr result IsCallFault }
     {
         Ok(reg_tables::open_past_due(&mut self.connection, now)?)
+    }
+
+    /// How many requests are open at a moment: not declined, and their certificate is still good. It walks the requests that are
+    /// not declined.
+    ///
+    /// # Errors
+    /// As [`Store::open_past_due`].
+    pub fn open_count(&mut self, now: Moment) -> Result<u64, StoreFault>
+        ensures found { (records : Records) → Shows S.Store self.old records → HasCleanDisk (state S.Store self.new) → IfOk result (λ count. count ≡ length (filter (is_open records now) records.requests)) }
+        ensures looked { Looked S.Store self.old self.new }
+        ensures faults { IfErr result IsCallFault }
+    {
+        Ok(reg_tables::open_count(&mut self.connection, now)?)
     }
 
     /// The entries of the CRL with a number, issued or the next, in ascending order of serial number: at most 1,000,000.

@@ -27,7 +27,7 @@ pub use fault::{CallFault, StoreFault};
 pub use listed::{entries, listing};
 pub use office::{issuer, last, policy, responding};
 pub use orders::order;
-pub use overdue::open_past_due;
+pub use overdue::{open_count, open_past_due};
 pub use pages::{certs_after, crls_after, revocations_after};
 pub use requests::request;
 pub use revocations::{earliest_unlisted, revocation};

@@ -53,21 +53,21 @@ abbrev pub crl_app : App
 crl_app = with_rules (new_app (codes "crl")) (must (codes "file") ∷ takes (codes "number") ∷ flag (codes "why") ∷ [])
 
 -- `serve FILE --port N --requests N [--signer SOCKET --algorithm NAME]
--- [--responder CERT --responder-signer SOCKET --responder-algorithm NAME | --embed CERT] [--log] [--why]`
+-- [--responder CERT --responder-signer SOCKET --responder-algorithm NAME | --embed CERT] [--log] [--log-file PATH] [--why]`
 abbrev pub serve_app : App
 serve_app = with_rules (new_app (codes "serve"))
     (must (codes "file") ∷ needs (codes "port") ∷ needs (codes "requests") ∷ takes (codes "signer") ∷ takes (codes "algorithm")
     ∷ takes (codes "responder") ∷ takes (codes "responder-signer") ∷ takes (codes "responder-algorithm") ∷ takes (codes "embed")
-    ∷ flag (codes "log") ∷ flag (codes "why") ∷ [])
+    ∷ flag (codes "log") ∷ takes (codes "log-file") ∷ flag (codes "why") ∷ [])
 
 -- `open FILE --port N --counter SOCKET [--signer SOCKET --algorithm NAME] [--unsigned]
--- [--responder CERT --responder-signer SOCKET --responder-algorithm NAME | --embed CERT] [--log] [--why]`;
+-- [--responder CERT --responder-signer SOCKET --responder-algorithm NAME | --embed CERT] [--log] [--log-file PATH] [--why]`;
 -- whether `--signer` or `--unsigned` must be given says `Jobs.holder_chosen`
 abbrev pub open_app : App
 open_app = with_rules (new_app (codes "open"))
     (must (codes "file") ∷ needs (codes "port") ∷ needs (codes "counter") ∷ takes (codes "signer") ∷ takes (codes "algorithm") ∷ flag (codes "unsigned")
     ∷ takes (codes "responder") ∷ takes (codes "responder-signer") ∷ takes (codes "responder-algorithm") ∷ takes (codes "embed")
-    ∷ flag (codes "log") ∷ flag (codes "why") ∷ [])
+    ∷ flag (codes "log") ∷ takes (codes "log-file") ∷ flag (codes "why") ∷ [])
 
 -- `at SOCKET [--why]`
 abbrev pub at_app : App

@@ -235,6 +235,10 @@ job_found found = option_and_then (λ found. job_in found.0 found.1) found
 abbrev pub is_given_behind : Text → Option (Text × List Row) → Bool
 is_given_behind id found = option_map_or (λ found. is_given id found.1) found false
 
+-- the word of an option that is given behind the command
+abbrev pub told_behind : Text → Option (Text × List Row) → Option Text
+told_behind id found = option_and_then (λ found. first_of id found.1) found
+
 -- the job that words say which clap accepts
 abbrev pub job_of : List Text → Option Job
 job_of words = job_found (subcommand_of desk_app words)
@@ -247,6 +251,10 @@ asks_why words = is_given (codes "why") (matches_of desk_app words) || is_given_
 abbrev pub asks_log : List Text → Bool
 asks_log words = is_given_behind (codes "log") (subcommand_of desk_app words)
 
+-- the file of a log that words tell, by `--log-file` behind the command
+abbrev pub log_file_of : List Text → Option Text
+log_file_of words = told_behind (codes "log-file") (subcommand_of desk_app words)
+
 -- clap accepts the words
 abbrev pub IsAccepted : List Text → Type 0
 IsAccepted words = fault_of desk_app words ≡ []
@@ -258,11 +266,13 @@ IsJobOf words job = IsAccepted words × (job_of words ≡ Some job)
 -- clap accepts the words, and they say the job and what is told beside it
 abbrev pub IsOrderOf : List Text → Order → Type 0
 IsOrderOf words order = IsJobOf words order.job × (order.is_explained ≡ asks_why words) × (order.has_log ≡ asks_log words)
+    × (order.log_file ≡ log_file_of words)
 
 -- the same, of what was found before the command and behind it
 abbrev pub IsOrderIn : List Row → Option (Text × List Row) → Order → Type 0
 IsOrderIn before found order = (job_found found ≡ Some order.job)
     × (order.is_explained ≡ (is_given (codes "why") before || is_given_behind (codes "why") found)) × (order.has_log ≡ is_given_behind (codes "log") found)
+    × (order.log_file ≡ told_behind (codes "log-file") found)
 
 -- what is answered for an error of a kind: help for help, the version for the version, and bad words for the rest, unless memory runs out
 abbrev pub Tells : ErrorKind → Usage → Type 0

@@ -181,8 +181,10 @@ pub struct Order<'a> {
     pub job: Job<'a>,
     /// The cause of a fault is told, where it is known.
     pub is_explained: bool,
-    /// Each exchange is told, where the job serves.
+    /// Each exchange is told on standard error, where the job serves.
     pub has_log: bool,
+    /// The path of the file in which each exchange is told, where the job serves.
+    pub log_file: Option<Word<'a>>,
 }
 
 /// Why there is no order.

@@ -113,6 +113,9 @@ const JSON: &str = "Write an object of JSON a line [default: CSV with a header]"
 
 const LOG: &str = "Tell each exchange in a line on standard error";
 
+const LOG_FILE: &str =
+    "Tell each exchange in a line of this file, which is opened anew for each line; beside --log or in its place";
+
 const CAUSE: &str = "Tell the cause of a fault in a line behind its own, where it is known";
 
 const CAUSE_ANYWHERE: &str =
@@ -188,6 +191,7 @@ pub(crate) const COMMANDS: &[Entry] = &[
             Part::Takes("responder-algorithm", "NAME", ALGORITHM),
             Part::Takes("embed", "CERT", EMBED),
             Part::Flag("log", LOG),
+            Part::Takes("log-file", "PATH", LOG_FILE),
             Part::Flag("why", CAUSE),
         ],
     },
@@ -207,6 +211,7 @@ pub(crate) const COMMANDS: &[Entry] = &[
             Part::Takes("responder-algorithm", "NAME", ALGORITHM),
             Part::Takes("embed", "CERT", EMBED),
             Part::Flag("log", LOG),
+            Part::Takes("log-file", "PATH", LOG_FILE),
             Part::Flag("why", CAUSE),
         ],
     },

@@ -1,5 +1,5 @@
 use Rattle.reg_jobs.proofs.ListsTold.{list_moves}
-use Rattle.reg_jobs.proofs.handling.list_at.Goals as goal
+use Rattle.reg_jobs.proofs.paging.list_at.Goals as goal
 
 pub returns : goal.returns
 returns g c =

@@ -1,6 +1,6 @@
 use Rattle.std.proofs.Common.{refl}
 use Rattle.reg_jobs.proofs.ListsTold.{asked_ends, unasked_ends}
-use Rattle.reg_jobs.proofs.handling.serve_list.Goals as goal
+use Rattle.reg_jobs.proofs.paging.serve_list.Goals as goal
 
 pub returns-in-Ok : goal.returns-in-Ok
 returns-in-Ok g c =
