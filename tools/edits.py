@@ -58,6 +58,28 @@ def stamp(crate):
 rtlib.Crate.stamp = stamp
 print(json.dumps({it.name: it.stamp() for it in rtlib.crates_below(os.getcwd())}))
 """
+# rt tries a crate's edits over a folder of its own, which begins empty, so that the first of them proves the whole crate anew. So it is begun
+# with what checks of the crate kept in its out/, where there is any.
+RT_OVER_KEPT_WORK = """
+import os, runpy, shutil, sys, tempfile
+sys.dont_write_bytecode = True
+del sys.argv[0]
+sys.path.insert(0, os.path.dirname(os.path.realpath(sys.argv[0])))
+made = tempfile.TemporaryDirectory
+def link_or_copy(source, target):
+    try:
+        (os.link if source.endswith(".oantt") else shutil.copy2)(source, target)
+    except OSError:
+        shutil.copy2(source, target)
+def begun(*words, **how):
+    folder = made(*words, **how)
+    kept = getattr(sys._getframe(1).f_locals.get("crate"), "folder", "") + "/out/incremental"
+    if how.get("prefix") == "rt-edits-" and os.path.isdir(kept):
+        shutil.copytree(kept, folder.name, copy_function=link_or_copy, dirs_exist_ok=True)
+    return folder
+tempfile.TemporaryDirectory = begun
+runpy.run_path(sys.argv[0], run_name="__main__")
+"""
 
 
 def tell(text):
@@ -399,7 +421,7 @@ def run_rt(room, wanted, jobs):
     environment = {**os.environ, "RT_JOBS": str(jobs)} if jobs else None
     how = {"cwd": room, "env": environment, "stdin": subprocess.DEVNULL, "stdout": subprocess.PIPE, "stderr": subprocess.STDOUT}
     verdicts, others = {}, deque(maxlen=40)
-    with subprocess.Popen([RT, "must-fail", *wanted], text=True, errors="replace", **how) as ran:
+    with subprocess.Popen([sys.executable, "-c", RT_OVER_KEPT_WORK, RT, "must-fail", *wanted], text=True, errors="replace", **how) as ran:
         watch = Watch(ran.pid, wanted)
         watch.start()
         try:

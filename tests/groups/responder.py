@@ -103,6 +103,25 @@ def bad_responder(t, words, err=b"bad-responder\n"):
 # A responder's key
 
 
+@test(seconds=8)
+def a_responder_answers_while_a_crl_is_signed(t):
+    """What holds the CA's key takes three seconds for it."""
+    it = Authority(t)
+    responder = Responder(it)
+    responder.signer()
+    t.signer("day.sign", lambda message, call: it.sign(message))
+    a_day(t, it, *it.signing("day.sign"))
+    t.signer("ca.sign", lambda message, call: (time.sleep(3), it.sign(message))[1])
+    desk = t.open("ca.db", *it.signing(), *responder.words())
+    with ThreadPoolExecutor(1) as pool, t.counter() as counter:
+        crl = pool.submit(counter.ask, "crl")
+        time.sleep(0.3)
+        t.same(it.reads("05", answer(t, it, desk, "05")), "revoked")
+        t.same(crl.done(), False, "the CRL is there")
+        t.same(crl.result(), "crl 2 entries 1")
+    it.verifies(body_of(t, desk.ask("GET", "/crl"), "application/pkix-crl"))
+
+
 @each(ALGORITHMS, seconds=8)
 def openssl_verifies_what_a_responder_signed(t, algorithm):
     """The CA's key signs CRLs, and the responder's OCSP answers: openssl, which is told of the CA alone, takes them by the certificate in them."""

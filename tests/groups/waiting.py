@@ -1,6 +1,8 @@
-"""Signatures of OCSP answers that are on their way: nobody waits for one but who asked."""
+"""Signatures that are on their way, of OCSP answers and of what is signed at the counter: nobody waits for one but who asked, and lines at
+counters."""
 
 import os
+import queue
 import socket
 import threading
 import time
@@ -272,3 +274,171 @@ def a_signer_of_many_processes(t):
     signer.wait(20)
     is_there = lambda pid: t.tried("kill", "-0", pid.decode()).returncode == 0
     authority.until(lambda: not any(map(is_there, others)), "the end of the others")
+
+
+# What is signed at the counter
+
+
+def certified(t, count=1):
+    """An open desk whose register has so many certificates, from serial number 5 on; they can be asked to be revoked."""
+    begun = authority.now() - 10
+    begins, ends = program.moment_of(begun), program.moment_of(begun + 90 * authority.DAY)
+    lines = ["subscriber acme", "order 1 398", *(f"register 1 {5 + at:02x} {begins} {ends}" for at in range(count))]
+    t.register(key=P256_KEY, lines="".join(f"{begins} {it}\n" for it in lines))
+    return t.open("ca.db", *SIGNING)
+
+
+def requests_revocation(t, desk):
+    """Asks by HTTP for the revocation of serial number 5, which is accepted: how many milliseconds that took."""
+    begun = time.monotonic()
+    status = program.parted(desk.ask("POST", "/requests", b'{"serial":"05","ground":"superseded"}'))[0]
+    t.same(status, 200, "the request")
+    return 1000 * (time.monotonic() - begun)
+
+
+def quick(t, desk):
+    """That a request over HTTP is answered at once."""
+    took = milliseconds(lambda: desk.ask("GET", "/counts"))
+    t.true(took < QUICK * program.PATIENCE, f"GET /counts took {took:.0f} ms")
+
+
+@test(seconds=6)
+def a_crl_holds_lines_and_no_request(t):
+    """What signs takes three seconds for it."""
+    signers = t.enter_context(Signers(t.room / "ca.sign", lambda message: (time.sleep(3), ANY_SIGNATURE)[1]))
+    desk = certified(t)
+    with ThreadPoolExecutor(2) as pool, t.counter() as first, t.counter() as second:
+        begun = time.monotonic()
+        crl = pool.submit(first.ask, "crl")
+        t.true(signers.until(1), "it is asked for")
+        counts = pool.submit(second.ask, "counts")
+        quick(t, desk)
+        t.same((crl.done(), counts.done()), (False, False), "lines that are answered")
+        t.same((crl.result(), counts.result()), ("crl 1 entries 0", "good 1 revoked 0 expired 0"))
+        t.true(time.monotonic() - begun >= 3, "it waited for its signature")
+    t.same(len(signers.asked), 1, "signatures")
+
+
+@test(seconds=5)
+def replies_come_in_the_order_of_their_lines(t):
+    held = Held(t)
+    certified(t)
+    with ThreadPoolExecutor(1) as pool, t.counter() as counter:
+        replies = pool.submit(counter.ask, "counts\ncrl\nstatus 05\ncrl\ncounts")
+        t.same(replies.result(), "good 1 revoked 0 expired 0")
+        t.true(held.signers.until(1), "a CRL is asked for")
+        held.goes.set()
+        told = [counter.file.readline().decode().rstrip("\n") for _ in range(4)]
+    t.same(told, ["crl 1 entries 0", "good", "crl 2 entries 0", "good 1 revoked 0 expired 0"])
+
+
+@test(seconds=5)
+def a_request_goes_on_and_the_crl_is_signed_anew(t):
+    held = Held(t)
+    desk = certified(t)
+    with ThreadPoolExecutor(1) as pool, t.counter() as counter:
+        crl = pool.submit(counter.ask, "crl")
+        t.true(held.signers.until(1), "it is asked for")
+        # In a later second than the CRL's.
+        time.sleep(1.1)
+        took = requests_revocation(t, desk)
+        t.true(took < REVOKED * program.PATIENCE, f"a request took {took:.0f} ms")
+        t.same(crl.done(), False, "the CRL is there")
+        held.goes.set()
+        t.same(crl.result(), "crl 1 entries 0")
+    first, second = held.signers.asked
+    t.true(first != second, "it is of another moment")
+    t.has(authority.body_of(t, desk.ask("GET", "/crl"), "application/pkix-crl"), second, "what was signed last")
+
+
+@test(seconds=8)
+def a_crl_is_signed_anew_three_times_and_then_waited_for(t):
+    goes = queue.Queue()
+
+    def answer(message):
+        goes.get(timeout=60)
+        return ANY_SIGNATURE
+
+    signers = t.enter_context(Signers(t.room / "ca.sign", answer))
+    desk = certified(t)
+    with ThreadPoolExecutor(2) as pool, t.counter() as counter:
+        crl = pool.submit(counter.ask, "crl")
+        for count in range(1, 4):
+            authority.until(lambda: len(signers.asked) == count, f"signature {count}")
+            time.sleep(1.1)
+            requests_revocation(t, desk)
+            goes.put(None)
+        authority.until(lambda: len(signers.asked) == 4, "the last signature")
+        counts = pool.submit(desk.ask, "GET", "/counts")
+        time.sleep(0.3)
+        t.same(counts.done(), False, "somebody is answered meanwhile")
+        goes.put(None)
+        t.same(crl.result(), "crl 1 entries 0")
+        counts.result()
+
+
+@test(seconds=14)
+def a_crl_whose_signature_does_not_come(t):
+    held = Held(t)
+    desk = certified(t)
+    with ThreadPoolExecutor(1) as pool, t.counter() as counter:
+        begun = time.monotonic()
+        crl = pool.submit(counter.ask, "crl")
+        t.true(held.signers.until(1), "it is asked for")
+        while not crl.done():
+            quick(t, desk)
+            time.sleep(0.2)
+        seconds = time.monotonic() - begun
+        t.same(crl.result(), "F3 signer")
+        t.true(9.9 <= seconds < 10 + 2 * program.PATIENCE, f"it took {seconds:.1f} s")
+        held.goes.set()
+        t.same(counter.ask("crl"), "crl 1 entries 0", "the next")
+
+
+@test(seconds=3)
+def an_ocsp_line_holds_no_request(t):
+    held = Held(t)
+    desk = certified(t)
+    with ThreadPoolExecutor(1) as pool, t.counter() as counter:
+        line = pool.submit(counter.ask, f"ocsp {asked_for(0x1111).hex()}")
+        t.true(held.signers.until(1), "it is asked for")
+        quick(t, desk)
+        t.same(line.done(), False, "its answer is there")
+        held.goes.set()
+        word, response = line.result().split()
+    t.true(word == "ocsp" and is_signed(bytes.fromhex(response)), "it is signed")
+
+
+@test(seconds=3)
+def nothing_listens_for_a_crl(t):
+    desk = certified(t)
+    with t.counter() as counter:
+        t.same((counter.ask("crl"), counter.ask("counts")), ("F3 signer", "good 1 revoked 0 expired 0"))
+    quick(t, desk)
+
+
+@test(seconds=30)
+def a_crl_of_more_than_a_socket_takes_at_once(t):
+    """What signs begins to read it after a second."""
+    count = 6000
+    begun = authority.now() - 10
+    begins, ends = program.moment_of(begun), program.moment_of(begun + 90 * authority.DAY)
+    serials = [f"{at:040x}" for at in range(1 << 152, (1 << 152) + count)]
+    lines = ["subscriber acme", "order 1 398", *(f"register 1 {it} {begins} {ends}" for it in serials),
+             *(f"request {it} superseded" for it in serials), *(f"revoke {at + 1}" for at in range(count))]
+    t.register(key=P256_KEY, lines="".join(f"{begins} {it}\n" for it in lines))
+    server = t.enter_context(socket.socket(socket.AF_UNIX))
+    server.bind(str(t.room / "ca.sign"))
+    server.listen(4)
+    desk = t.open("ca.db", *SIGNING)
+    with ThreadPoolExecutor(1) as pool, t.counter() as counter:
+        crl = pool.submit(counter.ask, "crl")
+        peer, _ = server.accept()
+        with peer:
+            quick(t, desk)
+            time.sleep(1)
+            message = program.read_all(peer)
+            peer.sendall(ANY_SIGNATURE)
+        t.same(crl.result(), f"crl 1 entries {count}")
+    t.true(len(message) > 250_000, f"{len(message)} bytes")
+    t.has(authority.body_of(t, desk.ask("GET", "/crl"), "application/pkix-crl"), message, "what was signed")

@@ -4,12 +4,14 @@ import contextlib
 import json
 import re
 import subprocess
+import threading
 import time
 import urllib.parse
 import urllib.request
+from concurrent.futures import ThreadPoolExecutor
 
 from lib import program
-from lib.program import ANY_SIGNATURE, parted
+from lib.program import ANY_SIGNATURE, Signers, parted
 from lib.trial import Failed, each, need, test
 
 DAY = "2026-01-01T00:00:00Z"
@@ -130,7 +132,7 @@ def answers_by_route_and_status(t):
     desk = opened(t)
     for method, path, body in (("GET", "/counts", None), ("GET", "/counts?x", None), ("GET", "/crl", None), ("GET", "/crl/1", None), ("GET", "/status/05", None), ("GET", "/status/x", None),
                                ("POST", "/ocsp", OCSP), ("GET", "/ocsp/AAAA", None), ("DELETE", "/crl", None), ("POST", "/requests", '{"serial":"05","ground":"asked"}'),
-                               ("GET", "/nowhere", None), ("GET", "/health", None), ("POST", "/metrics", "x")):
+                               ("GET", "/list/subscribers", None), ("GET", "/nowhere", None), ("GET", "/health", None), ("POST", "/metrics", "x")):
         desk.ask(method, path, body)
     desk.send(b"nonsense\r\n\r\n")
     desk.send(b"POST /ocsp HTTP/1.1\r\nContent-Length: 65537\r\n\r\n")
@@ -140,7 +142,7 @@ def answers_by_route_and_status(t):
         '{route="/ocsp",code="200"}': 1, '{route="/ocsp",code="411"}': 1, '{route="/ocsp",code="413"}': 1, '{route="/ocsp/{request}",code="200"}': 1,
         '{route="/crl",code="404"}': 1, '{route="/crl",code="405"}': 1, '{route="/crl",code="431"}': 1, '{route="/crl/{number}",code="404"}': 1,
         '{route="/status/{serial}",code="200"}': 1, '{route="/status/{serial}",code="400"}': 1, '{route="/counts",code="200"}': 2, '{route="/requests",code="409"}': 1,
-        '{route="/health",code="503"}': 1, '{route="/metrics",code="405"}': 1, '{route="other",code="400"}': 1, '{route="other",code="404"}': 1,
+        '{route="/list/{word}",code="200"}': 1, '{route="/health",code="503"}': 1, '{route="/metrics",code="405"}': 1, '{route="other",code="400"}': 1, '{route="other",code="404"}': 1,
     })
     t.same(metrics(t, desk)['desk_http_responses_total{route="/metrics",code="200"}'], 1)
 
@@ -213,6 +215,30 @@ def an_ocsp_line_at_the_counter_is_signed_too(t):
         t.same(counter.ask("ocsp 00"), "ocsp 30030a0101", "none")
     found = metrics(t, desk)
     t.same((found['desk_signatures_total{of="ocsp"}'], found['desk_signature_failures_total{of="ocsp"}'], found['desk_signature_failures_total{of="crl"}']), (1, 1, 0))
+
+
+@test(seconds=3)
+def an_answer_that_waits_for_its_signature(t):
+    """It is counted where it is made, by what was asked, and with all the time that it took; one whose asker went away is not made."""
+    goes = threading.Event()
+    t.callback(goes.set)
+    signers = t.enter_context(Signers(t.room / "ca.sign", lambda message: (goes.wait(60), ANY_SIGNATURE)[1]))
+    desk = opened(t, *SIGNING, key=program.P256_KEY)
+    with ThreadPoolExecutor(1) as pool:
+        with desk.connect() as gone:
+            gone.sendall(b"POST /ocsp HTTP/1.1\r\nContent-Length: %d\r\n\r\n" % len(OCSP) + OCSP)
+            t.true(signers.until(1), "a signature is asked for")
+        waits = pool.submit(desk.ask, "POST", "/ocsp", OCSP)
+        t.true(signers.until(2), "and another one")
+        time.sleep(0.4)
+        found = metrics(t, desk)
+        t.same((of(found, "desk_http_responses_total"), found["desk_exchange_seconds_count"]), ({}, 0), "while it waits")
+        goes.set()
+        waits.result()
+    found = metrics(t, desk)
+    t.same(of(found, "desk_http_responses_total"), {'{route="/ocsp",code="200"}': 1, '{route="/metrics",code="200"}': 1})
+    t.same((found['desk_signatures_total{of="ocsp"}'], found['desk_signature_failures_total{of="ocsp"}']), (1, 0))
+    t.true(0.4 <= found["desk_exchange_seconds_sum"] < 5 * program.PATIENCE, f"the seconds of both: {found['desk_exchange_seconds_sum']}")
 
 
 @test

@@ -1,9 +1,9 @@
 //! Requests for lists, `GET /list/WORD?after=KEY&limit=N&before=MOMENT`, which an open desk alone answers: the routes of
 //! `serve` have none of them.
 
-ghost use Rattle.std.specs.Prelude.{◌≡◌, ◌⊎◌, ◌==◌, ◌≤◌, ℕ, List, Some, length, IfErr, IfOk, OnOk};
+ghost use Rattle.std.specs.Prelude.{◌≡◌, ◌⊎◌, ◌==◌, ◌≤◌, ℕ, ◌<◌, List, Some, length, IfErr, IfOk, IfSome, OnOk};
 ghost use Rattle.std.specs.Io.KnownBytes.{Appends, Consumes};
-ghost use Rattle.std.specs.List.{position_or_len};
+ghost use Rattle.std.specs.List.{position, position_or_len};
 ghost use Rattle.reg_heads.specs.Frame.{Framed, Part, part_of};
 ghost use Rattle.reg_heads.specs.Response.{IsText, shown};
 ghost use Rattle.reg_http.specs.Lists.{asks_list, given_told, list_asked, or_unread, page_in, page_told, unlisted};
@@ -49,10 +49,18 @@ fn first_space(request: &[u8]) -> usize
     ensures place { result ≡ position_or_len (λ byte. byte == 32) request.now }
     ensures within { result ≤ length request.now }
 {
-    match request.iter().position(|byte| *byte == b' ') {
+    match space_in(request) {
         Some(place) => place,
         None => request.len(),
     }
+}
+
+/// Where the first space of a text is, if it has one.
+fn space_in(text: &[u8]) -> Option<usize>
+    ensures place { result ≡ position (λ byte. byte == 32) text.now }
+    ensures within { IfSome result (λ place. place < length text.now) }
+{
+    text.iter().position(|byte| *byte == b' ')
 }
 
 /// Reads what a request for a list asks.

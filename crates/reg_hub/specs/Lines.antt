@@ -13,6 +13,25 @@ Telling tells s t before after unsent unsent' =
     ((end : ℕ) × FirstMark (10 ∷ []) before end × (unsent ≡ []) × tells s (take end before) unsent' t × (after ≡ drop end before))
     ⊎ ((unsent ≡ [] → HasNoMark (10 ∷ []) before) × (t ≡ s) × (after ≡ before) × (unsent' ≡ unsent))
 
+-- the first line of what came was looked at, and nothing was told; or none was looked at
+abbrev pub Deferring : {H : Type 0} → (H → List ℕ → H → Type 0) → H → H → List ℕ → Type 0
+Deferring defers s t before = ((end : ℕ) × FirstMark (10 ∷ []) before end × defers s (take end before) t) ⊎ (t ≡ s)
+
+-- The same line was then answered, as any is; or it was looked at once more, and all that is held is as it was.
+abbrev pub TellingLater
+    : {H : Type 0}
+    → (H → List ℕ → List ℕ → H → Type 0)
+    → (H → List ℕ → H → Type 0)
+    → H
+    → H
+    → List ℕ
+    → List ℕ
+    → List ℕ
+    → List ℕ
+    → Type 0
+TellingLater tells defers s t before after unsent unsent' =
+    Telling tells s t before after unsent unsent' ⊎ (Deferring defers s t before × (after ≡ before) × (unsent' ≡ unsent))
+
 -- What came next on a counter's connection is held behind what was, in its order and whole. For want of memory the last of it may be lost,
 -- and then the counter has ended.
 pub record Gathers (input left : Option (List ℕ)) (before after : List ℕ) (ended : Bool) : Type 0 where

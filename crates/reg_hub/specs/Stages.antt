@@ -4,7 +4,7 @@ use Rattle.std.specs.Prelude.{◌≡◌, ℕ, List, ◌++◌}
 use Rattle.std.specs.declared.option.Option.{Option}
 use Rattle.std.specs.Io.KnownBytes.{Appends, Consumes}
 use Rattle.reg_heads.specs.Bytes.{bytes_of}
-use Rattle.reg_hub.specs.Exchange.{Outcome, said, pending}
+use Rattle.reg_hub.specs.Exchange.{Outcome, said, pending, later}
 use Rattle.reg_hub.specs.Unsent.{unsent_of}
 use Rattle.reg_hub.specs.declared.caller.Stage.{Stage}
 use Rattle.reg_hub.specs.declared.caller.Stage.TheVariants as stage
@@ -34,6 +34,7 @@ Waits stage.Leaving ticket = ⊥
 abbrev pub IsHeld : {T : Type 0} → Outcome T → Stage T → Type 0
 IsHeld (said text) after = Holds after text
 IsHeld (pending ticket) after = Waits after ticket
+IsHeld later after = ⊥
 
 -- who asked is answered by what the handler says to what came, or waits for what it left; who did not is as it was
 abbrev pub Answering : {H T : Type 0} → (H → List ℕ → Outcome T → H → Type 0) → H → H → Stage T → Stage T → Type 0

@@ -257,7 +257,7 @@ impl<S: Link, H: Handler> Caller<S, H> {
     ///
     /// [`Stopped`], and nothing was answered.
     pub fn answer(&mut self, handler: &mut H, made: &mut u64, now: u64) -> Result<bool, Stopped>
-        ensures exchanged { Exchanged H.answers H.tells handler.old handler.new made.old made.new }
+        ensures exchanged { Exchanged H.answers H.tells H.defers handler.old handler.new made.old made.new }
         ensures one { made.new ≤ made.old + 1 }
         ensures answered { OnOk result (Answering H.answers handler.old handler.new self.old.stage self.new.stage) }
         ensures err { OnErr result ((self.new ≡ self.old) × (handler.new ≡ handler.old)) }

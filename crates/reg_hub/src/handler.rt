@@ -3,7 +3,7 @@
 ghost use Rattle.std.specs.Prelude.{◌≡◌, ◌+◌, IfOk, OnOk, OnErr};
 ghost use Rattle.reg_hub.specs.Outcomes.{outcome_of};
 
-use crate::given::Given;
+use crate::given::{Deferred, Given};
 use mio::net::UnixStream;
 use std::io;
 use std::net::SocketAddr;
@@ -36,20 +36,27 @@ pub struct Crowd {
     pub accepted: u64,
 }
 
-/// What answers requests and lines, one after the other. What is left to be signed for an answer is asked for while others are answered.
+/// What answers requests and lines, one after the other. What is to be signed for an answer is asked for while others are answered, and so
+/// is what is to be signed for a line.
 pub trait Handler {
-    ghost use Rattle.std.specs.Prelude.{◌≡◌, ℕ, List, IfOk, OnErr};
+    ghost use Rattle.std.specs.Prelude.{◌≡◌, ℕ, List, IfOk, OnErr, MatchOption};
     ghost use Rattle.reg_hub.specs.Exchange.{Outcome};
     ghost use Rattle.reg_hub.specs.Outcomes.{outcome_of};
 
     /// What is kept of a request until its answer is signed.
     type Ticket: Drop;
 
+    /// What is kept of a line until what is to be signed for it is signed.
+    type Line: Drop;
+
     // This came of this request: the handler before and after it.
     ghost answers: { Self → List ℕ → Outcome Self.Ticket → Self → Type 0 };
 
     // This line was answered by this text: the handler before and after it.
     ghost tells: { Self → List ℕ → List ℕ → Self → Type 0 };
+
+    // This line was looked at, and nothing was told: the handler before and after it.
+    ghost defers: { Self → List ℕ → Self → Type 0 };
 
     // This text finishes what was left of an answer.
     ghost finishes: { Self.Ticket → List ℕ → Type 0 };
@@ -83,6 +90,34 @@ pub trait Handler {
     /// [`Stopped`], and the handler and what is noted are as they were.
     fn tell(&mut self, line: &[u8], noted: &mut Vec<u8>) -> Result<Vec<u8>, Stopped>
         ensures ok { IfOk result (λ text. tells self.old line.now text.items self.new) }
+        ensures err { OnErr result ((self.new ≡ self.old) × (noted.new ≡ noted.old)) };
+
+    /// Looks at a line of a counter before it is told: what is to be signed for it, where what holds a key would be waited for. `None` where
+    /// nobody is waited for.
+    fn defer(&mut self, line: &[u8]) -> Option<Deferred<Self::Line>>
+        ensures { defers self.old line.now self.new };
+
+    /// Connects to what signs for a line, and waits for nothing.
+    ///
+    /// # Errors
+    ///
+    /// `WouldBlock` where what signs has no room for one more; what else the system says where it can't be connected to.
+    fn reach(&self, ticket: &Self::Line) -> io::Result<UnixStream>;
+
+    /// Answers a line that was looked at: with what came on the connection on which its message went out, which is at its end; or without a
+    /// signature. `None` where what is to be signed for it is another message by now: nothing is told then, and it is to be looked at again.
+    ///
+    /// # Errors
+    ///
+    /// [`Stopped`], and the handler and what is noted are as they were.
+    fn tell_deferred(
+        &mut self,
+        line: &[u8],
+        noted: &mut Vec<u8>,
+        deferred: Deferred<Self::Line>,
+        link: Option<UnixStream>,
+    ) -> Result<Option<Vec<u8>>, Stopped>
+        ensures ok { IfOk result (λ told. MatchOption told (defers self.old line.now self.new) (λ text. tells self.old line.now text.items self.new)) }
         ensures err { OnErr result ((self.new ≡ self.old) × (noted.new ≡ noted.old)) };
 
     /// Is told that the connection of the peer at an address ended by a fault; a counter has no address. Nothing changes by it.

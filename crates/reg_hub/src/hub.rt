@@ -11,7 +11,9 @@ use crate::losses::{Loss, Losses};
 use crate::shared::Shared;
 use crate::signings::{Asker, Pending, Signings};
 use crate::tellers::Tellers;
-use crate::watcher::{COUNTER, FIRST_CALLER, FIRST_SIGNING, FIRST_TELLER, LISTENER, MOST_SIGNINGS};
+use crate::watcher::{
+    COUNTER, FIRST_CALLER, FIRST_SIGNING, FIRST_TELLER, LINE, LINE_ENDED, LISTENER, MOST_SIGNINGS,
+};
 use mio::net::{TcpListener, TcpStream, UnixListener};
 use std::alloc::AllocGlobal;
 use std::io;
@@ -25,7 +27,7 @@ pub struct Hub<H: Handler> {
     shared: Shared,
     door: Door,
     callers: Callers<H>,
-    tellers: Tellers,
+    tellers: Tellers<H>,
     signings: Signings,
 }
 
@@ -39,6 +41,15 @@ fn now_of<C: Clock>(clock: &C) -> Result<u64, Stopped> {
                 .saturating_add(u64::from(passed.subsec_millis())),
         ),
         Err(_) => Err(Stopped),
+    }
+}
+
+/// The lesser of two times, where there is one.
+fn least(first: Option<u64>, second: Option<u64>) -> Option<u64> {
+    match (first, second) {
+        (Some(first), Some(second)) => Some(first.min(second)),
+        (Some(first), None) => Some(first),
+        (None, second) => second,
     }
 }
 
@@ -109,7 +120,7 @@ impl<H: Handler> Hub<H> {
         most: u64,
     ) -> Result<(), Stopped>
         requires { made.old ≤ most }
-        ensures exchanged { Exchanged H.answers H.tells handler.old handler.new made.old made.new }
+        ensures exchanged { Exchanged H.answers H.tells H.defers handler.old handler.new made.old made.new }
         ensures all { OnOk result (made.new ≡ most) }
     {
         for _ in 0..u64::MAX {
@@ -140,14 +151,14 @@ impl<H: Handler> Hub<H> {
         longest: Duration,
     ) -> Result<(), Stopped>
         requires { made.old ≤ most }
-        ensures exchanged { Exchanged H.answers H.tells handler.old handler.new made.old made.new }
+        ensures exchanged { Exchanged H.answers H.tells H.defers handler.old handler.new made.old made.new }
         ensures within { made.new ≤ most }
     {
         let now = self.look(clock, most, longest)?;
         self.shared.losses.tell(handler);
         handler.hold(self.crowd());
         self.finish_all(handler, now);
-        self.tellers.tell_all(&mut self.shared, handler)?;
+        self.tellers.tell_all(&mut self.shared, handler, now)?;
         let answered = self.answer_all(handler, made, most, now);
         self.ask_all(handler, now);
         answered
@@ -171,7 +182,7 @@ impl<H: Handler> Hub<H> {
             self.finish_all(handler, now);
             self.ask_all(handler, now);
             self.callers.leave_due(&mut self.shared);
-            self.tellers.has_lines = false;
+            self.tellers.rest();
         }
         Ok(())
     }
@@ -181,7 +192,7 @@ impl<H: Handler> Hub<H> {
 impl<H: Handler> Hub<H> {
     /// Waits until something is to be done, takes in and sends on, accepts, and looks for those whose time is over.
     fn look<C: Clock>(&mut self, clock: &C, most: u64, longest: Duration) -> Result<u64, Stopped> {
-        let for_signatures = self.signings.longest_wait();
+        let for_signatures = least(self.signings.longest_wait(), self.tellers.longest_wait());
         let wait = self.wait(for_signatures, most).min(longest);
         self.shared.watcher.wait(wait)?;
         let now = now_of(clock)?;
@@ -193,7 +204,7 @@ impl<H: Handler> Hub<H> {
         Ok(now)
     }
 
-    /// How long may be waited; for signatures no longer than so many milliseconds.
+    /// How long may be waited; where a signature is waited for, no longer than so many milliseconds.
     fn wait(&self, for_signatures: Option<u64>, most: u64) -> Duration {
         if self.door.may_seat(most) || self.tellers.is_ready() || self.has_work() {
             return Duration::ZERO;
@@ -230,8 +241,12 @@ impl<H: Handler> Hub<H> {
         } else if token < FIRST_SIGNING {
             let place = token.saturating_sub(FIRST_TELLER);
             self.tellers.advance(place, &mut self.shared);
-        } else if token < FIRST_CALLER {
+        } else if token < LINE {
             self.signings.note_come(token.saturating_sub(FIRST_SIGNING));
+        } else if token == LINE {
+            self.tellers.send_on(&self.shared.watcher);
+        } else if token == LINE_ENDED {
+            self.tellers.note_come();
         } else {
             let place = token.saturating_sub(FIRST_CALLER);
             self.callers.advance(place, &mut self.shared, now);
@@ -250,7 +265,7 @@ impl<H: Handler> Hub<H> {
         now: u64,
     ) -> Result<(), Stopped>
         requires { made.old ≤ most }
-        ensures exchanged { Exchanged H.answers H.tells handler.old handler.new made.old made.new }
+        ensures exchanged { Exchanged H.answers H.tells H.defers handler.old handler.new made.old made.new }
         ensures within { made.new ≤ most }
     {
         for index in 0..self.callers.due.count() {
@@ -274,7 +289,7 @@ impl<H: Handler> Hub<H> {
         made: &mut u64,
         now: u64,
     ) -> Result<(), Stopped>
-        ensures exchanged { Exchanged H.answers H.tells handler.old handler.new made.old made.new }
+        ensures exchanged { Exchanged H.answers H.tells H.defers handler.old handler.new made.old made.new }
         ensures one { made.new ≤ made.old + 1 }
     {
         match self.callers.due.at(index) {
@@ -291,7 +306,7 @@ impl<H: Handler> Hub<H> {
         made: &mut u64,
         now: u64,
     ) -> Result<(), Stopped>
-        ensures exchanged { Exchanged H.answers H.tells handler.old handler.new made.old made.new }
+        ensures exchanged { Exchanged H.answers H.tells H.defers handler.old handler.new made.old made.new }
         ensures one { made.new ≤ made.old + 1 }
     {
         let Some(mut caller) = self.callers.lift(place) else {

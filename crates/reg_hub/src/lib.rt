@@ -2,6 +2,7 @@
 //! the peer takes it; and lines at counters, each answered in its turn.
 #![tactic(auto)]
 
+mod awaited;
 mod caller;
 mod callers;
 mod door;
@@ -23,7 +24,7 @@ mod watcher;
 
 pub use caller::{Caller, Next};
 pub use callers::MOST_CALLERS;
-pub use given::Given;
+pub use given::{Deferred, Given};
 pub use handler::{Crowd, Handler, Lost, Stopped};
 pub use hub::Hub;
 pub use link::Link;

@@ -8,7 +8,7 @@ use std::collections::VecDeque;
 const PATIENCE: u64 = 10_000;
 
 /// How many milliseconds pass before what signs is asked again that had no room for one more.
-const PAUSE: u64 = 10;
+pub(crate) const PAUSE: u64 = 10;
 
 /// How often a signature that was asked for is looked for before it is waited for, a hundred microseconds or two: most are there by then,
 /// and to be woken takes as long as to sign.

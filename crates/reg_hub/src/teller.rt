@@ -1,17 +1,19 @@
 //! One connection at a counter, whose lines are answered in turn.
 
-ghost use Rattle.std.specs.Prelude.{◌≡◌, ◌≤◌, ◌∷◌, [], length, take, drop, true, false, MatchOption, IfNone, OnOk, OnErr};
+ghost use Rattle.std.specs.Prelude.{◌≡◌, ◌≤◌, ◌⊎◌, ◌∷◌, [], length, take, drop, true, false, MatchOption, IfNone, OnOk, OnErr};
 ghost use Rattle.reg_wire.specs.Mark.{FirstMark, HasNoMark};
 ghost use Rattle.reg_hub.specs.Held.{AddsTo, TakesIn};
-ghost use Rattle.reg_hub.specs.Lines.{Advances, Gathers, Telling, ends_by};
+ghost use Rattle.reg_hub.specs.Lines.{Advances, Deferring, Gathers, Telling, TellingLater, ends_by};
 ghost use Rattle.reg_hub.specs.Unsent.{unsent_of};
 
 use crate::caller::Next;
+use crate::given::Deferred;
 use crate::handler::{Handler, Stopped};
 use crate::link::Link;
 use crate::taking::Taken;
 use crate::unsent::{Sent, Unsent};
 use mio::Interest;
+use mio::net::UnixStream;
 use reg_wire::first_mark;
 use std::alloc::Global;
 use std::io::{ErrorKind, Read};
@@ -22,6 +24,9 @@ const LONGEST_LINE: usize = 8_194;
 /// The most reads of a counter in a turn.
 const MOST_READS: usize = 4;
 
+/// How often a line is looked at before it is told, at the most: then it is told as it is, and who signs for it is waited for.
+const MOST_LOOKS: u32 = 3;
+
 /// A connection at a counter.
 #[derive(Drop)]
 pub struct Teller<S: Link> {
@@ -30,6 +35,8 @@ pub struct Teller<S: Link> {
     pub(crate) unsent: Unsent,
     pub(crate) has_ended: bool,
     pub(crate) is_registered: bool,
+    /// How often the first line was looked at, and is not told yet.
+    pub(crate) looks: u32,
     /// What the handler notes of this counter.
     pub(crate) noted: Vec<u8>,
 }
@@ -50,6 +57,7 @@ impl<S: Link> Teller<S> {
             unsent: Unsent::new(Vec::new(alloc)),
             has_ended: false,
             is_registered: false,
+            looks: 0,
             noted: Vec::new(alloc),
         }
     }
@@ -144,9 +152,92 @@ impl<S: Link> Teller<S> {
         ensures err { OnErr result ((self.new ≡ self.old) × (handler.new ≡ handler.old)) }
     {
         let text = handler.tell(&self.came[..end], &mut self.noted)?;
+        self.reply(text, end);
+        Ok(())
+    }
+
+    /// Holds the reply to the first line, which ends here, and drops the line.
+    fn reply(&mut self, text: Vec<u8>, end: usize)
+        requires { end ≤ length self.old.came.items }
+        ensures reply { unsent_of self.new.unsent ≡ text.items }
+        ensures rest { self.new.came.items ≡ drop end self.old.came.items }
+    {
         self.unsent = Unsent::new(text);
         drop_front(&mut self.came, end);
-        Ok(())
+        self.looks = 0;
+    }
+}
+
+/// A line for which something is to be signed.
+impl<S: Link> Teller<S> {
+    /// Looks at the first line, once the reply to the one before it was sent: what is to be signed before it is told. `None` where none is
+    /// whole, where it is told at once, and where it was looked at often enough.
+    pub fn defer<H: Handler>(&mut self, handler: &mut H) -> Option<Deferred<H::Line>>
+        ensures looked { Deferring H.defers handler.old handler.new self.old.came.items }
+        ensures came { self.new.came ≡ self.old.came }
+        ensures unsent { self.new.unsent ≡ self.old.unsent }
+    {
+        if self.unsent.len() > 0 || self.looks >= MOST_LOOKS {
+            return None;
+        }
+        match line_end(self.came.as_slice()) {
+            None => None,
+            Some(end) => {
+                self.looks += 1;
+                handler.defer(&self.came[..end])
+            }
+        }
+    }
+
+    /// Answers the first line, which was looked at, with what came on a connection for what is to be signed, or without it; or has it looked
+    /// at once more.
+    ///
+    /// # Errors
+    ///
+    /// [`Stopped`], and nothing was answered.
+    pub fn tell_deferred<H: Handler>(
+        &mut self,
+        handler: &mut H,
+        deferred: Deferred<H::Line>,
+        link: Option<UnixStream>,
+    ) -> Result<(), Stopped>
+        ensures ok { OnOk result (TellingLater H.tells H.defers handler.old handler.new self.old.came.items self.new.came.items
+            (unsent_of self.old.unsent) (unsent_of self.new.unsent)) }
+        ensures err { OnErr result ((self.new ≡ self.old) × (handler.new ≡ handler.old)) }
+    {
+        if self.unsent.len() > 0 {
+            return Ok(());
+        }
+        match line_end(self.came.as_slice()) {
+            None => Ok(()),
+            Some(end) => self.tell_later(handler, end, deferred, link),
+        }
+    }
+
+    /// Answers the first line, which ends here and was looked at, or has it looked at once more.
+    fn tell_later<H: Handler>(
+        &mut self,
+        handler: &mut H,
+        end: usize,
+        deferred: Deferred<H::Line>,
+        link: Option<UnixStream>,
+    ) -> Result<(), Stopped>
+        requires { end ≤ length self.old.came.items }
+        ensures ok { OnOk result (
+            (H.tells handler.old (take end self.old.came.items) (unsent_of self.new.unsent) handler.new
+            × (self.new.came.items ≡ drop end self.old.came.items))
+            ⊎ (H.defers handler.old (take end self.old.came.items) handler.new
+            × (self.new.came.items ≡ self.old.came.items) × (unsent_of self.new.unsent ≡ unsent_of self.old.unsent))) }
+        ensures err { OnErr result ((self.new ≡ self.old) × (handler.new ≡ handler.old)) }
+    {
+        let told = handler.tell_deferred(&self.came[..end], &mut self.noted, deferred, link)?;
+        match told {
+            Some(text) => {
+                self.reply(text, end);
+                Ok(())
+            }
+            None => Ok(()),
+        }
     }
 }
 

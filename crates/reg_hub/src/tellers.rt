@@ -3,11 +3,14 @@
 ghost use Rattle.std.specs.Prelude.{◌≡◌, ℕ, true};
 ghost use Rattle.reg_hub.specs.Exchange.{Exchanged};
 
+use crate::awaited::Awaited;
 use crate::caller::Next;
+use crate::callers::SWEEP;
 use crate::handler::{Handler, Lost, Stopped};
 use crate::losses::Loss;
 use crate::places::Places;
 use crate::shared::Shared;
+use crate::signings::PAUSE;
 use crate::teller::Teller;
 use crate::watcher::{COUNTER, FIRST_TELLER, Watcher};
 use mio::Interest;
@@ -21,16 +24,18 @@ const MOST_TELLERS: usize = 8;
 
 /// The counters, each at its place.
 #[derive(Drop)]
-pub(crate) struct Tellers {
+pub(crate) struct Tellers<H: Handler> {
     listener: Option<UnixListener>,
     places: Places<Teller<UnixStream>>,
+    /// The line that waits for a signature, if one does. Until it is told no other line is.
+    awaited: Option<Awaited<H>>,
     /// Whether the listener may have one more connection.
     pub(crate) has_tellers: bool,
     /// Whether a counter may have a line that was not answered yet.
-    pub(crate) has_lines: bool,
+    has_lines: bool,
 }
 
-impl Tellers {
+impl<H: Handler> Tellers<H> {
     /// No counter yet, where they come by a listener that does not wait, or not at all.
     ///
     /// # Errors
@@ -40,7 +45,7 @@ impl Tellers {
         alloc: Global,
         mut listener: Option<UnixListener>,
         watcher: &Watcher,
-    ) -> io::Result<Tellers> {
+    ) -> io::Result<Tellers<H>> {
         if let Some(listener) = &mut listener {
             watcher.watch(listener, COUNTER, Interest::READABLE, false)?;
         }
@@ -48,6 +53,7 @@ impl Tellers {
         Ok(Tellers {
             listener,
             places,
+            awaited: None,
             has_tellers: true,
             has_lines: false,
         })
@@ -60,7 +66,44 @@ impl Tellers {
 
     /// Whether something is to be done without waiting: a line to be answered, or a counter to be accepted.
     pub(crate) fn is_ready(&self) -> bool {
-        self.has_lines || (self.has_tellers && self.places.has_room() && self.listener.is_some())
+        self.has_work() || (self.has_tellers && self.places.has_room() && self.listener.is_some())
+    }
+
+    /// Whether a line is to be answered without waiting.
+    fn has_work(&self) -> bool {
+        match &self.awaited {
+            Some(awaited) => awaited.has_ended(),
+            None => self.has_lines,
+        }
+    }
+
+    /// How many milliseconds may be waited at the longest, where a line waits for a signature.
+    pub(crate) fn longest_wait(&self) -> Option<u64> {
+        match &self.awaited {
+            Some(awaited) if awaited.is_unasked() => Some(PAUSE),
+            Some(_) => Some(SWEEP),
+            None => None,
+        }
+    }
+
+    /// The connection is ready on which what is to be signed for a line goes out.
+    pub(crate) fn send_on(&mut self, watcher: &Watcher) {
+        if let Some(awaited) = &mut self.awaited {
+            awaited.send_on(watcher);
+        }
+    }
+
+    /// The connection is at its end on which the signature for a line comes.
+    pub(crate) fn note_come(&mut self) {
+        if let Some(awaited) = &mut self.awaited {
+            awaited.note_come();
+        }
+    }
+
+    /// No line is answered any more.
+    pub(crate) fn rest(&mut self) {
+        self.has_lines = false;
+        self.awaited = None;
     }
 
     /// Accepts counters, as long as there is room for them; further ones wait in the system's queue.
@@ -146,24 +189,68 @@ impl Tellers {
         self.places.free(place);
     }
 
-    /// Answers one line of each counter.
+    /// Answers one line of each counter; or goes on with the one that waits for a signature, until which no other is answered.
     ///
     /// # Errors
     ///
     /// [`Stopped`], where the handler is.
-    pub(crate) fn tell_all<H: Handler>(
+    pub(crate) fn tell_all(
         &mut self,
         shared: &mut Shared,
         handler: &mut H,
+        now: u64,
     ) -> Result<(), Stopped>
-        ensures { (made : ℕ) → Exchanged H.answers H.tells handler.old handler.new made made }
+        ensures { (made : ℕ) → Exchanged H.answers H.tells H.defers handler.old handler.new made made }
+    {
+        match self.awaited.take() {
+            Some(awaited) => self.go_on(awaited, shared, handler, now),
+            None => self.tell_lines(shared, handler, now),
+        }
+    }
+
+    /// Goes on with a line that waits for a signature.
+    fn go_on(
+        &mut self,
+        mut awaited: Awaited<H>,
+        shared: &mut Shared,
+        handler: &mut H,
+        now: u64,
+    ) -> Result<(), Stopped>
+        ensures { (made : ℕ) → Exchanged H.answers H.tells H.defers handler.old handler.new made made }
+    {
+        if awaited.is_over(now) {
+            return self.tell_awaited(awaited, shared, handler);
+        }
+        awaited.begin(handler, &shared.watcher);
+        self.awaited = Some(awaited);
+        Ok(())
+    }
+
+    /// Answers a line that waited for a signature.
+    fn tell_awaited(
+        &mut self,
+        awaited: Awaited<H>,
+        shared: &mut Shared,
+        handler: &mut H,
+    ) -> Result<(), Stopped>
+        ensures { (made : ℕ) → Exchanged H.answers H.tells H.defers handler.old handler.new made made }
+    {
+        let (place, mut teller, deferred, link) = awaited.into_parts();
+        let told = teller.tell_deferred(handler, deferred, link);
+        self.settle(place, teller, shared);
+        told
+    }
+
+    /// Answers one line of each counter.
+    fn tell_lines(&mut self, shared: &mut Shared, handler: &mut H, now: u64) -> Result<(), Stopped>
+        ensures { (made : ℕ) → Exchanged H.answers H.tells H.defers handler.old handler.new made made }
     {
         if !self.has_lines {
             return Ok(());
         }
         self.has_lines = false;
         for place in 0..MOST_TELLERS {
-            match self.tell_at(place, shared, handler) {
+            match self.tell_at(place, shared, handler, now) {
                 Ok(()) => {}
                 Err(stopped) => return Err(stopped),
             }
@@ -171,18 +258,44 @@ impl Tellers {
         Ok(())
     }
 
-    /// Answers one line of the counter at a place.
-    fn tell_at<H: Handler>(
+    /// Answers one line of the counter at a place, unless a line waits for a signature: this one, or one before it.
+    fn tell_at(
         &mut self,
         place: usize,
         shared: &mut Shared,
         handler: &mut H,
+        now: u64,
     ) -> Result<(), Stopped>
-        ensures { (made : ℕ) → Exchanged H.answers H.tells handler.old handler.new made made }
+        ensures { (made : ℕ) → Exchanged H.answers H.tells H.defers handler.old handler.new made made }
     {
+        if self.awaited.is_some() {
+            self.has_lines = true;
+            return Ok(());
+        }
         let Some(mut teller) = self.places.lift(place) else {
             return Ok(());
         };
+        match teller.defer(handler) {
+            Some(deferred) => {
+                let mut awaited = Awaited::new(place, teller, deferred, now);
+                awaited.begin(handler, &shared.watcher);
+                self.awaited = Some(awaited);
+                Ok(())
+            }
+            None => self.tell_one(place, teller, shared, handler),
+        }
+    }
+
+    /// Answers one line of a counter that was lifted out of a place.
+    fn tell_one(
+        &mut self,
+        place: usize,
+        mut teller: Teller<UnixStream>,
+        shared: &mut Shared,
+        handler: &mut H,
+    ) -> Result<(), Stopped>
+        ensures { (made : ℕ) → Exchanged H.answers H.tells H.defers handler.old handler.new made made }
+    {
         let told = teller.tell(handler);
         self.settle(place, teller, shared);
         told

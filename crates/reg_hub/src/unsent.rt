@@ -43,6 +43,14 @@ impl Unsent {
         Unsent { text, sent: 0 }
     }
 
+    /// The whole text again.
+    pub(crate) fn into_text(self) -> Vec<u8>
+        ensures { result ≡ self.text }
+    {
+        let Unsent { text, sent: _ } = self;
+        text
+    }
+
     /// How many bytes are left.
     pub fn len(&self) -> usize
         ensures { result ≡ length (unsent_of self.now) }

@@ -16,7 +16,8 @@ const MOST_EVENTS: usize = 1_024;
 /// How many signatures are asked for at once.
 pub(crate) const MOST_SIGNINGS: usize = 32;
 
-/// The tokens of the listeners; behind them come those of the counters, of the signatures that are asked for, and of the peers.
+/// The tokens of the listeners; behind them come those of the counters, of the signatures that are asked for, of the one for a line, and of
+/// the peers.
 pub(crate) const LISTENER: usize = 0;
 
 pub(crate) const COUNTER: usize = 1;
@@ -25,7 +26,12 @@ pub(crate) const FIRST_TELLER: usize = 2;
 
 pub(crate) const FIRST_SIGNING: usize = 10;
 
-pub(crate) const FIRST_CALLER: usize = FIRST_SIGNING + MOST_SIGNINGS;
+pub(crate) const LINE: usize = FIRST_SIGNING + MOST_SIGNINGS;
+
+/// The connection under the token before is at its end.
+pub(crate) const LINE_ENDED: usize = LINE + 1;
+
+pub(crate) const FIRST_CALLER: usize = LINE + 2;
 
 /// Watches connections, and holds the tokens of those that are ready in this turn.
 #[derive(Drop)]
@@ -91,7 +97,7 @@ impl Watcher {
         self.tokens.clear();
         for event in &self.events {
             let Token(token) = event.token();
-            if event.is_read_closed() || !is_of_signing(token) {
+            if let Some(token) = ready_token(token, event.is_read_closed()) {
                 // There is room for each event.
                 let _ = self.tokens.push(token);
             }
@@ -113,7 +119,13 @@ impl Watcher {
     }
 }
 
-/// Whether a token is one of a signature.
-fn is_of_signing(token: usize) -> bool {
-    FIRST_SIGNING <= token && token < FIRST_CALLER
+/// The token under which an event is told: of a signature, only where its connection is at its end.
+fn ready_token(token: usize, is_ended: bool) -> Option<usize> {
+    if FIRST_SIGNING <= token && token < LINE && !is_ended {
+        return None;
+    }
+    if token == LINE && is_ended {
+        return Some(LINE_ENDED);
+    }
+    Some(token)
 }

@@ -23,7 +23,7 @@ use Rattle.reg_http.specs.RespondsTo.{RespondsTo}
 use Rattle.reg_http.specs.Served.{Responds, ServingEnds}
 use Rattle.reg_ocsp.specs.Drafts.{Drafted, drafted_response}
 use Rattle.reg_signer.specs.Forms.{HasForm}
-use Rattle.reg_hub.specs.Exchange.{Outcome, said, pending}
+use Rattle.reg_hub.specs.Exchange.{Outcome, said, pending, later}
 use Rattle.reg_jobs.specs.Exchanges.{ExchangeAt}
 use Rattle.reg_jobs.specs.Leaving.{Finished, FinishesAt, IsSignatureOf, Meets}
 use Rattle.reg_jobs.specs.declared.leaving.Unsigned.{Unsigned}
@@ -149,6 +149,7 @@ meets_weaker : {T : Type 0} (finishes : T → List ℕ → Type 0) (wanted other
     → (outcome : Outcome T) → Meets finishes wanted outcome → Meets finishes other outcome
 meets_weaker finishes wanted other from (said text) met = from text met
 meets_weaker finishes wanted other from (pending ticket) met = λ text finished. from text (met text finished)
+meets_weaker finishes wanted other from later met = met
 
 -- What stands in an office before and after.
 module _ {S : Type 0} (is_clean : S → Type 0) (stands : Signatory → S → Records → Type 0) (s t : S) where

@@ -2,6 +2,7 @@ pub mod Fates
 pub mod Finishing
 pub mod LineByLine
 pub mod ListsTold
+pub mod LookedAt
 pub mod Looks
 pub mod NextLines
 pub mod PageByPage

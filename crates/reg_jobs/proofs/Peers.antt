@@ -11,7 +11,7 @@ use Rattle.reg_calls.specs.Leads.{Leads}
 use Rattle.reg_faces.proofs.Exchanges.{read_is_not_write, memory_is_not_write}
 use Rattle.reg_faces.proofs.Steps.{follows, runs, stays}
 use Rattle.reg_http.specs.Served.{ServingEnds}
-use Rattle.reg_hub.specs.Exchange.{Input, request, line, Outcome, said, pending, Handles}
+use Rattle.reg_hub.specs.Exchange.{Input, request, line, Outcome, said, pending, later, Handles}
 use Rattle.reg_lines.specs.Answer.{Answer}
 use Rattle.reg_lines.specs.Meaning.{Meaning}
 use Rattle.reg_lines.specs.Script.{ScriptEnds}
@@ -238,19 +238,22 @@ module _ {S : Type 0} (is_clean : S → Type 0) (stands : Signatory → S → Re
 
 -- What a handler answered, one after the other, as a run of its records.
 module _ {S T : Type 0} (is_clean : S → Type 0) (stands : Signatory → S → Records → Type 0)
-    (answers : S → List ℕ → Outcome T → S → Type 0) (tells : S → List ℕ → List ℕ → S → Type 0)
+    (answers : S → List ℕ → Outcome T → S → Type 0) (tells : S → List ℕ → List ℕ → S → Type 0) (defers : S → List ℕ → S → Type 0)
     (kept_answers : Signatory → Records → List ℕ → Outcome T → Records → Type 0) (kept_tells : Signatory → Records → List ℕ → List ℕ → Records → Type 0)
+    (kept_defers : Signatory → Records → List ℕ → Records → Type 0)
     (lifts : (s : S) (came : List ℕ) (outcome : Outcome T) (t : S) → answers s came outcome t
     → Leads is_clean stands (λ i before after. kept_answers i before came outcome after) s t)
-    (lifts_lines : (s : S) (came text : List ℕ) (t : S) → tells s came text t → Leads is_clean stands (λ i before after. kept_tells i before came text after) s t) where
+    (lifts_lines : (s : S) (came text : List ℕ) (t : S) → tells s came text t → Leads is_clean stands (λ i before after. kept_tells i before came text after) s t)
+    (lifts_looks : (s : S) (came : List ℕ) (t : S) → defers s came t → Leads is_clean stands (λ i before after. kept_defers i before came after) s t) where
   -- one of them
-  one_moves : (s : S) (input : Input) (outcome : Outcome T) (t : S) → Handles answers tells s input outcome t
-      → Leads is_clean stands (λ i before after. Handles (kept_answers i) (kept_tells i) before input outcome after) s t
+  one_moves : (s : S) (input : Input) (outcome : Outcome T) (t : S) → Handles answers tells defers s input outcome t
+      → Leads is_clean stands (λ i before after. Handles (kept_answers i) (kept_tells i) (kept_defers i) before input outcome after) s t
   one_moves s (request came) outcome t step = lifts s came outcome t step
   one_moves s (line came) (said text) t step = lifts_lines s came text t step
   one_moves s (line came) (pending ticket) t step = absurd step
+  one_moves s (line came) later t step = lifts_looks s came t step
 
   -- all of them
-  pub exchanges_move : (s t : S) (inputs : List Input) (outcomes : List (Outcome T)) → Answered (Handles answers tells) s inputs outcomes t
-      → Leads is_clean stands (λ i before after. Answered (Handles (kept_answers i) (kept_tells i)) before inputs outcomes after) s t
-  exchanges_move = runs is_clean stands (Handles answers tells) (λ i. Handles (kept_answers i) (kept_tells i)) one_moves
+  pub exchanges_move : (s t : S) (inputs : List Input) (outcomes : List (Outcome T)) → Answered (Handles answers tells defers) s inputs outcomes t
+      → Leads is_clean stands (λ i before after. Answered (Handles (kept_answers i) (kept_tells i) (kept_defers i)) before inputs outcomes after) s t
+  exchanges_move = runs is_clean stands (Handles answers tells defers) (λ i. Handles (kept_answers i) (kept_tells i) (kept_defers i)) one_moves

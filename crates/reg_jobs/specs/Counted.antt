@@ -1,6 +1,6 @@
 -- That an open register counts each exchange once, where its text is made.
 use Rattle.std.specs.Prelude.{◌≡◌, ◌⊎◌, ◌↔◌, ◌<◌, ℕ, Bool, List, IsTrue, Option, is_none}
-use Rattle.reg_hub.specs.Exchange.{Outcome, said, pending}
+use Rattle.reg_hub.specs.Exchange.{Outcome, said, pending, later}
 use Rattle.reg_jobs.specs.Leaving.{IsSignatureOf, Wrote}
 use Rattle.reg_jobs.specs.declared.leaving.Unsigned.{Unsigned}
 use Rattle.reg_watch.specs.Exchanges.{route_in}
@@ -17,6 +17,7 @@ abbrev pub CountsVisit : Type 0 → ℕ → List ℕ → Outcome Unsigned → Ta
 CountsVisit failed now request (said text) tally tally' =
     (micros : ℕ) × (is_unsigned : Bool) × (IsTrue is_unsigned ↔ failed) × (tally' ≡ with_answer now (route_in request) text micros is_unsigned tally)
 CountsVisit failed now request (pending unsigned) tally tally' = (unsigned.moment ≡ now) × (unsigned.route ≡ route_in request) × (tally' ≡ tally)
+CountsVisit failed now request later tally tally' = ⊥
 
 -- the text that finishes what was left is counted, by its moment and its route, as one without its signature where it has none
 abbrev pub CountsFinished : (List ℕ → List ℕ → Type 0) → Unsigned → List ℕ → Tally → Tally → Type 0

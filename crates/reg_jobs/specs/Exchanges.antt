@@ -95,6 +95,10 @@ Exchange signs told identity before request text after = (now : ℕ) × told now
 abbrev pub Entry : Signs → (ℕ → Type 0) → Signatory → Records → List ℕ → List ℕ → Records → Type 0
 Entry signs told identity before line text after = (now : ℕ) × told now × EntryAt signs now identity before line text after
 
+-- a line that is only looked at changes no record
+abbrev pub Unmoved : Records → List ℕ → Records → Type 0
+Unmoved before line after = after ≡ before
+
 -- where there is no counter, no line comes
 abbrev pub NoEntry : {S A : Type 0} → S → List ℕ → A → S → Type 0
 NoEntry before line answer after = ⊥

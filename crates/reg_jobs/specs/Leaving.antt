@@ -3,7 +3,7 @@ use Rattle.std.specs.Prelude.{◌≡◌, ℕ, List, [], Option, Some, None, Resu
 use Rattle.reg_core.specs.declared.memory.Memory.{Memory}
 use Rattle.reg_core.specs.declared.refusal.Fault.{Fault}
 use Rattle.reg_http.specs.Beginning.{FinishingEnds}
-use Rattle.reg_hub.specs.Exchange.{Outcome, said, pending}
+use Rattle.reg_hub.specs.Exchange.{Outcome, said, pending, later}
 use Rattle.reg_ocsp.specs.Drafts.{Drafted, drafted_response}
 use Rattle.reg_signer.specs.Forms.{HasForm}
 use Rattle.reg_jobs.specs.Exchanges.{Responded}
@@ -41,3 +41,4 @@ Finished gave unsigned text = FinishesAt gave unsigned.draft unsigned.moment tex
 abbrev pub Meets : {T : Type 0} → (T → List ℕ → Type 0) → (List ℕ → Type 0) → Outcome T → Type 0
 Meets finishes wanted (said text) = wanted text
 Meets finishes wanted (pending ticket) = (text : List ℕ) → finishes ticket text → wanted text
+Meets finishes wanted later = ⊥

@@ -9,7 +9,7 @@ use Rattle.reg_calls.specs.Steps.{Signs}
 use Rattle.reg_hub.specs.Exchange.{Input, Outcome, Handles, asked_in}
 use Rattle.reg_endings.specs.declared.failure.Failure.{Failure}
 use Rattle.reg_endings.specs.declared.failure.Failure.TheVariants as failure
-use Rattle.reg_jobs.specs.Exchanges.{Exchange, NoEntry}
+use Rattle.reg_jobs.specs.Exchanges.{Exchange, NoEntry, Unmoved}
 use Rattle.reg_jobs.specs.Leaving.{Finished, Meets}
 use Rattle.reg_jobs.specs.Reasons.{Word}
 use Rattle.reg_jobs.specs.Watched.{Visit}
@@ -35,13 +35,13 @@ Visiting signs gave told identity before request outcome after =
 abbrev pub Serves
     : Signs → (List ℕ → List ℕ → Type 0) → (ℕ → Type 0) → List Input → List (Outcome Unsigned) → Signatory → Records → Records → Type 0
 Serves signs gave told inputs outcomes identity before after =
-    Answered (Handles (Exchanging signs gave told identity) NoEntry) before inputs outcomes after
+    Answered (Handles (Exchanging signs gave told identity) NoEntry Unmoved) before inputs outcomes after
 
 -- what peers and lines at counters made of the records, one after the other, and nothing else
 abbrev pub Opens
     : Signs → (List ℕ → List ℕ → Type 0) → (ℕ → Type 0) → List Input → List (Outcome Unsigned) → Signatory → Records → Records → Type 0
 Opens signs gave told inputs outcomes identity before after =
-    Answered (Handles (Visiting signs gave told identity) (Word signs told identity)) before inputs outcomes after
+    Answered (Handles (Visiting signs gave told identity) (Word signs told identity) Unmoved) before inputs outcomes after
 
 -- this machine alone: the address of the loopback interface (RFC 1122 3.2.1.3)
 abbrev pub loopback : List ℕ

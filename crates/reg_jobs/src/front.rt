@@ -9,7 +9,7 @@ use std::os::unix::net::UnixStream;
 /// only by a call of it that a moment is one of the clock, that a port was bound, that a socket was laid or met, and that a line was
 /// given to standard error.
 pub trait Front {
-    ghost use Rattle.std.specs.Prelude.{◌≡◌, ℕ, List, OnOk, IfOk, IfErr};
+    ghost use Rattle.std.specs.Prelude.{◌≡◌, ℕ, List, OnOk, IfOk, IfErr, IfSome};
 
     /// The clock told this moment.
     ghost told: { ℕ → Type 0 };
@@ -34,6 +34,10 @@ pub trait Front {
     fn moment(&self) -> Result<Moment, Fault>
         ensures told { IfOk result told }
         ensures err { IfErr result (λ fault. fault ≡ Fault.Read) };
+
+    /// A moment that the clock told before. `None` where it does not stand at it or behind it.
+    fn recall(&self, moment: Moment) -> Option<Moment>
+        ensures { IfSome result (λ recalled. told recalled × (recalled ≡ moment)) };
 
     /// Listens at a port of an address, and does not wait for who comes.
     ///
@@ -67,6 +71,13 @@ pub trait Front {
     ///
     /// `WouldBlock` where the socket has no room for one more; what else the system says where nothing can be asked there.
     fn ask(&self, path: &str, message: &[u8]) -> io::Result<UnwaitingStream>;
+
+    /// Connects to the socket at a path, and waits for nothing.
+    ///
+    /// # Errors
+    ///
+    /// `WouldBlock` where the socket has no room for one more; what else the system says where it can't be connected to.
+    fn reach(&self, path: &str) -> io::Result<UnwaitingStream>;
 
     /// Whether exchanges are told in a log.
     fn has_log(&self) -> bool;

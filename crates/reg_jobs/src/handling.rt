@@ -1,6 +1,6 @@
 //! A desk, as it answers who comes: peers, and lines at a counter.
 
-ghost use Rattle.std.specs.Prelude.{◌≡◌, ◌⊎◌, ◌↔◌, ◌<◌, ◌++◌, ◌∷◌, [], ℕ, List, Some, IfOk, IsTrue, OnOk, OnErr};
+ghost use Rattle.std.specs.Prelude.{◌≡◌, ◌⊎◌, ◌↔◌, ◌<◌, ◌++◌, ◌∷◌, [], ℕ, List, Some, IfOk, IsTrue, MatchOption, OnOk, OnErr};
 ghost use Rattle.reg_hub.specs.Outcomes.{outcome_of};
 ghost use Rattle.reg_jobs.specs.Leaving.{Finished, FinishesAt, Meets};
 ghost use Rattle.reg_core.specs.Lines.{fault_line};
@@ -14,6 +14,7 @@ ghost use Rattle.reg_jobs.specs.Watched.{IsRecounted, Visit, VisitAt};
 ghost use Rattle.reg_jobs.specs.Counted.{CountsLine, CountsVisit, HasFailed};
 ghost use Rattle.reg_watch.specs.declared.tally.Tally.{Tally as Tallies};
 
+use crate::deferring::{Looked, known_of, reach_for, wanted_by};
 use crate::front::Front;
 use crate::leaving::{Unsigned, ask_for, finish_counted, finish_logged, unsigned_of};
 use crate::logging::{log_answer, log_line, log_lost, micros_since};
@@ -27,7 +28,7 @@ use reg_core::{Fault, Moment};
 use reg_faces::{begin_one, run_script};
 use reg_heads::write_memory_fault;
 use reg_http::asks_list;
-use reg_hub::{Crowd, Given, Handler, Lost, Stopped};
+use reg_hub::{Crowd, Deferred, Given, Handler, Lost, Stopped};
 use reg_ocsp::Draft;
 use reg_watch::{Heard, Tally, route_of};
 use std::alloc::{AllocError, Global};
@@ -58,6 +59,10 @@ pub(crate) struct OpenDesk<'a, 'w, P: Place, F: Front> {
     pub(crate) front: &'a F,
     /// The socket of who signs OCSP answers, where what holds a key does.
     pub(crate) signer: Option<&'w str>,
+    /// The socket of who signs CRLs, where what holds a key does.
+    pub(crate) crl_signer: Option<&'w str>,
+    /// Since which microseconds who signs OCSP answers is left alone by lines, where it is.
+    pub(crate) alone_since: Option<u64>,
     /// What was counted since it was opened. No clause of the desk reads it: an answer that was left to be signed is counted where it is
     /// finished, at which the desk stays as it is.
     pub(crate) tally: &'a Cell<Tally>,
@@ -91,11 +96,15 @@ impl<'a, 'w, P: Place, F: Front> Handler for ServedDesk<'a, 'w, P, F> {
 
     type Ticket = Unsigned;
 
+    type Line = NoTicket;
+
     ghost answers = { λ s request outcome t. Leads P.Opened.is_clean P.Opened.stands
         (λ identity before after. Meets (Finished P.gave) (λ text. Exchange P.Opened.signs F.told identity before request text after) outcome)
         s.office t.office };
 
     ghost tells = { NoEntry };
+
+    ghost defers = { λ s line t. t ≡ s };
 
     ghost finishes = { Finished P.gave };
 
@@ -115,6 +124,29 @@ impl<'a, 'w, P: Place, F: Front> Handler for ServedDesk<'a, 'w, P, F> {
         Err(Stopped)
     }
 
+    fn defer(&mut self, _line: &[u8]) -> Option<Deferred<NoTicket>>
+        ensures { self.new ≡ self.old }
+    {
+        None
+    }
+
+    fn reach(&self, _ticket: &NoTicket) -> io::Result<UnixStream> {
+        Err(io::Error::from(ErrorKind::NotFound))
+    }
+
+    fn tell_deferred(
+        &mut self,
+        line: &[u8],
+        noted: &mut Vec<u8>,
+        _deferred: Deferred<NoTicket>,
+        _link: Option<UnixStream>,
+    ) -> Result<Option<Vec<u8>>, Stopped>
+        ensures ok { IfOk result (λ told. MatchOption told (self.new ≡ self.old) (λ text. NoEntry self.old line.now text.items self.new)) }
+        ensures err { OnErr result ((self.new ≡ self.old) × (noted.new ≡ noted.old)) }
+    {
+        Err(Stopped)
+    }
+
     fn lose(&self, peer: Option<SocketAddr>, why: Lost) {
         log_lost(self.alloc, self.front, peer, why);
     }
@@ -130,12 +162,16 @@ impl<'a, 'w, P: Place, F: Front> Handler for OpenDesk<'a, 'w, P, F> {
 
     type Ticket = Unsigned;
 
+    type Line = Looked;
+
     ghost answers = { λ s request outcome t. Leads P.Opened.is_clean P.Opened.stands
         (λ identity before after. Meets (Finished P.gave) (λ text. Visit P.Opened.signs F.told identity before request text after) outcome)
         s.office t.office };
 
     ghost tells = { λ s line text t. Leads P.Opened.is_clean P.Opened.stands
         (λ identity before after. Word P.Opened.signs F.told identity before line text after) s.office t.office };
+
+    ghost defers = { λ s line t. Leads P.Opened.is_clean P.Opened.stands (λ identity before after. after ≡ before) s.office t.office };
 
     ghost finishes = { Finished P.gave };
 
@@ -179,6 +215,49 @@ impl<'a, 'w, P: Place, F: Front> Handler for OpenDesk<'a, 'w, P, F> {
         told
     }
 
+    fn defer(&mut self, line: &[u8]) -> Option<Deferred<Looked>> {
+        match wanted_by(line) {
+            Some(wanted) if self.signer_of(wanted).is_some() => self.look(wanted, line),
+            _ => None,
+        }
+    }
+
+    fn reach(&self, ticket: &Looked) -> io::Result<UnixStream> {
+        reach_for(self.front, self.signer_of(ticket.wanted), ticket)
+    }
+
+    fn tell_deferred(
+        &mut self,
+        line: &[u8],
+        noted: &mut Vec<u8>,
+        deferred: Deferred<Looked>,
+        link: Option<UnixStream>,
+    ) -> Result<Option<Vec<u8>>, Stopped>
+        ensures ok { IfOk result (λ told. MatchOption told
+            (Leads P.Opened.is_clean P.Opened.stands (λ identity before after. after ≡ before) self.old.office self.new.office)
+            (λ text. Leads P.Opened.is_clean P.Opened.stands
+            (λ identity before after. Word P.Opened.signs F.told identity before line.now text.items after) self.old.office self.new.office)) }
+        ensures err { OnErr result ((self.new ≡ self.old) × (noted.new ≡ noted.old)) }
+    {
+        let Deferred { message, ticket } = deferred;
+        let looked = ticket;
+        let asked = ticket;
+        let has_come = link.is_some();
+        let known = known_of::<P, F>(
+            self.alloc,
+            &mut self.office,
+            self.front,
+            looked,
+            message,
+            link,
+        )?;
+        self.note_asked(asked, has_come);
+        match known {
+            Some(known) => Ok(Some(self.tell_known(line, noted, ticket, known))),
+            None => Ok(None),
+        }
+    }
+
     fn lose(&self, peer: Option<SocketAddr>, why: Lost) {
         self.heard.set(with_loss(self.heard.get(), why));
         log_lost(self.alloc, self.front, peer, why);
@@ -195,10 +274,14 @@ impl<'a, K: Keeper, F: Front> Handler for ClockedDesk<'a, K, F> {
 
     type Ticket = NoTicket;
 
+    type Line = NoTicket;
+
     ghost answers = { NoEntry };
 
     ghost tells = { λ s line text t. Leads K.is_clean K.stands
         (λ identity before after. Entry K.signs F.told identity before line text after) s.office t.office };
+
+    ghost defers = { λ s line t. t ≡ s };
 
     ghost finishes = { λ ticket text. Unit {0} };
 
@@ -220,6 +303,31 @@ impl<'a, K: Keeper, F: Front> Handler for ClockedDesk<'a, K, F> {
         tell_clocked(self.alloc, &mut self.office, self.front, line)
     }
 
+    fn defer(&mut self, _line: &[u8]) -> Option<Deferred<NoTicket>>
+        ensures { self.new ≡ self.old }
+    {
+        None
+    }
+
+    fn reach(&self, _ticket: &NoTicket) -> io::Result<UnixStream> {
+        Err(io::Error::from(ErrorKind::NotFound))
+    }
+
+    fn tell_deferred(
+        &mut self,
+        line: &[u8],
+        noted: &mut Vec<u8>,
+        _deferred: Deferred<NoTicket>,
+        _link: Option<UnixStream>,
+    ) -> Result<Option<Vec<u8>>, Stopped>
+        ensures ok { IfOk result (λ told. MatchOption told (self.new ≡ self.old)
+            (λ text. Leads K.is_clean K.stands
+            (λ identity before after. Entry K.signs F.told identity before line.now text.items after) self.old.office self.new.office)) }
+        ensures err { OnErr result ((self.new ≡ self.old) × (noted.new ≡ noted.old)) }
+    {
+        Err(Stopped)
+    }
+
     fn lose(&self, _peer: Option<SocketAddr>, _why: Lost) {}
 
     fn hold(&self, _crowd: Crowd) {}
@@ -231,10 +339,14 @@ impl<K: Keeper> Handler for LinedDesk<K> {
 
     type Ticket = NoTicket;
 
+    type Line = NoTicket;
+
     ghost answers = { NoEntry };
 
     ghost tells = { λ s line text t. Leads K.is_clean K.stands
         (λ identity before after. LineRuns K.signs identity before line text after) s.office t.office };
+
+    ghost defers = { λ s line t. t ≡ s };
 
     ghost finishes = { λ ticket text. Unit {0} };
 
@@ -254,6 +366,31 @@ impl<K: Keeper> Handler for LinedDesk<K> {
 
     fn tell(&mut self, line: &[u8], _noted: &mut Vec<u8>) -> Result<Vec<u8>, Stopped> {
         Ok(tell_alone(self.alloc, &mut self.office, line))
+    }
+
+    fn defer(&mut self, _line: &[u8]) -> Option<Deferred<NoTicket>>
+        ensures { self.new ≡ self.old }
+    {
+        None
+    }
+
+    fn reach(&self, _ticket: &NoTicket) -> io::Result<UnixStream> {
+        Err(io::Error::from(ErrorKind::NotFound))
+    }
+
+    fn tell_deferred(
+        &mut self,
+        line: &[u8],
+        noted: &mut Vec<u8>,
+        _deferred: Deferred<NoTicket>,
+        _link: Option<UnixStream>,
+    ) -> Result<Option<Vec<u8>>, Stopped>
+        ensures ok { IfOk result (λ told. MatchOption told (self.new ≡ self.old)
+            (λ text. Leads K.is_clean K.stands
+            (λ identity before after. LineRuns K.signs identity before line.now text.items after) self.old.office self.new.office)) }
+        ensures err { OnErr result ((self.new ≡ self.old) × (noted.new ≡ noted.old)) }
+    {
+        Err(Stopped)
     }
 
     fn lose(&self, _peer: Option<SocketAddr>, _why: Lost) {}
@@ -318,7 +455,16 @@ fn tell_counted_now<P: Place, F: Front>(
     ensures err { OnErr result ((office.new ≡ office.old) × (tally.new ≡ tally.old) × (noted.new ≡ noted.old)) }
 {
     match front.moment() {
-        Ok(now) => Ok(tell_counted::<P, F>(alloc, office, front, tally, now, line, noted)),
+        Ok(now) => Ok(tell_counted::<P, F>(
+            alloc,
+            office,
+            front,
+            tally,
+            front.micros(),
+            now,
+            line,
+            noted,
+        )),
         Err(_) => Err(Stopped),
     }
 }
@@ -530,12 +676,13 @@ fn emptied(mut text: Vec<u8>) -> Vec<u8>
     text
 }
 
-/// Answers a line of a counter, at a moment, counts it, and puts it into the log, where there is one.
-fn tell_counted<P: Place, F: Front>(
+/// Answers a line of a counter, which began at these microseconds, at a moment, counts it, and puts it into the log, where there is one.
+pub(crate) fn tell_counted<P: Place, F: Front>(
     alloc: Global,
     office: &mut P::Opened,
     front: &F,
     tally: &mut Tally,
+    began: u64,
     now: Moment,
     line: &[u8],
     noted: &mut Vec<u8>,
@@ -544,7 +691,6 @@ fn tell_counted<P: Place, F: Front>(
         (λ identity before after. WordAt P.Opened.signs now identity before line.now result.items after) office.old office.new }
     ensures counted { CountsLine (HasFailed P.Opened.failures P.Opened.answer_failures office.old office.new) now result.items tally.old tally.new }
 {
-    let began = front.micros();
     let failures = P::failures(office);
     let reply = tell_word::<P>(alloc, office, now, line, noted);
     let is_unsigned = has_failed::<P>(office, failures);

@@ -2,6 +2,7 @@
 #![tactic(auto)]
 
 mod asking;
+mod deferring;
 mod front;
 mod handling;
 mod jobs;
@@ -20,6 +21,7 @@ mod telling;
 mod watching;
 
 pub use asking::{at, talk};
+pub use deferring::{Looked, Wanted};
 pub use front::Front;
 pub use jobs::{NewOffice, audit, crl, ended, import_rows, init, key_identifier, schedule, script};
 pub use leaving::Unsigned;

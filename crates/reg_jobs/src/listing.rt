@@ -64,7 +64,8 @@ fn given_list<P: Place>(
 ) -> Result<Vec<u8>, Fault>
     ensures { Leads P.Opened.is_clean P.Opened.stands (λ identity before after. Lists before now form from (items_of result) after) register.old register.new }
 {
-    let mut text = opening(alloc, form, from)?;
+    let first = from;
+    let mut text = opening(alloc, form, first)?;
     let mut next = Some(from);
     for _ in 0..u64::MAX {
         match next {

@@ -10,7 +10,7 @@ ghost use Rattle.reg_jobs.specs.Serving.{OpenedAt, Opens, loopback};
 use crate::front::Front;
 use crate::handling::OpenDesk;
 use crate::place::Place;
-use crate::serving::{LOOPBACK, answers_at, hub_over, serve_hub};
+use crate::serving::{LOOPBACK, answers_at, crls_at, hub_over, serve_hub};
 use reg_core::Fault;
 use reg_endings::Failure;
 use reg_hub::{Handler, Hub};
@@ -43,6 +43,8 @@ pub fn hold_open<'w, P: Place, F: Front, W: Write>(
         alloc,
         front,
         signer: answers_at(signer, answerer),
+        crl_signer: crls_at(signer),
+        alone_since: None,
         tally: &tally,
         heard: &heard,
     };
@@ -63,7 +65,7 @@ fn keep_open<P: Place, F: Front, W: Write>(
         × Leads P.Opened.is_clean P.Opened.stands (Opens P.Opened.signs P.gave F.told inputs outcomes) opened.old.office opened.new.office
         × OpenedAt W.contents writer.old writer.new F.bound F.laid port counter.now inputs result }
 {
-    let mut hub: Hub<OpenDesk<'_, '_, P, F>> = match hub_with_counter(
+    let hub: Hub<OpenDesk<'_, '_, P, F>> = match hub_with_counter(
         rt,
         opened.front,
         port,
@@ -72,7 +74,7 @@ fn keep_open<P: Place, F: Front, W: Write>(
         Ok(hub) => hub,
         Err(why) => return Err(why),
     };
-    serve_hub(rt, &mut hub, opened, port, u64::MAX, writer)
+    serve_hub(rt, hub, opened, port, u64::MAX, writer)
 }
 
 /// A hub at a port of the loopback interface, and at a counter.

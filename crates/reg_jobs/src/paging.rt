@@ -58,7 +58,8 @@ fn tell_list<P: Place>(
     let told = match asked {
         ListAsked::Nothing(why) => refuse_list(alloc, why),
         ListAsked::Page { from, most } => {
-            let given = P::page(alloc, office, now, from, most);
+            let at = from;
+            let given = P::page(alloc, office, now, at, most);
             tell_page(alloc, from, &given)
         }
     };

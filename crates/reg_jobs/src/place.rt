@@ -1,5 +1,6 @@
 //! A place where registers lie.
 
+use crate::deferring::Wanted;
 use mio::net::UnixStream;
 use reg_calls::Keeper;
 use reg_core::{Fault, Label, Memory, Moment, Policy, Schedule};
@@ -7,6 +8,7 @@ use reg_der::Issuer;
 use reg_endings::Failure;
 use reg_findings::Verdict;
 use reg_lists::{Cursor, Page};
+use reg_signer::Primed;
 use reg_tables::StoreFault;
 use reg_watch::Standing;
 use reg_words::{Answerer, KeyHolder};
@@ -209,6 +211,17 @@ pub trait Place {
         not_before: Moment,
     ) -> Result<Option<u64>, Fault>
         ensures { Leads Self.Opened.is_clean Self.Opened.stands (λ identity before after. HasLongest before order not_before result × (after ≡ before)) register.old register.new };
+
+    /// What would be signed in the next CRL of a register that was opened, at a moment, where what holds a key signs it. `None` where none would
+    /// be issued then, and where memory or the place fails. Nothing changes.
+    fn crl_message(register: &mut Self::Opened, alloc: Global, now: Moment) -> Option<Vec<u8>>
+        ensures { Leads Self.Opened.is_clean Self.Opened.stands (λ identity before after. after ≡ before) register.old register.new };
+
+    /// Has what is known of the next signature of a register that was opened taken for it: what the key's holder gave to a message, or that it
+    /// gave nothing. It is not asked then. `None` has it asked again.
+    fn prime(register: &mut Self::Opened, wanted: Wanted, primed: Option<Primed>)
+        requires { IfSome primed (λ known. IfSome known.answer (λ answer. gave known.message.items answer.items)) }
+        ensures { Leads Self.Opened.is_clean Self.Opened.stands (λ identity before after. after ≡ before) register.old register.new };
 
     /// Audits the register that lies at a path. It only reads, so the place is as it was: what lies at the path keeps each byte, nothing
     /// is laid beside it, and one of an older version is not made newer.

@@ -60,6 +60,11 @@ pub(crate) fn answers_at<'w>(
     }
 }
 
+/// The socket of what signs CRLs, where what holds a key does.
+pub(crate) fn crls_at<'w>(signer: &Option<KeyHolder<'w>>) -> Option<&'w str> {
+    Some(signer.as_ref()?.socket.as_str())
+}
+
 /// Binds the port, tells it, and answers so many peers.
 fn serve_desk<P: Place, F: Front, W: Write>(
     rt: &HostRuntime,
@@ -72,11 +77,11 @@ fn serve_desk<P: Place, F: Front, W: Write>(
         × Leads P.Opened.is_clean P.Opened.stands (Serves P.Opened.signs P.gave F.told inputs outcomes) served.old.office served.new.office
         × ServedAt W.contents writer.old writer.new F.bound port requests inputs result }
 {
-    let mut hub: Hub<ServedDesk<'_, '_, P, F>> = match hub_at(rt, served.front, port) {
+    let hub: Hub<ServedDesk<'_, '_, P, F>> = match hub_at(rt, served.front, port) {
         Ok(hub) => hub,
         Err(why) => return Err(why),
     };
-    serve_hub(rt, &mut hub, served, port, u64::from(requests), writer)
+    serve_hub(rt, hub, served, port, u64::from(requests), writer)
 }
 
 /// A hub at a port of the loopback interface.
@@ -110,17 +115,17 @@ pub(crate) fn hub_over<H: Handler>(
 /// Tells the port, and answers so many peers.
 pub(crate) fn serve_hub<H: Handler, W: Write>(
     rt: &HostRuntime,
-    hub: &mut Hub<H>,
+    mut hub: Hub<H>,
     handler: &mut H,
     port: u16,
     requests: u64,
     writer: &mut W,
 ) -> Result<(), Failure>
-    ensures { (inputs : List Input) × (outcomes : List (Outcome H.Ticket)) × Answered (Handles H.answers H.tells) handler.old inputs outcomes handler.new
+    ensures { (inputs : List Input) × (outcomes : List (Outcome H.Ticket)) × Answered (Handles H.answers H.tells H.defers) handler.old inputs outcomes handler.new
         × Served port requests inputs (W.contents writer.old) (W.contents writer.new) result }
 {
     match tell_port(writer, port) {
-        Ok(()) => answer_all(rt, hub, handler, requests),
+        Ok(()) => answer_all(rt, &mut hub, handler, requests),
         Err(why) => Err(why),
     }
 }
@@ -153,7 +158,7 @@ fn answer_all<H: Handler>(
     handler: &mut H,
     requests: u64,
 ) -> Result<(), Failure>
-    ensures { (inputs : List Input) × (outcomes : List (Outcome H.Ticket)) × Answered (Handles H.answers H.tells) handler.old inputs outcomes handler.new
+    ensures { (inputs : List Input) × (outcomes : List (Outcome H.Ticket)) × Answered (Handles H.answers H.tells H.defers) handler.old inputs outcomes handler.new
         × MatchResult result (λ done. asked_in inputs ≡ requests)
         (λ why. (why ≡ Failure.Fault Fault.Read) × (asked_in inputs ≢ requests)) }
 {

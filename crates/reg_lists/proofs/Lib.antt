@@ -1,4 +1,6 @@
 pub mod Moments
 pub mod Numbers
 pub mod Orders
+pub mod Pieces
+pub mod Places
 pub mod Whole

@@ -58,18 +58,23 @@ module _ {A : Type 0} (key : A → ℕ) where
       filter_out (λ a. nat_lt (from + suc gone) (key a)) x xs near ∙ ap (λ k. filter (λ a. nat_lt k (key a)) xs) next
       ∙ filter_drop (from + 1) gone xs numbered.1
 
-  numbered_kept : (p : A → Bool) (xs : List A) → (after from : ℕ) → NumberedFrom key from xs → NumberedFrom key (from + after) (drop after xs)
-  numbered_kept p xs zero from numbered = subst (λ k. NumberedFrom key k xs) (omega arith) numbered
-  numbered_kept p [] (suc after) from numbered = tt
-  numbered_kept p (x ∷ xs) (suc after) from numbered = subst (λ k. NumberedFrom key k (drop after xs)) (omega arith) (numbered_kept p xs after (from + 1) numbered.1)
+  numbered_kept : (after from : ℕ) (xs : List A) → NumberedFrom key from xs → NumberedFrom key (from + after) (drop after xs)
+  numbered_kept zero from xs numbered = let same : from ≡ from + 0 = omega arith in subst (λ k. NumberedFrom key k xs) same numbered
+  numbered_kept (suc after) from [] numbered = tt
+  numbered_kept (suc after) from (x ∷ xs) numbered =
+      let same : (from + 1) + after ≡ from + suc after = omega arith in
+      subst (λ k. NumberedFrom key k (drop after xs)) same (numbered_kept after (from + 1) xs numbered.1)
 
   pub past_drop : (after : ℕ) (xs : List A) → NumberedFrom key 1 xs → past key after xs ≡ drop after xs
   past_drop after xs numbered =
-      ap (in_order key) (filter_drop 0 after xs numbered)
-      ∙ in_order_already (1 + after) (drop after xs) (numbered_kept (λ _. true) xs after 1 numbered)
+      let from_none : after ≡ 0 + after = omega arith in
+      ap (λ k. in_order key (filter (λ a. nat_lt k (key a)) xs)) from_none ∙ ap (in_order key) (filter_drop 0 after xs numbered)
+      ∙ in_order_already (1 + after) (drop after xs) (numbered_kept after 1 xs numbered)
 
   pub dropped_numbered : (after : ℕ) (xs : List A) → NumberedFrom key 1 xs → NumberedFrom key (after + 1) (drop after xs)
-  dropped_numbered after xs numbered = subst (λ k. NumberedFrom key k (drop after xs)) (omega arith) (numbered_kept (λ _. true) xs after 1 numbered)
+  dropped_numbered after xs numbered =
+      let same : 1 + after ≡ after + 1 = omega arith in
+      subst (λ k. NumberedFrom key k (drop after xs)) same (numbered_kept after 1 xs numbered)
 
 -- so many numbers from one on
 abbrev pub numbers : ℕ → ℕ → List ℕ

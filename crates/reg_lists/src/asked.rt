@@ -1,7 +1,7 @@
 //! What is asked of a list: a page, by its word and what is told beside it, `after=KEY&limit=N&before=MOMENT`.
 
-ghost use Rattle.std.specs.Prelude.{◌≡◌, ◌≤◌, ◌==◌, length};
-ghost use Rattle.std.specs.List.{position_or_len};
+ghost use Rattle.std.specs.Prelude.{◌≡◌, ◌≤◌, ◌<◌, ◌+◌, ◌==◌, drop, length};
+ghost use Rattle.std.specs.List.{position, position_or_len};
 ghost use Rattle.reg_lists.specs.Asked.{at_most, cursor_at, label_of, moment_of, page_asked, params_of, with_after, with_before, with_limit, with_piece, with_value};
 
 use crate::cursor::Cursor;
@@ -75,9 +75,17 @@ fn read_params(told: &[u8]) -> Option<Params>
         if end == rest.len() {
             return Some(params);
         }
-        rest = &rest[end + 1..];
+        rest = behind(rest, end);
     }
     None
+}
+
+/// What is behind a place in a text.
+fn behind(text: &[u8], place: usize) -> &[u8]
+    requires { place < length text.now }
+    ensures { result.now ≡ drop (place + 1) text.now }
+{
+    &text[place + 1..]
 }
 
 /// Where a byte stands first in a text, or its length.
@@ -85,10 +93,17 @@ fn place_of(text: &[u8], wanted: u8) -> usize
     ensures place { result ≡ position_or_len (λ byte. byte == wanted) text.now }
     ensures within { result ≤ length text.now }
 {
-    match text.iter().position(|byte| *byte == wanted) {
+    match first_of(text, wanted) {
         Some(place) => place,
         None => text.len(),
     }
+}
+
+/// Where a byte stands first in a text, if it does.
+fn first_of(text: &[u8], wanted: u8) -> Option<usize>
+    ensures { result ≡ position (λ byte. byte == wanted) text.now }
+{
+    text.iter().position(|byte| *byte == wanted)
 }
 
 /// What is told with one piece more, `NAME=VALUE`.
@@ -99,7 +114,7 @@ fn with_piece(params: Params, piece: &[u8]) -> Option<Params>
     if end == piece.len() {
         return None;
     }
-    with_value(params, &piece[..end], &piece[end + 1..])
+    with_value(params, &piece[..end], behind(piece, end))
 }
 
 /// What is told with one value more. `None` where the name stands already, or is none of the three.

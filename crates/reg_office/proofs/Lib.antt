@@ -15,6 +15,7 @@ pub mod OpenedAgain
 pub mod Paging
 pub mod Responding
 pub mod Resting
+pub mod RowsTold
 pub mod Standing
 pub mod Stopping
 pub mod ShowingNothingElse

@@ -121,6 +121,50 @@ fn made_crl<C: Alter, S: Signer>(
     Ok((der, listed))
 }
 
+/// What would be signed in the next CRL at a moment. Nothing is signed, and no table changes.
+///
+/// # Errors
+/// As of [`issue_crl`], up to where it has that signed.
+#[tactic(auto, using(reg_tables::proofs::Staying::looked_then))]
+pub(crate) fn next_message<C: Alter>(
+    store: &mut Store<C>,
+    alloc: Global,
+    algorithm: &[u8],
+    now: Moment,
+) -> Result<Vec<u8>, Fault>
+    requires before_end { now < clock_end }
+    requires algorithm { length algorithm.now ≤ 1024 }
+    ensures looked { Looked C.Store store.old store.new }
+{
+    let (row, next_update) = next_row(store, now)?;
+    message_of(store, alloc, algorithm, &row, next_update)
+}
+
+/// What is signed in the CRL of a row.
+#[tactic(auto, using(reg_tables::proofs::Staying::looked_then))]
+fn message_of<C: Alter>(
+    store: &mut Store<C>,
+    alloc: Global,
+    algorithm: &[u8],
+    row: &CrlRow,
+    next_update: Moment,
+) -> Result<Vec<u8>, Fault>
+    requires { length algorithm.now ≤ 1024 }
+    ensures looked { Looked C.Store store.old store.new }
+{
+    let issuer = store.issuer()?;
+    let entries = store.entries(row.number)?;
+    Ok(crl_tbs(
+        alloc,
+        &issuer,
+        algorithm,
+        row.number,
+        row.this_update,
+        next_update,
+        &entries,
+    )?)
+}
+
 /// Issues a CRL. It is made and signed before the store changes.
 ///
 /// # Errors

@@ -1,12 +1,14 @@
 //! What lists tell of one record, from what is looked up for it.
 
-ghost use Rattle.std.specs.Prelude.{◌≡◌, Some, option_map, IfErr, IfOk};
+ghost use Rattle.std.specs.Prelude.{◌≡◌, Some, None, cond, nat_lt, option_map, IfErr, IfOk};
 ghost use Rattle.sqlite.specs.Held.{state};
 ghost use Rattle.sqlite.specs.State.{HasCleanDisk};
 ghost use Rattle.reg_core.specs.Due.{deadline};
 ghost use Rattle.reg_core.specs.Queries.{listing};
-ghost use Rattle.reg_core.specs.Records.{Records, revocation_in};
-ghost use Rattle.reg_lists.specs.Lists.{certificate_line, certificate_row, ending_row, open_row, order_row, overdue_row, revoked_row, subscriber_of};
+ghost use Rattle.reg_core.specs.Records.{Records, certificate_in, order_in, request_in, revocation_in, subscriber_in};
+ghost use Rattle.reg_core.specs.Status.{is_good, status_by};
+ghost use Rattle.reg_lists.specs.Lists.{certificate_line, certificate_row, ending_row, open_row, order_row, overdue_row, request_line, revoked_row, status_at, subscriber_of};
+ghost use Rattle.reg_lists.specs.declared.rows.Row.TheVariants as kind;
 ghost use Rattle.reg_tables.specs.Kept.{ShowsKept};
 ghost use Rattle.reg_tables.specs.Shows.{Shows};
 ghost use Rattle.reg_tables.specs.Stays.{Looked};
@@ -20,30 +22,74 @@ use reg_lists::{CertificateLine, OrderLine, RequestLine, Row};
 use reg_store::Store;
 use sqlite::Alter;
 
-/// Whose order it is. `Store` where there is none, which no register has.
-fn subscriber_of<C: Alter>(store: &mut Store<C>, order: u64) -> Result<SubscriberRow, Fault>
-    ensures found { (records : Records) → Shows C.Store store.old records → HasCleanDisk (state C.Store store.new) → IfOk result (λ subscriber. Some subscriber ≡ subscriber_of records order) }
+// ---- records that are there; `Store` where one is not, which no register has
+
+/// The subscriber with an id.
+pub(crate) fn subscriber_at<C: Alter>(store: &mut Store<C>, id: u64) -> Result<SubscriberRow, Fault>
+    ensures found { (records : Records) → Shows C.Store store.old records → HasCleanDisk (state C.Store store.new) → IfOk result (λ row. Some row ≡ subscriber_in records.subscribers id) }
     ensures looked { Looked C.Store store.old store.new }
     ensures faults { IfErr result IsStoreFault }
 {
-    let order = store.order(order)?.ok_or(Fault::Store)?;
-    store.subscriber(order.subscriber)?.ok_or(Fault::Store)
+    let subscriber = store.subscriber(id)?;
+    subscriber.ok_or(Fault::Store)
 }
+
+/// The order with an id.
+pub(crate) fn order_at<C: Alter>(store: &mut Store<C>, id: u64) -> Result<OrderRow, Fault>
+    ensures found { (records : Records) → Shows C.Store store.old records → HasCleanDisk (state C.Store store.new) → IfOk result (λ row. Some row ≡ order_in records.orders id) }
+    ensures looked { Looked C.Store store.old store.new }
+    ensures faults { IfErr result IsStoreFault }
+{
+    let order = store.order(id)?;
+    order.ok_or(Fault::Store)
+}
+
+/// The certificate with a serial number.
+fn certificate_at<C: Alter>(store: &mut Store<C>, serial: Serial) -> Result<CertRow, Fault>
+    ensures found { (records : Records) → Shows C.Store store.old records → HasCleanDisk (state C.Store store.new) → IfOk result (λ row. Some row ≡ certificate_in records.certificates serial) }
+    ensures looked { Looked C.Store store.old store.new }
+    ensures faults { IfErr result IsStoreFault }
+{
+    let certificate = store.cert(serial)?;
+    certificate.ok_or(Fault::Store)
+}
+
+/// The request with an id.
+pub(crate) fn request_at<C: Alter>(store: &mut Store<C>, id: u64) -> Result<RequestRow, Fault>
+    ensures found { (records : Records) → Shows C.Store store.old records → HasCleanDisk (state C.Store store.new) → IfOk result (λ row. Some row ≡ request_in records.requests id) }
+    ensures looked { Looked C.Store store.old store.new }
+    ensures faults { IfErr result IsStoreFault }
+{
+    let request = store.request(id)?;
+    request.ok_or(Fault::Store)
+}
+
+/// Whose order it is that has an id.
+fn subscriber_of<C: Alter>(store: &mut Store<C>, id: u64) -> Result<SubscriberRow, Fault>
+    ensures found { (records : Records) → Shows C.Store store.old records → HasCleanDisk (state C.Store store.new) → IfOk result (λ subscriber. Some subscriber ≡ subscriber_of records id) }
+    ensures looked { Looked C.Store store.old store.new }
+    ensures faults { IfErr result IsStoreFault }
+{
+    let order = order_at(store, id)?;
+    subscriber_at(store, order.subscriber)
+}
+
+// ---- certificates
 
 /// The CRLs that list a serial number, by its revocation.
 fn listing_of<C: Alter>(
     store: &mut Store<C>,
     serial: Serial,
-    revocation: Option<RevocationRow>,
+    revocation: &Option<RevocationRow>,
 ) -> Result<Option<Listing>, Fault>
-    ensures found { (records : Records) → ShowsKept C.Store store.old records → HasCleanDisk (state C.Store store.new) → revocation ≡ revocation_in records.revocations serial → IfOk result (λ found. found ≡ listing records serial) }
+    ensures found { (records : Records) → ShowsKept C.Store store.old records → HasCleanDisk (state C.Store store.new) → revocation.now ≡ revocation_in records.revocations serial → IfOk result (λ found. found ≡ listing records serial) }
     ensures looked { Looked C.Store store.old store.new }
     ensures faults { IfErr result IsStoreFault }
 {
-    if revocation.is_none() {
-        return Ok(None);
+    match revocation {
+        Some(_) => Ok(store.listing(serial)?),
+        None => Ok(None),
     }
-    Ok(store.listing(serial)?)
 }
 
 /// What is told of a certificate, by its revocation.
@@ -58,13 +104,32 @@ fn line_of<C: Alter>(
     ensures faults { IfErr result IsStoreFault }
 {
     let subscriber = subscriber_of(store, certificate.order)?;
-    let listing = listing_of(store, certificate.serial, revocation)?;
-    Ok(CertificateLine {
-        certificate,
+    let listing = listing_of(store, certificate.serial, &revocation)?;
+    Ok(told_of(now, &certificate, revocation, subscriber, listing))
+}
+
+/// What is told of a certificate, from what was looked up for it.
+fn told_of(
+    now: Moment,
+    certificate: &CertRow,
+    revocation: Option<RevocationRow>,
+    subscriber: SubscriberRow,
+    listing: Option<Listing>,
+) -> CertificateLine
+    ensures { result ≡ record {
+      certificate = certificate.now;
+      subscriber = subscriber;
+      status = status_by now (Some certificate.now) revocation;
+      listing = listing;
+    } }
+{
+    let status = status_of(now, Some(*certificate), revocation);
+    CertificateLine {
+        certificate: *certificate,
         subscriber,
-        status: status_of(now, Some(certificate), revocation),
+        status,
         listing,
-    })
+    }
 }
 
 /// What is told of a certificate.
@@ -112,14 +177,41 @@ pub(crate) fn ending_row<C: Alter>(
     ensures looked { Looked C.Store store.old store.new }
     ensures faults { IfErr result IsStoreFault }
 {
-    if certificate.not_after >= before {
-        return Ok(None);
-    }
-    let line = certificate_line(store, now, certificate)?;
-    if matches!(&line.status, Status::Good) {
-        Ok(Some(Row::Certificate(line)))
+    if ends_before(&certificate, before) {
+        good_row(store, now, certificate)
     } else {
         Ok(None)
+    }
+}
+
+/// Whether a certificate ends before a moment.
+fn ends_before(certificate: &CertRow, moment: Moment) -> bool
+    ensures { result ≡ nat_lt certificate.now.not_after moment }
+{
+    certificate.not_after < moment
+}
+
+/// The row of a certificate, where it is good.
+fn good_row<C: Alter>(
+    store: &mut Store<C>,
+    now: Moment,
+    certificate: CertRow,
+) -> Result<Option<Row>, Fault>
+    ensures found { (records : Records) → ShowsKept C.Store store.old records → HasCleanDisk (state C.Store store.new) → IfOk result (λ row. row ≡ cond (is_good (status_at records now certificate)) (certificate_row records now certificate) None) }
+    ensures looked { Looked C.Store store.old store.new }
+    ensures faults { IfErr result IsStoreFault }
+{
+    let line = certificate_line(store, now, certificate)?;
+    Ok(row_where_good(line))
+}
+
+/// The row of what is told of a certificate, where it is good.
+fn row_where_good(line: CertificateLine) -> Option<Row>
+    ensures { result ≡ cond (is_good line.status) (Some (kind.Certificate line)) None }
+{
+    match line.status {
+        Status::Good => Some(Row::Certificate(line)),
+        _ => None,
     }
 }
 
@@ -136,18 +228,12 @@ pub(crate) fn revoked_row<C: Alter>(
     ensures looked { Looked C.Store store.old store.new }
     ensures faults { IfErr result IsStoreFault }
 {
-    let certificate = store.cert(revocation.serial)?.ok_or(Fault::Store)?;
+    let certificate = certificate_at(store, revocation.serial)?;
     let line = line_of(store, now, certificate, Some(revocation))?;
     Ok(Some(Row::Certificate(line)))
 }
 
-/// The moment up to which a request is to be decided. `Store` where there is no such moment, as of no request of a register.
-fn due_of(request: &RequestRow) -> Result<Moment, Fault>
-    ensures due { IfOk result (λ due. due ≡ deadline request.now) }
-    ensures faults { IfErr result IsStoreFault }
-{
-    Moment::of_secs(request.received.secs() + request.ground.limit_secs()).ok_or(Fault::Store)
-}
+// ---- requests
 
 /// The row of a request in the list of those that are neither declined nor settled.
 ///
@@ -165,12 +251,33 @@ pub(crate) fn open_row<C: Alter>(
     if request.declined {
         return Ok(None);
     }
-    let certificate = store.cert(request.serial)?.ok_or(Fault::Store)?;
+    let certificate = certificate_at(store, request.serial)?;
     let revocation = store.revocation(request.serial)?;
-    let status = status_of(now, Some(certificate), revocation);
-    if !matches!(&status, Status::Good) {
-        return Ok(None);
+    if is_good(now, &certificate, revocation) {
+        request_row(store, request, certificate)
+    } else {
+        Ok(None)
     }
+}
+
+/// Whether a certificate is good at a moment, by its revocation.
+fn is_good(now: Moment, certificate: &CertRow, revocation: Option<RevocationRow>) -> bool
+    ensures { result ≡ is_good (status_by now (Some certificate.now) revocation) }
+{
+    matches!(status_of(now, Some(*certificate), revocation), Status::Good)
+}
+
+/// The row of a request, by its certificate.
+fn request_row<C: Alter>(
+    store: &mut Store<C>,
+    request: RequestRow,
+    certificate: CertRow,
+) -> Result<Option<Row>, Fault>
+    ensures found { (records : Records) → Shows C.Store store.old records → HasCleanDisk (state C.Store store.new) → Some certificate ≡ certificate_in records.certificates request.serial
+        → IfOk result (λ row. row ≡ option_map (λ line. kind.Request line) (request_line records request)) }
+    ensures looked { Looked C.Store store.old store.new }
+    ensures faults { IfErr result IsStoreFault }
+{
     let due = due_of(&request)?;
     let subscriber = subscriber_of(store, certificate.order)?;
     Ok(Some(Row::Request(RequestLine {
@@ -179,6 +286,18 @@ pub(crate) fn open_row<C: Alter>(
         certificate,
         subscriber,
     })))
+}
+
+/// The moment up to which a request is to be decided. `Store` where it was received past the clock's end, as no request of a
+/// register was.
+fn due_of(request: &RequestRow) -> Result<Moment, Fault>
+    ensures due { IfOk result (λ due. due ≡ deadline request.now) }
+    ensures faults { IfErr result IsStoreFault }
+{
+    if request.received >= Moment::CLOCK_END {
+        return Err(Fault::Store);
+    }
+    Ok(request.deadline())
 }
 
 /// The row of a request in the list of those that are open and whose deadline is past.
@@ -194,21 +313,22 @@ pub(crate) fn overdue_row<C: Alter>(
     ensures looked { Looked C.Store store.old store.new }
     ensures faults { IfErr result IsStoreFault }
 {
-    if due_of(&request)? >= now {
-        return Ok(None);
+    let due = due_of(&request)?;
+    if is_past(due, now) {
+        open_row(store, now, request)
+    } else {
+        Ok(None)
     }
-    open_row(store, now, request)
 }
 
-/// The serial number of a certificate, where there is one.
-fn serial_in(certificate: Option<CertRow>) -> Option<Serial>
-    ensures { result ≡ option_map (λ it. it.serial) certificate }
+/// Whether a deadline is past.
+fn is_past(due: Moment, now: Moment) -> bool
+    ensures { result ≡ nat_lt due now }
 {
-    match certificate {
-        Some(certificate) => Some(certificate.serial),
-        None => None,
-    }
+    due < now
 }
+
+// ---- orders
 
 /// The row of an order.
 ///
@@ -222,11 +342,22 @@ pub(crate) fn order_row<C: Alter>(
     ensures looked { Looked C.Store store.old store.new }
     ensures faults { IfErr result IsStoreFault }
 {
-    let subscriber = store.subscriber(order.subscriber)?.ok_or(Fault::Store)?;
+    let subscriber = subscriber_at(store, order.subscriber)?;
     let certificate = store.cert_of_order(order.id)?;
+    let serial = serial_in(certificate);
     Ok(Some(Row::Order(OrderLine {
         order,
         subscriber,
-        serial: serial_in(certificate),
+        serial,
     })))
+}
+
+/// The serial number of a certificate, where there is one.
+fn serial_in(certificate: Option<CertRow>) -> Option<Serial>
+    ensures { result ≡ option_map (λ it. it.serial) certificate }
+{
+    match certificate {
+        Some(certificate) => Some(certificate.serial),
+        None => None,
+    }
 }

@@ -26,7 +26,7 @@ ghost use Rattle.reg_office.specs.Stands.{Stands, CameTo};
 ghost use Rattle.reg_office.specs.declared.responder.Responder.TheVariants.{Issuer};
 
 use crate::commands::run_command;
-use crate::crls::bytes_of;
+use crate::crls::{bytes_of, next_message};
 use crate::identifiers::set_key_identifier;
 use crate::ocsp_answer::{begin_ocsp, ocsp};
 use crate::pages::page;
@@ -231,6 +231,22 @@ impl<C: Alter, S: Signer> Office<C, S> {
             now,
             request,
         )
+    }
+
+    /// What would be signed in the next CRL at a moment (RFC 5280 5.1.2), where what holds a key signs it. `None` where none would be issued
+    /// then, where a digest seals it, and where memory or the store fails. Nothing is signed, and nothing changes.
+    pub fn crl_message(&mut self, alloc: Global, now: Moment) -> Option<Vec<u8>>
+        ensures looked { Looked C.Store self.old.store self.new.store }
+        ensures same_signer { self.new.signer ≡ self.old.signer }
+        ensures same_responder { self.new.responder ≡ self.old.responder }
+    {
+        if self.signer.public_key().is_none() || now >= Moment::CLOCK_END {
+            return None;
+        }
+        match next_message(&mut self.store, alloc, self.signer.algorithm(), now) {
+            Ok(message) => Some(message),
+            Err(_) => None,
+        }
     }
 
     /// Sets the schedule of longest validities, which is no command: no record, nothing that is kept beside them and not

@@ -1,11 +1,11 @@
 //! Pages of lists. A page looks at the first rows past a key, as many as it may, and has those of them that the list selects: so
 //! it costs no more than these, whatever the list.
 
-ghost use Rattle.std.specs.Prelude.{◌≡◌, ℕ, ◌+◌, ◌++◌, ◌∷◌, ◌-◌, ◌==◌, [], Some, None, cond, filter_map, length, min, option_map, slice_get, IfErr, IfOk, OnOk};
+ghost use Rattle.std.specs.Prelude.{◌≡◌, ℕ, ◌+◌, ◌++◌, ◌∷◌, ◌-◌, ◌==◌, ◌&&◌, nat_lt, [], Some, None, cond, filter_map, length, min, option_map, slice_get, IfErr, IfOk, OnOk};
 ghost use Rattle.std.specs.List.{AllByRecursion};
 ghost use Rattle.sqlite.specs.Held.{state};
 ghost use Rattle.sqlite.specs.State.{HasCleanDisk};
-ghost use Rattle.reg_core.specs.Records.{Records, order_in, request_in, revocation_in, subscriber_in};
+ghost use Rattle.reg_core.specs.Records.{Records, revocation_in};
 ghost use Rattle.reg_core.specs.Sound.{SoundRows};
 ghost use Rattle.reg_lists.specs.Lists.{certificate_row, ending_row, revoked_row};
 ghost use Rattle.reg_lists.specs.Pages.{IsPage, IsPaged};
@@ -16,12 +16,13 @@ ghost use Rattle.reg_tables.specs.Shows.{Shows};
 ghost use Rattle.reg_tables.specs.Stays.{Looked};
 ghost use Rattle.reg_office.specs.Faults.{IsStoreFault, IsTableFault};
 ghost use Rattle.reg_office.specs.Numbered.{cursor_of, row_at, table_of};
+ghost use Rattle.reg_office.specs.declared.pages.Numbered.TheVariants as numbered;
 
-use crate::lines::{certificate_row, ending_row, open_row, order_row, overdue_row, revoked_row};
-use reg_core::{
-    CertRow, CrlRow, Fault, Moment, OrderRow, RequestRow, RevocationRow, Serial, SubscriberRow,
-    clock,
+use crate::lines::{
+    certificate_row, ending_row, open_row, order_at, order_row, overdue_row, request_at,
+    revoked_row, subscriber_at,
 };
+use reg_core::{CertRow, CrlRow, Fault, Moment, RevocationRow, Serial, clock};
 use reg_lists::{Cursor, Page, Row};
 use reg_store::{Store, Table};
 use sqlite::Alter;
@@ -53,6 +54,21 @@ pub(crate) fn page<C: Alter>(
 {
     let last = store.last()?;
     clock(now, last)?;
+    page_of(store, alloc, now, from, most)
+}
+
+/// The page, whatever the clock says to its moment.
+fn page_of<C: Alter>(
+    store: &mut Store<C>,
+    alloc: Global,
+    now: Moment,
+    from: Cursor,
+    most: u64,
+) -> Result<Page, Fault>
+    ensures page { (records : Records) → ShowsKept C.Store store.old records → SoundRows records → HasCleanDisk (state C.Store store.new) → IfOk result (IsPage records now most from) }
+    ensures looked { Looked C.Store store.old store.new }
+    ensures faults { IfErr result IsStoreFault }
+{
     match from {
         Cursor::Revoked(after) => revoked(store, alloc, now, after, most),
         Cursor::Certificates(after) => certificates(store, alloc, now, after, most),
@@ -85,7 +101,7 @@ fn push(rows: &mut Vec<Row>, row: Row) -> Result<(), Fault>
     ensures ok { OnOk result (rows.new.items ≡ rows.old.items ++ row ∷ []) }
     ensures faults { IfErr result IsStoreFault }
 {
-    match rows.push(row) {
+    match rows.extend_from_slice(&[row]) {
         Ok(()) => Ok(()),
         Err(_) => Err(Fault::Memory),
     }
@@ -107,11 +123,16 @@ fn certificates<C: Alter>(
 {
     let found = store.certs_after(after, most)?;
     let rows = certificate_rows(store, alloc, now, &found)?;
-    let next = match last_certificate(&found, most) {
-        Some(serial) => Some(Cursor::Certificates(Some(serial))),
-        None => None,
-    };
+    let last = last_certificate(&found, most);
+    let next = certificates_behind(last);
     Ok(Page { rows, next })
+}
+
+/// The list of the certificates behind a serial number, where there is one.
+fn certificates_behind(last: Option<Serial>) -> Option<Cursor>
+    ensures { result ≡ option_map (λ serial. cursor.Certificates (Some serial)) last }
+{
+    Some(Cursor::Certificates(Some(last?)))
 }
 
 /// The rows of these certificates.
@@ -148,14 +169,19 @@ fn ending<C: Alter>(
 {
     let found = store.certs_after(after, most)?;
     let rows = ending_rows(store, alloc, now, before, &found)?;
-    let next = match last_certificate(&found, most) {
-        Some(serial) => Some(Cursor::Ending {
-            before,
-            after: Some(serial),
-        }),
-        None => None,
-    };
+    let last = last_certificate(&found, most);
+    let next = ending_behind(before, last);
     Ok(Page { rows, next })
+}
+
+/// The list of the good certificates that end before a moment, behind a serial number, where there is one.
+fn ending_behind(before: Moment, last: Option<Serial>) -> Option<Cursor>
+    ensures { result ≡ option_map (λ serial. cursor.Ending before (Some serial)) last }
+{
+    Some(Cursor::Ending {
+        before,
+        after: Some(last?),
+    })
 }
 
 /// The rows of those of these certificates that are good and end before a moment.
@@ -205,11 +231,16 @@ fn revoked<C: Alter>(
 {
     let found = store.revocations_after(after, most)?;
     let rows = revoked_rows(store, alloc, now, &found)?;
-    let next = match last_revocation(&found, most) {
-        Some(serial) => Some(Cursor::Revoked(Some(serial))),
-        None => None,
-    };
+    let last = last_revocation(&found, most);
+    let next = revoked_behind(last);
     Ok(Page { rows, next })
+}
+
+/// The list of what is revoked behind a serial number, where there is one.
+fn revoked_behind(last: Option<Serial>) -> Option<Cursor>
+    ensures { result ≡ option_map (λ serial. cursor.Revoked (Some serial)) last }
+{
+    Some(Cursor::Revoked(Some(last?)))
 }
 
 /// The rows of these revocations.
@@ -256,11 +287,16 @@ fn crls<C: Alter>(store: &mut Store<C>, alloc: Global, after: u64, most: u64) ->
 {
     let found = store.crls_after(after, most)?;
     let rows = crl_rows(alloc, &found)?;
-    let next = match last_crl(&found, most) {
-        Some(number) => Some(Cursor::Crls(number)),
-        None => None,
-    };
+    let last = last_crl(&found, most);
+    let next = crls_behind(last);
     Ok(Page { rows, next })
+}
+
+/// The list of the CRLs behind a number, where there is one.
+fn crls_behind(last: Option<u64>) -> Option<Cursor>
+    ensures { result ≡ option_map (λ number. cursor.Crls number) last }
+{
+    Some(Cursor::Crls(last?))
 }
 
 /// The rows of these CRLs.
@@ -299,7 +335,7 @@ fn page_by_ids<C: Alter>(
     after: u64,
     most: u64,
 ) -> Result<Page, Fault>
-    ensures page { (records : Records) → ShowsKept C.Store store.old records → HasCleanDisk (state C.Store store.new) → IfOk result (IsPage records now most (cursor_of list after)) }
+    ensures page { (records : Records) → ShowsKept C.Store store.old records → SoundRows records → HasCleanDisk (state C.Store store.new) → IfOk result (IsPage records now most (cursor_of list after)) }
     ensures looked { Looked C.Store store.old store.new }
     ensures faults { IfErr result IsStoreFault }
 {
@@ -310,12 +346,18 @@ fn page_by_ids<C: Alter>(
         let row = row_at(store, now, list, before + 1)?;
         put(&mut rows, row)?;
     }
-    let next = if end.saturating_sub(after) == most {
-        Some(cursor_of(list, end))
-    } else {
-        None
-    };
+    let next = next_of(list, after, end, most);
     Ok(Page { rows, next })
+}
+
+/// Where a list goes on of which so many ids were looked at: behind the last of them, where they are as many as a page may look at.
+fn next_of(list: Numbered, after: u64, end: u64, most: u64) -> Option<Cursor>
+    ensures { result ≡ cond (nat_lt after end && ((end - after) == most)) (Some (cursor_of list end)) None }
+{
+    if after < end && end - after == most {
+        return Some(cursor_of(list, end));
+    }
+    None
 }
 
 /// The last id that a page looks at, of so many rows.
@@ -365,45 +407,47 @@ fn row_at<C: Alter>(
     ensures faults { IfErr result IsStoreFault }
 {
     match list {
-        Numbered::OpenRequests => {
-            let request = request_at(store, id)?;
-            open_row(store, now, request)
-        }
-        Numbered::Overdue => {
-            let request = request_at(store, id)?;
-            overdue_row(store, now, request)
-        }
+        Numbered::OpenRequests => open_request_at(store, now, id),
+        Numbered::Overdue => overdue_request_at(store, now, id),
         Numbered::Subscribers => Ok(Some(Row::Subscriber(subscriber_at(store, id)?))),
-        Numbered::Orders => {
-            let order = order_at(store, id)?;
-            order_row(store, order)
-        }
+        Numbered::Orders => order_row_at(store, id),
     }
 }
 
-/// The request with an id. `Store` where there is none.
-fn request_at<C: Alter>(store: &mut Store<C>, id: u64) -> Result<RequestRow, Fault>
-    ensures found { (records : Records) → Shows C.Store store.old records → HasCleanDisk (state C.Store store.new) → IfOk result (λ row. Some row ≡ request_in records.requests id) }
+/// The row of the request with an id, where it is open.
+fn open_request_at<C: Alter>(
+    store: &mut Store<C>,
+    now: Moment,
+    id: u64,
+) -> Result<Option<Row>, Fault>
+    ensures found { (records : Records) → Shows C.Store store.old records → HasCleanDisk (state C.Store store.new) → IfOk result (λ row. row ≡ row_at records now numbered.OpenRequests id) }
     ensures looked { Looked C.Store store.old store.new }
     ensures faults { IfErr result IsStoreFault }
 {
-    store.request(id)?.ok_or(Fault::Store)
+    let request = request_at(store, id)?;
+    open_row(store, now, request)
 }
 
-/// The subscriber with an id. `Store` where there is none.
-fn subscriber_at<C: Alter>(store: &mut Store<C>, id: u64) -> Result<SubscriberRow, Fault>
-    ensures found { (records : Records) → Shows C.Store store.old records → HasCleanDisk (state C.Store store.new) → IfOk result (λ row. Some row ≡ subscriber_in records.subscribers id) }
+/// The row of the request with an id, where it is overdue.
+fn overdue_request_at<C: Alter>(
+    store: &mut Store<C>,
+    now: Moment,
+    id: u64,
+) -> Result<Option<Row>, Fault>
+    ensures found { (records : Records) → Shows C.Store store.old records → HasCleanDisk (state C.Store store.new) → IfOk result (λ row. row ≡ row_at records now numbered.Overdue id) }
     ensures looked { Looked C.Store store.old store.new }
     ensures faults { IfErr result IsStoreFault }
 {
-    store.subscriber(id)?.ok_or(Fault::Store)
+    let request = request_at(store, id)?;
+    overdue_row(store, now, request)
 }
 
-/// The order with an id. `Store` where there is none.
-fn order_at<C: Alter>(store: &mut Store<C>, id: u64) -> Result<OrderRow, Fault>
-    ensures found { (records : Records) → Shows C.Store store.old records → HasCleanDisk (state C.Store store.new) → IfOk result (λ row. Some row ≡ order_in records.orders id) }
+/// The row of the order with an id.
+fn order_row_at<C: Alter>(store: &mut Store<C>, id: u64) -> Result<Option<Row>, Fault>
+    ensures found { (records : Records) → Shows C.Store store.old records → HasCleanDisk (state C.Store store.new) → (now : ℕ) → IfOk result (λ row. row ≡ row_at records now numbered.Orders id) }
     ensures looked { Looked C.Store store.old store.new }
     ensures faults { IfErr result IsStoreFault }
 {
-    store.order(id)?.ok_or(Fault::Store)
+    let order = order_at(store, id)?;
+    order_row(store, order)
 }

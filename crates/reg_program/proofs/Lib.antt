@@ -3,5 +3,6 @@ pub mod Holding
 pub mod Looking
 pub mod Misfitting
 pub mod Opened
+pub mod Priming
 pub mod Setting
 pub mod Signers

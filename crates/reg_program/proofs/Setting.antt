@@ -74,3 +74,18 @@ module _ {C : Type 0} (g : Ghosts C) (signs : Signs) (who who' : Signatory) (old
         let (is, stands) = stood in
         (before, refl, (same ∙ is, stands_on g signs old new identity.crls before forgets err stands))),
   )
+
+-- What stands in a store that is the same, for the same who sign.
+module _ {C : Type 0} (g : Ghosts C) (signs : Signs) (who who' : Signatory) (old new : Held C) where
+  pub same_moves : new ≡ old → who' ≡ who
+      → (HasCleanDisk (state g new) → HasCleanDisk (state g old))
+      × ((identity : Signatory) (before : Records) → (who ≡ identity) × Stands g signs old identity.crls before → HasCleanDisk (state g new)
+      → (after : Records) × (after ≡ before) × ((who' ≡ identity) × Stands g signs new identity.crls after))
+  same_moves store same = (
+    (λ clean.
+        let P : Held C → Type 0 = λ held. HasCleanDisk (state g held) in
+        subst P store clean),
+    (λ identity before stood clean.
+        let P : Held C → Type 0 = λ held. Stands g signs held identity.crls before in
+        (before, refl, (same ∙ stood.0, subst P (sym store) stood.1))),
+  )

@@ -65,16 +65,13 @@ module _ {D : Type 0} {g : disk.Ghosts D} where
     pub empty : connection.schema ≡ no_schema
     pub clean : doubt (file_state connection).is_clean ≤ doubt (file_state register).is_clean
 
--- A database was audited by a connection, and its tables are as they were. Where all was said to be sound, they are a register's,
+-- What an audit says of a database, before and after it: its tables are as they were. Where all was said to be sound, they are a register's,
 -- whatever records they showed are sound, each CRL's bytes are those of what it lists, whatever its signature, and what is kept beside the
 -- records follows from them, and they are as many as was told; and there are such records, where what is presumed of the connection
 -- holds. Where a row was told, they showed no such records whose values are a register's; and where it was not told
 -- for the bytes of a CRL, none whatever the bytes of CRLs are. That it is of an older version, or of other tables, is told where they
 -- say so.
-pub record IsAudited {D : Type 0} (g : disk.Ghosts D) (verdict : Verdict) : Type 0 where
-  pub connection : Held (FileStore D g)
-  pub after : Held (FileStore D g)
-  pub connects : IsConnection connection
+pub record Says {D : Type 0} {g : disk.Ghosts D} (connection after : Held (FileStore D g)) (verdict : Verdict) : Type 0 where
   pub sound : (records : Records) (columns : Columns) → ShowsBoth over_files connection records columns → HasCleanDisk (file_state after)
       → IsSound verdict → Sound IsSomeCrl records × Kept columns records
   pub shown : IsPresumed over_files connection → HasCleanDisk (file_state after) → IsSound verdict → ShowsSound (file_state connection).now
@@ -85,6 +82,13 @@ pub record IsAudited {D : Type 0} (g : disk.Ghosts D) (verdict : Verdict) : Type
   pub tells : HasCleanDisk (file_state after) → TellsOf verdict (file_state connection).now
   pub register : IsSound verdict → IsRegister (file_state after)
   pub stays : Stays (file_state connection) (file_state after)
+
+-- a database was audited by a connection, and this was said of it
+pub record IsAudited {D : Type 0} (g : disk.Ghosts D) (verdict : Verdict) : Type 0 where
+  pub connection : Held (FileStore D g)
+  pub after : Held (FileStore D g)
+  pub connects : IsConnection connection
+  pub says : Says connection after verdict
 
 -- the same of files that hold these bytes: the connection finds what these stand for
 pub record IsAuditOf {D : Type 0} (g : disk.Ghosts D) (image : Image) (verdict : Verdict) : Type 0 where

@@ -13,7 +13,7 @@ ghost use Rattle.reg_migration.specs.declared.version.Earlier.{Earlier};
 ghost use Rattle.reg_jobs.specs.Failing.{IsMaking, IsOfStore, IsOpening};
 ghost use Rattle.reg_files.specs.Overlaid.{image};
 ghost use Rattle.reg_files.specs.Reading.{IsUnread};
-ghost use Rattle.reg_program.specs.Files.{IsAudited, IsAuditOf, IsOpenedFor, IsOpenedFrom, IsMadeFrom, Showed};
+ghost use Rattle.reg_program.specs.Files.{IsAudited, IsAuditOf, IsOpenedFor, IsOpenedFrom, IsMadeFrom, Says, Showed};
 ghost use Rattle.reg_jobs.specs.Signing.{EmbedsOwn, Follows, IsSigning, crls_told};
 ghost use Rattle.reg_calls.specs.Leads.{Leads};
 ghost use Rattle.reg_lists.specs.Pages.{Pages};
@@ -43,10 +43,10 @@ use reg_files::{
     open_sources, read_at, remove_file,
 };
 use reg_findings::Verdict;
-use reg_jobs::Place;
+use reg_jobs::{Place, Wanted};
 use reg_lists::{Cursor, Page};
 use reg_office::{Office, Responder};
-use reg_signer::{KeyOrDigest, hear};
+use reg_signer::{KeyOrDigest, Primed, hear};
 use reg_store::{Store, StoreFault};
 use reg_verdict::judge;
 use reg_watch::Standing;
@@ -92,7 +92,7 @@ impl<'a> Place for Machine<'a> {
 
     ghost gave = { λ message answer. Unit {0} };
 
-    ghost gave_signs = { λ identity message answer given form. inr (inr given, form) };
+    ghost gave_signs = { λ identity message answer given form. inr (inr ∣ given ∣₁, form) };
 
     fn hear(alloc: Global, link: &mut UnixStream, _message: &[u8]) -> Option<Vec<u8>>
         ensures given { IfSome result (λ answer. Unit {0}) }
@@ -189,6 +189,14 @@ impl<'a> Place for Machine<'a> {
         not_before: Moment,
     ) -> Result<Option<u64>, Fault> {
         longest_of(register, order, not_before)
+    }
+
+    fn crl_message(register: &mut FileOffice, alloc: Global, now: Moment) -> Option<Vec<u8>> {
+        message_in(register, alloc, now)
+    }
+
+    fn prime(register: &mut FileOffice, wanted: Wanted, primed: Option<Primed>) {
+        prime_in(register, wanted, primed);
     }
 
     fn audit(&self, path: &str) -> Result<Verdict, Failure> {
@@ -427,6 +435,43 @@ fn longest_in<C: Alter>(
     }
 }
 
+/// What would be signed in the next CRL of an office.
+fn message_in<C: Alter, S: Signer>(
+    office: &mut Office<C, S>,
+    alloc: Global,
+    now: Moment,
+) -> Option<Vec<u8>>
+    ensures { Leads (λ office. HasCleanDisk (state C.Store office.store))
+        (λ who office records. StandsFor C.Store S.signs (office.store, signatory_of S.identity (S.identity office.signer) office.responder) who records)
+        (λ identity before after. after ≡ before) office.old office.new }
+{
+    office.crl_message(alloc, now)
+}
+
+/// Has what is known of the next signature taken for it by who signs CRLs, or who answers.
+fn prime_in(register: &mut FileOffice, wanted: Wanted, primed: Option<Primed>)
+    ensures store { register.new.store ≡ register.old.store }
+    ensures same { signatory_of ⟦<FileSigner as Signer>⟧.identity (⟦<FileSigner as Signer>⟧.identity register.new.signer) register.new.responder
+        ≡ signatory_of ⟦<FileSigner as Signer>⟧.identity (⟦<FileSigner as Signer>⟧.identity register.old.signer) register.old.responder }
+{
+    match wanted {
+        Wanted::Crl => register.signer.prime(primed),
+        Wanted::Answer => prime_answers(register, primed),
+    }
+}
+
+/// The same by who answers.
+fn prime_answers(register: &mut FileOffice, primed: Option<Primed>)
+    ensures store { register.new.store ≡ register.old.store }
+    ensures same { signatory_of ⟦<FileSigner as Signer>⟧.identity (⟦<FileSigner as Signer>⟧.identity register.new.signer) register.new.responder
+        ≡ signatory_of ⟦<FileSigner as Signer>⟧.identity (⟦<FileSigner as Signer>⟧.identity register.old.signer) register.old.responder }
+{
+    match &mut register.responder {
+        Responder::Issuer(_) => register.signer.prime(primed),
+        Responder::Delegate(own, _) => own.prime(primed),
+    }
+}
+
 /// What an audit says of the register in a file, which is opened for reading alone.
 fn audit_file(machine: &Machine<'_>, path: &str) -> Result<Verdict, Failure>
     ensures ok { IfOk result (λ verdict. IsAudited ⟦<Overlay<ReadFile> as Disk>⟧ verdict) }
@@ -466,8 +511,21 @@ fn audit_sources<F: Source + Drop>(
     ensures err { IfErr result IsOpening }
 {
     let mut connection = open_to_read(machine, sources)?;
+    audit_over(machine, &mut connection)
+}
+
+/// What an audit says of the register of a database.
+fn audit_over<D: Disk + Drop>(
+    machine: &Machine<'_>,
+    connection: &mut Connection<FileStore<D>>,
+) -> Result<Verdict, Failure>
+    requires idle { connection.old.in_transaction ≡ false }
+    requires whole { HasCleanDisk (file_state connection.old) → IsOpened connection.old }
+    ensures ok { IfOk result (λ verdict. Says connection.old connection.new verdict) }
+    ensures err { IfErr result IsOpening }
+{
     let mut teller = Teller::of(machine);
-    let told = judge(machine.rt.alloc(), &mut connection, &mut teller);
+    let told = judge(machine.rt.alloc(), connection, &mut teller);
     match told {
         Ok(verdict) => Ok(verdict),
         Err(fault) => Err(Failure::from(fault)),

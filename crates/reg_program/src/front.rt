@@ -1,6 +1,6 @@
 //! The machine as it is met from outside: its clock, its ports and its sockets.
 
-ghost use Rattle.std.specs.Prelude.{◌≡◌, IfErr};
+ghost use Rattle.std.specs.Prelude.{◌≡◌, IfErr, IfSome};
 
 use crate::counter::lay_socket;
 use crate::machine::Machine;
@@ -51,6 +51,15 @@ impl<'a> Front for Machine<'a> {
         }
     }
 
+    fn recall(&self, moment: Moment) -> Option<Moment>
+        ensures { IfSome result (λ recalled. Unit {0} × (recalled ≡ moment)) }
+    {
+        match moment_of(&self.rt) {
+            Ok(now) if moment <= now => Some(moment),
+            _ => None,
+        }
+    }
+
     fn listen(&self, address: [u8; 4], port: u16) -> io::Result<TcpListener> {
         match TcpListener::bind(&self.rt, SocketAddr::from((address, port))) {
             Ok(listener) => Ok(listener),
@@ -85,6 +94,14 @@ impl<'a> Front for Machine<'a> {
         match ask_unwaiting(&self.rt, path, message) {
             Ok(link) => Ok(link),
             // One that is let go gives it room.
+            Err(error) if is_crowded(&error) => Err(io::Error::from(ErrorKind::WouldBlock)),
+            Err(error) => Err(error),
+        }
+    }
+
+    fn reach(&self, path: &str) -> io::Result<UnwaitingStream> {
+        match UnwaitingStream::connect(&self.rt, path) {
+            Ok(link) => Ok(link),
             Err(error) if is_crowded(&error) => Err(io::Error::from(ErrorKind::WouldBlock)),
             Err(error) => Err(error),
         }

@@ -2,5 +2,6 @@ pub mod Algorithms
 pub mod Both
 pub mod Exchange
 pub mod Forms
+pub mod Primed
 pub mod Resting
 pub mod Signed

@@ -1,9 +1,14 @@
 //! Who signs where there may be a key.
 
 ghost use Rattle.std.specs.Prelude.{◌≡◌, ◌<◌, ◌≤◌, Some, None, false, true, IfOk, IsErrOf, OnOk, length};
+ghost use Rattle.std.specs.Option.{option_map_or};
 ghost use Rattle.sha1.specs.Sha1.{sha1};
+ghost use Rattle.reg_signer.specs.Both.{digest};
+ghost use Rattle.reg_signer.specs.Forms.{identity_of};
+ghost use Rattle.reg_signer.specs.Primed.{IsPrimed};
 
 use crate::device::Device;
+use crate::primed::Primed;
 use crate::signer::DeviceSigner;
 use reg_crl::{DigestSeal, SignFault, Signer};
 use std::alloc::Global;
@@ -55,6 +60,20 @@ impl<D: Device + Drop> KeyOrDigest<D> {
             key: self.key,
             is_silent: true,
             failures: self.failures,
+        }
+    }
+
+    /// Has what is known of the key's next signature taken for it, as [`DeviceSigner::prime`] does. A digest needs nothing.
+    pub fn prime(&mut self, primed: Option<Primed>)
+        requires { IsPrimed D.gave primed }
+        ensures same_identity { option_map_or (λ signer. identity_of signer.algorithm (D.public_key signer.device)) self.new.key digest
+            ≡ option_map_or (λ signer. identity_of signer.algorithm (D.public_key signer.device)) self.old.key digest }
+        ensures same_failures { option_map_or (λ signer. signer.failures) self.new.key self.new.failures
+            ≡ option_map_or (λ signer. signer.failures) self.old.key self.old.failures }
+    {
+        match &mut self.key {
+            Some(signer) => signer.prime(primed),
+            None => {}
         }
     }
 

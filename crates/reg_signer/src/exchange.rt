@@ -75,6 +75,7 @@ impl<C: Connector> SocketDevice<C> {
 }
 
 impl<C: Connector> Device for SocketDevice<C> {
+    ghost use Rattle.std.proofs.Common.{inr};
     ghost use Rattle.std.specs.Prelude.{ℕ, List, ◌⊎◌, string_bytes};
     ghost use Rattle.reg_signer.specs.Exchange.{GivesBack};
 
@@ -83,7 +84,11 @@ impl<C: Connector> Device for SocketDevice<C> {
     // Some connection to what listens at some path took the message whole, and gave the answer until its end; or one that never waits did.
     ghost answers = { λ key message answer. ((path : List ℕ) × (link : C.Link) × C.connected path link
         × GivesBack C.Link.Read.remaining C.Link.Write.contents C.Link.Connection.finished link message answer)
-        ⊎ C.gave message answer };
+        ⊎ ∥ C.gave message answer ∥₁ };
+
+    ghost gave = { C.gave };
+
+    ghost gave_answers = { λ key message answer given. inr given };
 
     // No connection could be made, or one was made and gave no answer.
     ghost fails = { λ it message after. C.unconnected (string_bytes it.path) ⊎ ((link : C.Link) × C.connected (string_bytes it.path) link) };

@@ -80,6 +80,10 @@ impl<D: Device, C: Clock> Device for RestingDevice<D, C> {
 
     ghost answers = { D.answers };
 
+    ghost gave = { D.gave };
+
+    ghost gave_answers = { D.gave_answers };
+
     // The device failed; or it was left alone, and stayed as it was.
     ghost fails = { λ it message after. D.fails it.device message after.device
         ⊎ (IsLeftAlone it.since × (after ≡ it)) };

@@ -1,11 +1,13 @@
 //! The signer over a device.
 
-ghost use Rattle.std.specs.Prelude.{◌≡◌, ◌⊎◌, ◌<◌, ◌≤◌, List, ℕ, IfOk, IsErrOf, OnErr, OnOk, length, vec_len};
+ghost use Rattle.std.specs.Prelude.{◌≡◌, ◌⊎◌, ◌<◌, ◌≤◌, List, ℕ, Some, None, IfOk, IfSome, IsErrOf, OnErr, OnOk, length, vec_len};
 ghost use Rattle.std.specs.Bool.{OnFalse, OnTrue};
-ghost use Rattle.reg_signer.specs.Forms.{IsKeyOf, IsSignature};
+ghost use Rattle.reg_signer.specs.Forms.{HasForm, IsKeyOf, IsSignature, identity_of};
+ghost use Rattle.reg_signer.specs.Primed.{IsPrimed};
 
 use crate::algorithm::Algorithm;
 use crate::device::Device;
+use crate::primed::{Primed, answer_to};
 use reg_crl::{SignFault, Signer};
 use std::alloc::Global;
 
@@ -25,6 +27,9 @@ pub struct DeviceSigner<D: Device> {
     device: D,
     algorithm: Algorithm,
     failures: u64,
+    /// What is known of the next signature, for which the device is not asked then.
+    primed: Option<Primed>,
+    ghost came: { IsPrimed D.gave primed },
 }
 
 impl<D: Device + Drop> DeviceSigner<D> {
@@ -36,6 +41,7 @@ impl<D: Device + Drop> DeviceSigner<D> {
         ensures device { IfOk result (λ signer. signer.device ≡ device) }
         ensures algorithm { IfOk result (λ signer. signer.algorithm ≡ algorithm) }
         ensures failures { IfOk result (λ signer. signer.failures ≡ 0) }
+        ensures primed { IfOk result (λ signer. signer.primed ≡ None) }
         ensures ok { OnOk result (IsKeyOf algorithm (D.public_key device)) }
         ensures err { OnErr result (¬ (IsKeyOf algorithm (D.public_key device))) }
     {
@@ -46,7 +52,20 @@ impl<D: Device + Drop> DeviceSigner<D> {
             device,
             algorithm,
             failures: 0,
+            primed: None,
         })
+    }
+
+    /// Has what is known of the next signature taken for it, whatever that is: what the device gave for a message when others asked it, or
+    /// that it gave nothing. The device is not asked then: for another message, too, that is a failure. `None` has it asked again.
+    pub fn prime(&mut self, primed: Option<Primed>)
+        requires { IsPrimed D.gave primed }
+        ensures primed { self.new.primed ≡ primed }
+        ensures same_device { self.new.device ≡ self.old.device }
+        ensures same_algorithm { self.new.algorithm ≡ self.old.algorithm }
+        ensures same_failures { self.new.failures ≡ self.old.failures }
+    {
+        self.primed = primed;
     }
 
     /// Asks the device for a signature, and whether it gave one, which is then all of `answer`.
@@ -87,6 +106,61 @@ impl<D: Device + Drop> DeviceSigner<D> {
         self.failures += 1;
         SignFault::Device
     }
+
+    /// A signature of the message: what the device answers, where that has the form of one.
+    fn sign_asking(&mut self, alloc: Global, message: &[u8]) -> Result<Vec<u8>, SignFault>
+        ensures signed { IfOk result (λ signature. D.answers (D.public_key self.old.device) message.now signature.items
+            × HasForm (identity_of self.old.algorithm (D.public_key self.old.device)) signature.items) }
+        ensures short { IfOk result (λ signature. length signature.items ≤ 4096) }
+        ensures device { IsErrOf result SignFault.Device → self.old.failures < self.new.failures }
+        ensures exhausted { self.old.failures ≡ u64.MAX → ¬ (IsErrOf result SignFault.Device) }
+        ensures memory { IsErrOf result SignFault.Memory → self.new.failures ≡ self.old.failures }
+        ensures ok { OnOk result (self.new.failures ≡ self.old.failures) }
+        ensures same_identity { identity_of self.new.algorithm (D.public_key self.new.device)
+            ≡ identity_of self.old.algorithm (D.public_key self.old.device) }
+        ensures why { IsErrOf result SignFault.Device → D.fails self.old.device message.now self.new.device
+            ⊎ ((answer : List ℕ) × D.answers (D.public_key self.old.device) message.now answer
+            × ¬ (IsSignature self.old.algorithm (D.public_key self.old.device) answer)) }
+    {
+        let mut answer = vec![in alloc; 0; LONGEST_ANSWER + 1]?;
+        if self.ask(message, &mut answer) {
+            return Ok(answer);
+        }
+        Err(self.fail())
+    }
+
+    /// A signature of the message: what is known of it, where that has the form of one.
+    fn sign_primed(&mut self, primed: Primed, message: &[u8]) -> Result<Vec<u8>, SignFault>
+        requires { IsPrimed D.gave (Some primed) }
+        ensures signed { IfOk result (λ signature. D.answers (D.public_key self.old.device) message.now signature.items
+            × HasForm (identity_of self.old.algorithm (D.public_key self.old.device)) signature.items) }
+        ensures short { IfOk result (λ signature. length signature.items ≤ 4096) }
+        ensures device { IsErrOf result SignFault.Device → self.old.failures < self.new.failures }
+        ensures exhausted { self.old.failures ≡ u64.MAX → ¬ (IsErrOf result SignFault.Device) }
+        ensures memory { IsErrOf result SignFault.Memory → self.new.failures ≡ self.old.failures }
+        ensures ok { OnOk result (self.new.failures ≡ self.old.failures) }
+        ensures same_device { self.new.device ≡ self.old.device }
+        ensures same_algorithm { self.new.algorithm ≡ self.old.algorithm }
+    {
+        let Some(answer) = answer_to(primed, message) else {
+            return Err(self.fail());
+        };
+        if !self.is_signature(&answer) {
+            return Err(self.fail());
+        }
+        Ok(answer)
+    }
+
+    /// Whether an answer is a signature by its form, and short enough for one.
+    fn is_signature(&self, answer: &[u8]) -> bool
+        ensures { OnTrue result (IsSignature self.now.algorithm (D.public_key self.now.device) answer.now × (length answer.now ≤ 4096)) }
+    {
+        if answer.len() > LONGEST_ANSWER {
+            return false;
+        }
+        self.algorithm
+            .is_signature(self.device.public_key(), answer)
+    }
 }
 
 impl<D: Device + Drop> Signer for DeviceSigner<D> {
@@ -108,7 +182,7 @@ impl<D: Device + Drop> Signer for DeviceSigner<D> {
         Some(self.device.public_key())
     }
 
-    /// A signature of the message: what the device answered, where that has the form of one.
+    /// A signature of the message: what the device answered, now or when others asked it, where that has the form of one.
     fn sign(&mut self, alloc: Global, message: &[u8]) -> Result<Vec<u8>, SignFault>
         ensures signed { IfOk result (λ signature. D.answers (D.public_key self.old.device) message.now signature.items
             × HasForm (identity_of self.old.algorithm (D.public_key self.old.device)) signature.items) }
@@ -120,16 +194,15 @@ impl<D: Device + Drop> Signer for DeviceSigner<D> {
         ensures same_identity { identity_of self.new.algorithm (D.public_key self.new.device)
             ≡ identity_of self.old.algorithm (D.public_key self.old.device) }
 
-        // A fault of the device comes only where it failed, or its answer has not the form of a signature.
-        ensures why { IsErrOf result SignFault.Device → D.fails self.old.device message.now self.new.device
+        // Where the device is asked, a fault of it comes only where it failed, or its answer has not the form of a signature.
+        ensures why { self.old.primed ≡ None → IsErrOf result SignFault.Device → D.fails self.old.device message.now self.new.device
             ⊎ ((answer : List ℕ) × D.answers (D.public_key self.old.device) message.now answer
             × ¬ (IsSignature self.old.algorithm (D.public_key self.old.device) answer)) }
     {
-        let mut answer = vec![in alloc; 0; LONGEST_ANSWER + 1]?;
-        if self.ask(message, &mut answer) {
-            return Ok(answer);
+        match self.primed.take() {
+            Some(primed) => self.sign_primed(primed, message),
+            None => self.sign_asking(alloc, message),
         }
-        Err(self.fail())
     }
 
     fn rouse(&mut self) {

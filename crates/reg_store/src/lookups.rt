@@ -275,6 +275,7 @@ impl<S: Alter> Store<S> {
     {
         Ok(reg_tables::counts(&mut self.connection, now)?)
     }
+
     /// The certificates past a serial number, or from the first one on, in ascending order of their serial numbers: as many as
     /// are wanted, if there are.
     ///

@@ -3,7 +3,7 @@ use Rattle.std.specs.Prelude.{ℕ, Bool, true, false, cond, not, ◌&&◌, ◌==
 use Rattle.std.specs.List.{position, starts_with, ends_with}
 use Rattle.std.specs.declared.option.Option.{Option}
 use Rattle.reg_watch.specs.declared.exchange.Route.{Route}
-use Rattle.reg_watch.specs.declared.exchange.Route.TheVariants.{Ocsp, OcspRest, Crl, CrlNumber, Status, Counts, Requests, Health, Metrics, Other}
+use Rattle.reg_watch.specs.declared.exchange.Route.TheVariants.{Ocsp, OcspRest, Crl, CrlNumber, Status, Counts, Requests, Lists, Health, Metrics, Other}
 use Rattle.reg_watch.specs.declared.exchange.Code.{Code}
 use Rattle.reg_watch.specs.declared.exchange.Code.TheVariants.{Okay, BadRequest, NotFound, MethodNotAllowed, Conflict, LengthRequired, PayloadTooLarge, HeadersTooLarge, InternalError, Unavailable, Nothing}
 use Rattle.reg_watch.specs.declared.exchange.Came.{Came}
@@ -47,6 +47,7 @@ route_at path =
     else if starts_with nat_eq path (codes "/status/") then Status
     else if bytes_eq path (codes "/counts") then Counts
     else if bytes_eq path (codes "/requests") then Requests
+    else if starts_with nat_eq path (codes "/list/") then Lists
     else if bytes_eq path (codes "/health") then Health
     else if bytes_eq path (codes "/metrics") then Metrics
     else Other
@@ -59,7 +60,7 @@ route_in request = route_at (path_in request)
 abbrev pub is_own : Route → Bool
 is_own Health = true
 is_own Metrics = true
-is_own other = false
+is_own _ = false
 
 -- the status of three digits
 unfoldable pub code_at : List ℕ → Code
@@ -96,12 +97,12 @@ came_by text = cond (is_refusal text) Unasked Signed
 abbrev pub is_ocsp : Route → Bool
 is_ocsp Ocsp = true
 is_ocsp OcspRest = true
-is_ocsp other = false
+is_ocsp _ = false
 
 -- whether a route is that of requests for revocation
 abbrev pub is_requests : Route → Bool
 is_requests Requests = true
-is_requests other = false
+is_requests _ = false
 
 -- whether a status is 200, and whether it is 500
 abbrev pub is_okay : Code → Bool

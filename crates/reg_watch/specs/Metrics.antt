@@ -70,8 +70,9 @@ route_name place =
     else if place == 4 then codes "/status/{serial}"
     else if place == 5 then codes "/counts"
     else if place == 6 then codes "/requests"
-    else if place == 7 then codes "/health"
-    else if place == 8 then codes "/metrics"
+    else if place == 7 then codes "/list/{word}"
+    else if place == 8 then codes "/health"
+    else if place == 9 then codes "/metrics"
     else codes "other"
 
 unfoldable pub code_name : ℕ → List ℕ
@@ -103,18 +104,22 @@ answers_front answers (suc place) = answers_front answers place ++ answer_text p
 
 -- the answers, by route and status
 abbrev pub answers_text : List ℕ → List ℕ
-answers_text answers = ANSWERED.now ++ answers_front answers 110
+answers_text answers = ANSWERED.now ++ answers_front answers 121
 
 -- the lines at the counter
 unfoldable pub lines_text : Tally → List ℕ
 lines_text tally = sample ACCEPTED_LINES.now tally.accepted ++ sample REFUSED_LINES.now tally.refused ++ sample FAULTS.now tally.faults
 
--- signatures: how many came and did not, and when last
-unfoldable pub signings_text : Signing → Signing → List ℕ
-signings_text crls ocsp =
+-- signatures: how many came, and how many did not
+unfoldable pub signed_text : Signing → Signing → List ℕ
+signed_text crls ocsp =
     sample CRL_SIGNED.now crls.came ++ sample OCSP_SIGNED.now ocsp.came
     ++ sample CRL_UNSIGNED.now crls.failed ++ sample OCSP_UNSIGNED.now ocsp.failed
-    ++ sample CRL_LAST.now (moment_or_none crls.last) ++ sample OCSP_LAST.now (moment_or_none ocsp.last)
+
+-- when the last one came, and when one did not come last
+unfoldable pub last_text : Signing → Signing → List ℕ
+last_text crls ocsp =
+    sample CRL_LAST.now (moment_or_none crls.last) ++ sample OCSP_LAST.now (moment_or_none ocsp.last)
     ++ sample CRL_LAST_FAILED.now (moment_or_none crls.last_failed) ++ sample OCSP_LAST_FAILED.now (moment_or_none ocsp.last_failed)
 
 -- since when nothing is signed, and since when the store fails
@@ -170,4 +175,4 @@ seconds_text tally =
 abbrev pub metrics_text : ℕ → Result Numbers Fault → Tally → Heard → List ℕ
 metrics_text now found tally heard =
     clock_text now found ++ register_text now found ++ requests_text tally.requests ++ answers_text tally.answers ++ lines_text tally
-    ++ signings_text tally.crls tally.ocsp ++ signers_text tally ++ connections_text heard ++ lost_text heard ++ seconds_text tally
+    ++ signed_text tally.crls tally.ocsp ++ last_text tally.crls tally.ocsp ++ signers_text tally ++ connections_text heard ++ lost_text heard ++ seconds_text tally

@@ -35,9 +35,10 @@ route_number routes.CrlNumber = 3
 route_number routes.Status = 4
 route_number routes.Counts = 5
 route_number routes.Requests = 6
-route_number routes.Health = 7
-route_number routes.Metrics = 8
-route_number routes.Other = 9
+route_number routes.Lists = 7
+route_number routes.Health = 8
+route_number routes.Metrics = 9
+route_number routes.Other = 10
 
 abbrev pub code_number : Code → ℕ
 code_number statuses.Okay = 0
@@ -107,7 +108,7 @@ store_after Failed now since = or_now since now
 -- nothing was counted yet
 abbrev pub is_new : Tally → Type 0
 is_new tally =
-    (tally.answers ≡ replicate 110 0) × (tally.accepted ≡ 0) × (tally.refused ≡ 0) × (tally.faults ≡ 0) × (tally.buckets ≡ replicate 12 0)
+    (tally.answers ≡ replicate 121 0) × (tally.accepted ≡ 0) × (tally.refused ≡ 0) × (tally.faults ≡ 0) × (tally.buckets ≡ replicate 12 0)
     × (tally.micros ≡ 0) × (tally.crls ≡ nothing_signed) × (tally.ocsp ≡ nothing_signed) × (tally.store_since ≡ None) × (tally.requests ≡ None)
 
 -- one answer more of a route and a status

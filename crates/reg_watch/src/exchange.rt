@@ -21,6 +21,8 @@ pub enum Route {
     Counts,
     /// `/requests`
     Requests,
+    /// `/list/`, and the word of a list.
+    Lists,
     /// `/health`
     Health,
     /// `/metrics`
@@ -170,6 +172,7 @@ fn route_at(path: &[u8]) -> Route
         _ if path.starts_with(b"/status/") => Route::Status,
         _ if path == b"/counts".as_slice() => Route::Counts,
         _ if path == b"/requests".as_slice() => Route::Requests,
+        _ if path.starts_with(b"/list/") => Route::Lists,
         _ if path == b"/health".as_slice() => Route::Health,
         _ if path == b"/metrics".as_slice() => Route::Metrics,
         _ => Route::Other,

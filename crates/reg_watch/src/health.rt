@@ -186,10 +186,17 @@ fn put_signers(
 ) -> Result<(), AllocError>
     ensures { OnOk result (text.new.items ≡ text.old.items ++ signers_text crl ocsp) }
 {
-    text.extend_from_slice(b",\"crl_signer\":")?;
-    put_since(text, crl)?;
-    text.extend_from_slice(b",\"ocsp_signer\":")?;
-    put_since(text, ocsp)
+    put_member(text, b",\"crl_signer\":", crl)?;
+    put_member(text, b",\"ocsp_signer\":", ocsp)?;
+    Ok(())
+}
+
+/// Puts a member behind a text: its name, and a moment or null.
+fn put_member(text: &mut Vec<u8>, name: &[u8], since: Option<Moment>) -> Result<(), AllocError>
+    ensures { OnOk result (text.new.items ≡ text.old.items ++ (name.now ++ since_text since)) }
+{
+    text.extend_from_slice(name)?;
+    put_since(text, since)
 }
 
 /// Puts the word that tells whether all is well behind a text, and the name of the last member.

@@ -2,8 +2,8 @@
 #![tactic(auto)]
 
 mod exchange;
+mod families;
 mod health;
-mod metrics;
 mod names;
 mod numbers;
 mod samples;
@@ -11,7 +11,7 @@ mod signing;
 mod tally;
 
 pub use exchange::{Route, asks_itself, route_of};
+pub use families::metrics;
 pub use health::Health;
-pub use metrics::metrics;
 pub use numbers::{Found, Heard, Numbers, Requests, Standing};
 pub use tally::Tally;

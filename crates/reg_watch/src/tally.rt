@@ -15,7 +15,7 @@ use reg_core::Moment;
 pub(crate) const CODES: usize = 11;
 
 /// How many pairs of a route and a status there are.
-pub(crate) const ANSWERS: usize = 110;
+pub(crate) const ANSWERS: usize = 121;
 
 /// How many ranges of seconds there are.
 pub(crate) const BUCKETS: usize = 12;
@@ -54,7 +54,7 @@ fn bump<const N: usize>(counts: &mut [u64; N], place: usize)
 /// The number of a route.
 fn route_number(route: Route) -> usize
     ensures number { result ≡ number_of_route route }
-    ensures within { result < 10 }
+    ensures within { result < 11 }
 {
     match route {
         Route::Ocsp => 0,
@@ -64,9 +64,10 @@ fn route_number(route: Route) -> usize
         Route::Status => 4,
         Route::Counts => 5,
         Route::Requests => 6,
-        Route::Health => 7,
-        Route::Metrics => 8,
-        Route::Other => 9,
+        Route::Lists => 7,
+        Route::Health => 8,
+        Route::Metrics => 9,
+        Route::Other => 10,
     }
 }
 

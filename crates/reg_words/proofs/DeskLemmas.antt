@@ -96,7 +96,7 @@ orders app words m order is clean has read =
     let whole : IsOrderIn (matches_of desk_app words) (subcommand_of desk_app words) order =
     subst (λ before. IsOrderIn before (subcommand_of desk_app words) order) (rows_before app words m is has)
     (subst (λ found. IsOrderIn (rows_of (found_of m)) found order) (rows_behind app words m is has) read) in
-    ((accepted app words is clean, whole.0), whole.1, whole.2)
+    ((accepted app words is clean, whole.0), whole.1, whole.2, whole.3)
 
 pub no_order : (app : App) (words : List Text) (m : ArgMatches) (usage : Usage) → app ≡ desk_app → (is_simple_and_free app ≡ true → fault_of app words ≡ [])
     → HasMatchesOf app words m → IsNoOrder (subcommand_rows_of m) usage → IsUsageOf words usage

@@ -5,8 +5,8 @@ use Rattle.clap.specs.Words.{AddsArg, AddsInTurn, AddsSubcommand, App, Rule, app
 use Rattle.clap.specs.declared.builder.arg.Arg.{Arg}
 use Rattle.clap.specs.declared.builder.command.Command.{Command}
 use Rattle.clap.specs.declared.builder.command.Command.TheViews.{out-Command as fields_of}
-use Rattle.reg_words.specs.Desk.{with_rules}
-use Rattle.reg_words.specs.Table.{AreLocal, app_told, rule_told, with_entries, with_made}
+use Rattle.reg_words.specs.Desk.{with_commands, with_rules}
+use Rattle.reg_words.specs.Table.{AreLocal, app_told, rule_told, with_made}
 use Rattle.reg_words.specs.declared.table.Entry.{Entry}
 use Rattle.reg_words.specs.declared.table.Part.{Part}
 
@@ -25,16 +25,16 @@ all_parts app whole parts at past so = sym (ap (λ l. with_rules app (map rule_t
 
 -- one more command
 pub one_entry : (app more whole : App) (entries : List Entry) (at : ℕ) (d : Entry) → at < length entries
-    → more ≡ with_subcommand app (app_told (get_or entries at d)).top → with_entries app (drop at entries) ≡ whole
-    → with_entries more (drop (at + 1) entries) ≡ whole
+    → more ≡ with_subcommand app (app_told (get_or entries at d)).top → with_commands app (map app_told (drop at entries)) ≡ whole
+    → with_commands more (map app_told (drop (at + 1) entries)) ≡ whole
 one_entry app more whole entries at d within is so =
-    ap (λ a. with_entries a (drop (at + 1) entries)) is
-    ∙ ap (λ k. with_entries (with_subcommand app (app_told (get_or entries at d)).top) (drop k entries)) (add-one at)
-    ∙ ap (with_entries app) (sym (drop-cons entries at d within)) ∙ so
+    ap (λ a. with_commands a (map app_told (drop (at + 1) entries))) is
+    ∙ ap (λ k. with_commands (with_subcommand app (app_told (get_or entries at d)).top) (map app_told (drop k entries))) (add-one at)
+    ∙ ap (λ l. with_commands app (map app_told l)) (sym (drop-cons entries at d within)) ∙ so
 
 -- none is left
-pub all_entries : (app whole : App) (entries : List Entry) (at : ℕ) → length entries ≤ at → with_entries app (drop at entries) ≡ whole → app ≡ whole
-all_entries app whole entries at past so = sym (ap (with_entries app) (drop_of_length-le entries past)) ∙ so
+pub all_entries : (app whole : App) (entries : List Entry) (at : ℕ) → length entries ≤ at → with_commands app (map app_told (drop at entries)) ≡ whole → app ≡ whole
+all_entries app whole entries at past so = sym (ap (λ l. with_commands app (map app_told l)) (drop_of_length-le entries past)) ∙ so
 
 -- what clap says of an argument that is added, where none is global
 pub rule_added : (old new : Command) (arg : Arg) {rule : Rule} → AddsArg old arg new → arg.global ≡ false → rule_of arg ≡ rule

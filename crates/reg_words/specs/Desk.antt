@@ -105,7 +105,13 @@ abbrev pub with_commands : App → List App → App
 with_commands app [] = app
 with_commands app (command ∷ rest) = with_commands (with_subcommand app command.top) rest
 
+-- the commands that make, run and serve a register, and those that set, list and audit what it has
+abbrev pub running_apps : List App
+running_apps = init_app ∷ script_app ∷ import_app ∷ crl_app ∷ serve_app ∷ open_app ∷ at_app ∷ []
+
+abbrev pub keeping_apps : List App
+keeping_apps = schedule_app ∷ key_id_app ∷ list_app ∷ audit_app ∷ []
+
 -- `desk [--why] COMMAND ..`
 abbrev pub desk_app : App
-desk_app = with_commands begun_app
-    (init_app ∷ script_app ∷ import_app ∷ crl_app ∷ serve_app ∷ open_app ∷ at_app ∷ schedule_app ∷ key_id_app ∷ list_app ∷ audit_app ∷ [])
+desk_app = with_commands (with_commands begun_app running_apps) keeping_apps

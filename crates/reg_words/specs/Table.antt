@@ -21,11 +21,6 @@ rule_told (Flag id help) = flag id.now
 abbrev pub app_told : Entry → App
 app_told entry = with_rules (new_app entry.name.now) (map rule_told entry.parts.now)
 
--- the command line with the commands of the table
-abbrev pub with_entries : App → List Entry → App
-with_entries app [] = app
-with_entries app (entry ∷ rest) = with_entries (with_subcommand app (app_told entry).top) rest
-
 -- the command line with commands that were made, each behind those before it
 abbrev pub with_made : App → List Command → App
 with_made app [] = app

@@ -1,12 +1,12 @@
 //! The command line as clap reads it, made of the table.
 
-ghost use Rattle.std.specs.Prelude.{◌≡◌, IfOk, false, map};
+ghost use Rattle.std.specs.Prelude.{◌≡◌, IfOk, OnOk, false, map};
 ghost use Rattle.clap.specs.Words.{App, app_of, rule_of, with_subcommand};
 ghost use Rattle.clap.specs.declared.builder.command.Command.TheViews.{out-Command as fields_of};
-ghost use Rattle.reg_words.specs.Desk.{must, may, needs, takes, flag, some, bare_app, begun_app, desk_app, with_rules};
-ghost use Rattle.reg_words.specs.Table.{AreLocal, app_told, rule_told, with_entries, with_made};
+ghost use Rattle.reg_words.specs.Desk.{must, may, needs, takes, flag, some, bare_app, begun_app, desk_app, keeping_apps, running_apps, with_commands, with_rules};
+ghost use Rattle.reg_words.specs.Table.{AreLocal, app_told, rule_told, with_made};
 
-use crate::table::{BEFORE, COMMANDS, Entry, Part};
+use crate::table::{BEFORE, Entry, KEEPING, Part, RUNNING};
 use clap::{Arg, ArgAction, Command};
 use std::alloc::{AllocError, Global};
 
@@ -17,27 +17,40 @@ const VERSION: &str = "0.1";
 pub(crate) fn desk<'a>(alloc: Global) -> Result<Command<'a>, AllocError>
     ensures { IfOk result (λ made. app_of made ≡ desk_app) }
 {
-    let commands = each_command(alloc, entries())?;
+    let mut commands = Vec::new(alloc);
+    add_commands(alloc, &mut commands, running())?;
+    add_commands(alloc, &mut commands, keeping())?;
     begun(alloc)?.subcommands(commands)
 }
 
-/// The commands of the table, which are those of the program.
-fn entries() -> &'static [Entry]
-    ensures { with_entries begun_app result.now ≡ desk_app }
+/// The commands of the table that make, run and serve a register.
+fn running() -> &'static [Entry]
+    ensures { map app_told result.now ≡ running_apps }
 {
-    COMMANDS
+    RUNNING
 }
 
-/// The command of each entry.
-fn each_command<'a>(alloc: Global, entries: &[Entry]) -> Result<Vec<Command<'a>>, AllocError>
-    ensures app { IfOk result (λ made. with_made begun_app made.items ≡ with_entries begun_app entries.now) }
-    ensures local { IfOk result (λ made. AreLocal made.items) }
+/// Those that set, list and audit what it has.
+fn keeping() -> &'static [Entry]
+    ensures { map app_told result.now ≡ keeping_apps }
 {
-    let mut commands = Vec::new(alloc);
+    KEEPING
+}
+
+/// Adds the command of each entry to those before it.
+fn add_commands<'a>(
+    alloc: Global,
+    commands: &mut Vec<Command<'a>>,
+    entries: &[Entry],
+) -> Result<(), AllocError>
+    ensures app { OnOk result ((app : App)
+        → with_made app commands.new.items ≡ with_commands (with_made app commands.old.items) (map app_told entries.now)) }
+    ensures local { OnOk result (AreLocal commands.old.items → AreLocal commands.new.items) }
+{
     for entry in entries {
-        add_command(alloc, &mut commands, entry)?;
+        add_command(alloc, commands, entry)?;
     }
-    Ok(commands)
+    Ok(())
 }
 
 /// Adds the command of an entry to those before it.
@@ -46,9 +59,9 @@ fn add_command<'a>(
     commands: &mut Vec<Command<'a>>,
     entry: &Entry,
 ) -> Result<(), AllocError>
-    ensures app { IfOk result (λ done. (app : App)
+    ensures app { OnOk result ((app : App)
         → with_made app commands.new.items ≡ with_subcommand (with_made app commands.old.items) (app_told entry.now).top) }
-    ensures local { IfOk result (λ done. AreLocal commands.old.items → AreLocal commands.new.items) }
+    ensures local { OnOk result (AreLocal commands.old.items → AreLocal commands.new.items) }
 {
     commands.push(command(alloc, entry)?)?;
     Ok(())

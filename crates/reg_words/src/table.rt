@@ -124,8 +124,9 @@ const CAUSE_ANYWHERE: &str =
 /// What stands before a command.
 pub(crate) const BEFORE: &[Part] = &[Part::Flag("why", CAUSE_ANYWHERE)];
 
-/// The commands, in the order in which help lists them. One small function alone names them, since a long constant costs the prover seconds in each step.
-pub(crate) const COMMANDS: &[Entry] = &[
+/// The commands that make, run and serve a register, in the order in which help lists them. One small function alone names them, since a long
+/// constant costs the prover seconds in each step; so the commands stand in two.
+pub(crate) const RUNNING: &[Entry] = &[
     Entry {
         name: "init",
         about: "Make a new register in a file.",
@@ -224,6 +225,10 @@ pub(crate) const COMMANDS: &[Entry] = &[
             Part::Flag("why", CAUSE),
         ],
     },
+];
+
+/// The commands that set, list and audit what a register has; help lists them behind the others.
+pub(crate) const KEEPING: &[Entry] = &[
     Entry {
         name: "schedule",
         about: "Set how many days a certificate may be valid, by the moment from which it is valid.",

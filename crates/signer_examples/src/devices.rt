@@ -32,6 +32,10 @@ impl Device for Scripted {
 
     ghost answers = { λ key message answer. Unit {0} };
 
+    ghost gave = { λ message answer. Unit {0} };
+
+    ghost gave_answers = { λ key message answer given. tt };
+
     ghost fails = { λ it message after. Unit {0} };
 
     fn public_key(&self) -> &[u8] {
@@ -99,6 +103,10 @@ impl Device for Lasting {
     ghost public_key = { λ it. it.key.items };
 
     ghost answers = { λ key message answer. Unit {0} };
+
+    ghost gave = { λ message answer. Unit {0} };
+
+    ghost gave_answers = { λ key message answer given. tt };
 
     ghost fails = { λ it message after. Unit {0} };
 

@@ -1,6 +1,9 @@
 //! Lines at counters: how many are told a turn, which nothing outside sees.
 
-use crate::tests::steps::Step::{self, Hears, Large, Opens, SeesLines, TakesReplies, Tells, Turns};
+use crate::tests::office::{ANSWER, REQUEST};
+use crate::tests::steps::Step::{
+    self, Asks, Comes, Gets, Hears, Large, Opens, SeesLines, Signs, TakesReplies, Tells, Turns,
+};
 use crate::tests::steps::play;
 use std::test::Fail;
 
@@ -42,4 +45,42 @@ static UNREAD: [Step; 9] = [
 #[test]
 fn a_counter_that_does_not_read_holds_one_reply(rt: HostRuntime) -> Result<(), Fail> {
     play(&rt, "hub_examples.replies", 1_000, &UNREAD)
+}
+
+static SIGNED: [Step; 14] = [
+    Asks("hub_examples.line_signer"),
+    Opens(b"signed one\ntwo\n"),
+    Turns(1_000, 3),
+    Opens(b"three\n"),
+    Turns(1_000, 3),
+    SeesLines(0),
+    Comes(REQUEST),
+    Turns(1_000, 3),
+    Gets(0, ANSWER),
+    Signs(1),
+    Turns(2_000, 5),
+    Hears(0, b"signed one\nsigned signed one\ntwo\n"),
+    Hears(1, b"three\n"),
+    SeesLines(3),
+];
+
+// That no other line is told meanwhile, which nothing outside sees: what came of it might be under way.
+#[test]
+fn a_line_waits_for_its_signature_and_lines_for_it(rt: HostRuntime) -> Result<(), Fail> {
+    play(&rt, "hub_examples.deferred", 1_000, &SIGNED)
+}
+
+static UNSIGNED: [Step; 6] = [
+    Opens(b"signed one\ntwo\n"),
+    Turns(1_000, 3),
+    Turns(10_999, 3),
+    SeesLines(0),
+    Turns(11_000, 4),
+    Hears(0, b"signed one\ntwo\n"),
+];
+
+// The millisecond at which it ends.
+#[test]
+fn a_line_waits_ten_seconds_for_its_signature(rt: HostRuntime) -> Result<(), Fail> {
+    play(&rt, "hub_examples.undeferred", 1_000, &UNSIGNED)
 }

@@ -1,7 +1,7 @@
 //! A hub of the tests: who answers, what the clock says, and who comes.
 
 use mio::net::{TcpListener, UnixListener, UnixStream as UnwaitingStream};
-use reg_hub::{Crowd, Given, Handler, Hub, Lost, Stopped};
+use reg_hub::{Crowd, Deferred, Given, Handler, Hub, Lost, Stopped};
 use std::alloc::{AllocError, Global};
 use std::cell::Cell;
 use std::fmt::Debug;
@@ -55,9 +55,13 @@ struct Echo {
 impl Handler for Echo {
     type Ticket = Vec<u8>;
 
+    type Line = Vec<u8>;
+
     ghost answers = { λ _ _ _ _. Unit {0} };
 
     ghost tells = { λ _ _ _ _. Unit {0} };
+
+    ghost defers = { λ _ _ _. Unit {0} };
 
     ghost finishes = { λ _ _. Unit {0} };
 
@@ -93,6 +97,47 @@ impl Handler for Echo {
             Ok(text) => Ok(text),
             Err(_) => Ok(Vec::new(self.alloc)),
         }
+    }
+
+    fn defer(&mut self, line: &[u8]) -> Option<Deferred<Vec<u8>>>
+        ensures { Unit {0} }
+    {
+        if !line.starts_with(b"signed") {
+            return None;
+        }
+        match Vec::from_slice(self.alloc, line) {
+            Ok(message) => Some(Deferred {
+                message,
+                ticket: Vec::new(self.alloc),
+            }),
+            Err(_) => None,
+        }
+    }
+
+    fn reach(&self, _ticket: &Vec<u8>) -> io::Result<UnwaitingStream> {
+        match self.signer {
+            Some(path) => UnwaitingStream::connect(&self.rt, path),
+            None => Err(io::Error::from(ErrorKind::WouldBlock)),
+        }
+    }
+
+    fn tell_deferred(
+        &mut self,
+        line: &[u8],
+        _noted: &mut Vec<u8>,
+        _deferred: Deferred<Vec<u8>>,
+        link: Option<UnwaitingStream>,
+    ) -> Result<Option<Vec<u8>>, Stopped> {
+        self.lines = self.lines.saturating_add(1);
+        let mut text = match self.told(line) {
+            Ok(text) => text,
+            Err(_) => Vec::new(self.alloc),
+        };
+        if let Some(mut link) = link {
+            // What can't be read is left out.
+            let _ = link.read_to_end(&mut text);
+        }
+        Ok(Some(text))
     }
 
     fn lose(&self, peer: Option<SocketAddr>, why: Lost) {

@@ -13,7 +13,7 @@ returns-in-Ok-Some-clause-moves g c =
     follows g.P.Opened.Keeper.is_clean g.P.Opened.Keeper.stands
     (λ identity before after. TellsItself c.args.now before c.in-Ok-Some.ask c.tell_itself.result.items × (after ≡ before))
     (λ identity before after. VisitAt g.P.Opened.Keeper.signs c.args.now identity before c.args.request.now c.tell_itself.result.items after)
-    (λ identity before after told. inr (c.in-Ok-Some.ask, c.in-Ok-Some.ensures, told.0, told.1))
+    (λ identity before after told. inr (c.in-Ok-Some.ask, rw c.in-Ok-Some.field-0-is at c.in-Ok-Some.ensures, told.0, told.1))
     _
     _
     c.tell_itself.ensures.moves

@@ -1,5 +1,6 @@
 use Rattle.std.proofs.Common.{[], inl, inr, refl}
 use Rattle.reg_faces.proofs.Steps.{stays}
+use Rattle.reg_jobs.specs.Exchanges.{Unmoved}
 use Rattle.reg_jobs.specs.Reasons.{Word}
 use Rattle.reg_jobs.specs.Serving.{Visiting}
 use Rattle.reg_jobs.proofs.Fates.{unbound}
@@ -24,10 +25,13 @@ returns g c =
           (λ identity opened records. g.P.Opened.Keeper.stands identity opened.office records)
           _
           _
+          _
           (Visiting g.P.Opened.Keeper.signs g.P.Place.gave g.F.Front.told)
           (Word g.P.Opened.Keeper.signs g.F.Front.told)
+          (λ identity. Unmoved)
           (λ s came outcome t moved. moved)
           (λ s came text t moved. moved)
+          (λ s came t moved. moved)
           c.args.opened.now
           c.serve_hub.new.handler
           ran.0

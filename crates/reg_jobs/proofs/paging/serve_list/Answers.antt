@@ -9,4 +9,4 @@ returns-in-Ok g c =
 
 pub returns-in-Err : goal.returns-in-Err
 returns-in-Err g c =
-    unasked_ends g.P.Opened.Keeper.is_clean g.P.Opened.Keeper.stands c.args.now _ _ c.args.request.now _ c.in-Err.fault refl c.in-Err.ensures.err
+    unasked_ends g.P.Opened.Keeper.is_clean g.P.Opened.Keeper.stands c.args.now _ _ c.args.request.now c.args.text.now.items c.in-Err.fault refl c.in-Err.ensures.err

@@ -1,6 +1,6 @@
 use Rattle.std.proofs.Common.{[], inl, inr, refl}
 use Rattle.reg_faces.proofs.Steps.{stays}
-use Rattle.reg_jobs.specs.Exchanges.{NoEntry}
+use Rattle.reg_jobs.specs.Exchanges.{NoEntry, Unmoved}
 use Rattle.reg_jobs.specs.Serving.{Exchanging}
 use Rattle.reg_jobs.proofs.Fates.{unbound}
 use Rattle.reg_jobs.proofs.Peers.{exchanges_move}
@@ -24,10 +24,18 @@ returns g c =
           (λ identity served records. g.P.Opened.Keeper.stands identity served.office records)
           _
           _
+          _
           (Exchanging g.P.Opened.Keeper.signs g.P.Place.gave g.F.Front.told)
           (λ identity. NoEntry)
+          (λ identity. Unmoved)
           (λ s came outcome t moved. moved)
           (λ s came text t never. absurd never)
+          (λ s came t same. stays
+          (λ served. g.P.Opened.Keeper.is_clean served.office)
+          (λ identity served records. g.P.Opened.Keeper.stands identity served.office records)
+          s
+          t
+          same)
           c.args.served.now
           c.serve_hub.new.handler
           ran.0

@@ -14,5 +14,6 @@ abbrev pub invariant-loop-before : goal.invariant-loop-before
 invariant-loop-before g l = record {
   looked : Looked g.C.Store l.fn.store l.store;
   since : doubt (state g.C.Store l.initial.store).is_clean ≤ doubt (state g.C.Store l.store).is_clean;
+  stays : l.end ≤ l.after → l.before ≡ l.after;
   rows : (records : Records) → ShowsKept g.C.Store l.fn.store records → HasCleanDisk (state g.C.Store l.store) → l.rows.items ≡ filter_map (row_at records l.now l.list) (numbers (l.after + 1) (l.before - l.after));
 }

@@ -1,24 +1,17 @@
-use Rattle.reg_jobs.proofs.Fates.{opened}
+use Rattle.std.proofs.lemmas.Result.{IfOk-weaker}
 use Rattle.reg_program.proofs.files.audit_sources.Goals as goal
 
-pub returns-in-Ok-clause-ok : goal.returns-in-Ok-clause-ok
-returns-in-Ok-clause-ok g c =
-    let found = c.in_ok-connection.ensures in
-    record {
+pub returns-clause-ok : goal.returns-clause-ok
+returns-clause-ok g c =
+    let opened = c.in_ok-connection.ensures in
+    IfOk-weaker c.audit_over.result _ _
+    (λ verdict says. record {
       audited = record {
         connection = c.in_ok-connection.connection;
-        after = c.judge-told.new.conn;
-        connects = record { fresh = found.fresh; whole = found.opened };
-        sound = c.in-Ok.ensures.sound;
-        shown = c.in-Ok.ensures.shown (λ clean. (found.opened clean).0.is_open);
-        counted = c.in-Ok.ensures.counted;
-        broken = c.in-Ok.ensures.broken;
-        tells = c.in-Ok.ensures.tells;
-        register = c.in-Ok.ensures.register;
-        stays = c.judge-told.ensures.same;
+        after = c.audit_over.new.connection;
+        connects = record { fresh = opened.fresh; whole = opened.opened };
+        says = says;
       };
-      found = found.found;
-    }
-
-pub returns-clause-err : goal.returns-clause-err
-returns-clause-err g c = opened _ _ c.from.ensures c.in-Err.ensures.faults
+      found = opened.found;
+    })
+    c.audit_over.ensures.ok

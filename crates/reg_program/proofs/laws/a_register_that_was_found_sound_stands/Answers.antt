@@ -15,14 +15,14 @@ by_connection found records columns shown = record { saved = λ clean up. (found
 
 pub returns : goal.returns
 returns g c = λ found.
-    let audited = found.audited in
-    let some = audited.shown found.presumed found.clean found.sound in
+    let says = found.audited.says in
+    let some = says.shown found.presumed found.clean found.sound in
     record {
       shown = some;
-      counted = audited.counted some.records some.columns (by_connection found some.records some.columns some.both) found.clean;
+      counted = says.counted some.records some.columns (by_connection found some.records some.columns some.both) found.clean;
       stand = λ records columns shown register who opens since reached signed.
           let opened = opens.opened in
-          let it = audited.sound records columns (by_connection found records columns shown) found.clean found.sound in
+          let it = says.sound records columns (by_connection found records columns shown) found.clean found.sound in
           let there = subst (λ db. AreBoth db records columns) (sym opens.same) shown in
           record {
             shown = opened.kept records (columns, record { saved = λ clean up. (opened.connects.whole clean).0.clean; tables = λ clean up. there }, it.1);

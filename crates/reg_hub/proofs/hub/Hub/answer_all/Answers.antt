@@ -3,14 +3,14 @@ use Rattle.reg_hub.proofs.Exchanges.{exchanged_none, exchanged_then}
 use Rattle.reg_hub.proofs.hub.Hub.answer_all.Goals as goal
 
 pub loop-index-init : goal.loop-index-init
-loop-index-init g c = (exchanged_none g.H.Handler.answers g.H.Handler.tells _ _ _ _ refl refl, c.requires)
+loop-index-init g c = (exchanged_none g.H.Handler.answers g.H.Handler.tells g.H.Handler.defers _ _ _ _ refl refl, c.requires)
 
 pub returns-in-Err-clause-exchanged : goal.returns-in-Err-clause-exchanged
 returns-in-Err-clause-exchanged g c =
-    exchanged_then g.H.Handler.answers g.H.Handler.tells _ _ _ _ _ _ c.loop-index.invariant.0 c.answer_due.ensures.exchanged
+    exchanged_then g.H.Handler.answers g.H.Handler.tells g.H.Handler.defers _ _ _ _ _ _ c.loop-index.invariant.0 c.answer_due.ensures.exchanged
 
 pub loop-index-preserved : goal.loop-index-preserved
 loop-index-preserved g c = (
-  exchanged_then g.H.Handler.answers g.H.Handler.tells _ _ _ _ _ _ c.loop-index.invariant.0 c.answer_due.ensures.exchanged,
+  exchanged_then g.H.Handler.answers g.H.Handler.tells g.H.Handler.defers _ _ _ _ _ _ c.loop-index.invariant.0 c.answer_due.ensures.exchanged,
   omega (arith, c.loop-index.invariant.1, c.answer_due.ensures.one),
 )

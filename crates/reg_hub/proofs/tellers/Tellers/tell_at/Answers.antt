@@ -1,9 +1,18 @@
 use Rattle.std.proofs.Common.{refl}
-use Rattle.reg_hub.proofs.Exchanges.{exchanged_none, exchanged_told}
+use Rattle.reg_hub.proofs.Exchanges.{exchanged_deferring, exchanged_none, exchanged_then}
 use Rattle.reg_hub.proofs.tellers.Tellers.tell_at.Goals as goal
 
-pub returns-in_default : goal.returns-in_default
-returns-in_default g c made = exchanged_none g.H.Handler.answers g.H.Handler.tells _ _ made made refl refl
+pub returns-then-is_some : goal.returns-then-is_some
+returns-then-is_some g c made = exchanged_none g.H.Handler.answers g.H.Handler.tells g.H.Handler.defers _ _ made made refl refl
 
-pub returns : goal.returns
-returns g c made = exchanged_told g.H.Handler.answers g.H.Handler.tells _ c.tell-told.result _ _ made _ _ _ _ c.tell-told.ensures.ok c.tell-told.ensures.err
+pub returns-in_default : goal.returns-in_default
+returns-in_default g c made = exchanged_none g.H.Handler.answers g.H.Handler.tells g.H.Handler.defers _ _ made made refl refl
+
+pub returns-in-Some-defer : goal.returns-in-Some-defer
+returns-in-Some-defer g c made = exchanged_deferring g.H.Handler.answers g.H.Handler.tells g.H.Handler.defers _ _ made _ c.defer.ensures.looked
+
+pub returns-in-None : goal.returns-in-None
+returns-in-None g c made =
+    exchanged_then g.H.Handler.answers g.H.Handler.tells g.H.Handler.defers _ _ _ made made made
+    (exchanged_deferring g.H.Handler.answers g.H.Handler.tells g.H.Handler.defers _ _ made _ c.defer.ensures.looked)
+    (c.tell_one.ensures made)
