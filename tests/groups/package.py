@@ -1,10 +1,11 @@
 """The Debian package of tools/package.sh as one who installs it: built twice, looked through by lintian, installed into a fresh root of
 Debian, its first steps typed there (README.Debian) with what its units say in place of systemd, and again with systemd where
-systemd-nspawn can start it, and removed, which leaves the registers and the keys. For root; it fetches a Debian of some 100 MB by
-debootstrap, which PACKAGE_ROOT=FOLDER keeps for the next time."""
+systemd-nspawn can start it, upgraded and removed while it runs there, and removed, which leaves the registers and the keys. For root; it
+fetches a Debian of some 100 MB by debootstrap, which PACKAGE_ROOT=FOLDER keeps for the next time."""
 
 import contextlib
 import gzip
+import http.client
 import os
 import re
 import shlex
@@ -12,6 +13,7 @@ import shutil
 import socket
 import stat
 import subprocess
+import threading
 import time
 from pathlib import Path
 
@@ -24,6 +26,8 @@ from lib.trial import Failed, Skipped, need, test
 REGISTER, KEY = "/var/lib/durshavon/ca.db", "/var/lib/durshavon-signer/ca.key"
 SOCKET, PUBLISHED = "/run/durshavon-signer/ca.sign", "/var/lib/durshavon-crl/ca"
 COUNTER = "/run/durshavon/ca/counter"
+# What `systemctl enable` is told of a register.
+ENABLED = ("desk@ca.service", "desk-crl@ca.timer", "desk-signer@ca.socket", "desk-responder@ca.socket")
 # A responder's key, its socket and its certificate.
 RESPONDER = ("/var/lib/durshavon-signer/ca.ocsp.key", "/run/durshavon-signer/ca.ocsp.sign", "/etc/durshavon/ca.ocsp.der")
 DEBIAN = "bookworm"
@@ -366,7 +370,7 @@ def booted(t, root, it):
             machine.wait()
     with socket.socket() as peer:
         t.true(peer.connect_ex(("127.0.0.1", port)) != 0, "shut down, nothing answers any more")
-    root.tried("systemctl", "disable", "steps.service", "desk@ca.service", "desk-signer@ca.socket", "desk-responder@ca.socket", "desk-crl@ca.timer")
+    root.tried("systemctl", "disable", "steps.service", *ENABLED)
 
 
 def behind(t, root, machine, it, port):
@@ -383,10 +387,86 @@ def behind(t, root, machine, it, port):
     t.has(t.tool(*copy).decode(), ": sound, 0 certificates, 0 revoked, 1 CRLs\n", "a copy of what was stopped")
     t.tool(*at, "systemctl", "start", "desk@ca.service")
     authority.until(lambda: t.tried("curl", "-s", f"http://127.0.0.1:{port}/counts").returncode == 0, "desk@ca.service to answer again")
+    upgraded(t, root, it, at, port)
     told = t.tool(*at, "bash", "-ec", "\n".join(["cd /root", *responder_steps(port)])).decode()
     t.has(told, "Response verify OK", "a responder's key, told to what is installed")
     t.same(it.asked_by_openssl("05", f"http://127.0.0.1:{port}/ocsp", verify=True), "unknown", "by the responder")
     while_the_key_is_away(t, root, it, at, port)
+    taken_away(t, root, at, port)
+
+
+def newer(t, root):
+    """A package of a later version, whose `desk --version` says `newer`."""
+    folder = t.room / "newer"
+    t.tool("dpkg-deb", "-R", root.path / "tmp/durshavon.deb", folder)
+    control = folder / "DEBIAN/control"
+    control.write_text(re.sub(r"^(Version: .*)$", r"\1.newer", control.read_text(), flags=re.MULTILINE))
+    (folder / "usr/lib/durshavon/version").write_text("newer\n")
+    t.tool("dpkg-deb", "--root-owner-group", "--build", folder, root.path / "tmp/newer.deb")
+    return "/tmp/newer.deb"
+
+
+def silence(t, port, work):
+    """For how many seconds nobody was answered at most, who asks again and again while this is done and once behind it."""
+    answered, ended = [], threading.Event()
+
+    def ask():
+        peer = http.client.HTTPConnection("127.0.0.1", port, timeout=10)
+        with contextlib.suppress(OSError, http.client.HTTPException), contextlib.closing(peer):
+            peer.request("GET", "/counts")
+            if peer.getresponse().status == 200:
+                answered.append(time.monotonic())
+
+    def asks():
+        while not ended.is_set():
+            ask()
+            time.sleep(0.01)
+
+    asking = threading.Thread(target=asks)
+    asking.start()
+    try:
+        authority.until(lambda: answered, "an answer before")
+        work()
+        done = time.monotonic()
+        authority.until(lambda: answered[-1] > done, "an answer behind")
+    finally:
+        ended.set()
+        asking.join()
+    return max(later - earlier for earlier, later in zip(answered, answered[1:]))
+
+
+def upgraded(t, root, it, at, port):
+    """A newer package over the one that runs: the desk and its signer go on by it, and nobody waits for two seconds."""
+    units = ("desk@ca.service", "desk-signer@ca.service")
+    processes = lambda: [t.tool(*at, "systemctl", "show", "--property=MainPID", "--value", unit).decode().strip() for unit in units]
+    package, before = newer(t, root), processes()
+    t.true("0" not in before, f"desk and signer run before: {before}")
+    longest = silence(t, port, lambda: t.tool(*at, "dpkg", "--install", package))
+    t.note(f"nobody was answered for {longest:.2f} s")
+    t.true(longest < 2 * program.PATIENCE, f"nobody was answered for {longest:.2f} s")
+    after = processes()
+    t.same([old == new for old, new in zip(before, after)], [False, False], f"the same processes, before {before} and after {after}")
+    t.true("0" not in after, f"desk and signer run behind it: {after}")
+    t.same(t.tool(*at, "desk", "--version"), b"newer\n", "the program")
+    t.same(it.asked_by_openssl("05", f"http://127.0.0.1:{port}/ocsp", verify=True), "unknown", "signed behind it")
+    t.same(t.tool(*at, "desk", "at", COUNTER, given="counts\n"), b"good 0 revoked 0 expired 0\n", "the counter")
+    t.tool(*at, "systemctl", "is-active", "desk-crl@ca.timer", "desk-signer@ca.socket")
+
+
+def taken_away(t, root, at, port):
+    """Removed while it runs: nothing of it runs any more, nor is enabled, and installed again it starts nothing by itself."""
+    running = lambda: t.tool(*at, "systemctl", "list-units", "--plain", "--no-legend", "--state=active,activating", "desk*@*").decode()
+    t.has(running(), "desk@ca.service")
+    for line in ("--remove durshavon", "--install /tmp/durshavon.deb"):
+        t.tool(*at, "dpkg", *line.split())
+        t.same((running(), links(root)), ("", []), f"what runs, and what is enabled, behind dpkg {line}")
+        with socket.socket() as peer:
+            t.true(peer.connect_ex(("127.0.0.1", port)) != 0, f"nothing answers behind dpkg {line}")
+
+
+def links(root):
+    """The names of what is enabled."""
+    return sorted(it.name for it in (root.path / "etc/systemd/system").rglob("desk*"))
 
 
 def while_the_key_is_away(t, root, it, at, port):
@@ -413,7 +493,10 @@ def removed(t, root):
     folders = {what: root.path / os.path.dirname(path)[1:] for what, path in (("registers", REGISTER), ("keys", KEY))}
     names = {what: sorted(it.name for it in folder.iterdir()) for what, folder in folders.items()}
     t.same((names["registers"], "ca.ocsp.key" in names["keys"]), (["ca.db", "ca.db-wal"], True), "what is there before")
+    root.run("systemctl", "enable", *ENABLED)
+    t.same(links(root), sorted(ENABLED), "what is enabled before")
     root.run("dpkg", "--remove", "durshavon")
+    t.same(links(root), [], "what is enabled behind it")
     left = [str(it) for part in ("usr", "lib/systemd", "etc") for it in sorted((root.path / part).rglob("*"))
             if "/usr/share/doc" not in str(it) and not it.is_dir()
             and ("durshavon" in it.name or (it.name.startswith("desk") and "systemd" in str(it)) or str(it).endswith("usr/bin/desk"))]

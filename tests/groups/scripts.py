@@ -159,6 +159,20 @@ def what_is_published_stays_where_it_fails(t, fail, told):
     t.same(contents(t.room / "www"), before, "what is published")
 
 
+@each({"ca.crl": "ca.crl", "ca.crl.pem": "ca.crl.pem"}, seconds=2)
+def an_older_crl_where_one_form_alone_lies_there(t, left):
+    _, desk = open_desk(t, "crl", "crl")
+    publish(t, desk)
+    for name in {"ca.crl", "ca.crl.pem"} - {left}:
+        (t.room / "www" / name).unlink()
+    before = contents(t.room / "www")
+    fails(t, publish(t, desk, "/crl/1"), "/crl/1 is no newer than number 2 in www: was the register set back?")
+    t.same(contents(t.room / "www"), before, "what is published")
+    # The same CRL in a PEM of other bytes is no other CRL.
+    (t.room / "www/ca.crl.pem").write_bytes(b"published by hand\n" + t.tool("openssl", "crl", "-in", f"www/{left}"))
+    t.same(publish(t, desk)[:2], (0, "crl 2 published in www\n"))
+
+
 @test(seconds=2)
 def a_folder_that_is_none_or_not_to_be_written(t):
     _, desk = open_desk(t, "crl")
