@@ -25,6 +25,7 @@ from lib.trial import Failed, Skipped, need, test
 
 REGISTER, KEY = "/var/lib/durshavon/ca.db", "/var/lib/durshavon-signer/ca.key"
 SOCKET, PUBLISHED = "/run/durshavon-signer/ca.sign", "/var/lib/durshavon-crl/ca"
+COPIES = "/var/backups/ca"
 COUNTER = "/run/durshavon/ca/counter"
 # What `systemctl enable` is told of a register.
 ENABLED = ("desk@ca.service", "desk-crl@ca.timer", "desk-signer@ca.socket", "desk-responder@ca.socket")
@@ -110,6 +111,7 @@ def the_package(t):
     installed(t, root, deb)
     cleared(root)
     first_steps(t, root, it)
+    moved_in(t, root)
     documented(t, root)
     booted(t, root, it)
     removed(t, root)
@@ -135,7 +137,7 @@ def cleared(root):
     """A root in which nothing was done before: it may be one that was kept."""
     for it in (REGISTER, REGISTER + "-wal", KEY, SOCKET, *RESPONDER, "/etc/durshavon/ca.conf", "/etc/durshavon/ca.pem", COUNTER):
         (root.path / it[1:]).unlink(missing_ok=True)
-    for it in (PUBLISHED, "/srv/copies"):
+    for it in (PUBLISHED, COPIES, "/var/lib/durshavon/before", "/root/elsewhere"):
         shutil.rmtree(root.path / it[1:], ignore_errors=True)
 
 
@@ -243,14 +245,23 @@ def first_steps(t, root, it):
     later = moment_of(authority.now() + 1)
     told = root.owner("desk", "script", REGISTER, *it.signing(SOCKET), given=f"{later} status 05\n")
     t.same(told.split()[0], "revoked", "ended by SIGTERM, all that was answered stands")
-    root.run("install", "-d", "-m", "0700", "-o", "durshavon", "/srv/copies")
-    t.has(root.owner("/usr/lib/durshavon/backup.sh", REGISTER, "/srv/copies"), ": sound, 1 certificates, 1 revoked, 3 CRLs\n", "a copy of it")
+    root.run("install", "-d", "-m", "0700", "-o", "durshavon", COPIES)
+    t.has(root.owner("/usr/lib/durshavon/backup.sh", REGISTER, COPIES), ": sound, 1 certificates, 1 revoked, 3 CRLs\n", "a copy of it")
+
+
+def moved_in(t, root):
+    """A register that root made elsewhere is laid by the document's line where the package has it, and is its user's."""
+    (line,) = block("Into an installed package", "install")
+    makes = ["mkdir elsewhere; cd elsewhere", "desk init ca.db $(/usr/lib/durshavon/issuer-words.sh ../ca.pem)", "desk script ca.db --clock <<< 'subscriber acme'"]
+    t.same(root.run("bash", "-ec", "\n".join(["cd /root", *makes, line])), "created\nsubscriber 1\n")
+    t.same(root.owner("desk", "script", REGISTER, "--clock", given="subscriber acme\n"), "E05 name-taken 1\n", "what is there now")
+    t.same(root.run("stat", "-c", "%a %U", REGISTER), "600 durshavon\n")
 
 
 def responder_steps(port):
     """The lines that give an installed desk a responder's key, with those that make it; but for the port."""
     made = block("A responder", "openssl req")
-    made = made[: next(at for at, line in enumerate(made) if line.startswith("examples/signer.py"))]
+    made = made[: next(at for at, line in enumerate(made) if line.startswith("/usr/lib/durshavon/signer.py"))]
     return [*made, *(line.replace("8080", str(port)) for line in block("A responder's key, installed", "install"))]
 
 
@@ -380,14 +391,15 @@ def behind(t, root, machine, it, port):
     at = ("env", "-u", "DESK", "nsenter", "-t", inside, "-a")
     # Once more by itself, which fails where the unit does.
     t.tool(*at, "systemctl", "start", "desk-publish@ca.service")
-    copy = (*at, "/usr/lib/durshavon/backup.sh", REGISTER, "/srv/copies")
-    root.run("install", "-d", "-m", "0700", "/srv/copies")
+    copy = (*at, "/usr/lib/durshavon/backup.sh", REGISTER, COPIES)
+    root.run("install", "-d", "-m", "0700", COPIES)
     t.same(t.tried(*copy).returncode, 1, "status of backup.sh while the register is open")
     t.tool(*at, "systemctl", "stop", "desk@ca.service")
     t.has(t.tool(*copy).decode(), ": sound, 0 certificates, 0 revoked, 1 CRLs\n", "a copy of what was stopped")
     t.tool(*at, "systemctl", "start", "desk@ca.service")
     authority.until(lambda: t.tried("curl", "-s", f"http://127.0.0.1:{port}/counts").returncode == 0, "desk@ca.service to answer again")
     upgraded(t, root, it, at, port)
+    gone_back(t, root, at)
     told = t.tool(*at, "bash", "-ec", "\n".join(["cd /root", *responder_steps(port)])).decode()
     t.has(told, "Response verify OK", "a responder's key, told to what is installed")
     t.same(it.asked_by_openssl("05", f"http://127.0.0.1:{port}/ocsp", verify=True), "unknown", "by the responder")
@@ -451,6 +463,18 @@ def upgraded(t, root, it, at, port):
     t.same(it.asked_by_openssl("05", f"http://127.0.0.1:{port}/ocsp", verify=True), "unknown", "signed behind it")
     t.same(t.tool(*at, "desk", "at", COUNTER, given="counts\n"), b"good 0 revoked 0 expired 0\n", "the counter")
     t.tool(*at, "systemctl", "is-active", "desk-crl@ca.timer", "desk-signer@ca.socket")
+
+
+def gone_back(t, root, at):
+    """To the copy, by the document's lines: what was entered behind it is not there, and the desk goes on."""
+    asks = lambda line: t.tool(*at, "desk", "at", COUNTER, given=f"{line}\n")
+    t.same(asks("subscriber late"), b"subscriber 1\n", "behind the copy")
+    [copy] = (it.name for it in (root.path / COPIES[1:]).iterdir())
+    lines = [line.replace("ca.db-20260101T021500Z", copy) for line in block("Go back to a backup", "systemctl stop")]
+    t.same([copy in line for line in lines].count(True), 1, f"lines that name the copy, of {lines}")
+    t.tool(*at, "bash", "-ec", "\n".join([*lines, f"until [ -S {COUNTER} ]; do sleep 0.1; done"]))
+    t.same(asks("subscriber anew"), b"subscriber 1\n", "the copy as it was")
+    root.run("rm", "-r", "/var/lib/durshavon/before")
 
 
 def taken_away(t, root, at, port):
