@@ -381,7 +381,8 @@ def as_many_days_as_openssl_was_told(t):
     """docs/OPERATIONS.md, "Register certificates": `-days 90` is a second longer than an order of 90 days, and `-enddate` tells the last second."""
     it, _ = unsigned_desk(t, "subscriber acme", "order 1 90", "order 1 91")
     begins, ends = issued(t, it, "a", "05", days=90)
-    registers = lambda order, serial, last: t.counter().ask(f"register {order} {serial} {moment_of(begins)} {moment_of(last)}")
+    counter = t.counter()
+    registers = lambda order, serial, last: counter.ask(f"register {order} {serial} {moment_of(begins)} {moment_of(last)}")
     t.same((ends - begins, registers(1, "05", ends), registers(2, "05", ends)), (90 * DAY, "E12 too-long", "registered"))
     asn1 = lambda at: re.sub("[-:T]", "", moment_of(at))
     by_openssl_ca(t, it, "b", "06", asn1(begins), asn1(ends - 1))
