@@ -13,8 +13,10 @@ use crate::place::Place;
 use crate::serving::{LOOPBACK, answers_at, hub_over, serve_hub};
 use reg_core::Fault;
 use reg_endings::Failure;
-use reg_hub::Hub;
+use reg_hub::{Handler, Hub};
+use reg_watch::{Heard, Tally};
 use reg_words::{Answerer, KeyHolder};
+use std::cell::Cell;
 use std::io::Write;
 
 /// Keeps the register at a path open, until the program is ended. It is opened before the port is bound, and the port is bound
@@ -34,11 +36,15 @@ pub fn hold_open<'w, P: Place, F: Front, W: Write>(
 {
     let office = place.open_to_sign(path, signer, answerer)?;
     let alloc = rt.alloc();
+    let tally = Cell::new(Tally::new());
+    let heard = Cell::new(Heard::nothing());
     let mut opened: OpenDesk<'_, '_, P, F> = OpenDesk {
         office,
         alloc,
         front,
         signer: answers_at(signer, answerer),
+        tally: &tally,
+        heard: &heard,
     };
     let ending = keep_open(rt, &mut opened, port, counter, writer);
     place.close(path, opened.office);
@@ -57,7 +63,12 @@ fn keep_open<P: Place, F: Front, W: Write>(
         × Leads P.Opened.is_clean P.Opened.stands (Opens P.Opened.signs P.gave F.told inputs outcomes) opened.old.office opened.new.office
         × OpenedAt W.contents writer.old writer.new F.bound F.laid port counter.now inputs result }
 {
-    let mut hub = match hub_with_counter(rt, opened.front, port, counter) {
+    let mut hub: Hub<OpenDesk<'_, '_, P, F>> = match hub_with_counter(
+        rt,
+        opened.front,
+        port,
+        counter,
+    ) {
         Ok(hub) => hub,
         Err(why) => return Err(why),
     };
@@ -65,12 +76,12 @@ fn keep_open<P: Place, F: Front, W: Write>(
 }
 
 /// A hub at a port of the loopback interface, and at a counter.
-fn hub_with_counter<F: Front>(
+fn hub_with_counter<H: Handler, F: Front>(
     rt: &HostRuntime,
     front: &F,
     port: u16,
     counter: &str,
-) -> Result<Hub, Failure>
+) -> Result<Hub<H>, Failure>
     ensures ok { OnOk result (F.bound loopback port × F.laid counter.now) }
     ensures err { IfErr result (λ why. (why ≡ Failure.Fault Fault.Read) ⊎ (why ≡ Failure.Fault Fault.Memory)) }
 {

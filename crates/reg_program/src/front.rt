@@ -10,14 +10,24 @@ use reg_core::{Fault, Moment};
 use reg_jobs::Front;
 use reg_signer::ask_unwaiting;
 use reg_wire::write_whole;
+use std::fs::{File, OpenOptions};
 use std::io;
 use std::io::ErrorKind;
 use std::net::SocketAddr;
+use std::os::unix::fs::OpenOptionsExt;
 use std::os::unix::net::UnixStream;
 use std::time::{Clock, Duration};
 
+/// The mode of a log that its owner alone may read and write.
+const OWNER_ALONE: u32 = 0o600;
+
 /// The last moment, 9999-12-31T23:59:59Z.
 const LAST_SECOND: u64 = 253_402_300_799;
+
+/// What the system says where too many files are open, in this process or in all (EMFILE, ENFILE).
+const TOO_MANY_HERE: i32 = 24;
+
+const TOO_MANY: i32 = 23;
 
 /// The machine. What its clock says and what listens at its ports, no clause can say.
 impl<'a> Front for Machine<'a> {
@@ -72,11 +82,16 @@ impl<'a> Front for Machine<'a> {
     }
 
     fn ask(&self, path: &str, message: &[u8]) -> io::Result<UnwaitingStream> {
-        ask_unwaiting(&self.rt, path, message)
+        match ask_unwaiting(&self.rt, path, message) {
+            Ok(link) => Ok(link),
+            // One that is let go gives it room.
+            Err(error) if is_crowded(&error) => Err(io::Error::from(ErrorKind::WouldBlock)),
+            Err(error) => Err(error),
+        }
     }
 
     fn has_log(&self) -> bool {
-        self.has_log
+        self.has_log || self.log_file.is_some()
     }
 
     fn micros(&self) -> u64 {
@@ -87,7 +102,12 @@ impl<'a> Front for Machine<'a> {
     }
 
     fn log(&self, line: &[u8]) {
-        say(&self.rt, line);
+        if self.has_log {
+            say(&self.rt, line);
+        }
+        if let Some(path) = self.log_file {
+            append(&self.rt, path, line);
+        }
     }
 
     fn warn(&self, line: &[u8])
@@ -101,6 +121,25 @@ impl<'a> Front for Machine<'a> {
 fn say(rt: &HostRuntime, text: &[u8]) {
     let mut errors = rt.stderr();
     let _ = write_whole(&mut errors, text);
+}
+
+/// The file of a log, opened so that what is written goes behind what is there. Where none is, it is made, and its owner alone may read
+/// and write it.
+///
+/// # Errors
+/// What the system says where it can't be opened.
+pub(crate) fn open_log(rt: &HostRuntime, path: &str) -> io::Result<File> {
+    let mut options = OpenOptions::new();
+    options.append(true).create(true).mode(OWNER_ALONE);
+    options.open(rt, path)
+}
+
+/// Writes a line behind a file, which is opened for it alone: so a file that was renamed is followed by a new one at its path. What
+/// can't be written disturbs nobody.
+fn append(rt: &HostRuntime, path: &str, line: &[u8]) {
+    if let Ok(mut file) = open_log(rt, path) {
+        let _ = write_whole(&mut file, line);
+    }
 }
 
 /// A time in microseconds.
@@ -129,4 +168,12 @@ fn moment_of(clock: &impl Clock) -> Result<Moment, Fault>
 /// The moment so many seconds after 1970 began, or the last one.
 fn moment_at(seconds: u64) -> Moment {
     Moment::of_secs(seconds.min(LAST_SECOND)).unwrap_or(Moment::EPOCH)
+}
+
+/// Whether no socket could be had since too many files are open.
+fn is_crowded(error: &io::Error) -> bool {
+    match error.raw_os_error() {
+        Some(code) => code == TOO_MANY_HERE || code == TOO_MANY,
+        None => false,
+    }
 }
