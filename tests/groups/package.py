@@ -27,6 +27,8 @@ REGISTER, KEY = "/var/lib/durshavon/ca.db", "/var/lib/durshavon-signer/ca.key"
 SOCKET, PUBLISHED = "/run/durshavon-signer/ca.sign", "/var/lib/durshavon-crl/ca"
 COPIES = "/var/backups/ca"
 COUNTER = "/run/durshavon/ca/counter"
+# For how many seconds what is typed may run.
+LONGEST = int(60 * program.PATIENCE)
 # What `systemctl enable` is told of a register.
 ENABLED = ("desk@ca.service", "desk-crl@ca.timer", "desk-signer@ca.socket", "desk-responder@ca.socket")
 # A responder's key, its socket and its certificate.
@@ -60,7 +62,7 @@ class Root:
         return ["env", "-u", "DESK", "unshare", "--mount", "bash", "-c", enter, str(self.path), *as_whom, *map(str, words)]
 
     def tried(self, *words, given=b"", user=None):
-        return self.t.tried(*self.words(words, user), given=given)
+        return self.t.tried(*self.words(words, user), given=given, timeout=LONGEST)
 
     def run(self, *words, **how):
         """What it prints on standard output."""
@@ -88,7 +90,7 @@ def built(t):
     shutil.copy(program.program(), made / "reg_desk")
     packages = []
     for it in ("first", "second"):
-        ran = t.tried("env", "-C", folder, "GIT_OPTIONAL_LOCKS=0", "bash", "tools/package.sh", t.room / it)
+        ran = t.tried("env", "-C", folder, "GIT_OPTIONAL_LOCKS=0", "bash", "tools/package.sh", t.room / it, timeout=LONGEST)
         t.same(ran.returncode, 0, f"status of tools/package.sh, which told {ran.stderr[-1000:]!r}")
         packages.append(ran.stdout.decode().splitlines()[-1])
     first, second = (Path(it) for it in packages)
@@ -234,7 +236,7 @@ def first_steps(t, root, it):
             if line.startswith("systemctl "):
                 units.typed(line)
             else:
-                ran = root.tried("timeout", "60", "bash", "-c", f"cd /root; {line}")
+                ran = root.tried("timeout", LONGEST, "bash", "-c", f"cd /root; {line}")
                 told += (ran.stdout + ran.stderr).decode()
                 t.same(ran.returncode, 0, f"status of {line}, which printed {told}")
         t.same(told, "created\nverify OK\n", "what was printed")
@@ -272,7 +274,7 @@ def answers_by_a_responder(t, root, it, units, port):
         if line and not line.startswith("systemctl "):
             lines.append(line)
             continue
-        ran = root.tried("timeout", "60", "bash", "-ec", "\n".join(["cd /root", *lines]))
+        ran = root.tried("timeout", LONGEST, "bash", "-ec", "\n".join(["cd /root", *lines]))
         told += (ran.stdout + ran.stderr).decode()
         t.same(ran.returncode, 0, f"status of {lines}, which printed {told}")
         lines = []
@@ -355,7 +357,7 @@ def booted(t, root, it):
     for path in (ending, told):
         path.unlink(missing_ok=True)
     (root.path / "root/steps").write_text("\n".join(["cd /root", *steps(t, port), "touch ended", ""]))
-    unit = "[Service]\nType=oneshot\nExecStart=bash -c 'timeout 60 bash /root/steps >/root/told 2>&1'\n[Install]\nWantedBy=multi-user.target\n"
+    unit = f"[Service]\nType=oneshot\nExecStart=bash -c 'timeout {LONGEST} bash /root/steps >/root/told 2>&1'\n[Install]\nWantedBy=multi-user.target\n"
     (root.path / "etc/systemd/system/steps.service").write_text(unit)
     root.run("systemctl", "enable", "steps.service")
     words = ["systemd-nspawn", "--quiet", "--register=no", "--keep-unit", "--settings=no", "--timezone=off", "--resolv-conf=off"]

@@ -2,7 +2,9 @@
 a folder like that of the repository, as they stand but for ports and for the folders of an installed package (tests/run package has those), and end
 in `verify OK` and `Response verify OK` of openssl."""
 
+import grp
 import os
+import pwd
 import re
 import shutil
 import sys
@@ -303,6 +305,41 @@ def the_way_out_of_a_digest(t):
     desk = t.open("ca.db", *it.signing())
     t.same(t.counter().ask("crl"), "crl 2 entries 1")
     it.verifies(authority.body_of(t, desk.ask("GET", "/crl"), "application/pkix-crl"))
+
+
+@test(seconds=4)
+def the_lists(t):
+    """The lines over a closed register; and of an open one all rows, page by page, where one page has not all of them."""
+    need("bash", "curl", "jq")
+    top, port = folder_of(t), str(program.free_port())
+    names = [f"s{number}" for number in range(251)]
+    t.register(top / "ca.db", "".join(f"2026-01-01T00:00:00Z subscriber {name}\n" for name in names))
+    closed = typed(t, top, block("Lists", "desk list ca.db revoked"))
+    t.has((top / "revoked.csv").read_text(), "serial,subscriber,name,order,")
+    t.has(closed, "serial,subscriber,name,order,", "those that end: a header alone, and no open request")
+    *function, asks = [line.replace("8080", port) for line in block("Lists", "list() {")]
+    t.same(asks, "list revoked")
+    opens = [f"desk open ca.db --port {port} --counter counter --unsigned &", "until [ -S counter ]; do sleep 0.1; done"]
+    told = typed(t, top, [*opens, *function, "list subscribers", asks])
+    t.same(told.splitlines()[1:], [f'{{"subscriber":{at},"name":"{name}"}}' for at, name in enumerate(names, 1)], "rows, of none revoked")
+
+
+@test(seconds=2)
+def the_log_s_rotation(t):
+    """The document's lines for logrotate: what was told stays in the file that was renamed, and the next line goes into another."""
+    need("logrotate", "curl")
+    lines = "\n".join(block("The log", "/var/log/durshavon/*.log {"))
+    owner = f"{pwd.getpwuid(os.getuid()).pw_name} {grp.getgrgid(os.getgid()).gr_name}"
+    (t.room / "rotation").write_text(lines.replace("/var/log/durshavon", str(t.room / "log")).replace("durshavon durshavon", owner) + "\n")
+    (t.room / "log").mkdir(mode=0o750)
+    t.register()
+    desk = t.open("ca.db", "--log-file", "log/ca.log")
+    desk.ask("GET", "/counts")
+    t.tool("logrotate", "--force", "--state", "state", "rotation")
+    desk.ask("GET", "/crl")
+    texts = {it.name: it.read_text() for it in (t.room / "log").iterdir()}
+    t.same({name: re.findall(r'"GET (\S+) HTTP', text) for name, text in texts.items()}, {"ca.log": ["/crl"], "ca.log.1": ["/counts"]})
+    t.same((t.room / "log/ca.log").stat().st_mode & 0o777, 0o600)
 
 
 @test
