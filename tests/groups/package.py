@@ -106,7 +106,7 @@ def the_package(t):
     need("debootstrap", "dpkg-deb", "git")
     deb = built(t)
     if shutil.which("lintian"):
-        told = t.tried("lintian", "--allow-root", "--fail-on", "none", deb).stdout.decode()
+        told = t.tried("lintian", "--allow-root", "--fail-on", "none", deb, timeout=LONGEST).stdout.decode()
         t.same([line for line in told.splitlines() if line.startswith("E:")], [], "errors of lintian")
     root = Root(t)
     it = Authority(t)
@@ -417,7 +417,7 @@ def newer(t, root):
     control = folder / "DEBIAN/control"
     control.write_text(re.sub(r"^(Version: .*)$", r"\1.newer", control.read_text(), flags=re.MULTILINE))
     (folder / "usr/lib/durshavon/version").write_text("newer\n")
-    t.tool("dpkg-deb", "--root-owner-group", "--build", folder, root.path / "tmp/newer.deb")
+    t.tool("dpkg-deb", "-Znone", "--root-owner-group", "--build", folder, root.path / "tmp/newer.deb")
     return "/tmp/newer.deb"
 
 
