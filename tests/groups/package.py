@@ -120,8 +120,8 @@ def the_package(t):
 
 
 def installed(t, root, deb):
-    shutil.copy(deb, root.path / "tmp/durshavon.deb")
-    root.run("dpkg", "--install", "/tmp/durshavon.deb")
+    shutil.copy(deb, root.path / "root/durshavon.deb")
+    root.run("dpkg", "--install", "/root/durshavon.deb")
     t.same(root.run("dpkg-query", "-W", "-f", "${Status}", "durshavon"), "install ok installed")
     verified = root.tried("dpkg", "--verify", "durshavon").stdout.decode().splitlines()
     # A small root may leave documents out.
@@ -329,7 +329,7 @@ def documented(t, root):
             t.same(sorted(it.replace("\\", "") for it in told), commands, "desk.1 tells of each command")
 
     def completed(*words):
-        script = ('cd /tmp; . /usr/share/bash-completion/completions/desk; COMP_WORDS=("$@"); COMP_CWORD=$(($# - 1)); _desk; '
+        script = ('cd /root; . /usr/share/bash-completion/completions/desk; COMP_WORDS=("$@"); COMP_CWORD=$(($# - 1)); _desk; '
                   'printf "%s " "${COMPREPLY[@]}"')
         return root.run("bash", "-c", script, "bash", *words).split()
 
@@ -413,12 +413,12 @@ def behind(t, root, machine, it, port):
 def newer(t, root):
     """A package of a later version, whose `desk --version` says `newer`."""
     folder = t.room / "newer"
-    t.tool("dpkg-deb", "-R", root.path / "tmp/durshavon.deb", folder)
+    t.tool("dpkg-deb", "-R", root.path / "root/durshavon.deb", folder)
     control = folder / "DEBIAN/control"
     control.write_text(re.sub(r"^(Version: .*)$", r"\1.newer", control.read_text(), flags=re.MULTILINE))
     (folder / "usr/lib/durshavon/version").write_text("newer\n")
-    t.tool("dpkg-deb", "-Znone", "--root-owner-group", "--build", folder, root.path / "tmp/newer.deb")
-    return "/tmp/newer.deb"
+    t.tool("dpkg-deb", "-Znone", "--root-owner-group", "--build", folder, root.path / "root/newer.deb")
+    return "/root/newer.deb"
 
 
 def silence(t, port, work):
@@ -484,7 +484,7 @@ def taken_away(t, root, at, port):
     """Removed while it runs: nothing of it runs any more, nor is enabled, and installed again it starts nothing by itself."""
     running = lambda: t.tool(*at, "systemctl", "list-units", "--plain", "--no-legend", "--state=active,activating", "desk*@*").decode()
     t.has(running(), "desk@ca.service")
-    for line in ("--remove durshavon", "--install /tmp/durshavon.deb"):
+    for line in ("--remove durshavon", "--install /root/durshavon.deb"):
         t.tool(*at, "dpkg", *line.split())
         t.same((running(), links(root)), ("", []), f"what runs, and what is enabled, behind dpkg {line}")
         with socket.socket() as peer:
