@@ -27,6 +27,7 @@ is_verified() {
 field() { openssl crl -in "$1" -noout "-$2" 2>/dev/null | sed -n 's/^[a-zA-Z]*=//p'; }
 number() { printf '%d' "0x$(field "$1" crlnumber | sed 's/^0x//')" 2>/dev/null || :; }
 is_same() { cmp -s "$new/$1" "$folder/$1"; }
+holds_it() { openssl crl -in "$1" -outform DER 2>/dev/null | cmp -s - "$new/ca.crl"; }
 
 fetch() {
     status=$(curl -sS --noproxy '*' --max-time 60 -o "$new/ca.crl" -w '%{http_code}' "$url" 2>"$new/why") ||
@@ -43,11 +44,13 @@ check() {
     [ "$(date -d "$ends" +%s 2>/dev/null || echo 0)" -gt "$(date +%s)" ] || fail "CRL $(number "$new/ca.crl") of $url has ended, $ends: issue one"
 }
 
-# A number never goes back, and belongs to one CRL (RFC 5280 5.2.3). What lies there counts where it is the authority's.
+# A number never goes back, and belongs to one CRL (RFC 5280 5.2.3). What lies there in either form counts, where it is the authority's.
 check_number() {
-    ! is_same ca.crl && is_verified "$folder/ca.crl" || return 0
-    [ "$(number "$new/ca.crl")" -gt "$(number "$folder/ca.crl")" ] ||
-        fail "CRL $(number "$new/ca.crl") of $url is no newer than number $(number "$folder/ca.crl") in $folder: was the register set back?"
+    for name in ca.crl ca.crl.pem; do
+        if holds_it "$folder/$name" || ! is_verified "$folder/$name"; then continue; fi
+        [ "$(number "$new/ca.crl")" -gt "$(number "$folder/$name")" ] ||
+            fail "CRL $(number "$new/ca.crl") of $url is no newer than number $(number "$folder/$name") in $folder: was the register set back?"
+    done
 }
 
 if [ ! -d "$folder" ] || [ ! -r "$folder" ]; then fail "$folder is no folder that can be read"; fi

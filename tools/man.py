@@ -106,10 +106,11 @@ def section(path, title):
     """The lines of one section of a document, without its heading."""
     with open(path, encoding="utf-8") as file:
         text = file.read()
-    found = re.search(rf"^## {re.escape(title)}\n(.*?)(?=^## |\Z)", text, re.M | re.S)
+    found = re.search(rf"^(##+) {re.escape(title)}\n", text, re.M)
     if not found:
         sys.exit(f"{path} has no section '{title}'")
-    return found.group(1).splitlines()
+    # It goes on up to the next heading of its own level, or of one above.
+    return re.split(rf"^#{{2,{len(found[1])}}} ", text[found.end() :], maxsplit=1, flags=re.M)[0].splitlines()
 
 
 # What the program tells of itself

@@ -38,34 +38,13 @@ chmod 0644 "$root/usr/lib/durshavon/version"
 put 0644 packaging/desk.bash usr/share/bash-completion/completions/desk
 put 0644 examples/board/index.html usr/share/durshavon/board/index.html
 
-# The one place that says how a register is served.
-# shellcheck disable=SC2016 # ${PORT} is for systemd to fill in
-if "$program" open --help >/dev/null 2>&1; then
-    serving='open /var/lib/durshavon/%i.db --port ${PORT} --counter /run/durshavon/%i/counter'
-else
-    serving='serve /var/lib/durshavon/%i.db --port ${PORT} --requests 1000000'
-fi
-mkdir -p "$root/lib/systemd/system" "$root/etc/durshavon"
-sed "s|@SERVING@|$serving|" packaging/desk@.service >"$root/lib/systemd/system/desk@.service"
-# CRLs come by the counter of an open desk: without the script that asks there, no timer.
-if [ -e examples/issue-due-crl.sh ]; then
-    put 0755 examples/issue-due-crl.sh usr/lib/durshavon/issue-due-crl.sh
-    put 0644 packaging/desk-crl@.service lib/systemd/system/desk-crl@.service
-    put 0644 packaging/desk-crl@.timer lib/systemd/system/desk-crl@.timer
-    put 0755 examples/publish-crl.sh usr/lib/durshavon/publish-crl.sh
-    put 0644 packaging/desk-publish@.service lib/systemd/system/desk-publish@.service
-else
-    echo "package: examples/issue-due-crl.sh is not there, so no timer for CRLs is packed" >&2
-fi
-for name in register-pem.sh backup.sh; do
-    put 0755 "examples/$name" "usr/lib/durshavon/$name"
-done
-
-# What signs, and what signs for a responder, each behind a socket of its own, as a user of its own.
-for name in desk-signer@.socket desk-signer@.service desk-responder@.socket desk-responder@.service; do
+mkdir -p "$root/etc/durshavon"
+# What serves a register; what issues and publishes its CRLs; what signs, and what signs for a responder, each behind a socket of its own, as a user of its own.
+for name in desk@.service desk-crl@.timer desk-crl@.service desk-publish@.service \
+    desk-signer@.socket desk-signer@.service desk-responder@.socket desk-responder@.service; do
     put 0644 "packaging/$name" "lib/systemd/system/$name"
 done
-for name in signer.py only_ours.py pkcs11-signer.sh issuer-words.sh; do
+for name in issue-due-crl.sh publish-crl.sh register-pem.sh backup.sh from-openssl-index.py signer.py only_ours.py pkcs11-signer.sh issuer-words.sh; do
     put 0755 "examples/$name" "usr/lib/durshavon/$name"
 done
 
@@ -86,9 +65,6 @@ printf 'durshavon (%s) unstable; urgency=low\n\n  * Commit %s.\n\n -- %s  %s\n' 
     "$(date -u -R -d "@$SOURCE_DATE_EPOCH")" | zipped "$documents/changelog.gz"
 for name in first-day.txt first-day.replies.txt certificates.csv nginx.conf alerts.yml; do
     put 0644 "examples/$name" "$documents/examples/$name"
-done
-for name in issuer-words.sh from-openssl-index.py; do
-    put 0755 "examples/$name" "$documents/examples/$name"
 done
 
 # The program is packed byte for byte as it was built and run, with its symbols.

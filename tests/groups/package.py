@@ -1,10 +1,11 @@
 """The Debian package of tools/package.sh as one who installs it: built twice, looked through by lintian, installed into a fresh root of
 Debian, its first steps typed there (README.Debian) with what its units say in place of systemd, and again with systemd where
-systemd-nspawn can start it, and removed, which leaves the registers and the keys. For root; it fetches a Debian of some 100 MB by
-debootstrap, which PACKAGE_ROOT=FOLDER keeps for the next time."""
+systemd-nspawn can start it, upgraded and removed while it runs there, and removed, which leaves the registers and the keys. For root; it
+fetches a Debian of some 100 MB by debootstrap, which PACKAGE_ROOT=FOLDER keeps for the next time."""
 
 import contextlib
 import gzip
+import http.client
 import os
 import re
 import shlex
@@ -12,6 +13,7 @@ import shutil
 import socket
 import stat
 import subprocess
+import threading
 import time
 from pathlib import Path
 
@@ -23,7 +25,12 @@ from lib.trial import Failed, Skipped, need, test
 
 REGISTER, KEY = "/var/lib/durshavon/ca.db", "/var/lib/durshavon-signer/ca.key"
 SOCKET, PUBLISHED = "/run/durshavon-signer/ca.sign", "/var/lib/durshavon-crl/ca"
+COPIES = "/var/backups/ca"
 COUNTER = "/run/durshavon/ca/counter"
+# For how many seconds what is typed may run.
+LONGEST = int(60 * program.PATIENCE)
+# What `systemctl enable` is told of a register.
+ENABLED = ("desk@ca.service", "desk-crl@ca.timer", "desk-signer@ca.socket", "desk-responder@ca.socket")
 # A responder's key, its socket and its certificate.
 RESPONDER = ("/var/lib/durshavon-signer/ca.ocsp.key", "/run/durshavon-signer/ca.ocsp.sign", "/etc/durshavon/ca.ocsp.der")
 DEBIAN = "bookworm"
@@ -55,7 +62,7 @@ class Root:
         return ["env", "-u", "DESK", "unshare", "--mount", "bash", "-c", enter, str(self.path), *as_whom, *map(str, words)]
 
     def tried(self, *words, given=b"", user=None):
-        return self.t.tried(*self.words(words, user), given=given)
+        return self.t.tried(*self.words(words, user), given=given, timeout=LONGEST)
 
     def run(self, *words, **how):
         """What it prints on standard output."""
@@ -83,7 +90,7 @@ def built(t):
     shutil.copy(program.program(), made / "reg_desk")
     packages = []
     for it in ("first", "second"):
-        ran = t.tried("env", "-C", folder, "GIT_OPTIONAL_LOCKS=0", "bash", "tools/package.sh", t.room / it)
+        ran = t.tried("env", "-C", folder, "GIT_OPTIONAL_LOCKS=0", "bash", "tools/package.sh", t.room / it, timeout=LONGEST)
         t.same(ran.returncode, 0, f"status of tools/package.sh, which told {ran.stderr[-1000:]!r}")
         packages.append(ran.stdout.decode().splitlines()[-1])
     first, second = (Path(it) for it in packages)
@@ -99,21 +106,22 @@ def the_package(t):
     need("debootstrap", "dpkg-deb", "git")
     deb = built(t)
     if shutil.which("lintian"):
-        told = t.tried("lintian", "--allow-root", "--fail-on", "none", deb).stdout.decode()
+        told = t.tried("lintian", "--allow-root", "--fail-on", "none", deb, timeout=LONGEST).stdout.decode()
         t.same([line for line in told.splitlines() if line.startswith("E:")], [], "errors of lintian")
     root = Root(t)
     it = Authority(t)
     installed(t, root, deb)
     cleared(root)
     first_steps(t, root, it)
+    moved_in(t, root)
     documented(t, root)
     booted(t, root, it)
     removed(t, root)
 
 
 def installed(t, root, deb):
-    shutil.copy(deb, root.path / "tmp/durshavon.deb")
-    root.run("dpkg", "--install", "/tmp/durshavon.deb")
+    shutil.copy(deb, root.path / "root/durshavon.deb")
+    root.run("dpkg", "--install", "/root/durshavon.deb")
     t.same(root.run("dpkg-query", "-W", "-f", "${Status}", "durshavon"), "install ok installed")
     verified = root.tried("dpkg", "--verify", "durshavon").stdout.decode().splitlines()
     # A small root may leave documents out.
@@ -131,7 +139,7 @@ def cleared(root):
     """A root in which nothing was done before: it may be one that was kept."""
     for it in (REGISTER, REGISTER + "-wal", KEY, SOCKET, *RESPONDER, "/etc/durshavon/ca.conf", "/etc/durshavon/ca.pem", COUNTER):
         (root.path / it[1:]).unlink(missing_ok=True)
-    for it in (PUBLISHED, "/srv/copies"):
+    for it in (PUBLISHED, COPIES, "/var/lib/durshavon/before", "/root/elsewhere"):
         shutil.rmtree(root.path / it[1:], ignore_errors=True)
 
 
@@ -228,7 +236,7 @@ def first_steps(t, root, it):
             if line.startswith("systemctl "):
                 units.typed(line)
             else:
-                ran = root.tried("timeout", "60", "bash", "-c", f"cd /root; {line}")
+                ran = root.tried("timeout", LONGEST, "bash", "-c", f"cd /root; {line}")
                 told += (ran.stdout + ran.stderr).decode()
                 t.same(ran.returncode, 0, f"status of {line}, which printed {told}")
         t.same(told, "created\nverify OK\n", "what was printed")
@@ -239,14 +247,23 @@ def first_steps(t, root, it):
     later = moment_of(authority.now() + 1)
     told = root.owner("desk", "script", REGISTER, *it.signing(SOCKET), given=f"{later} status 05\n")
     t.same(told.split()[0], "revoked", "ended by SIGTERM, all that was answered stands")
-    root.run("install", "-d", "-m", "0700", "-o", "durshavon", "/srv/copies")
-    t.has(root.owner("/usr/lib/durshavon/backup.sh", REGISTER, "/srv/copies"), ": sound, 1 certificates, 1 revoked, 3 CRLs\n", "a copy of it")
+    root.run("install", "-d", "-m", "0700", "-o", "durshavon", COPIES)
+    t.has(root.owner("/usr/lib/durshavon/backup.sh", REGISTER, COPIES), ": sound, 1 certificates, 1 revoked, 3 CRLs\n", "a copy of it")
+
+
+def moved_in(t, root):
+    """A register that root made elsewhere is laid by the document's line where the package has it, and is its user's."""
+    (line,) = block("Into an installed package", "install")
+    makes = ["mkdir elsewhere; cd elsewhere", "desk init ca.db $(/usr/lib/durshavon/issuer-words.sh ../ca.pem)", "desk script ca.db --clock <<< 'subscriber acme'"]
+    t.same(root.run("bash", "-ec", "\n".join(["cd /root", *makes, line])), "created\nsubscriber 1\n")
+    t.same(root.owner("desk", "script", REGISTER, "--clock", given="subscriber acme\n"), "E05 name-taken 1\n", "what is there now")
+    t.same(root.run("stat", "-c", "%a %U", REGISTER), "600 durshavon\n")
 
 
 def responder_steps(port):
     """The lines that give an installed desk a responder's key, with those that make it; but for the port."""
     made = block("A responder", "openssl req")
-    made = made[: next(at for at, line in enumerate(made) if line.startswith("examples/signer.py"))]
+    made = made[: next(at for at, line in enumerate(made) if line.startswith("/usr/lib/durshavon/signer.py"))]
     return [*made, *(line.replace("8080", str(port)) for line in block("A responder's key, installed", "install"))]
 
 
@@ -257,7 +274,7 @@ def answers_by_a_responder(t, root, it, units, port):
         if line and not line.startswith("systemctl "):
             lines.append(line)
             continue
-        ran = root.tried("timeout", "60", "bash", "-ec", "\n".join(["cd /root", *lines]))
+        ran = root.tried("timeout", LONGEST, "bash", "-ec", "\n".join(["cd /root", *lines]))
         told += (ran.stdout + ran.stderr).decode()
         t.same(ran.returncode, 0, f"status of {lines}, which printed {told}")
         lines = []
@@ -312,7 +329,7 @@ def documented(t, root):
             t.same(sorted(it.replace("\\", "") for it in told), commands, "desk.1 tells of each command")
 
     def completed(*words):
-        script = ('cd /tmp; . /usr/share/bash-completion/completions/desk; COMP_WORDS=("$@"); COMP_CWORD=$(($# - 1)); _desk; '
+        script = ('cd /root; . /usr/share/bash-completion/completions/desk; COMP_WORDS=("$@"); COMP_CWORD=$(($# - 1)); _desk; '
                   'printf "%s " "${COMPREPLY[@]}"')
         return root.run("bash", "-c", script, "bash", *words).split()
 
@@ -340,7 +357,7 @@ def booted(t, root, it):
     for path in (ending, told):
         path.unlink(missing_ok=True)
     (root.path / "root/steps").write_text("\n".join(["cd /root", *steps(t, port), "touch ended", ""]))
-    unit = "[Service]\nType=oneshot\nExecStart=bash -c 'timeout 60 bash /root/steps >/root/told 2>&1'\n[Install]\nWantedBy=multi-user.target\n"
+    unit = f"[Service]\nType=oneshot\nExecStart=bash -c 'timeout {LONGEST} bash /root/steps >/root/told 2>&1'\n[Install]\nWantedBy=multi-user.target\n"
     (root.path / "etc/systemd/system/steps.service").write_text(unit)
     root.run("systemctl", "enable", "steps.service")
     words = ["systemd-nspawn", "--quiet", "--register=no", "--keep-unit", "--settings=no", "--timezone=off", "--resolv-conf=off"]
@@ -367,7 +384,7 @@ def booted(t, root, it):
             machine.wait()
     with socket.socket() as peer:
         t.true(peer.connect_ex(("127.0.0.1", port)) != 0, "shut down, nothing answers any more")
-    root.tried("systemctl", "disable", "steps.service", "desk@ca.service", "desk-signer@ca.socket", "desk-responder@ca.socket", "desk-crl@ca.timer")
+    root.tried("systemctl", "disable", "steps.service", *ENABLED)
 
 
 def behind(t, root, machine, it, port):
@@ -377,17 +394,106 @@ def behind(t, root, machine, it, port):
     at = ("env", "-u", "DESK", "nsenter", "-t", inside, "-a")
     # Once more by itself, which fails where the unit does.
     t.tool(*at, "systemctl", "start", "desk-publish@ca.service")
-    copy = (*at, "/usr/lib/durshavon/backup.sh", REGISTER, "/srv/copies")
-    root.run("install", "-d", "-m", "0700", "/srv/copies")
+    copy = (*at, "/usr/lib/durshavon/backup.sh", REGISTER, COPIES)
+    root.run("install", "-d", "-m", "0700", COPIES)
     t.same(t.tried(*copy).returncode, 1, "status of backup.sh while the register is open")
     t.tool(*at, "systemctl", "stop", "desk@ca.service")
     t.has(t.tool(*copy).decode(), ": sound, 0 certificates, 0 revoked, 1 CRLs\n", "a copy of what was stopped")
     t.tool(*at, "systemctl", "start", "desk@ca.service")
     authority.until(lambda: t.tried("curl", "-s", f"http://127.0.0.1:{port}/counts").returncode == 0, "desk@ca.service to answer again")
+    upgraded(t, root, it, at, port)
+    gone_back(t, root, at)
     told = t.tool(*at, "bash", "-ec", "\n".join(["cd /root", *responder_steps(port)])).decode()
     t.has(told, "Response verify OK", "a responder's key, told to what is installed")
     t.same(it.asked_by_openssl("05", f"http://127.0.0.1:{port}/ocsp", verify=True), "unknown", "by the responder")
     while_the_key_is_away(t, root, it, at, port)
+    taken_away(t, root, at, port)
+
+
+def newer(t, root):
+    """A package of a later version, whose `desk --version` says `newer`."""
+    folder = t.room / "newer"
+    t.tool("dpkg-deb", "-R", root.path / "root/durshavon.deb", folder)
+    control = folder / "DEBIAN/control"
+    control.write_text(re.sub(r"^(Version: .*)$", r"\1.newer", control.read_text(), flags=re.MULTILINE))
+    (folder / "usr/lib/durshavon/version").write_text("newer\n")
+    t.tool("dpkg-deb", "-Znone", "--root-owner-group", "--build", folder, root.path / "root/newer.deb")
+    return "/root/newer.deb"
+
+
+def silence(t, port, work):
+    """For how many seconds nobody was answered at most, who asks again and again while this is done and once behind it."""
+    answered, ended = [], threading.Event()
+
+    def ask():
+        peer = http.client.HTTPConnection("127.0.0.1", port, timeout=10)
+        with contextlib.suppress(OSError, http.client.HTTPException), contextlib.closing(peer):
+            peer.request("GET", "/counts")
+            if peer.getresponse().status == 200:
+                answered.append(time.monotonic())
+
+    def asks():
+        while not ended.is_set():
+            ask()
+            time.sleep(0.01)
+
+    asking = threading.Thread(target=asks)
+    asking.start()
+    try:
+        authority.until(lambda: answered, "an answer before")
+        work()
+        done = time.monotonic()
+        authority.until(lambda: answered[-1] > done, "an answer behind")
+    finally:
+        ended.set()
+        asking.join()
+    return max(later - earlier for earlier, later in zip(answered, answered[1:]))
+
+
+def upgraded(t, root, it, at, port):
+    """A newer package over the one that runs: the desk and its signer go on by it, and nobody waits for two seconds."""
+    units = ("desk@ca.service", "desk-signer@ca.service")
+    processes = lambda: [t.tool(*at, "systemctl", "show", "--property=MainPID", "--value", unit).decode().strip() for unit in units]
+    package, before = newer(t, root), processes()
+    t.true("0" not in before, f"desk and signer run before: {before}")
+    longest = silence(t, port, lambda: t.tool(*at, "dpkg", "--install", package))
+    t.note(f"nobody was answered for {longest:.2f} s")
+    t.true(longest < 2 * program.PATIENCE, f"nobody was answered for {longest:.2f} s")
+    after = processes()
+    t.same([old == new for old, new in zip(before, after)], [False, False], f"the same processes, before {before} and after {after}")
+    t.true("0" not in after, f"desk and signer run behind it: {after}")
+    t.same(t.tool(*at, "desk", "--version"), b"newer\n", "the program")
+    t.same(it.asked_by_openssl("05", f"http://127.0.0.1:{port}/ocsp", verify=True), "unknown", "signed behind it")
+    t.same(t.tool(*at, "desk", "at", COUNTER, given="counts\n"), b"good 0 revoked 0 expired 0\n", "the counter")
+    t.tool(*at, "systemctl", "is-active", "desk-crl@ca.timer", "desk-signer@ca.socket")
+
+
+def gone_back(t, root, at):
+    """To the copy, by the document's lines: what was entered behind it is not there, and the desk goes on."""
+    asks = lambda line: t.tool(*at, "desk", "at", COUNTER, given=f"{line}\n")
+    t.same(asks("subscriber late"), b"subscriber 1\n", "behind the copy")
+    [copy] = (it.name for it in (root.path / COPIES[1:]).iterdir())
+    lines = [line.replace("ca.db-20260101T021500Z", copy) for line in block("Go back to a backup", "systemctl stop")]
+    t.same([copy in line for line in lines].count(True), 1, f"lines that name the copy, of {lines}")
+    t.tool(*at, "bash", "-ec", "\n".join([*lines, f"until [ -S {COUNTER} ]; do sleep 0.1; done"]))
+    t.same(asks("subscriber anew"), b"subscriber 1\n", "the copy as it was")
+    root.run("rm", "-r", "/var/lib/durshavon/before")
+
+
+def taken_away(t, root, at, port):
+    """Removed while it runs: nothing of it runs any more, nor is enabled, and installed again it starts nothing by itself."""
+    running = lambda: t.tool(*at, "systemctl", "list-units", "--plain", "--no-legend", "--state=active,activating", "desk*@*").decode()
+    t.has(running(), "desk@ca.service")
+    for line in ("--remove durshavon", "--install /root/durshavon.deb"):
+        t.tool(*at, "dpkg", *line.split())
+        t.same((running(), links(root)), ("", []), f"what runs, and what is enabled, behind dpkg {line}")
+        with socket.socket() as peer:
+            t.true(peer.connect_ex(("127.0.0.1", port)) != 0, f"nothing answers behind dpkg {line}")
+
+
+def links(root):
+    """The names of what is enabled."""
+    return sorted(it.name for it in (root.path / "etc/systemd/system").rglob("desk*"))
 
 
 def while_the_key_is_away(t, root, it, at, port):
@@ -414,7 +520,10 @@ def removed(t, root):
     folders = {what: root.path / os.path.dirname(path)[1:] for what, path in (("registers", REGISTER), ("keys", KEY))}
     names = {what: sorted(it.name for it in folder.iterdir()) for what, folder in folders.items()}
     t.same((names["registers"], "ca.ocsp.key" in names["keys"]), (["ca.db", "ca.db-wal"], True), "what is there before")
+    root.run("systemctl", "enable", *ENABLED)
+    t.same(links(root), sorted(ENABLED), "what is enabled before")
     root.run("dpkg", "--remove", "durshavon")
+    t.same(links(root), [], "what is enabled behind it")
     left = [str(it) for part in ("usr", "lib/systemd", "etc") for it in sorted((root.path / part).rglob("*"))
             if "/usr/share/doc" not in str(it) and not it.is_dir()
             and ("durshavon" in it.name or (it.name.startswith("desk") and "systemd" in str(it)) or str(it).endswith("usr/bin/desk"))]

@@ -1,7 +1,10 @@
 """Types what docs/OPERATIONS.md says: each path from nothing to a CRL that a key signed, and each signer that it names. The lines are typed into
-a folder like that of the repository, as they stand but for ports, and end in `verify OK` and `Response verify OK` of openssl."""
+a folder like that of the repository, as they stand but for ports and for the folders of an installed package (tests/run package has those), and end
+in `verify OK` and `Response verify OK` of openssl."""
 
+import grp
 import os
+import pwd
 import re
 import shutil
 import sys
@@ -29,9 +32,18 @@ policy = any
 commonName = supplied
 """
 
+# Where what an installed package has lies in the folder in which lines are typed.
+HERE = {"/usr/lib/durshavon/": "examples/", "/run/durshavon/ca/": "", "/run/durshavon-signer/": "", "/etc/durshavon/": "", "/var/lib/durshavon/": ""}
+
+
+def here(line):
+    for installed, path in HERE.items():
+        line = line.replace(installed, path)
+    return line
+
 
 def folder_of(t, algorithm="ecdsa-sha256"):
-    """A folder like the repository's, whose `./desk` is the program that is tested, with a CA's certificate in ca.pem and its key in ca.key."""
+    """A folder like the repository's, whose `desk` is the program that is tested, with a CA's certificate in ca.pem and its key in ca.key."""
     top = authority.stood_in(t)
     it = Authority(t, algorithm)
     for made in (it.pem, it.key):
@@ -41,9 +53,9 @@ def folder_of(t, algorithm="ecdsa-sha256"):
 
 def typed(t, top, lines):
     """What bash prints that is typed these lines; what they started is ended behind them."""
-    env = {**os.environ, "TZ": "America/New_York"}
+    env = {**os.environ, "TZ": "America/New_York", "PATH": f"{top}:{os.environ['PATH']}"}
     env.pop("LD_PRELOAD", None)
-    script = "\n".join([f"cd {top}", *lines, "jobs -p | xargs -r kill", "wait"])
+    script = "\n".join([f"cd {top}", *map(here, lines), "jobs -p | xargs -r kill", "wait"])
     ran = t.tried("timeout", int(50 * program.PATIENCE), "bash", "-c", script, env=env, timeout=60 * program.PATIENCE)
     told = (ran.stdout + ran.stderr).decode()
     t.true(ran.returncode != 124, f"it did not come to an end: {told}")
@@ -61,45 +73,46 @@ def ends_well(t, told, crls=1, answers=0, replies=("created\n", "crl 1 entries 0
 
 def office(port):
     """The office is opened by the document's own line, tells a status, and issues a CRL."""
-    opens = block("The day of an office that is open", "./desk open ca.db")[0].replace("8080", port).replace("/run/ca/", "")
+    opens = block("Open it and close it", "desk open ca.db")[0].replace("8080", port)
     return [
         f"{opens} &",
         "until [ -S counter ]; do sleep 0.1; done",
         f"openssl ocsp -issuer ca.pem -serial 5 -url http://127.0.0.1:{port}/ocsp -CAfile ca.pem",
-        "./desk at counter <<< crl",
+        "desk at counter <<< crl",
         f"curl -s http://127.0.0.1:{port}/crl | openssl crl -inform DER -noout -verify -CAfile ca.pem",
     ]
 
 
 @test(seconds=3)
-def setting_up(t):
-    """And the day of an office behind it, with the line for cron."""
+def from_the_repository(t):
+    """And the day of an office behind it, with the lines for cron."""
     need("curl", "bash")
     authority.need_cryptography(t)
     port = str(program.free_port())
-    cron = block("The day of an office that is open", "0 * * * *")[0]
-    t.has(cron, "0 * * * *  /srv/durshavon/examples/issue-due-crl.sh /run/ca/counter")
-    issues = "DESK=./desk " + cron.split("  ")[1].replace("/srv/durshavon/", "").replace("/run/ca/", "")
-    told = typed(t, folder_of(t), [*block("Setting up", "./desk init"), *office(port), issues, 'echo "cron $?"'])
-    ends_well(t, told, crls=2, answers=1, replies=("created\n", "crl 1 entries 0\n", "crl 2 entries 0\n", "cron 0\n"))
+    [issues], [publishes] = (block("CRLs", beginning) for beginning in ("0 * * * *", "5 * * * *"))
+    top = folder_of(t)
+    publishes = publishes.replace("8080", port).replace("/var/lib/durshavon-crl/ca", "published")
+    cron = ["mkdir published", *(f'{line.split("  ")[1]}; echo "cron $?"' for line in (issues, publishes))]
+    told = typed(t, top, [*block("From the repository", "./desk init"), *office(port), *cron])
+    ends_well(t, told, crls=2, answers=1, replies=("created\n", "crl 1 entries 0\n", "crl 2 entries 0\n", "cron 0\ncrl 2 published in published\ncron 0\n"))
+    t.same(sorted(it.name for it in (top / "published").iterdir()), ["ca.crl", "ca.crl.pem"])
 
 
 def of_a_responder(beginning, port):
     """A block of "A responder" that opens the office by its last line, and what is asked then."""
     *lines, opens = block("A responder", beginning)
-    opened = opens.replace("8080", port).replace("/run/ca/", "")
-    return [*lines, f"{opened} & desk=$!", *office(port)[1:]]
+    return [*lines, f'{opens.replace("8080", port)} & desk=$!', *office(port)[1:]]
 
 
 @each({"beside the CA's key": "openssl req", "the CA's key with its certificate": "openssl x509"}, seconds=4)
 def a_responder(t, beginning):
-    """Behind "Setting up": answers that openssl takes by the CA's certificate alone, asked as the document says it too."""
+    """Behind "From the repository": answers that openssl takes by the CA's certificate alone, asked as the document says it too."""
     need("curl", "bash")
     authority.need_cryptography(t)
     port = str(program.free_port())
     asks = re.search(r"^`(openssl ocsp -issuer ca\.pem [^`]*)` says `Response verify OK`", document(), re.MULTILINE)[1]
     lines = [*of_a_responder(beginning, port), asks.replace("8080", port)]
-    told = typed(t, folder_of(t), [*block("Setting up", "./desk init"), *lines])
+    told = typed(t, folder_of(t), [*block("From the repository", "./desk init"), *lines])
     ends_well(t, told, crls=2, answers=2, replies=("created\n", "crl 1 entries 0\n", "crl 2 entries 0\n"))
 
 
@@ -109,13 +122,13 @@ def a_responder_while_the_ca_s_key_is_away(t):
     need("curl", "bash")
     authority.need_cryptography(t)
     port = str(program.free_port())
-    first = [f"{line} signer=$!" if line.endswith("&") else line for line in block("Setting up", "./desk init")]
+    first = [f"{line} signer=$!" if line.endswith("&") else line for line in block("From the repository", "./desk init")]
     starts = [line for line in first if line.startswith(("examples/signer.py", "until"))]
     t.same(len(starts), 2, f"lines that start the signer, of {first}")
     ends = ["kill $signer", "while [ -S ca.sign ]; do sleep 0.1; done"]
     made = block("A responder", "openssl req")[:-1]
-    opened = of_a_responder("./desk open ca.db --port 8080 --counter /run/ca/counter $RESPONDER", port)
-    closed = ["kill $desk", "wait $desk", *starts, *block("A responder", "./desk script ca.db --clock"), first[-1]]
+    opened = of_a_responder("desk open ca.db --port 8080 --counter /run/durshavon/ca/counter $RESPONDER", port)
+    closed = ["kill $desk", "wait $desk", *starts, *block("A responder", "desk script ca.db --clock"), first[-1]]
     told = typed(t, folder_of(t), [*first, *ends, *made, *opened, *closed])
     t.same(re.findall(r"^verify OK$", told, re.MULTILINE), ["verify OK"] * 3, f"CRLs that verify, in {told}")
     t.same(told.count("Response verify OK"), 1, f"answers that verify, in {told}")
@@ -135,7 +148,7 @@ def a_key_identifier_that_a_register_lacks(t):
     t.tool("openssl", "x509", "-req", "-in", "a.csr", "-CA", it.pem, "-CAkey", it.key, "-set_serial", 5, "-days", 90, "-extfile", "a.cnf", "-out", "a.pem")
     for made in (it.pem, it.key, t.room / "a.pem"):
         shutil.copy(made, top)
-    init, *first = block("Setting up", "./desk init")
+    init, *first = block("From the repository", "./desk init")
     t.has(init, "$(examples/issuer-words.sh ca.pem)")
     lines = block("The CA's key identifier", "ID=")
     init = init.replace("ca.pem)", "ca.pem | cut -d ' ' -f 1-4)")
@@ -147,7 +160,7 @@ def a_key_identifier_that_a_register_lacks(t):
 
 
 # A line of the section "Signatures", by what it has in it.
-SIGNERS = {"openssl behind socat": "openssl dgst", "examples/signer.py": "examples/signer.py"}
+SIGNERS = {"openssl behind socat": "openssl dgst", "signer.py": "/signer.py"}
 
 
 def started(heading, part):
@@ -159,8 +172,8 @@ def started(heading, part):
 
 
 def register_by(signer):
-    """The lines of "Setting up", with this in place of its signer."""
-    lines = block("Setting up", "./desk init")
+    """The lines of "From the repository", with this in place of its signer."""
+    lines = block("From the repository", "./desk init")
     begin = next(at for at, line in enumerate(lines) if line.startswith("examples/signer.py"))
     return [lines[0], *signer, 'SIGNER="--signer ca.sign --algorithm ecdsa-sha256"', *lines[begin + 3 :]]
 
@@ -195,7 +208,7 @@ def a_signer_behind_socat_that_takes_a_second(t, patient):
 @test(seconds=3)
 def only_ours_before_openssl(t):
     need("bash", "curl", "socat")
-    told = typed(t, folder_of(t), [*register_by(started("Only what the desk has signed", "examples/only_ours.py")), *office(str(program.free_port()))])
+    told = typed(t, folder_of(t), [*register_by(started("Only what the desk has signed", "/only_ours.py")), *office(str(program.free_port()))])
     ends_well(t, told, crls=2, answers=1)
 
 
@@ -207,8 +220,8 @@ def only_ours_before_a_responder_s_key(t):
     port = str(program.free_port())
     (line,) = [line for lines in blocks("Only what the desk has signed") for line in lines if "ocsp.sign" in line]
     lines = of_a_responder("openssl req", port)
-    place = next(at for at, it in enumerate(lines) if it.startswith("examples/signer.py"))
-    told = typed(t, folder_of(t), [*block("Setting up", "./desk init"), *lines[:place], f"{line} &", *lines[place + 1 :]])
+    place = next(at for at, it in enumerate(lines) if it.startswith("/usr/lib/durshavon/signer.py"))
+    told = typed(t, folder_of(t), [*block("From the repository", "./desk init"), *lines[:place], f"{line} &", *lines[place + 1 :]])
     ends_well(t, told, crls=2, answers=1, replies=("created\n", "crl 1 entries 0\n", "crl 2 entries 0\n"))
 
 
@@ -272,7 +285,7 @@ def coming_from_openssl_ca(t):
     openssl("ca", "-config", "demoCA/ca.cnf", "-revoke", "a.pem", "-crl_reason", "superseded")
     for _ in range(3):
         openssl("ca", "-config", "demoCA/ca.cnf", "-gencrl", "-out", "theirs.pem")
-    lines = [*block("Coming from openssl ca", "examples/from-openssl-index.py"), *office(str(program.free_port()))]
+    lines = [*block("Coming from openssl ca", "/usr/lib/durshavon/from-openssl-index.py"), *office(str(program.free_port()))]
     told = typed(t, top, lines)
     ends_well(t, told, crls=2, answers=1, replies=("created\n", "crl 4 entries 1\n", "5: revoked\n", "crl 5 entries 1\n"))
     # The CRLs that the moved script issues are signed too: no digest stands in the register.
@@ -292,6 +305,41 @@ def the_way_out_of_a_digest(t):
     desk = t.open("ca.db", *it.signing())
     t.same(t.counter().ask("crl"), "crl 2 entries 1")
     it.verifies(authority.body_of(t, desk.ask("GET", "/crl"), "application/pkix-crl"))
+
+
+@test(seconds=4)
+def the_lists(t):
+    """The lines over a closed register; and of an open one all rows, page by page, where one page has not all of them."""
+    need("bash", "curl", "jq")
+    top, port = folder_of(t), str(program.free_port())
+    names = [f"s{number}" for number in range(251)]
+    t.register(top / "ca.db", "".join(f"2026-01-01T00:00:00Z subscriber {name}\n" for name in names))
+    closed = typed(t, top, block("Lists", "desk list ca.db revoked"))
+    t.has((top / "revoked.csv").read_text(), "serial,subscriber,name,order,")
+    t.has(closed, "serial,subscriber,name,order,", "those that end: a header alone, and no open request")
+    *function, asks = [line.replace("8080", port) for line in block("Lists", "list() {")]
+    t.same(asks, "list revoked")
+    opens = [f"desk open ca.db --port {port} --counter counter --unsigned &", "until [ -S counter ]; do sleep 0.1; done"]
+    told = typed(t, top, [*opens, *function, "list subscribers", asks])
+    t.same(told.splitlines()[1:], [f'{{"subscriber":{at},"name":"{name}"}}' for at, name in enumerate(names, 1)], "rows, of none revoked")
+
+
+@test(seconds=2)
+def the_log_s_rotation(t):
+    """The document's lines for logrotate: what was told stays in the file that was renamed, and the next line goes into another."""
+    need("logrotate", "curl")
+    lines = "\n".join(block("The log", "/var/log/durshavon/*.log {"))
+    owner = f"{pwd.getpwuid(os.getuid()).pw_name} {grp.getgrgid(os.getgid()).gr_name}"
+    (t.room / "rotation").write_text(lines.replace("/var/log/durshavon", str(t.room / "log")).replace("durshavon durshavon", owner) + "\n")
+    (t.room / "log").mkdir(mode=0o750)
+    t.register()
+    desk = t.open("ca.db", "--log-file", "log/ca.log")
+    desk.ask("GET", "/counts")
+    t.tool("logrotate", "--force", "--state", "state", "rotation")
+    desk.ask("GET", "/crl")
+    texts = {it.name: it.read_text() for it in (t.room / "log").iterdir()}
+    t.same({name: re.findall(r'"GET (\S+) HTTP', text) for name, text in texts.items()}, {"ca.log": ["/crl"], "ca.log.1": ["/counts"]})
+    t.same((t.room / "log/ca.log").stat().st_mode & 0o777, 0o600)
 
 
 @test

@@ -159,6 +159,20 @@ def what_is_published_stays_where_it_fails(t, fail, told):
     t.same(contents(t.room / "www"), before, "what is published")
 
 
+@each({"ca.crl": "ca.crl", "ca.crl.pem": "ca.crl.pem"}, seconds=2)
+def an_older_crl_where_one_form_alone_lies_there(t, left):
+    _, desk = open_desk(t, "crl", "crl")
+    publish(t, desk)
+    for name in {"ca.crl", "ca.crl.pem"} - {left}:
+        (t.room / "www" / name).unlink()
+    before = contents(t.room / "www")
+    fails(t, publish(t, desk, "/crl/1"), "/crl/1 is no newer than number 2 in www: was the register set back?")
+    t.same(contents(t.room / "www"), before, "what is published")
+    # The same CRL in a PEM of other bytes is no other CRL.
+    (t.room / "www/ca.crl.pem").write_bytes(b"published by hand\n" + t.tool("openssl", "crl", "-in", f"www/{left}"))
+    t.same(publish(t, desk)[:2], (0, "crl 2 published in www\n"))
+
+
 @test(seconds=2)
 def a_folder_that_is_none_or_not_to_be_written(t):
     _, desk = open_desk(t, "crl")
@@ -270,13 +284,18 @@ commonName = supplied
 """
 
 
+def by_openssl_ca(t, it, name, serial, begins, ends):
+    """A certificate of these two moments, as NAME.pem."""
+    for file, text in (("ca.cnf", CONFIG), ("index.txt", ""), ("serial", f"{serial}\n")):
+        (t.room / file).write_text(text)
+    t.tool("openssl", "req", "-new", "-key", it.key, "-subj", "/CN=acme", "-out", "x.csr")
+    words = ("-batch", "-notext", "-cert", it.pem, "-keyfile", it.key, "-startdate", begins, "-enddate", ends)
+    t.tool("openssl", "ca", "-config", "ca.cnf", *words, "-in", "x.csr", "-out", f"{name}.pem")
+
+
 def ended(t, it):
     """A certificate of January 2020, as ended.pem."""
-    for name, text in (("ca.cnf", CONFIG), ("index.txt", ""), ("serial", "14\n")):
-        (t.room / name).write_text(text)
-    t.tool("openssl", "req", "-new", "-key", it.key, "-subj", "/CN=acme", "-out", "x.csr")
-    words = ("-batch", "-notext", "-cert", it.pem, "-keyfile", it.key, "-startdate", "200101000000Z", "-enddate", "200131000000Z")
-    t.tool("openssl", "ca", "-config", "ca.cnf", *words, "-in", "x.csr", "-out", "ended.pem")
+    by_openssl_ca(t, it, "ended", "14", "200101000000Z", "200131000000Z")
 
 
 def unsigned_desk(t, *lines):
@@ -355,6 +374,21 @@ def an_order_that_stays_without_its_certificate_is_told(t):
     t.same(register_pem(t, "-c", "counter", "a.pem"), (3, "", [wanted]))
     desk.end()
     t.same((len(rows(t, "orders")), len(rows(t, "cert"))), (1, 0), "orders and certificates")
+
+
+@test(seconds=2)
+def as_many_days_as_openssl_was_told(t):
+    """docs/OPERATIONS.md, "Register certificates": `-days 90` is a second longer than an order of 90 days, and `-enddate` tells the last second."""
+    it, _ = unsigned_desk(t, "subscriber acme", "order 1 90", "order 1 91")
+    begins, ends = issued(t, it, "a", "05", days=90)
+    counter = t.counter()
+    registers = lambda order, serial, last: counter.ask(f"register {order} {serial} {moment_of(begins)} {moment_of(last)}")
+    t.same((ends - begins, registers(1, "05", ends), registers(2, "05", ends)), (90 * DAY, "E12 too-long", "registered"))
+    asn1 = lambda at: re.sub("[-:T]", "", moment_of(at))
+    by_openssl_ca(t, it, "b", "06", asn1(begins), asn1(ends - 1))
+    told = t.tool("openssl", "x509", "-in", "b.pem", "-noout", "-enddate").decode()
+    t.same(authority.openssl_time(told.partition("=")[2].strip()), ends - 1, "notAfter, to which openssl was told")
+    t.same(registers(1, "06", ends - 1), "registered")
 
 
 @test(seconds=2)
