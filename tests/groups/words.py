@@ -2,7 +2,8 @@
 
 import re
 
-from lib.program import KEY, NAME, TOP
+from lib.documents import version
+from lib.program import KEY, NAME
 from lib.trial import each, test
 
 ISSUER = ("--name", NAME, "--key", KEY)
@@ -201,8 +202,7 @@ def a_file_whose_name_is_no_text_is_refused(t, words):
 @each({it: it for it in ("--version", "-V")})
 def the_version_is_told(t, word):
     ran = t.desk(word)
-    newest = re.search(r"^## (\d\S*)$", (TOP / "CHANGELOG.md").read_text(), re.MULTILINE)[1]
-    t.same((ran.status, ran.out.decode(), ran.err), (0, f"desk {newest}\n", b""), "status, standard output and standard error: as CHANGELOG.md has it")
+    t.same((ran.status, ran.out.decode(), ran.err), (0, f"desk {version()}\n", b""), "status, standard output and standard error: as CHANGELOG.md has it")
 
 
 # What is told of each command.
