@@ -15,10 +15,12 @@ _desk() {
     value=$(sed -n "s/^ *\(-., \)\?$previous <\([A-Z=]*\)>.*/\2/p" <<<"$help")
     case $previous:$value in
     --*:MOMENT) mapfile -t COMPREPLY < <(compgen -W "$(date -u +%Y-%m-%dT%H:%M:%SZ)" -- "$cur") ;;
-    --*:FILE | --*:SOCKET | --*:CERT) mapfile -t COMPREPLY < <(compgen -f -- "$cur") ;;
+    --*:FILE | --*:SOCKET | --*:CERT | --*:PATH) mapfile -t COMPREPLY < <(compgen -f -- "$cur") ;;
     --*:?*) COMPREPLY=() ;;
     *)
-        if [[ $cur == -* ]]; then
+        if [[ ${COMP_WORDS[at]} == list && $COMP_CWORD -eq $((at + 2)) ]]; then
+            mapfile -t COMPREPLY < <(compgen -W "revoked certificates ending open-requests overdue subscribers orders crls" -- "$cur")
+        elif [[ $cur == -* ]]; then
             mapfile -t COMPREPLY < <(compgen -W "$(grep -oE -- '^ +(-., )?--[a-z-]+' <<<"$help" | grep -oE -- '--[a-z-]+')" -- "$cur")
         else
             mapfile -t COMPREPLY < <(compgen -f -- "$cur")

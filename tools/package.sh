@@ -85,7 +85,7 @@ put 0644 packaging/README.Debian "$documents/README.Debian"
 tools/copyright.py "$kit" >"$root/$documents/copyright"
 printf 'durshavon (%s) unstable; urgency=low\n\n  * Commit %s.\n\n -- %s  %s\n' "$version" "$commit" "$maintainer" \
     "$(date -u -R -d "@$SOURCE_DATE_EPOCH")" | zipped "$documents/changelog.gz"
-for name in first-day.txt first-day.replies.txt certificates.csv nginx.conf; do
+for name in first-day.txt first-day.replies.txt certificates.csv nginx.conf alerts.yml; do
     put 0644 "examples/$name" "$documents/examples/$name"
 done
 for name in issuer-words.sh from-openssl-index.py; do

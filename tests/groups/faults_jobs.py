@@ -3,7 +3,7 @@
 import re
 
 from lib import faults, program
-from lib.faults import DAY_1, LIFE, REGISTERED
+from lib.faults import DAY_1, LIFE, PAST_END, REGISTERED
 from lib.trial import Failed, each
 
 FILES = "ca.db,ca.db-wal"
@@ -22,6 +22,7 @@ JOBS = {
     "schedule": (["schedule", "ca.db", "1970-01-01T00:00:00Z=398", "2026-03-15T00:00:00Z=200"], "", text(REGISTERED)),
     "key-id": (["key-id", "ca.db", "0102030405"], "", text(LIFE)),
     "crl": (["crl", "ca.db"], "", text(LIFE)),
+    "list": (["list", "ca.db", "revoked", "--now", PAST_END], "", text(LIFE)),
     "audit": (["audit", "ca.db"], "", text(LIFE)),
 }
 CHANGES = ("init", "import", "schedule", "key-id")
@@ -67,7 +68,7 @@ def a_call_fails(t, job, kind, how):
 
 
 # What such a job never calls, or need not do: it writes nothing of its own.
-NEVER_TOLD = {("write", "crl"), ("write", "audit"), ("sync", "crl"), ("sync", "audit")}
+NEVER_TOLD = {(it, job) for it in ("write", "sync") for job in ("crl", "list", "audit")}
 
 
 def judge(t, job, ran, usual, where):

@@ -84,6 +84,8 @@ JOBS = {
     "init with a key identifier": (["init", "ca.db", "--name", program.NAME, "--key", program.KEY, "--key-id", "0102030405"], "", None),
     "key-id": (["key-id", "ca.db", "0102030405"], "", "base.db"),
     "crl": (["crl", "ca.db"], "", "base.db"),
+    "list": (["list", "ca.db", "certificates", "--now", DAY], "", "base.db"),
+    "list as JSON": (["list", "ca.db", "orders", "--now", DAY, "--json"], "", "base.db"),
     "audit": (["audit", "ca.db"], "", "base.db"),
 }
 
@@ -121,6 +123,8 @@ ASKED = [
     ("GET", "/status/05", None, 200, b'{"status":"good"}'),
     ("GET", "/crl/9", None, 404, b'{"error":"E21 no-crl"}'),
     ("GET", "/nowhere", None, 404, b'{"error":"404"}'),
+    ("GET", "/list/crls?limit=7", None, 200, b'{"list":"crls","next":null,"rows":[]}'),
+    ("GET", "/list/nothing", None, 400, b'{"error":"E22 syntax"}'),
     ("POST", "/ocsp", b"\xff", 200, bytes.fromhex("30030a0101")),
     ("POST", "/requests", b'{"serial":"05","ground":"asked"}', 200, b'{"due":"2026-01-03T00:00:00Z","request":1}'),
 ]

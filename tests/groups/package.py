@@ -319,9 +319,10 @@ def documented(t, root):
     t.same(sorted(completed("desk", "s")), [it for it in commands if it.startswith("s")], "desk s..")
     t.has(" ".join(completed("desk", "init", "ca.db", "--")), "--name --key --key-id --days --crl-life --ocsp-life --cap")
     t.has(" ".join(completed("desk", "--why", "script", "ca.db", "--")), "--signer --algorithm")
-    opens = "--signer --algorithm --unsigned --responder --responder-signer --responder-algorithm --embed --log --why"
+    opens = "--signer --algorithm --unsigned --responder --responder-signer --responder-algorithm --embed --log --log-file --why"
     t.has(" ".join(completed("desk", "open", "ca.db", "--")), opens)
     t.has(" ".join(completed("desk", "import", "ca.db", "--now", "")), time.strftime("%Y-%m-%dT", time.gmtime()))
+    t.same(sorted(completed("desk", "list", "ca.db", "o")), ["open-requests", "orders", "overdue"], "desk list ca.db o..")
     t.has(completed("desk", "script", "durs"), "durshavon.deb")
     for unit in sorted((root.path / "lib/systemd/system").glob("desk*@.*")):
         told = root.tried("systemd-analyze", "verify", "--man=no", unit.name.replace("@", "@ca"))

@@ -42,6 +42,8 @@ UNKNOWN = {
     "--why twice": ("crl", "none.db", "--why", "--why"),
     "--log before a command": ("--log", *SERVE, "--port", "80", "--requests", "1"),
     "--log twice": (*SERVE, "--port", "80", "--requests", "1", "--log", "--log"),
+    "--log-file twice": (*SERVE, "--port", "80", "--requests", "1", "--log-file", "a", "--log-file", "b"),
+    "--log-file without a path": (*SERVE, "--port", "80", "--requests", "1", "--log-file"),
     "init alone": ("init",),
     "init without a key": ("init", "none.db", "--name", NAME),
     "init without a name": ("init", "none.db", "--key", KEY),
@@ -66,6 +68,10 @@ UNKNOWN = {
     "schedule without a step": SCHEDULE,
     "key-id without an identifier": ("key-id", "none.db"),
     "key-id of two": ("key-id", "none.db", "00", "01"),
+    "list without a word": ("list", "none.db"),
+    "list without a file": ("list",),
+    "list of two words": ("list", "none.db", "crls", "orders"),
+    "json with a value": ("list", "none.db", "crls", "--json=1"),
     "audit without a file": ("audit",),
     "audit of two files": ("audit", "none.db", "G"),
     "clock with a value": ("script", "none.db", "--clock=1"),
@@ -107,6 +113,8 @@ VALUES = [
     *[((*SERVE, "--port=80"), "--requests", it, RANGE) for it in ("0", "1000001", "999999999999999999", "0000000000000000001", "")],
     *[(UNSIGNED, "--port", it, RANGE) for it in ("0", "65536", "http", "")],
     *[(("import", "none.db"), "--now", it, MOMENT) for it in ("yesterday", "2026-01-01", "2026-02-29T00:00:00Z", "")],
+    *[(("list", "none.db", "crls"), "--now", it, MOMENT) for it in ("today", "2026-01-01T00:00:00", "")],
+    *[(("list", "none.db", "ending"), "--before", it, MOMENT) for it in ("2026-02-30T00:00:00Z", "0", "")],
     *[(("crl", "none.db"), "--number", it, NUMBER) for it in ("", "x", "latest", "0000000000000000001")],
 ]
 
@@ -179,10 +187,24 @@ def a_responder_is_told_whole(t, words, named):
         t.has(refused(t, *command, *words), f"{named}: {TOGETHER}")
 
 
+LISTED = "a list is revoked, certificates, ending, open-requests, overdue, subscribers, orders or crls; ending wants --before, and no other takes it"
+
+
+@each({
+    "another word": ("expired",),
+    "in capitals": ("Revoked",),
+    "no word": ("",),
+    "ending without a moment": ("ending",),
+    "another with one": ("revoked", "--before=2026-01-01T00:00:00Z"),
+})
+def a_list_has_its_word(t, *words):
+    t.same(refused(t, "list", "none.db", *words).splitlines()[0], f"error: {LISTED}", "the one line that says which there are")
+
+
 @each({" ".join(it): it for it in (
     ("import", "--signer=ca.sign"), ("script", "--embed=ca.der"), ("script", "--responder=r.der"), ("crl", "--embed=ca.der"), ("crl", "--algorithm=ed25519"), ("schedule", "--signer=ca.sign"),
     ("key-id", "--signer=ca.sign"), ("script", "--key-id=00"), ("import", "--clock"), ("at", "--strict"),
-    ("crl", "--log"), ("script", "--log"), ("at", "--log"), ("audit", "--log"), ("script", "--unsigned"), ("serve", "--unsigned"), ("schedule", "--unsigned"),
+    ("crl", "--log"), ("script", "--log"), ("at", "--log"), ("audit", "--log"), ("script", "--log-file=l"), ("at", "--log-file=l"), ("audit", "--json"), ("crl", "--before=2026-01-01T00:00:00Z"), ("script", "--unsigned"), ("serve", "--unsigned"), ("schedule", "--unsigned"),
 )})
 def an_option_of_another_command_is_unexpected(t, command, option):
     t.has(refused(t, command, "none.db", option), "unexpected argument")
@@ -207,18 +229,19 @@ def the_version_is_told(t, word):
 
 # What is told of each command.
 HELPED = {
-    "--help": ("init", "script", "import", "crl", "serve", "open", "at", "schedule", "key-id", "audit", "--why", "-V, --version"),
-    "-h": ("init", "script", "import", "crl", "serve", "open", "at", "schedule", "key-id", "audit"),
+    "--help": ("init", "script", "import", "crl", "serve", "open", "at", "schedule", "key-id", "list", "audit", "--why", "-V, --version"),
+    "-h": ("init", "script", "import", "crl", "serve", "open", "at", "schedule", "key-id", "list", "audit"),
     "init --help": ("<FILE>", "--name <HEX>", "--key <HEX>", "--key-id <HEX>", "--days <N>", "--crl-life <N>", "--ocsp-life <N>", "--cap <N>", "--why"),
     "init -h": ("<FILE>", "--name <HEX>"),
     "script --help": ("[FILE]", "--signer <SOCKET>", "--algorithm <NAME>", "--clock", "--strict", "--why", "desk script ca.db"),
     "import --help": ("<FILE>", "--now <MOMENT>", "--strict", "--why"),
     "crl --help": ("<FILE>", "--number <N>", "--why"),
-    "serve --help": ("<FILE>", "--port <N>", "--requests <N>", "--signer <SOCKET>", "--algorithm <NAME>", *RESPONDER_HELP, "--log", "--why"),
-    "open --help": ("<FILE>", "--port <N>", "--counter <SOCKET>", "--signer <SOCKET>", "--algorithm <NAME>", "--unsigned", *RESPONDER_HELP, "--log", "--why"),
+    "serve --help": ("<FILE>", "--port <N>", "--requests <N>", "--signer <SOCKET>", "--algorithm <NAME>", *RESPONDER_HELP, "--log", "--log-file <PATH>", "--why"),
+    "open --help": ("<FILE>", "--port <N>", "--counter <SOCKET>", "--signer <SOCKET>", "--algorithm <NAME>", "--unsigned", *RESPONDER_HELP, "--log", "--log-file <PATH>", "--why"),
     "at --help": ("<SOCKET>", "--why", "desk at ca.counter"),
     "schedule F --help": ("<FILE>", "<MOMENT=DAYS>...", "--why"),
     "key-id --help": ("<FILE>", "<HEX>", "--why"),
+    "list --help": ("<FILE>", "<LIST>", "--before <MOMENT>", "--now <MOMENT>", "--json", "--why", "desk list ca.db revoked"),
     "audit --help": ("<FILE>", "--why", "desk audit ca.db"),
     "--why audit --help": ("<FILE>", "--why", "desk audit ca.db"),
 }
@@ -248,6 +271,8 @@ TAKEN = {
     "strict before --": ("script", "--strict", "--", "none.db"),
     "a strict import": ("import", "none.db", "--now", "2026-01-01T00:00:00Z", "--strict"),
     "a strict import, strict first": ("import", "--strict", "none.db", "--now=2026-01-01T00:00:00Z"),
+    **{f"the list {it}": ("list", "none.db", it) for it in ("revoked", "certificates", "open-requests", "overdue", "subscribers", "orders", "crls")},
+    "the list of what ends, with all options": ("list", "--json", "--now", "2026-01-01T00:00:00Z", "none.db", "ending", "--before=9999-12-31T23:59:59Z"),
     "a schedule of 16 steps": (*SCHEDULE, FIRST_STEP, *[f"20{it}-01-01T00:00:00Z=0{it}" for it in range(27, 42)]),
     **{
         f"{command} and {name}": (command, "none.db", *more, "--signer", "ca.sign", "--algorithm", name)

@@ -1,14 +1,14 @@
 //! The causes, and the errors that tell them.
 
 ghost use Rattle.std.specs.Prelude.{◌≡◌, ◌≤◌, Some, None, length, if◌then◌else◌};
-ghost use Rattle.reg_causes.specs.Causes.{cause_line};
+ghost use Rattle.reg_causes.specs.Causes.{cause_line, terms_cause};
 
 use reg_core::Label;
 use sqlite::{Error, ErrorCode};
 use sqlite_std_file::OpenError;
 use std::io::ErrorKind;
 
-/// Why a call of the machine failed, or who is to sign for a register does not fit it.
+/// Why a call of the machine failed, who is to sign for a register does not fit it, or what is told is no policy.
 #[derive(Clone, Copy, PartialEq, Eq)]
 pub enum Cause {
     /// Nothing lies at the path.
@@ -31,6 +31,16 @@ pub enum Cause {
     UnknownAlgorithm,
     /// The issuer's key is none of the algorithm.
     OtherKey,
+    /// The days are out of their range.
+    Days,
+    /// The life of CRLs is.
+    CrlLife,
+    /// The life of OCSP answers is.
+    OcspLife,
+    /// The most rows of a table are.
+    Cap,
+    /// The steps are no schedule.
+    Steps,
 }
 
 impl Cause {
@@ -50,6 +60,11 @@ impl Cause {
             Cause::OtherAlgorithm => words(b"  latest CRL under another algorithm"),
             Cause::UnknownAlgorithm => words(b"  latest CRL under an unknown algorithm"),
             Cause::OtherKey => words(b"  issuer's key of another algorithm"),
+            Cause::Days => words(b"  --days: 1 to 398"),
+            Cause::CrlLife => words(b"  --crl-life: 1 to 863999"),
+            Cause::OcspLife => words(b"  --ocsp-life: 28800 to 863999"),
+            Cause::Cap => words(b"  --cap: 1 to 1000000"),
+            Cause::Steps => words(b"  steps: 1 to 16, from 1970 on ascending, days 1 to 398"),
         }
     }
 }
@@ -118,4 +133,24 @@ pub fn of_database(error: &Error) -> Option<Cause>
         Error::SqliteFailure(ErrorCode::DiskFull) => Some(Cause::DiskFull),
         _ => None,
     }
+}
+
+/// Which of the terms of a policy is out of its range: the first of them.
+#[tactic(auto, unfolding(crate::specs::Causes::terms_cause))]
+pub fn of_terms(days: u64, crl_life: u64, ocsp_life: u64, cap: u64) -> Option<Cause>
+    ensures { result ≡ terms_cause days crl_life ocsp_life cap }
+{
+    if days < 1 || days > 398 {
+        return Some(Cause::Days);
+    }
+    if crl_life < 1 || crl_life > 863_999 {
+        return Some(Cause::CrlLife);
+    }
+    if ocsp_life < 28_800 || ocsp_life > 863_999 {
+        return Some(Cause::OcspLife);
+    }
+    if cap < 1 || cap > 1_000_000 {
+        return Some(Cause::Cap);
+    }
+    None
 }

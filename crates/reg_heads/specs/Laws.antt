@@ -10,6 +10,7 @@ ArePhrases =
     (reason_phrase 200 ≡ Some (phrase 200)) × (reason_phrase 400 ≡ Some (phrase 400)) × (reason_phrase 404 ≡ Some (phrase 404))
     × (reason_phrase 405 ≡ Some (phrase 405)) × (reason_phrase 409 ≡ Some (phrase 409)) × (reason_phrase 411 ≡ Some (phrase 411))
     × (reason_phrase 413 ≡ Some (phrase 413)) × (reason_phrase 431 ≡ Some (phrase 431)) × (reason_phrase 500 ≡ Some (phrase 500))
+    × (reason_phrase 503 ≡ Some (phrase 503))
 
 -- two readings of the same bytes ask the same
 abbrev pub IsOneRequest : Type 0

@@ -32,7 +32,8 @@ phrase status =
     else (if status == 411 then codes "Length Required"
     else (if status == 413 then codes "Payload Too Large"
     else (if status == 431 then codes "Request Header Fields Too Large"
-    else (if status == 500 then codes "Internal Server Error" else []))))))))
+    else (if status == 500 then codes "Internal Server Error"
+    else (if status == 503 then codes "Service Unavailable" else [])))))))))
 
 -- a line of a start and a value, with its CR LF
 unfoldable pub line : List ℕ → List ℕ → List ℕ

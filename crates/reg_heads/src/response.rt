@@ -57,6 +57,7 @@ fn phrase(code: u16) -> &'static [u8]
         status::PAYLOAD_TOO_LARGE => b"Payload Too Large",
         status::HEADERS_TOO_LARGE => b"Request Header Fields Too Large",
         status::INTERNAL_SERVER_ERROR => b"Internal Server Error",
+        status::SERVICE_UNAVAILABLE => b"Service Unavailable",
         _ => b"",
     }
 }

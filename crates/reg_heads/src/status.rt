@@ -18,3 +18,5 @@ pub const PAYLOAD_TOO_LARGE: u16 = 413;
 pub const HEADERS_TOO_LARGE: u16 = 431;
 /// 500: a fault of the desk.
 pub const INTERNAL_SERVER_ERROR: u16 = 500;
+/// 503: all is not well with the desk, which an open one tells of itself.
+pub const SERVICE_UNAVAILABLE: u16 = 503;

@@ -1,6 +1,7 @@
 pub mod Asked
 pub mod Beginning
 pub mod Bodies
+pub mod Lists
 pub mod Parts
 pub mod RespondsTo
 pub mod Routes

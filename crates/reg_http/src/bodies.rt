@@ -90,6 +90,13 @@ fn json(code: u16, body: Vec<u8>) -> Answer
     }
 }
 
+/// An answer with a page of a list in its body.
+pub(crate) fn listed(body: Vec<u8>) -> Answer
+    ensures { shown result ≡ json 200 body.items }
+{
+    json(status::OK, body)
+}
+
 /// An answer with an OCSP response in its body (RFC 6960 A.2).
 #[tactic(auto, unfolding(crate::specs::Bodies::der))]
 pub(crate) fn ocsp_response(body: Vec<u8>) -> Answer

@@ -25,6 +25,17 @@ pub enum Lost {
     Memory,
 }
 
+/// How many connections there are.
+#[derive(Clone, Copy, Debug, PartialEq, Eq)]
+pub struct Crowd {
+    /// How many peers there are.
+    pub peers: usize,
+    /// How many counters there are.
+    pub counters: usize,
+    /// How many peers were accepted up to now.
+    pub accepted: u64,
+}
+
 /// What answers requests and lines, one after the other. What is left to be signed for an answer is asked for while others are answered.
 pub trait Handler {
     ghost use Rattle.std.specs.Prelude.{◌≡◌, ℕ, List, IfOk, OnErr};
@@ -65,17 +76,20 @@ pub trait Handler {
     fn finish(&self, ticket: Self::Ticket, link: Option<UnixStream>) -> Vec<u8>
         ensures { finishes ticket result.items };
 
-    /// Answers one line of a counter.
+    /// Answers one line of a counter. What is noted of that counter is written here alone, and is empty where a counter begins.
     ///
     /// # Errors
     ///
-    /// [`Stopped`], and the handler is as it was.
-    fn tell(&mut self, line: &[u8]) -> Result<Vec<u8>, Stopped>
+    /// [`Stopped`], and the handler and what is noted are as they were.
+    fn tell(&mut self, line: &[u8], noted: &mut Vec<u8>) -> Result<Vec<u8>, Stopped>
         ensures ok { IfOk result (λ text. tells self.old line.now text.items self.new) }
-        ensures err { OnErr result (self.new ≡ self.old) };
+        ensures err { OnErr result ((self.new ≡ self.old) × (noted.new ≡ noted.old)) };
 
     /// Is told that the connection of the peer at an address ended by a fault; a counter has no address. Nothing changes by it.
     fn lose(&self, peer: Option<SocketAddr>, why: Lost);
+
+    /// Is told how many connections there are, before it answers any of a turn. Nothing changes by it.
+    fn hold(&self, crowd: Crowd);
 }
 
 /// Answers what came of one peer, and counts it.

@@ -6,7 +6,7 @@ ghost use Rattle.reg_hub.specs.Exchange.{Exchanged};
 use crate::caller::Caller;
 use crate::callers::{Callers, MOST_CALLERS, SWEEP};
 use crate::door::Door;
-use crate::handler::{Handler, Stopped};
+use crate::handler::{Crowd, Handler, Stopped};
 use crate::losses::{Loss, Losses};
 use crate::shared::Shared;
 use crate::signings::{Asker, Pending, Signings};
@@ -82,6 +82,15 @@ impl Hub {
         self.callers.taken()
     }
 
+    /// How many connections there are.
+    fn crowd(&self) -> Crowd {
+        Crowd {
+            peers: self.callers.taken(),
+            counters: self.tellers.taken(),
+            accepted: self.door.accepted,
+        }
+    }
+
     /// Answers so many requests, and lines at the counters meanwhile. Each peer that is accepted is one of them, and is answered
     /// once: when its request is whole, when nothing more of it comes, when its time is over, or when it is let go for others. What is
     /// left to be signed for an answer is asked for, and nobody else waits for it: the answer is finished by [`Hub::finish`] at the latest.
@@ -135,6 +144,7 @@ impl Hub {
     {
         let now = self.look(clock, signings, most, longest)?;
         self.shared.losses.tell(handler);
+        handler.hold(self.crowd());
         self.finish_all(handler, signings, now);
         self.tellers.tell_all(&mut self.shared, handler)?;
         let answered = self.answer_all(handler, signings, made, most, now);

@@ -24,7 +24,7 @@ mod watcher;
 pub use caller::{Caller, Next};
 pub use callers::MOST_CALLERS;
 pub use given::Given;
-pub use handler::{Handler, Lost, Stopped};
+pub use handler::{Crowd, Handler, Lost, Stopped};
 pub use hub::Hub;
 pub use link::Link;
 pub use signings::Signings;

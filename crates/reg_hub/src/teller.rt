@@ -30,6 +30,8 @@ pub struct Teller<S: Link> {
     pub(crate) unsent: Unsent,
     pub(crate) has_ended: bool,
     pub(crate) is_registered: bool,
+    /// What the handler notes of this counter.
+    pub(crate) noted: Vec<u8>,
 }
 
 /// Where the first line ends, behind its LF.
@@ -48,6 +50,7 @@ impl<S: Link> Teller<S> {
             unsent: Unsent::new(Vec::new(alloc)),
             has_ended: false,
             is_registered: false,
+            noted: Vec::new(alloc),
         }
     }
 
@@ -140,7 +143,7 @@ impl<S: Link> Teller<S> {
             × (self.new.came.items ≡ drop end self.old.came.items)) }
         ensures err { OnErr result ((self.new ≡ self.old) × (handler.new ≡ handler.old)) }
     {
-        let text = handler.tell(&self.came[..end])?;
+        let text = handler.tell(&self.came[..end], &mut self.noted)?;
         self.unsent = Unsent::new(text);
         drop_front(&mut self.came, end);
         Ok(())

@@ -53,6 +53,11 @@ impl Tellers {
         })
     }
 
+    /// How many there are.
+    pub(crate) fn taken(&self) -> usize {
+        self.places.taken()
+    }
+
     /// Whether something is to be done without waiting: a line to be answered, or a counter to be accepted.
     pub(crate) fn is_ready(&self) -> bool {
         self.has_lines || (self.has_tellers && self.places.has_room() && self.listener.is_some())

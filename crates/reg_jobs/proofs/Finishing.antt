@@ -1,6 +1,6 @@
 -- An answer that was left to be signed, once it is finished: an exchange over the records of where it was begun.
 use Rattle.std.proofs.Common.{◌≡◌, ◌≢◌, ℕ, List, [], Global, Vec, ap, inl, inr, refl, sym, subst, ◌∙◌}
-use Rattle.std.specs.Prelude.{Option, Some, None, Result, Ok, Err, IfErr, IfOk}
+use Rattle.std.specs.Prelude.{Option, Some, None, Result, Ok, Err, IfErr, IfOk, is_none, option_map}
 use Rattle.reg_core.specs.Records.{Records}
 use Rattle.reg_core.specs.declared.memory.Memory.{Memory as NoMemory}
 use Rattle.reg_core.specs.declared.refusal.Fault.{Fault}
@@ -24,7 +24,7 @@ use Rattle.reg_http.specs.Served.{Responds, ServingEnds}
 use Rattle.reg_ocsp.specs.Drafts.{Drafted, drafted_response}
 use Rattle.reg_signer.specs.Forms.{HasForm}
 use Rattle.reg_hub.specs.Exchange.{Outcome, said, pending}
-use Rattle.reg_jobs.specs.Exchanges.{Exchange, ExchangeAt}
+use Rattle.reg_jobs.specs.Exchanges.{ExchangeAt}
 use Rattle.reg_jobs.specs.Leaving.{Finished, FinishesAt, IsSignatureOf, Meets}
 use Rattle.reg_jobs.specs.declared.leaving.Unsigned.{Unsigned}
 
@@ -150,19 +150,22 @@ meets_weaker : {T : Type 0} (finishes : T → List ℕ → Type 0) (wanted other
 meets_weaker finishes wanted other from (said text) met = from text met
 meets_weaker finishes wanted other from (pending ticket) met = λ text finished. from text (met text finished)
 
-module _ {S : Type 0} (is_clean : S → Type 0) (stands : Signatory → S → Records → Type 0) (signs : Signs) (now : ℕ) (s t : S) (came : List ℕ) where
-  -- an exchange at a moment that a clock told
-  pub told_moves : {T : Type 0} (finishes : T → List ℕ → Type 0) (told : ℕ → Type 0) (outcome : Outcome T) → told now
-      → Leads is_clean stands (λ identity before after. Meets finishes (λ text. ExchangeAt signs now identity before came text after) outcome) s t
-      → Leads is_clean stands (λ identity before after. Meets finishes (λ text. Exchange signs told identity before came text after) outcome) s t
-  told_moves finishes told outcome is_told moved =
+-- What stands in an office before and after.
+module _ {S : Type 0} (is_clean : S → Type 0) (stands : Signatory → S → Records → Type 0) (s t : S) where
+  -- the same of what is wanted of a text between two records
+  pub weaker_moves : {T : Type 0} (finishes : T → List ℕ → Type 0) (wanted other : Signatory → Records → Records → List ℕ → Type 0)
+      → ((identity : Signatory) (before after : Records) (text : List ℕ) → wanted identity before after text → other identity before after text)
+      → (outcome : Outcome T)
+      → Leads is_clean stands (λ identity before after. Meets finishes (λ text. wanted identity before after text) outcome) s t
+      → Leads is_clean stands (λ identity before after. Meets finishes (λ text. other identity before after text) outcome) s t
+  weaker_moves finishes wanted other from outcome moved =
       follows is_clean stands
-      (λ identity before after. Meets finishes (λ text. ExchangeAt signs now identity before came text after) outcome)
-      (λ identity before after. Meets finishes (λ text. Exchange signs told identity before came text after) outcome)
+      (λ identity before after. Meets finishes (λ text. wanted identity before after text) outcome)
+      (λ identity before after. Meets finishes (λ text. other identity before after text) outcome)
       (λ identity before after met. meets_weaker finishes
-      (λ text. ExchangeAt signs now identity before came text after)
-      (λ text. Exchange signs told identity before came text after)
-      (λ text made. (now, is_told, made))
+      (λ text. wanted identity before after text)
+      (λ text. other identity before after text)
+      (from identity before after)
       outcome
       met)
       s
@@ -170,20 +173,22 @@ module _ {S : Type 0} (is_clean : S → Type 0) (stands : Signatory → S → Re
       moved
 
   -- what is left to be signed, with what is kept beside it
-  pub kept_moves : (gave : List ℕ → List ℕ → Type 0) (draft : Drafted) (unsigned : Unsigned) → unsigned.draft ≡ draft → unsigned.moment ≡ now
-      → Leads is_clean stands
-      (λ identity before after. (text : List ℕ) → FinishesAt gave draft now text → ExchangeAt signs now identity before came text after)
-      s t
-      → Leads is_clean stands
-      (λ identity before after. (text : List ℕ) → Finished gave unsigned text → ExchangeAt signs now identity before came text after)
-      s t
-  kept_moves gave draft unsigned same at moved =
+  pub kept_moves : (wanted : Signatory → Records → Records → List ℕ → Type 0) (now : ℕ) (gave : List ℕ → List ℕ → Type 0) (draft : Drafted)
+      (unsigned : Unsigned) → unsigned.draft ≡ draft → unsigned.moment ≡ now
+      → Leads is_clean stands (λ identity before after. (text : List ℕ) → FinishesAt gave draft now text → wanted identity before after text) s t
+      → Leads is_clean stands (λ identity before after. (text : List ℕ) → Finished gave unsigned text → wanted identity before after text) s t
+  kept_moves wanted now gave draft unsigned same at moved =
       follows is_clean stands
-      (λ identity before after. (text : List ℕ) → FinishesAt gave draft now text → ExchangeAt signs now identity before came text after)
-      (λ identity before after. (text : List ℕ) → Finished gave unsigned text → ExchangeAt signs now identity before came text after)
+      (λ identity before after. (text : List ℕ) → FinishesAt gave draft now text → wanted identity before after text)
+      (λ identity before after. (text : List ℕ) → Finished gave unsigned text → wanted identity before after text)
       (λ identity before after met text finished.
       let P : Drafted → ℕ → Type 0 = λ it moment. FinishesAt gave it moment text in
       met text (subst (λ it. P it now) same (subst (P unsigned.draft) at finished)))
       s
       t
       moved
+
+-- whether a signature is there, as bytes
+pub none_of : (signature : Option (Vec ℕ Global)) → is_none signature ≡ is_none (option_map (λ (it : Vec ℕ Global). it.items) signature)
+none_of (Some bytes) = refl
+none_of None = refl

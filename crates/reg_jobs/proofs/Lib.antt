@@ -1,7 +1,10 @@
 pub mod Fates
 pub mod Finishing
 pub mod LineByLine
+pub mod ListsTold
+pub mod Looks
 pub mod NextLines
+pub mod PageByPage
 pub mod Peers
 pub mod Pieces
 pub mod Talking

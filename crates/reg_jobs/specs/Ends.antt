@@ -18,6 +18,9 @@ use Rattle.reg_endings.specs.Endings.{store_failure}
 use Rattle.reg_endings.specs.declared.failure.Failure.{Failure}
 use Rattle.reg_endings.specs.declared.failure.Failure.TheVariants as failure
 use Rattle.reg_lines.specs.Import.{ImportEnds}
+use Rattle.reg_lists.specs.Pages.{Lists}
+use Rattle.reg_lists.specs.declared.cursor.Cursor.{Cursor}
+use Rattle.reg_lists.specs.declared.texts.Form.{Form}
 use Rattle.reg_lines.specs.Script.{ScriptEnds}
 use Rattle.reg_lines.specs.Strict.{StrictEnds}
 use Rattle.reg_lines.specs.declared.strict.Imported.{Imported}
@@ -83,6 +86,11 @@ TellsVerdict contents writer writer' (verdict.Broken broken) result = TellsBroke
 TellsVerdict contents writer writer' verdict.OtherSchema result = TellsBroken OTHER_SCHEMA.now contents writer writer' result
 TellsVerdict contents writer writer' verdict.Older result = (result ≡ Err failure.OldVersion) × (writer' ≡ writer)
 
+-- the moment that is told, or else one that a clock told
+abbrev pub IsMomentOf : (ℕ → Type 0) → Option ℕ → ℕ → Type 0
+IsMomentOf clock (Some told) now = now ≡ told
+IsMomentOf clock None now = clock now
+
 -- A job that reads nothing, over a register at a path: the writer before it and after it.
 module _ {W P K : Type 0} (contents : W → Option (List ℕ)) (writer writer' : W) (places : Place P K) (keeper : Keeper K) where
   -- a new register at a path, which begins with no records: the place before it is made and after that
@@ -101,6 +109,16 @@ module _ {W P K : Type 0} (contents : W → Option (List ℕ)) (writer writer' :
         ⊎ ((given : Result (List ℕ) Fault)
         × Visits places keeper place place' path None (λ identity before after. Crls before number given after)
         × SaysGiven contents writer writer' given result)
+
+    -- a list of the register at a path, of which no record changes, at a moment: all of its rows are said, each once and in order, or
+    -- none; a clock that can't be read is the end before the path is looked at
+    abbrev pub ListAt : (ℕ → Type 0) → List ℕ → Cursor → Option ℕ → Form → Result (Unit {0}) Failure → Type 0
+    ListAt clock path from told form result =
+        ((result ≡ Err (failure.Fault fault.Read)) × (writer' ≡ writer) × (place' ≡ place))
+        ⊎ ((now : ℕ) × IsMomentOf clock told now × ((NotOpened places keeper place place' path None result × (writer' ≡ writer))
+        ⊎ ((given : Result (List ℕ) Fault)
+        × Visits places keeper place place' path None (λ identity before after. Lists before now form from given after)
+        × SaysGiven contents writer writer' given result)))
 
     -- an audit of the register at a path: it could not be looked at, or what was found is told; the place is as it was
     abbrev pub AuditAt : List ℕ → Result (Unit {0}) Failure → Type 0
@@ -210,21 +228,24 @@ module _ {E W : Type 0} (remaining : E → Option (List ℕ)) (contents : W → 
     -- the end of a job: what it read, what it did at its place to the register at its path and nothing else, and what it wrote; nothing
     -- holds the key of the sample issuer in memory
     abbrev pub Ends : {F : Type 0} → Front F → Job → Result (Unit {0}) Failure → Type 0
-    Ends front (job.Init file name key key_id days crl_life ocsp_life cap) result = (reader' ≡ reader)
-        × InitAt contents writer writer' places keeper place place' file name key key_id (terms_of days crl_life ocsp_life cap) result
+    Ends front (job.Init new) result = (reader' ≡ reader)
+        × InitAt contents writer writer' places keeper place place' new.file new.name new.key new.key_id
+        (terms_of new.days new.crl_life new.ocsp_life new.cap) result
     Ends front (job.Script (Some file) signer) result = ScriptAt file signer result
     Ends front (job.Script None None) result = (place' ≡ place) × ScriptInMemory result
     Ends front (job.Script None (Some holder)) result = (place' ≡ place) × IsSilent × (result ≡ Err failure.BadSigner)
-    Ends front (job.Lines file signer way) result = LinesAt front file signer way result
-    Ends front (job.Import file now is_strict) result = ImportAt is_strict file now result
+    Ends front (job.Lines script) result = LinesAt front script.file script.signer script.way result
+    Ends front (job.Import rows) result = ImportAt rows.is_strict rows.file rows.moment result
     Ends front (job.Crl file number) result = (reader' ≡ reader) × CrlAt contents writer writer' places keeper place place' file number result
     Ends front (job.Schedule file steps) result =
         (reader' ≡ reader) × ScheduleAt contents writer writer' places keeper place place' file steps result
     Ends front (job.KeyId file key_id) result =
         (reader' ≡ reader) × KeyIdAt contents writer writer' places keeper place place' file key_id result
-    Ends front (job.Serve file port requests signer answerer) result =
-        (reader' ≡ reader) × ServeAt contents writer writer' places keeper place place' front file signer answerer port requests result
-    Ends front (job.Open file port counter signer answerer) result =
-        (reader' ≡ reader) × OpenAt contents writer writer' places keeper place place' front file signer answerer port counter result
+    Ends front (job.Serve it) result = (reader' ≡ reader)
+        × ServeAt contents writer writer' places keeper place place' front it.file it.signer it.answerer it.port it.requests result
+    Ends front (job.Open it) result = (reader' ≡ reader)
+        × OpenAt contents writer writer' places keeper place place' front it.file it.signer it.answerer it.port it.counter result
+    Ends front (job.Listing list) result = (reader' ≡ reader)
+        × ListAt contents writer writer' places keeper place place' front.told list.file list.from list.moment list.form result
     Ends front (job.Audit file) result = (reader' ≡ reader) × AuditAt contents writer writer' places keeper place place' file result
     Ends front (job.At counter) result = (place' ≡ place) × AtCounter (front.met counter) (remaining reader) (contents writer) (contents writer') result

@@ -1,4 +1,5 @@
 pub mod Asking
+pub mod Counted
 pub mod Digest
 pub mod Ends
 pub mod Exchanges
@@ -8,9 +9,11 @@ pub mod Lined
 pub mod Log
 pub mod Sample
 pub mod Identifiers
+pub mod Reasons
 pub mod Schedules
 pub mod Sealing
 pub mod Serving
 pub mod Signing
 pub mod Told
 pub mod Visits
+pub mod Watched

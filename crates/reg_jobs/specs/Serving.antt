@@ -9,8 +9,10 @@ use Rattle.reg_calls.specs.Steps.{Signs}
 use Rattle.reg_hub.specs.Exchange.{Input, Outcome, Handles, asked_in}
 use Rattle.reg_endings.specs.declared.failure.Failure.{Failure}
 use Rattle.reg_endings.specs.declared.failure.Failure.TheVariants as failure
-use Rattle.reg_jobs.specs.Exchanges.{Entry, Exchange, NoEntry}
+use Rattle.reg_jobs.specs.Exchanges.{Exchange, NoEntry}
 use Rattle.reg_jobs.specs.Leaving.{Finished, Meets}
+use Rattle.reg_jobs.specs.Reasons.{Word}
+use Rattle.reg_jobs.specs.Watched.{Visit}
 use Rattle.reg_jobs.specs.declared.leaving.Unsigned.{Unsigned}
 use Rattle.reg_wire.specs.Put.{AppendsFront}
 use Rattle.reg_wire.specs.Run.{Answered}
@@ -23,6 +25,12 @@ abbrev pub Exchanging
 Exchanging signs gave told identity before request outcome after =
     Meets (Finished gave) (λ text. Exchange signs told identity before request text after) outcome
 
+-- the same of an open register, where a request may ask for a list, or of the register itself: that is told at once, and the records stay
+abbrev pub Visiting
+    : Signs → (List ℕ → List ℕ → Type 0) → (ℕ → Type 0) → Signatory → Records → List ℕ → Outcome Unsigned → Records → Type 0
+Visiting signs gave told identity before request outcome after =
+    Meets (Finished gave) (λ text. Visit signs told identity before request text after) outcome
+
 -- what peers made of the records: exchanges, one after the other, and nothing else
 abbrev pub Serves
     : Signs → (List ℕ → List ℕ → Type 0) → (ℕ → Type 0) → List Input → List (Outcome Unsigned) → Signatory → Records → Records → Type 0
@@ -33,7 +41,7 @@ Serves signs gave told inputs outcomes identity before after =
 abbrev pub Opens
     : Signs → (List ℕ → List ℕ → Type 0) → (ℕ → Type 0) → List Input → List (Outcome Unsigned) → Signatory → Records → Records → Type 0
 Opens signs gave told inputs outcomes identity before after =
-    Answered (Handles (Exchanging signs gave told identity) (Entry signs told identity)) before inputs outcomes after
+    Answered (Handles (Visiting signs gave told identity) (Word signs told identity)) before inputs outcomes after
 
 -- this machine alone: the address of the loopback interface (RFC 1122 3.2.1.3)
 abbrev pub loopback : List ℕ

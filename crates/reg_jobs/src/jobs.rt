@@ -224,7 +224,10 @@ fn given_crl<K: Keeper>(
 }
 
 /// Says the bytes that are given.
-fn say_given<W: Write>(writer: &mut W, given: Result<Vec<u8>, Fault>) -> Result<(), Failure>
+pub(crate) fn say_given<W: Write>(
+    writer: &mut W,
+    given: Result<Vec<u8>, Fault>,
+) -> Result<(), Failure>
     ensures { SaysGiven W.contents writer.old writer.new (items_of given) result }
 {
     match given {

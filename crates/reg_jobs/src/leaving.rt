@@ -2,19 +2,22 @@
 
 ghost use Rattle.std.specs.Prelude.{◌≡◌, ◌≤◌, [], IfSome, length, option_copied, option_map};
 ghost use Rattle.reg_calls.specs.Items.{items_of};
+ghost use Rattle.reg_jobs.specs.Counted.{CountsFinished};
 ghost use Rattle.reg_jobs.specs.Exchanges.{Responded};
 ghost use Rattle.reg_jobs.specs.Leaving.{Finished, FinishedOf, IsSignatureOf, Wrote};
 ghost use Rattle.reg_signer.specs.Forms.{HasForm};
+ghost use Rattle.reg_watch.specs.Exchanges.{route_in};
 
 use crate::front::Front;
 use crate::handling::{TEXT_ROOM, response_of};
-use crate::logging::log_answer;
+use crate::logging::{log_answer, micros_since};
 use crate::place::Place;
 use mio::net::UnixStream;
 use reg_core::{Memory, Moment};
 use reg_http::finish_one;
 use reg_ocsp::Draft;
 use reg_signer::has_form;
+use reg_watch::{Route, Tally, route_of};
 use std::alloc::Global;
 use std::io;
 use std::io::ErrorKind;
@@ -30,38 +33,43 @@ pub struct Unsigned {
     pub(crate) draft: Draft,
     /// The moment of the answer.
     pub(crate) moment: Moment,
-    /// When it was begun, where there is a log.
-    pub(crate) began: Option<u64>,
+    /// The route that was asked, by which it is counted.
+    pub(crate) route: Route,
+    /// When it was begun, in microseconds.
+    pub(crate) began: u64,
     /// Who asked.
     pub(crate) peer: SocketAddr,
     /// The front of what was asked, where there is a log.
     pub(crate) asked: Vec<u8>,
 }
 
-/// What is to be signed for an answer of this moment, with what the log will tell of it.
-pub(crate) fn unsigned_of(
+/// What is to be signed for an answer of this moment, with that by which it is counted, and what the log will tell of it.
+pub(crate) fn unsigned_of<F: Front>(
     alloc: Global,
+    front: &F,
     draft: Draft,
     moment: Moment,
-    began: Option<u64>,
+    began: u64,
     peer: SocketAddr,
     request: &[u8],
 ) -> Unsigned
     ensures draft { result.draft ≡ draft }
     ensures moment { result.moment ≡ moment }
+    ensures route { result.route ≡ route_in request.now }
 {
     Unsigned {
         draft,
         moment,
+        route: route_of(request),
         began,
         peer,
-        asked: kept_of(alloc, began, request),
+        asked: kept_of(alloc, front, request),
     }
 }
 
 /// The front of what was asked, where there is a log. What there is no memory for is left out.
-fn kept_of(alloc: Global, began: Option<u64>, request: &[u8]) -> Vec<u8> {
-    if began.is_none() {
+fn kept_of<F: Front>(alloc: Global, front: &F, request: &[u8]) -> Vec<u8> {
+    if !front.has_log() {
         return Vec::new(alloc);
     }
     let front = &request[..request.len().min(MOST_KEPT)];
@@ -94,17 +102,50 @@ pub(crate) fn finish_logged<P: Place, F: Front>(
 {
     let signature = signature_of::<P>(alloc, &unsigned.draft, link);
     let text = finish(alloc, &unsigned.draft, unsigned.moment, &signature);
+    let micros = micros_since(front, unsigned.began);
+    log_finished(alloc, front, micros, &unsigned, &text, signature.is_none());
+    text
+}
+
+/// The same at an open desk, where the answer is counted too: as one of the route that was asked, whose signature came or did not.
+pub(crate) fn finish_counted<P: Place, F: Front>(
+    alloc: Global,
+    front: &F,
+    tally: &mut Tally,
+    unsigned: Unsigned,
+    link: Option<UnixStream>,
+) -> Vec<u8>
+    ensures finished { Finished P.gave unsigned result.items }
+    ensures counted { CountsFinished P.gave unsigned result.items tally.old tally.new }
+{
+    let signature = signature_of::<P>(alloc, &unsigned.draft, link);
+    let text = finish(alloc, &unsigned.draft, unsigned.moment, &signature);
+    let micros = micros_since(front, unsigned.began);
+    let is_unsigned = signature.is_none();
+    tally.count_answer(unsigned.moment, unsigned.route, &text, micros, is_unsigned);
+    log_finished(alloc, front, micros, &unsigned, &text, is_unsigned);
+    text
+}
+
+/// Logs what finished an answer that was left to be signed, in so many microseconds since it was begun.
+fn log_finished<F: Front>(
+    alloc: Global,
+    front: &F,
+    micros: u64,
+    unsigned: &Unsigned,
+    text: &[u8],
+    is_unsigned: bool,
+) {
     log_answer(
         alloc,
         front,
-        unsigned.began,
+        micros,
         unsigned.moment,
         unsigned.peer,
         &unsigned.asked,
-        &text,
-        signature.is_none(),
+        text,
+        is_unsigned,
     );
-    text
 }
 
 /// The signature that came on a connection, where one did and it has the form of one by who is to sign.

@@ -118,13 +118,14 @@ fn tell_all<H: Handler, R: Read, W: Write>(
         (W.contents writer.old) (W.contents writer.new) result }
 {
     match vec![in alloc; 0; room] {
-        Ok(mut buffer) => tell_lines(handler, is_strict, reader, writer, &mut buffer),
+        Ok(mut buffer) => tell_lines(alloc, handler, is_strict, reader, writer, &mut buffer),
         Err(_) => Err(Failure::Fault(Fault::Memory)),
     }
 }
 
 /// Tells each line of an input, and says its reply: as many lines as a script may have.
 fn tell_lines<H: Handler, R: Read, W: Write>(
+    alloc: Global,
     handler: &mut H,
     is_strict: bool,
     reader: &mut R,
@@ -138,7 +139,7 @@ fn tell_lines<H: Handler, R: Read, W: Write>(
 {
     let mut held = 0;
     for _ in 0..MOST_LINES {
-        match tell_next(handler, is_strict, reader, writer, buffer, held) {
+        match tell_next(alloc, handler, is_strict, reader, writer, buffer, held) {
             Ok(Some(left)) => held = left,
             Ok(None) => return Ok(()),
             Err(why) => return Err(why),
@@ -153,6 +154,7 @@ fn tell_lines<H: Handler, R: Read, W: Write>(
 /// Tells the next line. `Some` tells how many bytes are held after it, at the front of the buffer; `None` that the input is
 /// at its end.
 fn tell_next<H: Handler, R: Read, W: Write>(
+    alloc: Global,
     handler: &mut H,
     is_strict: bool,
     reader: &mut R,
@@ -166,7 +168,7 @@ fn tell_next<H: Handler, R: Read, W: Write>(
 {
     match fill_to_mark(reader, buffer, held, b"\n") {
         Ok(Reached::Mark { end, held }) => {
-            match tell_line(handler, is_strict, writer, &buffer[..end]) {
+            match tell_line(alloc, handler, is_strict, writer, &buffer[..end]) {
                 Ok(()) => {
                     buffer.rotate_left(end);
                     Ok(Some(held - end))
@@ -175,7 +177,13 @@ fn tell_next<H: Handler, R: Read, W: Write>(
             }
         }
         Ok(Reached::End { held: 0 }) => Ok(None),
-        Ok(Reached::End { held }) => match tell_last(handler, is_strict, writer, &buffer[..held]) {
+        Ok(Reached::End { held }) => match tell_last(
+            alloc,
+            handler,
+            is_strict,
+            writer,
+            &buffer[..held],
+        ) {
             Ok(()) => Ok(None),
             Err(why) => Err(why),
         },
@@ -189,6 +197,7 @@ fn tell_next<H: Handler, R: Read, W: Write>(
 /// # Errors
 /// `NoLineEnd` where it is strict, and the line did not run; else as of [`tell_line`].
 fn tell_last<H: Handler, W: Write>(
+    alloc: Global,
     handler: &mut H,
     is_strict: bool,
     writer: &mut W,
@@ -199,7 +208,7 @@ fn tell_last<H: Handler, W: Write>(
     if is_strict {
         return Err(Failure::NoLineEnd);
     }
-    tell_line(handler, is_strict, writer, line)
+    tell_line(alloc, handler, is_strict, writer, line)
 }
 
 /// Tells a line, and says its reply.
@@ -208,6 +217,7 @@ fn tell_last<H: Handler, W: Write>(
 /// `Refused` at a reply that is a refusal or a fault, where it is strict; `Read` where the clock can't be read, and the line did not
 /// run; `Memory` where there was none for the reply, and `Write`: the line ran.
 fn tell_line<H: Handler, W: Write>(
+    alloc: Global,
     handler: &mut H,
     is_strict: bool,
     writer: &mut W,
@@ -215,7 +225,9 @@ fn tell_line<H: Handler, W: Write>(
 ) -> Result<(), Failure>
     ensures { TellEnds H.tells is_strict handler.old handler.new (W.contents writer.old) (W.contents writer.new) line.now result }
 {
-    let Ok(reply) = handler.tell(line) else {
+    // A script notes nothing of a line for those behind it.
+    let mut noted = Vec::new(alloc);
+    let Ok(reply) = handler.tell(line, &mut noted) else {
         return Err(Failure::Fault(Fault::Read));
     };
     if reply.is_empty() {

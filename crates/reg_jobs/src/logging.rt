@@ -10,30 +10,25 @@ use std::net::{IpAddr, SocketAddr};
 /// Who speaks at a counter: it has no address.
 const COUNTER: &[u8] = b"counter";
 
-/// When an exchange begins, in microseconds; `None` where there is no log.
-pub(crate) fn began<F: Front>(front: &F) -> Option<u64> {
-    if front.has_log() {
-        Some(front.micros())
-    } else {
-        None
-    }
+/// How many microseconds passed since an exchange began.
+pub(crate) fn micros_since<F: Front>(front: &F, began: u64) -> u64 {
+    front.micros().saturating_sub(began)
 }
 
-/// Logs what a peer was answered at a moment, and whether a signature did not come for it.
+/// Logs what a peer was answered at a moment, in how many microseconds, and whether a signature did not come for it.
 pub(crate) fn log_answer<F: Front>(
     alloc: Global,
     front: &F,
-    began: Option<u64>,
+    micros: u64,
     now: Moment,
     peer: SocketAddr,
     request: &[u8],
     text: &[u8],
     is_unsigned: bool,
 ) {
-    let Some(began) = began else {
+    if !front.has_log() {
         return;
-    };
-    let micros = front.micros().saturating_sub(began);
+    }
     // What there is no memory for is left out.
     let Ok(who) = address(alloc, peer) else {
         return;
@@ -44,20 +39,19 @@ pub(crate) fn log_answer<F: Front>(
     );
 }
 
-/// Logs what a line of a counter was answered at a moment, and whether a signature did not come for it.
+/// Logs what a line of a counter was answered at a moment, in how many microseconds, and whether a signature did not come for it.
 pub(crate) fn log_line<F: Front>(
     alloc: Global,
     front: &F,
-    began: Option<u64>,
+    micros: u64,
     now: Moment,
     line: &[u8],
     reply: &[u8],
     is_unsigned: bool,
 ) {
-    let Some(began) = began else {
+    if !front.has_log() {
         return;
-    };
-    let micros = front.micros().saturating_sub(began);
+    }
     put(
         front,
         exchange_line(alloc, now, COUNTER, line, reply, micros, is_unsigned),

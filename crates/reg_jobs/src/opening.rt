@@ -14,7 +14,9 @@ use crate::serving::{LOOPBACK, answers_at, hub_over, serve_hub};
 use reg_core::Fault;
 use reg_endings::Failure;
 use reg_hub::Hub;
+use reg_watch::{Heard, Tally};
 use reg_words::{Answerer, KeyHolder};
+use std::cell::Cell;
 use std::io::Write;
 
 /// Keeps the register at a path open, until the program is ended. It is opened before the port is bound, and the port is bound
@@ -34,11 +36,15 @@ pub fn hold_open<'w, P: Place, F: Front, W: Write>(
 {
     let office = place.open_to_sign(path, signer, answerer)?;
     let alloc = rt.alloc();
+    let tally = Cell::new(Tally::new());
+    let heard = Cell::new(Heard::nothing());
     let mut opened: OpenDesk<'_, '_, P, F> = OpenDesk {
         office,
         alloc,
         front,
         signer: answers_at(signer, answerer),
+        tally: &tally,
+        heard: &heard,
     };
     let ending = keep_open(rt, &mut opened, port, counter, writer);
     place.close(path, opened.office);

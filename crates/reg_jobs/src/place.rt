@@ -2,11 +2,13 @@
 
 use mio::net::UnixStream;
 use reg_calls::Keeper;
-use reg_core::{Label, Memory, Policy, Schedule};
+use reg_core::{Fault, Label, Memory, Moment, Policy, Schedule};
 use reg_der::Issuer;
 use reg_endings::Failure;
 use reg_findings::Verdict;
+use reg_lists::{Cursor, Page};
 use reg_tables::StoreFault;
+use reg_watch::Standing;
 use reg_words::{Answerer, KeyHolder};
 use std::alloc::Global;
 
@@ -16,15 +18,18 @@ use std::alloc::Global;
 pub trait Place {
     ghost use Rattle.std.specs.Prelude.{◌≡◌, ◌≤◌, ℕ, List, Some, None, IsTrue, IsFalse, OnErr, IfOk, IfErr, IfSome, length};
     ghost use Rattle.reg_calls.specs.Leads.{Leads};
+    ghost use Rattle.reg_lists.specs.Pages.{Pages};
     ghost use Rattle.reg_core.specs.Records.{no_records};
     ghost use Rattle.reg_calls.specs.Signatories.{Signatory};
     ghost use Rattle.reg_endings.specs.declared.failure.Failure.{Failure as Failing};
-    ghost use Rattle.reg_jobs.specs.Failing.{IsMaking, IsOpening};
+    ghost use Rattle.reg_jobs.specs.Failing.{IsMaking, IsOfStore, IsOpening};
     ghost use Rattle.reg_jobs.specs.Identifiers.{Identifies};
+    ghost use Rattle.reg_jobs.specs.Reasons.{HasLongest};
     ghost use Rattle.reg_jobs.specs.Schedules.{Reschedules};
     ghost use Rattle.reg_jobs.specs.Signing.{Signing};
     ghost use Rattle.reg_crl.specs.Signing.{Identity};
     ghost use Rattle.reg_signer.specs.Forms.{HasForm};
+    ghost use Rattle.reg_jobs.specs.Watched.{HasOpen, HasStanding};
     ghost use Rattle.reg_findings.specs.declared.verdict.Verdict.{Verdict as Verdicts};
     ghost use Rattle.reg_tables.specs.Stays.{IsCallFault};
 
@@ -154,11 +159,56 @@ pub trait Place {
         ensures moves { Leads Self.Opened.is_clean Self.Opened.stands (λ identity. Identifies octets result) register.old register.new }
         ensures faults { IfErr result IsCallFault };
 
+    /// A page of a list of a register that was opened, from a key on, at a moment. It looks at so many rows at most.
+    ///
+    /// # Errors
+    ///
+    /// `ClockEnd`, `ClockBack`; `Memory`, `Store`.
+    fn page(
+        alloc: Global,
+        register: &mut Self::Opened,
+        now: Moment,
+        from: Cursor,
+        most: u64,
+    ) -> Result<Page, Fault>
+        ensures { Leads Self.Opened.is_clean Self.Opened.stands (λ identity before after. Pages before now most from result after) register.old register.new };
+
     /// How many signatures did not come since a register was opened: of those that who signs CRLs was asked for, and of those that
     /// who answers OCSP requests was. Where that is the same, both are one count.
     fn failures(register: &Self::Opened) -> (u64, u64)
         ensures crls { result.0 ≡ Self.Opened.failures register.now }
         ensures answers { result.1 ≡ Self.Opened.answer_failures register.now };
+
+    /// What stands in a register that was opened, beside its counts.
+    ///
+    /// # Errors
+    ///
+    /// `Memory`, `Store`.
+    fn standing(register: &mut Self::Opened) -> Result<Standing, Fault>
+        ensures moves { Leads Self.Opened.is_clean Self.Opened.stands (λ identity before after. HasStanding before result × (after ≡ before)) register.old register.new }
+        ensures faults { IfErr result IsOfStore };
+
+    /// How many requests for revocation are open in a register that was opened, at a moment. To count them takes a walk.
+    ///
+    /// # Errors
+    ///
+    /// `Memory`, `Store`.
+    fn open_count(register: &mut Self::Opened, now: Moment) -> Result<u64, Fault>
+        ensures moves { Leads Self.Opened.is_clean Self.Opened.stands (λ identity before after. HasOpen before now result × (after ≡ before)) register.old register.new }
+        ensures faults { IfErr result IsOfStore };
+
+    /// The longest validity in days that an order and the policy allow a certificate that is valid from a moment on; `None` where there is
+    /// no such order.
+    ///
+    /// # Errors
+    ///
+    /// `Memory`, `Store`.
+    fn longest(
+        register: &mut Self::Opened,
+        order: u64,
+        not_before: Moment,
+    ) -> Result<Option<u64>, Fault>
+        ensures { Leads Self.Opened.is_clean Self.Opened.stands (λ identity before after. HasLongest before order not_before result × (after ≡ before)) register.old register.new };
 
     /// Audits the register that lies at a path. It only reads, so the place is as it was: what lies at the path keeps each byte, nothing
     /// is laid beside it, and one of an older version is not made newer.

@@ -12,6 +12,7 @@ pub mod Identified
 pub mod Issuing
 pub mod Leading
 pub mod OpenedAgain
+pub mod Paging
 pub mod Responding
 pub mod Resting
 pub mod Standing

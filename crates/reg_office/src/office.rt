@@ -20,6 +20,7 @@ ghost use Rattle.reg_office.specs.Answering.{answers_by, failures_of};
 ghost use Rattle.reg_office.specs.AtRest.{Does, IsIdentified};
 ghost use Rattle.reg_office.specs.Beginning.{IsBegun};
 ghost use Rattle.reg_calls.specs.Answered.{IsAnswered, IsGiven};
+ghost use Rattle.reg_lists.specs.Pages.{IsPagedSoundly};
 ghost use Rattle.reg_office.specs.Faults.{IsOfficeFault, IsTableFault};
 ghost use Rattle.reg_office.specs.Stands.{Stands, CameTo};
 ghost use Rattle.reg_office.specs.declared.responder.Responder.TheVariants.{Issuer};
@@ -28,11 +29,13 @@ use crate::commands::run_command;
 use crate::crls::bytes_of;
 use crate::identifiers::set_key_identifier;
 use crate::ocsp_answer::{begin_ocsp, ocsp};
+use crate::pages::page;
 use crate::queries::answer;
 use crate::responder::Responder;
 use reg_calls::Begun;
 use reg_core::{Command, Fault, Label, Memory, Moment, Query, Refusal, Reply, Schedule};
 use reg_crl::Signer;
+use reg_lists::{Cursor, Page};
 use reg_store::{Store, StoreFault};
 use sqlite::Alter;
 use std::alloc::Global;
@@ -144,6 +147,28 @@ impl<C: Alter, S: Signer> Office<C, S> {
         ensures faults { IfErr result IsTableFault }
     {
         bytes_of(&mut self.store, number)
+    }
+
+    /// A page of a list from a key on, at its moment. It looks at so many rows at most.
+    ///
+    /// # Errors
+    /// `ClockEnd`, `ClockBack`; `Memory`, `Store`.
+    pub fn page(
+        &mut self,
+        alloc: Global,
+        now: Moment,
+        from: Cursor,
+        most: u64,
+    ) -> Result<Page, Fault>
+        ensures page { (records : Records) → Stands C.Store S.signs self.old.store (S.identity self.old.signer) records
+            → HasCleanDisk (state C.Store self.new.store)
+            → IsPagedSoundly records now most from result × Stands C.Store S.signs self.new.store (S.identity self.new.signer) records }
+        ensures looked { Looked C.Store self.old.store self.new.store }
+        ensures same_signer { self.new.signer ≡ self.old.signer }
+        ensures same_responder { self.new.responder ≡ self.old.responder }
+        ensures faults { IfErr result IsTableFault }
+    {
+        page(&mut self.store, alloc, now, from, most)
     }
 
     /// The whole OCSPResponse in DER (RFC 6960 4.2.1) to the bytes of a request, at a moment.

@@ -1,5 +1,6 @@
 pub mod Clean
 pub mod Holding
+pub mod Looking
 pub mod Misfitting
 pub mod Opened
 pub mod Setting

@@ -16,6 +16,11 @@ abbrev pub Differs : List ℕ → List ℕ → Cause → Type 0
 Differs found algorithm cause.OtherAlgorithm = (¬ MayFollow algorithm found) × IsKnown found
 Differs found algorithm cause.UnknownAlgorithm = (¬ MayFollow algorithm found) × (¬ IsKnown found)
 Differs found algorithm cause.OtherKey = ⊥
+Differs found algorithm cause.Days = ⊥
+Differs found algorithm cause.CrlLife = ⊥
+Differs found algorithm cause.OcspLife = ⊥
+Differs found algorithm cause.Cap = ⊥
+Differs found algorithm cause.Steps = ⊥
 Differs found algorithm cause.NoFile = ⊥
 Differs found algorithm cause.NoRight = ⊥
 Differs found algorithm cause.InUse = ⊥

@@ -1,14 +1,21 @@
 //! The program as the machine runs it: its words, standard input and output, and the exit status.
 
+use crate::front::open_log;
 use crate::machine::Machine;
 use crate::performing::perform_untold;
 use crate::progress::{Counted, tell_opening};
-use reg_jobs::Causes;
+use reg_causes::{Cause, of_io};
+use reg_core::Fault;
+use reg_endings::Failure;
+use reg_jobs::{Causes, explain, tell};
 use reg_words::{Order, Usage, no_text, read_words};
 use std::cell::Cell;
 use std::io::{ErrorKind, IsTerminal};
 use std::process::ExitCode;
 use std::{env, io};
+
+/// The exit status of a fault.
+const FAULT: u8 = 1;
 
 /// Reads the words, does the job that they say, and tells by the exit status how it ended: 0 done, or help or the version
 /// was asked for; 1 a fault, with its line on standard error, and the line of its cause where that is asked for and known; 2 words
@@ -37,6 +44,9 @@ fn words_of(rt: &HostRuntime) -> Result<Vec<String>, Usage> {
 fn run(rt: &HostRuntime, words: &[String]) -> io::Result<u8> {
     match read_words(rt.alloc(), words) {
         Ok(order) => {
+            if let Some(cause) = unlogged(rt, &order) {
+                return Ok(tell_unlogged(rt, &order, cause));
+            }
             tell_opening(rt, &order.job);
             Ok(do_order(rt, &order))
         }
@@ -44,11 +54,37 @@ fn run(rt: &HostRuntime, words: &[String]) -> io::Result<u8> {
     }
 }
 
+/// Why the file of the log that an order names can't be written, if it can't.
+fn unlogged(rt: &HostRuntime, order: &Order<'_>) -> Option<Option<Cause>> {
+    let path = log_path(order)?;
+    match open_log(rt, path) {
+        Ok(_) => None,
+        Err(error) => Some(of_io(error.kind())),
+    }
+}
+
+/// The path of the file of the log that an order names.
+fn log_path<'o>(order: &'o Order<'_>) -> Option<&'o str> {
+    match &order.log_file {
+        Some(path) => Some(path.as_str()),
+        None => None,
+    }
+}
+
+/// Tells that the log can't be written, and gives the exit status: nothing is done without the log that was asked for.
+fn tell_unlogged(rt: &HostRuntime, order: &Order<'_>, cause: Option<Cause>) -> u8 {
+    let mut errors = rt.stderr();
+    tell(&mut errors, &Failure::Fault(Fault::Write));
+    explain(&mut errors, order.is_explained, FAULT, cause);
+    FAULT
+}
+
 /// Does the job of an order over standard input and output.
 fn do_order(rt: &HostRuntime, order: &Order<'_>) -> u8 {
     let noted = Cell::new(None);
     let front = Machine::of(*rt, &noted)
         .with_log(order.has_log)
+        .with_log_file(log_path(order))
         .with_watch(rt.stderr().is_terminal());
     let mut place = front;
     let causes = Causes {

@@ -10,27 +10,31 @@ ghost use Rattle.reg_core.specs.Records.{Records, no_records};
 ghost use Rattle.reg_core.specs.Sound.{SoundRows};
 ghost use Rattle.reg_migration.specs.Older.{ShowsOlder};
 ghost use Rattle.reg_migration.specs.declared.version.Earlier.{Earlier};
-ghost use Rattle.reg_jobs.specs.Failing.{IsMaking, IsOpening};
+ghost use Rattle.reg_jobs.specs.Failing.{IsMaking, IsOfStore, IsOpening};
 ghost use Rattle.reg_files.specs.Overlaid.{image};
 ghost use Rattle.reg_files.specs.Reading.{IsUnread};
 ghost use Rattle.reg_program.specs.Files.{IsAudited, IsAuditOf, IsOpenedFor, IsOpenedFrom, IsMadeFrom, Showed};
 ghost use Rattle.reg_jobs.specs.Signing.{EmbedsOwn, Follows, IsSigning, crls_told};
 ghost use Rattle.reg_calls.specs.Leads.{Leads};
+ghost use Rattle.reg_lists.specs.Pages.{Pages};
 ghost use Rattle.reg_jobs.specs.Identifiers.{Identifies};
 ghost use Rattle.reg_jobs.specs.Schedules.{Reschedules};
+ghost use Rattle.reg_jobs.specs.Reasons.{HasLongest};
+ghost use Rattle.reg_jobs.specs.Watched.{HasOpen, HasStanding};
 ghost use Rattle.reg_office.specs.Answering.{answers_by, failures_of, signatory_of};
 ghost use Rattle.reg_office.specs.Calls.{StandsFor};
 ghost use Rattle.reg_office.specs.Stands.{Stands};
 ghost use Rattle.reg_tables.specs.Kept.{ShowsKept};
 ghost use Rattle.reg_tables.specs.Schema.{no_schema};
-ghost use Rattle.reg_tables.specs.Stays.{IsCallFault};
+ghost use Rattle.reg_tables.specs.Shows.{Shows};
+ghost use Rattle.reg_tables.specs.Stays.{IsCallFault, Looked};
 
 use crate::answering::{failures_in, responder_told};
 use crate::machine::Machine;
 use crate::signing::{FileSigner, signer_for};
 use crate::watching::Teller;
 use mio::net::UnixStream;
-use reg_core::{Fault, Label, Memory, Policy, Schedule};
+use reg_core::{Fault, Label, Memory, Moment, Policy, Schedule};
 use reg_crl::Signer;
 use reg_der::Issuer;
 use reg_endings::Failure;
@@ -40,10 +44,12 @@ use reg_files::{
 };
 use reg_findings::Verdict;
 use reg_jobs::Place;
+use reg_lists::{Cursor, Page};
 use reg_office::{Office, Responder};
 use reg_signer::{KeyOrDigest, hear};
 use reg_store::{Store, StoreFault};
 use reg_verdict::judge;
+use reg_watch::Standing;
 use reg_words::{Answerer, KeyHolder};
 use sqlite::{Alter, Connection, FileFrom, FileStore};
 use sqlite_disk::{Disk, Unknown};
@@ -151,12 +157,38 @@ impl<'a> Place for Machine<'a> {
         identify(alloc, register, octets)
     }
 
+    fn page(
+        alloc: Global,
+        register: &mut FileOffice,
+        now: Moment,
+        from: Cursor,
+        most: u64,
+    ) -> Result<Page, Fault> {
+        page_over(alloc, register, now, from, most)
+    }
+
     fn failures(register: &FileOffice) -> (u64, u64)
         ensures crls { result.0 ≡ ⟦<FileSigner as Signer>⟧.failure_count register.now.signer }
         ensures answers { result.1 ≡ failures_of ⟦<FileSigner as Signer>⟧.failure_count (⟦<FileSigner as Signer>⟧.failure_count register.now.signer) register.now.responder }
     {
         let crls = register.signer.failures();
         (crls, failures_in(&register.responder, crls))
+    }
+
+    fn standing(register: &mut FileOffice) -> Result<Standing, Fault> {
+        standing_of(register)
+    }
+
+    fn open_count(register: &mut FileOffice, now: Moment) -> Result<u64, Fault> {
+        open_count_of(register, now)
+    }
+
+    fn longest(
+        register: &mut FileOffice,
+        order: u64,
+        not_before: Moment,
+    ) -> Result<Option<u64>, Fault> {
+        longest_of(register, order, not_before)
     }
 
     fn audit(&self, path: &str) -> Result<Verdict, Failure> {
@@ -310,6 +342,89 @@ fn identify<C: Alter, S: Signer>(
     ensures faults { IfErr result IsCallFault }
 {
     office.set_key_identifier(alloc, octets)
+}
+
+/// A page of a list of an office, from a key on.
+fn page_over<C: Alter, S: Signer>(
+    alloc: Global,
+    office: &mut Office<C, S>,
+    now: Moment,
+    from: Cursor,
+    most: u64,
+) -> Result<Page, Fault>
+    ensures { Leads (λ office. HasCleanDisk (state C.Store office.store))
+        (λ who office records. StandsFor C.Store S.signs (office.store, signatory_of S.identity (S.identity office.signer) office.responder) who records)
+        (λ identity before after. Pages before now most from result after) office.old office.new }
+{
+    office.page(alloc, now, from, most)
+}
+
+/// What stands in an office beside its counts.
+fn standing_of<C: Alter, S: Signer>(office: &mut Office<C, S>) -> Result<Standing, Fault>
+    ensures moves { Leads (λ office. HasCleanDisk (state C.Store office.store))
+        (λ who office records. StandsFor C.Store S.signs (office.store, signatory_of S.identity (S.identity office.signer) office.responder) who records)
+        (λ identity before after. HasStanding before result × (after ≡ before)) office.old office.new }
+    ensures faults { IfErr result IsOfStore }
+{
+    standing_in(&mut office.store)
+}
+
+/// The last accepted moment of a store, its latest CRL and the life of its CRLs.
+#[tactic(auto, using(crate::proofs::Looking::told_fault))]
+fn standing_in<C: Alter>(store: &mut Store<C>) -> Result<Standing, Fault>
+    ensures found { (records : Records) → Shows C.Store store.old records → HasCleanDisk (state C.Store store.new) → HasStanding records result }
+    ensures looked { Looked C.Store store.old store.new }
+    ensures faults { IfErr result IsOfStore }
+{
+    let last = store.last()?;
+    let latest = store.latest_crl()?;
+    let policy = store.policy()?;
+    Ok(Standing {
+        last,
+        latest,
+        crl_life: policy.crl_life(),
+    })
+}
+
+/// How many requests for revocation are open in an office.
+#[tactic(auto, using(crate::proofs::Looking::told_fault))]
+fn open_count_of<C: Alter, S: Signer>(office: &mut Office<C, S>, now: Moment) -> Result<u64, Fault>
+    ensures moves { Leads (λ office. HasCleanDisk (state C.Store office.store))
+        (λ who office records. StandsFor C.Store S.signs (office.store, signatory_of S.identity (S.identity office.signer) office.responder) who records)
+        (λ identity before after. HasOpen before now result × (after ≡ before)) office.old office.new }
+    ensures faults { IfErr result IsOfStore }
+{
+    Ok(office.store.open_count(now)?)
+}
+
+/// The longest validity in days that an order of an office and its policy allow from a moment on.
+fn longest_of<C: Alter, S: Signer>(
+    office: &mut Office<C, S>,
+    order: u64,
+    not_before: Moment,
+) -> Result<Option<u64>, Fault>
+    ensures { Leads (λ office. HasCleanDisk (state C.Store office.store))
+        (λ who office records. StandsFor C.Store S.signs (office.store, signatory_of S.identity (S.identity office.signer) office.responder) who records)
+        (λ identity before after. HasLongest before order not_before result × (after ≡ before)) office.old office.new }
+{
+    longest_in(&mut office.store, order, not_before)
+}
+
+/// The same of a store.
+fn longest_in<C: Alter>(
+    store: &mut Store<C>,
+    order: u64,
+    not_before: Moment,
+) -> Result<Option<u64>, Fault>
+    ensures found { (records : Records) → Shows C.Store store.old records → HasCleanDisk (state C.Store store.new) → HasLongest records order not_before result }
+    ensures looked { Looked C.Store store.old store.new }
+{
+    let row = store.order(order)?;
+    let policy = store.policy()?;
+    match row {
+        Some(row) => Ok(Some(row.days.min(policy.schedule().longest(not_before)))),
+        None => Ok(None),
+    }
 }
 
 /// What an audit says of the register in a file, which is opened for reading alone.

@@ -10,11 +10,16 @@ use reg_core::{Fault, Moment};
 use reg_jobs::Front;
 use reg_signer::ask_unwaiting;
 use reg_wire::write_whole;
+use std::fs::{File, OpenOptions};
 use std::io;
 use std::io::ErrorKind;
 use std::net::SocketAddr;
+use std::os::unix::fs::OpenOptionsExt;
 use std::os::unix::net::UnixStream;
 use std::time::{Clock, Duration};
+
+/// The mode of a log that its owner alone may read and write.
+const OWNER_ALONE: u32 = 0o600;
 
 /// The last moment, 9999-12-31T23:59:59Z.
 const LAST_SECOND: u64 = 253_402_300_799;
@@ -76,7 +81,7 @@ impl<'a> Front for Machine<'a> {
     }
 
     fn has_log(&self) -> bool {
-        self.has_log
+        self.has_log || self.log_file.is_some()
     }
 
     fn micros(&self) -> u64 {
@@ -87,7 +92,12 @@ impl<'a> Front for Machine<'a> {
     }
 
     fn log(&self, line: &[u8]) {
-        say(&self.rt, line);
+        if self.has_log {
+            say(&self.rt, line);
+        }
+        if let Some(path) = self.log_file {
+            append(&self.rt, path, line);
+        }
     }
 
     fn warn(&self, line: &[u8])
@@ -101,6 +111,25 @@ impl<'a> Front for Machine<'a> {
 fn say(rt: &HostRuntime, text: &[u8]) {
     let mut errors = rt.stderr();
     let _ = write_whole(&mut errors, text);
+}
+
+/// The file of a log, opened so that what is written goes behind what is there. Where none is, it is made, and its owner alone may read
+/// and write it.
+///
+/// # Errors
+/// What the system says where it can't be opened.
+pub(crate) fn open_log(rt: &HostRuntime, path: &str) -> io::Result<File> {
+    let mut options = OpenOptions::new();
+    options.append(true).create(true).mode(OWNER_ALONE);
+    options.open(rt, path)
+}
+
+/// Writes a line behind a file, which is opened for it alone: so a file that was renamed is followed by a new one at its path. What
+/// can't be written disturbs nobody.
+fn append(rt: &HostRuntime, path: &str, line: &[u8]) {
+    if let Ok(mut file) = open_log(rt, path) {
+        let _ = write_whole(&mut file, line);
+    }
 }
 
 /// A time in microseconds.

@@ -13,6 +13,7 @@ pub struct Machine<'a> {
     pub(crate) rt: HostRuntime,
     noted: &'a Cell<Option<Cause>>,
     pub(crate) has_log: bool,
+    pub(crate) log_file: Option<&'a str>,
     pub(crate) is_watched: bool,
 }
 
@@ -23,6 +24,7 @@ impl<'a> Machine<'a> {
             rt,
             noted,
             has_log: false,
+            log_file: None,
             is_watched: false,
         }
     }
@@ -33,6 +35,18 @@ impl<'a> Machine<'a> {
             rt: self.rt,
             noted: self.noted,
             has_log,
+            log_file: self.log_file,
+            is_watched: self.is_watched,
+        }
+    }
+
+    /// The same machine, whose log is also the file at a path, where one is told.
+    pub fn with_log_file(self, log_file: Option<&'a str>) -> Machine<'a> {
+        Machine {
+            rt: self.rt,
+            noted: self.noted,
+            has_log: self.has_log,
+            log_file,
             is_watched: self.is_watched,
         }
     }
@@ -43,6 +57,7 @@ impl<'a> Machine<'a> {
             rt: self.rt,
             noted: self.noted,
             has_log: self.has_log,
+            log_file: self.log_file,
             is_watched,
         }
     }

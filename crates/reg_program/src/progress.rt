@@ -107,25 +107,23 @@ fn seconds(rt: &HostRuntime) -> u64 {
 
 /// Whether a job writes a line for each that it reads.
 fn is_long(job: &Job<'_>) -> bool {
-    matches!(
-        job,
-        Job::Script { .. } | Job::Lines { .. } | Job::Import { .. }
-    )
+    matches!(job, Job::Script { .. } | Job::Lines(_) | Job::Import(_))
 }
 
 /// The path of the register that a job opens, if it opens one.
 fn file_of<'a>(job: &Job<'a>) -> Option<&'a str> {
     match job {
         Job::Script { file, .. } => Some(file.as_ref()?.as_str()),
-        Job::Lines { file, .. } => Some(file.as_str()),
-        Job::Import { file, .. } => Some(file.as_str()),
+        Job::Lines(lined) => Some(lined.file.as_str()),
+        Job::Import(rows) => Some(rows.file.as_str()),
         Job::Crl { file, .. } => Some(file.as_str()),
-        Job::Serve { file, .. } => Some(file.as_str()),
-        Job::Open { file, .. } => Some(file.as_str()),
+        Job::Serve(serving) => Some(serving.file.as_str()),
+        Job::Open(kept) => Some(kept.file.as_str()),
         Job::Schedule { file, .. } => Some(file.as_str()),
         Job::KeyId { file, .. } => Some(file.as_str()),
+        Job::Listing(wanted) => Some(wanted.file.as_str()),
         Job::Audit { file } => Some(file.as_str()),
-        Job::Init { .. } => None,
+        Job::Init(_) => None,
         Job::At { .. } => None,
     }
 }

@@ -1,14 +1,15 @@
 //! Look-ups.
 
-ghost use Rattle.std.specs.Prelude.{◌≡◌, ◌≤◌, option_map, length, IfOk, IfErr};
+ghost use Rattle.std.specs.Prelude.{◌≡◌, ◌≤◌, map, option_map, filter, length, take, IfOk, IfErr};
 ghost use Rattle.sqlite.specs.Held.{state};
 ghost use Rattle.sqlite.specs.State.{HasCleanDisk};
 ghost use Rattle.reg_core.specs.Crls.{EntriesAscend, entries, latest, row_of};
-ghost use Rattle.reg_core.specs.Due.{overdue, overdue_report, earliest, unlisted};
+ghost use Rattle.reg_core.specs.Due.{is_open, overdue, overdue_report, earliest, unlisted};
 ghost use Rattle.reg_core.specs.Queries.{listing};
 ghost use Rattle.reg_core.specs.Records.{Records, certificate_in, certificate_of_order, order_in, request_in, revocation_in, subscriber_in, subscriber_named, crl_in};
 ghost use Rattle.reg_core.specs.Sound.{SoundRows};
 ghost use Rattle.reg_core.specs.Status as status;
+ghost use Rattle.reg_lists.specs.Lists.{key_of, past};
 ghost use Rattle.reg_tables.specs.Kept.{ShowsKept};
 ghost use Rattle.reg_tables.specs.Shows.{Shows};
 ghost use Rattle.reg_tables.specs.Stays.{IsCallFault, Looked};
@@ -221,6 +222,19 @@ impl<S: Alter> Store<S> {
         Ok(reg_tables::open_past_due(&mut self.connection, now)?)
     }
 
+    /// How many requests are open at a moment: not declined, and their certificate is still good. It walks the requests that are
+    /// not declined.
+    ///
+    /// # Errors
+    /// As [`Store::open_past_due`].
+    pub fn open_count(&mut self, now: Moment) -> Result<u64, StoreFault>
+        ensures found { (records : Records) → Shows S.Store self.old records → HasCleanDisk (state S.Store self.new) → IfOk result (λ count. count ≡ length (filter (is_open records now) records.requests)) }
+        ensures looked { Looked S.Store self.old self.new }
+        ensures faults { IfErr result IsCallFault }
+    {
+        Ok(reg_tables::open_count(&mut self.connection, now)?)
+    }
+
     /// The entries of the CRL with a number, issued or the next, in ascending order of serial number: at most 1,000,000.
     /// It walks what is listed.
     ///
@@ -260,5 +274,55 @@ impl<S: Alter> Store<S> {
         ensures faults { IfErr result IsCallFault }
     {
         Ok(reg_tables::counts(&mut self.connection, now)?)
+    }
+    /// The certificates past a serial number, or from the first one on, in ascending order of their serial numbers: as many as
+    /// are wanted, if there are.
+    ///
+    /// # Errors
+    /// `Memory`; `Store` where the database fails, where its rows are ones that no register writes, or where more than 2^63 - 1
+    /// are wanted.
+    pub fn certs_after(
+        &mut self,
+        after: Option<Serial>,
+        most: u64,
+    ) -> Result<Vec<CertRow>, StoreFault>
+        ensures found { (records : Records) → Shows S.Store self.old records → SoundRows records → HasCleanDisk (state S.Store self.new)
+            → IfOk result (λ found. found.items ≡ take most (past (λ row. row.serial) (key_of after) records.certificates)) }
+        ensures looked { Looked S.Store self.old self.new }
+        ensures faults { IfErr result IsCallFault }
+    {
+        Ok(reg_tables::certs_after(&mut self.connection, after, most)?)
+    }
+
+    /// The revocations past a serial number, or from the first one on, in ascending order of their serial numbers: as many as
+    /// are wanted, if there are.
+    ///
+    /// # Errors
+    /// As of [`Store::certs_after`].
+    pub fn revocations_after(
+        &mut self,
+        after: Option<Serial>,
+        most: u64,
+    ) -> Result<Vec<RevocationRow>, StoreFault>
+        ensures found { (records : Records) → Shows S.Store self.old records → SoundRows records → HasCleanDisk (state S.Store self.new)
+            → IfOk result (λ found. found.items ≡ take most (past (λ row. row.serial) (key_of after) records.revocations)) }
+        ensures looked { Looked S.Store self.old self.new }
+        ensures faults { IfErr result IsCallFault }
+    {
+        Ok(reg_tables::revocations_after(&mut self.connection, after, most)?)
+    }
+
+    /// The CRLs past a number, without their bytes, in ascending order of their numbers: as many as are wanted, if there are.
+    ///
+    /// # Errors
+    /// `Memory`; `Store` where the database fails, where its rows are ones that no register writes, or for a number above
+    /// 2^63 - 1.
+    pub fn crls_after(&mut self, after: u64, most: u64) -> Result<Vec<CrlRow>, StoreFault>
+        ensures found { (records : Records) → Shows S.Store self.old records → HasCleanDisk (state S.Store self.new)
+            → IfOk result (λ found. found.items ≡ map row_of (take most (past (λ crl. crl.number) after records.crls))) }
+        ensures looked { Looked S.Store self.old self.new }
+        ensures faults { IfErr result IsCallFault }
+    {
+        Ok(reg_tables::crls_after(&mut self.connection, after, most)?)
     }
 }

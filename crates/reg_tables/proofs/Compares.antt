@@ -1,5 +1,5 @@
 -- What SQL's comparisons say of the values of a register.
-use Rattle.std.proofs.Common.{◌≡◌, ℕ, pos, Bool, true, false, ◌&&◌, List, Some, refl, sym, ap, ◌∙◌, arith}
+use Rattle.std.proofs.Common.{◌≡◌, ◌<◌, ◌^◌, ℕ, pos, Bool, true, false, ◌&&◌, List, Some, refl, sym, ap, ◌∙◌, arith}
 use Rattle.std.specs.Prelude.{nat_le, nat_lt, bytes_eq, ◌==◌}
 use Rattle.std.specs.Ordering.{nat_cmp, int_cmp, is_eq, is_lt, is_le, is_gt, is_ge}
 use Rattle.std.specs.Cmp.Lexicographic.{slice_cmp}
@@ -88,6 +88,19 @@ serial_order a b in_a in_b =
 pub eq_serial : (a b : ℕ) → IsSerial a → IsSerial b → compares Eq (serial_value a) (serial_value b) ≡ (a == b)
 unfolding binary
 eq_serial a b in_a in_b = of_truth _ ∙ ap is_eq (value_cmp-Blob (serial_bytes a) (serial_bytes b) ∙ serial_order a b in_a in_b) ∙ is_eq-nat_cmp a b
+
+-- also where one of them is 0, which is below all
+below_order : (a b : ℕ) → a < 2 ^ 159 → b < 2 ^ 159 → slice_cmp nat_cmp (serial_bytes a) (serial_bytes b) ≡ nat_cmp a b
+unfolding serial_bytes
+below_order a b in_a in_b =
+    let first : value (bytes_high_first 20 a) ≡ a = value-bytes20 a (omega arith) in
+    let second : value (bytes_high_first 20 b) ≡ b = value-bytes20 b (omega arith) in
+    let order = bytes_order (bytes_high_first 20 a) (bytes_high_first 20 b) (is_bytes-bytes_high_first 20 a) (is_bytes-bytes_high_first 20 b) refl in
+    order ∙ ap (λ m. nat_cmp m (value (bytes_high_first 20 b))) first ∙ ap (nat_cmp a) second
+
+pub gt_serial : (a b : ℕ) → IsSerial a → b < 2 ^ 159 → compares Gt (serial_value a) (serial_value b) ≡ nat_lt b a
+unfolding binary
+gt_serial a b in_a in_b = of_truth _ ∙ ap is_gt (value_cmp-Blob (serial_bytes a) (serial_bytes b) ∙ below_order a b in_a.1 in_b) ∙ is_gt-nat_cmp a b
 
 -- a serial number is known by its bytes
 pub serial_injective : (a b : ℕ) → IsSerial a → IsSerial b → serial_bytes a ≡ serial_bytes b → a ≡ b

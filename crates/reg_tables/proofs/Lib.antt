@@ -26,3 +26,4 @@ pub mod RevocationLemmas
 pub mod Few
 pub mod FailingLemmas
 pub mod Written
+pub mod PageLemmas

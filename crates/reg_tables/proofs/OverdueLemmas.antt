@@ -1,5 +1,5 @@
 -- What the statement on the requests that are not declined shows, and which of them are overdue.
-use Rattle.std.proofs.Common.{◌≡◌, ◌≤◌, ◌<◌, ◌+◌, ◌++◌, ◌&&◌, ℕ, pos, true, false, Bool, not, cond, Some, List, [], ◌∷◌, map, length, take, get_or, codes, refl, sym, ap, ◌∙◌, arith, inl, inr}
+use Rattle.std.proofs.Common.{◌≡◌, ◌≤◌, ◌<◌, ◌+◌, ◌++◌, ◌&&◌, ℕ, pos, true, false, Bool, not, cond, Some, List, [], ◌∷◌, map, length, take, get_or, codes, refl, sym, ap, ◌∙◌, arith, inl, inr, length-append}
 use Rattle.std.specs.Prelude.{◌==◌, nat_lt}
 use Rattle.std.specs.List.{filter, AllByRecursion}
 use Rattle.std.proofs.lemmas.Bool.{cases_Bool}
@@ -173,3 +173,21 @@ same_report one other same = cc
 pub report_counts : (requests : List RequestRow) (report : Overdue) → Some report ≡ overdue_report requests → report.count ≡ length requests
 report_counts [] report is = absurd (cc)
 report_counts (request ∷ rest) report is = ap (λ (r : Overdue). r.count) (same_report report (record { count = length (request ∷ rest); first = request.id }) is)
+
+-- ---- how many are open
+
+-- a request whose certificate is good
+abbrev pub good_at : Records → ℕ → RequestRow → Bool
+good_at records now row = is_good (status records row.serial now)
+
+pub open_are : (records : Records) (now : ℕ) → filter (good_at records now) (filter undeclined records.requests) ≡ filter (is_open records now) records.requests
+open_are records now = filter_twice undeclined (good_at records now) (is_open records now) (λ row. refl) records.requests
+
+-- one more of them, and one that is none
+pub one_open : (p : RequestRow → Bool) (xs : List RequestRow) (i : ℕ) (x : RequestRow) → i < length xs → x ≡ get_or xs i x → p x ≡ true
+    → length (filter p (take (i + 1) xs)) ≡ length (filter p (take i xs)) + 1
+one_open p xs i x within is passed = ap length (with_late p xs i x within is passed) ∙ length-append (filter p (take i xs)) (x ∷ [])
+
+pub none_open : (p : RequestRow → Bool) (xs : List RequestRow) (i : ℕ) (x : RequestRow) → i < length xs → x ≡ get_or xs i x → p x ≡ false
+    → length (filter p (take (i + 1) xs)) ≡ length (filter p (take i xs))
+none_open p xs i x within is failed = ap length (without_late p xs i x within is failed)

@@ -3,7 +3,7 @@
 ghost use Rattle.std.specs.Prelude.{◌≡◌, ◌≤◌, ◌+◌, ◌^◌, ◌&&◌, ◌++◌, List, [], ◌∷◌, length, not, filter, nat_lt, IfOk, IsSome, OnErr};
 ghost use Rattle.sqlite.specs.Held.{state};
 ghost use Rattle.sqlite.specs.State.{HasCleanDisk};
-ghost use Rattle.reg_core.specs.Due.{deadline, overdue, overdue_report};
+ghost use Rattle.reg_core.specs.Due.{deadline, is_open, overdue, overdue_report};
 ghost use Rattle.reg_core.specs.Records.{Records, certificate_in};
 ghost use Rattle.reg_core.specs.Status.{status, is_good};
 ghost use Rattle.reg_tables.specs.Failing.{Blamed, FailsWith, ShowsWritten};
@@ -107,4 +107,25 @@ pub fn open_past_due<S: Alter>(
         }
     }
     Ok(report)
+}
+
+/// How many requests are open at a moment: not declined, and their certificate is still good. It walks the requests that are not
+/// declined.
+///
+/// # Errors
+/// As [`open_past_due`].
+#[tactic(auto, using(crate::proofs::Staying::looked_then))]
+pub fn open_count<S: Alter>(conn: &mut Connection<S>, now: Moment) -> Result<u64, CallFault>
+    ensures found { (records : Records) → Shows S.Store conn.old records → HasCleanDisk (state S.Store conn.new) → IfOk result (λ count. count ≡ length (filter (is_open records now) records.requests)) }
+    ensures fails { Blamed S.Store CallFault.Store conn.old conn.new result }
+    ensures looked { Looked S.Store conn.old conn.new }
+{
+    let requests = undeclined(conn)?;
+    let mut count: u64 = 0;
+    for request in &requests {
+        if is_good_at(conn, request.serial, now)? {
+            count += 1;
+        }
+    }
+    Ok(count)
 }

@@ -130,3 +130,36 @@ pub(crate) fn requests_in(rows: &Vec<Row>) -> Result<Vec<RequestRow>, CallFault>
     }
     Ok(requests)
 }
+
+/// serial, order_id, not_before, not_after, a row for each certificate.
+pub(crate) fn certificates_in(rows: &Vec<Row>) -> Result<Vec<CertRow>, CallFault>
+    ensures read { (certificates : List CertRow) → AllByRecursion (λ row. IsSerial row.serial) certificates → rows.now.items ≡ map shown_certificate certificates → MatchResult result (λ read. read.items ≡ certificates) (λ fault. fault ≡ CallFault.Store → ¬ AllByRecursion (λ row. IsValidity row.not_before row.not_after) certificates) }
+{
+    let mut certificates = Vec::new(*rows.allocator());
+    for row in rows {
+        certificates.push(certificate_in(row)?)?;
+    }
+    Ok(certificates)
+}
+
+/// serial, at, reason, request, first_crl, a row for each revocation.
+pub(crate) fn revocations_in(rows: &Vec<Row>) -> Result<Vec<RevocationRow>, CallFault>
+    ensures read { (revocations : List RevocationRow) → AllByRecursion (λ row. IsSerial row.serial) revocations → rows.now.items ≡ map shown_revocation revocations → MatchResult result (λ read. read.items ≡ revocations) (λ fault. fault ≡ CallFault.Store → ¬ AllByRecursion (λ row. AreMomentAndReason row.at row.reason) revocations) }
+{
+    let mut revocations = Vec::new(*rows.allocator());
+    for row in rows {
+        revocations.push(revocation_in(row)?)?;
+    }
+    Ok(revocations)
+}
+
+/// number, this_update, a row for each CRL.
+pub(crate) fn crls_in(rows: &Vec<Row>) -> Result<Vec<CrlRow>, CallFault>
+    ensures read { (crls : List CrlRow) → rows.now.items ≡ map shown_crl crls → MatchResult result (λ read. read.items ≡ crls) (λ fault. fault ≡ CallFault.Store → ¬ AllByRecursion (λ crl. crl.this_update < clock_end) crls) }
+{
+    let mut crls = Vec::new(*rows.allocator());
+    for row in rows {
+        crls.push(crl_in(row)?)?;
+    }
+    Ok(crls)
+}

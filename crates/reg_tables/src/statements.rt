@@ -81,3 +81,15 @@ pub(crate) const LISTED_BY_SERIAL: &str =
 /// What a CRL lists, by the serial numbers. It walks what is listed.
 pub(crate) const ENTRIES: &str =
     "SELECT serial, at, reason FROM listed WHERE first_crl <= ?1 AND (last_listed IS NULL OR last_listed >= ?1) ORDER BY serial";
+
+/// The first certificates past a serial number, by the serial numbers: as many as are wanted. It stops at the last of them.
+pub(crate) const CERTS_AFTER: &str =
+    "SELECT serial, order_id, not_before, not_after FROM cert WHERE serial > ?1 ORDER BY serial LIMIT ?2";
+
+/// The same of revocations.
+pub(crate) const REVOCATIONS_AFTER: &str =
+    "SELECT serial, at, reason, request, first_crl FROM revocation WHERE serial > ?1 ORDER BY serial LIMIT ?2";
+
+/// The first CRLs past a number, without their bytes: as many as are wanted. The index `crl_at` has them.
+pub(crate) const CRLS_AFTER: &str =
+    "SELECT number, this_update FROM crl WHERE number > ?1 ORDER BY number LIMIT ?2";

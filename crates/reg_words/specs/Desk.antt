@@ -53,21 +53,21 @@ abbrev pub crl_app : App
 crl_app = with_rules (new_app (codes "crl")) (must (codes "file") ∷ takes (codes "number") ∷ flag (codes "why") ∷ [])
 
 -- `serve FILE --port N --requests N [--signer SOCKET --algorithm NAME]
--- [--responder CERT --responder-signer SOCKET --responder-algorithm NAME | --embed CERT] [--log] [--why]`
+-- [--responder CERT --responder-signer SOCKET --responder-algorithm NAME | --embed CERT] [--log] [--log-file PATH] [--why]`
 abbrev pub serve_app : App
 serve_app = with_rules (new_app (codes "serve"))
     (must (codes "file") ∷ needs (codes "port") ∷ needs (codes "requests") ∷ takes (codes "signer") ∷ takes (codes "algorithm")
     ∷ takes (codes "responder") ∷ takes (codes "responder-signer") ∷ takes (codes "responder-algorithm") ∷ takes (codes "embed")
-    ∷ flag (codes "log") ∷ flag (codes "why") ∷ [])
+    ∷ flag (codes "log") ∷ takes (codes "log-file") ∷ flag (codes "why") ∷ [])
 
 -- `open FILE --port N --counter SOCKET [--signer SOCKET --algorithm NAME] [--unsigned]
--- [--responder CERT --responder-signer SOCKET --responder-algorithm NAME | --embed CERT] [--log] [--why]`;
+-- [--responder CERT --responder-signer SOCKET --responder-algorithm NAME | --embed CERT] [--log] [--log-file PATH] [--why]`;
 -- whether `--signer` or `--unsigned` must be given says `Jobs.holder_chosen`
 abbrev pub open_app : App
 open_app = with_rules (new_app (codes "open"))
     (must (codes "file") ∷ needs (codes "port") ∷ needs (codes "counter") ∷ takes (codes "signer") ∷ takes (codes "algorithm") ∷ flag (codes "unsigned")
     ∷ takes (codes "responder") ∷ takes (codes "responder-signer") ∷ takes (codes "responder-algorithm") ∷ takes (codes "embed")
-    ∷ flag (codes "log") ∷ flag (codes "why") ∷ [])
+    ∷ flag (codes "log") ∷ takes (codes "log-file") ∷ flag (codes "why") ∷ [])
 
 -- `at SOCKET [--why]`
 abbrev pub at_app : App
@@ -80,6 +80,11 @@ schedule_app = with_rules (new_app (codes "schedule")) (must (codes "file") ∷ 
 -- `key-id FILE HEX [--why]`
 abbrev pub key_id_app : App
 key_id_app = with_rules (new_app (codes "key-id")) (must (codes "file") ∷ must (codes "key-id") ∷ flag (codes "why") ∷ [])
+
+-- `list FILE LIST [--before MOMENT] [--now MOMENT] [--json] [--why]`
+abbrev pub list_app : App
+list_app = with_rules (new_app (codes "list"))
+    (must (codes "file") ∷ must (codes "list") ∷ takes (codes "before") ∷ takes (codes "now") ∷ flag (codes "json") ∷ flag (codes "why") ∷ [])
 
 -- `audit FILE [--why]`
 abbrev pub audit_app : App
@@ -103,4 +108,4 @@ with_commands app (command ∷ rest) = with_commands (with_subcommand app comman
 -- `desk [--why] COMMAND ..`
 abbrev pub desk_app : App
 desk_app = with_commands begun_app
-    (init_app ∷ script_app ∷ import_app ∷ crl_app ∷ serve_app ∷ open_app ∷ at_app ∷ schedule_app ∷ key_id_app ∷ audit_app ∷ [])
+    (init_app ∷ script_app ∷ import_app ∷ crl_app ∷ serve_app ∷ open_app ∷ at_app ∷ schedule_app ∷ key_id_app ∷ list_app ∷ audit_app ∷ [])

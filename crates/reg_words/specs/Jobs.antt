@@ -5,13 +5,16 @@ use Rattle.clap.specs.Words.{IsAmong, Row, Text, all_of, fault_of, first_of, mat
 use Rattle.clap.specs.declared.error.kind.ErrorKind.{ErrorKind}
 use Rattle.clap.specs.declared.error.kind.ErrorKind.TheVariants.{DisplayHelp, DisplayVersion, OutOfMemory}
 use Rattle.reg_core.specs.Number.{number_of}
+use Rattle.reg_lists.specs.Cursors.{cursor_named}
+use Rattle.reg_lists.specs.declared.texts.Form.{Form}
+use Rattle.reg_lists.specs.declared.texts.Form.TheVariants.{Csv, Json}
 use Rattle.reg_words.specs.Desk.{desk_app}
 use Rattle.reg_words.specs.Values.{moment_of, steps_of, within}
 use Rattle.reg_signer.specs.Algorithms.{algorithm_named}
 use Rattle.reg_words.specs.declared.job.Answerer.{Answerer}
 use Rattle.reg_words.specs.declared.job.Answerer.TheVariants.{Issuer, Delegate}
 use Rattle.reg_words.specs.declared.job.Job.{Job}
-use Rattle.reg_words.specs.declared.job.Job.TheVariants.{Init, Script, Lines, Import, Crl, Serve, Open, At, Schedule, KeyId, Audit}
+use Rattle.reg_words.specs.declared.job.Job.TheVariants.{Init, Script, Lines, Import, Crl, Serve, Open, At, Schedule, KeyId, Listing, Audit}
 use Rattle.reg_words.specs.declared.job.KeyHolder.{KeyHolder}
 use Rattle.reg_words.specs.declared.job.Order.{Order}
 use Rattle.reg_words.specs.declared.commands.Terms.{Terms}
@@ -97,7 +100,7 @@ way_in rows = record { is_clocked = is_given (codes "clock") rows; is_strict = i
 -- a script by its words; only one over a register at a path is run line by line
 abbrev pub script_by : Option Text → Option KeyHolder → Way → Option Job
 script_by None signer way = if way.is_clocked || way.is_strict then None else Some (Script None signer)
-script_by (Some file) signer way = if way.is_clocked || way.is_strict then Some (Lines file signer way) else Some (Script (Some file) signer)
+script_by (Some file) signer way = if way.is_clocked || way.is_strict then Some (Lines (record { file = file; signer = signer; way = way })) else Some (Script (Some file) signer)
 
 -- what an issuer is to keep to; what is left out is as in the usual policy
 unfoldable pub terms_of : List Row → Option Terms
@@ -115,7 +118,16 @@ init_of rows = do
   name ← first_of (codes "name") rows
   key ← first_of (codes "key") rows
   terms ← terms_of rows
-  Some (Init file name key (first_of (codes "key-id") rows) terms.days terms.crl_life terms.ocsp_life terms.cap)
+  Some (Init (record {
+    file = file;
+    name = name;
+    key = key;
+    key_id = first_of (codes "key-id") rows;
+    days = terms.days;
+    crl_life = terms.crl_life;
+    ocsp_life = terms.ocsp_life;
+    cap = terms.cap;
+  }))
 
 unfoldable pub script_of : List Row → Option Job
 script_of rows = do
@@ -125,8 +137,8 @@ script_of rows = do
 unfoldable pub import_of : List Row → Option Job
 import_of rows = do
   file ← first_of (codes "file") rows
-  now ← option_and_then moment_of (first_of (codes "now") rows)
-  Some (Import file now (is_given (codes "strict") rows))
+  moment ← option_and_then moment_of (first_of (codes "now") rows)
+  Some (Import (record { file = file; moment = moment; is_strict = is_given (codes "strict") rows }))
 
 unfoldable pub crl_of : List Row → Option Job
 crl_of rows = do
@@ -141,7 +153,7 @@ serve_of rows = do
   requests ← number_in 1 1000000 (codes "requests") rows
   signer ← holder_in rows
   answerer ← answerer_in rows
-  Some (Serve file port requests signer answerer)
+  Some (Serve (record { file = file; port = port; requests = requests; signer = signer; answerer = answerer }))
 
 unfoldable pub open_of : List Row → Option Job
 open_of rows = do
@@ -150,7 +162,7 @@ open_of rows = do
   counter ← first_of (codes "counter") rows
   answerer ← answerer_in rows
   signer ← holder_chosen answerer rows
-  Some (Open file port counter signer answerer)
+  Some (Open (record { file = file; port = port; counter = counter; signer = signer; answerer = answerer }))
 
 unfoldable pub at_of : List Row → Option Job
 at_of rows = do
@@ -169,6 +181,23 @@ key_id_of rows = do
   key_id ← first_of (codes "key-id") rows
   Some (KeyId file key_id)
 
+-- a moment that is told, if one is
+abbrev pub moment_given : Text → List Row → Option (Option ℕ)
+moment_given id rows = option_map_or (λ text. option_map (λ moment. Some moment) (moment_of text)) (first_of id rows) (Some None)
+
+-- how a list is written
+abbrev pub form_in : List Row → Form
+form_in rows = if is_given (codes "json") rows then Json else Csv
+
+unfoldable pub list_of : List Row → Option Job
+list_of rows = do
+  file ← first_of (codes "file") rows
+  word ← first_of (codes "list") rows
+  before ← moment_given (codes "before") rows
+  from ← cursor_named word before
+  moment ← moment_given (codes "now") rows
+  Some (Listing (record { file = file; from = from; moment = moment; form = form_in rows }))
+
 unfoldable pub audit_of : List Row → Option Job
 audit_of rows = do
   file ← first_of (codes "file") rows
@@ -179,6 +208,7 @@ unfoldable pub keeping_job_in : Text → List Row → Option Job
 keeping_job_in name rows =
     if bytes_eq name (codes "schedule") then schedule_of rows
     else if bytes_eq name (codes "key-id") then key_id_of rows
+    else if bytes_eq name (codes "list") then list_of rows
     else if bytes_eq name (codes "audit") then audit_of rows
     else None
 
@@ -205,6 +235,10 @@ job_found found = option_and_then (λ found. job_in found.0 found.1) found
 abbrev pub is_given_behind : Text → Option (Text × List Row) → Bool
 is_given_behind id found = option_map_or (λ found. is_given id found.1) found false
 
+-- the word of an option that is given behind the command
+abbrev pub told_behind : Text → Option (Text × List Row) → Option Text
+told_behind id found = option_and_then (λ found. first_of id found.1) found
+
 -- the job that words say which clap accepts
 abbrev pub job_of : List Text → Option Job
 job_of words = job_found (subcommand_of desk_app words)
@@ -217,6 +251,10 @@ asks_why words = is_given (codes "why") (matches_of desk_app words) || is_given_
 abbrev pub asks_log : List Text → Bool
 asks_log words = is_given_behind (codes "log") (subcommand_of desk_app words)
 
+-- the file of a log that words tell, by `--log-file` behind the command
+abbrev pub log_file_of : List Text → Option Text
+log_file_of words = told_behind (codes "log-file") (subcommand_of desk_app words)
+
 -- clap accepts the words
 abbrev pub IsAccepted : List Text → Type 0
 IsAccepted words = fault_of desk_app words ≡ []
@@ -228,11 +266,13 @@ IsJobOf words job = IsAccepted words × (job_of words ≡ Some job)
 -- clap accepts the words, and they say the job and what is told beside it
 abbrev pub IsOrderOf : List Text → Order → Type 0
 IsOrderOf words order = IsJobOf words order.job × (order.is_explained ≡ asks_why words) × (order.has_log ≡ asks_log words)
+    × (order.log_file ≡ log_file_of words)
 
 -- the same, of what was found before the command and behind it
 abbrev pub IsOrderIn : List Row → Option (Text × List Row) → Order → Type 0
 IsOrderIn before found order = (job_found found ≡ Some order.job)
     × (order.is_explained ≡ (is_given (codes "why") before || is_given_behind (codes "why") found)) × (order.has_log ≡ is_given_behind (codes "log") found)
+    × (order.log_file ≡ told_behind (codes "log-file") found)
 
 -- what is answered for an error of a kind: help for help, the version for the version, and bad words for the rest, unless memory runs out
 abbrev pub Tells : ErrorKind → Usage → Type 0

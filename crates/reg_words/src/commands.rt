@@ -2,16 +2,19 @@
 
 ghost use Rattle.std.specs.Prelude.{◌≡◌, codes, IfOk};
 ghost use Rattle.clap.specs.Words.{found_of, rows_of};
-ghost use Rattle.reg_words.specs.Jobs.{job_in, serving_job_in, keeping_job_in, init_of, terms_of, script_by, script_of, import_of, crl_of, number_in, serve_of, open_of, at_of, schedule_of, key_id_of, audit_of};
+ghost use Rattle.reg_words.specs.Jobs.{job_in, serving_job_in, keeping_job_in, init_of, terms_of, script_by, script_of, import_of, crl_of, number_in, serve_of, open_of, at_of, schedule_of, key_id_of, form_in, list_of, audit_of};
 
-use crate::job::{Job, KeyHolder, Way};
+use crate::job::{
+    Job, KeptOpen, KeyHolder, LinedScript, ListToWrite, NewRegister, RowsToImport, Serving, Way,
+};
 use crate::values::{
-    answerer, chosen_holder, is_set, key_holder, moment, number_if_given, number_or, number_within,
-    steps, way_of, word_of,
+    answerer, chosen_holder, is_set, key_holder, moment, moment_if_given, number_if_given,
+    number_or, number_within, steps, text_of, way_of, word_of,
 };
 use crate::word::Word;
 use crate::wrong::{LAST_PORT, MOST_REQUESTS};
 use clap::ArgMatches;
+use reg_lists::{Cursor, Form};
 use std::alloc::{AllocError, Global};
 
 /// What a new register is to keep to.
@@ -90,6 +93,8 @@ fn read_keeping<'a>(
         read_schedule(alloc, given)
     } else if name == "key-id" {
         Ok(read_key_id(given))
+    } else if name == "list" {
+        Ok(read_list(given))
     } else if name == "audit" {
         Ok(read_audit(given))
     } else {
@@ -105,7 +110,7 @@ fn read_init<'a>(given: &ArgMatches<'a>) -> Option<Job<'a>>
     let name = word_of(given, "name")?;
     let key = word_of(given, "key")?;
     let terms = read_terms(given)?;
-    Some(Job::Init {
+    Some(Job::Init(NewRegister {
         file,
         name,
         key,
@@ -114,7 +119,7 @@ fn read_init<'a>(given: &ArgMatches<'a>) -> Option<Job<'a>>
         crl_life: terms.crl_life,
         ocsp_life: terms.ocsp_life,
         cap: terms.cap,
-    })
+    }))
 }
 
 #[tactic(auto, unfolding(crate::specs::Jobs::terms_of))]
@@ -147,7 +152,7 @@ fn script_job<'a>(
 {
     let by_lines = way.is_clocked || way.is_strict;
     match file {
-        Some(file) if by_lines => Some(Job::Lines { file, signer, way }),
+        Some(file) if by_lines => Some(Job::Lines(LinedScript { file, signer, way })),
         None if by_lines => None,
         file => Some(Job::Script { file, signer }),
     }
@@ -157,11 +162,11 @@ fn script_job<'a>(
 fn read_import<'a>(given: &ArgMatches<'a>) -> Option<Job<'a>>
     ensures { result ≡ import_of (rows_of (found_of given.now)) }
 {
-    Some(Job::Import {
+    Some(Job::Import(RowsToImport {
         file: word_of(given, "file")?,
-        now: moment(given, "now")?,
+        moment: moment(given, "now")?,
         is_strict: is_set(given, "strict"),
-    })
+    }))
 }
 
 #[tactic(auto, unfolding(crate::specs::Jobs::crl_of))]
@@ -185,13 +190,13 @@ fn port_of(given: &ArgMatches<'_>) -> Option<u16>
 fn read_serve<'a>(given: &ArgMatches<'a>) -> Option<Job<'a>>
     ensures { result ≡ serve_of (rows_of (found_of given.now)) }
 {
-    Some(Job::Serve {
+    Some(Job::Serve(Serving {
         file: word_of(given, "file")?,
         port: port_of(given)?,
         requests: number_within(given, "requests", 1, MOST_REQUESTS)? as u32,
         signer: key_holder(given)?,
         answerer: answerer(given)?,
-    })
+    }))
 }
 
 #[tactic(auto, unfolding(crate::specs::Jobs::open_of))]
@@ -203,13 +208,13 @@ fn read_open<'a>(given: &ArgMatches<'a>) -> Option<Job<'a>>
     let counter = word_of(given, "counter")?;
     let answering = answerer(given)?;
     let signer = chosen_holder(given, &answering)?;
-    Some(Job::Open {
+    Some(Job::Open(KeptOpen {
         file,
         port,
         counter,
         signer,
         answerer: answering,
-    })
+    }))
 }
 
 #[tactic(auto, unfolding(crate::specs::Jobs::at_of))]
@@ -242,6 +247,34 @@ fn read_key_id<'a>(given: &ArgMatches<'a>) -> Option<Job<'a>>
         file: word_of(given, "file")?,
         key_id: word_of(given, "key-id")?,
     })
+}
+
+#[tactic(auto, unfolding(crate::specs::Jobs::list_of))]
+fn read_list<'a>(given: &ArgMatches<'a>) -> Option<Job<'a>>
+    ensures { result ≡ list_of (rows_of (found_of given.now)) }
+{
+    let file = word_of(given, "file")?;
+    let word = text_of(given, "list")?;
+    let before = moment_if_given(given, "before")?;
+    let from = Cursor::named(word.as_bytes(), before)?;
+    let moment = moment_if_given(given, "now")?;
+    Some(Job::Listing(ListToWrite {
+        file,
+        from,
+        moment,
+        form: form_of(given),
+    }))
+}
+
+/// How a list is written.
+fn form_of(given: &ArgMatches<'_>) -> Form
+    ensures { result ≡ form_in (rows_of (found_of given.now)) }
+{
+    if is_set(given, "json") {
+        Form::Json
+    } else {
+        Form::Csv
+    }
 }
 
 #[tactic(auto, unfolding(crate::specs::Jobs::audit_of))]

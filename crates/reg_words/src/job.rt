@@ -5,6 +5,7 @@ ghost use Rattle.reg_words.specs.Statuses.{usage_status};
 
 use crate::word::{Steps, Word};
 use reg_core::Moment;
+use reg_lists::{Cursor, Form};
 use reg_signer::Algorithm;
 
 /// What holds the issuer's key: what listens at a Unix socket, and the algorithm of its signatures.
@@ -39,22 +40,97 @@ pub struct Way {
     pub is_strict: bool,
 }
 
+/// A register that is to be made.
+#[derive(Drop)]
+pub struct NewRegister<'a> {
+    /// Its path.
+    pub file: Word<'a>,
+    /// The DER of the issuer's Name, in hexadecimal.
+    pub name: Word<'a>,
+    /// The bytes of the issuer's public key, in hexadecimal.
+    pub key: Word<'a>,
+    /// The key identifier of the issuer's certificate, in hexadecimal, where it is told.
+    pub key_id: Option<Word<'a>>,
+    /// The longest validity in days.
+    pub days: u64,
+    /// The seconds from thisUpdate to nextUpdate of a CRL.
+    pub crl_life: u64,
+    /// The same of an OCSP answer.
+    pub ocsp_life: u64,
+    /// The most rows of a table.
+    pub cap: u64,
+}
+
+/// A script that is run line by line over a register.
+#[derive(Drop)]
+pub struct LinedScript<'a> {
+    /// The register's path.
+    pub file: Word<'a>,
+    /// What holds the key, where one does.
+    pub signer: Option<KeyHolder<'a>>,
+    /// How the lines are run.
+    pub way: Way,
+}
+
+/// Rows that are to be registered.
+#[derive(Drop)]
+pub struct RowsToImport<'a> {
+    /// The register's path.
+    pub file: Word<'a>,
+    /// The moment of their registration.
+    pub moment: Moment,
+    /// The import ends at the first refusal or fault, and registers no last row without its line end.
+    pub is_strict: bool,
+}
+
+/// A register that is served to so many peers.
+#[derive(Drop)]
+pub struct Serving<'a> {
+    /// The register's path.
+    pub file: Word<'a>,
+    /// The port, 1 to 65,535.
+    pub port: u16,
+    /// How many requests are answered.
+    pub requests: u32,
+    /// What holds the key, where one does.
+    pub signer: Option<KeyHolder<'a>>,
+    /// Who answers OCSP requests.
+    pub answerer: Answerer<'a>,
+}
+
+/// A register that is kept open, with a counter.
+#[derive(Drop)]
+pub struct KeptOpen<'a> {
+    /// The register's path.
+    pub file: Word<'a>,
+    /// The port, 1 to 65,535.
+    pub port: u16,
+    /// The path of the counter's socket.
+    pub counter: Word<'a>,
+    /// What holds the key, where one does.
+    pub signer: Option<KeyHolder<'a>>,
+    /// Who answers OCSP requests.
+    pub answerer: Answerer<'a>,
+}
+
+/// A list of a register that is to be written.
+#[derive(Drop)]
+pub struct ListToWrite<'a> {
+    /// The register's path.
+    pub file: Word<'a>,
+    /// The list.
+    pub from: Cursor,
+    /// The moment of which it is told, where it is not that of the machine's clock.
+    pub moment: Option<Moment>,
+    /// How it is written.
+    pub form: Form,
+}
+
 /// A job of the program, with all that the command line says of it. FILE is the path of a register.
 #[derive(Drop)]
 pub enum Job<'a> {
-    /// Makes a register: the DER of the issuer's Name and the bytes of its public key, both in hexadecimal, the
-    /// key identifier of its certificate in hexadecimal too, where it is told, the longest validity in days, the seconds from
-    /// thisUpdate to nextUpdate of a CRL and of an OCSP answer, and the most rows of a table.
-    Init {
-        file: Word<'a>,
-        name: Word<'a>,
-        key: Word<'a>,
-        key_id: Option<Word<'a>>,
-        days: u64,
-        crl_life: u64,
-        ocsp_life: u64,
-        cap: u64,
-    },
+    /// Makes a register.
+    Init(NewRegister<'a>),
     /// Runs the script of standard input, without FILE over a register in memory. What holds the key signs, or else a digest
     /// seals.
     Script {
@@ -62,41 +138,20 @@ pub enum Job<'a> {
         signer: Option<KeyHolder<'a>>,
     },
     /// Runs the script of standard input line by line. What holds the key signs, or else a digest seals.
-    Lines {
-        file: Word<'a>,
-        signer: Option<KeyHolder<'a>>,
-        way: Way,
-    },
-    /// Registers the rows of standard input at a moment. Where it is strict, it ends at the first refusal or fault, and registers no
-    /// last row without its line end.
-    Import {
-        file: Word<'a>,
-        now: Moment,
-        is_strict: bool,
-    },
+    Lines(LinedScript<'a>),
+    /// Registers the rows of standard input at a moment.
+    Import(RowsToImport<'a>),
     /// Writes a CRL, the latest where no number is given.
     Crl {
         file: Word<'a>,
         number: Option<u64>,
     },
-    /// Answers so many requests over HTTP at a port, 1 to 65,535. What holds the key signs, or else a digest seals.
-    Serve {
-        file: Word<'a>,
-        port: u16,
-        requests: u32,
-        signer: Option<KeyHolder<'a>>,
-        answerer: Answerer<'a>,
-    },
-    /// Keeps a register open until the program is ended: answers requests over HTTP at a port, 1 to 65,535, and lines at a
-    /// counter, a Unix socket at a path. What holds the key signs; a digest seals only where `--unsigned` says that none does. Where
-    /// one answers with a key of its own and nothing holds the issuer's, no CRL is signed.
-    Open {
-        file: Word<'a>,
-        port: u16,
-        counter: Word<'a>,
-        signer: Option<KeyHolder<'a>>,
-        answerer: Answerer<'a>,
-    },
+    /// Answers so many requests over HTTP at a port. What holds the key signs, or else a digest seals.
+    Serve(Serving<'a>),
+    /// Keeps a register open until the program is ended: answers requests over HTTP at a port, and lines at a counter, a Unix socket
+    /// at a path. What holds the key signs; a digest seals only where `--unsigned` says that none does. Where one answers with a key
+    /// of its own and nothing holds the issuer's, no CRL is signed.
+    Open(KeptOpen<'a>),
     /// Tells the lines of standard input to the counter at a path.
     At {
         counter: Word<'a>,
@@ -111,6 +166,8 @@ pub enum Job<'a> {
         file: Word<'a>,
         key_id: Word<'a>,
     },
+    /// Writes a list of the register, as CSV with a header or as an object of JSON a line, at a moment or at the machine's clock.
+    Listing(ListToWrite<'a>),
     /// Looks whether the tables are those of sound records, and changes nothing.
     Audit {
         file: Word<'a>,
@@ -124,8 +181,10 @@ pub struct Order<'a> {
     pub job: Job<'a>,
     /// The cause of a fault is told, where it is known.
     pub is_explained: bool,
-    /// Each exchange is told, where the job serves.
+    /// Each exchange is told on standard error, where the job serves.
     pub has_log: bool,
+    /// The path of the file in which each exchange is told, where the job serves.
+    pub log_file: Option<Word<'a>>,
 }
 
 /// Why there is no order.

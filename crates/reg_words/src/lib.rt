@@ -10,6 +10,9 @@ mod values;
 mod word;
 mod wrong;
 
-pub use job::{Answerer, Job, KeyHolder, Order, Usage, Way};
+pub use job::{
+    Answerer, Job, KeptOpen, KeyHolder, LinedScript, ListToWrite, NewRegister, Order, RowsToImport,
+    Serving, Usage, Way,
+};
 pub use reading::{no_text, read_words};
 pub use word::{Steps, Word};

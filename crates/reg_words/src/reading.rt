@@ -3,12 +3,13 @@
 ghost use Rattle.std.specs.Prelude.{◌≡◌, IfErr, IfOk, map};
 ghost use Rattle.clap.specs.Words.{app_of, found_of, rows_of, subcommand_rows_of, kind_of};
 ghost use Rattle.reg_words.specs.Desk.{desk_app};
-ghost use Rattle.reg_words.specs.Jobs.{IsNoOrder, IsOrderIn, IsOrderOf, IsUsageOf, Tells, is_given_behind, job_found};
+ghost use Rattle.reg_words.specs.Jobs.{IsNoOrder, IsOrderIn, IsOrderOf, IsUsageOf, Tells, is_given_behind, job_found, told_behind};
 
 use crate::commands::read_command;
 use crate::desk::desk;
 use crate::job::{Job, Order, Usage};
-use crate::values::is_set;
+use crate::values::{is_set, word_of};
+use crate::word::Word;
 use crate::wrong::wrong_text;
 use clap::error::ErrorKind;
 use clap::{ArgMatches, Command, Error};
@@ -64,6 +65,7 @@ fn read_order<'a>(
             job,
             is_explained: is_set(matches, "why") || is_set_behind(matches, "why"),
             has_log: is_set_behind(matches, "log"),
+            log_file: word_behind(matches, "log-file"),
         }),
         Ok(None) => Err(bad_value(alloc, desk, matches)),
         Err(_) => Err(Usage::Memory),
@@ -77,6 +79,16 @@ fn is_set_behind(matches: &ArgMatches<'_>, id: &str) -> bool
     match matches.subcommand() {
         Some((_, given)) => is_set(given, id),
         None => false,
+    }
+}
+
+/// The word of an option that is given behind the command.
+fn word_behind<'a>(matches: &ArgMatches<'a>, id: &str) -> Option<Word<'a>>
+    ensures { result ≡ told_behind id.now (subcommand_rows_of matches.now) }
+{
+    match matches.subcommand() {
+        Some((_, given)) => word_of(given, id),
+        None => None,
     }
 }
 

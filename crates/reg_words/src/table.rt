@@ -100,7 +100,21 @@ const AT_COUNTER: &str = "The Unix socket of an open desk's counter";
 const STEPS: &str =
     "From MOMENT on at most DAYS days, 1 to 398; 1 to 16 steps, the first at 1970-01-01T00:00:00Z, moments ascending";
 
+const LIST: &str =
+    "revoked, certificates, ending, open-requests, overdue, subscribers, orders or crls";
+
+const BEFORE_MOMENT: &str =
+    "Of the list ending: certificates whose notAfter is before it, in UTC, as 2026-02-01T00:00:00Z";
+
+const LIST_NOW: &str =
+    "The moment of which statuses are told, in UTC, as 2026-01-01T00:00:00Z [default: the machine's clock]";
+
+const JSON: &str = "Write an object of JSON a line [default: CSV with a header]";
+
 const LOG: &str = "Tell each exchange in a line on standard error";
+
+const LOG_FILE: &str =
+    "Tell each exchange in a line of this file, which is opened anew for each line; beside --log or in its place";
 
 const CAUSE: &str = "Tell the cause of a fault in a line behind its own, where it is known";
 
@@ -177,6 +191,7 @@ pub(crate) const COMMANDS: &[Entry] = &[
             Part::Takes("responder-algorithm", "NAME", ALGORITHM),
             Part::Takes("embed", "CERT", EMBED),
             Part::Flag("log", LOG),
+            Part::Takes("log-file", "PATH", LOG_FILE),
             Part::Flag("why", CAUSE),
         ],
     },
@@ -196,6 +211,7 @@ pub(crate) const COMMANDS: &[Entry] = &[
             Part::Takes("responder-algorithm", "NAME", ALGORITHM),
             Part::Takes("embed", "CERT", EMBED),
             Part::Flag("log", LOG),
+            Part::Takes("log-file", "PATH", LOG_FILE),
             Part::Flag("why", CAUSE),
         ],
     },
@@ -225,6 +241,19 @@ pub(crate) const COMMANDS: &[Entry] = &[
         parts: &[
             Part::Must("file", "FILE", FILE),
             Part::Must("key-id", "HEX", KEY_ID),
+            Part::Flag("why", CAUSE),
+        ],
+    },
+    Entry {
+        name: "list",
+        about: "Write a list of the register to standard output, in the order of keys.",
+        example: "Examples:\n  desk list ca.db revoked\n  desk list ca.db ending --before 2026-02-01T00:00:00Z --json",
+        parts: &[
+            Part::Must("file", "FILE", FILE),
+            Part::Must("list", "LIST", LIST),
+            Part::Takes("before", "MOMENT", BEFORE_MOMENT),
+            Part::Takes("now", "MOMENT", LIST_NOW),
+            Part::Flag("json", JSON),
             Part::Flag("why", CAUSE),
         ],
     },

@@ -3,7 +3,7 @@
 ghost use Rattle.std.specs.Prelude.{◌≡◌, ◌≤◌, IfOk, IfSome, List, ℕ, map, option_and_then, option_map};
 ghost use Rattle.reg_core.specs.Number.{number_of};
 ghost use Rattle.clap.specs.Words.{all_of, first_of, found_of, rows_of};
-ghost use Rattle.reg_words.specs.Jobs.{answerer_in, answerer_told, given, given_or, chosen, has_own_key, holder_by_options, holder_chosen, holder_in, is_given, number_in, way_in};
+ghost use Rattle.reg_words.specs.Jobs.{answerer_in, answerer_told, given, given_or, chosen, has_own_key, holder_by_options, holder_chosen, holder_in, is_given, moment_given, number_in, way_in};
 ghost use Rattle.reg_words.specs.Values.{moment_of, step_of, steps_of, within};
 
 use crate::job::{Answerer, KeyHolder, Way};
@@ -84,6 +84,16 @@ pub(crate) fn moment(matches: &ArgMatches<'_>, id: &str) -> Option<Moment>
     ensures { result ≡ option_and_then moment_of (first_of id.now (rows_of (found_of matches.now))) }
 {
     read_moment(text_of(matches, id)?.as_bytes())
+}
+
+/// The moment of an option, if it is given; `None` where it is given and none.
+pub(crate) fn moment_if_given(matches: &ArgMatches<'_>, id: &str) -> Option<Option<Moment>>
+    ensures { result ≡ moment_given id.now (rows_of (found_of matches.now)) }
+{
+    match text_of(matches, id) {
+        Some(text) => Some(Some(read_moment(text.as_bytes())?)),
+        None => Some(None),
+    }
 }
 
 /// What holds the key, if it is told; `None` where one of its two options is given alone, or no algorithm has the name.

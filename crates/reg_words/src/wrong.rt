@@ -24,6 +24,9 @@ const NUMBERS: [(&str, &str, u64, u64); 7] = [
     ("requests", "--requests", 1, MOST_REQUESTS),
 ];
 
+/// The options whose value is a moment: the id and the name of each.
+const MOMENTS: [(&str, &str); 2] = [("before", "--before"), ("now", "--now")];
+
 /// The options that tell of a responder: the id and the name of each.
 const RESPONDERS: [(&str, &str); 3] = [
     ("responder-algorithm", "--responder-algorithm"),
@@ -42,6 +45,9 @@ const KEY_HOLDER_WANTED: &str =
 
 const RESPONDER_WANTED: &str =
     "--responder, --responder-signer and --responder-algorithm are given together, without --embed; an algorithm is ecdsa-sha256, ecdsa-sha384, rsa-sha256 or ed25519";
+
+const LIST_WANTED: &str =
+    "a list is revoked, certificates, ending, open-requests, overdue, subscribers, orders or crls; ending wants --before, and no other takes it";
 
 const FILE_WANTED: &str = "--clock and --strict want a FILE";
 
@@ -69,6 +75,7 @@ pub(crate) fn wrong_text(alloc: Global, matches: &ArgMatches<'_>) -> Option<Stri
 fn combination_wanted(matches: &ArgMatches<'_>) -> &'static str {
     match matches.subcommand() {
         Some((name, _)) if name == "open" => CHOICE_WANTED,
+        Some((name, _)) if name == "list" => LIST_WANTED,
         _ => FILE_WANTED,
     }
 }
@@ -107,17 +114,20 @@ fn wrong_number<'a>(given: &ArgMatches<'a>) -> Option<Wrong<'a>> {
     None
 }
 
-/// The moment of an import, where it is none.
+/// The first moment of an option that is none.
 fn wrong_moment<'a>(given: &ArgMatches<'a>) -> Option<Wrong<'a>> {
-    let value = text_of(given, "now")?;
-    match moment(given, "now") {
-        Some(_) => None,
-        None => Some(Wrong {
-            option: "--now",
-            value,
-            wanted: MOMENT_WANTED,
-        }),
+    for (id, option) in MOMENTS {
+        if let Some(value) = text_of(given, id) {
+            if moment(given, id).is_none() {
+                return Some(Wrong {
+                    option,
+                    value,
+                    wanted: MOMENT_WANTED,
+                });
+            }
+        }
     }
+    None
 }
 
 /// The first step of a schedule that is none.

@@ -1,7 +1,7 @@
 //! A hub of the tests: who answers, what the clock says, and who comes.
 
 use mio::net::{TcpListener, UnixListener, UnixStream as UnwaitingStream};
-use reg_hub::{Given, Handler, Hub, Lost, Signings, Stopped};
+use reg_hub::{Crowd, Given, Handler, Hub, Lost, Signings, Stopped};
 use std::alloc::{AllocError, Global};
 use std::cell::Cell;
 use std::fmt::Debug;
@@ -75,7 +75,7 @@ impl Handler for Echo {
         ticket
     }
 
-    fn tell(&mut self, line: &[u8]) -> Result<Vec<u8>, Stopped> {
+    fn tell(&mut self, line: &[u8], _noted: &mut Vec<u8>) -> Result<Vec<u8>, Stopped> {
         self.lines = self.lines.saturating_add(1);
         match self.told(line) {
             Ok(text) => Ok(text),
@@ -86,6 +86,8 @@ impl Handler for Echo {
     fn lose(&self, peer: Option<SocketAddr>, why: Lost) {
         self.lost.set(Some((peer, why)));
     }
+
+    fn hold(&self, _crowd: Crowd) {}
 }
 
 /// What a request comes to, by the text of its answer.

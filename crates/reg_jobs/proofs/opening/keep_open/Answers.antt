@@ -1,7 +1,7 @@
 use Rattle.std.proofs.Common.{[], inl, inr, refl}
 use Rattle.reg_faces.proofs.Steps.{stays}
-use Rattle.reg_jobs.specs.Exchanges.{Entry}
-use Rattle.reg_jobs.specs.Serving.{Exchanging}
+use Rattle.reg_jobs.specs.Reasons.{Word}
+use Rattle.reg_jobs.specs.Serving.{Visiting}
 use Rattle.reg_jobs.proofs.Fates.{unbound}
 use Rattle.reg_jobs.proofs.Peers.{exchanges_move}
 use Rattle.reg_jobs.proofs.opening.keep_open.Goals as goal
@@ -24,8 +24,8 @@ returns g c =
           (λ identity opened records. g.P.Opened.Keeper.stands identity opened.office records)
           _
           _
-          (Exchanging g.P.Opened.Keeper.signs g.P.Place.gave g.F.Front.told)
-          (Entry g.P.Opened.Keeper.signs g.F.Front.told)
+          (Visiting g.P.Opened.Keeper.signs g.P.Place.gave g.F.Front.told)
+          (Word g.P.Opened.Keeper.signs g.F.Front.told)
           (λ s came outcome t moved. moved)
           (λ s came text t moved. moved)
           c.args.opened.now

@@ -1,0 +1,60 @@
+-- Requests for lists, and what they are answered: the routes of an open desk alone.
+use Rattle.std.specs.Prelude.{◌≡◌, ℕ, ◌==◌, Bool, List, [], ◌∷◌, drop, codes, bytes_eq, if◌then◌else◌, Option, Some, None, Result, Ok, Err}
+use Rattle.std.specs.List.{before_first, after_first, position_or_len, starts_with}
+use Rattle.percent_encoding.specs.Percent.{percent_decode}
+use Rattle.reg_core.specs.Records.{Records}
+use Rattle.reg_core.specs.declared.refusal.Fault.{Fault}
+use Rattle.reg_core.specs.declared.refusal.Fault.TheVariants as fault
+use Rattle.reg_core.specs.declared.refusal.Refusal.TheVariants.{Syntax}
+use Rattle.reg_heads.specs.Frame.{Part, refused, asked}
+use Rattle.reg_heads.specs.Response.{Response}
+use Rattle.reg_lists.specs.Asked.{page_asked}
+use Rattle.reg_lists.specs.Pages.{IsPaged}
+use Rattle.reg_lists.specs.Texts.{page_body}
+use Rattle.reg_lists.specs.declared.cursor.Cursor.{Cursor}
+use Rattle.reg_lists.specs.declared.rows.Page.{Page as PageOf}
+use Rattle.reg_http.specs.Bodies.{fault_response, json, refusal, only}
+use Rattle.reg_http.specs.declared.lists.ListAsked.{ListAsked}
+use Rattle.reg_http.specs.declared.lists.ListAsked.TheVariants.{Nothing, Page}
+use Rattle.reg_http.specs.declared.lists.NoPage.{NoPage}
+use Rattle.reg_http.specs.declared.lists.NoPage.TheVariants.{Refused, OnlyGet, Unread}
+
+-- the bytes of a request ask for a list: behind the method (RFC 9112 3) its target begins with `/list/` (32 is the code of a space)
+abbrev pub asks_list : List ℕ → Bool
+asks_list request = starts_with (λ a b. a == b) (drop (position_or_len (λ byte. byte == 32) request) request) (codes " /list/")
+
+-- the page that was asked for, or that it can't be read
+abbrev pub or_unread : Option (Cursor × ℕ) → ListAsked
+or_unread (Some wanted) = Page wanted.0 wanted.1
+or_unread None = Nothing Unread
+
+-- the page that a path `/list/WORD` and what is told behind it ask for
+abbrev pub page_told : List ℕ → List ℕ → ListAsked
+page_told path told =
+    if starts_with (λ a b. a == b) path (codes "/list/") then or_unread (page_asked (drop 6 path) told) else Nothing Unread
+
+-- the same of a target (RFC 3986 3.3, 3.4): a path, and behind `?` what is told, percent-decoded
+unfoldable pub page_in : List ℕ → ListAsked
+page_in target = page_told (before_first (λ b. b == 63) target) (percent_decode (after_first (λ b. b == 63) target))
+
+-- what a request for a list asks
+abbrev pub list_asked : Part → ListAsked
+list_asked (refused status) = Nothing (Refused status)
+list_asked (asked method target body) = if bytes_eq method (codes "GET") then page_in target else Nothing OnlyGet
+
+-- a page as it is told, or why there is none
+abbrev pub given_told : Cursor → Result PageOf Fault → Response
+given_told from (Ok given) = json 200 (page_body from given.next given.rows.items)
+given_told from (Err why) = fault_response why
+
+-- the response to a request for a list that asks no page
+abbrev pub unlisted : NoPage → Response
+unlisted (Refused status) = refusal status
+unlisted OnlyGet = only (codes "GET")
+unlisted Unread = fault_response (fault.Refused Syntax)
+
+-- the response to a request for a list, of records at a moment
+abbrev pub RespondsList : Records → ℕ → ListAsked → Response → Type 0
+RespondsList records now (Page from most) response =
+    (given : Result PageOf Fault) × IsPaged records now most from given × (response ≡ given_told from given)
+RespondsList records now (Nothing why) response = response ≡ unlisted why

@@ -1,0 +1,10 @@
+use Rattle.std.proofs.Common.{List}
+use Rattle.reg_calls.specs.Leads.{Leads}
+use Rattle.reg_lists.specs.declared.rows.Row.{Row}
+use Rattle.reg_jobs.proofs.PageByPage.{IsGoing, IsText}
+use Rattle.reg_jobs.proofs.listing.given_list.Given as goal
+
+-- so many rows were given, and are the text so far
+abbrev pub invariant-loop : goal.invariant-loop
+invariant-loop g l = (done : List Row) × IsText l.form l.from done l.text.items
+    × Leads g.P.Opened.Keeper.is_clean g.P.Opened.Keeper.stands (IsGoing l.now l.from done l.next) l.initial.register l.register

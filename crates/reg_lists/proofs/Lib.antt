@@ -1,0 +1,4 @@
+pub mod Moments
+pub mod Numbers
+pub mod Orders
+pub mod Whole

@@ -1,0 +1,6 @@
+pub mod Asked
+pub mod Cursors
+pub mod Fields
+pub mod Lists
+pub mod Pages
+pub mod Texts

@@ -1,0 +1,54 @@
+//! The rows of lists, and pages of them.
+
+use crate::cursor::Cursor;
+use reg_core::{
+    CertRow, CrlRow, Listing, Moment, OrderRow, RequestRow, Serial, Status, SubscriberRow,
+};
+
+/// What is told of a certificate at a moment.
+#[derive(Clone, Copy)]
+pub struct CertificateLine {
+    pub certificate: CertRow,
+    /// Whose order it fills.
+    pub subscriber: SubscriberRow,
+    pub status: Status,
+    /// The CRLs that list it, where it is revoked.
+    pub listing: Option<Listing>,
+}
+
+/// What is told of a request for revocation.
+#[derive(Clone, Copy)]
+pub struct RequestLine {
+    pub request: RequestRow,
+    /// Up to when it is to be decided.
+    pub due: Moment,
+    pub certificate: CertRow,
+    /// Whose order the certificate fills.
+    pub subscriber: SubscriberRow,
+}
+
+/// What is told of an order.
+#[derive(Clone, Copy)]
+pub struct OrderLine {
+    pub order: OrderRow,
+    pub subscriber: SubscriberRow,
+    /// The serial number of the certificate that fills it, where one does.
+    pub serial: Option<Serial>,
+}
+
+/// A row of a list.
+#[derive(Clone, Copy)]
+pub enum Row {
+    Certificate(CertificateLine),
+    Request(RequestLine),
+    Subscriber(SubscriberRow),
+    Order(OrderLine),
+    Crl(CrlRow),
+}
+
+/// A page of a list: its rows in the order of keys, and where the next page goes on, if there may be one.
+#[derive(Drop)]
+pub struct Page {
+    pub rows: Vec<Row>,
+    pub next: Option<Cursor>,
+}

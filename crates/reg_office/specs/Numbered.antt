@@ -1,0 +1,32 @@
+-- The lists whose rows are numbered: what stands at a number, and the list from a number on.
+use Rattle.std.specs.Prelude.{ℕ, Option, option_and_then}
+use Rattle.reg_core.specs.Records.{Records, order_in, request_in, subscriber_in}
+use Rattle.reg_lists.specs.Lists.{open_row, order_row, overdue_row, subscriber_row}
+use Rattle.reg_lists.specs.declared.cursor.Cursor.{Cursor}
+use Rattle.reg_lists.specs.declared.cursor.Cursor.TheVariants as cursor
+use Rattle.reg_lists.specs.declared.rows.Row.{Row}
+use Rattle.reg_tables.specs.declared.sizes.Table.{Table}
+use Rattle.reg_tables.specs.declared.sizes.Table.TheVariants.{Subscribers as OfSubscribers, Orders as OfOrders, Requests as OfRequests}
+use Rattle.reg_office.specs.declared.pages.Numbered.{Numbered}
+use Rattle.reg_office.specs.declared.pages.Numbered.TheVariants.{OpenRequests, Overdue, Subscribers, Orders}
+
+-- the table whose rows it has
+abbrev pub table_of : Numbered → Table
+table_of OpenRequests = OfRequests
+table_of Overdue = OfRequests
+table_of Subscribers = OfSubscribers
+table_of Orders = OfOrders
+
+-- the list from a number on
+abbrev pub cursor_of : Numbered → ℕ → Cursor
+cursor_of OpenRequests after = cursor.OpenRequests after
+cursor_of Overdue after = cursor.Overdue after
+cursor_of Subscribers after = cursor.Subscribers after
+cursor_of Orders after = cursor.Orders after
+
+-- the row of the list that the record with a number is, where the list has it
+abbrev pub row_at : Records → ℕ → Numbered → ℕ → Option Row
+row_at records now OpenRequests id = option_and_then (open_row records now) (request_in records.requests id)
+row_at records now Overdue id = option_and_then (overdue_row records now) (request_in records.requests id)
+row_at records now Subscribers id = option_and_then subscriber_row (subscriber_in records.subscribers id)
+row_at records now Orders id = option_and_then (order_row records) (order_in records.orders id)

@@ -1,0 +1,409 @@
+//! Pages of lists. A page looks at the first rows past a key, as many as it may, and has those of them that the list selects: so
+//! it costs no more than these, whatever the list.
+
+ghost use Rattle.std.specs.Prelude.{◌≡◌, ℕ, ◌+◌, ◌++◌, ◌∷◌, ◌-◌, ◌==◌, [], Some, None, cond, filter_map, length, min, option_map, slice_get, IfErr, IfOk, OnOk};
+ghost use Rattle.std.specs.List.{AllByRecursion};
+ghost use Rattle.sqlite.specs.Held.{state};
+ghost use Rattle.sqlite.specs.State.{HasCleanDisk};
+ghost use Rattle.reg_core.specs.Records.{Records, order_in, request_in, revocation_in, subscriber_in};
+ghost use Rattle.reg_core.specs.Sound.{SoundRows};
+ghost use Rattle.reg_lists.specs.Lists.{certificate_row, ending_row, revoked_row};
+ghost use Rattle.reg_lists.specs.Pages.{IsPage, IsPaged};
+ghost use Rattle.reg_lists.specs.declared.cursor.Cursor.TheVariants as cursor;
+ghost use Rattle.reg_lists.specs.declared.rows.Row.TheVariants as kind;
+ghost use Rattle.reg_tables.specs.Kept.{ShowsKept};
+ghost use Rattle.reg_tables.specs.Shows.{Shows};
+ghost use Rattle.reg_tables.specs.Stays.{Looked};
+ghost use Rattle.reg_office.specs.Faults.{IsStoreFault, IsTableFault};
+ghost use Rattle.reg_office.specs.Numbered.{cursor_of, row_at, table_of};
+
+use crate::lines::{certificate_row, ending_row, open_row, order_row, overdue_row, revoked_row};
+use reg_core::{
+    CertRow, CrlRow, Fault, Moment, OrderRow, RequestRow, RevocationRow, Serial, SubscriberRow,
+    clock,
+};
+use reg_lists::{Cursor, Page, Row};
+use reg_store::{Store, Table};
+use sqlite::Alter;
+use std::alloc::Global;
+
+/// A list whose rows are numbered from 1 on.
+#[derive(Clone, Copy)]
+pub(crate) enum Numbered {
+    OpenRequests,
+    Overdue,
+    Subscribers,
+    Orders,
+}
+
+/// A page of a list from a key on, at a moment. It looks at so many rows at most.
+///
+/// # Errors
+/// `ClockEnd`, `ClockBack`; `Memory`; `Store` where the database fails, or where its rows are ones that no register writes.
+pub(crate) fn page<C: Alter>(
+    store: &mut Store<C>,
+    alloc: Global,
+    now: Moment,
+    from: Cursor,
+    most: u64,
+) -> Result<Page, Fault>
+    ensures page { (records : Records) → ShowsKept C.Store store.old records → SoundRows records → HasCleanDisk (state C.Store store.new) → IsPaged records now most from result }
+    ensures looked { Looked C.Store store.old store.new }
+    ensures faults { IfErr result IsTableFault }
+{
+    let last = store.last()?;
+    clock(now, last)?;
+    match from {
+        Cursor::Revoked(after) => revoked(store, alloc, now, after, most),
+        Cursor::Certificates(after) => certificates(store, alloc, now, after, most),
+        Cursor::Ending { before, after } => ending(store, alloc, now, before, after, most),
+        Cursor::OpenRequests(after) => {
+            page_by_ids(store, alloc, now, Numbered::OpenRequests, after, most)
+        }
+        Cursor::Overdue(after) => page_by_ids(store, alloc, now, Numbered::Overdue, after, most),
+        Cursor::Subscribers(after) => {
+            page_by_ids(store, alloc, now, Numbered::Subscribers, after, most)
+        }
+        Cursor::Orders(after) => page_by_ids(store, alloc, now, Numbered::Orders, after, most),
+        Cursor::Crls(after) => crls(store, alloc, after, most),
+    }
+}
+
+/// Puts a row behind others, where there is one.
+fn put(rows: &mut Vec<Row>, row: Option<Row>) -> Result<(), Fault>
+    ensures ok { OnOk result (rows.new.items ≡ rows.old.items ++ filter_map (λ one. one) (row ∷ [])) }
+    ensures faults { IfErr result IsStoreFault }
+{
+    match row {
+        Some(row) => push(rows, row),
+        None => Ok(()),
+    }
+}
+
+/// Puts a row behind others.
+fn push(rows: &mut Vec<Row>, row: Row) -> Result<(), Fault>
+    ensures ok { OnOk result (rows.new.items ≡ rows.old.items ++ row ∷ []) }
+    ensures faults { IfErr result IsStoreFault }
+{
+    match rows.push(row) {
+        Ok(()) => Ok(()),
+        Err(_) => Err(Fault::Memory),
+    }
+}
+
+// ---- the lists by serial numbers
+
+/// A page of the certificates.
+fn certificates<C: Alter>(
+    store: &mut Store<C>,
+    alloc: Global,
+    now: Moment,
+    after: Option<Serial>,
+    most: u64,
+) -> Result<Page, Fault>
+    ensures page { (records : Records) → ShowsKept C.Store store.old records → SoundRows records → HasCleanDisk (state C.Store store.new) → IfOk result (IsPage records now most (cursor.Certificates after)) }
+    ensures looked { Looked C.Store store.old store.new }
+    ensures faults { IfErr result IsStoreFault }
+{
+    let found = store.certs_after(after, most)?;
+    let rows = certificate_rows(store, alloc, now, &found)?;
+    let next = match last_certificate(&found, most) {
+        Some(serial) => Some(Cursor::Certificates(Some(serial))),
+        None => None,
+    };
+    Ok(Page { rows, next })
+}
+
+/// The rows of these certificates.
+fn certificate_rows<C: Alter>(
+    store: &mut Store<C>,
+    alloc: Global,
+    now: Moment,
+    found: &[CertRow],
+) -> Result<Vec<Row>, Fault>
+    ensures found { (records : Records) → ShowsKept C.Store store.old records → HasCleanDisk (state C.Store store.new) → IfOk result (λ rows. rows.items ≡ filter_map (certificate_row records now) found.now) }
+    ensures looked { Looked C.Store store.old store.new }
+    ensures faults { IfErr result IsStoreFault }
+{
+    let mut rows = Vec::new(alloc);
+    for certificate in found {
+        let row = certificate_row(store, now, *certificate)?;
+        put(&mut rows, row)?;
+    }
+    Ok(rows)
+}
+
+/// A page of the good certificates that end before a moment.
+fn ending<C: Alter>(
+    store: &mut Store<C>,
+    alloc: Global,
+    now: Moment,
+    before: Moment,
+    after: Option<Serial>,
+    most: u64,
+) -> Result<Page, Fault>
+    ensures page { (records : Records) → ShowsKept C.Store store.old records → SoundRows records → HasCleanDisk (state C.Store store.new) → IfOk result (IsPage records now most (cursor.Ending before after)) }
+    ensures looked { Looked C.Store store.old store.new }
+    ensures faults { IfErr result IsStoreFault }
+{
+    let found = store.certs_after(after, most)?;
+    let rows = ending_rows(store, alloc, now, before, &found)?;
+    let next = match last_certificate(&found, most) {
+        Some(serial) => Some(Cursor::Ending {
+            before,
+            after: Some(serial),
+        }),
+        None => None,
+    };
+    Ok(Page { rows, next })
+}
+
+/// The rows of those of these certificates that are good and end before a moment.
+fn ending_rows<C: Alter>(
+    store: &mut Store<C>,
+    alloc: Global,
+    now: Moment,
+    before: Moment,
+    found: &[CertRow],
+) -> Result<Vec<Row>, Fault>
+    ensures found { (records : Records) → ShowsKept C.Store store.old records → HasCleanDisk (state C.Store store.new) → IfOk result (λ rows. rows.items ≡ filter_map (ending_row records now before) found.now) }
+    ensures looked { Looked C.Store store.old store.new }
+    ensures faults { IfErr result IsStoreFault }
+{
+    let mut rows = Vec::new(alloc);
+    for certificate in found {
+        let row = ending_row(store, now, before, *certificate)?;
+        put(&mut rows, row)?;
+    }
+    Ok(rows)
+}
+
+/// The serial number of the last of these certificates, where they are as many as a page may look at.
+fn last_certificate(found: &[CertRow], most: u64) -> Option<Serial>
+    ensures { result ≡ cond (length found.now == most) (option_map (λ row. row.serial) (slice_get found.now (length found.now - 1))) None }
+{
+    if found.len() as u64 != most {
+        return None;
+    }
+    match found.last() {
+        Some(row) => Some(row.serial),
+        None => None,
+    }
+}
+
+/// A page of what is revoked.
+fn revoked<C: Alter>(
+    store: &mut Store<C>,
+    alloc: Global,
+    now: Moment,
+    after: Option<Serial>,
+    most: u64,
+) -> Result<Page, Fault>
+    ensures page { (records : Records) → ShowsKept C.Store store.old records → SoundRows records → HasCleanDisk (state C.Store store.new) → IfOk result (IsPage records now most (cursor.Revoked after)) }
+    ensures looked { Looked C.Store store.old store.new }
+    ensures faults { IfErr result IsStoreFault }
+{
+    let found = store.revocations_after(after, most)?;
+    let rows = revoked_rows(store, alloc, now, &found)?;
+    let next = match last_revocation(&found, most) {
+        Some(serial) => Some(Cursor::Revoked(Some(serial))),
+        None => None,
+    };
+    Ok(Page { rows, next })
+}
+
+/// The rows of these revocations.
+fn revoked_rows<C: Alter>(
+    store: &mut Store<C>,
+    alloc: Global,
+    now: Moment,
+    found: &[RevocationRow],
+) -> Result<Vec<Row>, Fault>
+    ensures found { (records : Records) → ShowsKept C.Store store.old records → HasCleanDisk (state C.Store store.new)
+        → AllByRecursion (λ row. Some row ≡ revocation_in records.revocations row.serial) found.now
+        → IfOk result (λ rows. rows.items ≡ filter_map (revoked_row records now) found.now) }
+    ensures looked { Looked C.Store store.old store.new }
+    ensures faults { IfErr result IsStoreFault }
+{
+    let mut rows = Vec::new(alloc);
+    for revocation in found {
+        let row = revoked_row(store, now, *revocation)?;
+        put(&mut rows, row)?;
+    }
+    Ok(rows)
+}
+
+/// The serial number of the last of these revocations, where they are as many as a page may look at.
+fn last_revocation(found: &[RevocationRow], most: u64) -> Option<Serial>
+    ensures { result ≡ cond (length found.now == most) (option_map (λ row. row.serial) (slice_get found.now (length found.now - 1))) None }
+{
+    if found.len() as u64 != most {
+        return None;
+    }
+    match found.last() {
+        Some(row) => Some(row.serial),
+        None => None,
+    }
+}
+
+// ---- the CRLs
+
+/// A page of the CRLs.
+fn crls<C: Alter>(store: &mut Store<C>, alloc: Global, after: u64, most: u64) -> Result<Page, Fault>
+    ensures page { (records : Records) → ShowsKept C.Store store.old records → HasCleanDisk (state C.Store store.new) → (now : ℕ) → IfOk result (IsPage records now most (cursor.Crls after)) }
+    ensures looked { Looked C.Store store.old store.new }
+    ensures faults { IfErr result IsStoreFault }
+{
+    let found = store.crls_after(after, most)?;
+    let rows = crl_rows(alloc, &found)?;
+    let next = match last_crl(&found, most) {
+        Some(number) => Some(Cursor::Crls(number)),
+        None => None,
+    };
+    Ok(Page { rows, next })
+}
+
+/// The rows of these CRLs.
+fn crl_rows(alloc: Global, found: &[CrlRow]) -> Result<Vec<Row>, Fault>
+    ensures found { IfOk result (λ rows. rows.items ≡ filter_map (λ crl. Some (kind.Crl crl)) found.now) }
+    ensures faults { IfErr result IsStoreFault }
+{
+    let mut rows = Vec::new(alloc);
+    for crl in found {
+        put(&mut rows, Some(Row::Crl(*crl)))?;
+    }
+    Ok(rows)
+}
+
+/// The number of the last of these CRLs, where they are as many as a page may look at.
+fn last_crl(found: &[CrlRow], most: u64) -> Option<u64>
+    ensures { result ≡ cond (length found.now == most) (option_map (λ row. row.number) (slice_get found.now (length found.now - 1))) None }
+{
+    if found.len() as u64 != most {
+        return None;
+    }
+    match found.last() {
+        Some(row) => Some(row.number),
+        None => None,
+    }
+}
+
+// ---- the lists by ids
+
+/// A page of a list whose rows are numbered: the next ids, up to the last that there is.
+fn page_by_ids<C: Alter>(
+    store: &mut Store<C>,
+    alloc: Global,
+    now: Moment,
+    list: Numbered,
+    after: u64,
+    most: u64,
+) -> Result<Page, Fault>
+    ensures page { (records : Records) → ShowsKept C.Store store.old records → HasCleanDisk (state C.Store store.new) → IfOk result (IsPage records now most (cursor_of list after)) }
+    ensures looked { Looked C.Store store.old store.new }
+    ensures faults { IfErr result IsStoreFault }
+{
+    let held = store.held(table_of(list))?;
+    let end = end_of(held, after, most);
+    let mut rows = Vec::new(alloc);
+    for before in after..end {
+        let row = row_at(store, now, list, before + 1)?;
+        put(&mut rows, row)?;
+    }
+    let next = if end.saturating_sub(after) == most {
+        Some(cursor_of(list, end))
+    } else {
+        None
+    };
+    Ok(Page { rows, next })
+}
+
+/// The last id that a page looks at, of so many rows.
+fn end_of(held: u64, after: u64, most: u64) -> u64
+    ensures { result ≡ min held (after + most) }
+{
+    if after < held && most <= held - after {
+        after + most
+    } else {
+        held
+    }
+}
+
+/// The table whose rows a list has.
+fn table_of(list: Numbered) -> Table
+    ensures { result ≡ table_of list }
+{
+    match list {
+        Numbered::OpenRequests => Table::Requests,
+        Numbered::Overdue => Table::Requests,
+        Numbered::Subscribers => Table::Subscribers,
+        Numbered::Orders => Table::Orders,
+    }
+}
+
+/// A list from a number on.
+fn cursor_of(list: Numbered, after: u64) -> Cursor
+    ensures { result ≡ cursor_of list after }
+{
+    match list {
+        Numbered::OpenRequests => Cursor::OpenRequests(after),
+        Numbered::Overdue => Cursor::Overdue(after),
+        Numbered::Subscribers => Cursor::Subscribers(after),
+        Numbered::Orders => Cursor::Orders(after),
+    }
+}
+
+/// The row of a list that the record with a number is, where the list has it.
+fn row_at<C: Alter>(
+    store: &mut Store<C>,
+    now: Moment,
+    list: Numbered,
+    id: u64,
+) -> Result<Option<Row>, Fault>
+    ensures found { (records : Records) → Shows C.Store store.old records → HasCleanDisk (state C.Store store.new) → IfOk result (λ row. row ≡ row_at records now list id) }
+    ensures looked { Looked C.Store store.old store.new }
+    ensures faults { IfErr result IsStoreFault }
+{
+    match list {
+        Numbered::OpenRequests => {
+            let request = request_at(store, id)?;
+            open_row(store, now, request)
+        }
+        Numbered::Overdue => {
+            let request = request_at(store, id)?;
+            overdue_row(store, now, request)
+        }
+        Numbered::Subscribers => Ok(Some(Row::Subscriber(subscriber_at(store, id)?))),
+        Numbered::Orders => {
+            let order = order_at(store, id)?;
+            order_row(store, order)
+        }
+    }
+}
+
+/// The request with an id. `Store` where there is none.
+fn request_at<C: Alter>(store: &mut Store<C>, id: u64) -> Result<RequestRow, Fault>
+    ensures found { (records : Records) → Shows C.Store store.old records → HasCleanDisk (state C.Store store.new) → IfOk result (λ row. Some row ≡ request_in records.requests id) }
+    ensures looked { Looked C.Store store.old store.new }
+    ensures faults { IfErr result IsStoreFault }
+{
+    store.request(id)?.ok_or(Fault::Store)
+}
+
+/// The subscriber with an id. `Store` where there is none.
+fn subscriber_at<C: Alter>(store: &mut Store<C>, id: u64) -> Result<SubscriberRow, Fault>
+    ensures found { (records : Records) → Shows C.Store store.old records → HasCleanDisk (state C.Store store.new) → IfOk result (λ row. Some row ≡ subscriber_in records.subscribers id) }
+    ensures looked { Looked C.Store store.old store.new }
+    ensures faults { IfErr result IsStoreFault }
+{
+    store.subscriber(id)?.ok_or(Fault::Store)
+}
+
+/// The order with an id. `Store` where there is none.
+fn order_at<C: Alter>(store: &mut Store<C>, id: u64) -> Result<OrderRow, Fault>
+    ensures found { (records : Records) → Shows C.Store store.old records → HasCleanDisk (state C.Store store.new) → IfOk result (λ row. Some row ≡ order_in records.orders id) }
+    ensures looked { Looked C.Store store.old store.new }
+    ensures faults { IfErr result IsStoreFault }
+{
+    store.order(id)?.ok_or(Fault::Store)
+}

@@ -1,0 +1,99 @@
+//! Look-ups of the first rows past a key, in the order of keys: as many as are wanted. Each stops at the last of them.
+
+ghost use Rattle.std.specs.Prelude.{◌≡◌, ◌<◌, ◌^◌, map, take, IfOk};
+ghost use Rattle.sqlite.specs.Held.{state};
+ghost use Rattle.sqlite.specs.State.{HasCleanDisk};
+ghost use Rattle.reg_core.specs.Crls.{row_of};
+ghost use Rattle.reg_core.specs.Records.{Records};
+ghost use Rattle.reg_core.specs.Serial.{serial_bytes};
+ghost use Rattle.reg_core.specs.Sound.{SoundRows};
+ghost use Rattle.reg_lists.specs.Lists.{key_of, past};
+ghost use Rattle.reg_tables.specs.Failing.{Blamed};
+ghost use Rattle.reg_tables.specs.Shows.{Shows};
+ghost use Rattle.reg_tables.specs.Stays.{Looked};
+
+use crate::fault::CallFault;
+use crate::reading::read;
+use crate::rows::{certificates_in, crls_in, revocations_in};
+use crate::statements::{CERTS_AFTER, CRLS_AFTER, REVOCATIONS_AFTER};
+use crate::values::sql_number;
+use reg_core::{CertRow, CrlRow, RevocationRow, Serial};
+use sqlite::{Alter, Connection, params};
+
+/// The bytes of a serial number, or those of 0, which is below all of them.
+#[tactic(auto, unfolding(reg_core::specs::Serial::serial_bytes))]
+fn bytes_of(after: Option<Serial>) -> [u8; 20]
+    ensures bytes { result ≡ serial_bytes (key_of after) }
+    ensures low { key_of after < 2 ^ 159 }
+{
+    match after {
+        Some(serial) => serial.bytes20(),
+        None => [0; 20],
+    }
+}
+
+/// The certificates past a serial number, or from the first one on, in ascending order of their serial numbers: as many as are
+/// wanted, if there are.
+///
+/// # Errors
+/// `Memory`; `Store` where the database fails, where its rows are ones that no register writes, or where more than 2^63 - 1 are
+/// wanted.
+#[tactic(auto, using(crate::proofs::PageLemmas::reading_certs))]
+pub fn certs_after<S: Alter>(
+    conn: &mut Connection<S>,
+    after: Option<Serial>,
+    most: u64,
+) -> Result<Vec<CertRow>, CallFault>
+    ensures found { (records : Records) → Shows S.Store conn.old records → SoundRows records → HasCleanDisk (state S.Store conn.new)
+        → IfOk result (λ found. found.items ≡ take most (past (λ row. row.serial) (key_of after) records.certificates)) }
+    ensures fails { most < 2 ^ 63 → Blamed S.Store CallFault.Store conn.old conn.new result }
+    ensures looked { Looked S.Store conn.old conn.new }
+{
+    let limit = sql_number(most)?;
+    let key = bytes_of(after);
+    let found = read(conn, CERTS_AFTER, params![key.as_slice(), &limit])?;
+    certificates_in(&found)
+}
+
+/// The revocations past a serial number, or from the first one on, in ascending order of their serial numbers: as many as are
+/// wanted, if there are.
+///
+/// # Errors
+/// As of [`certs_after`].
+#[tactic(auto, using(crate::proofs::PageLemmas::reading_revocations))]
+pub fn revocations_after<S: Alter>(
+    conn: &mut Connection<S>,
+    after: Option<Serial>,
+    most: u64,
+) -> Result<Vec<RevocationRow>, CallFault>
+    ensures found { (records : Records) → Shows S.Store conn.old records → SoundRows records → HasCleanDisk (state S.Store conn.new)
+        → IfOk result (λ found. found.items ≡ take most (past (λ row. row.serial) (key_of after) records.revocations)) }
+    ensures fails { most < 2 ^ 63 → Blamed S.Store CallFault.Store conn.old conn.new result }
+    ensures looked { Looked S.Store conn.old conn.new }
+{
+    let limit = sql_number(most)?;
+    let key = bytes_of(after);
+    let found = read(conn, REVOCATIONS_AFTER, params![key.as_slice(), &limit])?;
+    revocations_in(&found)
+}
+
+/// The CRLs past a number, without their bytes, in ascending order of their numbers: as many as are wanted, if there are.
+///
+/// # Errors
+/// `Memory`; `Store` where the database fails, where its rows are ones that no register writes, or for a number above 2^63 - 1.
+#[tactic(auto, using(crate::proofs::PageLemmas::reading_crls))]
+pub fn crls_after<S: Alter>(
+    conn: &mut Connection<S>,
+    after: u64,
+    most: u64,
+) -> Result<Vec<CrlRow>, CallFault>
+    ensures found { (records : Records) → Shows S.Store conn.old records → HasCleanDisk (state S.Store conn.new)
+        → IfOk result (λ found. found.items ≡ map row_of (take most (past (λ crl. crl.number) after records.crls))) }
+    ensures fails { after < 2 ^ 63 → most < 2 ^ 63 → Blamed S.Store CallFault.Store conn.old conn.new result }
+    ensures looked { Looked S.Store conn.old conn.new }
+{
+    let limit = sql_number(most)?;
+    let key = sql_number(after)?;
+    let found = read(conn, CRLS_AFTER, params![&key, &limit])?;
+    crls_in(&found)
+}

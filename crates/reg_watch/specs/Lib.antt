@@ -1,0 +1,5 @@
+pub mod Exchanges
+pub mod Healths
+pub mod Metrics
+pub mod Samples
+pub mod Tallies

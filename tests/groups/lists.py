@@ -1,0 +1,318 @@
+"""Lists: the rows of each, by `desk list` and by the pages of an open desk, beside those that the register as plain lists has."""
+
+import csv
+import io
+import json
+
+from lib.program import parted
+from lib.trial import each, test
+from model import lines as model_lines
+from model.moments import DAY, read, text_of
+from model.register import Register
+
+WORDS = ("revoked", "certificates", "open-requests", "overdue", "subscribers", "orders", "crls")
+OF_CERTIFICATES = "serial subscriber name order notBefore notAfter status revokedAt reason firstCrl lastCrl".split()
+OF_REQUESTS = "request serial ground received due subscriber name order notBefore notAfter".split()
+FIELDS = {
+    "revoked": OF_CERTIFICATES, "certificates": OF_CERTIFICATES, "ending": OF_CERTIFICATES, "open-requests": OF_REQUESTS, "overdue": OF_REQUESTS,
+    "subscribers": ["subscriber", "name"], "orders": ["order", "subscriber", "name", "days", "serial"], "crls": ["crl", "thisUpdate"],
+}  # fmt: skip
+NUMBERS = {"subscriber", "order", "reason", "firstCrl", "lastCrl", "request", "days", "crl"}
+# Names with each byte that a name may have.
+NAMES = ("ABCDEFGHIJKLMNOPQRSTUVWXYZ", "abcdefghijklmnopqrstuvwxyz", "0123456789", "-._", "a" * 64, ".")
+MOST = 250
+
+
+def played(lines):
+    """The register as plain lists after these lines."""
+    register = Register()
+    for line in lines.encode().splitlines():
+        model_lines.reply(register, line)
+    return register
+
+
+# The rows of each list, from the plain lists
+
+
+def serial_text(serial):
+    return f"{serial:040x}"
+
+
+def owner(register, order):
+    names = {id: name.decode() for name, id in register.subscribers.items()}
+    id = register.orders[order - 1].subscriber
+    return {"subscriber": id, "name": names[id], "order": order}
+
+
+def of_certificate(register, now, it):
+    row = {"serial": serial_text(it.serial), **owner(register, it.order), "notBefore": text_of(it.not_before), "notAfter": text_of(it.not_after)}
+    row |= {"status": register.status_of(now, it.serial), "revokedAt": None, "reason": None, "firstCrl": None, "lastCrl": None}
+    if it.serial in register.revocations:
+        revoked = register.revocations[it.serial]
+        row |= {"revokedAt": text_of(revoked.at), "reason": revoked.reason, "firstCrl": revoked.first, "lastCrl": register.last_listing(revoked)}
+    return row
+
+
+def of_request(register, id, it):
+    certificate = register.certificates[it.serial]
+    return {
+        "request": id, "serial": serial_text(it.serial), "ground": it.ground.decode(), "received": text_of(it.received), "due": text_of(it.due),
+        **owner(register, certificate.order), "notBefore": text_of(certificate.not_before), "notAfter": text_of(certificate.not_after),
+    }  # fmt: skip
+
+
+def of_order(register, id, it):
+    filled = [serial_text(one.serial) for one in register.certificates.values() if one.order == id]
+    return {**owner(register, id), "days": it.days, "serial": filled[0] if filled else None}
+
+
+def is_open(register, now, it):
+    return not it.declined and register.status_of(now, it.serial) == "good"
+
+
+def rows_of(register, now, word, before=None):
+    """The rows of a list at a moment, each as an object."""
+    certificates = sorted(register.certificates.values(), key=lambda it: it.serial)
+    requests = list(enumerate(register.requests, 1))
+    if word == "revoked":
+        return [of_certificate(register, now, it) for it in certificates if it.serial in register.revocations]
+    if word == "certificates":
+        return [of_certificate(register, now, it) for it in certificates]
+    if word == "ending":
+        return [of_certificate(register, now, it) for it in certificates if register.status_of(now, it.serial) == "good" and it.not_after < before]
+    if word == "open-requests":
+        return [of_request(register, id, it) for id, it in requests if is_open(register, now, it)]
+    if word == "overdue":
+        return [of_request(register, id, it) for id, it in requests if is_open(register, now, it) and now > it.due]
+    if word == "subscribers":
+        return [{"subscriber": id, "name": name.decode()} for name, id in register.subscribers.items()]
+    if word == "orders":
+        return [of_order(register, id, it) for id, it in enumerate(register.orders, 1)]
+    return [{"crl": number, "thisUpdate": text_of(at)} for number, at in enumerate(register.crls, 1)]
+
+
+def as_csv(word, rows):
+    fields = FIELDS[word]
+    return "".join(",".join("" if it is None else str(it) for it in row) + "\n" for row in [fields, *([row[name] for name in fields] for row in rows)])
+
+
+def as_lines(rows):
+    return "".join(json.dumps(row, separators=(",", ":")) + "\n" for row in rows)
+
+
+def in_fields(word, row):
+    return {name: row[name] for name in FIELDS[word]}
+
+
+# A register with a row of each kind
+
+
+FIRST, NOW = read(b"2026-01-01T00:00:00Z"), read(b"2026-01-20T12:00:00Z")
+
+
+def entered(count=24):
+    """Lines that register some certificates of all names; some are revoked, ended, asked to be revoked, declined or late."""
+    told = [f"{text_of(FIRST)} subscriber {name}" for name in NAMES]
+    serials = [it * 2**151 + 5 if it % 3 else it + 1 for it in range(count)]
+    for at, serial in enumerate(serials):
+        end = FIRST + (10 + at) * DAY
+        told.append(f"{text_of(FIRST)} order {at % len(NAMES) + 1} {30 + at}")
+        told.append(f"{text_of(FIRST)} register {at + 1} {serial:x} {text_of(FIRST)} {text_of(end)}")
+    told.append(f"{text_of(FIRST)} order 1 30")
+    grounds = ("asked", "key-compromise", "misuse", "superseded", "cessation", "affiliation")
+    for at, serial in enumerate(serials[:18]):
+        told.append(f"{text_of(FIRST + at * DAY // 4)} request {serial:x} {grounds[at % 6]}")
+    told += [f"{text_of(FIRST + 5 * DAY)} {'decline' if at % 3 == 2 else 'revoke'} {at}" for at in range(1, 10)]
+    told += [f"{text_of(FIRST + day * DAY)} crl" for day in (6, 13, 19)]
+    told += [f"{text_of(NOW)} revoke 17", f"{text_of(NOW)} request {serials[20]:x} asked"]
+    return "".join(f"{it}\n" for it in told)
+
+
+def made(t, lines):
+    t.register(lines=lines)
+    return played(lines)
+
+
+def asked(t, word, before=None, *more):
+    words = ["list", "ca.db", word, *more]
+    return words if before is None else [*words, "--before", text_of(before)]
+
+
+@test
+def each_list_has_its_rows(t):
+    register = made(t, entered())
+    for now in (NOW, NOW + 8 * DAY, NOW + 400 * DAY):
+        for word, before in [*((it, None) for it in WORDS), ("ending", now + 7 * DAY), ("ending", now), ("ending", now + 1000 * DAY)]:
+            rows = [in_fields(word, it) for it in rows_of(register, now, word, before)]
+            t.same(t.done(*asked(t, word, before, "--now", text_of(now))), as_csv(word, rows), f"{word} as CSV")
+            t.same(t.done(*asked(t, word, before, "--now", text_of(now), "--json")), as_lines(rows), f"{word} as JSON")
+    for word in WORDS:
+        t.true(rows_of(register, NOW, word), f"no row of {word} came")
+    t.same({it["status"] for it in rows_of(register, NOW, "certificates")}, {"good", "revoked", "expired"}, "statuses that came")
+
+
+@test
+def other_programs_read_a_list(t):
+    register = made(t, entered())
+    told = t.done("list", "ca.db", "certificates", "--now", text_of(NOW))
+    rows = list(csv.DictReader(io.StringIO(told)))
+    wanted = rows_of(register, NOW, "certificates")
+    t.same(rows, [{name: "" if it[name] is None else str(it[name]) for name in OF_CERTIFICATES} for it in wanted], "by Python's csv")
+    told = t.done("list", "ca.db", "certificates", "--now", text_of(NOW), "--json").splitlines()
+    t.same([json.loads(it) for it in told], [in_fields("certificates", it) for it in wanted], "by Python's json")
+    t.same([it["serial"] for it in wanted], sorted(it["serial"] for it in wanted), "in the order of their text, too")
+
+
+@test
+def an_empty_register_has_empty_lists(t):
+    t.register()
+    t.clock(NOW)
+    for word in WORDS:
+        t.same(t.done("list", "ca.db", word), as_csv(word, []), word)
+        t.same(t.done("list", "ca.db", word, "--json"), "", word)
+    t.same(t.done("list", "ca.db", "ending", "--before", text_of(NOW)), as_csv("ending", []))
+    desk = t.open()
+    for word in (*WORDS, f"ending?before={text_of(NOW)}"):
+        _, _, body = parted(desk.ask("GET", f"/list/{word}"))
+        t.same(body.decode(), '{"list":"%s","next":null,"rows":[]}' % word.split("?")[0], word)
+
+
+@test
+def the_machines_clock_tells_the_moment(t):
+    register = made(t, entered())
+    t.clock(NOW + DAY)
+    t.same(t.done("list", "ca.db", "overdue"), as_csv("overdue", rows_of(register, NOW + DAY, "overdue")))
+    for words, line in ((("--now", "2026-01-01T00:00:00Z"), f"E01 clock-back {text_of(NOW)}"), (("--now", "9999-12-22T00:00:00Z"), "E02 clock-end")):
+        ran = t.desk("list", "ca.db", "crls", *words)
+        t.same((ran.status, ran.out, ran.err), (1, b"", f"{line}\n".encode()), str(words))
+
+
+# Pages of an open desk
+
+
+def page(t, desk, word, **told):
+    query = "&".join(f"{name}={it}" for name, it in told.items())
+    status, lines, body = parted(desk.ask("GET", f"/list/{word}" + (f"?{query}" if query else "")))
+    t.same((status, [it for it in lines if it.startswith("Content-Type")]), (200, ["Content-Type: application/json"]), f"{word} {query}")
+    it = json.loads(body)
+    t.same(body.decode(), json.dumps(it, separators=(",", ":")), "the form of a page")
+    t.same((list(it), it["list"]), (["list", "next", "rows"], word), "a page")
+    return it
+
+
+def pages(t, desk, word, limit, **told):
+    """The rows of all pages, one after the other, and how many each has."""
+    rows, counts, behind = [], [], None
+    while True:
+        it = page(t, desk, word, limit=limit, **told, **({} if behind is None else {"after": behind}))
+        rows, counts, behind = [*rows, *it["rows"]], [*counts, len(it["rows"])], it["next"]
+        if behind is None:
+            return rows, counts
+        t.true(len(counts) < 200, "pages without end")
+
+
+@each({str(it): (it,) for it in (1, 2, 5, 6, 8, 12, 24, 25, 250, 1000)})
+def pages_have_the_rows_of_a_list(t, limit):
+    register = made(t, entered())
+    t.clock(NOW)
+    desk = t.open()
+    for word, told in [*((it, {}) for it in WORDS), ("ending", {"before": text_of(NOW + 7 * DAY)})]:
+        wanted = [in_fields(word, it) for it in rows_of(register, NOW, word, NOW + 7 * DAY)]
+        rows, counts = pages(t, desk, word, limit, **told)
+        t.same(rows, wanted, f"{word} by {limit}")
+        t.true(max(counts) <= limit, f"a page of {word} has {max(counts)} rows")
+    # 24 certificates: where pages meet exactly at the end, one more comes, which has no row.
+    rows, counts = pages(t, desk, "certificates", limit)
+    t.same(counts, [limit] * (24 // limit) + [24 % limit], "rows of each page")
+
+
+@test
+def what_is_entered_meanwhile_comes_behind_its_key(t):
+    made(t, entered())
+    t.clock(NOW)
+    desk = t.open()
+    first = page(t, desk, "subscribers", limit=6)
+    t.same((first["next"], len(first["rows"])), ("6", 6))
+    t.same(t.counter().ask("subscriber seventh"), "subscriber 7")
+    t.same(page(t, desk, "subscribers", limit=6, after=first["next"]), {"list": "subscribers", "next": None, "rows": [{"subscriber": 7, "name": "seventh"}]})
+
+
+@test
+def a_page_looks_at_250_rows_at_most(t):
+    lines = [f"{text_of(FIRST)} subscriber s{it}" for it in range(1, 603)]
+    made(t, "".join(f"{it}\n" for it in lines))
+    t.clock(NOW)
+    desk = t.open()
+    for told in ({}, {"limit": 1000}, {"limit": 251}, {"limit": 250}):
+        it = page(t, desk, "subscribers", **told)
+        t.same((len(it["rows"]), it["next"]), (MOST, "250"), str(told))
+    rows, counts = pages(t, desk, "subscribers", 1000)
+    t.same((counts, [it["subscriber"] for it in rows]), ([250, 250, 102], list(range(1, 603))))
+    desk.end()
+    t.same(t.done("list", "ca.db", "subscribers").count("\n"), 603)
+
+
+UNREAD = (
+    "", "nothing", "Revoked", "revoked/", "revoked/05", "ending", "ending?after=05", "revoked?before=2026-02-01T00:00:00Z", "ending?before=2026-02-01",
+    "revoked?after=", "revoked?after=0", "revoked?after=xyz", "revoked?after=" + "f" * 41, "subscribers?after=5a", "subscribers?after=-1",
+    "subscribers?after=1000000000000000000", "revoked?limit=0", "revoked?limit=1001", "revoked?limit=", "revoked?limit=1&limit=1", "revoked?after=05&after=06",
+    "revoked?limit", "revoked?limit=1&", "revoked?&limit=1", "revoked?page=1", "revoked?Limit=1", "revoked?limit=1;after=05",
+)  # fmt: skip
+
+
+@test
+def what_can_not_be_read_is_told_so(t):
+    t.register(lines=entered())
+    t.clock(NOW)
+    desk = t.open()
+    for target in UNREAD:
+        status, _, body = parted(desk.ask("GET", f"/list/{target}"))
+        t.same((status, body), (400, b'{"error":"E22 syntax"}'), target)
+    for method in ("POST", "HEAD", "get", "DELETE"):
+        status, lines, body = parted(desk.ask(method, "/list/revoked", b"" if method == "POST" else None))
+        t.same((status, [it for it in lines if it.startswith("Allow")], body), (405, ["Allow: GET"], b'{"error":"405"}'), method)
+    for target in ("/list", "/lists/revoked", "/List/revoked"):
+        status, _, body = parted(desk.ask("GET", target))
+        t.same((status, body), (404, b'{"error":"404"}'), target)
+    t.same(parted(desk.send(b"GET /list/revoked HTTP/1.1\r\n" + b"a: b\r\n" * 65 + b"\r\n"))[0], 431)
+    t.clock(FIRST)
+    status, _, body = parted(desk.ask("GET", "/list/crls"))
+    t.same((status, body), (409, b'{"error":"E01 clock-back %s"}' % text_of(NOW).encode()))
+
+
+@test
+def what_is_told_may_stand_in_any_order_and_be_quoted(t):
+    register = made(t, entered())
+    t.clock(NOW)
+    desk = t.open()
+    before = text_of(NOW + 7 * DAY)
+    wanted = parted(desk.ask("GET", f"/list/ending?before={before}&limit=3&after=05"))
+    t.true(len(json.loads(wanted[2])["rows"]) in range(4), "a page of three rows at most")
+    for told in (f"limit=3&after=5&before={before}", f"after=0005&before={before.replace(':', '%3A')}&limit=003", f"%61fter=05&limit=3&before={before}"):
+        t.same(parted(desk.ask("GET", f"/list/ending?{told}"))[2], wanted[2], told)
+    t.same(parted(desk.send(b"\r\nGET /list/crls? HTTP/1.0\r\n\r\n"))[2], parted(desk.ask("GET", "/list/crls"))[2], "behind an empty line, and with nothing told")
+    t.same(len(rows_of(register, NOW, "crls")), 3)
+
+
+@test
+def a_key_that_no_row_has_is_a_place_all_the_same(t):
+    register = made(t, entered())
+    t.clock(NOW)
+    desk = t.open()
+    wanted = [in_fields("certificates", it) for it in rows_of(register, NOW, "certificates")]
+    for serial in (1, 2, 100, 2**151, 2**152 + 6, 2**159 - 1):
+        it = page(t, desk, "certificates", after=f"{serial:x}")
+        t.same(it["rows"], [row for row in wanted if int(row["serial"], 16) > serial], f"behind {serial:x}")
+    for number in (0, 3, 24, 25, 10**18 - 1):
+        it = page(t, desk, "orders", after=number)
+        t.same([row["order"] for row in it["rows"]], [id for id in range(1, 26) if id > number], f"behind {number}")
+
+
+@test
+def no_list_is_served_but_by_open(t):
+    t.register(lines=entered())
+    t.clock(NOW)
+    desk = t.open("ca.db", "--requests", "2", command="serve")
+    for target in ("/list/revoked", "/list/crls?limit=1"):
+        status, _, body = parted(desk.ask("GET", target))
+        t.same((status, body), (404, b'{"error":"404"}'), target)

@@ -1,0 +1,327 @@
+"""What an open register tells of itself: /health, /metrics in the text form of Prometheus, and the alerts of examples/alerts.yml."""
+
+import contextlib
+import json
+import re
+import subprocess
+import time
+import urllib.parse
+import urllib.request
+
+from lib import program
+from lib.program import ANY_SIGNATURE, parted
+from lib.trial import Failed, each, need, test
+
+DAY = "2026-01-01T00:00:00Z"
+FIRST = program.seconds_of(DAY)
+SIGNING = ("--signer", "ca.sign", "--algorithm", "ecdsa-sha256")
+ALERTS = program.TOP / "examples/alerts.yml"
+# A request for revocation that is overdue after a day.
+LINES = ["subscriber acme", "order 1 90", "register 1 05 2026-01-01T00:00:00Z 2026-02-01T00:00:00Z", "request 05 key-compromise"]
+# An OCSP request for a certificate of another issuer, in the form of RFC 6960 4.1.1.
+OCSP = bytes.fromhex("30423040303E303C303A300906052B0E03021A05000414" + "00" * 20 + "0414" + "00" * 20 + "020105")
+ENDS = ("0.0001", "0.0003", "0.001", "0.003", "0.01", "0.03", "0.1", "0.3", "1", "3", "10", "+Inf")
+
+
+def opened(t, *words, clock=DAY, key=program.KEY):
+    t.register(key=key)
+    t.clock(clock)
+    return t.open("ca.db", *words)
+
+
+def asked(t, desk, path):
+    """The status, the type and the body of an answer."""
+    status, fields, body = parted(desk.ask("GET", path))
+    (kind,) = [it.removeprefix("Content-Type: ") for it in fields if it.startswith("Content-Type: ")]
+    return status, kind, body
+
+
+def metrics(t, desk):
+    """Each sample of /metrics, by its series; its form is looked at (Prometheus, "Text-based format", version 0.0.4)."""
+    status, kind, body = asked(t, desk, "/metrics")
+    t.same((status, kind), (200, "text/plain; version=0.0.4; charset=utf-8"))
+    t.true(body.endswith(b"\n"), "it ends with a line's end")
+    found, families, family = {}, [], ""
+    for line in body.decode().splitlines():
+        if told := re.fullmatch(r"# (HELP|TYPE) ([a-z_]+) (.+)", line):
+            if told[1] == "HELP":
+                family = told[2]
+                families.append(family)
+            t.same(told[2], family, "a line of type is of the family before it")
+            if told[1] == "TYPE":
+                t.same(told[3] == "counter", family.endswith("_total"), f"{family} is {told[3]}")
+            continue
+        one = re.fullmatch(r"([a-z_]+)(\{[a-z_]+=\"[^\"]*\"(?:,[a-z_]+=\"[^\"]*\")*\})? (\d+(?:\.\d+)?)", line)
+        t.true(one and re.fullmatch(re.escape(family) + "(_bucket|_sum|_count)?", one[1]), f"a sample of {family}: {line!r}")
+        series = one[1] + (one[2] or "")
+        t.true(series not in found, f"{series} twice")
+        found[series] = float(one[3])
+    t.same(len(families), len(set(families)), "each family once")
+    return found
+
+
+def of(found, start):
+    """The samples whose series begin so, without that."""
+    return {series.removeprefix(start): value for series, value in found.items() if series.startswith(start)}
+
+
+def health(t, desk):
+    status, kind, body = asked(t, desk, "/health")
+    told = json.loads(body)
+    t.same((kind, told.pop("status")), ("application/json", "ok" if status == 200 else "failing"))
+    return status, {name: since for name, since in told.items() if since is not None}
+
+
+@test
+def a_register_that_was_just_made(t):
+    found = metrics(t, opened(t))
+    t.same(of(found, "desk_crl"), {"_number": 0, "_due_timestamp_seconds": 0})
+    t.same({value for series, value in found.items() if series.startswith(("desk_certificates", "desk_requests_o", "desk_sign", "desk_lines", "desk_store"))}, {0})
+    t.same(found["desk_register_readable"], 1)
+    t.same(of(found, "desk_http_responses_total"), {}, "no answer yet: this one is counted behind itself")
+    t.same(of(found, "desk_connections"), {'{at="port"}': 1, '{at="counter"}': 0, "_accepted_total": 1, **{f'_lost_total{{why="{it}"}}': 0 for it in ("broken", "late", "crowded", "memory")}})
+    t.same(of(found, "desk_exchange_seconds"), {**{f'_bucket{{le="{it}"}}': 0 for it in ENDS}, "_sum": 0, "_count": 0})
+
+
+@test
+def the_numbers_of_a_register(t):
+    desk = opened(t)
+    t.done("at", "counter", given="".join(f"{it}\n" for it in [*LINES, "order 1 30", "register 2 06 2026-01-01T00:00:00Z 2026-01-10T00:00:00Z", "order 1 90",
+           "register 3 07 2026-01-01T00:00:00Z 2026-02-01T00:00:00Z", "request 07 superseded", "revoke 2", "crl"]))
+    t.clock("2026-01-03T00:00:00Z")
+    found = metrics(t, desk)
+    now = FIRST + 2 * 86_400
+    t.same(of(found, "desk_certificates"), {'{status="good"}': 2, '{status="revoked"}': 1, '{status="expired"}': 0})
+    t.same(of(found, "desk_crl_"), {"number": 1, "this_update_timestamp_seconds": FIRST, "next_update_timestamp_seconds": FIRST + 8 * 86_400, "age_seconds": 2 * 86_400,
+           "due_timestamp_seconds": FIRST + 7 * 86_400})
+    t.same(of(found, "desk_requests_"), {"open": 1, "overdue": 1, "counted_timestamp_seconds": now})
+    t.same((found["desk_clock_timestamp_seconds"], found["desk_clock_behind_seconds"], found["desk_last_command_timestamp_seconds"]), (now, 0, FIRST))
+    t.clock("2026-01-10T00:00:01Z")
+    t.same(of(metrics(t, desk), "desk_certificates"), {'{status="good"}': 1, '{status="revoked"}': 1, '{status="expired"}': 1})
+
+
+@test
+def requests_are_counted_once_a_minute(t):
+    desk = opened(t)
+    told = lambda: of(metrics(t, desk), "desk_requests_")
+    t.same(told(), {"open": 0, "overdue": 0, "counted_timestamp_seconds": FIRST})
+    t.done("at", "counter", given="".join(f"{it}\n" for it in LINES))
+    t.clock(program.moment_of(FIRST + 59))
+    t.same(told(), {"open": 0, "overdue": 0, "counted_timestamp_seconds": FIRST}, "59 seconds later")
+    t.clock(program.moment_of(FIRST + 60))
+    t.same(told(), {"open": 1, "overdue": 0, "counted_timestamp_seconds": FIRST + 60}, "a minute later")
+    t.done("at", "counter", given="revoke 1\n")
+    t.clock(program.moment_of(FIRST + 120))
+    t.same(told()["open"], 0, "one that was granted is open no more")
+
+
+@test
+def a_clock_that_is_set_back(t):
+    desk = opened(t)
+    t.done("at", "counter", given="subscriber acme\n")
+    t.clock(program.moment_of(FIRST - 90))
+    found = metrics(t, desk)
+    t.same((found["desk_clock_behind_seconds"], found["desk_register_readable"]), (90, 0))
+    t.same([it for it in found if it.startswith(("desk_certificates", "desk_crl", "desk_last"))], [], "what the register has is left out")
+
+
+@test
+def answers_by_route_and_status(t):
+    desk = opened(t)
+    for method, path, body in (("GET", "/counts", None), ("GET", "/counts?x", None), ("GET", "/crl", None), ("GET", "/crl/1", None), ("GET", "/status/05", None), ("GET", "/status/x", None),
+                               ("POST", "/ocsp", OCSP), ("GET", "/ocsp/AAAA", None), ("DELETE", "/crl", None), ("POST", "/requests", '{"serial":"05","ground":"asked"}'),
+                               ("GET", "/nowhere", None), ("GET", "/health", None), ("POST", "/metrics", "x")):
+        desk.ask(method, path, body)
+    desk.send(b"nonsense\r\n\r\n")
+    desk.send(b"POST /ocsp HTTP/1.1\r\nContent-Length: 65537\r\n\r\n")
+    desk.send(b"POST /ocsp HTTP/1.1\r\n\r\n")
+    desk.send(b"GET /crl HTTP/1.1\r\n" + b"a: b\r\n" * 2_000)
+    t.same(of(metrics(t, desk), "desk_http_responses_total"), {
+        '{route="/ocsp",code="200"}': 1, '{route="/ocsp",code="411"}': 1, '{route="/ocsp",code="413"}': 1, '{route="/ocsp/{request}",code="200"}': 1,
+        '{route="/crl",code="404"}': 1, '{route="/crl",code="405"}': 1, '{route="/crl",code="431"}': 1, '{route="/crl/{number}",code="404"}': 1,
+        '{route="/status/{serial}",code="200"}': 1, '{route="/status/{serial}",code="400"}': 1, '{route="/counts",code="200"}': 2, '{route="/requests",code="409"}': 1,
+        '{route="/health",code="503"}': 1, '{route="/metrics",code="405"}': 1, '{route="other",code="400"}': 1, '{route="other",code="404"}': 1,
+    })
+    t.same(metrics(t, desk)['desk_http_responses_total{route="/metrics",code="200"}'], 1)
+
+
+@test
+def lines_connections_and_seconds(t):
+    desk = opened(t)
+    with t.counter() as counter:
+        for line in ("subscriber acme", "counts", "revoke 1", "x"):
+            counter.ask(line)
+        desk.ask("GET", "/counts")
+        found = metrics(t, desk)
+    t.same(of(found, "desk_lines_total"), {'{reply="accepted"}': 2, '{reply="refused"}': 2, '{reply="fault"}': 0})
+    t.same((found['desk_connections{at="port"}'], found['desk_connections{at="counter"}'], found["desk_connections_accepted_total"]), (1, 1, 2))
+    seconds = of(found, "desk_exchange_seconds")
+    ranges = [seconds[f'_bucket{{le="{it}"}}'] for it in ENDS]
+    t.same(ranges, sorted(ranges), "each range has those below it")
+    t.same((ranges[-1], seconds["_count"]), (5, 5), "four lines and an answer")
+    t.true(0 < seconds["_sum"] < 5, f"their sum: {seconds['_sum']}")
+
+
+@test(seconds=2)
+def who_breaks_off_is_lost(t):
+    desk = opened(t)
+    with desk.connect() as peer:
+        peer.sendall(b"GET /counts")
+        time.sleep(0.2)
+        # It goes by a reset.
+        peer.setsockopt(1, 13, b"\1\0\0\0\0\0\0\0")
+    for _ in range(100):
+        if of(metrics(t, desk), "desk_connections_lost_total") == {'{why="broken"}': 1, '{why="late"}': 0, '{why="crowded"}': 0, '{why="memory"}': 0}:
+            return
+        time.sleep(0.05)
+    raise Failed("it is not told")
+
+
+@test(seconds=2)
+def signatures_and_who_fails(t):
+    """Of CRLs and of OCSP answers each by itself, since when the last one did not come."""
+    fails = set()
+    t.signer(answer=lambda message, call: None if call in fails else ANY_SIGNATURE)
+    desk = opened(t, *SIGNING, key=program.P256_KEY)
+    signs = lambda: [of(metrics(t, desk), f"desk_sign{it}") for it in ("atures_total", "ature_failures_total", "ature_timestamp_seconds", "ature_failure_timestamp_seconds", "er_failing_since_timestamp_seconds")]
+    both = lambda crl, ocsp: {'{of="crl"}': crl, '{of="ocsp"}': ocsp}
+    fails.update({1, 4, 5})
+    desk.ask("POST", "/ocsp", OCSP)
+    t.same(signs(), [both(0, 0), both(0, 1), both(0, 0), both(0, FIRST), both(0, FIRST)], "an answer that nobody signed")
+    t.same(health(t, desk), (503, {"crl": "at-once", "ocsp_signer": DAY}))
+    t.clock(program.moment_of(FIRST + 1))
+    t.done("at", "counter", given="crl\n")
+    t.same(signs(), [both(1, 0), both(0, 1), both(FIRST + 1, 0), both(0, FIRST), both(0, FIRST)], "and a CRL")
+    desk.ask("POST", "/ocsp", OCSP)
+    desk.ask("POST", "/ocsp", b"abc")
+    t.same(signs(), [both(1, 1), both(0, 1), both(FIRST + 1, FIRST + 1), both(0, FIRST), both(0, 0)], "an answer; one that refuses is not signed")
+    t.same(health(t, desk), (200, {}))
+    for later in (2, 3):
+        t.clock(program.moment_of(FIRST + later))
+        t.same(t.desk("at", "counter", given="crl\n").lines, ["F3 signer"])
+    t.same(signs(), [both(1, 1), both(2, 1), both(FIRST + 1, FIRST + 1), both(FIRST + 3, FIRST), both(FIRST + 2, 0)], "two CRLs that nobody signed")
+    t.same(health(t, desk), (503, {"crl_signer": program.moment_of(FIRST + 2)}))
+
+
+@test
+def an_ocsp_line_at_the_counter_is_signed_too(t):
+    t.signer(answer=lambda message, call: None if call == 2 else ANY_SIGNATURE)
+    desk = opened(t, *SIGNING, key=program.P256_KEY)
+    with t.counter() as counter:
+        t.true(len(counter.ask(f"ocsp {OCSP.hex()}")) > 100, "signed")
+        t.same(counter.ask(f"ocsp {OCSP.hex()}"), "ocsp 30030a0102", "not signed")
+        t.same(counter.ask("ocsp 00"), "ocsp 30030a0101", "none")
+    found = metrics(t, desk)
+    t.same((found['desk_signatures_total{of="ocsp"}'], found['desk_signature_failures_total{of="ocsp"}'], found['desk_signature_failures_total{of="crl"}']), (1, 1, 0))
+
+
+@test
+def a_disk_that_fails(t):
+    """Up to a command that is entered: queries say nothing of what can be written."""
+    t.register()
+    t.clock(DAY)
+    desk = t.open("ca.db", faults={"FAULTS_ONLY": "ca.db-wal,ca.db", "FAULTS_FAIL": "write:1"})
+    with t.counter() as counter:
+        t.same(counter.ask("subscriber acme"), "F2 store")
+        t.same(health(t, desk), (503, {"crl": "at-once", "store": DAY}))
+        t.clock(program.moment_of(FIRST + 5))
+        t.same(counter.ask("counts"), "good 0 revoked 0 expired 0")
+        t.same(health(t, desk), (503, {"crl": "at-once", "store": DAY}), "a query was answered")
+        t.same(metrics(t, desk)["desk_store_failing_since_timestamp_seconds"], FIRST)
+        t.same(counter.ask("subscriber acme"), "subscriber 1")
+    t.same(health(t, desk), (503, {"crl": "at-once"}), "a command was entered")
+
+
+@test
+def it_changes_nothing(t):
+    desk = opened(t)
+    t.done("at", "counter", given="subscriber acme\n")
+    t.clock("2026-01-03T00:00:00Z")
+    for path in ("/metrics", "/health"):
+        asked(t, desk, path)
+    t.clock("2026-01-02T00:00:00Z")
+    t.same(t.done("at", "counter", given="order 1 90\n"), "order 1\n", "a command before the moment at which it was asked")
+
+
+# ---- Prometheus
+
+
+@test
+def promtool_takes_the_metrics_and_the_alerts(t):
+    need("promtool")
+    desk = opened(t)
+    t.done("at", "counter", given="".join(f"{it}\n" for it in [*LINES, "crl"]))
+    desk.ask("GET", "/crl")
+    t.same(t.tool("promtool", "check", "metrics", given=asked(t, desk, "/metrics")[2]), b"", "what promtool finds wrong with /metrics")
+    t.has(t.tool("promtool", "check", "rules", ALERTS).decode(), "SUCCESS: 5 rules found")
+
+
+RULES = """
+rule_files: [{rules}]
+evaluation_interval: 1m
+tests:
+"""
+# Series over the minutes, and the alerts of which one is there after an hour.
+CASES = {
+    "all is well": (["desk_requests_overdue{job='desk'} 0x60", "up{job='desk'} 1x60", "desk_clock_behind_seconds 0x60", "desk_signer_failing_since_timestamp_seconds{of='crl'} 0x60",
+                     "desk_clock_timestamp_seconds 0+60x60", "desk_crl_due_timestamp_seconds 604800x60"], []),
+    "nobody answers": (["up{job='desk'} 0x60"], ["DeskAway"]),
+    "a CRL that is late": (["desk_clock_timestamp_seconds 0+60x60", "desk_crl_due_timestamp_seconds -7200x60"], ["DeskCrlLate"]),
+    "a CRL that is due": (["desk_clock_timestamp_seconds 0+60x60", "desk_crl_due_timestamp_seconds -3600x60"], []),
+    "a signer that fails": (["desk_signer_failing_since_timestamp_seconds{of='ocsp'} 5x60"], ["DeskSignerFailing"]),
+    "a request that is overdue": (["desk_requests_overdue 2x60"], ["DeskRequestOverdue"]),
+    "a clock that is behind": (["desk_clock_behind_seconds 3x60"], ["DeskClock"]),
+    "a clock of its own": (["desk_clock_timestamp_seconds 90+60x60"], ["DeskClock"]),
+}
+
+
+@each(CASES)
+def each_alert_fires_and_no_other(t, series, fires):
+    need("promtool")
+    names = re.findall(r"- alert: (\w+)", ALERTS.read_text())
+    case = RULES.format(rules=ALERTS) + "  - interval: 1m\n    input_series:\n"
+    for one in series:
+        name, values = one.rsplit(" ", 1)
+        case += f'      - series: "{name}"\n        values: "{values}"\n'
+    case += "    promql_expr_test:\n"
+    for name in names:
+        wanted = "\n        exp_samples: [{labels: '{}', value: 1}]" if name in fires else "\n        exp_samples: []"
+        case += f"""      - expr: count(ALERTS{{alertname="{name}",alertstate="firing"}})\n        eval_time: 59m{wanted}\n"""
+    (t.room / "case.yml").write_text(case)
+    t.tool("promtool", "test", "rules", "case.yml")
+
+
+@test(seconds=15)
+def a_real_prometheus_scrapes_it(t):
+    need("prometheus")
+    t.register()
+    desk = t.open("ca.db")
+    t.done("at", "counter", given="subscriber acme\n")
+    port = program.free_port()
+    (t.room / "prometheus.yml").write_text(
+        f"global: {{scrape_interval: 1s, evaluation_interval: 1s}}\nrule_files: ['{ALERTS}']\n"
+        f"scrape_configs:\n  - job_name: desk\n    static_configs: [{{targets: ['127.0.0.1:{desk.port}']}}]\n"
+    )
+    with contextlib.ExitStack() as stack:
+        told = stack.enter_context(open(t.room / "prometheus.log", "wb"))
+        words = ["prometheus", "--config.file=prometheus.yml", f"--web.listen-address=127.0.0.1:{port}", "--storage.tsdb.path=data"]
+        process = subprocess.Popen(words, cwd=t.room, stdout=told, stderr=told)
+        stack.callback(process.wait)
+        stack.callback(process.kill)
+        wanted = {"up": "1", "desk_clock_behind_seconds": "0", "desk_register_readable": "1", 'desk_lines_total{reply="accepted"}': "1", "desk_crl_number": "0"}
+        got = {}
+        for _ in range(int(200 * program.PATIENCE)):
+            with contextlib.suppress(OSError, KeyError, IndexError):
+                got = {it: value_of(port, it) for it in wanted}
+                if got == wanted:
+                    break
+            time.sleep(0.1)
+        t.same(got, wanted, f"what it has after a scrape; it said {(t.room / 'prometheus.log').read_text()[-1000:]}")
+        t.true(abs(float(value_of(port, "desk_clock_timestamp_seconds - timestamp(desk_clock_timestamp_seconds)"))) < 10, "both clocks")
+        t.same(value_of(port, 'count({__name__=~"desk_.+"}) > bool 40'), "1", "how many series it has")
+
+
+def value_of(port, query):
+    """The value that Prometheus has for a query."""
+    with urllib.request.urlopen(f"http://127.0.0.1:{port}/api/v1/query?" + urllib.parse.urlencode({"query": query}), timeout=10) as it:
+        return json.load(it)["data"]["result"][0]["value"][1]
