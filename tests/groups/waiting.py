@@ -1,5 +1,6 @@
 """Signatures of OCSP answers that are on their way: nobody waits for one but who asked."""
 
+import os
 import socket
 import threading
 import time
@@ -231,6 +232,23 @@ def what_signs_has_no_room_for_a_while(t):
                 program.read_all(peer)
                 peer.sendall(ANY_SIGNATURE)
         t.same([is_signed(it.result()) for it in waits], [True] * 8)
+
+
+@test(seconds=2)
+def no_descriptor_is_left_for_a_while(t):
+    """Whose signature can't be asked for since too many files are open is asked for again."""
+    held = Held(t)
+    desk = opened(t)
+    # Four peers, and three connections to what signs.
+    most = len(os.listdir(f"/proc/{desk.process.pid}/fd")) + 7
+    t.tool("prlimit", "--pid", desk.process.pid, f"--nofile={most}:{most}")
+    with ThreadPoolExecutor(4) as pool:
+        waits = [pool.submit(told, desk, 0x1100 + at) for at in range(4)]
+        t.true(held.signers.until(3), f"only {held.signers.now} are asked for")
+        time.sleep(0.2)
+        t.same([it.done() for it in waits], [False] * 4, "all wait")
+        held.goes.set()
+        t.same([is_signed(it.result()) for it in waits], [True] * 4)
 
 
 @test(seconds=4)

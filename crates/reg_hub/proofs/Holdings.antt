@@ -91,8 +91,8 @@ empty_is [] none = refl
 empty_is (x ∷ xs) none = absurd (omega (arith, none))
 
 -- a taking in, of a peer that asks
-pub takes_asking : {S : Type 0} (remaining : S → Option (List ℕ)) (s t : S) (c c' : Collected) (taken : Taken)
-    → TakesIn (remaining s) (remaining t) (bytes_of c) (bytes_of c') taken → Takes remaining s t (stage.Asking c) (stage.Asking c')
+pub takes_asking : {S T : Type 0} (remaining : S → Option (List ℕ)) (s t : S) (c c' : Collected) (taken : Taken)
+    → TakesIn (remaining s) (remaining t) (bytes_of c) (bytes_of c') taken → Takes {T = T} remaining s t (stage.Asking c) (stage.Asking c')
 takes_asking remaining s t c c' taken took bytes is =
     let k = kept_of (bytes_of c) took.came (bytes_of c') taken took.held in (
       k.0,
@@ -102,6 +102,6 @@ takes_asking remaining s t c c' taken took bytes is =
     )
 
 -- a sending, to a peer that is answered
-pub sends_answering : {S : Type 0} (contents : S → Option (List ℕ)) (s t : S) (u u' : Unsent) (exact exact' : Bool) (sent : Sent)
-    → SendsOn (contents s) (contents t) (unsent_of u) (unsent_of u') sent → Sends contents s t (stage.Answering u exact) (stage.Answering u' exact')
+pub sends_answering : {S T : Type 0} (contents : S → Option (List ℕ)) (s t : S) (u u' : Unsent) (exact exact' : Bool) (sent : Sent)
+    → SendsOn (contents s) (contents t) (unsent_of u) (unsent_of u') sent → Sends {T = T} contents s t (stage.Answering u exact) (stage.Answering u' exact')
 sends_answering contents s t u u' exact exact' sent on text is = (on.went, unsent_of u', is ∙ on.parted, on.appended, refl)

@@ -1,7 +1,7 @@
 //! One peer, which is answered once.
 
-ghost use Rattle.std.specs.Prelude.{◌≡◌, ◌≤◌, ◌+◌, IfOk, OnErr};
-ghost use Rattle.reg_hub.specs.Stages.{Answering, Finishing, Takes, Sends};
+ghost use Rattle.std.specs.Prelude.{◌≡◌, ◌≤◌, ◌+◌, OnOk, OnErr};
+ghost use Rattle.reg_hub.specs.Stages.{Answering, Finishing, Takes, Sends, WaitsOn};
 ghost use Rattle.reg_hub.specs.Exchange.{Exchanged};
 
 use crate::given::Given;
@@ -9,11 +9,14 @@ use crate::handler::{Handler, Lost, Stopped, answer_one};
 use crate::link::Link;
 use crate::taking::{Taken, take_in};
 use crate::unsent::{Sent, Unsent};
+use crate::watcher::Watcher;
 use mio::Interest;
+use mio::net::UnixStream;
 use reg_heads::Collected;
 use std::alloc::Global;
 use std::io::{ErrorKind, Read};
 use std::net::SocketAddr;
+use std::{io, mem};
 
 /// How many milliseconds a peer has for its request to be whole, and as many for its answer to be taken.
 const PATIENCE: u64 = 30_000;
@@ -26,11 +29,12 @@ const MOST_DROPPED: usize = 32;
 
 /// How far a peer is.
 #[derive(Drop)]
-pub(crate) enum Stage {
+pub(crate) enum Stage<T> {
     /// Its request comes in.
     Asking(Collected),
-    /// Its request came, and its answer is left to be signed; whether it is let go at once when it has that.
-    Waiting(bool),
+    /// Its request came, and this is left to be signed for its answer; the connection on which the signature was asked for, once it was;
+    /// whether it is let go at once when it has its answer.
+    Waiting(T, Option<UnixStream>, bool),
     /// Its answer goes out; whether it is let go at once then.
     Answering(Unsent, bool),
     /// It has its answer, and what it still sends is dropped.
@@ -88,12 +92,13 @@ fn after_sending(sent: Sent, is_last: bool) -> After {
     }
 }
 
-/// A connection of a peer that is answered once.
+/// A connection of a peer that is answered once by a handler. What is left to be signed for its answer is kept here: so nobody else is told
+/// what finishes it.
 #[derive(Drop)]
-pub struct Caller<S: Link> {
+pub struct Caller<S: Link, H: Handler> {
     pub(crate) link: S,
     pub(crate) peer: SocketAddr,
-    pub(crate) stage: Stage,
+    pub(crate) stage: Stage<H::Ticket>,
     /// By what fault no more of its request is waited for, if by one.
     pub(crate) fault: Option<Lost>,
     /// Whether its side has ended while it waits for its answer.
@@ -103,9 +108,9 @@ pub struct Caller<S: Link> {
     pub(crate) is_registered: bool,
 }
 
-impl<S: Link> Caller<S> {
+impl<S: Link, H: Handler> Caller<S, H> {
     /// A peer at an address that was accepted at this moment, in milliseconds of a clock that never goes back.
-    pub fn new(alloc: Global, link: S, peer: SocketAddr, number: u64, now: u64) -> Caller<S> {
+    pub fn new(alloc: Global, link: S, peer: SocketAddr, number: u64, now: u64) -> Caller<S, H> {
         Caller {
             link,
             peer,
@@ -125,7 +130,7 @@ impl<S: Link> Caller<S> {
 
     /// Whether its answer is left to be signed.
     pub fn is_waiting(&self) -> bool {
-        matches!(self.stage, Stage::Waiting(_))
+        matches!(self.stage, Stage::Waiting(..))
     }
 
     /// Whether its time is over.
@@ -156,7 +161,7 @@ impl<S: Link> Caller<S> {
     pub fn advance(&mut self, room: &mut [u8], now: u64) -> Next {
         match &self.stage {
             Stage::Asking(_) => self.take(room),
-            Stage::Waiting(_) => self.wait(room),
+            Stage::Waiting(..) => self.wait(room),
             Stage::Answering(..) => match self.send() {
                 After::Waits => Next::Waits(Interest::WRITABLE),
                 After::Finished => self.finish(now),
@@ -176,7 +181,7 @@ impl<S: Link> Caller<S> {
                 self.fault = fault_of(taken);
                 after_taking(taken)
             }
-            Stage::Waiting(_) => Next::Gone,
+            Stage::Waiting(..) => Next::Gone,
             Stage::Answering(..) => Next::Gone,
             Stage::Leaving => Next::Gone,
         }
@@ -208,7 +213,7 @@ impl<S: Link> Caller<S> {
                 *is_last,
             ),
             Stage::Asking(_) => After::Gone,
-            Stage::Waiting(_) => After::Gone,
+            Stage::Waiting(..) => After::Gone,
             Stage::Leaving => After::Gone,
         }
     }
@@ -245,28 +250,23 @@ impl<S: Link> Caller<S> {
         }
     }
 
-    /// Answers what came of its request, whatever it is; what is left to be signed of the answer is given. Who has an answer, or waits for
-    /// one, is not answered again.
+    /// Answers what came of its request, whatever it is; whether something is left to be signed for the answer. Who has an answer, or waits
+    /// for one, is not answered again.
     ///
     /// # Errors
     ///
     /// [`Stopped`], and nothing was answered.
-    pub fn answer<H: Handler>(
-        &mut self,
-        handler: &mut H,
-        made: &mut u64,
-        now: u64,
-    ) -> Result<Option<H::Ticket>, Stopped>
+    pub fn answer(&mut self, handler: &mut H, made: &mut u64, now: u64) -> Result<bool, Stopped>
         ensures exchanged { Exchanged H.answers H.tells handler.old handler.new made.old made.new }
         ensures one { made.new ≤ made.old + 1 }
-        ensures answered { IfOk result (Answering H.answers handler.old handler.new self.old.stage self.new.stage) }
+        ensures answered { OnOk result (Answering H.answers handler.old handler.new self.old.stage self.new.stage) }
         ensures err { OnErr result ((self.new ≡ self.old) × (handler.new ≡ handler.old)) }
     {
         let given = match &self.stage {
             Stage::Asking(collected) => answer_one(handler, made, self.peer, collected.as_slice())?,
-            Stage::Waiting(_) => return Ok(None),
-            Stage::Answering(..) => return Ok(None),
-            Stage::Leaving => return Ok(None),
+            Stage::Waiting(..) => return Ok(false),
+            Stage::Answering(..) => return Ok(false),
+            Stage::Leaving => return Ok(false),
         };
         let is_exact = self.is_exact();
         self.until = now.saturating_add(PATIENCE);
@@ -275,28 +275,63 @@ impl<S: Link> Caller<S> {
                 // Where nothing is sent, there is no answer that unread bytes could cost.
                 let is_last = is_exact || text.is_empty();
                 self.stage = Stage::Answering(Unsent::new(text), is_last);
-                Ok(None)
+                Ok(false)
             }
             Given::Left(ticket) => {
-                self.stage = Stage::Waiting(is_exact);
-                Ok(Some(ticket))
+                self.stage = Stage::Waiting(ticket, None, is_exact);
+                Ok(true)
             }
         }
     }
 
-    /// Gives the peer the answer that it waits for. Who does not wait is as it was.
-    pub fn tell(&mut self, text: Vec<u8>, now: u64)
-        ensures { Finishing self.old.stage self.new.stage text.items }
+    /// Asks for the signature of what is left of its answer, and waits for nothing: the connection on which it will come is watched under a
+    /// token.
+    ///
+    /// # Errors
+    ///
+    /// As [`Handler::ask`]; what the system says where the connection can't be watched; `NotConnected` where it waits for no answer.
+    pub(crate) fn ask(&mut self, handler: &H, watcher: &Watcher, token: usize) -> io::Result<()>
+        ensures { WaitsOn self.old.stage self.new.stage }
     {
-        let is_exact = match &self.stage {
-            Stage::Waiting(is_exact) => *is_exact,
-            Stage::Asking(_) => return,
-            Stage::Answering(..) => return,
-            Stage::Leaving => return,
+        let mut link = match &self.stage {
+            Stage::Waiting(ticket, _, _) => handler.ask(ticket)?,
+            Stage::Asking(_) => return Err(io::Error::from(ErrorKind::NotConnected)),
+            Stage::Answering(..) => return Err(io::Error::from(ErrorKind::NotConnected)),
+            Stage::Leaving => return Err(io::Error::from(ErrorKind::NotConnected)),
         };
-        let is_last = is_exact || text.is_empty();
-        let unsent = Unsent::new(text);
-        self.stage = Stage::Answering(unsent, is_last);
-        self.until = now.saturating_add(PATIENCE);
+        watcher.watch(&mut link, token, Interest::READABLE, false)?;
+        self.hold(link);
+        Ok(())
+    }
+
+    /// Holds the connection on which the signature of its answer was asked for.
+    fn hold(&mut self, link: UnixStream)
+        ensures { WaitsOn self.old.stage self.new.stage }
+    {
+        match &mut self.stage {
+            Stage::Waiting(_, held, _) => *held = Some(link),
+            Stage::Asking(_) => {}
+            Stage::Answering(..) => {}
+            Stage::Leaving => {}
+        }
+    }
+
+    /// Finishes the answer that it waits for: with what came on the connection on which its signature was asked for, where that is at its
+    /// end, or without a signature. Who does not wait is as it was.
+    pub fn complete(&mut self, handler: &H, has_come: bool, now: u64)
+        ensures { Finishing H.finishes self.old.stage self.new.stage }
+    {
+        match mem::replace(&mut self.stage, Stage::Leaving) {
+            Stage::Waiting(ticket, link, is_exact) => {
+                let text = handler.finish(ticket, if has_come { link } else { None });
+                let is_last = is_exact || text.is_empty();
+                let unsent = Unsent::new(text);
+                self.stage = Stage::Answering(unsent, is_last);
+                self.until = now.saturating_add(PATIENCE);
+            }
+            Stage::Asking(collected) => self.stage = Stage::Asking(collected),
+            Stage::Answering(unsent, is_last) => self.stage = Stage::Answering(unsent, is_last),
+            Stage::Leaving => {}
+        }
     }
 }

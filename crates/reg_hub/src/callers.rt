@@ -5,16 +5,18 @@ ghost use Rattle.reg_hub.specs.Notes.{Notes};
 
 use crate::caller::{Caller, Next};
 use crate::due::Due;
-use crate::handler::Lost;
+use crate::handler::{Handler, Lost};
 use crate::losses::Loss;
 use crate::places::Places;
 use crate::shared::Shared;
 use crate::signings::Asker;
 use crate::sought::{Sought, is_sought};
-use crate::watcher::FIRST_CALLER;
+use crate::watcher::{FIRST_CALLER, Watcher};
 use mio::Interest;
 use mio::net::TcpStream;
 use std::alloc::{AllocError, Global};
+use std::io;
+use std::io::ErrorKind;
 
 /// How many peers there may be at once: with what else a program has open, that fits the usual limit of 1,024 descriptors.
 pub const MOST_CALLERS: usize = 1_000;
@@ -27,8 +29,8 @@ pub(crate) const SWEEP: u64 = 250;
 
 /// The peers, each at its place.
 #[derive(Drop)]
-pub(crate) struct Callers {
-    places: Places<Caller<TcpStream>>,
+pub(crate) struct Callers<H: Handler> {
+    places: Places<Caller<TcpStream, H>>,
     /// Who is to be answered in this turn.
     pub(crate) due: Due,
     /// How many bytes of their answers are not sent yet.
@@ -37,9 +39,9 @@ pub(crate) struct Callers {
     swept: u64,
 }
 
-impl Callers {
+impl<H: Handler> Callers<H> {
     /// So many places, and nobody there yet.
-    pub(crate) fn new(alloc: Global, count: usize) -> Result<Callers, AllocError>
+    pub(crate) fn new(alloc: Global, count: usize) -> Result<Callers<H>, AllocError>
         ensures { IfOk result (λ callers. callers.due.places.items ≡ []) }
     {
         let due = Due::new(alloc, count)?;
@@ -63,7 +65,7 @@ impl Callers {
     }
 
     /// Lifts the peer at a place out of it.
-    pub(crate) fn lift(&mut self, place: usize) -> Option<Caller<TcpStream>> {
+    pub(crate) fn lift(&mut self, place: usize) -> Option<Caller<TcpStream, H>> {
         self.places.lift(place)
     }
 
@@ -77,9 +79,9 @@ impl Callers {
 }
 
 /// How they go on.
-impl Callers {
+impl<H: Handler> Callers<H> {
     /// Seats a peer at an empty place, and goes on with it.
-    pub(crate) fn seat(&mut self, caller: Caller<TcpStream>, shared: &mut Shared, now: u64) {
+    pub(crate) fn seat(&mut self, caller: Caller<TcpStream, H>, shared: &mut Shared, now: u64) {
         if let Some(place) = self.places.take() {
             // Most requests are whole by now.
             self.settle(place, caller, shared, now);
@@ -94,7 +96,7 @@ impl Callers {
     }
 
     /// Puts back a peer that was lifted out of a place, and waits for its answer.
-    pub(crate) fn put_back(&mut self, place: usize, caller: Caller<TcpStream>) {
+    pub(crate) fn put_back(&mut self, place: usize, caller: Caller<TcpStream, H>) {
         self.places.put(place, caller);
     }
 
@@ -102,7 +104,7 @@ impl Callers {
     pub(crate) fn settle(
         &mut self,
         place: usize,
-        mut caller: Caller<TcpStream>,
+        mut caller: Caller<TcpStream, H>,
         shared: &mut Shared,
         now: u64,
     ) {
@@ -118,7 +120,7 @@ impl Callers {
     }
 
     /// Puts back a peer that is to be answered.
-    fn put_due(&mut self, place: usize, caller: Caller<TcpStream>)
+    fn put_due(&mut self, place: usize, caller: Caller<TcpStream, H>)
         ensures { Notes place self.old.due.places.items self.new.due.places.items }
     {
         self.places.put(place, caller);
@@ -129,7 +131,7 @@ impl Callers {
     fn wait_for(
         &mut self,
         place: usize,
-        mut caller: Caller<TcpStream>,
+        mut caller: Caller<TcpStream, H>,
         shared: &mut Shared,
         interest: Interest,
     ) {
@@ -141,7 +143,7 @@ impl Callers {
     }
 
     /// Lets go a peer that was lifted out of a place. Why is told where its answer is not sent, and no fault was told of it before.
-    fn let_go(&mut self, place: usize, caller: Caller<TcpStream>, shared: &mut Shared, why: Lost)
+    fn let_go(&mut self, place: usize, caller: Caller<TcpStream, H>, shared: &mut Shared, why: Lost)
         ensures { self.new.due ≡ self.old.due }
     {
         let is_unanswered = caller.unsent() > 0 || caller.is_waiting();
@@ -156,7 +158,12 @@ impl Callers {
 }
 
 /// Has the peer at a place watched; whether it could be.
-fn watch(caller: &mut Caller<TcpStream>, place: usize, shared: &Shared, interest: Interest) -> bool
+fn watch<H: Handler>(
+    caller: &mut Caller<TcpStream, H>,
+    place: usize,
+    shared: &Shared,
+    interest: Interest,
+) -> bool
     ensures { caller.new.is_registered ≡ true }
 {
     let was_watched = caller.is_registered;
@@ -169,7 +176,7 @@ fn watch(caller: &mut Caller<TcpStream>, place: usize, shared: &Shared, interest
 }
 
 /// Who is let go.
-impl Callers {
+impl<H: Handler> Callers<H> {
     /// Lets one peer go: the oldest that has its answer, or else the oldest, which is answered first, unless its answer is left to be
     /// signed.
     pub(crate) fn make_room(&mut self, shared: &mut Shared) {
@@ -293,7 +300,7 @@ impl Callers {
 }
 
 /// Those whose answers are left to be signed.
-impl Callers {
+impl<H: Handler> Callers<H> {
     /// Whether this peer waits for its answer.
     pub(crate) fn is_waiting(&self, asker: Asker) -> bool {
         match self.places.peek(asker.place) {
@@ -310,13 +317,43 @@ impl Callers {
         }
     }
 
-    /// Gives a peer the answer that it waits for, and sends it on.
-    pub(crate) fn tell(&mut self, asker: Asker, text: Vec<u8>, shared: &mut Shared, now: u64) {
+    /// Asks for the signature of what is left of the answer for which a peer waits; it will come under a token.
+    ///
+    /// # Errors
+    ///
+    /// As [`Caller::ask`].
+    pub(crate) fn ask(
+        &mut self,
+        asker: Asker,
+        handler: &H,
+        watcher: &Watcher,
+        token: usize,
+    ) -> io::Result<()> {
+        if !self.is_waiting(asker) {
+            return Err(io::Error::from(ErrorKind::NotConnected));
+        }
+        let Some(mut caller) = self.places.lift(asker.place) else {
+            return Err(io::Error::from(ErrorKind::NotConnected));
+        };
+        let asked = caller.ask(handler, watcher, token);
+        self.places.put(asker.place, caller);
+        asked
+    }
+
+    /// Finishes the answer for which a peer waits, with its signature where that has come, and sends it on.
+    pub(crate) fn complete(
+        &mut self,
+        asker: Asker,
+        has_come: bool,
+        handler: &H,
+        shared: &mut Shared,
+        now: u64,
+    ) {
         if !self.is_waiting(asker) {
             return;
         }
         if let Some(mut caller) = self.places.lift(asker.place) {
-            caller.tell(text, now);
+            caller.complete(handler, has_come, now);
             self.count_unsent(0, caller.unsent());
             self.settle(asker.place, caller, shared, now);
             self.shed(asker.place, shared);

@@ -4,7 +4,7 @@ ghost use Rattle.std.specs.Prelude.{◌≡◌, ◌≤◌, IfOk};
 
 use crate::caller::Caller;
 use crate::callers::Callers;
-use crate::handler::Stopped;
+use crate::handler::{Handler, Stopped};
 use crate::shared::Shared;
 use crate::watcher::{LISTENER, Watcher};
 use mio::Interest;
@@ -56,10 +56,10 @@ impl Door {
     /// # Errors
     ///
     /// [`Stopped`], where the system gives no peer and none is there whose end could help.
-    pub(crate) fn seat_all(
+    pub(crate) fn seat_all<H: Handler>(
         &mut self,
         most: u64,
-        callers: &mut Callers,
+        callers: &mut Callers<H>,
         shared: &mut Shared,
         now: u64,
     ) -> Result<(), Stopped>
@@ -76,10 +76,10 @@ impl Door {
     }
 
     /// Seats the next peer; whether there may be one more.
-    fn seat_next(
+    fn seat_next<H: Handler>(
         &mut self,
         most: u64,
-        callers: &mut Callers,
+        callers: &mut Callers<H>,
         shared: &mut Shared,
         now: u64,
     ) -> Result<bool, Stopped>
@@ -101,10 +101,10 @@ impl Door {
     }
 
     /// Accepts the next peer, if there is one and none waits for a place.
-    fn accept_next(
+    fn accept_next<H: Handler>(
         &mut self,
         most: u64,
-        callers: &mut Callers,
+        callers: &mut Callers<H>,
         shared: &mut Shared,
     ) -> Result<(), Stopped>
         ensures { self.old.accepted ≤ most → self.new.accepted ≤ most }
@@ -123,10 +123,10 @@ impl Door {
     }
 
     /// No connection was accepted.
-    fn refused(
+    fn refused<H: Handler>(
         &mut self,
         why: ErrorKind,
-        callers: &mut Callers,
+        callers: &mut Callers<H>,
         shared: &mut Shared,
     ) -> Result<(), Stopped>
         ensures { self.new.accepted ≡ self.old.accepted }

@@ -12,20 +12,21 @@ use crate::shared::Shared;
 use crate::signings::{Asker, Pending, Signings};
 use crate::tellers::Tellers;
 use crate::watcher::{COUNTER, FIRST_CALLER, FIRST_SIGNING, FIRST_TELLER, LISTENER, MOST_SIGNINGS};
-use mio::net::{TcpListener, TcpStream, UnixListener, UnixStream};
+use mio::net::{TcpListener, TcpStream, UnixListener};
 use std::alloc::AllocGlobal;
 use std::io;
 use std::io::ErrorKind;
 use std::net::Net;
 use std::time::{Clock, Duration};
 
-/// The peers of one thread.
+/// The peers of one thread, whom a handler answers.
 #[derive(Drop)]
-pub struct Hub {
+pub struct Hub<H: Handler> {
     shared: Shared,
     door: Door,
-    callers: Callers,
+    callers: Callers<H>,
     tellers: Tellers,
+    signings: Signings,
 }
 
 /// The time of a clock that never goes back, in milliseconds.
@@ -41,7 +42,7 @@ fn now_of<C: Clock>(clock: &C) -> Result<u64, Stopped> {
     }
 }
 
-impl Hub {
+impl<H: Handler> Hub<H> {
     /// A hub over a listener for requests, and one for counters, neither of which waits, with places for so many peers.
     ///
     /// # Errors
@@ -52,7 +53,7 @@ impl Hub {
         listener: TcpListener,
         counter: Option<UnixListener>,
         places: usize,
-    ) -> io::Result<Hub> {
+    ) -> io::Result<Hub<H>> {
         let shared = Shared::new(rt, places)?;
         let door = Door::new(listener, &shared.watcher)?;
         Hub::seated(shared, door, counter, places)
@@ -64,16 +65,18 @@ impl Hub {
         door: Door,
         counter: Option<UnixListener>,
         places: usize,
-    ) -> io::Result<Hub>
+    ) -> io::Result<Hub<H>>
         ensures { IfOk result (λ hub. hub.door ≡ door) }
     {
         let tellers = Tellers::new(shared.alloc, counter, &shared.watcher)?;
         let callers = Callers::new(shared.alloc, places)?;
+        let signings = Signings::new(shared.alloc);
         Ok(Hub {
             shared,
             door,
             callers,
             tellers,
+            signings,
         })
     }
 
@@ -98,11 +101,10 @@ impl Hub {
     /// # Errors
     ///
     /// [`Stopped`], where the handler or the sockets are.
-    pub fn serve_all<C: Clock, H: Handler>(
+    pub fn serve_all<C: Clock>(
         &mut self,
         clock: &C,
         handler: &mut H,
-        signings: &mut Signings<H::Ticket>,
         made: &mut u64,
         most: u64,
     ) -> Result<(), Stopped>
@@ -114,7 +116,7 @@ impl Hub {
             if *made == most {
                 return Ok(());
             }
-            match self.turn(clock, handler, signings, made, most, Duration::MAX) {
+            match self.turn(clock, handler, made, most, Duration::MAX) {
                 Ok(()) => {}
                 Err(stopped) => return Err(stopped),
             }
@@ -129,11 +131,10 @@ impl Hub {
     /// # Errors
     ///
     /// [`Stopped`], where the handler or the sockets are.
-    pub fn turn<C: Clock, H: Handler>(
+    pub fn turn<C: Clock>(
         &mut self,
         clock: &C,
         handler: &mut H,
-        signings: &mut Signings<H::Ticket>,
         made: &mut u64,
         most: u64,
         longest: Duration,
@@ -142,13 +143,13 @@ impl Hub {
         ensures exchanged { Exchanged H.answers H.tells handler.old handler.new made.old made.new }
         ensures within { made.new ≤ most }
     {
-        let now = self.look(clock, signings, most, longest)?;
+        let now = self.look(clock, most, longest)?;
         self.shared.losses.tell(handler);
         handler.hold(self.crowd());
-        self.finish_all(handler, signings, now);
+        self.finish_all(handler, now);
         self.tellers.tell_all(&mut self.shared, handler)?;
-        let answered = self.answer_all(handler, signings, made, most, now);
-        self.ask_all(handler, signings, now);
+        let answered = self.answer_all(handler, made, most, now);
+        self.ask_all(handler, now);
         answered
     }
 
@@ -158,12 +159,7 @@ impl Hub {
     /// # Errors
     ///
     /// [`Stopped`], where the sockets are.
-    pub fn finish<C: Clock, H: Handler>(
-        &mut self,
-        clock: &C,
-        handler: &H,
-        signings: &mut Signings<H::Ticket>,
-    ) -> Result<(), Stopped> {
+    pub fn finish<C: Clock>(&mut self, clock: &C, handler: &H) -> Result<(), Stopped> {
         let most = self.door.accepted;
         self.callers.leave_all(&mut self.shared);
         for _ in 0..u64::MAX {
@@ -171,9 +167,9 @@ impl Hub {
             if self.callers.taken() == 0 {
                 return Ok(());
             }
-            let now = self.look(clock, signings, most, Duration::MAX)?;
-            self.finish_all(handler, signings, now);
-            self.ask_all(handler, signings, now);
+            let now = self.look(clock, most, Duration::MAX)?;
+            self.finish_all(handler, now);
+            self.ask_all(handler, now);
             self.callers.leave_due(&mut self.shared);
             self.tellers.has_lines = false;
         }
@@ -182,19 +178,14 @@ impl Hub {
 }
 
 /// What is done without the handler.
-impl Hub {
+impl<H: Handler> Hub<H> {
     /// Waits until something is to be done, takes in and sends on, accepts, and looks for those whose time is over.
-    fn look<C: Clock, T: Drop>(
-        &mut self,
-        clock: &C,
-        signings: &mut Signings<T>,
-        most: u64,
-        longest: Duration,
-    ) -> Result<u64, Stopped> {
-        let wait = self.wait(signings.longest_wait(), most).min(longest);
+    fn look<C: Clock>(&mut self, clock: &C, most: u64, longest: Duration) -> Result<u64, Stopped> {
+        let for_signatures = self.signings.longest_wait();
+        let wait = self.wait(for_signatures, most).min(longest);
         self.shared.watcher.wait(wait)?;
         let now = now_of(clock)?;
-        self.advance_all(signings, now);
+        self.advance_all(now);
         self.tellers.accept_all(&mut self.shared);
         self.door
             .seat_all(most, &mut self.callers, &mut self.shared, now)?;
@@ -222,16 +213,16 @@ impl Hub {
     }
 
     /// Goes on with each that is ready.
-    fn advance_all<T: Drop>(&mut self, signings: &mut Signings<T>, now: u64) {
+    fn advance_all(&mut self, now: u64) {
         for index in 0..self.shared.watcher.count() {
             if let Some(token) = self.shared.watcher.token_at(index) {
-                self.advance(token, signings, now);
+                self.advance(token, now);
             }
         }
     }
 
     /// What is ready under a token.
-    fn advance<T: Drop>(&mut self, token: usize, signings: &mut Signings<T>, now: u64) {
+    fn advance(&mut self, token: usize, now: u64) {
         if token == LISTENER {
             self.door.has_callers = true;
         } else if token == COUNTER {
@@ -240,7 +231,7 @@ impl Hub {
             let place = token.saturating_sub(FIRST_TELLER);
             self.tellers.advance(place, &mut self.shared);
         } else if token < FIRST_CALLER {
-            signings.note_come(token.saturating_sub(FIRST_SIGNING));
+            self.signings.note_come(token.saturating_sub(FIRST_SIGNING));
         } else {
             let place = token.saturating_sub(FIRST_CALLER);
             self.callers.advance(place, &mut self.shared, now);
@@ -249,12 +240,11 @@ impl Hub {
 }
 
 /// What is done with the handler.
-impl Hub {
+impl<H: Handler> Hub<H> {
     /// Answers each peer that is due.
-    fn answer_all<H: Handler>(
+    fn answer_all(
         &mut self,
         handler: &mut H,
-        signings: &mut Signings<H::Ticket>,
         made: &mut u64,
         most: u64,
         now: u64,
@@ -267,7 +257,7 @@ impl Hub {
             if *made == most {
                 return Ok(());
             }
-            match self.answer_due(index, handler, signings, made, now) {
+            match self.answer_due(index, handler, made, now) {
                 Ok(()) => {}
                 Err(stopped) => return Err(stopped),
             }
@@ -277,11 +267,10 @@ impl Hub {
     }
 
     /// Answers one of those that are due.
-    fn answer_due<H: Handler>(
+    fn answer_due(
         &mut self,
         index: usize,
         handler: &mut H,
-        signings: &mut Signings<H::Ticket>,
         made: &mut u64,
         now: u64,
     ) -> Result<(), Stopped>
@@ -289,17 +278,16 @@ impl Hub {
         ensures one { made.new ≤ made.old + 1 }
     {
         match self.callers.due.at(index) {
-            Some(place) => self.answer_at(place, handler, signings, made, now),
+            Some(place) => self.answer_at(place, handler, made, now),
             None => Ok(()),
         }
     }
 
     /// Answers the peer at a place, if it asks, and sends on its answer. What is left to be signed of it waits for its turn.
-    fn answer_at<H: Handler>(
+    fn answer_at(
         &mut self,
         place: usize,
         handler: &mut H,
-        signings: &mut Signings<H::Ticket>,
         made: &mut u64,
         now: u64,
     ) -> Result<(), Stopped>
@@ -311,14 +299,12 @@ impl Hub {
         };
         let before = caller.unsent();
         note_fault(&mut caller, &mut self.shared.losses, now);
-        let number = caller.number;
         match caller.answer(handler, made, now) {
-            Ok(Some(ticket)) => {
-                self.callers.put_back(place, caller);
-                self.leave(Asker { place, number }, ticket, handler, signings, now);
+            Ok(true) => {
+                self.leave(place, caller, handler, now);
                 Ok(())
             }
-            Ok(None) => {
+            Ok(false) => {
                 self.send_on(place, caller, before, now);
                 Ok(())
             }
@@ -330,7 +316,7 @@ impl Hub {
     }
 
     /// Sends on the answer of a peer that was lifted out of a place, of whose answer so many bytes were not sent before.
-    fn send_on(&mut self, place: usize, caller: Caller<TcpStream>, before: usize, now: u64) {
+    fn send_on(&mut self, place: usize, caller: Caller<TcpStream, H>, before: usize, now: u64) {
         self.callers.count_unsent(before, caller.unsent());
         self.callers.settle(place, caller, &mut self.shared, now);
         self.callers.shed(place, &mut self.shared);
@@ -338,47 +324,54 @@ impl Hub {
 }
 
 /// What is left to be signed.
-impl Hub {
-    /// Has what is left to be signed for a peer wait for its turn.
-    fn leave<H: Handler>(
-        &mut self,
-        asker: Asker,
-        ticket: H::Ticket,
-        handler: &H,
-        signings: &mut Signings<H::Ticket>,
-        now: u64,
-    ) {
+impl<H: Handler> Hub<H> {
+    /// Has a peer that was lifted out of a place wait for the signature of its answer, once it is its turn.
+    fn leave(&mut self, place: usize, caller: Caller<TcpStream, H>, handler: &H, now: u64) {
+        let number = caller.number;
+        let asker = Asker { place, number };
+        self.callers.put_back(place, caller);
         // Where there is no memory for it, nothing signs.
-        if let Err(ticket) = signings.add(ticket, asker, now) {
-            self.finish_one(asker, ticket, None, handler, now);
+        if !self.signings.add(asker, now) {
+            self.finish_one(asker, false, handler, now);
         }
     }
 
     /// Asks for what is left to be signed, as far as there is room.
-    fn ask_all<H: Handler>(&mut self, handler: &H, signings: &mut Signings<H::Ticket>, now: u64) {
+    fn ask_all(&mut self, handler: &H, now: u64) {
         for _ in 0..MOST_CALLERS {
-            match signings.next(now) {
-                Some(pending) => self.ask_next(pending, handler, signings, now),
+            match self.signings.next(now) {
+                Some(pending) => self.ask_next(pending, handler, now),
                 None => return,
             }
         }
     }
 
     /// Asks for the next, unless who had to wait for its turn has gone.
-    fn ask_next<H: Handler>(
-        &mut self,
-        pending: Pending<H::Ticket>,
-        handler: &H,
-        signings: &mut Signings<H::Ticket>,
-        now: u64,
-    ) {
+    fn ask_next(&mut self, pending: Pending, handler: &H, now: u64) {
         if pending.has_waited(now) && self.has_gone(pending.asker, now) {
             return;
         }
-        match handler.ask(&pending.ticket) {
-            Ok(link) => self.watch(pending, link, handler, signings, now),
-            Err(error) if error.kind() == ErrorKind::WouldBlock => signings.put_off(pending, now),
-            Err(_) => self.finish_one(pending.asker, pending.ticket, None, handler, now),
+        let Some(place) = self.signings.empty_place() else {
+            self.signings.put_off(pending, now);
+            return;
+        };
+        let token = place.saturating_add(FIRST_SIGNING);
+        match self
+            .callers
+            .ask(pending.asker, handler, &self.shared.watcher, token)
+        {
+            Ok(()) => self.wait_for(place, pending, handler, now),
+            Err(error) if error.kind() == ErrorKind::WouldBlock => {
+                self.signings.put_off(pending, now);
+            }
+            Err(_) => self.finish_one(pending.asker, false, handler, now),
+        }
+    }
+
+    /// Waits for a signature that was asked for, at an empty place.
+    fn wait_for(&mut self, place: usize, pending: Pending, handler: &H, now: u64) {
+        if !self.signings.put(place, pending) {
+            self.finish_one(pending.asker, false, handler, now);
         }
     }
 
@@ -391,74 +384,42 @@ impl Hub {
         !self.callers.is_waiting(asker)
     }
 
-    /// Has the connection watched on which a signature was asked for.
-    fn watch<H: Handler>(
-        &mut self,
-        pending: Pending<H::Ticket>,
-        link: UnixStream,
-        handler: &H,
-        signings: &mut Signings<H::Ticket>,
-        now: u64,
-    ) {
-        if let Err(pending) = signings.hold(pending, link, &self.shared.watcher) {
-            self.finish_one(pending.asker, pending.ticket, None, handler, now);
-        }
-    }
-
     /// Finishes the answers whose signatures came, and those whose time is over; lets those signatures go for which nobody waits.
-    fn finish_all<H: Handler>(
-        &mut self,
-        handler: &H,
-        signings: &mut Signings<H::Ticket>,
-        now: u64,
-    ) {
+    fn finish_all(&mut self, handler: &H, now: u64) {
         for place in 0..MOST_SIGNINGS {
-            self.finish_at(place, handler, signings, now);
+            self.finish_at(place, handler, now);
         }
         for _ in 0..MOST_CALLERS {
-            match signings.take_late(now) {
-                Some(late) => self.finish_one(late.asker, late.ticket, None, handler, now),
+            match self.signings.take_late(now) {
+                Some(late) => self.finish_one(late.asker, false, handler, now),
                 None => return,
             }
         }
     }
 
     /// The same of the one at a place.
-    fn finish_at<H: Handler>(
-        &mut self,
-        place: usize,
-        handler: &H,
-        signings: &mut Signings<H::Ticket>,
-        now: u64,
-    ) {
-        let Some(asker) = signings.asker_at(place) else {
+    fn finish_at(&mut self, place: usize, handler: &H, now: u64) {
+        let Some(asker) = self.signings.asker_at(place) else {
             return;
         };
         if !self.callers.is_waiting(asker) {
-            signings.let_go(place);
+            self.signings.let_go(place);
             return;
         }
-        if let Some((pending, link)) = signings.take_done(place, now) {
-            self.finish_one(asker, pending.ticket, link, handler, now);
+        if let Some((asker, has_come)) = self.signings.take_done(place, now) {
+            self.finish_one(asker, has_come, handler, now);
         }
     }
 
-    /// Finishes an answer, and sends it on.
-    fn finish_one<H: Handler>(
-        &mut self,
-        asker: Asker,
-        ticket: H::Ticket,
-        link: Option<UnixStream>,
-        handler: &H,
-        now: u64,
-    ) {
-        let text = handler.finish(ticket, link);
-        self.callers.tell(asker, text, &mut self.shared, now);
+    /// Finishes the answer for which a peer waits, with its signature where that has come, and sends it on.
+    fn finish_one(&mut self, asker: Asker, has_come: bool, handler: &H, now: u64) {
+        self.callers
+            .complete(asker, has_come, handler, &mut self.shared, now);
     }
 }
 
 /// Notes by what fault a peer is answered at this moment before its request is whole, if by one.
-fn note_fault(caller: &mut Caller<TcpStream>, losses: &mut Losses, now: u64)
+fn note_fault<H: Handler>(caller: &mut Caller<TcpStream, H>, losses: &mut Losses, now: u64)
     ensures { caller.new.stage ≡ caller.old.stage }
 {
     if let Some(why) = caller.fault(now) {

@@ -27,7 +27,6 @@ pub use given::Given;
 pub use handler::{Crowd, Handler, Lost, Stopped};
 pub use hub::Hub;
 pub use link::Link;
-pub use signings::Signings;
 pub use taking::{Taken, take_in};
 pub use teller::Teller;
 pub use unsent::{Sent, Unsent};

@@ -1,8 +1,6 @@
 //! The signatures that are on their way.
 
-use crate::watcher::{FIRST_SIGNING, MOST_SIGNINGS, Watcher};
-use mio::Interest;
-use mio::net::UnixStream;
+use crate::watcher::MOST_SIGNINGS;
 use std::alloc::Global;
 use std::collections::VecDeque;
 
@@ -23,44 +21,42 @@ pub(crate) struct Asker {
     pub(crate) number: u64,
 }
 
-/// What is left to be signed for a peer, and until when.
-#[derive(Drop)]
-pub(crate) struct Pending<T> {
-    pub(crate) ticket: T,
+/// Who waits for a signature, and until when.
+#[derive(Clone, Copy)]
+pub(crate) struct Pending {
     pub(crate) asker: Asker,
     until: u64,
 }
 
-impl<T> Pending<T> {
+impl Pending {
     /// Whether it had to wait for its turn: what was begun at this moment did not.
     pub(crate) fn has_waited(&self, now: u64) -> bool {
         self.until < now.saturating_add(PATIENCE)
     }
 }
 
-/// A signature that was asked for on a connection.
-#[derive(Drop)]
-struct Asked<T> {
-    pending: Pending<T>,
-    link: UnixStream,
+/// A signature that was asked for on a connection, which who waits for it holds.
+#[derive(Clone, Copy)]
+struct Asked {
+    pending: Pending,
     /// Whether the connection is at its end: what came on it is there.
     has_come: bool,
 }
 
 /// The signatures that are on their way, each asked for on a connection of its own, and those that wait for their turn.
 #[derive(Drop)]
-pub struct Signings<T> {
-    queue: VecDeque<Pending<T>>,
-    places: Vec<Option<Asked<T>>>,
+pub(crate) struct Signings {
+    queue: VecDeque<Pending>,
+    places: Vec<Option<Asked>>,
     /// Until when what signs is not asked, since it had no room.
     paused: Option<u64>,
     /// How often it is still looked for one before it is waited for.
     looks: u32,
 }
 
-impl<T: Drop> Signings<T> {
+impl Signings {
     /// None yet.
-    pub fn new(alloc: Global) -> Signings<T> {
+    pub(crate) fn new(alloc: Global) -> Signings {
         Signings {
             queue: VecDeque::new(alloc),
             places: Vec::new(alloc),
@@ -69,20 +65,10 @@ impl<T: Drop> Signings<T> {
         }
     }
 
-    /// One more waits for its turn. Where there is no memory for it, its ticket is given back.
-    pub(crate) fn add(&mut self, ticket: T, asker: Asker, now: u64) -> Result<(), T> {
-        let pending = Pending {
-            ticket,
-            asker,
-            until: now.saturating_add(PATIENCE),
-        };
-        match self.queue.push_back(pending) {
-            Ok(()) => Ok(()),
-            Err(refused) => {
-                let pending = refused.value;
-                Err(pending.ticket)
-            }
-        }
+    /// One more waits for its turn; whether there was memory for it.
+    pub(crate) fn add(&mut self, asker: Asker, now: u64) -> bool {
+        let until = now.saturating_add(PATIENCE);
+        self.queue.push_back(Pending { asker, until }).is_ok()
     }
 
     /// How many milliseconds may be waited at the longest, where a signature is looked for, or what signs is to be asked again.
@@ -98,7 +84,7 @@ impl<T: Drop> Signings<T> {
     }
 
     /// The next whose turn it is, where there is room for one more.
-    pub(crate) fn next(&mut self, now: u64) -> Option<Pending<T>> {
+    pub(crate) fn next(&mut self, now: u64) -> Option<Pending> {
         if let Some(paused) = self.paused {
             if now < paused {
                 return None;
@@ -112,14 +98,14 @@ impl<T: Drop> Signings<T> {
     }
 
     /// Puts one back to the front, for which what signs had no room at this moment.
-    pub(crate) fn put_off(&mut self, pending: Pending<T>, now: u64) {
+    pub(crate) fn put_off(&mut self, pending: Pending, now: u64) {
         self.paused = Some(now.saturating_add(PAUSE));
         // There is room for it: it was taken from there.
         let _ = self.queue.push_front(pending);
     }
 
     /// The first of those that wait for their turn whose time is over.
-    pub(crate) fn take_late(&mut self, now: u64) -> Option<Pending<T>> {
+    pub(crate) fn take_late(&mut self, now: u64) -> Option<Pending> {
         let is_late = match self.queue.front() {
             Some(first) => first.until <= now,
             None => false,
@@ -133,9 +119,9 @@ impl<T: Drop> Signings<T> {
 }
 
 /// Those that were asked for.
-impl<T: Drop> Signings<T> {
+impl Signings {
     /// A place for one more.
-    fn empty_place(&self) -> Option<usize> {
+    pub(crate) fn empty_place(&self) -> Option<usize> {
         for place in 0..MOST_SIGNINGS {
             match self.places.get(place) {
                 Some(Some(_)) => {}
@@ -146,45 +132,18 @@ impl<T: Drop> Signings<T> {
         None
     }
 
-    /// Has the connection watched on which a signature was asked for. Where that can't be, what is pending is given back.
-    pub(crate) fn hold(
-        &mut self,
-        pending: Pending<T>,
-        mut link: UnixStream,
-        watcher: &Watcher,
-    ) -> Result<(), Pending<T>> {
-        let Some(place) = self.empty_place() else {
-            return Err(pending);
-        };
-        let token = place.saturating_add(FIRST_SIGNING);
-        let watched = watcher.watch(&mut link, token, Interest::READABLE, false);
-        if watched.is_err() {
-            return Err(pending);
-        }
+    /// Waits for one at an empty place; whether there was memory for it.
+    pub(crate) fn put(&mut self, place: usize, pending: Pending) -> bool {
         self.looks = LOOKS;
-        self.put(
-            place,
-            Asked {
-                pending,
-                link,
-                has_come: false,
-            },
-        )
-    }
-
-    /// Puts one at a place.
-    fn put(&mut self, place: usize, asked: Asked<T>) -> Result<(), Pending<T>> {
+        let asked = Asked {
+            pending,
+            has_come: false,
+        };
         if let Some(slot) = self.places.get_mut(place) {
             *slot = Some(asked);
-            return Ok(());
+            return true;
         }
-        match self.places.push(Some(asked)) {
-            Ok(()) => Ok(()),
-            Err(refused) => match refused.value {
-                Some(asked) => Err(asked.pending),
-                None => Ok(()),
-            },
-        }
+        self.places.push(Some(asked)).is_ok()
     }
 
     /// The connection of the one at a place is at its end.
@@ -209,27 +168,16 @@ impl<T: Drop> Signings<T> {
         }
     }
 
-    /// Takes the one at a place, with its connection, where that is at its end; without it, where its time is over.
-    pub(crate) fn take_done(
-        &mut self,
-        place: usize,
-        now: u64,
-    ) -> Option<(Pending<T>, Option<UnixStream>)> {
-        let asked = self.take_over(place, now)?;
-        if asked.has_come {
-            Some((asked.pending, Some(asked.link)))
-        } else {
-            Some((asked.pending, None))
-        }
-    }
-
-    /// Takes the one at a place, where it has come or its time is over.
-    fn take_over(&mut self, place: usize, now: u64) -> Option<Asked<T>> {
+    /// Takes the one at a place, where it has come or its time is over: who waits for it, and whether it has come.
+    pub(crate) fn take_done(&mut self, place: usize, now: u64) -> Option<(Asker, bool)> {
         if !self.is_over(place, now) {
             return None;
         }
         match self.places.get_mut(place) {
-            Some(slot) => slot.take(),
+            Some(slot) => {
+                let asked = slot.take()?;
+                Some((asked.pending.asker, asked.has_come))
+            }
             None => None,
         }
     }

@@ -1,6 +1,7 @@
 //! Whom among the peers is looked for.
 
 use crate::caller::Caller;
+use crate::handler::Handler;
 use mio::net::TcpStream;
 
 /// Whom among the peers is looked for.
@@ -15,7 +16,11 @@ pub(crate) enum Sought {
 }
 
 /// Whether the peer at a place is one that is looked for.
-pub(crate) fn is_sought(caller: &Caller<TcpStream>, place: usize, sought: Sought) -> bool {
+pub(crate) fn is_sought<H: Handler>(
+    caller: &Caller<TcpStream, H>,
+    place: usize,
+    sought: Sought,
+) -> bool {
     match sought {
         Sought::Unanswered => !has_answer(caller),
         Sought::Answered => has_answer(caller),
@@ -24,6 +29,6 @@ pub(crate) fn is_sought(caller: &Caller<TcpStream>, place: usize, sought: Sought
 }
 
 /// Whether a peer has its answer.
-fn has_answer(caller: &Caller<TcpStream>) -> bool {
+fn has_answer<H: Handler>(caller: &Caller<TcpStream, H>) -> bool {
     !caller.is_asking() && !caller.is_waiting()
 }

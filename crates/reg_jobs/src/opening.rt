@@ -13,7 +13,7 @@ use crate::place::Place;
 use crate::serving::{LOOPBACK, answers_at, hub_over, serve_hub};
 use reg_core::Fault;
 use reg_endings::Failure;
-use reg_hub::Hub;
+use reg_hub::{Handler, Hub};
 use reg_watch::{Heard, Tally};
 use reg_words::{Answerer, KeyHolder};
 use std::cell::Cell;
@@ -63,7 +63,12 @@ fn keep_open<P: Place, F: Front, W: Write>(
         × Leads P.Opened.is_clean P.Opened.stands (Opens P.Opened.signs P.gave F.told inputs outcomes) opened.old.office opened.new.office
         × OpenedAt W.contents writer.old writer.new F.bound F.laid port counter.now inputs result }
 {
-    let mut hub = match hub_with_counter(rt, opened.front, port, counter) {
+    let mut hub: Hub<OpenDesk<'_, '_, P, F>> = match hub_with_counter(
+        rt,
+        opened.front,
+        port,
+        counter,
+    ) {
         Ok(hub) => hub,
         Err(why) => return Err(why),
     };
@@ -71,12 +76,12 @@ fn keep_open<P: Place, F: Front, W: Write>(
 }
 
 /// A hub at a port of the loopback interface, and at a counter.
-fn hub_with_counter<F: Front>(
+fn hub_with_counter<H: Handler, F: Front>(
     rt: &HostRuntime,
     front: &F,
     port: u16,
     counter: &str,
-) -> Result<Hub, Failure>
+) -> Result<Hub<H>, Failure>
     ensures ok { OnOk result (F.bound loopback port × F.laid counter.now) }
     ensures err { IfErr result (λ why. (why ≡ Failure.Fault Fault.Read) ⊎ (why ≡ Failure.Fault Fault.Memory)) }
 {

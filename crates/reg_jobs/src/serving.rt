@@ -15,7 +15,7 @@ use crate::telling::say;
 use mio::net::{TcpListener, UnixListener};
 use reg_core::{Decimal, Fault};
 use reg_endings::Failure;
-use reg_hub::{Handler, Hub, MOST_CALLERS, Signings};
+use reg_hub::{Handler, Hub, MOST_CALLERS};
 use reg_words::{Answerer, KeyHolder};
 use std::io::{ErrorKind, Write};
 
@@ -72,7 +72,7 @@ fn serve_desk<P: Place, F: Front, W: Write>(
         × Leads P.Opened.is_clean P.Opened.stands (Serves P.Opened.signs P.gave F.told inputs outcomes) served.old.office served.new.office
         × ServedAt W.contents writer.old writer.new F.bound port requests inputs result }
 {
-    let mut hub = match hub_at(rt, served.front, port) {
+    let mut hub: Hub<ServedDesk<'_, '_, P, F>> = match hub_at(rt, served.front, port) {
         Ok(hub) => hub,
         Err(why) => return Err(why),
     };
@@ -80,7 +80,7 @@ fn serve_desk<P: Place, F: Front, W: Write>(
 }
 
 /// A hub at a port of the loopback interface.
-fn hub_at<F: Front>(rt: &HostRuntime, front: &F, port: u16) -> Result<Hub, Failure>
+fn hub_at<H: Handler, F: Front>(rt: &HostRuntime, front: &F, port: u16) -> Result<Hub<H>, Failure>
     ensures ok { OnOk result (F.bound loopback port) }
     ensures err { IfErr result (λ why. (why ≡ Failure.Fault Fault.Read) ⊎ (why ≡ Failure.Fault Fault.Memory)) }
 {
@@ -91,11 +91,11 @@ fn hub_at<F: Front>(rt: &HostRuntime, front: &F, port: u16) -> Result<Hub, Failu
 }
 
 /// A hub over a listener for requests, and one for counters.
-pub(crate) fn hub_over(
+pub(crate) fn hub_over<H: Handler>(
     rt: &HostRuntime,
     listener: TcpListener,
     counter: Option<UnixListener>,
-) -> Result<Hub, Failure>
+) -> Result<Hub<H>, Failure>
     ensures { IfErr result (λ why. (why ≡ Failure.Fault Fault.Read) ⊎ (why ≡ Failure.Fault Fault.Memory)) }
 {
     match Hub::new(rt, listener, counter, MOST_CALLERS) {
@@ -110,7 +110,7 @@ pub(crate) fn hub_over(
 /// Tells the port, and answers so many peers.
 pub(crate) fn serve_hub<H: Handler, W: Write>(
     rt: &HostRuntime,
-    hub: &mut Hub,
+    hub: &mut Hub<H>,
     handler: &mut H,
     port: u16,
     requests: u64,
@@ -149,7 +149,7 @@ fn tell_number<W: Write>(writer: &mut W, number: u16) -> Result<(), Failure>
 /// Answers so many peers, and sends on what they were answered.
 fn answer_all<H: Handler>(
     rt: &HostRuntime,
-    hub: &mut Hub,
+    hub: &mut Hub<H>,
     handler: &mut H,
     requests: u64,
 ) -> Result<(), Failure>
@@ -158,13 +158,12 @@ fn answer_all<H: Handler>(
         (λ why. (why ≡ Failure.Fault Fault.Read) × (asked_in inputs ≢ requests)) }
 {
     let mut made = 0;
-    let mut signings = Signings::new(rt.alloc());
     // It stops early where the clock or the sockets fail.
-    let _ = hub.serve_all(rt, handler, &mut signings, &mut made, requests);
+    let _ = hub.serve_all(rt, handler, &mut made, requests);
     if made != requests {
         return Err(Failure::Fault(Fault::Read));
     }
     // Who does not take its answer in time is let go.
-    let _ = hub.finish(rt, handler, &mut signings);
+    let _ = hub.finish(rt, handler);
     Ok(())
 }

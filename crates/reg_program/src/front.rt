@@ -24,6 +24,11 @@ const OWNER_ALONE: u32 = 0o600;
 /// The last moment, 9999-12-31T23:59:59Z.
 const LAST_SECOND: u64 = 253_402_300_799;
 
+/// What the system says where too many files are open, in this process or in all (EMFILE, ENFILE).
+const TOO_MANY_HERE: i32 = 24;
+
+const TOO_MANY: i32 = 23;
+
 /// The machine. What its clock says and what listens at its ports, no clause can say.
 impl<'a> Front for Machine<'a> {
     ghost told = { λ now. Unit {0} };
@@ -77,7 +82,12 @@ impl<'a> Front for Machine<'a> {
     }
 
     fn ask(&self, path: &str, message: &[u8]) -> io::Result<UnwaitingStream> {
-        ask_unwaiting(&self.rt, path, message)
+        match ask_unwaiting(&self.rt, path, message) {
+            Ok(link) => Ok(link),
+            // One that is let go gives it room.
+            Err(error) if is_crowded(&error) => Err(io::Error::from(ErrorKind::WouldBlock)),
+            Err(error) => Err(error),
+        }
     }
 
     fn has_log(&self) -> bool {
@@ -158,4 +168,12 @@ fn moment_of(clock: &impl Clock) -> Result<Moment, Fault>
 /// The moment so many seconds after 1970 began, or the last one.
 fn moment_at(seconds: u64) -> Moment {
     Moment::of_secs(seconds.min(LAST_SECOND)).unwrap_or(Moment::EPOCH)
+}
+
+/// Whether no socket could be had since too many files are open.
+fn is_crowded(error: &io::Error) -> bool {
+    match error.raw_os_error() {
+        Some(code) => code == TOO_MANY_HERE || code == TOO_MANY,
+        None => false,
+    }
 }

@@ -1,12 +1,12 @@
 //! A hub of the tests: who answers, what the clock says, and who comes.
 
 use mio::net::{TcpListener, UnixListener, UnixStream as UnwaitingStream};
-use reg_hub::{Crowd, Given, Handler, Hub, Lost, Signings, Stopped};
+use reg_hub::{Crowd, Given, Handler, Hub, Lost, Stopped};
 use std::alloc::{AllocError, Global};
 use std::cell::Cell;
 use std::fmt::Debug;
 use std::io::{ErrorKind, Read, Write};
-use std::net::{Ipv4Addr, SocketAddr, TcpStream};
+use std::net::{Ipv4Addr, Shutdown, SocketAddr, TcpStream};
 use std::os::unix::net::UnixStream;
 use std::test::Fail;
 use std::time::{Clock, Duration};
@@ -36,10 +36,14 @@ pub(super) fn same_bytes(row: usize, got: &[u8], wanted: &[u8]) -> Result<(), Fa
 }
 
 /// Answers each request by its own bytes behind `answer `, and each line by itself, with so many bytes more where it asks for
-/// them; what is no request by nothing. An answer that is to be signed is left to be, and what signs never has room.
+/// them; what is no request by nothing. An answer that is to be signed is left to be: what signs never has room for some, and is asked at
+/// its socket for others, whose answers end with what it says.
 #[derive(Drop)]
 struct Echo {
+    rt: HostRuntime,
     alloc: Global,
+    /// The socket of what signs.
+    signer: Option<&'static str>,
     more: usize,
     lines: u64,
     asked: Vec<u8>,
@@ -65,14 +69,22 @@ impl Handler for Echo {
         }
     }
 
-    fn ask(&self, _ticket: &Vec<u8>) -> io::Result<UnwaitingStream> {
-        Err(io::Error::from(ErrorKind::WouldBlock))
+    fn ask(&self, ticket: &Vec<u8>) -> io::Result<UnwaitingStream> {
+        match self.signer {
+            Some(path) => ask_at(&self.rt, path, ticket),
+            None => Err(io::Error::from(ErrorKind::WouldBlock)),
+        }
     }
 
-    fn finish(&self, ticket: Vec<u8>, _link: Option<UnwaitingStream>) -> Vec<u8>
+    fn finish(&self, ticket: Vec<u8>, link: Option<UnwaitingStream>) -> Vec<u8>
         ensures { Unit {0} }
     {
-        ticket
+        let mut text = ticket;
+        if let Some(mut link) = link {
+            // What can't be read is left out.
+            let _ = link.read_to_end(&mut text);
+        }
+        text
     }
 
     fn tell(&mut self, line: &[u8], _noted: &mut Vec<u8>) -> Result<Vec<u8>, Stopped> {
@@ -88,6 +100,14 @@ impl Handler for Echo {
     }
 
     fn hold(&self, _crowd: Crowd) {}
+}
+
+/// Asks what signs at a path for the signature of a message.
+fn ask_at(rt: &HostRuntime, path: &str, message: &[u8]) -> io::Result<UnwaitingStream> {
+    let mut link = UnwaitingStream::connect(rt, path)?;
+    link.write_all(message)?;
+    link.shutdown(Shutdown::Write)?;
+    Ok(link)
 }
 
 /// What a request comes to, by the text of its answer.
@@ -128,9 +148,12 @@ impl Echo {
     }
 }
 
-fn new_echo(alloc: Global) -> Echo {
+fn new_echo(rt: &HostRuntime) -> Echo {
+    let alloc = rt.alloc();
     Echo {
+        rt: *rt,
         alloc,
+        signer: None,
         more: 0,
         lines: 0,
         asked: Vec::new(alloc),
@@ -156,9 +179,9 @@ impl Clock for At {
 /// A hub, who answers, and who came to its port and its counter.
 #[derive(Drop)]
 pub(super) struct Office {
-    hub: Hub,
-    signings: Signings<Vec<u8>>,
+    hub: Hub<Echo>,
     echo: Echo,
+    signer: Option<UnixListener>,
     made: u64,
     at: SocketAddr,
     path: &'static str,
@@ -178,8 +201,8 @@ pub(super) fn office_of(
     let counter = UnixListener::bind(rt, path)?;
     Ok(Office {
         hub: Hub::new(rt, listener, Some(counter), places)?,
-        signings: Signings::new(rt.alloc()),
-        echo: new_echo(rt.alloc()),
+        echo: new_echo(rt),
+        signer: None,
         made: 0,
         at,
         path,
@@ -225,22 +248,18 @@ impl Office {
             // A count that was read is within its type.
             let _count = self.made;
             let wait = Duration::from_millis(1);
-            self.hub.turn(
-                &At(millis),
-                &mut self.echo,
-                &mut self.signings,
-                &mut self.made,
-                u64::MAX,
-                wait,
-            )?;
+            self.hub.turn(&At(millis), &mut self.echo, &mut self.made, u64::MAX, wait)?;
         }
         Ok(())
     }
 
     /// Everybody is let go, and the counter's file goes.
     pub(super) fn finish(&mut self, rt: &HostRuntime) -> Result<(), Fail> {
-        self.hub.finish(rt, &self.echo, &mut self.signings)?;
+        self.hub.finish(rt, &self.echo)?;
         fs::remove_file(rt, self.path)?;
+        if let Some(path) = self.echo.signer {
+            fs::remove_file(rt, path)?;
+        }
         Ok(())
     }
 }
@@ -337,5 +356,44 @@ impl Office {
         }
         let counter = self.counters.remove(0);
         self.count_to(counter, wanted)
+    }
+}
+
+/// What signs.
+impl Office {
+    /// From now on something signs at this path.
+    pub(super) fn begin_signing(
+        &mut self,
+        rt: &HostRuntime,
+        path: &'static str,
+    ) -> Result<(), Fail> {
+        let _ = fs::remove_file(rt, path);
+        self.signer = Some(UnixListener::bind(rt, path)?);
+        self.echo.signer = Some(path);
+        Ok(())
+    }
+
+    /// It takes so many messages, and signs the last one first: each signature tells the message.
+    pub(super) fn sign(&mut self, count: usize) -> Result<(), Fail> {
+        let mut links = Vec::new(self.echo.alloc);
+        for _ in 0..count {
+            links.push(self.next_message()?)?;
+        }
+        while let Some((mut link, message)) = links.pop() {
+            link.write_all(b"signed ")?;
+            link.write_all(&message)?;
+        }
+        Ok(())
+    }
+
+    /// The next message, and the connection on which its signature is waited for.
+    fn next_message(&self) -> Result<(UnwaitingStream, Vec<u8>), Fail> {
+        let Some(signer) = &self.signer else {
+            return Err(Fail::new("nothing signs"));
+        };
+        let (mut link, _) = signer.accept()?;
+        let mut message = Vec::new(self.echo.alloc);
+        link.read_to_end(&mut message)?;
+        Ok((link, message))
     }
 }

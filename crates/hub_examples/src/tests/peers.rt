@@ -3,7 +3,7 @@
 
 use crate::tests::office::{ANSWER, LARGE, REQUEST};
 use crate::tests::steps::Step::{
-    self, Comes, Gets, Large, Sees, SeesLost, SeesRequest, Sends, Turns,
+    self, Asks, Comes, Gets, Large, Sees, SeesLost, SeesRequest, Sends, Signs, Turns,
 };
 use crate::tests::steps::play;
 use reg_hub::Lost;
@@ -62,6 +62,32 @@ static SIGNED: [Step; 10] = [
 #[test]
 fn a_signature_has_10_seconds(rt: HostRuntime) -> Result<(), Fail> {
     play(&rt, "hub_examples.signed", 1_000, &SIGNED)
+}
+
+static SIGNED_FOR_TWO: [Step; 11] = [
+    Asks("hub_examples.signer"),
+    Comes(b"GET /signed/1 HTTP/1.1\r\n\r\n"),
+    Turns(1_000, 3),
+    Comes(b"GET /signed/2 HTTP/1.1\r\n\r\n"),
+    Turns(1_000, 3),
+    Sees(2, 2),
+    Signs(2),
+    Turns(2_000, 4),
+    Gets(
+        1,
+        b"answer GET /signed/2 HTTP/1.1\r\n\r\nsigned answer GET /signed/2 HTTP/1.1\r\n\r\n",
+    ),
+    Gets(
+        0,
+        b"answer GET /signed/1 HTTP/1.1\r\n\r\nsigned answer GET /signed/1 HTTP/1.1\r\n\r\n",
+    ),
+    Sees(2, 0),
+];
+
+// Which signature is put to which answer, where two wait for theirs in one turn.
+#[test]
+fn a_signature_goes_to_who_waits_for_it(rt: HostRuntime) -> Result<(), Fail> {
+    play(&rt, "hub_examples.two", 1_000, &SIGNED_FOR_TWO)
 }
 
 static FOLLOWED: [Step; 9] = [

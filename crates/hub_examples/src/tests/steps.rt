@@ -24,6 +24,10 @@ pub(super) enum Step {
     Turns(u64, usize),
     /// From now on a large answer has so many bytes more.
     Large(usize),
+    /// From now on something signs at this path.
+    Asks(&'static str),
+    /// So many messages are signed, the last one first.
+    Signs(usize),
     /// So many requests were answered, and so many peers are there.
     Sees(u64, usize),
     /// So many lines were answered.
@@ -57,6 +61,8 @@ fn take(rt: &HostRuntime, office: &mut Office, at: usize, step: &Step) -> Result
         Step::Tells(counter, bytes) => office.tell(*counter, bytes),
         Step::Turns(millis, count) => office.turns(*millis, *count),
         Step::Large(more) => office.set_more(*more),
+        Step::Asks(path) => office.begin_signing(rt, path),
+        Step::Signs(count) => office.sign(*count),
         seen => look(office, at, seen),
     }
 }
