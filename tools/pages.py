@@ -99,10 +99,10 @@ def look_at_promises():
             specs = [TOP / "crates" / p / "specs" / f"{it[1]}.antt" for p in places]
             if not any(sp.exists() and re.search(rf"\b{it[2]}\b", sp.read_text(encoding="utf-8")) for sp in specs):
                 miss(page, f"no {it[1]}.{it[2]} in the specs of {places}: {cells[0][:60]}")
-        for it in re.findall(r"`((?:[A-Za-z_]+::)*[a-z_0-9]+)`", cells[1].split(": `")[0] if ": `" in cells[1] else cells[1]):
+        for it in re.findall(r"`((?:[A-Za-z_]+::)*[a-z_0-9]+)`", re.split(r": (?:\w+'?s? )?`", cells[1])[0]):
             name = it.split("::")[-1]
             sources = [f for c in set(crates + own) for f in (TOP / "crates" / c / "src").rglob("*.rt")]
-            if not any(re.search(rf"\b(?:fn|ensures|mod|law) {name}\b", f.read_text(encoding="utf-8")) for f in sources):
+            if not any(re.search(rf"\b(?:fn|ensures|ghost|mod) {name}\b", f.read_text(encoding="utf-8")) for f in sources):
                 miss(page, f"no {it} in {sorted(set(crates + own))}: {cells[0][:60]}")
 
 
