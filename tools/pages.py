@@ -67,6 +67,21 @@ def look_at_ways():
                     miss(page, f"no fn {name} in {crate}/src/{it[2]}")
 
 
+def look_at_laws():
+    """Of the table "Where is it?" the definitions behind the crate that has them."""
+    page = "docs/ARCHITECTURE.md"
+    table = text(page).split("## Where is it?")[1].split("\n## ")[0]
+    for law in re.findall(r"^\|.* \| ([^|]*) \|$", table, re.MULTILINE):
+        crate = ""
+        for it in re.finditer(r"(reg_\w+)|`([A-Z]\w*)(?:\.(\w+))?`", law):
+            crate = it[1] or crate
+            specs = TOP / "crates" / crate / "specs"
+            named = rf"\b{it[3] or it[2]}\b"
+            whole = (specs / f"{it[2]}.antt").exists() or not it[3]
+            if it[2] and not (whole and any(re.search(named, at.read_text(encoding="utf-8")) for at in specs.glob(f"{it[2] if it[3] else '*'}.antt"))):
+                miss(page, f"no {it[0]} in the specs of {crate}")
+
+
 def look_at_promises():
     page = "docs/PROOFS.md"
     crates = []
@@ -120,7 +135,7 @@ def look_at_crates():
             miss(page, f"{crate} stands on {' '.join(sorted(wanted))}, and not on {' '.join(sorted(told))}")
 
 
-for look in (look_at_links, look_at_ways, look_at_promises, look_at_crates):
+for look in (look_at_links, look_at_ways, look_at_laws, look_at_promises, look_at_crates):
     look()
 print(*missing, sep="\n", end="\n" if missing else "")
 sys.exit(1 if missing else 0)
