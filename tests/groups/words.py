@@ -43,7 +43,6 @@ UNKNOWN = {
     "--log before a command": ("--log", *SERVE, "--port", "80", "--requests", "1"),
     "--log twice": (*SERVE, "--port", "80", "--requests", "1", "--log", "--log"),
     "--log-file twice": (*SERVE, "--port", "80", "--requests", "1", "--log-file", "a", "--log-file", "b"),
-    "--log-file without a path": (*SERVE, "--port", "80", "--requests", "1", "--log-file"),
     "init alone": ("init",),
     "init without a key": ("init", "none.db", "--name", NAME),
     "init without a name": ("init", "none.db", "--key", KEY),
@@ -219,6 +218,13 @@ def a_script_over_memory_is_not_clocked_and_not_strict(t, option):
 def a_file_whose_name_is_no_text_is_refused(t, words):
     # The byte FF, which is in no UTF-8.
     t.has(refused(t, *words, "ca\udcff.db"), "no UTF-8")
+
+
+@test
+def an_option_without_its_value_is_refused(t):
+    ran = t.desk(*SERVE, "--port", "80", "--requests", "1", "--log-file")
+    t.same((ran.status, ran.out), (2, b""), "status and standard output")
+    t.has(ran.err.decode(), "error: a value is required for '--log-file <PATH>' but none was supplied\n")
 
 
 @each({it: it for it in ("--version", "-V")})
