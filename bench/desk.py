@@ -4,6 +4,7 @@ lines to the reply to the last, of a script that has the register open), with it
 It prints tables as docs/PERFORMANCE.md has them.
 
 Usage: bench/desk.py [NUMBER OF CERTIFICATES ..]     (1000 10000 100000 where none is given; DESK names another program)
+       bench/desk.py --crl [NUMBER OF ENTRIES ..]    CRLs alone, of registers whose certificates are all revoked
 The files lie in the folder that DESK_BENCH_FOLDER names, or else in that of temporary files; /dev/shm has them in memory.
 """
 import os
@@ -45,14 +46,14 @@ def script(path, lines):
     return took, told[-1] if told else ""
 
 
-def make(path, size):
-    """A register with so many certificates, an order each, a fifth of them revoked, and a CRL."""
+def make(path, size, revoked=REVOKED):
+    """A register with so many certificates, an order each, one in so many of them revoked, and a CRL."""
     subprocess.run([DESK, "init", path, "--name", NAME, "--key", KEY], check=True, stdout=subprocess.DEVNULL)
     script(path, ["subscriber acme"])
     for first in range(1, size + 1, 100_000):
         places = range(first, min(first + 100_000, size + 1))
         script(path, [line for at in places for line in ("order 1 398", f"register {at} {serial(at)} {DAY} {END}")])
-    gone = range(1, size + 1, REVOKED)
+    gone = range(1, size + 1, revoked)
     script(path, [line for request, at in enumerate(gone, 1) for line in (f"request {serial(at)} superseded", f"revoke {request}")])
     script(path, ["crl"])
     return len(gone)
@@ -155,8 +156,25 @@ def made_newer(folder, records, version):
     return took
 
 
+def crls(sizes):
+    """A CRL looked up, made, sealed and stored; its bytes; the most memory of the desk that did it."""
+    print("| Entries | Bytes | `crl`, ms | Most memory, MiB |\n|---|---|---|---|")
+    with tempfile.TemporaryDirectory(prefix="desk-bench-", dir=os.environ.get("DESK_BENCH_FOLDER")) as folder:
+        for size in sizes:
+            path = f"{folder}/{size}.db"
+            make(path, size, 1)
+            took, peak = measured(path, folder, [], ["crl"] * 5)
+            der = subprocess.run([DESK, "crl", path], capture_output=True, check=True).stdout
+            print(f"| {size:,} | {len(der):,} | {took / 1e3:,.1f} | {peak:.0f} |", flush=True)
+            os.remove(path)
+
+
 def main():
-    sizes = [int(it) for it in sys.argv[1:]] or [1_000, 10_000, 100_000]
+    words = sys.argv[1:]
+    sizes = [int(it) for it in words if it != "--crl"] or [1_000, 10_000, 100_000]
+    if "--crl" in words:
+        crls(sizes)
+        return
     found, peaks = {}, []
     with tempfile.TemporaryDirectory(prefix="desk-bench-", dir=os.environ.get("DESK_BENCH_FOLDER")) as folder:
         for size in sizes:

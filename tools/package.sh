@@ -1,7 +1,7 @@
 #!/usr/bin/env bash
 # Makes a Debian package of the program, in the folder that is given (out/package): the program with its launcher, the manual pages desk(1) and
 # desk-script(5), units of systemd that serve a register, sign for it, issue and publish its CRLs, completion for bash, the board, documents and examples.
-# The program is built first, where it is not built yet (./desk does that). Prints the package's path.
+# The program is built first, where it is not built yet or is older than its sources. Prints the package's path.
 #
 # Usage, from the repository's root: tools/package.sh [FOLDER]
 set -euo pipefail
@@ -9,8 +9,9 @@ out=${1:-out/package}
 program=crates/reg_desk/out/reg_desk
 kit=${KIT:-/opt/rattle}
 
-./desk --help >/dev/null
-[ -x "$program" ]
+# shellcheck source=tools/current.sh
+. tools/current.sh
+is_current . || ./desk build
 
 # The package of one commit is the same whenever it is made.
 commit=$(git rev-parse --short=7 HEAD)

@@ -19,7 +19,7 @@ from pathlib import Path
 
 from lib import authority, program
 from lib.authority import EXAMPLES, Authority, moment_of
-from lib.documents import block
+from lib.documents import block, version
 from lib.program import TOP
 from lib.trial import Failed, Skipped, need, test
 
@@ -127,7 +127,7 @@ def installed(t, root, deb):
     # A small root may leave documents out.
     t.same([line for line in verified if not re.search("/usr/share/(doc|man)/", line)], [], "files other than as they were packed")
     t.has(root.run("desk", "--help"), "Usage: desk [OPTIONS] <COMMAND>")
-    t.same(root.run("desk", "--version").splitlines()[0].split()[:2], ["desk", "0.1"], "desk --version")
+    t.same(root.run("desk", "--version").splitlines()[0].split()[:2], ["desk", version()], "desk --version")
     replies = root.run("desk", "script", given=(EXAMPLES / "first-day.txt").read_bytes())
     t.same(replies, (EXAMPLES / "first-day.replies.txt").read_text(), "a first day, byte for byte")
     traced = root.tried("bash", "-x", "/usr/bin/desk", "--help").stderr.decode()

@@ -1,21 +1,29 @@
-"""Types what README says: the lines of its small CA, one after the other into an empty folder, exactly as they stand but for the port."""
+"""Types what README says: the lines of its small CA, one after the other into an empty folder, exactly as they stand; and looks at what it says that they print."""
 
 import os
 import re
 import shlex
+import shutil
+import socket
 
 from lib import program
 from lib.authority import need_cryptography
+from lib.documents import version
 from lib.trial import Failed, need, test
 
+SMALL_CA = "Your own small CA, signed and verified by openssl"
 
-def block(heading):
-    """The first block of lines to be typed behind a heading of README."""
-    text = (program.TOP / "README.md").read_text(encoding="utf-8")
-    found = re.search(rf"^## {heading}$.*?\n\n((?:    [^\n]*\n)+)", text, re.MULTILINE | re.DOTALL)
+
+def readme():
+    return (program.TOP / "README.md").read_text(encoding="utf-8")
+
+
+def blocks(heading):
+    """The blocks of lines behind a heading of README."""
+    found = re.search(rf"^## {heading}\n(.*?)(?=^## |\Z)", readme(), re.MULTILINE | re.DOTALL)
     if not found:
-        raise Failed(f"README has no lines behind {heading!r}")
-    return [line[4:] for line in found[1].splitlines()]
+        raise Failed(f"README has no heading {heading!r}")
+    return [[line[4:] for line in it.splitlines()] for it in re.findall(r"(?:^    [^\n]*\n)+", found[1], re.MULTILINE)]
 
 
 def home_of(t):
@@ -28,29 +36,82 @@ def home_of(t):
     return home
 
 
+def is_free(port):
+    with socket.socket() as it:
+        it.setsockopt(socket.SOL_SOCKET, socket.SO_REUSEADDR, 1)
+        try:
+            it.bind(("127.0.0.1", port))
+        except OSError:
+            return False
+    return True
+
+
+def in_order(t, wanted, told):
+    """These lines stand in what was told, each behind the one before."""
+    lines = iter(told.splitlines())
+    for want in wanted:
+        if not any(line == want for line in lines):
+            raise Failed(f"{want!r} does not come where README has it, in {told}")
+
+
 @test(seconds=4)
 def the_small_ca_ends_in_verify_ok(t):
     need("openssl", "curl", "bash")
     need_cryptography(t)
-    port = str(program.free_port())
-    lines = [it.replace("8080", port) for it in block("Your own small CA, signed and verified by openssl")]
+    typed, printed = blocks(SMALL_CA)
+    if not is_free(8080):
+        typed = [it.replace("8080", str(program.free_port())) for it in typed]
     (t.room / "ca").mkdir()
     env = {**os.environ, "HOME": str(home_of(t)), "TZ": "America/New_York"}
     env.pop("LD_PRELOAD", None)
-    ran = t.tried("bash", "-c", "cd ca\n" + "\n".join(lines) + "\nwait\n", env=env)
-    told = (ran.stdout + ran.stderr).decode()
-    before, _, after = told.partition("request 1 due ")
-    t.has(before, "created\n", "what was typed")
-    t.has(before, "subscriber 1\norder 1\nregistered\n")
-    t.has(before, "a.pem: good")
-    t.has(after, "revoked\ncrl 1 entries 1\n")
-    t.has(after, "a.pem: revoked")
+    script = "\n".join(["exec 2>&1", "cd ca", *typed, "wait"])
+    ran = t.tried("timeout", int(50 * program.PATIENCE), "bash", "-c", script, env=env, timeout=60 * program.PATIENCE)
+    told = ran.stdout.decode()
+    t.true(ran.returncode != 124, f"it did not come to an end: {told}")
+    in_order(t, printed, told)
     t.same(told.count("Response verify OK"), 2, f"answers that verify, in {told}")
     t.same(len(re.findall(r"^verify OK$", told, re.MULTILINE)), 1, f"the CRL verifies, in {told}")
+    t.same(re.findall(r"^(?:[EF][0-9]+ .*|bad-.*|refused.*)$", told, re.MULTILINE), [], f"refusals and faults, in {told}")
+
+
+@test
+def the_first_look_has_these_lines_and_replies(t):
+    _, shown = blocks("Look")
+    day, replies = ((program.TOP / f"examples/first-day{it}.txt").read_text().splitlines() for it in ("", ".replies"))
+    pairs = iter(zip(day, replies, strict=True))
+    for row in shown:
+        line, reply = re.split(r" {2,}", row)
+        t.true(any(it == (line, reply) for it in pairs), f"{row!r} is a line of examples/first-day.txt and its reply, in its order")
 
 
 @test
 def no_line_is_longer_than_120_letters(t):
-    lines = (program.TOP / "README.md").read_text(encoding="utf-8").splitlines()
+    lines = readme().splitlines()
     t.same([it for it in lines if len(it) > 120], [], "lines of README.md")
     t.true(len(lines) <= 120, f"README.md has {len(lines)} lines")
+
+
+@test(seconds=3)
+def what_is_told_as_proved_is_built(t):
+    """By `./desk --version`, in a folder whose program is not there, is there, and is older than a source."""
+    need("bash")
+    top = t.room / "top"
+    source, built = top / "crates/reg_words/src/desk.rt", top / "crates/reg_desk/out/reg_desk"
+    for it in ("tools", "crates/reg_words/src", "crates/reg_desk/out"):
+        (top / it).mkdir(parents=True)
+    for it in ("desk", "crates.txt", "tools/version.sh", "tools/current.sh", "crates/reg_words/src/desk.rt"):
+        shutil.copy2(program.TOP / it, top / it)
+
+    def told():
+        ran = t.tried(top / "desk", "--version")
+        t.same(ran.returncode, 0, "status")
+        return ran.stdout.decode().splitlines()
+
+    t.same(told()[0].split()[:2], ["desk", version()])
+    t.true(told()[1].startswith("not built; "), "where no program is")
+    built.write_text("#!/bin/sh\n")
+    built.chmod(0o755)
+    t.true(told()[1].startswith("each function proved and built by Rattle: "), "where one is that no source is newer than")
+    later = built.stat().st_mtime + 10
+    os.utime(source, (later, later))
+    t.true(told()[1].startswith("not built: the program that is there is older than its sources"), "where a source is newer")

@@ -2,7 +2,8 @@
 
 import re
 
-from lib.program import KEY, NAME, TOP
+from lib.documents import version
+from lib.program import KEY, NAME
 from lib.trial import each, test
 
 ISSUER = ("--name", NAME, "--key", KEY)
@@ -42,7 +43,6 @@ UNKNOWN = {
     "--log before a command": ("--log", *SERVE, "--port", "80", "--requests", "1"),
     "--log twice": (*SERVE, "--port", "80", "--requests", "1", "--log", "--log"),
     "--log-file twice": (*SERVE, "--port", "80", "--requests", "1", "--log-file", "a", "--log-file", "b"),
-    "--log-file without a path": (*SERVE, "--port", "80", "--requests", "1", "--log-file"),
     "init alone": ("init",),
     "init without a key": ("init", "none.db", "--name", NAME),
     "init without a name": ("init", "none.db", "--key", KEY),
@@ -220,11 +220,17 @@ def a_file_whose_name_is_no_text_is_refused(t, words):
     t.has(refused(t, *words, "ca\udcff.db"), "no UTF-8")
 
 
+@test
+def an_option_without_its_value_is_refused(t):
+    ran = t.desk(*SERVE, "--port", "80", "--requests", "1", "--log-file")
+    t.same((ran.status, ran.out), (2, b""), "status and standard output")
+    t.has(ran.err.decode(), "error: a value is required for '--log-file <PATH>' but none was supplied\n")
+
+
 @each({it: it for it in ("--version", "-V")})
 def the_version_is_told(t, word):
     ran = t.desk(word)
-    newest = re.search(r"^## (\d\S*)$", (TOP / "CHANGELOG.md").read_text(), re.MULTILINE)[1]
-    t.same((ran.status, ran.out.decode(), ran.err), (0, f"desk {newest}\n", b""), "status, standard output and standard error: as CHANGELOG.md has it")
+    t.same((ran.status, ran.out.decode(), ran.err), (0, f"desk {version()}\n", b""), "status, standard output and standard error: as CHANGELOG.md has it")
 
 
 # What is told of each command.

@@ -10,6 +10,11 @@ def document(name="OPERATIONS"):
     return (TOP / f"docs/{name}.md").read_text(encoding="utf-8")
 
 
+def version():
+    """The newest version of CHANGELOG.md."""
+    return re.search(r"^## (\d\S*)$", (TOP / "CHANGELOG.md").read_text(encoding="utf-8"), re.MULTILINE)[1]
+
+
 def blocks(heading, name="OPERATIONS"):
     """The blocks of lines of a section."""
     found = re.search(rf"^##+ {re.escape(heading)}\n(.*?)(?=^##+ |\Z)", document(name), re.MULTILINE | re.DOTALL)
