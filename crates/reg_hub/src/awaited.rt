@@ -76,9 +76,12 @@ impl<H: Handler> Awaited<H> {
         self.link.is_none()
     }
 
-    /// The connection is at its end: what came on it is there.
+    /// The connection is at its end: what came on it is there, unless what is to be signed had not gone out.
     pub(crate) fn note_come(&mut self) {
-        self.way = Way::There;
+        self.way = match self.way {
+            Way::Back | Way::There => Way::There,
+            Way::Out | Way::Lost => Way::Lost,
+        };
     }
 
     /// Connects to what signs, where that was not done yet, and sends what is to be signed. Where it has no room, it is tried again.

@@ -1,6 +1,6 @@
 -- An answer that was left to be signed, once it is finished: an exchange over the records of where it was begun.
 use Rattle.std.proofs.Common.{◌≡◌, ◌≢◌, ℕ, List, [], Global, Vec, ap, inl, inr, refl, sym, subst, ◌∙◌}
-use Rattle.std.specs.Prelude.{Option, Some, None, Result, Ok, Err, IfErr, IfOk, is_none, option_map}
+use Rattle.std.specs.Prelude.{Option, Some, None, Result, Ok, Err, IfErr, IfOk, Bool, true, false, not, is_none, is_some, option_map}
 use Rattle.reg_core.specs.Records.{Records}
 use Rattle.reg_core.specs.declared.memory.Memory.{Memory as NoMemory}
 use Rattle.reg_core.specs.declared.refusal.Fault.{Fault}
@@ -189,7 +189,10 @@ module _ {S : Type 0} (is_clean : S → Type 0) (stands : Signatory → S → Re
       t
       moved
 
--- whether a signature is there, as bytes
-pub none_of : (signature : Option (Vec ℕ Global)) → is_none signature ≡ is_none (option_map (λ (it : Vec ℕ Global). it.items) signature)
-none_of (Some bytes) = refl
-none_of None = refl
+-- whether none is there, as bytes
+pub none_of : (signature : Option (Vec ℕ Global)) (is : Bool) → is_some signature ≡ not is
+    → is ≡ is_none (option_map (λ (it : Vec ℕ Global). it.items) signature)
+none_of (Some bytes) true is = cc is
+none_of (Some bytes) false is = refl
+none_of None true is = refl
+none_of None false is = cc is

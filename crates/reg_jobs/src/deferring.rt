@@ -130,11 +130,23 @@ fn look_at<P: Place>(
 {
     match looked.wanted {
         Wanted::Crl => deferred_for(P::crl_message(office, alloc, looked.moment), looked),
-        Wanted::Answer => match request_of(alloc, line) {
-            Some(request) => look_at_answer(alloc, office, looked, &request),
-            None => None,
-        },
+        Wanted::Answer => look_at_request(alloc, office, looked, line),
     }
+}
+
+/// Looks at a line with an OCSP request, if it has one.
+fn look_at_request<K: Keeper>(
+    alloc: Global,
+    office: &mut K,
+    looked: Looked,
+    line: &[u8],
+) -> Option<Deferred<Looked>>
+    ensures { Leads K.is_clean K.stands (λ identity before after. after ≡ before) office.old office.new }
+{
+    let Some(request) = request_of(alloc, line) else {
+        return None;
+    };
+    look_at_answer(alloc, office, looked, &request)
 }
 
 /// A line that was looked at, and what is to be signed for it, where something is.

@@ -124,8 +124,25 @@ pub(crate) fn serve_hub<H: Handler, W: Write>(
     ensures { (inputs : List Input) × (outcomes : List (Outcome H.Ticket)) × Answered (Handles H.answers H.tells H.defers) handler.old inputs outcomes handler.new
         × Served port requests inputs (W.contents writer.old) (W.contents writer.new) result }
 {
+    let served = serve_over(rt, &mut hub, handler, port, requests, writer);
+    drop(hub);
+    served
+}
+
+/// The same over a hub that stays.
+fn serve_over<H: Handler, W: Write>(
+    rt: &HostRuntime,
+    hub: &mut Hub<H>,
+    handler: &mut H,
+    port: u16,
+    requests: u64,
+    writer: &mut W,
+) -> Result<(), Failure>
+    ensures { (inputs : List Input) × (outcomes : List (Outcome H.Ticket)) × Answered (Handles H.answers H.tells H.defers) handler.old inputs outcomes handler.new
+        × Served port requests inputs (W.contents writer.old) (W.contents writer.new) result }
+{
     match tell_port(writer, port) {
-        Ok(()) => answer_all(rt, &mut hub, handler, requests),
+        Ok(()) => answer_all(rt, hub, handler, requests),
         Err(why) => Err(why),
     }
 }

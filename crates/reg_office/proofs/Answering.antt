@@ -1,8 +1,7 @@
 -- Who answers, as the calls of an office have it.
-use Rattle.std.proofs.Common.{◌≡◌, ℕ, List, Option, Some, None}
+use Rattle.std.proofs.Common.{◌≡◌, Option, Some, None}
 use Rattle.std.specs.Prelude.{option_copied, option_map}
 use Rattle.reg_crl.specs.Signing.{Identity}
-use Rattle.reg_calls.specs.Signatories.{Responder, Signatory}
 use Rattle.reg_ocsp.specs.Certificate.{Certified}
 use Rattle.reg_office.specs.declared.responder.Naming.{Naming}
 use Rattle.reg_office.specs.declared.responder.Responder.{Responder as Held}

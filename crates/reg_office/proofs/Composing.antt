@@ -13,7 +13,7 @@ use Rattle.reg_core.specs.declared.command.Command.TheVariants.{Subscriber, Orde
 use Rattle.reg_core.specs.declared.command.Reply.{Reply}
 use Rattle.reg_core.specs.declared.refusal.Refusal.{Refusal}
 use Rattle.reg_core.specs.declared.refusal.Fault.{Fault}
-use Rattle.reg_core.specs.declared.refusal.Fault.TheVariants.{Refused, Memory, Store, Signer, Read, Write}
+use Rattle.reg_core.specs.declared.refusal.Fault.TheVariants.{Refused}
 use Rattle.reg_calls.proofs.Happening.{happens_by}
 use Rattle.reg_laws.specs.Run.{Happens}
 use Rattle.reg_laws.proofs.Decided.{Refuses, Accepts}

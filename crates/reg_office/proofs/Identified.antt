@@ -1,15 +1,15 @@
 -- With a key identifier more, which CRLs have from the next one on, the CRLs that were issued are signed over what they list.
-use Rattle.std.proofs.Common.{◌≡◌, ℕ, ◌+◌, ◌<◌, ◌≤◌, List, [], ◌∷◌, length, Result, Ok, Err, OnOk, inl, inr, refl, ap, subst, sym, ◌∙◌, arith}
+use Rattle.std.proofs.Common.{◌≡◌, ℕ, ◌+◌, ◌<◌, ◌≤◌, List, [], ◌∷◌, length, Result, Ok, Err, OnOk, inl, inr, refl, subst, sym, arith}
 use Rattle.std.specs.List.{AllByRecursion}
-use Rattle.reg_core.specs.Crls.{CertList, cert_list, next_number}
+use Rattle.reg_core.specs.Crls.{cert_list, next_number}
 use Rattle.reg_core.specs.Issuer.{Issuer}
 use Rattle.reg_core.specs.Records.{Records, Crl}
 use Rattle.reg_core.specs.Sound.{NumberedFrom, SoundRows}
 use Rattle.reg_core.specs.declared.rows.Entry.{Entry}
 use Rattle.reg_crl.specs.Crl.{certificate_list, crl_extensions, key_identifier, tbs_cert_list, tbs_of}
 use Rattle.reg_crl.specs.Signing.{Identity, seal_of, sealed_until, sha1_algorithm}
-use Rattle.reg_der.specs.Authority.{HasIdentifier, key_identifier_at, name_of, with_identifier}
-use Rattle.reg_der.specs.Issuers.{with_issuer, with_key_identifier}
+use Rattle.reg_der.specs.Authority.{HasIdentifier, key_identifier_at, name_of}
+use Rattle.reg_der.specs.Issuers.{with_key_identifier}
 use Rattle.reg_laws.proofs.Contents.{next_is}
 use Rattle.reg_office.specs.Stands.{SoundFor}
 

@@ -8,7 +8,7 @@ use Rattle.std.proofs.lemmas.Bool.Decides.{nat_tests}
 use Rattle.reg_core.specs.Crls.{last_listing}
 use Rattle.reg_core.specs.Due.{deadline, is_open}
 use Rattle.reg_core.specs.Queries.{listing}
-use Rattle.reg_core.specs.Records.{Records, certificate_in, certificate_of_order, order_in, request_in, revocation_in, subscriber_in}
+use Rattle.reg_core.specs.Records.{Records, certificate_in, certificate_of_order, order_in, revocation_in, subscriber_in}
 use Rattle.reg_core.specs.Status.{is_good, status_by}
 use Rattle.reg_core.specs.declared.command.Listing.{Listing}
 use Rattle.reg_core.specs.declared.command.Status.{Status}

@@ -34,6 +34,7 @@ use crate::machine::Machine;
 use crate::signing::{FileSigner, signer_for};
 use crate::watching::Teller;
 use mio::net::UnixStream;
+use reg_calls::Keeper;
 use reg_core::{Fault, Label, Memory, Moment, Policy, Schedule};
 use reg_crl::Signer;
 use reg_der::Issuer;
@@ -163,7 +164,9 @@ impl<'a> Place for Machine<'a> {
         now: Moment,
         from: Cursor,
         most: u64,
-    ) -> Result<Page, Fault> {
+    ) -> Result<Page, Fault>
+        ensures { Leads ⟦<FileOffice as Keeper>⟧.is_clean ⟦<FileOffice as Keeper>⟧.stands (λ identity before after. Pages before now most from result after) register.old register.new }
+    {
         page_over(alloc, register, now, from, most)
     }
 
@@ -175,11 +178,17 @@ impl<'a> Place for Machine<'a> {
         (crls, failures_in(&register.responder, crls))
     }
 
-    fn standing(register: &mut FileOffice) -> Result<Standing, Fault> {
+    fn standing(register: &mut FileOffice) -> Result<Standing, Fault>
+        ensures moves { Leads ⟦<FileOffice as Keeper>⟧.is_clean ⟦<FileOffice as Keeper>⟧.stands (λ identity before after. HasStanding before result × (after ≡ before)) register.old register.new }
+        ensures faults { IfErr result IsOfStore }
+    {
         standing_of(register)
     }
 
-    fn open_count(register: &mut FileOffice, now: Moment) -> Result<u64, Fault> {
+    fn open_count(register: &mut FileOffice, now: Moment) -> Result<u64, Fault>
+        ensures moves { Leads ⟦<FileOffice as Keeper>⟧.is_clean ⟦<FileOffice as Keeper>⟧.stands (λ identity before after. HasOpen before now result × (after ≡ before)) register.old register.new }
+        ensures faults { IfErr result IsOfStore }
+    {
         open_count_of(register, now)
     }
 
@@ -187,15 +196,21 @@ impl<'a> Place for Machine<'a> {
         register: &mut FileOffice,
         order: u64,
         not_before: Moment,
-    ) -> Result<Option<u64>, Fault> {
+    ) -> Result<Option<u64>, Fault>
+        ensures { Leads ⟦<FileOffice as Keeper>⟧.is_clean ⟦<FileOffice as Keeper>⟧.stands (λ identity before after. HasLongest before order not_before result × (after ≡ before)) register.old register.new }
+    {
         longest_of(register, order, not_before)
     }
 
-    fn crl_message(register: &mut FileOffice, alloc: Global, now: Moment) -> Option<Vec<u8>> {
+    fn crl_message(register: &mut FileOffice, alloc: Global, now: Moment) -> Option<Vec<u8>>
+        ensures { Leads ⟦<FileOffice as Keeper>⟧.is_clean ⟦<FileOffice as Keeper>⟧.stands (λ identity before after. after ≡ before) register.old register.new }
+    {
         message_in(register, alloc, now)
     }
 
-    fn prime(register: &mut FileOffice, wanted: Wanted, primed: Option<Primed>) {
+    fn prime(register: &mut FileOffice, wanted: Wanted, primed: Option<Primed>)
+        ensures { Leads ⟦<FileOffice as Keeper>⟧.is_clean ⟦<FileOffice as Keeper>⟧.stands (λ identity before after. after ≡ before) register.old register.new }
+    {
         prime_in(register, wanted, primed);
     }
 

@@ -11,7 +11,7 @@ use clap::{Arg, ArgAction, Command};
 use std::alloc::{AllocError, Global};
 
 /// The program's version, as `--version` tells it.
-const VERSION: &str = "0.1";
+const VERSION: &str = "0.2.0";
 
 /// The program's command line: `desk COMMAND ..`.
 pub(crate) fn desk<'a>(alloc: Global) -> Result<Command<'a>, AllocError>

@@ -1,3 +1,4 @@
+use Rattle.std.proofs.Common.{◌≡◌}
 use Rattle.reg_calls.specs.Steps.{Asks}
 use Rattle.reg_core.specs.declared.command.Query.TheVariants.{NextCrl}
 use Rattle.reg_faces.proofs.Steps.{follows}

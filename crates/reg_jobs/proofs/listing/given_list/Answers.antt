@@ -1,7 +1,17 @@
 use Rattle.std.proofs.Common.{[], ◌++◌}
-use Rattle.reg_jobs.proofs.PageByPage.{all_given, begun, gone_on, lacking, not_given, text_begun, text_more}
-use Rattle.reg_core.specs.declared.refusal.Fault.TheVariants.{Memory, Store}
+use Rattle.reg_jobs.proofs.PageByPage.{begun, gone_on, text_begun, text_more}
 use Rattle.reg_jobs.proofs.listing.given_list.Goals as goal
 
 pub loop-init : goal.loop-init
 loop-init g c = ([], text_begun c.args.form c.args.from _ c.in_ok-text.ensures.ok, begun g.P.Opened.Keeper.is_clean g.P.Opened.Keeper.stands c.args.now 999 c.args.from _)
+
+pub loop-preserved : goal.loop-preserved
+loop-preserved g c =
+    let (done, text, going) = c.loop.invariant in
+    let page = c.in_ok-page-in-Some.page in (
+      done ++ page.rows.items,
+      text_more c.args.form c.args.from done page.rows.items c.loop.text.items c.put.new.text.items text
+          (rw c.deref.ensures.value at c.in_ok-put-in-Some.ensures.ok),
+      gone_on g.P.Opened.Keeper.is_clean g.P.Opened.Keeper.stands c.args.now 999 c.args.from c.args.register.now c.loop.register c.page.new.register done
+          c.in-Some.at page (rw c.in-Some.is at going) c.in_ok-page-in-Some.ensures,
+    )

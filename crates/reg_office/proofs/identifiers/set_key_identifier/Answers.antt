@@ -1,10 +1,8 @@
-use Rattle.std.proofs.Common.{◌≡◌, ap, sym, subst, ◌∙◌}
+use Rattle.std.proofs.Common.{ap, sym, subst}
 use Rattle.std.specs.Prelude.{OnOk}
-use Rattle.std.proofs.lemmas.Result.{on_ok_weaker}
 use Rattle.sqlite.specs.Held.{state}
-use Rattle.reg_core.specs.Crls.{next_number}
 use Rattle.reg_core.specs.Issuer.{Issuer}
-use Rattle.reg_der.specs.Issuers.{with_issuer, with_key_identifier}
+use Rattle.reg_der.specs.Issuers.{with_issuer}
 use Rattle.reg_tables.specs.Kept.{ShowsKept}
 use Rattle.reg_tables.proofs.Staying.{kept_shows}
 use Rattle.reg_writing.specs.AtRest.{IsAtRest}

@@ -1,4 +1,3 @@
-use Rattle.sqlite.specs.Held.{state}
 use Rattle.reg_tables.proofs.Staying.{kept_shows}
 use Rattle.reg_office.proofs.Paging.{crls_page}
 use Rattle.reg_office.proofs.pages.crls.Goals as goal

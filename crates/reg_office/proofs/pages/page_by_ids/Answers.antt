@@ -1,4 +1,4 @@
-use Rattle.std.proofs.Common.{◌≡◌, ◌∙◌, ◌+◌, ◌-◌, ap, arith, refl, sym}
+use Rattle.std.proofs.Common.{◌≡◌, ◌∙◌, ◌+◌, ap, arith, refl}
 use Rattle.std.specs.Prelude.{filter_map, min}
 use Rattle.sqlite.specs.Held.{state}
 use Rattle.sqlite.specs.State.{HasCleanDisk}
@@ -6,7 +6,6 @@ use Rattle.reg_lists.proofs.Numbers.{numbers}
 use Rattle.reg_tables.proofs.Staying.{kept_shows, looked_shows, looked_then}
 use Rattle.reg_tables.specs.Tables.{rows_of}
 use Rattle.reg_office.specs.Numbered.{row_at, table_of}
-use Rattle.reg_office.proofs.Composing.{was_clean}
 use Rattle.reg_office.proofs.Paging.{ended_at, id_more, no_ids, numbered_page}
 use Rattle.reg_office.proofs.pages.page_by_ids.Goals as goal
 

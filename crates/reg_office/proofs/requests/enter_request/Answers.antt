@@ -13,7 +13,7 @@ use Rattle.reg_laws.proofs.Decided.{request_decided}
 use Rattle.reg_office.proofs.Resting.{stepped}
 use Rattle.reg_tables.proofs.Staying.{looked_then}
 use Rattle.reg_office.proofs.Changing.{looked_failed, changed_failed, changed_made}
-use Rattle.reg_office.proofs.Composing.{accepted, after_look, after_looked, fails, left, refuses, stops, was_clean}
+use Rattle.reg_office.proofs.Composing.{accepted, after_look, after_looked, fails, refuses, stops, was_clean}
 use Rattle.reg_office.proofs.requests.enter_request.Goals as goal
 
 pub returns-in_err-head-clause-step : goal.returns-in_err-head-clause-step

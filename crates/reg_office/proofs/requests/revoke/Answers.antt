@@ -6,7 +6,7 @@ use Rattle.reg_core.specs.declared.command.Command.TheVariants.{Revoke}
 use Rattle.reg_office.proofs.Resting.{stepped}
 use Rattle.reg_tables.proofs.Staying.{looked_then}
 use Rattle.reg_office.proofs.Changing.{looked_failed, changed_failed, changed_made}
-use Rattle.reg_office.proofs.Composing.{accepted, after_look, after_looked, fails, left, refuses, stops, was_clean}
+use Rattle.reg_office.proofs.Composing.{accepted, after_look, after_looked, fails, refuses, stops, was_clean}
 use Rattle.std.proofs.Common.{Bool, length}
 use Rattle.reg_core.specs.declared.rows.RevocationRow.{RevocationRow}
 use Rattle.reg_laws.proofs.Decided.{revoke_decided}
