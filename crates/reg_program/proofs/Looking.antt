@@ -6,10 +6,10 @@ use Rattle.reg_tables.specs.Faults.{fault_of}
 use Rattle.reg_tables.specs.Stays.{IsCallFault}
 use Rattle.reg_tables.specs.declared.fault.StoreFault.{StoreFault}
 
-pub told_fault : (stored : StoreFault) (fault : Fault) → fault ≡ fault_of stored → IsCallFault stored → IsOfStore fault
-told_fault stored fault is (inl memory) =
+pub told_fault : (it : StoreFault) (fault : Fault) → fault ≡ fault_of it → IsCallFault it → IsOfStore fault
+told_fault it fault is (inl memory) =
     let P : Fault → Type 0 = λ f. IsOfStore f in
     subst P (sym (is ∙ ap fault_of memory)) tt
-told_fault stored fault is (inr store) =
+told_fault it fault is (inr store) =
     let P : Fault → Type 0 = λ f. IsOfStore f in
     subst P (sym (is ∙ ap fault_of store)) tt

@@ -410,14 +410,24 @@ fn standing_in<C: Alter>(store: &mut Store<C>) -> Result<Standing, Fault>
 }
 
 /// How many requests for revocation are open in an office.
-#[tactic(auto, using(crate::proofs::Looking::told_fault))]
 fn open_count_of<C: Alter, S: Signer>(office: &mut Office<C, S>, now: Moment) -> Result<u64, Fault>
     ensures moves { Leads (λ office. HasCleanDisk (state C.Store office.store))
         (λ who office records. StandsFor C.Store S.signs (office.store, signatory_of S.identity (S.identity office.signer) office.responder) who records)
         (λ identity before after. HasOpen before now result × (after ≡ before)) office.old office.new }
     ensures faults { IfErr result IsOfStore }
 {
-    Ok(office.store.open_count(now)?)
+    open_count_in(&mut office.store, now)
+}
+
+/// The same of a store.
+#[tactic(auto, using(crate::proofs::Looking::told_fault))]
+fn open_count_in<C: Alter>(store: &mut Store<C>, now: Moment) -> Result<u64, Fault>
+    ensures found { (records : Records) → Shows C.Store store.old records → HasCleanDisk (state C.Store store.new) → HasOpen records now result }
+    ensures looked { Looked C.Store store.old store.new }
+    ensures faults { IfErr result IsOfStore }
+{
+    let count = store.open_count(now)?;
+    Ok(count)
 }
 
 /// The longest validity in days that an order of an office and its policy allow from a moment on.

@@ -12,5 +12,5 @@ returns-in-Ok-clause-ok g c = record {
   stays = c.judge-told.ensures.same;
 }
 
-pub returns-clause-err : goal.returns-clause-err
-returns-clause-err g c = opened _ _ c.from.ensures c.in-Err.ensures.faults
+pub returns-in-Err-clause-err : goal.returns-in-Err-clause-err
+returns-in-Err-clause-err g c = opened _ _ c.from.ensures c.in-Err.ensures.faults

@@ -1,21 +1,15 @@
-use Rattle.std.proofs.Common.{Ok, refl}
+use Rattle.std.proofs.Common.{refl}
 use Rattle.reg_jobs.specs.Watched.{HasOpen}
 use Rattle.reg_office.proofs.Leading.{answer_leads}
 use Rattle.reg_office.proofs.Standing.{stands_looked}
 use Rattle.reg_tables.proofs.Staying.{kept_shows}
 use Rattle.reg_program.proofs.files.open_count_of.Goals as goal
 
-pub returns-in_err-clause-moves : goal.returns-in_err-clause-moves
-returns-in_err-clause-moves g c =
-    answer_leads g.C.Store g.S.Signer.signs _ _ _ _ c.open_count.ensures.looked.survives.clean refl
-    (λ records. Unit {0})
-    (λ records stands clean. (tt, stands_looked c.open_count.ensures.looked stands))
-
 pub returns-clause-moves : goal.returns-clause-moves
 returns-clause-moves g c =
-    answer_leads g.C.Store g.S.Signer.signs _ _ _ _ c.open_count.ensures.looked.survives.clean refl
-    (λ records. HasOpen records c.args.now (Ok c.in_ok.field-0))
+    answer_leads g.C.Store g.S.Signer.signs _ _ _ _ c.open_count_in.ensures.looked.survives.clean refl
+    (λ records. HasOpen records c.args.now c.open_count_in.result)
     (λ records stands clean. (
-      c.in_ok.ensures.found records (kept_shows g.C.Store _ records stands.shown) clean,
-      stands_looked c.open_count.ensures.looked stands,
+      c.open_count_in.ensures.found records (kept_shows g.C.Store _ records stands.shown) clean,
+      stands_looked c.open_count_in.ensures.looked stands,
     ))
