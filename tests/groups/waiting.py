@@ -7,6 +7,7 @@ import socket
 import threading
 import time
 from concurrent.futures import ThreadPoolExecutor
+from contextlib import ExitStack
 
 from lib import authority, program
 from lib.authority import INTERNAL, Authority, body_of
@@ -241,16 +242,22 @@ def no_descriptor_is_left_for_a_while(t):
     """Whose signature can't be asked for since too many files are open is asked for again."""
     held = Held(t)
     desk = opened(t)
-    # Four peers, and three connections to what signs.
-    most = len(os.listdir(f"/proc/{desk.process.pid}/fd")) + 7
-    t.tool("prlimit", "--pid", desk.process.pid, f"--nofile={most}:{most}")
-    with ThreadPoolExecutor(4) as pool:
-        waits = [pool.submit(told, desk, 0x1100 + at) for at in range(4)]
+    files = lambda: len(os.listdir(f"/proc/{desk.process.pid}/fd"))
+    # Four peers, who are all there before the first asks, and three connections to what signs.
+    before = files()
+    t.tool("prlimit", "--pid", desk.process.pid, f"--nofile={before + 7}:{before + 7}")
+    with ExitStack() as open_ones, ThreadPoolExecutor(4) as pool:
+        peers = [open_ones.enter_context(desk.connect()) for _ in range(4)]
+        authority.until(lambda: files() == before + 4, "four peers")
+        for at, peer in enumerate(peers):
+            request = asked_for(0x1100 + at)
+            peer.sendall(b"POST /ocsp HTTP/1.1\r\nHost: ca.example\r\nContent-Length: %d\r\n\r\n" % len(request) + request)
+        waits = [pool.submit(program.read_all, peer) for peer in peers]
         t.true(held.signers.until(3), f"only {held.signers.now} are asked for")
         time.sleep(0.2)
         t.same([it.done() for it in waits], [False] * 4, "all wait")
         held.goes.set()
-        t.same([is_signed(it.result()) for it in waits], [True] * 4)
+        t.same([is_signed(program.parted(it.result())[2]) for it in waits], [True] * 4)
 
 
 @test(seconds=4)
@@ -424,7 +431,7 @@ def a_crl_of_more_than_a_socket_takes_at_once(t):
     begun = authority.now() - 10
     begins, ends = program.moment_of(begun), program.moment_of(begun + 90 * authority.DAY)
     serials = [f"{at:040x}" for at in range(1 << 152, (1 << 152) + count)]
-    lines = ["subscriber acme", "order 1 398", *(f"register 1 {it} {begins} {ends}" for it in serials),
+    lines = ["subscriber acme", *["order 1 398"] * count, *(f"register {at + 1} {it} {begins} {ends}" for at, it in enumerate(serials)),
              *(f"request {it} superseded" for it in serials), *(f"revoke {at + 1}" for at in range(count))]
     t.register(key=P256_KEY, lines="".join(f"{begins} {it}\n" for it in lines))
     server = t.enter_context(socket.socket(socket.AF_UNIX))
