@@ -65,12 +65,7 @@ fn keep_open<P: Place, F: Front, W: Write>(
         × Leads P.Opened.is_clean P.Opened.stands (Opens P.Opened.signs P.gave F.told inputs outcomes) opened.old.office opened.new.office
         × OpenedAt W.contents writer.old writer.new F.bound F.laid port counter.now inputs result }
 {
-    let hub: Hub<OpenDesk<'_, '_, P, F>> = match hub_with_counter(
-        rt,
-        opened.front,
-        port,
-        counter,
-    ) {
+    let hub: Hub<OpenDesk<'_, '_, P, F>> = match hub_with_counter(rt, opened.front, port, counter) {
         Ok(hub) => hub,
         Err(why) => return Err(why),
     };

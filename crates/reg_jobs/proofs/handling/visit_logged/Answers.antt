@@ -28,6 +28,6 @@ returns-in-Whole-clause-counted g c = (
     c.count_answer.ensures
         ∙ ap (λ (it : Route). with_answer c.args.now it c.deref.result.now c.micros_since-micros.result c.has_failed-is_unsigned.result c.visit_at.new.tally) c.route_of.ensures
         ∙ ap (λ (it : List ℕ). with_answer c.args.now (route_in c.args.request.now) it c.micros_since-micros.result c.has_failed-is_unsigned.result c.visit_at.new.tally)
-          c.deref.ensures.value,
+        c.deref.ensures.value,
   ),
 )

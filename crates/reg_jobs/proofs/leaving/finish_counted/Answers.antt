@@ -20,8 +20,8 @@ returns-clause-counted g c = (
     c.micros_since-micros.result,
     c.count_answer.ensures
         ∙ ap (λ (it : List ℕ). with_answer c.args.unsigned.moment c.args.unsigned.route it c.micros_since-micros.result c.is_none-is_unsigned.result c.args.tally.now)
-          c.deref.ensures.value
+        c.deref.ensures.value
         ∙ ap (λ (it : Bool). with_answer c.args.unsigned.moment c.args.unsigned.route c.finish-text.result.items c.micros_since-micros.result it c.args.tally.now)
-          (none_of c.signature_of-signature.result c.is_none-is_unsigned.result c.is_none-is_unsigned.ensures),
+        (none_of c.signature_of-signature.result c.is_none-is_unsigned.result c.is_none-is_unsigned.ensures),
   ),
 )
