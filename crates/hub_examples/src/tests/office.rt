@@ -53,6 +53,8 @@ struct Echo {
 }
 
 impl Handler for Echo {
+    ghost use Rattle.std.specs.Prelude.{◌≡◌, IfOk, MatchOption, OnErr};
+
     type Ticket = Vec<u8>;
 
     type Line = Vec<u8>;
@@ -124,10 +126,13 @@ impl Handler for Echo {
     fn tell_deferred(
         &mut self,
         line: &[u8],
-        _noted: &mut Vec<u8>,
+        noted: &mut Vec<u8>,
         _deferred: Deferred<Vec<u8>>,
         link: Option<UnwaitingStream>,
-    ) -> Result<Option<Vec<u8>>, Stopped> {
+    ) -> Result<Option<Vec<u8>>, Stopped>
+        ensures ok { IfOk result (λ told. MatchOption told (Unit {0}) (λ text. Unit {0})) }
+        ensures err { OnErr result ((self.new ≡ self.old) × (noted.new ≡ noted.old)) }
+    {
         self.lines = self.lines.saturating_add(1);
         let mut text = match self.told(line) {
             Ok(text) => text,
