@@ -429,9 +429,11 @@ impl Office {
         for _ in 0..count {
             links.push(self.next_message()?)?;
         }
-        while let Some((mut link, message)) = links.pop() {
-            link.write_all(b"signed ")?;
-            link.write_all(&message)?;
+        for _ in 0..count {
+            if let Some((mut link, message)) = links.pop() {
+                link.write_all(b"signed ")?;
+                link.write_all(&message)?;
+            }
         }
         Ok(())
     }
