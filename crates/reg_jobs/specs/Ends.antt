@@ -37,7 +37,7 @@ use Rattle.reg_words.specs.declared.job.Job.{Job}
 use Rattle.reg_words.specs.declared.job.KeyHolder.{KeyHolder}
 use Rattle.reg_words.specs.declared.job.Job.TheVariants as job
 use Rattle.reg_words.specs.declared.job.Way.{Way}
-use Rattle.reg_jobs.specs.Asking.{AtCounter}
+use Rattle.reg_jobs.specs.Asking.{AtCounter, RowsAtCounter}
 use Rattle.reg_jobs.specs.Digest.{digest_alone, digests}
 use Rattle.reg_jobs.specs.Failing.{IsMaking}
 use Rattle.reg_jobs.specs.Identifiers.{Identifies}
@@ -248,4 +248,6 @@ module _ {E W : Type 0} (remaining : E → Option (List ℕ)) (contents : W → 
     Ends front (job.Listing list) result = (reader' ≡ reader)
         × ListAt contents writer writer' places keeper place place' front.told list.file list.from list.moment list.form result
     Ends front (job.Audit file) result = (reader' ≡ reader) × AuditAt contents writer writer' places keeper place place' file result
-    Ends front (job.At counter) result = (place' ≡ place) × AtCounter (front.met counter) (remaining reader) (contents writer) (contents writer') result
+    Ends front (job.At counter None) result = (place' ≡ place) × AtCounter (front.met counter) (remaining reader) (contents writer) (contents writer') result
+    Ends front (job.At counter (Some file)) result =
+        (place' ≡ place) × RowsAtCounter (front.met counter) (remaining reader) (remaining reader') (contents writer) (contents writer') result

@@ -9,7 +9,7 @@ ghost use Rattle.reg_signer.specs.Forms.{HasForm};
 ghost use Rattle.reg_watch.specs.Exchanges.{route_in};
 
 use crate::front::Front;
-use crate::handling::{TEXT_ROOM, response_of};
+use crate::visiting::{TEXT_ROOM, response_of};
 use crate::logging::{log_answer, micros_since};
 use crate::place::Place;
 use mio::net::UnixStream;

@@ -4,7 +4,7 @@ ghost use Rattle.std.specs.Prelude.{◌≡◌, []};
 ghost use Rattle.reg_calls.specs.Leads.{Leads};
 ghost use Rattle.reg_jobs.specs.Exchanges.{ListEnds, ListedAt, SaysList};
 
-use crate::handling::response_of;
+use crate::visiting::response_of;
 use crate::place::Place;
 use reg_core::{Fault, Moment};
 use reg_http::{ListAsked, read_list, refuse_list, send_list, tell_page};

@@ -139,7 +139,6 @@ pub trait Place {
     ///
     /// `Memory`, `Store`. Nothing has changed then.
     fn set_schedule(
-        &self,
         alloc: Global,
         register: &mut Self::Opened,
         schedule: Schedule,

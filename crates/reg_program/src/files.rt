@@ -141,7 +141,6 @@ impl<'a> Place for Machine<'a> {
     }
 
     fn set_schedule(
-        &self,
         alloc: Global,
         register: &mut FileOffice,
         schedule: Schedule,

@@ -105,9 +105,12 @@ fn seconds(rt: &HostRuntime) -> u64 {
     }
 }
 
-/// Whether a job writes a line for each that it reads.
+/// Whether a job writes a line for each that it reads, and may read many.
 fn is_long(job: &Job<'_>) -> bool {
-    matches!(job, Job::Script { .. } | Job::Lines(_) | Job::Import(_))
+    matches!(
+        job,
+        Job::Script { .. } | Job::Lines(_) | Job::Import(_) | Job::At { rows: Some(_), .. }
+    )
 }
 
 /// The path of the register that a job opens, if it opens one.

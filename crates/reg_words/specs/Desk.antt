@@ -69,9 +69,9 @@ open_app = with_rules (new_app (codes "open"))
     ∷ takes (codes "responder") ∷ takes (codes "responder-signer") ∷ takes (codes "responder-algorithm") ∷ takes (codes "embed")
     ∷ flag (codes "log") ∷ takes (codes "log-file") ∷ flag (codes "why") ∷ [])
 
--- `at SOCKET [--why]`
+-- `at SOCKET [--import FILE] [--why]`
 abbrev pub at_app : App
-at_app = with_rules (new_app (codes "at")) (must (codes "counter") ∷ flag (codes "why") ∷ [])
+at_app = with_rules (new_app (codes "at")) (must (codes "counter") ∷ takes (codes "import") ∷ flag (codes "why") ∷ [])
 
 -- `schedule FILE MOMENT=DAYS .. [--why]`
 abbrev pub schedule_app : App

@@ -167,7 +167,7 @@ open_of rows = do
 unfoldable pub at_of : List Row → Option Job
 at_of rows = do
   counter ← first_of (codes "counter") rows
-  Some (At counter)
+  Some (At counter (first_of (codes "import") rows))
 
 unfoldable pub schedule_of : List Row → Option Job
 schedule_of rows = do

@@ -223,6 +223,7 @@ fn read_at<'a>(given: &ArgMatches<'a>) -> Option<Job<'a>>
 {
     Some(Job::At {
         counter: word_of(given, "counter")?,
+        rows: word_of(given, "import"),
     })
 }
 

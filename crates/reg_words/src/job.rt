@@ -152,9 +152,10 @@ pub enum Job<'a> {
     /// at a path. What holds the key signs; a digest seals only where `--unsigned` says that none does. Where one answers with a key
     /// of its own and nothing holds the issuer's, no CRL is signed.
     Open(KeptOpen<'a>),
-    /// Tells the lines of standard input to the counter at a path.
+    /// Tells the lines of standard input to the counter at a path; or the rows of a file that is told.
     At {
         counter: Word<'a>,
+        rows: Option<Word<'a>>,
     },
     /// Gives the register another schedule of longest validities.
     Schedule {
