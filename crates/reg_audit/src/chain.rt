@@ -107,11 +107,11 @@ pub(crate) fn moments_never_fall<T: Dated>(table: Table, rows: &[T], why: Why) -
 {
     let mut latest = Moment::EPOCH;
     for (place, row) in rows.iter().enumerate() {
-        let moment = row.moment();
-        if moment < latest {
+        let at = row.moment();
+        if at < latest {
             return Err(broken_at(table, place, why));
         }
-        latest = moment;
+        latest = at;
     }
     Ok(())
 }

@@ -425,7 +425,7 @@ declined_kept records now request certificate sound clock found registered not_r
           let led = some_and_of (LeadsTo revocation) (request_in records.requests revocation.request) holds.by_request in
           let own : led.0.id ≡ revocation.request = key_found (λ row. row.id) records.requests revocation.request led.0 led.1 in
           let stays : declined_if request.id led.0 ≡ led.0 = declined_other request.id led.0 (λ same. other (sym own ∙ same)) in
-          some_and_here (LeadsTo revocation) (request_in (map (declined_if request.id) records.requests) revocation.request) led.0 (declined_in request.id records.requests revocation.request ∙ ap (option_map (declined_if request.id)) led.1 ∙ ap Some stays) led.2;
+          some_and_here (LeadsTo revocation) (request_in (map (declined_if request.id) records.requests) revocation.request) led.0 (declined_in request.id records.requests revocation.request ∙ ap (option_map (declined_if request.id)) led.1 ∙ ap (λ (asked : RequestRow). Some asked) stays) led.2;
       at_by_last = holds.at_by_last;
       first_from_one = holds.first_from_one;
       first_by_next = holds.first_by_next;
