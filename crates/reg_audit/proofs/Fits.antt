@@ -14,7 +14,7 @@ use Rattle.reg_core.specs.declared.rows.RevocationRow.{RevocationRow}
 use Rattle.reg_core.specs.declared.rows.SubscriberRow.{SubscriberRow}
 use Rattle.reg_laws.proofs.Lists.{all_found, all_map, all_weaker, key_found, numbered_above, numbered_below, some_of}
 use Rattle.reg_audit.specs.declared.rows.Rows.{Rows}
-use Rattle.reg_audit.specs.Read.{FitsIn, AreCrls, AreRevocations, AreOf, IsBefore, IsEntered}
+use Rattle.reg_audit.specs.Read.{FitsIn, AreCrls, AreRevocations, AreOf, IsBefore, IsLastSet}
 
 -- ---- numbers
 
@@ -132,28 +132,28 @@ sound_of last certificates requests crls row fits = record {
 
 -- ---- the rows that were read and the records
 
--- who was entered, by the thisUpdates of CRLs
-abbrev AreEntered : List SubscriberRow → ℕ → List CrlRow → Type 0
-AreEntered subscribers last crls = subscribers ≡ [] → (last ≡ 0) ⊎ IsTrue (list_any (λ (crl : CrlRow). crl.this_update == last) crls)
+-- before anybody is entered, CRLs alone set the last accepted moment
+abbrev IsSetBy : List SubscriberRow → ℕ → List CrlRow → Type 0
+IsSetBy subscribers last crls = subscribers ≡ [] → (last ≡ 0) ⊎ IsTrue (list_any (λ (crl : CrlRow). crl.this_update == last) crls)
 
 module _ (rows : Rows) (records : Records) (are : AreOf rows records) where
-  entered_are : (records.subscribers ≡ [] → (records.last ≡ 0) ⊎ IsTrue (list_any (λ (crl : Crl). crl.this_update == records.last) records.crls)) → AreEntered records.subscribers records.last (map row_of records.crls)
-  entered_are entered none = go (entered none)
+  set_read : (records.subscribers ≡ [] → (records.last ≡ 0) ⊎ IsTrue (list_any (λ (crl : Crl). crl.this_update == records.last) records.crls)) → IsSetBy records.subscribers records.last (map row_of records.crls)
+  set_read entered none = go (entered none)
     where
       go : (records.last ≡ 0) ⊎ IsTrue (list_any (λ (crl : Crl). crl.this_update == records.last) records.crls) → (records.last ≡ 0) ⊎ IsTrue (list_any (λ (crl : CrlRow). crl.this_update == records.last) (map row_of records.crls))
       go (inl zero_last) = inl zero_last
       go (inr issued) = inr (any_row (λ (crl : CrlRow). crl.this_update == records.last) records.crls ∙ issued)
 
-  are_entered : AreEntered records.subscribers records.last (map row_of records.crls) → records.subscribers ≡ [] → (records.last ≡ 0) ⊎ IsTrue (list_any (λ (crl : Crl). crl.this_update == records.last) records.crls)
-  are_entered entered none = go (entered none)
+  set_of : IsSetBy records.subscribers records.last (map row_of records.crls) → records.subscribers ≡ [] → (records.last ≡ 0) ⊎ IsTrue (list_any (λ (crl : Crl). crl.this_update == records.last) records.crls)
+  set_of entered none = go (entered none)
     where
       go : (records.last ≡ 0) ⊎ IsTrue (list_any (λ (crl : CrlRow). crl.this_update == records.last) (map row_of records.crls)) → (records.last ≡ 0) ⊎ IsTrue (list_any (λ (crl : Crl). crl.this_update == records.last) records.crls)
       go (inl zero_last) = inl zero_last
       go (inr issued) = inr (sym (any_row (λ (crl : CrlRow). crl.this_update == records.last) records.crls) ∙ issued)
 
-  pub entered_read : SoundRows records → IsEntered rows
-  entered_read sound =
-      let read : AreEntered records.subscribers records.last (map row_of records.crls) = entered_are sound.entered in
+  pub last_set_read : SoundRows records → IsLastSet rows
+  last_set_read sound =
+      let read : IsSetBy records.subscribers records.last (map row_of records.crls) = set_read sound.last_set in
       rw (are.subscribers, are.last, are.crls) read
 
   pub crls_read : SoundRows records → AreCrls rows.cap rows.last rows.crls.now
@@ -188,12 +188,12 @@ module _ (rows : Rows) (records : Records) (are : AreOf rows records) where
       none_after = rw (are.revocations, are.requests) at read.none_after;
     }
 
-    pub rows_sound : rows.last < clock_end → IsEntered rows → SoundSubscribers rows.cap rows.subscribers.now → SoundOrders rows.cap rows.subscribers.now rows.orders.now → SoundCertificates rows.cap rows.orders.now rows.certificates.now
+    pub rows_sound : rows.last < clock_end → IsLastSet rows → SoundSubscribers rows.cap rows.subscribers.now → SoundOrders rows.cap rows.subscribers.now rows.orders.now → SoundCertificates rows.cap rows.orders.now rows.certificates.now
         → SoundRequests rows.cap rows.last rows.certificates.now rows.requests.now → AreCrls rows.cap rows.last rows.crls.now → AreRevocations found rows → SoundRows records
     rows_sound last entered subscribers orders certificates requests crls revocations = record {
       policy = are.policy;
       before_clock_end = rw are.last at last;
-      entered = are_entered (rw (are.subscribers, are.last, are.crls) at entered);
+      last_set = set_of (rw (are.subscribers, are.last, are.crls) at entered);
       subscribers = rw (are.cap, are.subscribers) at subscribers;
       orders = rw (are.cap, are.subscribers, are.orders) at orders;
       certificates = rw (are.cap, are.orders, are.certificates) at certificates;

@@ -29,8 +29,8 @@ pub record AreOf (rows : Rows) (records : Records) : Type 0 where
   pub crls : rows.crls.now ≡ map row_of records.crls
 
 -- before anybody is entered, CRLs alone set the last accepted moment
-abbrev pub IsEntered : Rows → Type 0
-IsEntered rows = rows.subscribers.now ≡ [] → (rows.last ≡ 0) ⊎ IsTrue (list_any (λ crl. crl.this_update == rows.last) rows.crls.now)
+abbrev pub IsLastSet : Rows → Type 0
+IsLastSet rows = rows.subscribers.now ≡ [] → (rows.last ≡ 0) ⊎ IsTrue (list_any (λ crl. crl.this_update == rows.last) rows.crls.now)
 
 -- a validity is no longer than the order that was looked up
 abbrev pub IsAsOrdered : CertRow → Option OrderRow → Type 0

@@ -7,7 +7,7 @@ ghost use Rattle.std.specs.Ordering.{nat_cmp};
 ghost use Rattle.reg_core.specs.Calendar.{clock_end};
 ghost use Rattle.reg_core.specs.Records.{Records};
 ghost use Rattle.reg_core.specs.Sound.{SoundRows, SoundSubscribers, SoundOrders, SoundCertificates, SoundRequests, NumberedFrom};
-ghost use Rattle.reg_audit.specs.Read.{AreOf, AreCrls, AreRevocations, IsEntered, IsIndexOf};
+ghost use Rattle.reg_audit.specs.Read.{AreOf, AreCrls, AreRevocations, IsLastSet, IsIndexOf};
 ghost use Rattle.reg_audit.specs.Stops.{IsBroken};
 
 use crate::alone::{days_are_allowed, names_are_good, run_forward};
@@ -161,9 +161,9 @@ fn is_issued_at(crls: &[CrlRow], moment: Moment) -> bool
 }
 
 /// Before anybody is entered, CRLs alone set the last accepted moment.
-fn check_entered(rows: &Rows<'_>) -> Result<(), Stop>
-    ensures ok { OnOk result (IsEntered rows.now) }
-    ensures broken { IfErr result (λ stop. IsBroken stop → ¬ IsEntered rows.now) }
+fn check_last_set(rows: &Rows<'_>) -> Result<(), Stop>
+    ensures ok { OnOk result (IsLastSet rows.now) }
+    ensures broken { IfErr result (λ stop. IsBroken stop → ¬ IsLastSet rows.now) }
 {
     let is_begun = !rows.subscribers.is_empty() || rows.last == Moment::EPOCH;
     if is_begun || is_issued_at(rows.crls, rows.last) {
@@ -190,7 +190,7 @@ pub(crate) fn check_rows(alloc: Global, rows: &Rows<'_>) -> Result<Found, Stop>
     ensures broken { (records : Records) → AreOf rows.now records → IfErr result (λ stop. IsBroken stop → ¬ SoundRows records) }
 {
     check_last(rows.last)?;
-    check_entered(rows)?;
+    check_last_set(rows)?;
     check_subscribers(alloc, rows.subscribers, rows.cap)?;
     check_orders(rows.subscribers, rows.orders, rows.cap)?;
     let certificates = check_certificates(alloc, rows.orders, rows.certificates, rows.cap)?;

@@ -98,7 +98,7 @@ pub record SoundCrls (cap last : ℕ) (crls : List Crl) : Type 0 where
 pub record SoundRows (records : Records) : Type 0 where
   pub policy : IsPolicy records.policy
   pub before_clock_end : records.last < clock_end
-  pub entered : records.subscribers ≡ [] → (records.last ≡ 0) ⊎ IsTrue (list_any (λ crl. crl.this_update == records.last) records.crls)
+  pub last_set : records.subscribers ≡ [] → (records.last ≡ 0) ⊎ IsTrue (list_any (λ crl. crl.this_update == records.last) records.crls)
   pub subscribers : SoundSubscribers records.policy.cap records.subscribers
   pub orders : SoundOrders records.policy.cap records.subscribers records.orders
   pub certificates : SoundCertificates records.policy.cap records.orders records.certificates

@@ -135,7 +135,7 @@ pub touched_kept : (records : Records) (now : ℕ) → SoundRows records → OnC
 touched_kept records now sound clock entered = record {
   policy = sound.policy;
   before_clock_end = clock.before_end;
-  entered = λ none. absurd (entered none);
+  last_set = λ none. absurd (entered none);
   subscribers = sound.subscribers;
   orders = sound.orders;
   certificates = sound.certificates;
@@ -157,7 +157,7 @@ pub subscriber_kept : (records : Records) (now : ℕ) (row : SubscriberRow) → 
 subscriber_kept records now row sound clock next good free room = record {
   policy = sound.policy;
   before_clock_end = clock.before_end;
-  entered = λ none. absurd (pushed_some records.subscribers row none);
+  last_set = λ none. absurd (pushed_some records.subscribers row none);
   subscribers = record {
     numbered = numbered_push (λ other. other.id) 1 records.subscribers row sound.subscribers.numbered (omega arith);
     names = all_push (λ other. IsName other.name) records.subscribers row sound.subscribers.names good;
@@ -192,7 +192,7 @@ pub order_kept : (records : Records) (now : ℕ) (row : OrderRow) → SoundRows 
 order_kept records now row sound clock next subscriber days room = record {
   policy = sound.policy;
   before_clock_end = clock.before_end;
-  entered = λ none. absurd (found_some (λ other. other.id == row.subscriber) records.subscribers subscriber none);
+  last_set = λ none. absurd (found_some (λ other. other.id == row.subscriber) records.subscribers subscriber none);
   subscribers = sound.subscribers;
   orders = record {
     numbered = numbered_push (λ other. other.id) 1 records.orders row sound.orders.numbered (omega arith);
@@ -233,7 +233,7 @@ pub certificate_kept : (records : Records) (now : ℕ) (order : OrderRow) (row :
 certificate_kept records now order row sound clock found free_order free_serial forward short room = record {
   policy = sound.policy;
   before_clock_end = clock.before_end;
-  entered = λ none. absurd (entered_by_order records row.order order sound found none);
+  last_set = λ none. absurd (entered_by_order records row.order order sound found none);
   subscribers = sound.subscribers;
   orders = sound.orders;
   certificates = record {
@@ -299,7 +299,7 @@ pub request_kept : (records : Records) (now : ℕ) (certificate : CertRow) (row 
 request_kept records now certificate row sound clock next registered live not_revoked received room = record {
   policy = sound.policy;
   before_clock_end = clock.before_end;
-  entered = λ none. absurd (entered_by_certificate records row.serial certificate sound registered none);
+  last_set = λ none. absurd (entered_by_certificate records row.serial certificate sound registered none);
   subscribers = sound.subscribers;
   orders = sound.orders;
   certificates = sound.certificates;
@@ -390,7 +390,7 @@ pub declined_kept : (records : Records) (now : ℕ) (request : RequestRow) (cert
 declined_kept records now request certificate sound clock found registered not_revoked = record {
   policy = sound.policy;
   before_clock_end = clock.before_end;
-  entered = λ none. absurd (entered_by_certificate records request.serial certificate sound registered none);
+  last_set = λ none. absurd (entered_by_certificate records request.serial certificate sound registered none);
   subscribers = sound.subscribers;
   orders = sound.orders;
   certificates = sound.certificates;
@@ -450,7 +450,7 @@ pub revocation_kept : (records : Records) (now : ℕ) (request : RequestRow) (ce
 revocation_kept records now request certificate row sound clock found registered live not_revoked not_declined serial at reason by first = record {
   policy = sound.policy;
   before_clock_end = clock.before_end;
-  entered = λ none. absurd (entered_by_certificate records request.serial certificate sound registered none);
+  last_set = λ none. absurd (entered_by_certificate records request.serial certificate sound registered none);
   subscribers = sound.subscribers;
   orders = sound.orders;
   certificates = sound.certificates;
@@ -500,7 +500,7 @@ pub crl_kept : (records : Records) (now : ℕ) (crl : Crl) → SoundRows records
 crl_kept records now crl sound clock number update room = record {
   policy = sound.policy;
   before_clock_end = clock.before_end;
-  entered = λ none. inr (any_last (λ other. other.this_update == now) records.crls crl (let same : (crl.this_update == now) ≡ true = grind (arith, nat_tests) in same));
+  last_set = λ none. inr (any_last (λ other. other.this_update == now) records.crls crl (let same : (crl.this_update == now) ≡ true = grind (arith, nat_tests) in same));
   subscribers = sound.subscribers;
   orders = sound.orders;
   certificates = sound.certificates;
@@ -564,7 +564,7 @@ pub schedule_kept : (records : Records) (schedule : List (ℕ × ℕ)) → IsSch
 schedule_kept records schedule is_schedule sound = record {
   policy = record { schedule = is_schedule; crl_life = sound.policy.crl_life; ocsp_life = sound.policy.ocsp_life; cap = sound.policy.cap };
   before_clock_end = sound.before_clock_end;
-  entered = sound.entered;
+  last_set = sound.last_set;
   subscribers = sound.subscribers;
   orders = sound.orders;
   certificates = sound.certificates;
@@ -578,7 +578,7 @@ pub no_records_sound : (issuer : Issuer) (policy : Terms) → IsPolicy policy �
 no_records_sound issuer policy is_policy = record {
   policy = is_policy;
   before_clock_end = omega arith;
-  entered = λ none. inl refl;
+  last_set = λ none. inl refl;
   subscribers = record { numbered = tt; names = tt; names_differ = tt; within_cap = omega arith };
   orders = record { numbered = tt; subscribers_exist = tt; days = tt; within_cap = omega arith };
   certificates = record { serials_differ = tt; orders_differ = tt; forward = tt; as_ordered = tt; within_cap = omega arith };
