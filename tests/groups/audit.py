@@ -183,8 +183,12 @@ UNREACHED = [
     (ONE_SECOND, SWAPPED, "revocation 2: its first CRL is before that of the row before it"),
     (A_CRL, "UPDATE office SET last_at = last_at + 1", f"office 1: {NEVER}"),
     ("", "UPDATE office SET last_at = 5", f"office 1: {NEVER}"),
+    (AGREED, "UPDATE office SET days = 0", f"office 1: {ALLOWED}"),
+    (AGREED, "UPDATE office SET days = 399", f"office 1: {ALLOWED}"),
+    (A_CRL, "UPDATE office SET days = -1", f"office 1: {ALLOWED}"),
+    ("", "UPDATE office SET days = 9223372036854775807", f"office 1: {ALLOWED}"),
 ]
-# What some run leaves, or no table tells: another schedule came after, a moment that has no column, a column that is not read.
+# What some run leaves, or no table tells: another schedule came after, a moment that has no column.
 REACHED = [
     (AGREED, "UPDATE subscriber SET name = 'A-b_c.9' WHERE id = 1"),
     (AGREED, "UPDATE orders SET days = 398"),
@@ -195,10 +199,9 @@ REACHED = [
     (AGREED, "UPDATE request SET declined = 1 WHERE id = 3"),
     (AGREED, "UPDATE request SET declined = 0 WHERE id = 2"),
     (AGREED, "UPDATE longest SET days = 1"),
-    (AGREED, "UPDATE office SET days = 0"),
+    (AGREED, "UPDATE office SET days = 1"),
     (AGREED, "UPDATE office SET last_at = last_at + 1"),
     (ONE_SECOND, "UPDATE orders SET days = 11"),
-    (A_CRL, "UPDATE office SET days = 399"),
     ("", "UPDATE longest SET days = 2"),
 ]
 # What no command opens: a row that refers to none, or breaks a CHECK.

@@ -1,20 +1,19 @@
 -- Numbered rows found by their numbers, and the rows of CRLs without their bytes.
-use Rattle.std.proofs.Common.{◌≡◌, ◌⊎◌, ℕ, zero, suc, ◌+◌, ◌<◌, ◌≤◌, ◌==◌, ◌||◌, true, false, List, [], ◌∷◌, length, map, find, slice_get, Option, None, Bool, IsSome, IsTrue, inl, inr, refl, sym, ap, subst, ◌∙◌, arith}
+use Rattle.std.proofs.Common.{◌≡◌, ◌⊎◌, ℕ, zero, suc, ◌+◌, ◌<◌, ◌≤◌, ◌==◌, ◌||◌, true, false, List, [], ◌∷◌, length, map, find, slice_get, Option, None, Bool, IsSome, IsTrue, refl, sym, ap, subst, ◌∙◌, arith}
 use Rattle.std.specs.List.{AllByRecursion, list_any}
 use Rattle.std.proofs.lemmas.Bool.Decides.{nat_tests}
 use Rattle.std.proofs.lemmas.List.{length-map}
 use Rattle.reg_core.specs.Crls.{row_of}
-use Rattle.reg_core.specs.Records.{Crl, Records, certificate_in, request_in, revocation_in}
+use Rattle.reg_core.specs.Records.{Crl, Records, certificate_in, request_in}
 use Rattle.reg_core.specs.Calendar.{clock_end}
 use Rattle.reg_core.specs.Sound.{NumberedFrom, NeverFalls, SoundRevocation, SoundCrls, SoundRevocations, SoundSubscribers, SoundOrders, SoundCertificates, SoundRequests, SoundRows}
 use Rattle.reg_core.specs.declared.rows.CertRow.{CertRow}
 use Rattle.reg_core.specs.declared.rows.CrlRow.{CrlRow}
 use Rattle.reg_core.specs.declared.rows.RequestRow.{RequestRow}
 use Rattle.reg_core.specs.declared.rows.RevocationRow.{RevocationRow}
-use Rattle.reg_core.specs.declared.rows.SubscriberRow.{SubscriberRow}
 use Rattle.reg_laws.proofs.Lists.{all_found, all_map, all_weaker, key_found, numbered_above, numbered_below, some_of}
 use Rattle.reg_audit.specs.declared.rows.Rows.{Rows}
-use Rattle.reg_audit.specs.Read.{FitsIn, AreCrls, AreRevocations, AreOf, IsBefore, IsLastSet}
+use Rattle.reg_audit.specs.Read.{FitsIn, AreCrls, AreRevocations, AreOf, IsLastSet}
 
 -- ---- numbers
 
@@ -132,29 +131,19 @@ sound_of last certificates requests crls row fits = record {
 
 -- ---- the rows that were read and the records
 
--- before anybody is entered, CRLs alone set the last accepted moment
-abbrev IsSetBy : List SubscriberRow → ℕ → List CrlRow → Type 0
-IsSetBy subscribers last crls = subscribers ≡ [] → (last ≡ 0) ⊎ IsTrue (list_any (λ (crl : CrlRow). crl.this_update == last) crls)
-
 module _ (rows : Rows) (records : Records) (are : AreOf rows records) where
-  set_read : (records.subscribers ≡ [] → (records.last ≡ 0) ⊎ IsTrue (list_any (λ (crl : Crl). crl.this_update == records.last) records.crls)) → IsSetBy records.subscribers records.last (map row_of records.crls)
-  set_read entered none = go (entered none)
-    where
-      go : (records.last ≡ 0) ⊎ IsTrue (list_any (λ (crl : Crl). crl.this_update == records.last) records.crls) → (records.last ≡ 0) ⊎ IsTrue (list_any (λ (crl : CrlRow). crl.this_update == records.last) (map row_of records.crls))
-      go (inl zero_last) = inl zero_last
-      go (inr issued) = inr (any_row (λ (crl : CrlRow). crl.this_update == records.last) records.crls ∙ issued)
+  -- before anybody is entered, CRLs alone set the last accepted moment: whether one did is told
+  abbrev IsSetWhere : Bool → Type 0
+  IsSetWhere issued = records.subscribers ≡ [] → (records.last ≡ 0) ⊎ IsTrue issued
 
-  set_of : IsSetBy records.subscribers records.last (map row_of records.crls) → records.subscribers ≡ [] → (records.last ≡ 0) ⊎ IsTrue (list_any (λ (crl : Crl). crl.this_update == records.last) records.crls)
-  set_of entered none = go (entered none)
-    where
-      go : (records.last ≡ 0) ⊎ IsTrue (list_any (λ (crl : CrlRow). crl.this_update == records.last) (map row_of records.crls)) → (records.last ≡ 0) ⊎ IsTrue (list_any (λ (crl : Crl). crl.this_update == records.last) records.crls)
-      go (inl zero_last) = inl zero_last
-      go (inr issued) = inr (sym (any_row (λ (crl : CrlRow). crl.this_update == records.last) records.crls) ∙ issued)
+  issued : list_any (λ (crl : CrlRow). crl.this_update == records.last) (map row_of records.crls) ≡ list_any (λ (crl : Crl). crl.this_update == records.last) records.crls
+  issued = any_row (λ (crl : CrlRow). crl.this_update == records.last) records.crls
 
   pub last_set_read : SoundRows records → IsLastSet rows
-  last_set_read sound =
-      let read : IsSetBy records.subscribers records.last (map row_of records.crls) = set_read sound.last_set in
-      rw (are.subscribers, are.last, are.crls) read
+  last_set_read sound = rw (are.subscribers, are.last, are.crls) (subst IsSetWhere (sym issued) sound.last_set)
+
+  last_set_of : IsLastSet rows → IsSetWhere (list_any (λ (crl : Crl). crl.this_update == records.last) records.crls)
+  last_set_of set = subst IsSetWhere issued (rw (are.subscribers, are.last, are.crls) at set)
 
   pub crls_read : SoundRows records → AreCrls rows.cap rows.last rows.crls.now
   crls_read sound = rw (are.cap, are.last, are.crls) (crls_to records.policy.cap records.last records.crls sound.crls)
@@ -193,7 +182,7 @@ module _ (rows : Rows) (records : Records) (are : AreOf rows records) where
     rows_sound last entered subscribers orders certificates requests crls revocations = record {
       policy = are.policy;
       before_clock_end = rw are.last at last;
-      last_set = set_of (rw (are.subscribers, are.last, are.crls) at entered);
+      last_set = last_set_of entered;
       subscribers = rw (are.cap, are.subscribers) at subscribers;
       orders = rw (are.cap, are.subscribers, are.orders) at orders;
       certificates = rw (are.cap, are.orders, are.certificates) at certificates;

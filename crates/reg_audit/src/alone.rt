@@ -1,17 +1,14 @@
 //! What a row says by itself.
 
-ghost use Rattle.std.specs.Prelude.{◌≤◌, ◌↔◌, IsTrue, OnOk, IfErr};
+ghost use Rattle.std.specs.Prelude.{◌≤◌, OnOk, IfErr};
 ghost use Rattle.std.specs.List.{AllByRecursion};
 ghost use Rattle.reg_core.specs.Label.{IsName};
 ghost use Rattle.reg_core.specs.Schedule.{IsDays};
 ghost use Rattle.reg_audit.specs.Stops.{IsBroken};
 
 use crate::stop::{Stop, broken_at};
-use reg_core::{CertRow, OrderRow, SubscriberRow};
+use reg_core::{CertRow, OrderRow, Schedule, SubscriberRow};
 use reg_findings::{Table, Why};
-
-/// The most days that a schedule allows.
-const MOST_DAYS: u64 = 398;
 
 /// Each name is one that a command takes.
 pub(crate) fn names_are_good(subscribers: &[SubscriberRow]) -> Result<(), Stop>
@@ -26,20 +23,13 @@ pub(crate) fn names_are_good(subscribers: &[SubscriberRow]) -> Result<(), Stop>
     Ok(())
 }
 
-/// Whether a schedule can allow so many days.
-fn can_be_allowed(days: u64) -> bool
-    ensures { IsTrue result ↔ IsDays days }
-{
-    days >= 1 && days <= MOST_DAYS
-}
-
 /// Each order's days are some that a schedule can allow.
 pub(crate) fn days_are_allowed(orders: &[OrderRow]) -> Result<(), Stop>
     ensures ok { OnOk result (AllByRecursion (λ row. IsDays row.days) orders.now) }
     ensures broken { IfErr result (λ stop. IsBroken stop → ¬ AllByRecursion (λ row. IsDays row.days) orders.now) }
 {
     for (place, order) in orders.iter().enumerate() {
-        if !can_be_allowed(order.days) {
+        if !Schedule::can_allow(order.days) {
             return Err(broken_at(Table::Orders, place, Why::BadDays));
         }
     }

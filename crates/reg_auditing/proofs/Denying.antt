@@ -25,7 +25,7 @@ use Rattle.reg_audit.specs.declared.beside.Listed.{Listed}
 use Rattle.reg_auditing.proofs.Signed.{numbers_differ}
 use Rattle.reg_auditing.specs.Stops.{IsBroken, IsBrokenRow, IsDenied}
 use Rattle.reg_auditing.specs.Stored.{CanList, IsSomeCrl, IsStored}
-use Rattle.reg_auditing.specs.Values.{HasValues}
+use Rattle.reg_auditing.specs.Values.{HasAllowedDays, HasValues}
 use Rattle.reg_auditing.specs.declared.stop.AuditStop.{AuditStop}
 use Rattle.reg_auditing.specs.declared.stop.AuditStop.TheVariants.{Memory, Store, Broken}
 
@@ -140,8 +140,8 @@ module _ (records : Records) (columns : Columns) where
   rows_denied Memory never = tt
   rows_denied Store never = tt
   rows_denied (Broken row) never = record {
-    whole = λ values sound kept. never tt (values, sound.rows, kept);
-    rows = λ other values sound kept. never tt (values, sound, kept);
+    whole = λ values sound kept days. never tt (values, sound.rows, kept);
+    rows = λ other values sound kept days. never tt (values, sound, kept);
   }
 
   -- where the bytes of a CRL are others
@@ -150,6 +150,15 @@ module _ (records : Records) (columns : Columns) where
   bytes_denied Memory never others = tt
   bytes_denied Store never others = tt
   bytes_denied (Broken row) never others = record {
-    whole = λ values sound kept. others values sound.rows kept tt sound.signatures;
-    rows = λ other values sound kept. never values sound kept other;
+    whole = λ values sound kept days. others values sound.rows kept tt sound.signatures;
+    rows = λ other values sound kept days. never values sound kept other;
+  }
+
+  -- where the office was made with other days
+  pub days_denied : (stop : AuditStop) → (IsBroken stop → ¬ HasAllowedDays columns) → IsDenied stop records columns
+  days_denied Memory never = tt
+  days_denied Store never = tt
+  days_denied (Broken row) never = record {
+    whole = λ values sound kept days. never tt days;
+    rows = λ other values sound kept days. never tt days;
   }

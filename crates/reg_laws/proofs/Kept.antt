@@ -381,7 +381,7 @@ fresh_request records request sound found none =
     other : (revocation : RevocationRow) → SoundRevocation records.last records.certificates records.requests records.crls revocation → revocation.serial ≢ request.serial → revocation.request ≢ request.id
     other revocation holds differs same = differs (sym (some_at (LeadsTo revocation) (request_in records.requests revocation.request) request (ap (request_in records.requests) same ∙ found) holds.by_request).same_serial)
 
--- a request declined that is not, for a certificate that is registered and not revoked
+-- a request declined, for a certificate that is registered and not revoked
 pub declined_kept : (records : Records) (now : ℕ) (request : RequestRow) (certificate : CertRow) → SoundRows records → OnClock records now
     → request_in records.requests request.id ≡ Some request
     → certificate_in records.certificates request.serial ≡ Some certificate
