@@ -1,5 +1,5 @@
 -- What is denied where an audit tells a row.
-use Rattle.std.proofs.Common.{◌≡◌, ◌≢◌, ◌<◌, ◌≤◌, ℕ, ◌==◌, Bool, true, false, List, [], ◌∷◌, map, filter, length, Option, Some, None, option_map, refl, sym, subst, arith, inl, inr}
+use Rattle.std.proofs.Common.{◌≡◌, ◌≢◌, ◌<◌, ◌≤◌, ℕ, ◌==◌, Bool, true, false, List, [], ◌∷◌, map, filter, length, Option, Some, refl, sym, subst, arith, inl, inr}
 use Rattle.std.specs.Prelude.{IsSomeAnd}
 use Rattle.std.specs.List.{AllByRecursion}
 use Rattle.std.specs.List.Sorted.{IsPermutation}
@@ -116,15 +116,6 @@ each_stored records (crl ∷ crls) found signed = (
 pub all_stored : (records : Records) → NumberedFrom (λ crl. crl.number) 1 records.crls → CrlsSigned IsSomeCrl records → AllByRecursion (IsStored records) (map row_of records.crls)
 all_stored records numbered signed =
     each_stored records records.crls (each_found (λ (crl : Crl). crl.number) records.crls (numbers_differ (λ (crl : Crl). crl.number) 1 records.crls numbered)) signed
-
--- the bytes that were read are those of the CRL with the number
-pub bytes_stored : (records : Records) (row : CrlRow) (read : Option (List ℕ)) → read ≡ option_map (λ (crl : Crl). crl.bytes) (crl_in records.crls row.number) → IsStored records row → IsSomeAnd read (IsSomeCrl (cert_list records row.number row.this_update))
-bytes_stored records row read is stored =
-    subst (λ (o : Option (List ℕ)). IsSomeAnd o (IsSomeCrl (cert_list records row.number row.this_update))) (sym is) (go (crl_in records.crls row.number) stored)
-  where
-    go : (found : Option Crl) → IsSomeAnd found (λ crl. IsSomeCrl (cert_list records row.number row.this_update) crl.bytes) → IsSomeAnd (option_map (λ (crl : Crl). crl.bytes) found) (IsSomeCrl (cert_list records row.number row.this_update))
-    go None holds = holds
-    go (Some crl) holds = holds
 
 -- each thisUpdate is one that the clock lets pass
 pub updates_before : (records : Records) → SoundRows records → AllByRecursion (λ (crl : CrlRow). crl.this_update < clock_end) (map row_of records.crls)
