@@ -32,9 +32,7 @@ pub(crate) fn lay_pages<D: Disk>(
 ) -> Result<u64, Unopened>
     ensures { IfErr result (λ why. (why.fault ≡ Fault.Memory) ⊎ (why.fault ≡ Fault.Store)) }
 {
-    for end in ["", "-wal", "-journal"] {
-        look_free(rt, to, end)?;
-    }
+    look_all_free(rt, to)?;
     let Ok(part) = beside(rt, to, UNDER_WAY) else {
         return Err(no_memory());
     };
@@ -46,6 +44,18 @@ pub(crate) fn lay_pages<D: Disk>(
             Err(why)
         }
     }
+}
+
+/// Looks that nothing lies at a path, and nothing beside it that would be taken for its log or its journal.
+fn look_all_free(rt: &HostRuntime, to: &str) -> Result<(), Unopened>
+    ensures { IfErr result (λ why. (why.fault ≡ Fault.Memory) ⊎ (why.fault ≡ Fault.Store)) }
+{
+    if to.is_empty() {
+        return Err(with_cause(Fault::Store, Some(Cause::NoFile)));
+    }
+    look_free(rt, to, "")?;
+    look_free(rt, to, "-wal")?;
+    look_free(rt, to, "-journal")
 }
 
 /// Looks that nothing lies at a path with this end, a link that leads nowhere neither.
