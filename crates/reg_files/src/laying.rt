@@ -119,7 +119,8 @@ fn settle(rt: &HostRuntime, part: &str) -> io::Result<()> {
     let mut folder = fs::canonicalize(rt, part)?;
     folder.pop();
     fs::remove_file(rt, part)?;
-    File::open(rt, folder.as_str())?.sync_all()
+    let folder = File::open(rt, folder.as_str())?;
+    folder.sync_all()
 }
 
 /// What a call came to by which a file is laid.

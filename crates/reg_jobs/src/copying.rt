@@ -25,9 +25,6 @@ pub struct Uncopied {
     pub cause: Option<Cause>,
 }
 
-/// What stands before the words of a cause in its line.
-const INDENT: usize = 2;
-
 /// Whether a line asks for a copy of the register.
 pub(crate) fn asks_copy(line: &[u8]) -> bool
     ensures { result ≡ asks line.now }
@@ -139,8 +136,7 @@ fn note_cause(alloc: Global, cause: Option<Cause>, reply: &[u8], noted: &mut Vec
 /// The words of a cause with an LF behind them, where it is known and there is memory for them.
 fn cause_text(alloc: Global, cause: Option<Cause>) -> Option<Vec<u8>> {
     let line = cause?.line();
-    let words = line.as_bytes().get(INDENT..)?;
-    with_end(alloc, words).ok()
+    with_end(alloc, line.as_bytes().strip_prefix(b"  ")?).ok()
 }
 
 /// Copies the register at a path, which no program has open, to another path, and tells it. It only reads what lies at the first.
