@@ -585,6 +585,7 @@ fn made_over<C: Alter, S: Signer + Drop>(
     ensures clean { IfOk result (λ office. doubt (state C.Store connection).is_clean ≤ doubt (state C.Store office.store).is_clean) }
     ensures err { IfErr result (λ left. IsMaking left.0) }
 {
+    policy.promise();
     match Store::create(connection, issuer, policy) {
         Ok(store) => Ok(Office::new(store, signer)),
         Err(unopened) => Err((Failure::from(unopened.fault), unopened.connection)),

@@ -11,9 +11,8 @@ use Rattle.std.proofs.lemmas.List.Sorted.{IsPermutation-sym}
 use Rattle.sqlite_value.specs.declared.value.Value.TheVariants.{Int}
 use Rattle.sqlite_value.specs.Order.{Row, value_cmp}
 use Rattle.sqlite_value.proofs.OrderLemmas.{value_cmp_total, value_cmp-Int}
-use Rattle.sqlite_trees.specs.Tree.{rowid, IsTable, has_rowid, put_row, without_rowid}
+use Rattle.sqlite_trees.specs.Tree.{rowid, IsTable, has_rowid, without_rowid}
 use Rattle.sqlite_trees.proofs.ListLemmas.{all-permutation}
-use Rattle.sqlite_trees.proofs.TreeLemmas.{IsTable-put_row}
 use Rattle.sqlite_rules.specs.Lists.{Has}
 use Rattle.sqlite_rules.specs.Edit.{id_in, without_all, put_all, are_fresh}
 use Rattle.sqlite_rules.specs.Calls.{ids_of}
@@ -45,21 +44,6 @@ same_rows (x ∷ xs) (y ∷ ys) p q there back =
     ap₂ ◌∷◌ first (same_rows xs ys p.1 q.1
     (λ r h. elim (there r (inr h)) [ inl e ↦ absurd (past x xs p.0 r h (e ∙ sym first)) | inr k ↦ k ])
     (λ r h. elim (back r (inr h)) [ inl e ↦ absurd (past y ys q.0 r h (e ∙ first)) | inr k ↦ k ]))
-
-put_all_table : (news rows : List Row) → IsTable rows → IsTable (put_all rows news)
-put_all_table [] rows up = up
-put_all_table (n ∷ news) rows up = put_all_table news (put_row n rows) (IsTable-put_row n rows up)
-
-filter_table : (p : Row → Bool) (rows : List Row) → IsTable rows → IsTable (filter p rows)
-filter_table p [] up = tt
-filter_table p (r ∷ rows) up = elim (cases_Bool (p r)) [
-  | inl e ↦ rw e (all_from _ (filter p rows) (λ y h. all_has _ rows y up.0 (has_filtered p rows y h).0), filter_table p rows up.1)
-  | inr e ↦ rw e (filter_table p rows up.1)
-]
-
-without_all_table : (ids : List ℤ) (rows : List Row) → IsTable rows → IsTable (without_all rows ids)
-without_all_table [] rows up = up
-without_all_table (id ∷ ids) rows up = without_all_table ids (without_rowid id rows) (filter_table _ rows up)
 
 abbrev Lacks : List ℤ → Row → Type 0
 Lacks ids x = (id : ℤ) → Has ids id → has_rowid id x ≡ false
@@ -97,10 +81,6 @@ above : (g : Row → Row) (r : Row) (rows : List Row) → KeepsRowid g r → All
 above g r [] same all up = tt
 above g r (x ∷ rows) same all up = (ap₂ value_cmp same all.0 ∙ up.0, above g r rows same all.1 up.1)
 
-turned_table : (g : Row → Row) (rows : List Row) → AllByRecursion (KeepsRowid g) rows → IsTable rows → IsTable (map g rows)
-turned_table g [] all up = tt
-turned_table g (r ∷ rows) all up = (above g r rows all.0 all.1 up.0, turned_table g rows all.1 up.1)
-
 module _ (p : Row → Bool) (f : Row → Row) (rows to : List Row) (table : IsTable rows) (keyed : AllByRecursion IsKeyed rows) (keeps : AllByRecursion (KeepsRowid f) rows)
     (same : IsPermutation (filter p rows) to) (fresh : are_fresh (without_all rows (ids_of to)) (map f to) ≡ true) where
   abbrev g : Row → Row
@@ -127,10 +107,6 @@ module _ (p : Row → Bool) (f : Row → Row) (rows to : List Row) (table : IsTa
       let one : r ≡ t.0 = tied_same rows r t.0 table h was.0 tie in
       let passes : p r ≡ true = ap p one ∙ was.1 in cc)
 
-  keeps_each : (those : List Row) → AllByRecursion (KeepsRowid f) those → AllByRecursion (KeepsRowid g) those
-  keeps_each [] all = tt
-  keeps_each (r ∷ those) all = (elim (p r) as (λ b. rowid (cond b (f r) r) ≡ rowid r) [ true ↦ all.0 | false ↦ refl ], keeps_each those all.1)
-
   there : (x : Row) → Has (put_all (without_all rows (ids_of to)) (map f to)) x → Has (map g rows) x
   there x h = elim (put_all_has (map f to) (without_all rows (ids_of to)) x h) [
     | inl new ↦
@@ -153,9 +129,6 @@ module _ (p : Row → Bool) (f : Row → Row) (rows to : List Row) (table : IsTa
         | inl passes ↦ subst (Has (put_all left (map f to))) (sym (r.2 ∙ ap (λ b. cond b (f r.0) r.0) passes)) (put_all_adds (map f to) left (f r.0) fresh (mapped_has f to r.0 (to_in r.0 r.1 passes)))
         | inr fails ↦ subst (Has (put_all left (map f to))) (sym (r.2 ∙ ap (λ b. cond b (f r.0) r.0) fails)) (put_all_keeps (map f to) left r.0 fresh (left_has (ids_of to) rows r.0 r.1 (lacks_those r.0 r.1 fails)))
       ]
-
-  pub rows_turned : put_all (without_all rows (ids_of to)) (map f to) ≡ map g rows
-  rows_turned = same_rows _ _ (put_all_table (map f to) _ (without_all_table (ids_of to) rows table)) (turned_table g rows (keeps_each rows keeps) table) there back
 
 -- ---- the tables of a register
 
@@ -218,16 +191,3 @@ module _ {A : Type 0} (P : A → Type 0) (stored : A → Row) (p : Row → Bool)
   behind_passing tests from (x ∷ xs) all = counted_same _ _ _ _ _ _ (tests from x all.0) (behind_passing tests (from + 1) xs all.1)
 
 -- ---- all rows are taken out
-
-nothing_there : (xs : List Row) → ((x : Row) → Has xs x → ⊥) → xs ≡ []
-nothing_there [] none = refl
-nothing_there (x ∷ xs) none = absurd (none x (inl refl))
-
-pub rows_gone : (rows to : List Row) → AllByRecursion IsKeyed rows → IsPermutation rows to → without_all rows (ids_of to) ≡ []
-rows_gone rows to keyed same = nothing_there (without_all rows (ids_of to)) (λ x h.
-    let l = left_from (ids_of to) rows x h in
-    let there = has_permuted to rows x (IsPermutation-sym _ _ same) l.0 in
-    let lacks = l.1 (id_in (rowid x)) (mapped_has (λ r. id_in (rowid r)) to x there) in
-    let is : rowid x ≡ Int (id_in (rowid x)) = all_has IsKeyed rows x keyed l.0 in
-    let has : has_rowid (id_in (rowid x)) x ≡ true = ap (λ v. is_eq (value_cmp (rowid x) v)) (sym is) ∙ ap is_eq (tied_itself value_cmp_total (rowid x)) in
-    cc)
