@@ -1,4 +1,5 @@
 pub mod Asking
+pub mod Copies
 pub mod Counted
 pub mod Deferring
 pub mod Digest

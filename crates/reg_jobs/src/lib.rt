@@ -2,6 +2,7 @@
 #![tactic(auto)]
 
 mod asking;
+mod copying;
 mod deferring;
 mod front;
 mod handling;
@@ -21,6 +22,7 @@ mod telling;
 mod watching;
 
 pub use asking::{at, talk};
+pub use copying::{Uncopied, copy};
 pub use deferring::{Looked, Wanted};
 pub use front::Front;
 pub use jobs::{NewOffice, audit, crl, ended, import_rows, init, key_identifier, schedule, script};
