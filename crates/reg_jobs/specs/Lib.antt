@@ -1,4 +1,5 @@
 pub mod Asking
+pub mod Copies
 pub mod CounterWords
 pub mod Counted
 pub mod Deferring

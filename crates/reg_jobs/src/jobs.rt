@@ -7,7 +7,7 @@ ghost use Rattle.reg_calls.specs.Steps.{Crls};
 ghost use Rattle.reg_calls.specs.Leads.{Leads};
 ghost use Rattle.reg_faces.specs.Faces.{Lines};
 ghost use Rattle.reg_lines.specs.Strict.{StrictEnds};
-ghost use Rattle.reg_jobs.specs.Ends.{AuditAt, CrlAt, ImportAt, InitAt, KeyIdAt, MakesAt, SaysGiven, ScheduleAt, ScriptAt, StrictImportAt, TellsBroken, TellsSet, TellsSound, TellsVerdict};
+ghost use Rattle.reg_jobs.specs.Ends.{AuditAt, CrlAt, ImportAt, InitAt, KeyIdAt, MakesAt, SaysGiven, ScheduleAt, ScriptAt, StrictImportAt, TellsBroken, TellsSet, TellsLine, TellsVerdict};
 ghost use Rattle.reg_jobs.specs.Visits.{ending_of, ending_of_import};
 ghost use Rattle.reg_tables.specs.Stays.{IsCallFault};
 ghost use Rattle.reg_findings.specs.Lines.{broken_text, sound_text};
@@ -346,7 +346,7 @@ fn tell_verdict<W: Write>(alloc: Global, writer: &mut W, verdict: Verdict) -> Re
 
 /// Tells that all rows are sound.
 fn tell_sound<W: Write>(alloc: Global, writer: &mut W, found: Audited) -> Result<(), Failure>
-    ensures { TellsSound (sound_text found) W.contents writer.old writer.new result }
+    ensures { TellsLine (sound_text found) W.contents writer.old writer.new result }
 {
     match sound_line(alloc, found) {
         Ok(line) => say(writer, &line),

@@ -2,6 +2,7 @@
 #![tactic(auto)]
 
 mod asking;
+mod copying;
 mod deferring;
 mod entering;
 mod front;
@@ -25,6 +26,7 @@ mod watching;
 mod words;
 
 pub use asking::{at, at_rows, talk};
+pub use copying::{Uncopied, copy};
 pub use deferring::{Looked, Wanted};
 pub use front::Front;
 pub use jobs::{NewOffice, audit, crl, ended, import_rows, init, key_identifier, schedule, script};

@@ -11,7 +11,7 @@ use crate::memory::script_in_memory;
 use reg_causes::{Cause, of_terms};
 use reg_endings::{Failure, status_of};
 use reg_jobs::{
-    Causes, Front, NewOffice, Place, Reason, at, at_rows, audit, crl, explain, hold_open,
+    Causes, Front, NewOffice, Place, Reason, at, at_rows, audit, copy, crl, explain, hold_open,
     import_rows, init, key_identifier, list, schedule, script, script_by_lines, serve, tell,
 };
 use reg_words::{Job, KeptOpen, LinedScript, ListToWrite, NewRegister, RowsToImport, Serving};
@@ -154,6 +154,9 @@ fn run<P: Place, F: Front, R: Read, W: Write>(
         Job::Schedule { file, steps } => schedule(alloc, place, file.as_str(), steps, writer),
         Job::KeyId { file, key_id } => key_identifier(alloc, place, file.as_str(), key_id, writer),
         Job::Listing(wanted) => write_list(alloc, front, place, wanted, writer),
+        Job::Copy { file, path } => {
+            copy(alloc, front, place, file.as_str(), path.as_str(), writer)
+        }
         Job::Audit { file } => audit(alloc, &*place, file.as_str(), writer),
     }
 }

@@ -126,6 +126,8 @@ fn file_of<'a>(job: &Job<'a>) -> Option<&'a str> {
         Job::KeyId { file, .. } => Some(file.as_str()),
         Job::Listing(wanted) => Some(wanted.file.as_str()),
         Job::Audit { file } => Some(file.as_str()),
+        // It is read as it lies, and not opened.
+        Job::Copy { .. } => None,
         Job::Init(_) => None,
         Job::At { .. } => None,
     }

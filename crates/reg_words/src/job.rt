@@ -169,6 +169,11 @@ pub enum Job<'a> {
     },
     /// Writes a list of the register, as CSV with a header or as an object of JSON a line, at a moment or at the machine's clock.
     Listing(ListToWrite<'a>),
+    /// Copies the register, which no program has open, to a path at which nothing lies.
+    Copy {
+        file: Word<'a>,
+        path: Word<'a>,
+    },
     /// Looks whether the tables are those of sound records, and changes nothing.
     Audit {
         file: Word<'a>,

@@ -100,6 +100,8 @@ const AT_COUNTER: &str = "The Unix socket of an open desk's counter";
 const AT_IMPORT: &str =
     "In place of standard input: register each certificate of this CSV file, order,serial,notBefore,notAfter";
 
+const COPY: &str = "The path of the copy; nothing may lie there";
+
 const STEPS: &str =
     "From MOMENT on at most DAYS days, 1 to 398; 1 to 16 steps, the first at 1970-01-01T00:00:00Z, moments ascending";
 
@@ -234,7 +236,7 @@ pub(crate) const RUNNING: &[Entry] = &[
     },
 ];
 
-/// The commands that set, list and audit what a register has; help lists them behind the others.
+/// The commands that set, list, copy and audit what a register has; help lists them behind the others.
 pub(crate) const KEEPING: &[Entry] = &[
     Entry {
         name: "schedule",
@@ -266,6 +268,16 @@ pub(crate) const KEEPING: &[Entry] = &[
             Part::Takes("before", "MOMENT", BEFORE_MOMENT),
             Part::Takes("now", "MOMENT", LIST_NOW),
             Part::Flag("json", JSON),
+            Part::Flag("why", CAUSE),
+        ],
+    },
+    Entry {
+        name: "copy",
+        about: "Copy a register that no program has open into one new file, with what its -wal has.",
+        example: "Example:\n  desk copy ca.db /var/backups/ca/ca.db\n\nOne that is open is copied by the line `copy PATH` at its counter: echo copy /var/backups/ca/ca.db | desk at ca.counter",
+        parts: &[
+            Part::Must("file", "FILE", FILE),
+            Part::Must("path", "PATH", COPY),
             Part::Flag("why", CAUSE),
         ],
     },
