@@ -162,11 +162,7 @@ fn tell_schedule<P: Place>(
 }
 
 /// Sets the schedule of these steps, which are looked at before the register is.
-fn set_steps<P: Place>(
-    alloc: Global,
-    office: &mut P::Opened,
-    steps: &Steps,
-) -> Result<(), Failure>
+fn set_steps<P: Place>(alloc: Global, office: &mut P::Opened, steps: &Steps) -> Result<(), Failure>
     ensures { Leads P.Opened.is_clean P.Opened.stands (λ identity before after. SetsSteps steps.now result before after) office.old office.new }
 {
     let schedule = match schedule_of(steps) {

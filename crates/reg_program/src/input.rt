@@ -20,7 +20,8 @@ impl Input {
     pub(crate) fn of(rt: &HostRuntime, job: &Job<'_>) -> io::Result<Input> {
         match job {
             Job::At {
-                rows: Some(path), ..
+                rows: Some(path),
+                ..
             } => Ok(Input::Rows(File::open(rt, path.as_str())?)),
             _ => Ok(Input::Standard(rt.stdin())),
         }
