@@ -1,7 +1,6 @@
-use Rattle.std.proofs.Common.{◌≡◌, [], ◌∷◌, sym, ap, ◌∙◌, arith, rules}
-use Rattle.sqlite_value.specs.Order.{Row, column}
+use Rattle.std.proofs.Common.{◌≡◌, ap, ◌∙◌, arith, rules}
+use Rattle.sqlite_value.specs.Order.{column}
 use Rattle.sqlite_value.specs.declared.value.Value.TheVariants.{Int}
-use Rattle.reg_tables.specs.Columns.{Columns}
 use Rattle.reg_auditing.specs.Said.{beside}
 use Rattle.reg_auditing.specs.Values.{HasAllowedDays}
 use Rattle.reg_auditing.specs.declared.texts.What.TheVariants.{Office}
