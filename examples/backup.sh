@@ -1,47 +1,51 @@
 #!/usr/bin/env bash
-# Copies a register into a folder of copies, for cron, and keeps the newest seven: each is a folder REGISTER-MOMENT with the register's file and, where
-# there is one, its -wal. The register is closed, or lies in a snapshot of the file system (docs/OPERATIONS.md, "Backups"): one that a program has open
-# is refused. Each copy is audited, and counts only where that says `sound`, which is printed; only then one older than the newest seven goes. Where
-# anything fails no copy goes, one line on standard error says why, and the exit status is 1.
+# Copies a register into a folder of copies, for cron, and keeps the newest seven: each is a folder REGISTER-MOMENT with the register in one file. One that
+# is closed, or lies in a snapshot of the file system, is copied by `desk copy`; one that is open by its desk, at the counter that is told, which lays the copy
+# beside the register, from where it is moved (docs/OPERATIONS.md, "Backups"). Each copy is audited, and counts only where that says `sound`, which is printed;
+# only then one older than the newest seven goes. Where anything fails no copy goes, one line on standard error says why, and the exit status is 1.
 #
-# Usage: backup.sh REGISTER FOLDER      as: backup.sh /var/lib/durshavon/ca.db /var/backups/durshavon
-# DESK names the program, where it is not the `desk` of PATH. Run it as root or as the register's owner: others don't see who has it open.
+# Usage: backup.sh REGISTER FOLDER [COUNTER]
+#     as: backup.sh /var/lib/durshavon/ca.db /var/backups/ca /run/durshavon/ca/counter
+# DESK names the program, where it is not the `desk` of PATH. Run it as root or as the register's owner.
 set -euo pipefail
-[ $# -eq 2 ] || { echo "usage: $0 REGISTER FOLDER" >&2; exit 2; }
+if [ $# -lt 2 ] || [ $# -gt 3 ]; then
+    echo "usage: $0 REGISTER FOLDER [COUNTER]" >&2
+    exit 2
+fi
 export LC_ALL=C
 register=$1
 folder=$2
+counter=${3:-}
 desk=${DESK:-desk}
 name=$(basename "$register")
+beside=$(realpath -m "$register").copy
 
 fail() {
     echo "backup: $1" >&2
     exit 1
 }
 
-# Who has a file of the register open, by its process, or nothing.
-holder() {
-    for open in /proc/[0-9]*/fd/*; do
-        if [ "$open" -ef "$register" ] || [ "$open" -ef "$register-wal" ]; then
-            open=${open#/proc/}
-            echo "${open%%/*}"
-            return
-        fi
-    done
+# What was told in lines, in one.
+joined() { sed -n 's/^ *//; H; $ { x; s/^\n//; s/\n/, /g; p }' <<<"$1"; }
+
+# The desk copies to where it may write: what it lays beside its register is this script's to move.
+copy_at_counter() {
+    [ -n "$counter" ] || fail "$register is open: name its counter, or close it"
+    rm -f "$beside" "$beside.part" 2>/dev/null || fail "$beside can't be removed"
+    told=$(printf 'copy %s\nwhy\n' "$beside" | "$desk" at "$counter" 2>&1) || fail "$register is not copied at $counter: $(joined "$told")"
+    mv "$beside" "$new/$name" 2>/dev/null || fail "$beside can't be moved into $folder"
 }
 
-# What tells whether a file was written.
-state() { stat -c '%n %i %s %y' "$register" "$register-wal" 2>/dev/null || :; }
-
 copy() {
-    held=$(holder)
-    [ -z "$held" ] || fail "$register is open in process $held: close it, or copy it from a snapshot"
-    before=$(state)
-    cp -p "$register" "$new/$name" 2>/dev/null || fail "$register can't be copied into $folder"
-    if [ -e "$register-wal" ]; then
-        cp -p "$register-wal" "$new/$name-wal" 2>/dev/null || fail "$register-wal can't be copied into $folder"
+    if told=$("$desk" copy --why "$register" "$new/$name" 2>&1); then
+        # A copy that root made is its register's owner's, as that is who goes back to it.
+        chown --reference="$register" "$new/$name" 2>/dev/null || :
+        return
     fi
-    [ "$(state)" = "$before" ] || fail "$register was written while it was copied"
+    case $told in
+    *"in use by another program") copy_at_counter ;;
+    *) fail "$register can't be copied into $folder: $(joined "$told")" ;;
+    esac
 }
 
 # The new one stays, whatever the clock says, and the six that are the newest of the others.

@@ -4,7 +4,7 @@
    FAULTS_FAIL=KIND:N ..   the Nth call of KIND fails, parted by commas; `KIND:N+` all from the Nth on, `KIND:N=EIO` by that error, and a
                            read or write by `=0` moves nothing. Kinds: see `names` below. Allocations count from `main` on.
    FAULTS_SHORT=N          reads and writes move N bytes at most.
-   FAULTS_STOP=N           the process stops, as by SIGKILL, in place of its Nth write, cut or sync of a file.
+   FAULTS_STOP=N           the process stops, as by SIGKILL, in place of its Nth write, cut or sync of a file, or of what gives or takes a file's name.
    FAULTS_TORN=1           the write in whose place it stops is done to its half.
    FAULTS_LOSE=SEED        at that stop, and without FAULTS_STOP at the end of the program, what was written to files and not synced is lost:
                            all of it where SEED is 1, else writes that are drawn by SEED, as a machine may lose them.
@@ -34,14 +34,15 @@
 #include <time.h>
 #include <unistd.h>
 
-enum kind { ALLOC, READ, WRITE, SYNC, CUT, OPEN, UNLINK, STAT, LOCK, SOCKET, CONNECT, BIND, LISTEN, ACCEPT, POLL, CLOCK, RANDOM, KINDS };
+enum kind { ALLOC, READ, WRITE, SYNC, CUT, OPEN, UNLINK, LINK, STAT, LOCK, SOCKET, CONNECT, BIND, LISTEN, ACCEPT, POLL, CLOCK, RANDOM, KINDS };
 enum { STEPS = KINDS, MET, COUNTS };
 
 static const char *const names[KINDS] = {
-    "alloc", "read", "write", "sync", "cut", "open", "unlink", "stat", "lock", "socket", "connect", "bind", "listen", "accept", "poll", "clock", "random",
+    "alloc", "read", "write", "sync", "cut", "open", "unlink", "link", "stat", "lock", "socket", "connect", "bind", "listen", "accept", "poll", "clock",
+    "random",
 };
 static const int usual[KINDS] = {
-    ENOMEM, EIO, ENOSPC, EIO, EIO, EMFILE, EACCES, EIO, EAGAIN, EMFILE, ECONNREFUSED, EADDRINUSE, EADDRINUSE, EMFILE, EBADF, EINVAL, EIO,
+    ENOMEM, EIO, ENOSPC, EIO, EIO, EMFILE, EACCES, EPERM, EIO, EAGAIN, EMFILE, ECONNREFUSED, EADDRINUSE, EADDRINUSE, EMFILE, EBADF, EINVAL, EIO,
 };
 
 void *__libc_malloc(size_t);
@@ -286,22 +287,31 @@ __attribute__((destructor)) static void at_last(void) {
         lose_what_was_not_synced();
 }
 
-/* A write, a cut or a sync of a file: the process may stop in its place. `size` bytes, where it is a write. */
-static void step(int file, const char *bytes, size_t size, off_t at) {
-    if (file <= 2 || !is_kind_of_file(file, S_IFREG))
-        return;
+/* Counts a step; whether the process is to stop in its place. */
+static int stops_now(void) {
     if (__atomic_add_fetch(&counts[STEPS], 1, __ATOMIC_RELAXED) != stop_at)
-        return;
+        return 0;
     counts[MET]++;
-    if (torn && size > 1) {
-        remember(file, bytes, size / 2, at, 0);
-        syscall(SYS_pwrite64, file, bytes, size / 2, at);
-    }
+    return 1;
+}
+
+static void stop(void) {
     if (lose)
         lose_what_was_not_synced();
     syscall(SYS_kill, syscall(SYS_getpid), SIGKILL);
     for (;;)
         pause();
+}
+
+/* A write, a cut or a sync of a file: the process may stop in its place. `size` bytes, where it is a write. */
+static void step(int file, const char *bytes, size_t size, off_t at) {
+    if (file <= 2 || !is_kind_of_file(file, S_IFREG) || !stops_now())
+        return;
+    if (torn && size > 1) {
+        remember(file, bytes, size / 2, at, 0);
+        syscall(SYS_pwrite64, file, bytes, size / 2, at);
+    }
+    stop();
 }
 
 /* The calls: memory. */
@@ -360,9 +370,17 @@ ssize_t pread(int file, void *bytes, size_t size, off_t at) {
 ssize_t pread64(int file, void *bytes, size_t size, off_t at) { return pread(file, bytes, size, at); }
 
 ssize_t write(int file, const void *bytes, size_t size) {
-    if (!is_meant(file, NULL))
-        return syscall(SYS_write, file, bytes, size);
-    return fails_now(WRITE) ? failed(WRITE) : syscall(SYS_write, file, bytes, shortened(size));
+    int is_file = file > 2 && is_kind_of_file(file, S_IFREG);
+    off_t at = is_file ? syscall(SYS_lseek, file, 0, SEEK_CUR) : 0;
+    if (is_meant(file, NULL)) {
+        if (fails_now(WRITE))
+            return failed(WRITE);
+        size = shortened(size);
+        step(file, bytes, size, at);
+    }
+    if (is_file)
+        remember(file, bytes, size, at, 0);
+    return syscall(SYS_write, file, bytes, size);
 }
 
 ssize_t send(int file, const void *bytes, size_t size, int how) {
@@ -437,7 +455,20 @@ int open(const char *path, int how, ...) {
     return file;
 }
 
-int unlink(const char *path) { return is_meant(-1, path) && fails_now(UNLINK) ? -1 : syscall(SYS_unlinkat, AT_FDCWD, path, 0); }
+/* Whether a name is not given or taken, since that is to fail; the process may stop in place of it. */
+static int stays(enum kind kind, const char *path) {
+    if (!is_meant(-1, path))
+        return 0;
+    if (fails_now(kind))
+        return 1;
+    if (stops_now())
+        stop();
+    return 0;
+}
+
+int unlink(const char *path) { return stays(UNLINK, path) ? -1 : syscall(SYS_unlinkat, AT_FDCWD, path, 0); }
+
+int link(const char *from, const char *to) { return stays(LINK, to) ? -1 : syscall(SYS_linkat, AT_FDCWD, from, AT_FDCWD, to, 0); }
 
 int statx(int file, const char *restrict path, int how, unsigned what, struct statx *restrict it) {
     int is_own = *path ? is_meant(-1, path) : is_meant(file, NULL);

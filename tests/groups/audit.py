@@ -45,7 +45,7 @@ BROKEN = {
     "a moment below 0": ("UPDATE cert SET not_after = -1", "cert 1"),
     "more rows than the cap": ("UPDATE office SET cap = 1", "crl 2"),
     "a request that is half declined": ("UPDATE request SET declined = 2", "request 1"),
-    "a reason that was not listed": ("UPDATE revocation SET reason = 2", "listed 1"),
+    "a reason that was not listed": ("UPDATE revocation SET reason = 4; UPDATE request SET ground = 6", "listed 1"),
     "another end of a certificate": ("UPDATE cert SET not_after = not_after + 86400", "standing 1"),
     "another end beside a letter": ("UPDATE standing SET not_after = not_after + 1", "standing 1"),
     "another end of what is listed": ("UPDATE listed SET not_after = not_after + 1", "listed 1"),
@@ -102,6 +102,108 @@ TOLD = [
     ("DELETE FROM listed", "listed 1: not what follows from the records, or a row before it is missing"),
     ("DELETE FROM standing WHERE state = 'R'; INSERT INTO standing SELECT serial, 1768003200, 'R' FROM revocation", "standing 1: its number is not one more than that before it"),
 ]  # fmt: skip
+# Rows of each table that fit together: validities as long as ordered to the second, a request that was declined, and two for one serial number. Beside it
+# two revocations of one second, with a CRL between them; a CRL alone; and nothing.
+AGREED = "".join(
+    f"2026-01-0{it}\n"
+    for it in (
+        "1T00:00:00Z subscriber acme", "1T00:00:00Z subscriber globex",
+        "1T00:00:00Z order 1 10", "1T00:00:00Z order 2 398", "1T00:00:00Z order 1 1",
+        "1T00:00:00Z register 1 05 2026-01-01T00:00:00Z 2026-01-10T23:59:59Z", "1T00:00:00Z register 2 06 2026-01-01T00:00:00Z 2026-12-31T00:00:00Z",
+        "1T00:00:00Z register 3 07 2026-01-02T00:00:00Z 2026-01-02T23:59:59Z",
+        "2T00:00:00Z request 05 asked", "3T00:00:00Z request 06 key-compromise", "3T00:00:00Z decline 2", "3T12:00:00Z request 05 misuse",
+        "4T00:00:00Z revoke 1", "4T00:00:00Z crl", "5T00:00:00Z request 06 superseded", "6T00:00:00Z revoke 4", "6T00:00:00Z crl",
+    )
+)  # fmt: skip
+ONE_SECOND = "".join(
+    f"2026-01-01T00:00:00Z {it}\n"
+    for it in (
+        "subscriber acme", "order 1 10", "order 1 10", "register 1 05 2026-01-01T00:00:00Z 2026-01-10T00:00:00Z", "register 2 06 2026-01-01T00:00:00Z 2026-01-10T00:00:00Z",
+        "request 05 asked", "request 06 asked", "revoke 1", "crl", "revoke 2",
+    )
+)  # fmt: skip
+A_CRL = "2026-01-01T00:00:00Z crl\n"
+NAMED, ALLOWED = "a name that no command takes", "days that no schedule allows"
+BACKWARDS, LONGER = "its notBefore is after its notAfter", "a longer validity than its order allows"
+EARLIER, ENDED = "its moment is before that of the row before it", "its moment is after the end of the certificate"
+REVOKED, DECLINED = "its moment is after the revocation of its serial number", "its request was declined"
+REASON, NEVER = "another reason than that of its request's ground", "a last accepted moment that no command set"
+SWAPPED = "; ".join(f"UPDATE revocation SET rowid = {new} WHERE rowid = {old}" for old, new in ((1, 9), (2, 1), (9, 2)))
+
+
+def asked(order, received):
+    """Request 5, for the serial number of an order."""
+    return f"INSERT INTO request SELECT 5, serial, 1, {received}, 0 FROM cert WHERE order_id = {order}"
+
+
+# What no run of commands leaves: the lines of the register, a statement, and what is told.
+UNREACHED = [
+    (AGREED, "UPDATE subscriber SET name = 'a b' WHERE id = 1", f"subscriber 1: {NAMED}"),
+    (AGREED, "UPDATE subscriber SET name = 'globex!' WHERE id = 2", f"subscriber 2: {NAMED}"),
+    (AGREED, "UPDATE subscriber SET name = 'café' WHERE id = 2", f"subscriber 2: {NAMED}"),
+    (AGREED, "UPDATE subscriber SET name = 'acme' || char(10) WHERE id = 1", f"subscriber 1: {NAMED}"),
+    (AGREED, "UPDATE subscriber SET name = 'a/b' WHERE id = 2", f"subscriber 2: {NAMED}"),
+    (AGREED, "UPDATE orders SET days = 0 WHERE id = 1", f"orders 1: {ALLOWED}"),
+    (AGREED, "UPDATE orders SET days = 399 WHERE id = 2", f"orders 2: {ALLOWED}"),
+    (AGREED, "UPDATE orders SET days = 1000000 WHERE id = 3", f"orders 3: {ALLOWED}"),
+    (AGREED, "UPDATE orders SET days = 9223372036854775807 WHERE id = 3", f"orders 3: {ALLOWED}"),
+    (AGREED, "UPDATE cert SET not_before = not_after + 1 WHERE order_id = 1", f"cert 1: {BACKWARDS}"),
+    (AGREED, "UPDATE cert SET not_after = not_before - 1 WHERE order_id = 2", f"cert 2: {BACKWARDS}"),
+    (AGREED, "UPDATE cert SET not_before = 253402300799 WHERE order_id = 3", f"cert 3: {BACKWARDS}"),
+    (AGREED, "UPDATE cert SET not_after = not_after + 1 WHERE order_id = 1", f"cert 1: {LONGER}"),
+    (AGREED, "UPDATE cert SET not_before = not_before - 1 WHERE order_id = 1", f"cert 1: {LONGER}"),
+    (AGREED, "UPDATE cert SET not_before = 0 WHERE order_id = 2", f"cert 2: {LONGER}"),
+    (AGREED, "UPDATE cert SET not_after = 253402300799 WHERE order_id = 2", f"cert 2: {LONGER}"),
+    (AGREED, "UPDATE cert SET not_after = not_after + 1 WHERE order_id = 3", f"cert 3: {LONGER}"),
+    (AGREED, "UPDATE orders SET days = 9 WHERE id = 1", f"cert 1: {LONGER}"),
+    (AGREED, "UPDATE orders SET days = 364 WHERE id = 2", f"cert 2: {LONGER}"),
+    (AGREED, "UPDATE request SET received = received - 86401 WHERE id = 2", f"request 2: {EARLIER}"),
+    (AGREED, "UPDATE request SET received = 0 WHERE id = 4", f"request 4: {EARLIER}"),
+    (AGREED, "UPDATE request SET received = 1767441601 WHERE id = 2", f"request 3: {EARLIER}"),
+    (AGREED, "UPDATE request SET received = 1767657600 WHERE id = 1", f"request 2: {EARLIER}"),
+    (AGREED, asked(3, 1767657600), f"request 5: {ENDED}"),
+    (AGREED, "UPDATE cert SET not_after = 1767311999 WHERE order_id = 1", f"request 1: {ENDED}"),
+    (AGREED, "UPDATE cert SET not_after = 1767398399 WHERE order_id = 2", f"request 2: {ENDED}"),
+    (AGREED, "UPDATE cert SET not_after = 1767441599 WHERE order_id = 1", f"request 3: {ENDED}"),
+    (AGREED, "UPDATE cert SET not_after = 1767484799 WHERE order_id = 1", f"revocation 1: {ENDED}"),
+    (AGREED, asked(1, 1767657600), f"request 5: {REVOKED}"),
+    (AGREED, "UPDATE request SET received = 1767484801 WHERE id = 3", f"request 3: {REVOKED}"),
+    (AGREED, "UPDATE revocation SET at = 1767441599 WHERE request = 1", f"request 3: {REVOKED}"),
+    (AGREED, "UPDATE revocation SET at = 1767571199 WHERE request = 4", f"request 4: {REVOKED}"),
+    (AGREED, "UPDATE request SET declined = 1 WHERE id = 1", f"revocation 1: {DECLINED}"),
+    (AGREED, "UPDATE request SET declined = 1 WHERE id = 4", f"revocation 2: {DECLINED}"),
+    (AGREED, "UPDATE revocation SET request = 2 WHERE request = 4", f"revocation 2: {DECLINED}"),
+    (AGREED, "UPDATE revocation SET reason = 1 WHERE request = 1", f"revocation 1: {REASON}"),
+    (AGREED, "UPDATE revocation SET reason = 0 WHERE request = 4", f"revocation 2: {REASON}"),
+    (AGREED, "UPDATE revocation SET reason = 6 WHERE request = 4", f"revocation 2: {REASON}"),
+    (AGREED, "UPDATE request SET ground = 3 WHERE id = 1", f"revocation 1: {REASON}"),
+    (AGREED, "UPDATE request SET ground = 7 WHERE id = 4", f"revocation 2: {REASON}"),
+    (AGREED, "UPDATE revocation SET request = 3 WHERE request = 1", f"revocation 1: {REASON}"),
+    (AGREED, SWAPPED, f"revocation 2: {EARLIER}"),
+    (ONE_SECOND, SWAPPED, "revocation 2: its first CRL is before that of the row before it"),
+    (A_CRL, "UPDATE office SET last_at = last_at + 1", f"office 1: {NEVER}"),
+    ("", "UPDATE office SET last_at = 5", f"office 1: {NEVER}"),
+    (AGREED, "UPDATE office SET days = 0", f"office 1: {ALLOWED}"),
+    (AGREED, "UPDATE office SET days = 399", f"office 1: {ALLOWED}"),
+    (A_CRL, "UPDATE office SET days = -1", f"office 1: {ALLOWED}"),
+    ("", "UPDATE office SET days = 9223372036854775807", f"office 1: {ALLOWED}"),
+]
+# What some run leaves, or no table tells: another schedule came after, a moment that has no column.
+REACHED = [
+    (AGREED, "UPDATE subscriber SET name = 'A-b_c.9' WHERE id = 1"),
+    (AGREED, "UPDATE orders SET days = 398"),
+    (AGREED, "UPDATE cert SET not_before = not_before + 1 WHERE order_id = 1"),
+    (AGREED, "UPDATE request SET received = 1767484800 WHERE id = 3"),
+    (AGREED, "UPDATE request SET received = 1767312000 WHERE id = 2"),
+    (AGREED, "UPDATE request SET ground = 11 WHERE id = 3"),
+    (AGREED, "UPDATE request SET declined = 1 WHERE id = 3"),
+    (AGREED, "UPDATE request SET declined = 0 WHERE id = 2"),
+    (AGREED, "UPDATE longest SET days = 1"),
+    (AGREED, "UPDATE office SET days = 1"),
+    (AGREED, "UPDATE office SET last_at = last_at + 1"),
+    (ONE_SECOND, "UPDATE orders SET days = 11"),
+    ("", "UPDATE longest SET days = 2"),
+]
 # What no command opens: a row that refers to none, or breaks a CHECK.
 DAMAGED = {
     "a certificate whose order is missing": "DELETE FROM orders",
@@ -199,6 +301,21 @@ def each_broken_row_has_its_line(t, statement, line):
     t.register(lines=FULL)
     alter(t, statement)
     t.same(audited(t), (1, f"broken: {line}\n", "broken\n"))
+
+
+@each({f"{statement} of {len(lines.splitlines())} lines": (lines, statement, line) for lines, statement, line in UNREACHED})
+def what_no_run_leaves_is_told(t, lines, statement, line):
+    made(t, lines)
+    t.same(audited(t), (0, sound(t), ""))
+    alter(t, statement)
+    t.same(audited(t), (1, f"broken: {line}\n", "broken\n"))
+
+
+@each({f"{statement} of {len(lines.splitlines())} lines": (lines, statement) for lines, statement in REACHED})
+def what_some_run_leaves_is_sound(t, lines, statement):
+    made(t, lines)
+    alter(t, statement)
+    t.same(audited(t), (0, sound(t), ""))
 
 
 @test(seconds=5)

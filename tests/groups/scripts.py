@@ -427,7 +427,7 @@ WORDS = {
     "register-pem.sh": ([], ["-c", "counter"], ["a.pem"], ["-o", "1", "a.pem"], ["-n", "1", "a.pem"], ["-c", "counter", "-o", "1", "-n", "1", "a.pem"],
                         ["-o", "one", "-n", "1", "a.pem"], ["-o", "1", "-n", "1", "-s", "acme", "a.pem"], ["-x", "a.pem"]),
     "publish-crl.sh": ([], ["http://127.0.0.1:1/crl", "www"], ["a", "b", "c", "d"]),
-    "backup.sh": ([], ["ca.db"], ["ca.db", "copies", "7"]),
+    "backup.sh": ([], ["ca.db"], ["ca.db", "copies", "counter", "7"]),
 }
 
 
@@ -445,8 +445,8 @@ ENTERED = "2026-01-01T00:00:00Z subscriber acme\n2026-01-01T00:00:00Z order 1 39
 REGISTERED = ENTERED + "2026-01-01T00:00:00Z register 1 05 2026-01-01T00:00:00Z 2026-12-31T00:00:00Z\n2026-01-01T00:00:00Z crl\n"
 
 
-def back_up(t, register="ca.db", folder="copies", **how):
-    return played(t, "backup.sh", register, folder, **how)
+def back_up(t, register="ca.db", folder="copies", *counter, **how):
+    return played(t, "backup.sh", register, folder, *counter, **how)
 
 
 def register_and_copies(t, *older):
@@ -513,9 +513,26 @@ def a_copy_of_an_open_register_comes_from_a_snapshot(t):
     told_at_counter(t, "crl")
     status, out, told = back_up(t, "srv/ca-now/ca.db")
     t.same((status, out.partition(": ")[2], told), (0, "sound, 1 certificates, 1 revoked, 1 CRLs\n", []), "as it was at the snapshot")
-    fails(t, back_up(t, "srv/ca/ca.db"), "srv/ca/ca.db is open in process ")
+    fails(t, back_up(t, "srv/ca/ca.db"), "srv/ca/ca.db is open: name its counter, or close it")
     t.same(told_at_counter(t, "crl"), ["crl 3 entries 1"], "the desk goes on")
     desk.end()
+
+
+@test(seconds=2)
+def a_copy_of_an_open_register_by_its_counter(t):
+    copies = register_and_copies(t)
+    t.clock("2026-01-02T00:00:00Z")
+    t.open("ca.db", "--counter", "counter")
+    told_at_counter(t, "request 05 superseded", "revoke 1")
+    # What a run left that was killed.
+    (t.room / "ca.db.copy.part").write_text("a front")
+    status, out, told = back_up(t, "ca.db", "copies", "counter")
+    t.same((status, out.partition(": ")[2], told), (0, "sound, 1 certificates, 1 revoked, 1 CRLs\n", []))
+    [copy] = copies.iterdir()
+    t.same({it.name: "%o" % (it.stat().st_mode & 0o777) for it in copy.iterdir()}, {"ca.db": "600"})
+    t.same([it.name for it in t.room.iterdir() if ".copy" in it.name], [], "what is left beside the register")
+    t.same(told_at_counter(t, "crl"), ["crl 2 entries 1"], "the desk goes on")
+    t.same(t.done("script", copy / "ca.db", given="2026-01-02T00:00:00Z counts\n"), "good 0 revoked 1 expired 0\n")
 
 
 @test(seconds=2)
@@ -551,12 +568,21 @@ def a_cut_one(t):
     return back_up(t)
 
 
-def written_meanwhile(t):
-    """The register is written between the copies of its two files, as by a program that was just opened."""
-    (t.room / "tools").mkdir()
-    (t.room / "tools/cp").write_text(f'#!/bin/sh\n{shutil.which("cp")} "$@" && echo x >>"{t.room}/ca.db-wal"\n')
-    os.chmod(t.room / "tools/cp", 0o755)
-    return back_up(t, more={"PATH": f"{t.room}/tools:{os.environ['PATH']}"})
+def in_the_way(t):
+    """Where the desk is to lay its copy lies a folder."""
+    t.open("ca.db", "--counter", "counter")
+    (t.room / "ca.db.copy").mkdir()
+    return back_up(t, "ca.db", "copies", "counter")
+
+
+def nobody_there(t):
+    t.open("ca.db", "--counter", "counter")
+    return back_up(t, "ca.db", "copies", "elsewhere")
+
+
+def no_room_beside_it(t):
+    t.open("ca.db", "--counter", "counter", faults={"FAULTS_FAIL": "write:1+", "FAULTS_ONLY": "ca.db.copy.part"})
+    return back_up(t, "ca.db", "copies", "counter")
 
 
 def held(t):
@@ -586,13 +612,15 @@ def an_older_one(t):
 
 
 NO_COPIES = {
-    "a register that is open": (an_open_one, "ca.db is open in process "),
+    "a register that is open": (an_open_one, "ca.db is open: name its counter, or close it"),
+    "something where it lays the copy": (in_the_way, "ca.db.copy can't be removed"),
+    "nobody at the counter": (nobody_there, "ca.db is not copied at elsewhere: "),
+    "no room beside the register": (no_room_beside_it, "ca.db is not copied at counter: F2 store, why disk full"),
     "one with a row that is missing": (a_broken_one, "the copy of ca.db is not kept: desk audit: broken: standing 1"),
     "half of its file": (a_cut_one, "the copy of ca.db is not kept: desk audit: "),
     "one of an older version": (an_older_one, "the copy of ca.db is not kept: desk audit: old-version"),
-    "no program": (without_the_program, "the copy of ca.db is not kept: desk audit: "),
+    "no program": (without_the_program, "ca.db can't be copied into copies: "),
     "no register": (lambda t: back_up(t, "nowhere.db"), "nowhere.db is no file"),
-    "written while it is copied": (written_meanwhile, "ca.db was written while it was copied"),
     "another run": (held, "another run holds copies"),
     "no right": (without_a_right, "nothing can be written in copies"),
 }

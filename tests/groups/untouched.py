@@ -15,6 +15,7 @@ COMMANDS = {
     "serve": (["serve", "ca.db", "--requests", "1", "--port"], ""),
     "open": (["open", "ca.db", "--counter", "counter", "--unsigned", "--port"], ""),
     "audit": (["audit", "ca.db"], ""),
+    "copy": (["copy", "ca.db", "copy.db"], ""),
 }
 # What lies at the path, the line that tells of it, and the cause, where there is one.
 FILES = {

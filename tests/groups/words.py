@@ -71,6 +71,8 @@ UNKNOWN = {
     "list without a file": ("list",),
     "list of two words": ("list", "none.db", "crls", "orders"),
     "json with a value": ("list", "none.db", "crls", "--json=1"),
+    "copy without a path": ("copy", "none.db"),
+    "copy to two paths": ("copy", "none.db", "G", "H"),
     "audit without a file": ("audit",),
     "audit of two files": ("audit", "none.db", "G"),
     "clock with a value": ("script", "none.db", "--clock=1"),
@@ -214,7 +216,7 @@ def a_script_over_memory_is_not_clocked_and_not_strict(t, option):
     t.has(refused(t, "script", option), "--clock and --strict want a FILE")
 
 
-@each({"script": (("script",),), "crl": (("crl",),), "import": (("import", "--now", "2026-01-01T00:00:00Z"),), "audit": (("audit",),)})
+@each({"script": (("script",),), "crl": (("crl",),), "import": (("import", "--now", "2026-01-01T00:00:00Z"),), "copy": (("copy", "none.db"),), "audit": (("audit",),)})
 def a_file_whose_name_is_no_text_is_refused(t, words):
     # The byte FF, which is in no UTF-8.
     t.has(refused(t, *words, "ca\udcff.db"), "no UTF-8")
@@ -235,8 +237,8 @@ def the_version_is_told(t, word):
 
 # What is told of each command.
 HELPED = {
-    "--help": ("init", "script", "import", "crl", "serve", "open", "at", "schedule", "key-id", "list", "audit", "--why", "-V, --version"),
-    "-h": ("init", "script", "import", "crl", "serve", "open", "at", "schedule", "key-id", "list", "audit"),
+    "--help": ("init", "script", "import", "crl", "serve", "open", "at", "schedule", "key-id", "list", "copy", "audit", "--why", "-V, --version"),
+    "-h": ("init", "script", "import", "crl", "serve", "open", "at", "schedule", "key-id", "list", "copy", "audit"),
     "init --help": ("<FILE>", "--name <HEX>", "--key <HEX>", "--key-id <HEX>", "--days <N>", "--crl-life <N>", "--ocsp-life <N>", "--cap <N>", "--why"),
     "init -h": ("<FILE>", "--name <HEX>"),
     "script --help": ("[FILE]", "--signer <SOCKET>", "--algorithm <NAME>", "--clock", "--strict", "--why", "desk script ca.db"),
@@ -248,6 +250,7 @@ HELPED = {
     "schedule F --help": ("<FILE>", "<MOMENT=DAYS>...", "--why"),
     "key-id --help": ("<FILE>", "<HEX>", "--why"),
     "list --help": ("<FILE>", "<LIST>", "--before <MOMENT>", "--now <MOMENT>", "--json", "--why", "desk list ca.db revoked"),
+    "copy --help": ("<FILE>", "<PATH>", "--why", "desk copy ca.db", "desk at ca.counter"),
     "audit --help": ("<FILE>", "--why", "desk audit ca.db"),
     "--why audit --help": ("<FILE>", "--why", "desk audit ca.db"),
 }

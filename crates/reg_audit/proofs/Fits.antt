@@ -1,6 +1,6 @@
 -- Numbered rows found by their numbers, and the rows of CRLs without their bytes.
-use Rattle.std.proofs.Common.{◌≡◌, ℕ, zero, suc, ◌+◌, ◌<◌, ◌≤◌, ◌==◌, true, false, List, [], ◌∷◌, length, map, find, slice_get, Option, None, IsSome, refl, sym, ap, subst, ◌∙◌, arith}
-use Rattle.std.specs.List.{AllByRecursion}
+use Rattle.std.proofs.Common.{◌≡◌, ◌⊎◌, ℕ, zero, suc, ◌+◌, ◌<◌, ◌≤◌, ◌==◌, ◌||◌, true, false, List, [], ◌∷◌, length, map, find, slice_get, Option, None, Bool, IsSome, IsTrue, refl, sym, ap, subst, ◌∙◌, arith}
+use Rattle.std.specs.List.{AllByRecursion, list_any}
 use Rattle.std.proofs.lemmas.Bool.Decides.{nat_tests}
 use Rattle.std.proofs.lemmas.List.{length-map}
 use Rattle.reg_core.specs.Crls.{row_of}
@@ -13,7 +13,7 @@ use Rattle.reg_core.specs.declared.rows.RequestRow.{RequestRow}
 use Rattle.reg_core.specs.declared.rows.RevocationRow.{RevocationRow}
 use Rattle.reg_laws.proofs.Lists.{all_found, all_map, all_weaker, key_found, numbered_above, numbered_below, some_of}
 use Rattle.reg_audit.specs.declared.rows.Rows.{Rows}
-use Rattle.reg_audit.specs.Read.{FitsIn, AreCrls, AreRevocations, AreOf}
+use Rattle.reg_audit.specs.Read.{FitsIn, AreCrls, AreRevocations, AreOf, IsLastSet}
 
 -- ---- numbers
 
@@ -65,6 +65,11 @@ number_of crl = crl.number
 
 abbrev update_of : CrlRow → ℕ
 update_of crl = crl.this_update
+
+-- a test of CRLs that looks at no bytes
+any_row : (test : CrlRow → Bool) (crls : List Crl) → list_any test (map row_of crls) ≡ list_any (λ (crl : Crl). test (row_of crl)) crls
+any_row test [] = refl
+any_row test (crl ∷ crls) = ap (λ later. test (row_of crl) || later) (any_row test crls)
 
 numbered_to : (from : ℕ) (crls : List Crl) → NumberedFrom (λ (crl : Crl). crl.number) from crls → NumberedFrom number_of from (map row_of crls)
 numbered_to from [] numbered = tt
@@ -127,6 +132,19 @@ sound_of last certificates requests crls row fits = record {
 -- ---- the rows that were read and the records
 
 module _ (rows : Rows) (records : Records) (are : AreOf rows records) where
+  -- before anybody is entered, CRLs alone set the last accepted moment: whether one did is told
+  abbrev IsSetWhere : Bool → Type 0
+  IsSetWhere issued = records.subscribers ≡ [] → (records.last ≡ 0) ⊎ IsTrue issued
+
+  issued : list_any (λ (crl : CrlRow). crl.this_update == records.last) (map row_of records.crls) ≡ list_any (λ (crl : Crl). crl.this_update == records.last) records.crls
+  issued = any_row (λ (crl : CrlRow). crl.this_update == records.last) records.crls
+
+  pub last_set_read : SoundRows records → IsLastSet rows
+  last_set_read sound = rw (are.subscribers, are.last, are.crls) (subst IsSetWhere (sym issued) sound.last_set)
+
+  last_set_of : IsLastSet rows → IsSetWhere (list_any (λ (crl : Crl). crl.this_update == records.last) records.crls)
+  last_set_of set = subst IsSetWhere issued (rw (are.subscribers, are.last, are.crls) at set)
+
   pub crls_read : SoundRows records → AreCrls rows.cap rows.last rows.crls.now
   crls_read sound = rw (are.cap, are.last, are.crls) (crls_to records.policy.cap records.last records.crls sound.crls)
 
@@ -141,6 +159,9 @@ module _ (rows : Rows) (records : Records) (are : AreOf rows records) where
       each = rw (are.revocations, are.last, are.requests, are.crls)
           (all_weaker (SoundRevocation records.last records.certificates records.requests records.crls) (λ row. FitsIn records.last (found row.serial) (request_in records.requests row.request) (map row_of records.crls) row)
           (λ row one. subst (λ o. FitsIn records.last o (request_in records.requests row.request) (map row_of records.crls) row) (sym (found_is row.serial)) (fits_of records.last records.certificates records.requests records.crls row one)) records.revocations sound.revocations.each);
+      moments_never_fall = rw are.revocations sound.revocations.moments_never_fall;
+      firsts_never_fall = rw are.revocations sound.revocations.firsts_never_fall;
+      none_after = rw (are.revocations, are.requests) sound.revocations.none_after;
     }
 
     revocations_sound : AreRevocations found rows → SoundRevocations records.last records.certificates records.requests records.crls records.revocations
@@ -151,12 +172,17 @@ module _ (rows : Rows) (records : Records) (are : AreOf rows records) where
           all_weaker (λ row. FitsIn records.last (found row.serial) (request_in records.requests row.request) (map row_of records.crls) row) (SoundRevocation records.last records.certificates records.requests records.crls)
           (λ row one. sound_of records.last records.certificates records.requests records.crls row (subst (λ o. FitsIn records.last o (request_in records.requests row.request) (map row_of records.crls) row) (found_is row.serial) one)) records.revocations
           (rw (are.revocations, are.last, are.requests, are.crls) at read.each);
+      moments_never_fall = rw are.revocations at read.moments_never_fall;
+      firsts_never_fall = rw are.revocations at read.firsts_never_fall;
+      none_after = rw (are.revocations, are.requests) at read.none_after;
     }
 
-    pub rows_sound : rows.last < clock_end → SoundSubscribers rows.cap rows.subscribers.now → SoundOrders rows.cap rows.subscribers.now rows.orders.now → SoundCertificates rows.cap rows.orders.now rows.certificates.now
+    pub rows_sound : rows.last < clock_end → IsLastSet rows → SoundSubscribers rows.cap rows.subscribers.now → SoundOrders rows.cap rows.subscribers.now rows.orders.now → SoundCertificates rows.cap rows.orders.now rows.certificates.now
         → SoundRequests rows.cap rows.last rows.certificates.now rows.requests.now → AreCrls rows.cap rows.last rows.crls.now → AreRevocations found rows → SoundRows records
-    rows_sound last subscribers orders certificates requests crls revocations = record {
+    rows_sound last entered subscribers orders certificates requests crls revocations = record {
+      policy = are.policy;
       before_clock_end = rw are.last at last;
+      last_set = last_set_of entered;
       subscribers = rw (are.cap, are.subscribers) at subscribers;
       orders = rw (are.cap, are.subscribers, are.orders) at orders;
       certificates = rw (are.cap, are.orders, are.certificates) at certificates;

@@ -6,7 +6,7 @@ ghost use Rattle.reg_core.specs.Sound.{NumberedFrom, NeverFalls};
 ghost use Rattle.reg_audit.specs.Stops.{IsBroken};
 
 use crate::stop::{Stop, broken_at};
-use reg_core::{CrlRow, Moment, OrderRow, RequestRow, SubscriberRow};
+use reg_core::{CrlRow, Moment, OrderRow, RequestRow, RevocationRow, SubscriberRow};
 use reg_findings::{Table, Why};
 
 /// A row with an id, or with a CRL number.
@@ -65,17 +65,68 @@ pub(crate) fn in_order<T: Numbered>(table: Table, rows: &[T]) -> Result<(), Stop
     Ok(())
 }
 
-/// thisUpdate does not fall from one CRL to a later one.
-pub(crate) fn updates_never_fall(crls: &[CrlRow]) -> Result<(), Stop>
-    ensures ok { OnOk result (NeverFalls (λ crl. crl.this_update) crls.now) }
-    ensures broken { IfErr result (λ stop. IsBroken stop → ¬ NeverFalls (λ crl. crl.this_update) crls.now) }
+/// A row of a moment: that of its receipt, of the revocation, or thisUpdate (RFC 5280 5.1.2.4).
+pub(crate) trait Dated {
+    ghost use Rattle.std.specs.Prelude.{ℕ, ◌≡◌};
+
+    ghost moment: { Self → ℕ };
+
+    /// The moment.
+    fn moment(&self) -> Moment
+        ensures { result ≡ moment self.now };
+}
+
+impl Dated for RequestRow {
+    ghost moment = { λ row. row.received };
+
+    fn moment(&self) -> Moment {
+        self.received
+    }
+}
+
+impl Dated for RevocationRow {
+    ghost moment = { λ row. row.at };
+
+    fn moment(&self) -> Moment {
+        self.at
+    }
+}
+
+impl Dated for CrlRow {
+    ghost moment = { λ row. row.this_update };
+
+    fn moment(&self) -> Moment {
+        self.this_update
+    }
+}
+
+/// Moments do not fall from one row to a later one.
+pub(crate) fn moments_never_fall<T: Dated>(table: Table, rows: &[T], why: Why) -> Result<(), Stop>
+    ensures ok { OnOk result (NeverFalls T.moment rows.now) }
+    ensures broken { IfErr result (λ stop. IsBroken stop → ¬ NeverFalls T.moment rows.now) }
 {
     let mut latest = Moment::EPOCH;
-    for (place, crl) in crls.iter().enumerate() {
-        if crl.this_update < latest {
-            return Err(broken_at(Table::Crl, place, Why::BeforeThePrevious));
+    for (place, row) in rows.iter().enumerate() {
+        let at = row.moment();
+        if at < latest {
+            return Err(broken_at(table, place, why));
         }
-        latest = crl.this_update;
+        latest = at;
+    }
+    Ok(())
+}
+
+/// The numbers of the first CRLs do not fall from one revocation to a later one.
+pub(crate) fn firsts_never_fall(revocations: &[RevocationRow]) -> Result<(), Stop>
+    ensures ok { OnOk result (NeverFalls (λ row. row.first) revocations.now) }
+    ensures broken { IfErr result (λ stop. IsBroken stop → ¬ NeverFalls (λ row. row.first) revocations.now) }
+{
+    let mut latest = 0;
+    for (place, revocation) in revocations.iter().enumerate() {
+        if revocation.first < latest {
+            return Err(broken_at(Table::Revocation, place, Why::EarlierFirst));
+        }
+        latest = revocation.first;
     }
     Ok(())
 }

@@ -1,6 +1,7 @@
 //! Whether rows are those of a register: sound records, and what follows from them.
 #![tactic(auto)]
 
+mod alone;
 mod beside;
 mod chain;
 mod checking;

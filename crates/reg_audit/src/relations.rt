@@ -4,17 +4,20 @@ ghost use Rattle.std.specs.Prelude.{◌≡◌, ◌+◌, ◌<◌, ◌≤◌, ◌=
 ghost use Rattle.std.specs.BTreeMap.{get};
 ghost use Rattle.std.specs.List.{AllByRecursion};
 ghost use Rattle.std.specs.Ordering.{nat_cmp};
-ghost use Rattle.reg_core.specs.Records.{subscriber_in, order_in, certificate_in, request_in};
-ghost use Rattle.reg_core.specs.Sound.{NumberedFrom};
-ghost use Rattle.reg_audit.specs.Read.{AreAround, FitsIn};
+ghost use Rattle.reg_core.specs.Records.{subscriber_in, order_in, request_in};
+ghost use Rattle.reg_core.specs.Sound.{LeadsTo, NumberedFrom};
+ghost use Rattle.reg_audit.specs.Read.{AreAround, FitsIn, IsAsOrdered, IsBefore, IsInTime};
 ghost use Rattle.reg_audit.specs.Stops.{IsBroken};
 
+use crate::chain::Numbered;
 use crate::stop::{Stop, broken_at};
 use reg_core::{
     CertRow, CrlRow, Moment, OrderRow, RequestRow, RevocationRow, Serial, SubscriberRow,
 };
 use reg_findings::{Table, Why};
 use std::collections::BTreeMap;
+
+const SECONDS_OF_DAY: u64 = 86_400;
 
 /// Whether an id is one of so many, from 1 on.
 fn is_one_of(id: u64, rows: usize) -> bool
@@ -39,44 +42,117 @@ pub(crate) fn subscribers_exist(
     Ok(())
 }
 
-/// Each certificate's order is there.
-pub(crate) fn orders_exist(certificates: &[CertRow], orders: &[OrderRow]) -> Result<(), Stop>
-    ensures ok { NumberedFrom (λ row. row.id) 1 orders.now → OnOk result (AllByRecursion (λ row. IsSome (order_in orders.now row.order)) certificates.now) }
-    ensures broken { NumberedFrom (λ row. row.id) 1 orders.now → IfErr result (λ stop. IsBroken stop → ¬ AllByRecursion (λ row. IsSome (order_in orders.now row.order)) certificates.now) }
+/// The row with a number.
+fn row_with<T: Numbered + Copy>(rows: &[T], number: u64) -> Option<T>
+    ensures { NumberedFrom T.number 1 rows.now → result ≡ find (λ row. T.number row == number) rows.now }
+{
+    let place = number.checked_sub(1)?;
+    match rows.get(place as usize) {
+        Some(row) => Some(*row),
+        None => None,
+    }
+}
+
+/// Why a certificate is not as it was ordered, or none.
+fn unordered(certificate: &CertRow, order: Option<OrderRow>) -> Option<Why>
+    ensures { MatchOption result (IsAsOrdered certificate.now order) (λ _. ¬ IsAsOrdered certificate.now order) }
+{
+    let Some(order) = order else {
+        return Some(Why::NoOrder);
+    };
+    let begins = certificate.not_before.secs();
+    let seconds = certificate.not_after.secs().saturating_sub(begins) + 1;
+    if seconds > order.days.saturating_mul(SECONDS_OF_DAY) {
+        return Some(Why::TooLong);
+    }
+    None
+}
+
+/// Each certificate's order is there, and its validity no longer than ordered.
+pub(crate) fn are_as_ordered(certificates: &[CertRow], orders: &[OrderRow]) -> Result<(), Stop>
+    ensures ok { NumberedFrom (λ row. row.id) 1 orders.now → OnOk result (AllByRecursion (λ row. IsAsOrdered row (order_in orders.now row.order)) certificates.now) }
+    ensures broken { NumberedFrom (λ row. row.id) 1 orders.now → IfErr result (λ stop. IsBroken stop → ¬ AllByRecursion (λ row. IsAsOrdered row (order_in orders.now row.order)) certificates.now) }
 {
     for (place, certificate) in certificates.iter().enumerate() {
-        if !is_one_of(certificate.order, orders.len()) {
-            return Err(broken_at(Table::Cert, place, Why::NoOrder));
+        let order = row_with(orders, certificate.order);
+        if let Some(why) = unordered(certificate, order) {
+            return Err(broken_at(Table::Cert, place, why));
         }
     }
     Ok(())
 }
 
-/// The certificate of each request is there.
-pub(crate) fn certificates_exist(
+/// Why a request is not for a certificate that had not ended, or none.
+fn untimely(request: &RequestRow, certificate: Option<CertRow>) -> Option<Why>
+    ensures { MatchOption result (IsInTime request.now certificate) (λ _. ¬ IsInTime request.now certificate) }
+{
+    let Some(certificate) = certificate else {
+        return Some(Why::NoCertificate);
+    };
+    if request.received > certificate.not_after {
+        return Some(Why::AfterEnd);
+    }
+    None
+}
+
+/// The certificate of each request is there, and had not ended when it was received.
+pub(crate) fn are_in_time(
     requests: &[RequestRow],
     certificates: &BTreeMap<Serial, CertRow>,
 ) -> Result<(), Stop>
-    ensures ok { OnOk result (AllByRecursion (λ row. IsSome (get nat_cmp certificates.now row.serial)) requests.now) }
-    ensures broken { IfErr result (λ stop. IsBroken stop → ¬ AllByRecursion (λ row. IsSome (get nat_cmp certificates.now row.serial)) requests.now) }
+    ensures ok { OnOk result (AllByRecursion (λ row. IsInTime row (get nat_cmp certificates.now row.serial)) requests.now) }
+    ensures broken { IfErr result (λ stop. IsBroken stop → ¬ AllByRecursion (λ row. IsInTime row (get nat_cmp certificates.now row.serial)) requests.now) }
 {
     for (place, request) in requests.iter().enumerate() {
-        if !certificates.contains_key(&request.serial) {
-            return Err(broken_at(Table::Request, place, Why::NoCertificate));
+        let certificate = certificates.get(&request.serial).copied();
+        if let Some(why) = untimely(request, certificate) {
+            return Err(broken_at(Table::Request, place, why));
         }
     }
     Ok(())
 }
 
-/// The request with an id.
-fn request_with(requests: &[RequestRow], id: u64) -> Option<RequestRow>
-    ensures { NumberedFrom (λ row. row.id) 1 requests.now → result ≡ request_in requests.now id }
+/// Whether a request was not received after a revocation, where there is one.
+fn is_before(request: &RequestRow, revocation: Option<RevocationRow>) -> bool
+    ensures { IsTrue result ↔ IsBefore request.now revocation }
 {
-    let place = id.checked_sub(1)?;
-    match requests.get(place as usize) {
-        Some(request) => Some(*request),
-        None => None,
+    match revocation {
+        Some(revocation) => request.received <= revocation.at,
+        None => true,
     }
+}
+
+/// No request was received after the revocation of its serial number.
+pub(crate) fn none_after(
+    requests: &[RequestRow],
+    revocations: &BTreeMap<Serial, RevocationRow>,
+) -> Result<(), Stop>
+    ensures ok { OnOk result (AllByRecursion (λ row. IsBefore row (get nat_cmp revocations.now row.serial)) requests.now) }
+    ensures broken { IfErr result (λ stop. IsBroken stop → ¬ AllByRecursion (λ row. IsBefore row (get nat_cmp revocations.now row.serial)) requests.now) }
+{
+    for (place, request) in requests.iter().enumerate() {
+        let revocation = revocations.get(&request.serial).copied();
+        if !is_before(request, revocation) {
+            return Err(broken_at(Table::Request, place, Why::AfterRevocation));
+        }
+    }
+    Ok(())
+}
+
+/// Why a request did not lead to a revocation, or none.
+fn not_led(request: &RequestRow, revocation: &RevocationRow) -> Option<Why>
+    ensures { MatchOption result (LeadsTo revocation.now request.now) (λ _. ¬ LeadsTo revocation.now request.now) }
+{
+    if request.serial != revocation.serial {
+        return Some(Why::NoRequest);
+    }
+    if request.declined {
+        return Some(Why::ByDeclined);
+    }
+    if revocation.reason != request.ground.reason() {
+        return Some(Why::OtherReason);
+    }
+    None
 }
 
 /// Whether a CRL stands right to a number: below it not after a moment, and from it on not before the moment.
@@ -118,8 +194,8 @@ fn misfit(
     let Some(request) = request else {
         return Some(Why::NoRequest);
     };
-    if request.serial != revocation.serial {
-        return Some(Why::NoRequest);
+    if let Some(why) = not_led(&request, revocation) {
+        return Some(why);
     }
     if revocation.at > certificate.not_after {
         return Some(Why::AfterEnd);
@@ -152,7 +228,7 @@ pub(crate) fn revocations_fit(
 {
     for (place, revocation) in revocations.iter().enumerate() {
         let certificate = certificates.get(&revocation.serial).copied();
-        let request = request_with(requests, revocation.request);
+        let request = row_with(requests, revocation.request);
         if let Some(why) = misfit(revocation, certificate, request, crls, last) {
             return Err(broken_at(Table::Revocation, place, why));
         }

@@ -2,19 +2,25 @@
 
 ghost use Rattle.std.specs.Prelude.{◌≡◌, ◌<◌, ◌≤◌, ◌==◌, ℕ, List, find, length, OnOk, IfOk, IfErr};
 ghost use Rattle.std.specs.BTreeMap.{get};
+ghost use Rattle.std.specs.List.{list_any};
 ghost use Rattle.std.specs.Ordering.{nat_cmp};
 ghost use Rattle.reg_core.specs.Calendar.{clock_end};
 ghost use Rattle.reg_core.specs.Records.{Records};
 ghost use Rattle.reg_core.specs.Sound.{SoundRows, SoundSubscribers, SoundOrders, SoundCertificates, SoundRequests, NumberedFrom};
-ghost use Rattle.reg_audit.specs.Read.{AreOf, AreCrls, AreRevocations, IsIndexOf};
+ghost use Rattle.reg_audit.specs.Read.{AreOf, AreCrls, AreRevocations, IsLastSet, IsIndexOf};
 ghost use Rattle.reg_audit.specs.Stops.{IsBroken};
 
-use crate::chain::{in_order, received_by_last, updates_by_last, updates_never_fall};
+use crate::alone::{days_are_allowed, names_are_good, run_forward};
+use crate::chain::{
+    firsts_never_fall, in_order, moments_never_fall, received_by_last, updates_by_last,
+};
 use crate::index::{
     certificates_by_order, certificates_by_serial, names_differ, revocations_by_request,
     revocations_by_serial,
 };
-use crate::relations::{certificates_exist, orders_exist, revocations_fit, subscribers_exist};
+use crate::relations::{
+    are_as_ordered, are_in_time, none_after, revocations_fit, subscribers_exist,
+};
 use crate::stop::{Stop, broken_at, within_cap};
 use reg_core::{
     CertRow, CrlRow, Moment, OrderRow, RequestRow, RevocationRow, Serial, SubscriberRow,
@@ -38,27 +44,30 @@ pub struct Rows<'a> {
     pub crls: &'a [CrlRow],
 }
 
-/// Ids are 1, 2, 3 and so on, names differ, and no more than the cap.
+/// Ids are 1, 2, 3 and so on, names are good and differ, and no more than the cap.
 fn check_subscribers(alloc: Global, rows: &[SubscriberRow], cap: u64) -> Result<(), Stop>
     ensures ok { OnOk result (SoundSubscribers cap rows.now) }
     ensures broken { IfErr result (λ stop. IsBroken stop → ¬ SoundSubscribers cap rows.now) }
 {
     within_cap(Table::Subscriber, rows.len(), cap)?;
     in_order(Table::Subscriber, rows)?;
+    names_are_good(rows)?;
     names_differ(alloc, rows)
 }
 
-/// Ids are 1, 2, 3 and so on, each subscriber is there, and no more than the cap.
+/// Ids are 1, 2, 3 and so on, each subscriber is there, days are some that a schedule can allow, and no more than the cap.
 fn check_orders(subscribers: &[SubscriberRow], rows: &[OrderRow], cap: u64) -> Result<(), Stop>
     ensures ok { NumberedFrom (λ row. row.id) 1 subscribers.now → OnOk result (SoundOrders cap subscribers.now rows.now) }
     ensures broken { NumberedFrom (λ row. row.id) 1 subscribers.now → IfErr result (λ stop. IsBroken stop → ¬ SoundOrders cap subscribers.now rows.now) }
 {
     within_cap(Table::Orders, rows.len(), cap)?;
     in_order(Table::Orders, rows)?;
-    subscribers_exist(rows, subscribers)
+    subscribers_exist(rows, subscribers)?;
+    days_are_allowed(rows)
 }
 
-/// Serial numbers differ (RFC 5280 4.1.2.2), each fills an order of its own, and no more than the cap.
+/// Serial numbers differ (RFC 5280 4.1.2.2), each fills an order of its own, validities run forward and are no longer than
+/// ordered, and no more than the cap.
 fn check_certificates(
     alloc: Global,
     orders: &[OrderRow],
@@ -70,13 +79,14 @@ fn check_certificates(
     ensures broken { NumberedFrom (λ row. row.id) 1 orders.now → IfErr result (λ stop. IsBroken stop → ¬ SoundCertificates cap orders.now rows.now) }
 {
     within_cap(Table::Cert, rows.len(), cap)?;
-    orders_exist(rows, orders)?;
+    run_forward(rows)?;
+    are_as_ordered(rows, orders)?;
     certificates_by_order(alloc, rows)?;
     certificates_by_serial(alloc, rows)
 }
 
-/// Ids are 1, 2, 3 and so on, each certificate is there, none was received after the last accepted moment, and no more
-/// than the cap.
+/// Ids are 1, 2, 3 and so on, each certificate is there and had not ended, receipts do not fall, none is after the last
+/// accepted moment, and no more than the cap.
 fn check_requests(
     certificates: &BTreeMap<Serial, CertRow>,
     rows: &[RequestRow],
@@ -89,7 +99,8 @@ fn check_requests(
     within_cap(Table::Request, rows.len(), cap)?;
     in_order(Table::Request, rows)?;
     received_by_last(rows, last)?;
-    certificates_exist(rows, certificates)
+    moments_never_fall(Table::Request, rows, Why::Earlier)?;
+    are_in_time(rows, certificates)
 }
 
 /// Numbers are 1, 2, 3 and so on (RFC 5280 5.2.3), thisUpdates do not fall, none is after the last accepted moment, and
@@ -100,12 +111,12 @@ fn check_crls(rows: &[CrlRow], last: Moment, cap: u64) -> Result<(), Stop>
 {
     within_cap(Table::Crl, rows.len(), cap)?;
     in_order(Table::Crl, rows)?;
-    updates_never_fall(rows)?;
+    moments_never_fall(Table::Crl, rows, Why::BeforeThePrevious)?;
     updates_by_last(rows, last)
 }
 
 /// One revocation of a serial number, and one of a request, and each holds together with its certificate, its request
-/// and the CRLs.
+/// and the CRLs; neither moments nor first CRL numbers fall, and no request was received after the revocation.
 fn check_revocations(
     alloc: Global,
     certificates: &BTreeMap<Serial, CertRow>,
@@ -122,8 +133,12 @@ fn check_revocations(
         rows.crls,
         rows.last,
     )?;
+    moments_never_fall(Table::Revocation, rows.revocations, Why::Earlier)?;
+    firsts_never_fall(rows.revocations)?;
     revocations_by_request(alloc, rows.revocations)?;
-    revocations_by_serial(alloc, rows.revocations)
+    let revocations = revocations_by_serial(alloc, rows.revocations)?;
+    none_after(rows.requests, &revocations)?;
+    Ok(revocations)
 }
 
 /// The clock lets the last accepted moment pass.
@@ -135,6 +150,26 @@ fn check_last(last: Moment) -> Result<(), Stop>
         Ok(())
     } else {
         Err(broken_at(Table::Office, 0, Why::PastClockEnd))
+    }
+}
+
+/// Whether a CRL has this thisUpdate.
+fn is_issued_at(crls: &[CrlRow], moment: Moment) -> bool
+    ensures { result ≡ list_any (λ crl. crl.this_update == moment) crls.now }
+{
+    crls.iter().any(|crl| crl.this_update == moment)
+}
+
+/// Before anybody is entered, CRLs alone set the last accepted moment.
+fn check_last_set(rows: &Rows<'_>) -> Result<(), Stop>
+    ensures ok { OnOk result (IsLastSet rows.now) }
+    ensures broken { IfErr result (λ stop. IsBroken stop → ¬ IsLastSet rows.now) }
+{
+    let is_begun = !rows.subscribers.is_empty() || rows.last == Moment::EPOCH;
+    if is_begun || is_issued_at(rows.crls, rows.last) {
+        Ok(())
+    } else {
+        Err(broken_at(Table::Office, 0, Why::NeverAccepted))
     }
 }
 
@@ -155,6 +190,7 @@ pub(crate) fn check_rows(alloc: Global, rows: &Rows<'_>) -> Result<Found, Stop>
     ensures broken { (records : Records) → AreOf rows.now records → IfErr result (λ stop. IsBroken stop → ¬ SoundRows records) }
 {
     check_last(rows.last)?;
+    check_last_set(rows)?;
     check_subscribers(alloc, rows.subscribers, rows.cap)?;
     check_orders(rows.subscribers, rows.orders, rows.cap)?;
     let certificates = check_certificates(alloc, rows.orders, rows.certificates, rows.cap)?;

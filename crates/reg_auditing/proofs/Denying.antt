@@ -1,5 +1,5 @@
 -- What is denied where an audit tells a row.
-use Rattle.std.proofs.Common.{◌≡◌, ◌≢◌, ◌<◌, ◌≤◌, ℕ, ◌==◌, Bool, true, false, List, [], ◌∷◌, map, filter, length, Option, Some, None, option_map, refl, sym, subst, arith, inl, inr}
+use Rattle.std.proofs.Common.{◌≡◌, ◌≢◌, ◌<◌, ◌≤◌, ℕ, ◌==◌, Bool, true, false, List, [], ◌∷◌, map, filter, length, Option, Some, refl, sym, subst, arith, inl, inr}
 use Rattle.std.specs.Prelude.{IsSomeAnd}
 use Rattle.std.specs.List.{AllByRecursion}
 use Rattle.std.specs.List.Sorted.{IsPermutation}
@@ -25,7 +25,7 @@ use Rattle.reg_audit.specs.declared.beside.Listed.{Listed}
 use Rattle.reg_auditing.proofs.Signed.{numbers_differ}
 use Rattle.reg_auditing.specs.Stops.{IsBroken, IsBrokenRow, IsDenied}
 use Rattle.reg_auditing.specs.Stored.{CanList, IsSomeCrl, IsStored}
-use Rattle.reg_auditing.specs.Values.{HasValues}
+use Rattle.reg_auditing.specs.Values.{HasAllowedDays, HasValues}
 use Rattle.reg_auditing.specs.declared.stop.AuditStop.{AuditStop}
 use Rattle.reg_auditing.specs.declared.stop.AuditStop.TheVariants.{Memory, Store, Broken}
 
@@ -117,15 +117,6 @@ pub all_stored : (records : Records) → NumberedFrom (λ crl. crl.number) 1 rec
 all_stored records numbered signed =
     each_stored records records.crls (each_found (λ (crl : Crl). crl.number) records.crls (numbers_differ (λ (crl : Crl). crl.number) 1 records.crls numbered)) signed
 
--- the bytes that were read are those of the CRL with the number
-pub bytes_stored : (records : Records) (row : CrlRow) (read : Option (List ℕ)) → read ≡ option_map (λ (crl : Crl). crl.bytes) (crl_in records.crls row.number) → IsStored records row → IsSomeAnd read (IsSomeCrl (cert_list records row.number row.this_update))
-bytes_stored records row read is stored =
-    subst (λ (o : Option (List ℕ)). IsSomeAnd o (IsSomeCrl (cert_list records row.number row.this_update))) (sym is) (go (crl_in records.crls row.number) stored)
-  where
-    go : (found : Option Crl) → IsSomeAnd found (λ crl. IsSomeCrl (cert_list records row.number row.this_update) crl.bytes) → IsSomeAnd (option_map (λ (crl : Crl). crl.bytes) found) (IsSomeCrl (cert_list records row.number row.this_update))
-    go None holds = holds
-    go (Some crl) holds = holds
-
 -- each thisUpdate is one that the clock lets pass
 pub updates_before : (records : Records) → SoundRows records → AllByRecursion (λ (crl : CrlRow). crl.this_update < clock_end) (map row_of records.crls)
 updates_before records sound =
@@ -140,8 +131,8 @@ module _ (records : Records) (columns : Columns) where
   rows_denied Memory never = tt
   rows_denied Store never = tt
   rows_denied (Broken row) never = record {
-    whole = λ values sound kept. never tt (values, sound.rows, kept);
-    rows = λ other values sound kept. never tt (values, sound, kept);
+    whole = λ values sound kept days. never tt (values, sound.rows, kept);
+    rows = λ other values sound kept days. never tt (values, sound, kept);
   }
 
   -- where the bytes of a CRL are others
@@ -150,6 +141,15 @@ module _ (records : Records) (columns : Columns) where
   bytes_denied Memory never others = tt
   bytes_denied Store never others = tt
   bytes_denied (Broken row) never others = record {
-    whole = λ values sound kept. others values sound.rows kept tt sound.signatures;
-    rows = λ other values sound kept. never values sound kept other;
+    whole = λ values sound kept days. others values sound.rows kept tt sound.signatures;
+    rows = λ other values sound kept days. never values sound kept other;
+  }
+
+  -- where the office was made with other days
+  pub days_denied : (stop : AuditStop) → (IsBroken stop → ¬ HasAllowedDays columns) → IsDenied stop records columns
+  days_denied Memory never = tt
+  days_denied Store never = tt
+  days_denied (Broken row) never = record {
+    whole = λ values sound kept days. never tt days;
+    rows = λ other values sound kept days. never tt days;
   }

@@ -15,9 +15,6 @@ use Rattle.reg_core.specs.declared.rows.RevocationRow.{RevocationRow}
 use Rattle.reg_tables.specs.Columns.{Columns, Standing, Listed}
 use Rattle.reg_tables.specs.Kept.{Kept, standing_of, listed_of, not_after_of}
 use Rattle.reg_audit.specs.Stops as found
-use Rattle.reg_audit.specs.declared.stop.Stop.{Stop}
-use Rattle.reg_audit.specs.declared.stop.Stop.TheVariants.{Memory, Broken}
-use Rattle.reg_auditing.specs.Stops.{IsBroken, told}
 use Rattle.reg_auditing.specs.Values.{IsValidity, AreMomentAndReason, HasValues, AreReadable}
 
 -- LISTS
@@ -55,11 +52,6 @@ shown_at P view (x ∷ xs) all rows i row are below is none =
     let size : length rows ≡ length (x ∷ xs) = rw length-map at mapped in
     let within : i < length (x ∷ xs) = omega (arith, size, below) in
     none (get_or (x ∷ xs) i x) (All-from_recursion P (x ∷ xs) all i x within) (is ∙ ap (λ l. get_or l i row) are ∙ get_or-map view (x ∷ xs) i x row within)
-
--- what a check tells as broken, it found broken
-pub found_broken : (stop : Stop) → IsBroken (told stop) → found.IsBroken stop
-found_broken Memory broken = broken
-found_broken (Broken row) broken = tt
 
 -- RECORDS
 

@@ -10,7 +10,7 @@ use Rattle.sqlite_schema.specs.declared.schema.Schema.{Schema}
 use Rattle.sqlite_schema.specs.declared.schema.Table.{Table}
 use Rattle.sqlite_catalog.specs.Listing.{IsSound}
 use Rattle.sqlite.specs.Effect.{Database}
-use Rattle.reg_tables.specs.Schema.{register_schema, office, subscriber, orders, cert, request, revocation, crl, standing, kept, listed, longest}
+use Rattle.reg_tables.specs.Schema.{register_schema, office, subscriber, orders, cert, request, revocation, crl, standing, kept, longest}
 use Rattle.reg_auditing.specs.Complete.{AreTables}
 use Rattle.reg_auditing.proofs.Cells.{and_left}
 
@@ -74,10 +74,6 @@ module _ (db : Database) (are : AreTables db) where
   pub counts_fit : AllByRecursion (Fits (Some 0) kept.columns) (db.trees 14)
   unfolding register_schema
   counts_fit = fit.1.1.1.1.1.1.1.1.0
-
-  pub listings_fit : AllByRecursion (Fits None listed.columns) (db.trees 15)
-  unfolding register_schema
-  listings_fit = fit.1.1.1.1.1.1.1.1.1.0
 
   pub steps_fit : AllByRecursion (Fits (Some 0) longest.columns) (db.trees 17)
   unfolding register_schema

@@ -1,7 +1,8 @@
 -- The one row of the office and of the counts, and the rows of the schedule, from what was read of them.
-use Rattle.std.proofs.Common.{◌≡◌, ◌&&◌, ℕ, ℤ, Bool, drop, false, not, Some, List, [], ◌∷◌, map, codes, length, get_or, refl, sym, ap, subst, ◌∙◌, arith}
+use Rattle.std.proofs.Common.{◌≡◌, ◌≤◌, ◌&&◌, ℕ, ℤ, pos, Bool, drop, false, not, Some, List, [], ◌∷◌, map, codes, length, get_or, refl, sym, ap, subst, ◌∙◌, arith}
 use Rattle.std.specs.List.{AllByRecursion, AllZip}
 use Rattle.sqlite_value.specs.Order.{Row, column}
+use Rattle.sqlite_value.specs.declared.value.Value.TheVariants.{Int}
 use Rattle.sqlite_trees.specs.Objects.{number_in}
 use Rattle.sqlite_schema.specs.Rules.{are_present}
 use Rattle.sqlite_schema.specs.declared.schema.Column.{Column}
@@ -13,22 +14,25 @@ use Rattle.sqlite.specs.Effect.{Database}
 use Rattle.sqlite.specs.Listing.{understood}
 use Rattle.reg_core.specs.Issuer.{Issuer}
 use Rattle.reg_core.specs.Policy.{Terms, IsPolicy}
+use Rattle.reg_core.specs.Records.{Records}
+use Rattle.reg_core.specs.Schedule.{IsDays}
 use Rattle.reg_core.specs.declared.command.Counts.{Counts}
-use Rattle.reg_tables.specs.Columns.{stored_counts}
+use Rattle.reg_tables.specs.Columns.{Columns, office_days, stored_counts}
 use Rattle.reg_tables.specs.Reading.{command_of, shown_step}
-use Rattle.reg_tables.specs.Rows.{number, stored_office, stored_step}
+use Rattle.reg_tables.specs.Rows.{number, version, stored_office, stored_step}
 use Rattle.reg_tables.specs.Schema.{register_schema, key_column, required, office, kept, longest}
 use Rattle.reg_tables.proofs.Queries.{selects, as_command, no_limit}
 use Rattle.reg_auditing.specs.Cells.{HasCells, Stands}
 use Rattle.reg_auditing.specs.Complete.{AreTables, AreOffice, AreCounts, IsTermsOf}
-use Rattle.reg_auditing.specs.Said.{IsReadFrom}
+use Rattle.reg_auditing.specs.Said.{IsReadFrom, IsReadOf}
 use Rattle.reg_auditing.specs.Shown.{shown_counts}
+use Rattle.reg_auditing.specs.Values.{HasAllowedDays}
 use Rattle.reg_auditing.specs.declared.complete.Terms.{Terms as Found}
 use Rattle.reg_auditing.specs.declared.texts.What.TheVariants.{Counts as OfCounts, CountsRowid, Terms as OfTerms, Steps}
 use Rattle.reg_auditing.specs.declared.texts.TheConstants.{COUNTS, COUNTS_ROWID, TERMS, STEPS}
 use Rattle.reg_auditing.proofs.Cells.{and_left, and_right, not_false, is_row, key_null, blob_is, integer_is, cell_typed, some_below}
 use Rattle.reg_auditing.proofs.Obeyed.{Fits, office_fits, counts_fit, steps_fit}
-use Rattle.reg_auditing.proofs.Showing.{counts_columns, counts_names, counts_mean, only_is}
+use Rattle.reg_auditing.proofs.Showing.{counts_columns, counts_names, counts_mean, keyed_are, only_is}
 use Rattle.reg_auditing.proofs.TreeOrder.{by_rowid, seen, HasNumber, reads_tree, numbers_of}
 
 -- the one row that a text shows is of the one row that it reads
@@ -49,14 +53,39 @@ has_number row n is = is ∙ ap number (sym (ap number_in is))
 -- ---- the office
 
 abbrev terms_columns : List Term
-terms_columns = col 1 0 ∷ col 1 2 ∷ col 1 6 ∷ col 1 7 ∷ col 1 8 ∷ col 1 9 ∷ []
+terms_columns = col 1 0 ∷ col 1 2 ∷ col 1 6 ∷ col 1 7 ∷ col 1 8 ∷ col 1 9 ∷ col 1 5 ∷ []
 
 abbrev terms_names : List (List ℕ)
-terms_names = codes "one" ∷ codes "version" ∷ codes "crl_life" ∷ codes "ocsp_life" ∷ codes "cap" ∷ codes "last_at" ∷ []
+terms_names = codes "one" ∷ codes "version" ∷ codes "crl_life" ∷ codes "ocsp_life" ∷ codes "cap" ∷ codes "last_at" ∷ codes "days" ∷ []
 
 terms_mean : command_of (understood register_schema TERMS.now) ≡ as_command (selects 0 [] terms_columns by_rowid no_limit) terms_names
 unfolding understood everything register_schema
 terms_mean = refl
+
+-- the one row that was read has the days of what the tables show
+pub days_read : (records : Records) (columns : Columns) (rows : List Row) → IsReadOf records columns OfTerms rows → (row : Row) × (rows ≡ row ∷ []) × (column row 6 ≡ Int columns.days)
+days_read records columns rows is =
+    let shown = is.both.shown.rows in
+    let policy = records.policy in
+    let row : Row = number 1 ∷ number version ∷ number policy.crl_life ∷ number policy.ocsp_life ∷ number policy.cap ∷ number records.last ∷ Int shown.days ∷ [] in
+    let only : rows ≡ row ∷ [] =
+    keyed_are (λ (one : Unit {0}). 1) (λ (one : Unit {0}). stored_office shown.days records.issuer policy records.last) (λ (one : Unit {0}). row) (tt ∷ []) (refl, tt) 0 terms_columns TERMS.now terms_names terms_mean is.db refl rows is.reads
+    shown.office (λ one. refl) in
+    (row, only, sym (ap office_days shown.office) ∙ is.both.kept.days)
+
+-- so has the row that stands first
+pub days_at : (records : Records) (columns : Columns) (rows : List Row) (row : Row) → IsReadOf records columns OfTerms rows → 1 ≤ length rows → row ≡ get_or rows 0 row → column row 6 ≡ Int columns.days
+days_at records columns rows row is some first =
+    let read = days_read records columns rows is in
+    let same : row ≡ read.0 = first ∙ ap (λ (l : List Row). get_or l 0 row) read.1 in
+    ap (λ (r : Row). column r 6) same ∙ read.2
+
+-- days in that row that a schedule can allow are the office's
+pub allowed_days : (columns : Columns) (row : Row) → column row 6 ≡ Int columns.days → (days : ℕ) × (column row 6 ≡ number days) × IsDays days → HasAllowedDays columns
+allowed_days columns row at days = (days.0, int_same columns.days (pos days.0) (sym at ∙ days.1), days.2)
+  where
+    int_same : (left right : ℤ) → Int left ≡ Int right → left ≡ right
+    int_same left right same = cc
 
 -- ---- the schedule
 
@@ -98,7 +127,7 @@ steps_hold db are rows reads steps all =
 
 -- ---- both
 
--- the issuer is whatever the row has, and so are the days that nothing reads
+-- the issuer is whatever the row has, and so are the days, which are looked at apart
 record IsOffice (row : Row) (policy : Terms) (last : ℕ) : Type 0 where
   pub days : ℤ
   pub issuer : Issuer

@@ -11,7 +11,7 @@ use Rattle.reg_tables.specs.Kept.{Kept}
 use Rattle.reg_tables.specs.declared.fault.CallFault.{CallFault}
 use Rattle.reg_tables.specs.declared.fault.CallFault.TheVariants as fault
 use Rattle.reg_auditing.specs.Stored.{IsSomeCrl}
-use Rattle.reg_auditing.specs.Values.{HasValues}
+use Rattle.reg_auditing.specs.Values.{HasAllowedDays, HasValues}
 use Rattle.reg_auditing.specs.declared.stop.AuditStop.{AuditStop}
 use Rattle.reg_auditing.specs.declared.stop.AuditStop.TheVariants.{Memory, Store, Broken}
 
@@ -38,11 +38,11 @@ IsBrokenRow Store = ⊥
 IsBrokenRow (Broken broken) = broken.why ≢ OtherBytes
 
 -- What a row that is told denies of records that tables show, and of what is kept beside them: that the records have a register's
--- values and are sound with each CRL's bytes those of what it lists, and that what is kept follows from them. Of a row that is
--- not told for its bytes also whatever the bytes of CRLs are.
+-- values and are sound with each CRL's bytes those of what it lists, that what is kept follows from them, and that the office was
+-- made with days that a schedule can allow. Of a row that is not told for its bytes also whatever the bytes of CRLs are.
 pub record Denies (row : Row) (records : Records) (columns : Columns) : Type 0 where
-  pub whole : HasValues records → Sound IsSomeCrl records → Kept columns records → ⊥
-  pub rows : row.why ≢ OtherBytes → HasValues records → SoundRows records → Kept columns records → ⊥
+  pub whole : HasValues records → Sound IsSomeCrl records → Kept columns records → HasAllowedDays columns → ⊥
+  pub rows : row.why ≢ OtherBytes → HasValues records → SoundRows records → Kept columns records → HasAllowedDays columns → ⊥
 
 -- an audit that ends so denies it by the row that it tells
 abbrev pub IsDenied : AuditStop → Records → Columns → Type 0

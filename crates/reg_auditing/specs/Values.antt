@@ -1,11 +1,16 @@
 -- Which values a register's records have: tables could show others.
-use Rattle.std.specs.Prelude.{ℕ, ◌<◌}
+use Rattle.std.specs.Prelude.{◌≡◌, ℕ, pos, ◌<◌}
 use Rattle.std.specs.List.{AllByRecursion}
 use Rattle.reg_core.specs.Calendar.{IsMoment, clock_end}
 use Rattle.reg_core.specs.Label.{IsLabel}
 use Rattle.reg_core.specs.Records.{Records}
+use Rattle.reg_core.specs.Schedule.{IsDays}
 use Rattle.reg_tables.specs.Columns.{Columns}
 pub use Rattle.reg_tables.specs.Values.{IsValidity, AreMomentAndReason, HasValues}
+
+-- the days that the office was made with are some that a schedule can allow
+abbrev pub HasAllowedDays : Columns → Type 0
+HasAllowedDays columns = (days : ℕ) × (columns.days ≡ pos days) × IsDays days
 
 -- each value is one that a register's records, or what is kept beside them, can have; this follows where the records have such
 -- values and are sound, and what is kept follows from them

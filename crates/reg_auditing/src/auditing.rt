@@ -14,8 +14,10 @@ ghost use Rattle.reg_auditing.specs.Complete.{AreTables, ShowsSound};
 ghost use Rattle.reg_auditing.specs.Numbers.{AreNumbersOf};
 ghost use Rattle.reg_auditing.specs.Stored.{IsSomeCrl};
 ghost use Rattle.reg_auditing.specs.Stops.{IsDenied};
+ghost use Rattle.reg_auditing.specs.Values.{HasAllowedDays};
 
 use crate::complete::{BESIDE, check_complete};
+use crate::days::check_days;
 use crate::judging::judge;
 use crate::reading::read_each;
 use crate::stop::AuditStop;
@@ -47,11 +49,11 @@ const WHOLE: [What; 10] = [
 ///
 /// Each value in a row is read as the number, moment, serial number, label or letter that it is, or as none where the
 /// register's type has no such value. Whatever records the tables show, where all is found well these are sound, each CRL's
-/// bytes are those of what it lists, and what is kept beside the records follows from them, and so many are told as there are
-/// (`AreNumbersOf`); where a row is told as broken, the
-/// records are not sound, or what is kept does not follow, or they have a value that no register's records have
-/// (`HasValues`), or, where it is told for its bytes, some CRL's bytes are others than those of what it lists (`Denies`). It
-/// changes nothing of the tables of a register, and commits nothing. The watch is told how far it is.
+/// bytes are those of what it lists, what is kept beside the records follows from them, the days that the office was made with
+/// are some that a schedule can allow (`HasAllowedDays`), and so many are told as there are (`AreNumbersOf`); where a row is told
+/// as broken, the records are not sound, or what is kept does not follow, or the office's days are others, or they have a value
+/// that no register's records have (`HasValues`), or, where it is told for its bytes, some CRL's bytes are others than those of
+/// what it lists (`Denies`). It changes nothing of the tables of a register, and commits nothing. The watch is told how far it is.
 ///
 /// In the end the rowids are read, the whole office and the schedule: where all is found well over tables that obey a register's
 /// schema (`AreTables`), there are records that they show, sound and with what is kept beside them (`ShowsSound`).
@@ -67,7 +69,7 @@ pub fn audit<S: Alter, W: Watch>(
     watch: &mut W,
 ) -> Result<Audited, AuditStop>
     ensures sound { (records : Records) → (columns : Columns) → ShowsBoth S.Store conn.old records columns → HasCleanDisk (state S.Store conn.new)
-        → IfOk result (λ _. Sound IsSomeCrl records × Kept columns records) }
+        → IfOk result (λ _. Sound IsSomeCrl records × Kept columns records × HasAllowedDays columns) }
     ensures shown { (db : Database) → Holds S.Store conn.old (λ now. now ≡ db) → AreTables db → HasCleanDisk (state S.Store conn.new) → IfOk result (λ _. ShowsSound db) }
     ensures counted { (records : Records) → (columns : Columns) → ShowsBoth S.Store conn.old records columns → HasCleanDisk (state S.Store conn.new)
         → IfOk result (AreNumbersOf records) }
@@ -80,5 +82,6 @@ pub fn audit<S: Alter, W: Watch>(
     check_crls(alloc, conn, &all, watch)?;
     let more = read_each(alloc, conn, &BESIDE, &mut Unwatched)?;
     check_complete(alloc, &all, &more)?;
+    check_days(&more)?;
     Ok(audited)
 }

@@ -3,6 +3,7 @@
 
 mod auditing;
 mod complete;
+mod days;
 mod judging;
 mod reading;
 mod stop;

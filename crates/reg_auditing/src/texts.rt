@@ -52,9 +52,10 @@ pub(crate) const COUNTS_ROWID: &str = "SELECT one FROM kept ORDER BY one";
 /// The rowids of what CRLs list.
 pub(crate) const LISTING_ROWIDS: &str = "SELECT rowid FROM listed ORDER BY rowid";
 
-/// The office's rowid, its version, its policy but for the schedule, and the last accepted moment.
+/// The office's rowid, its version, its policy but for the schedule, the last accepted moment, and the days that it was made
+/// with.
 pub(crate) const TERMS: &str =
-    "SELECT one, version, crl_life, ocsp_life, cap, last_at FROM office ORDER BY one";
+    "SELECT one, version, crl_life, ocsp_life, cap, last_at, days FROM office ORDER BY one";
 
 /// The schedule.
 pub(crate) const STEPS: &str = "SELECT from_at, days FROM longest ORDER BY from_at";

@@ -21,6 +21,8 @@ pub enum Cause {
     Damaged,
     /// There is no room left.
     DiskFull,
+    /// Something lies there already.
+    Taken,
     /// Another program listens at the port.
     PortInUse,
     /// The machine's clock can't be read.
@@ -55,6 +57,7 @@ impl Cause {
             Cause::InUse => words(b"  in use by another program"),
             Cause::Damaged => words(b"  damaged"),
             Cause::DiskFull => words(b"  disk full"),
+            Cause::Taken => words(b"  something lies there already"),
             Cause::PortInUse => words(b"  port in use"),
             Cause::Clock => words(b"  clock"),
             Cause::OtherAlgorithm => words(b"  latest CRL under another algorithm"),
@@ -92,6 +95,18 @@ pub fn of_io(kind: ErrorKind) -> Option<Cause>
         ErrorKind::AddrInUse => Some(Cause::InUse),
         ErrorKind::StorageFull | ErrorKind::QuotaExceeded => Some(Cause::DiskFull),
         _ => None,
+    }
+}
+
+/// The cause that an error tells where a new file is laid.
+pub fn of_laying(kind: ErrorKind) -> Option<Cause>
+    ensures taken { kind ≡ ErrorKind.AlreadyExists → result ≡ Some Cause.Taken }
+    ensures no_right { kind ≡ ErrorKind.PermissionDenied → result ≡ Some Cause.NoRight }
+    ensures disk_full { kind ≡ ErrorKind.StorageFull → result ≡ Some Cause.DiskFull }
+{
+    match kind {
+        ErrorKind::AlreadyExists => Some(Cause::Taken),
+        other => of_io(other),
     }
 }
 

@@ -3,4 +3,4 @@
 
 mod cause;
 
-pub use cause::{Cause, of_database, of_io, of_opening, of_port, of_terms};
+pub use cause::{Cause, of_database, of_io, of_laying, of_opening, of_port, of_terms};

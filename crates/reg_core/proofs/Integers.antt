@@ -12,7 +12,7 @@ use Rattle.std.proofs.Math.Arith.{mod-mul}
 use Rattle.std.specs.Int.{byte_at, bytes_high_first}
 use Rattle.std.specs.Int.Digits.{AllBelowBase}
 use Rattle.std.proofs.lemmas.Int.Digits.{number_lt, number_more}
-use Rattle.reg_core.specs.Integer.{IsBytes, IsInteger, IsShortest, integer, value, with_clear_bit, without_zeros}
+use Rattle.reg_core.specs.Integer.{IsBytes, IsInteger, integer, value, with_clear_bit, without_zeros}
 use Rattle.reg_core.proofs.Digits.{number-append, number-cons}
 
 -- ---- bytes
@@ -189,14 +189,6 @@ length-integer n =
     let all = bytes_high_first 20 n in
     omega (arith, length-with_clear_bit (without_zeros all), length-without_zeros all, length-bytes_high_first 20 n)
 
--- and one at least
-shortest-some : (octets : List ℕ) → IsShortest octets → 1 ≤ length octets
-shortest-some [] h = absurd h
-shortest-some (b ∷ bs) h = omega arith
-
-pub length-integer-pos : (n : ℕ) → n < 2 ^ 160 → 1 ≤ length (integer n)
-length-integer-pos n h = shortest-some (integer n) (integer-is n h).shortest
-
 -- octets whose first bit is clear write less than half of what as many could
 below_half : (octets : List ℕ) (n : ℕ) → IsInteger octets n → n < 128 * 256 ^ (length octets - 1)
 below_half [] n h = absurd h.shortest
@@ -254,13 +246,6 @@ one_integer xs ys n hx hy =
 -- the fewest octets, with a clear first bit, that write a number are `integer` of it
 pub integer_only : (octets : List ℕ) (n : ℕ) → n < 2 ^ 160 → IsInteger octets n → octets ≡ integer n
 integer_only octets n h is = one_integer octets (integer n) n is (integer-is n h)
-
--- for writers: any bytes that write the number, less the zeros that lead, with the sign bit clear
-pub integer-from_bytes : (bs : List ℕ) (n : ℕ) → n < 2 ^ 160 → IsBytes bs → value bs ≡ n → integer n ≡ with_clear_bit (without_zeros bs)
-integer-from_bytes bs n h each spelled =
-    let spells : value (without_zeros bs) ≡ n = value-without_zeros bs ∙ spelled in
-    let is = with_clear_bit-is (without_zeros bs) (is_bytes-without_zeros bs each) (leads-without_zeros bs) in
-    sym (integer_only (with_clear_bit (without_zeros bs)) n h (subst (λ (m : ℕ). IsInteger (with_clear_bit (without_zeros bs)) m) spells is))
 
 -- the INTEGER of a serial number takes at most 20 octets (RFC 5280 4.1.2.2)
 pub length-below_20 : (octets : List ℕ) (n : ℕ) → n < 2 ^ 159 → IsInteger octets n → length octets ≤ 20

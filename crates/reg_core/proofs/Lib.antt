@@ -7,7 +7,6 @@ pub mod Labels
 pub mod Moments
 pub mod Numbers
 pub mod Padded
-pub mod Policies
 pub mod PublicLaws
 pub mod Schedules
 pub mod Serials

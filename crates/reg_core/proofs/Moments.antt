@@ -1,11 +1,11 @@
 -- What the texts of a moment say: one moment alone has a given text, and its bytes are few and plain.
-use Rattle.std.proofs.Common.{◌≡◌, ℕ, ◌+◌, ◌/◌, ◌%◌, ◌<◌, ◌≤◌, List, [], ◌∷◌, length, get_or, Option, Some, None, refl, ap, arith}
+use Rattle.std.proofs.Common.{◌≡◌, ℕ, ◌+◌, ◌/◌, ◌%◌, ◌<◌, ◌≤◌, List, [], ◌∷◌, get_or, Option, Some, None, ap, arith}
 use Rattle.std.specs.Prelude.{MatchOption}
 use Rattle.std.specs.List.{All}
-use Rattle.std.proofs.lemmas.List.Elements.{All-cons, All-get_or}
+use Rattle.std.proofs.lemmas.List.Elements.{All-cons}
 use Rattle.reg_core.specs.declared.calendar.Civil.{Civil}
-use Rattle.reg_core.specs.Calendar.{IsMoment, IsCivil, IsTextByte, HasDigits, shown_of, date_time, utc_time, generalized_time, moment_text, utc_text, general_text}
-use Rattle.reg_core.proofs.Dates.{ranges, same_parts, shown_injective}
+use Rattle.reg_core.specs.Calendar.{IsMoment, IsCivil, IsTextByte, HasDigits, shown_of, date_time, moment_text}
+use Rattle.reg_core.proofs.Dates.{same_parts, shown_injective}
 
 pub digits_of : (c : Civil) → IsCivil c → HasDigits c
 digits_of c h = record { year = omega arith; month = omega arith; day = omega arith; hour = omega arith; minute = omega arith; second = omega arith }
@@ -36,18 +36,6 @@ pub given : (r : Option ℕ) (s : ℕ) → IsMoment s → MatchOption r (2534023
 given (Some m) s h e = ap Some e.0
 given None s h e = absurd (omega arith)
 
-pub length-moment_text : (m : ℕ) → length (moment_text m) ≡ 20
-unfolding moment_text date_time
-length-moment_text m = refl
-
-pub length-utc_text : (m : ℕ) → length (utc_text m) ≡ 13
-unfolding utc_text utc_time
-length-utc_text m = refl
-
-pub length-general_text : (m : ℕ) → length (general_text m) ≡ 15
-unfolding general_text generalized_time
-length-general_text m = refl
-
 digit : (n : ℕ) → n < 100 → IsTextByte (48 + n / 10) × IsTextByte (48 + n % 10)
 digit n h = (omega arith, omega arith)
 
@@ -75,10 +63,3 @@ plain c h =
     let colon : IsTextByte 58 = omega arith in
     let zed : IsTextByte 90 = omega arith in
     all_of (date_time c) (x.0, (x.1, (y.0, (y.1, (dash, (m.0, (m.1, (dash, (d.0, (d.1, (tee, (k.0, (k.1, (colon, (n.0, (n.1, (colon, (s.0, (s.1, (zed, tt))))))))))))))))))))
-
-pub moment_text-bytes : (m : ℕ) → IsMoment m → All IsTextByte (moment_text m)
-unfolding moment_text
-moment_text-bytes m h = plain (shown_of m) (digits_of (shown_of m) (ranges m h))
-
-pub moment_text-byte : (m : ℕ) → IsMoment m → (i : ℕ) → i < 20 → IsTextByte (get_or (moment_text m) i 0)
-moment_text-byte m h i below = All-get_or IsTextByte (moment_text m) i 0 (omega (arith, length-moment_text m)) (moment_text-bytes m h)

@@ -70,10 +70,6 @@ pub decimal-is : (n : ℕ) → n < 10 ^ 18 → IsNumberText (decimal n) n
 decimal-is n h =
     record { not_empty = decimal-some n (omega arith); short = length-decimal_number n h; digits = decimal-digits n (omega arith); spelled = digits_value-decimal n (omega arith) }
 
--- the text of a number below 10^18 is read as the number
-pub number_of-decimal : (n : ℕ) → n < 10 ^ 18 → number_of (decimal n) ≡ Some n
-number_of-decimal n h = number_of-some (decimal n) n (decimal-is n h)
-
 -- ---- the digits from the last to the first
 
 -- the room after zeros, with one digit more in front

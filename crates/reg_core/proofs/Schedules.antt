@@ -1,32 +1,14 @@
 use Rattle.std.proofs.Common.{◌≡◌, ◌↔◌, ℕ, zero, suc, ◌+◌, ◌≤◌, ◌<◌, max, nat_le, Bool, true, false, cond, List, [], ◌∷◌, ◌++◌, length, take, get_or, refl, sym, ◌∙◌, ap, arith, add-one, append-nil}
 use Rattle.std.specs.Prelude.{filter}
-use Rattle.std.specs.Bool.{Decides, IsTrue}
+use Rattle.std.specs.Bool.{IsTrue}
 use Rattle.std.specs.Ordering.{nat_cmp, is_lt, is_le, ord_max}
-use Rattle.std.specs.Cmp.Lexicographic.{pointwise_decides}
 use Rattle.std.specs.List.{AllByRecursion, AllAdjacentBelow, IsAllAdjacentAnswer}
 use Rattle.std.proofs.lemmas.Bool.Decides.{nat_tests}
 use Rattle.std.proofs.lemmas.List.{take_more, take_all}
 use Rattle.std.proofs.lemmas.List.Elements.{filter-append}
-use Rattle.reg_core.specs.Schedule.{IsSchedule, Ascends, HasDays, days_of_last, longest_at, greatest_of, one_step, same_step, same_steps}
+use Rattle.reg_core.specs.Schedule.{IsSchedule, Ascends, HasDays, days_of_last, longest_at, greatest_of}
 
 -- ---- equality of steps
-
--- What the test of two steps tells.
-pub same_step_decides : (left right : ℕ × ℕ) → Decides (same_step left right) (left ≡ right)
-same_step_decides left right = (
-  λ same.
-      let moments : left.0 ≡ right.0 = grind (arith, nat_tests) in
-      let days : left.1 ≡ right.1 = grind (arith, nat_tests) in
-      λ i. (moments i, days i),
-  λ same.
-      let moments : left.0 ≡ right.0 = ap (λ (step : ℕ × ℕ). step.0) same in
-      let days : left.1 ≡ right.1 = ap (λ (step : ℕ × ℕ). step.1) same in
-      grind (arith, nat_tests),
-)
-
--- What `==` of two schedules tells.
-pub same_steps_decides : (left right : List (ℕ × ℕ)) → Decides (same_steps left right) (left ≡ right)
-same_steps_decides left right = pointwise_decides same_step_decides left right
 
 -- ---- rising moments
 
@@ -221,31 +203,7 @@ longest_at_least_1 (step ∷ rest) moment schedule =
     let reached : nat_le step.0 moment ≡ true = rw schedule.begins_at_once (grind (arith, nat_tests)) in
     rw reached (last_at_least_1 step (filter test rest) (schedule.days.0, days_of_filter test rest schedule.days.1))
 
--- Its greatest days are 1 to 398.
-pub greatest_at_least_1 : (steps : List (ℕ × ℕ)) → IsSchedule steps → 1 ≤ greatest_of steps
-greatest_at_least_1 steps schedule = omega (arith, longest_at_least_1 steps 0 schedule, longest_at_most_greatest steps 0)
-
 pub greatest_at_most_398_of : (steps : List (ℕ × ℕ)) → IsSchedule steps → greatest_of steps ≤ 398
 greatest_at_most_398_of steps schedule = greatest_at_most_398 steps schedule.days
 
 -- ---- one step
-
--- One step of 1 to 398 days is a schedule, and no other one step is.
-pub one_step_is_schedule : (days : ℕ) → HasDays (0, days) → IsSchedule (one_step days)
-one_step_is_schedule days in_range = record {
-  not_empty = omega arith;
-  at_most_16 = omega arith;
-  begins_at_once = refl;
-  ascending = tt;
-  days = (in_range, tt);
-}
-
-pub days_of_one_step : (days : ℕ) → IsSchedule (one_step days) → HasDays (0, days)
-days_of_one_step days schedule = schedule.days.0
-
--- Its days are the longest validity everywhere, and the greatest days.
-pub longest_of_one_step : (days moment : ℕ) → longest_at (one_step days) moment ≡ days
-longest_of_one_step days moment = let reached : nat_le 0 moment ≡ true = grind (arith, nat_tests) in rw reached
-
-pub greatest_of_one_step : (days : ℕ) → greatest_of (one_step days) ≡ days
-greatest_of_one_step days = omega arith

@@ -216,14 +216,6 @@ serial_text-is n range =
       in_range = range;
     }
 
-pub length-serial_text : (n : ℕ) → length (serial_text n) ≡ 40
-unfolding serial_text
-length-serial_text n = omega (arith, length-encode_with lower_digits (serial_bytes n), length-serial_bytes n)
-
--- and reads back
-pub serial_of-text : (n : ℕ) → IsSerial n → serial_of (serial_text n) ≡ Some n
-serial_of-text n range = serial_of-some (serial_text n) n (serial_text-is n range)
-
 -- what `encode_to_slice` writes of the bytes of a serial number
 pub encoded_text : {E : Type 0} (r : Result (Unit {0}) E) (text bytes : List ℕ) (n : ℕ) → bytes ≡ serial_bytes n → (IsOk r ↔ (40 ≡ 2 * length bytes)) → OnOk r (text ≡ encode_lower bytes)
     → text ≡ serial_text n

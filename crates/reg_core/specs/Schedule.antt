@@ -14,9 +14,13 @@ abbrev pub BeginsAtOnce : List (ℕ × ℕ) → Type 0
 BeginsAtOnce [] = Unit {0}
 BeginsAtOnce (step ∷ rest) = step.0 ≡ 0
 
--- a step's days are 1 to 398, the longest validity that the CA/Browser Forum Baseline Requirements 6.3.2 allow
+-- days of validity: 1 to 398, the most that the CA/Browser Forum Baseline Requirements 6.3.2 allow
+abbrev pub IsDays : ℕ → Type 0
+IsDays days = (1 ≤ days) × (days ≤ 398)
+
+-- a step has such days
 abbrev pub HasDays : ℕ × ℕ → Type 0
-HasDays step = (1 ≤ step.1) × (step.1 ≤ 398)
+HasDays step = IsDays step.1
 
 -- a schedule: 1 to 16 steps, each the seconds of a moment and the days of validity from it on
 pub record IsSchedule (steps : List (ℕ × ℕ)) : Type 0 where

@@ -1,9 +1,13 @@
 -- Records that a register can hold.
-use Rattle.std.specs.Prelude.{◌≡◌, ◌≢◌, ℕ, ◌+◌, ◌<◌, ◌≤◌, List, [], ◌∷◌, length, IsSome, IsSomeAnd}
-use Rattle.std.specs.List.{AllByRecursion}
-use Rattle.reg_core.specs.Checks.{clock_end}
+use Rattle.std.specs.Prelude.{◌≡◌, ◌≢◌, ◌⊎◌, ℕ, ◌+◌, ◌*◌, ◌<◌, ◌≤◌, ◌==◌, false, List, [], ◌∷◌, length, IfSome, IsSome, IsSomeAnd, IsTrue}
+use Rattle.std.specs.List.{AllByRecursion, list_any}
+use Rattle.reg_core.specs.Checks.{clock_end, validity_seconds}
 use Rattle.reg_core.specs.Crls.{CertList, cert_list}
-use Rattle.reg_core.specs.Records.{Records, Crl, subscriber_in, order_in, certificate_in, request_in}
+use Rattle.reg_core.specs.Grounds.{reason_of}
+use Rattle.reg_core.specs.Label.{IsName}
+use Rattle.reg_core.specs.Policy.{IsPolicy}
+use Rattle.reg_core.specs.Records.{Records, Crl, subscriber_in, order_in, certificate_in, request_in, revocation_in}
+use Rattle.reg_core.specs.Schedule.{IsDays}
 use Rattle.reg_core.specs.declared.rows.SubscriberRow.{SubscriberRow}
 use Rattle.reg_core.specs.declared.rows.OrderRow.{OrderRow}
 use Rattle.reg_core.specs.declared.rows.CertRow.{CertRow}
@@ -25,48 +29,63 @@ abbrev pub NeverFalls : {Row : Type 0} → (Row → ℕ) → List Row → Type 0
 NeverFalls value [] = Unit {0}
 NeverFalls value (row ∷ rest) = AllByRecursion (λ later. value row ≤ value later) rest × NeverFalls value rest
 
--- ids are 1, 2, 3 and so on, names differ, and no more than the cap
+-- ids are 1, 2, 3 and so on, names are good and differ, and no more than the cap
 pub record SoundSubscribers (cap : ℕ) (subscribers : List SubscriberRow) : Type 0 where
   pub numbered : NumberedFrom (λ row. row.id) 1 subscribers
+  pub names : AllByRecursion (λ row. IsName row.name) subscribers
   pub names_differ : KeysDiffer (λ row. row.name) subscribers
   pub within_cap : length subscribers ≤ cap
 
--- ids are 1, 2, 3 and so on, and each subscriber is there
+-- ids are 1, 2, 3 and so on, each subscriber is there, and the days are some that a schedule can allow
 pub record SoundOrders (cap : ℕ) (subscribers : List SubscriberRow) (orders : List OrderRow) : Type 0 where
   pub numbered : NumberedFrom (λ row. row.id) 1 orders
   pub subscribers_exist : AllByRecursion (λ row. IsSome (subscriber_in subscribers row.subscriber)) orders
+  pub days : AllByRecursion (λ row. IsDays row.days) orders
   pub within_cap : length orders ≤ cap
 
--- serial numbers differ (RFC 5280 4.1.2.2), each fills an order of its own
+-- serial numbers differ (RFC 5280 4.1.2.2), each fills an order of its own, and a validity runs forward and is no longer than ordered
 pub record SoundCertificates (cap : ℕ) (orders : List OrderRow) (certificates : List CertRow) : Type 0 where
   pub serials_differ : KeysDiffer (λ row. row.serial) certificates
   pub orders_differ : KeysDiffer (λ row. row.order) certificates
-  pub orders_exist : AllByRecursion (λ row. IsSome (order_in orders row.order)) certificates
+  pub forward : AllByRecursion (λ row. row.not_before ≤ row.not_after) certificates
+  pub as_ordered : AllByRecursion (λ row. IsSomeAnd (order_in orders row.order) (λ order. validity_seconds row ≤ 86400 * order.days)) certificates
   pub within_cap : length certificates ≤ cap
 
--- ids are 1, 2, 3 and so on, each certificate is there, and none was received after the last accepted moment
+-- ids are 1, 2, 3 and so on; each was received before its certificate had ended, none before an earlier one, and none after
+-- the last accepted moment
 pub record SoundRequests (cap last : ℕ) (certificates : List CertRow) (requests : List RequestRow) : Type 0 where
   pub numbered : NumberedFrom (λ row. row.id) 1 requests
-  pub certificates_exist : AllByRecursion (λ row. IsSome (certificate_in certificates row.serial)) requests
+  pub within_validity : AllByRecursion (λ row. IsSomeAnd (certificate_in certificates row.serial) (λ certificate. row.received ≤ certificate.not_after)) requests
+  pub receipts_never_fall : NeverFalls (λ row. row.received) requests
   pub received_by_last : AllByRecursion (λ row. row.received ≤ last) requests
   pub within_cap : length requests ≤ cap
+
+-- a request leads to a revocation: it is for its serial number, was not declined, and has the ground of its reason
+pub record LeadsTo (revocation : RevocationRow) (request : RequestRow) : Type 0 where
+  pub same_serial : request.serial ≡ revocation.serial
+  pub not_declined : request.declined ≡ false
+  pub with_reason : revocation.reason ≡ reason_of request.ground
 
 -- a revocation is of a registered certificate that had not ended, led to by a request for it, not after the last
 -- accepted moment; the CRLs below its first are not after it, and those from its first on not before it
 pub record SoundRevocation (last : ℕ) (certificates : List CertRow) (requests : List RequestRow) (crls : List Crl) (revocation : RevocationRow) : Type 0 where
   pub within_validity : IsSomeAnd (certificate_in certificates revocation.serial) (λ certificate. revocation.at ≤ certificate.not_after)
-  pub by_request : IsSomeAnd (request_in requests revocation.request) (λ request. request.serial ≡ revocation.serial)
+  pub by_request : IsSomeAnd (request_in requests revocation.request) (LeadsTo revocation)
   pub at_by_last : revocation.at ≤ last
   pub first_from_one : 1 ≤ revocation.first
   pub first_by_next : revocation.first ≤ length crls + 1
   pub crls_before : AllByRecursion (λ crl. crl.number < revocation.first → crl.this_update ≤ revocation.at) crls
   pub crls_after : AllByRecursion (λ crl. revocation.first ≤ crl.number → revocation.at ≤ crl.this_update) crls
 
--- one revocation of a serial number, and one of a request
+-- one revocation of a serial number, and one of a request; neither moments nor first CRL numbers fall; and no request for a
+-- serial number was received after its revocation
 pub record SoundRevocations (last : ℕ) (certificates : List CertRow) (requests : List RequestRow) (crls : List Crl) (revocations : List RevocationRow) : Type 0 where
   pub serials_differ : KeysDiffer (λ row. row.serial) revocations
   pub requests_differ : KeysDiffer (λ row. row.request) revocations
   pub each : AllByRecursion (SoundRevocation last certificates requests crls) revocations
+  pub moments_never_fall : NeverFalls (λ row. row.at) revocations
+  pub firsts_never_fall : NeverFalls (λ row. row.first) revocations
+  pub none_after : AllByRecursion (λ request. IfSome (revocation_in revocations request.serial) (λ revocation. request.received ≤ revocation.at)) requests
 
 -- CRL numbers are 1, 2, 3 and so on (RFC 5280 5.2.3), thisUpdates do not fall, and none is after the last accepted moment
 pub record SoundCrls (cap last : ℕ) (crls : List Crl) : Type 0 where
@@ -75,9 +94,11 @@ pub record SoundCrls (cap last : ℕ) (crls : List Crl) : Type 0 where
   pub updates_by_last : AllByRecursion (λ crl. crl.this_update ≤ last) crls
   pub within_cap : length crls ≤ cap
 
--- the records hold together, whatever signs the CRLs
+-- the records hold together, whatever signs the CRLs; before anybody is entered, CRLs alone set the last accepted moment
 pub record SoundRows (records : Records) : Type 0 where
+  pub policy : IsPolicy records.policy
   pub before_clock_end : records.last < clock_end
+  pub last_set : records.subscribers ≡ [] → (records.last ≡ 0) ⊎ IsTrue (list_any (λ crl. crl.this_update == records.last) records.crls)
   pub subscribers : SoundSubscribers records.policy.cap records.subscribers
   pub orders : SoundOrders records.policy.cap records.subscribers records.orders
   pub certificates : SoundCertificates records.policy.cap records.orders records.certificates

@@ -126,6 +126,11 @@ impl Policy {
         Policy { schedule, ..self }
     }
 
+    /// The terms are in their ranges. It does nothing: its contract is what each policy promises.
+    pub fn promise(self)
+        ensures { IsPolicy self }
+    {}
+
     /// The longest validities.
     pub fn schedule(&self) -> Schedule
         ensures schedule { result ≡ self.now.schedule }

@@ -1,7 +1,7 @@
 //! The longest validity of certificates, by the moment from which they are valid.
 
 ghost use Rattle.std.specs.Prelude.{◌≡◌, ◌≤◌, ◌↔◌, IsSome, IsTrue, IfSome};
-ghost use Rattle.reg_core.specs.Schedule.{IsSchedule, Ascends, HasDays, longest_at, greatest_of, same_steps, same_steps_both_ways, same_steps_equivalence};
+ghost use Rattle.reg_core.specs.Schedule.{IsSchedule, Ascends, IsDays, HasDays, longest_at, greatest_of, same_steps, same_steps_both_ways, same_steps_equivalence};
 ghost use Rattle.std.specs.List.{AllByRecursion};
 
 use crate::moment::Moment;
@@ -75,6 +75,13 @@ impl Schedule {
             steps: kept,
             len: steps.len(),
         })
+    }
+
+    /// Whether a schedule can allow so many days: 1 to 398.
+    pub fn can_allow(days: u64) -> bool
+        ensures { IsTrue result ↔ IsDays days }
+    {
+        1 <= days && days <= MAX_DAYS
     }
 
     /// The steps, in order.

@@ -2,8 +2,9 @@
 
 ghost use Rattle.std.specs.Prelude.{◌≡◌, ◌⊎◌, ◌++◌, codes, string_bytes, IfErr, IfOk};
 
-use crate::unopened::{Unopened, in_use, of_call};
+use crate::unopened::{Unopened, in_use, of_call, with_cause};
 use os::RangeLock;
+use reg_causes::Cause;
 use reg_core::Fault;
 use std::alloc::AllocError;
 use std::fs::OpenOptions;
@@ -30,6 +31,20 @@ pub(crate) fn lock(file: &fs::File, kind: RangeLock) -> Result<(), Unopened>
     match io::Error::from_raw_os_error(os::errno()).kind() {
         ErrorKind::WouldBlock => Err(in_use()),
         other => Err(of_call(other)),
+    }
+}
+
+/// Looks that a database's file is held to be written, as this program holds what it has open.
+///
+/// # Errors
+/// `Store` where nobody holds it: what was opened at its path lies there no more.
+pub(crate) fn look_held(file: &fs::File) -> Result<(), Unopened>
+    ensures { IfErr result (λ why. (why.fault ≡ Fault.Memory) ⊎ (why.fault ≡ Fault.Store)) }
+{
+    match lock(file, RangeLock::Shared) {
+        Ok(()) => Err(with_cause(Fault::Store, Some(Cause::NoFile))),
+        Err(why) if why == in_use() => Ok(()),
+        Err(why) => Err(why),
     }
 }
 

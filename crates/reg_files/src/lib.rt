@@ -1,8 +1,10 @@
-//! A register's file, opened as a database with room in memory for its pages, or for reading alone.
+//! A register's file, opened as a database with room in memory for its pages, or for reading alone; and copied.
 #![tactic(auto)]
 
+mod copying;
 mod file;
 mod holding;
+mod laying;
 mod looking;
 mod overlay;
 mod read_file;
@@ -10,6 +12,7 @@ mod reading;
 mod source;
 mod unopened;
 
+pub use copying::{copy_closed, copy_open, put_pages, recovered};
 pub use file::{Unlaid, claim_file, open_file, remove_file};
 pub use looking::{Found, look};
 pub use overlay::{Overlay, overlaid};

@@ -3,7 +3,7 @@
 ghost use Rattle.std.specs.Prelude.{◌≡◌, ◌⊎◌, [], false, IfErr};
 ghost use Rattle.std.specs.Fs.{asks_append, asks_create, asks_create_new, asks_truncate, asks_write};
 
-use crate::holding::{beside, lock};
+use crate::holding::{beside, lock, look_held};
 use crate::source::Source;
 use crate::unopened::{Unopened, no_memory, of_call, with_cause};
 use os::RangeLock;
@@ -34,7 +34,16 @@ impl Source for ReadFile {
     }
 }
 
-/// The files of a database, held so that nobody opens them to write; the log where there is one.
+/// Who has a database open whose files are read.
+#[derive(Clone, Copy)]
+pub(crate) enum Holder {
+    /// Nobody who writes: it is held until it was read.
+    Nobody,
+    /// This program, which writes nothing meanwhile.
+    Us,
+}
+
+/// The files of a database, held so that nobody else writes them; the log where there is one.
 #[derive(Drop)]
 pub(crate) struct HeldFiles {
     pub(crate) log: Option<ReadFile>,
@@ -44,9 +53,9 @@ pub(crate) struct HeldFiles {
 /// Opens the files of a database for reading alone, where a link leads, and holds them until they are dropped.
 ///
 /// # Errors
-/// `Memory`; `Store` where there is no file at the path, or none that can be read; where another program has it open to write; or
-/// where SQLite left a rollback journal beside it, which only SQLite can play back.
-pub(crate) fn hold(rt: &HostRuntime, path: &str) -> Result<HeldFiles, Unopened>
+/// `Memory`; `Store` where there is no file at the path, or none that can be read; where another program has it open to write, or this one
+/// should and has not; or where SQLite left a rollback journal beside it, which only SQLite can play back.
+pub(crate) fn hold(rt: &HostRuntime, path: &str, holder: Holder) -> Result<HeldFiles, Unopened>
     ensures { IfErr result (λ why. (why.fault ≡ Fault.Memory) ⊎ (why.fault ≡ Fault.Store)) }
 {
     // A path that SQLite reads as another thing than a file's name is refused.
@@ -61,7 +70,10 @@ pub(crate) fn hold(rt: &HostRuntime, path: &str) -> Result<HeldFiles, Unopened>
         Ok(db) => db,
         Err(error) => return Err(of_call(error.kind())),
     };
-    lock(&db.file, RangeLock::Shared)?;
+    match holder {
+        Holder::Nobody => lock(&db.file, RangeLock::Shared)?,
+        Holder::Us => look_held(&db.file)?,
+    }
     let log = log_at(rt, real.as_str())?;
     Ok(HeldFiles { log, db })
 }

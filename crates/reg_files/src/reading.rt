@@ -12,7 +12,7 @@ ghost use Rattle.reg_files.specs.Reading.{IsUnread};
 use crate::file::options_for;
 use crate::looking::{Found, look};
 use crate::overlay::{Overlay, overlaid};
-use crate::read_file::{HeldFiles, ReadFile, hold};
+use crate::read_file::{HeldFiles, Holder, ReadFile, hold};
 use crate::source::Source;
 use crate::unopened::{Unopened, damaged, no_database, no_memory, of_call};
 use reg_core::Fault;
@@ -55,8 +55,22 @@ pub struct Sources<F: Source> {
 pub fn read_at(rt: &HostRuntime, path: &str) -> Result<Sources<ReadFile>, Unopened>
     ensures { IfErr result (λ why. (why.fault ≡ Fault.Memory) ⊎ (why.fault ≡ Fault.Store)) }
 {
+    sources_at(rt, path, Holder::Nobody)
+}
+
+/// The same of files that may be open in this program.
+///
+/// # Errors
+/// As [`read_at`]; `Store` also where this program should have them open and has not.
+pub(crate) fn sources_at(
+    rt: &HostRuntime,
+    path: &str,
+    holder: Holder,
+) -> Result<Sources<ReadFile>, Unopened>
+    ensures { IfErr result (λ why. (why.fault ≡ Fault.Memory) ⊎ (why.fault ≡ Fault.Store)) }
+{
     let options = options_for(rt, path)?;
-    let HeldFiles { log, db } = hold(rt, path)?;
+    let HeldFiles { log, db } = hold(rt, path, holder)?;
     let log = match &log {
         Some(log) => copy_of(rt.alloc(), log)?,
         None => Vec::new(rt.alloc()),
@@ -142,7 +156,7 @@ pub fn open_begun<D: Disk + Drop>(
 }
 
 /// Whether a database was begun in files.
-fn is_begun<D: Disk>(alloc: Global, files: &mut Files<D>) -> Result<(), Unread>
+pub(crate) fn is_begun<D: Disk>(alloc: Global, files: &mut Files<D>) -> Result<(), Unread>
     requires log { IsTrue (D.Disk.is_usable files.old.log) }
     requires db { IsTrue (D.Disk.is_usable files.old.db) }
     ensures begun { OnOk result (AreClean D.Disk files.new.log files.new.db → ¬ IsNothing (image_of D.Disk files.old)) }

@@ -2,7 +2,7 @@
 
 ghost use Rattle.std.specs.Prelude.{◌≡◌, ◌⊎◌};
 
-use reg_causes::{Cause, of_database, of_io, of_opening};
+use reg_causes::{Cause, of_database, of_io, of_laying, of_opening};
 use reg_core::Fault;
 use sqlite::{Error, ErrorCode};
 use sqlite_std_file::OpenError;
@@ -66,6 +66,16 @@ pub(crate) fn of_call(kind: ErrorKind) -> Unopened
     match kind {
         ErrorKind::OutOfMemory => with_cause(Fault::Memory, None),
         other => with_cause(Fault::Store, of_io(other)),
+    }
+}
+
+/// Why a file is not laid where a call of the system failed.
+pub(crate) fn of_lay(kind: ErrorKind) -> Unopened
+    ensures { (result.fault ≡ Fault.Memory) ⊎ (result.fault ≡ Fault.Store) }
+{
+    match kind {
+        ErrorKind::OutOfMemory => with_cause(Fault::Memory, None),
+        other => with_cause(Fault::Store, of_laying(other)),
     }
 }
 

@@ -20,12 +20,18 @@ pub enum Table {
 pub enum Why {
     /// The last accepted moment is past the clock's end.
     PastClockEnd,
+    /// No command set the last accepted moment: nobody was entered, and it is neither 0 nor that of a CRL.
+    NeverAccepted,
     /// There are more rows than the policy's cap.
     AboveCap,
     /// Its id, or its CRL number (RFC 5280 5.2.3), is not one more than the one before.
     OutOfOrder,
+    /// Its name has a byte that no command takes.
+    BadName,
     /// An earlier row has the same name.
     SameName,
+    /// No schedule allows so many days.
+    BadDays,
     /// An earlier row has the same serial number (RFC 5280 4.1.2.2).
     SameSerial,
     /// An earlier row fills the same order.
@@ -36,18 +42,32 @@ pub enum Why {
     NoSubscriber,
     /// There is no such order.
     NoOrder,
+    /// Its notBefore is after its notAfter (RFC 5280 4.1.2.5).
+    Backwards,
+    /// Its validity is longer than it was ordered.
+    TooLong,
     /// There is no such certificate.
     NoCertificate,
     /// There is no such request, or it is for another serial number.
     NoRequest,
+    /// Its request was declined.
+    ByDeclined,
+    /// Its reason is not that of its request's ground.
+    OtherReason,
     /// Its moment is after the last accepted one.
     AfterLast,
     /// Its moment is after the certificate's end.
     AfterEnd,
+    /// Its moment is after the revocation of its serial number.
+    AfterRevocation,
+    /// Its moment is before that of the row before.
+    Earlier,
     /// Its first CRL is none of the issued ones, nor the next.
     NoFirst,
     /// A CRL before its first is after it, or one from its first on before it.
     WrongFirst,
+    /// Its first CRL is before that of the row before.
+    EarlierFirst,
     /// Its thisUpdate (RFC 5280 5.1.2.4) is before that of the CRL before.
     BeforeThePrevious,
     /// It does not follow from the records, or the row of a serial number before its own is missing.

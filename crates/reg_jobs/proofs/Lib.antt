@@ -1,3 +1,4 @@
+pub mod Entering
 pub mod Fates
 pub mod Finishing
 pub mod LineByLine
@@ -8,4 +9,6 @@ pub mod NextLines
 pub mod PageByPage
 pub mod Peers
 pub mod Pieces
+pub mod Setting
+pub mod StepWords
 pub mod Talking

@@ -1,12 +1,14 @@
--- Lines told to a counter, and its replies.
-use Rattle.std.specs.Prelude.{◌≡◌, ◌↔◌, ◌⊎◌, ◌<◌, ℕ, List, [], ◌∷◌, ◌++◌, length, IsTrue, IfSome, Option, Result, Ok, Err}
+-- Lines told to a counter, or rows as lines, and its replies.
+use Rattle.std.specs.Prelude.{◌≡◌, ◌↔◌, ◌⊎◌, ◌<◌, ℕ, List, [], ◌∷◌, ◌++◌, length, IsTrue, IfSome, Option, Some, Result, Ok, Err}
 use Rattle.std.specs.Io.KnownBytes.{Appends, Consumes}
 use Rattle.std.specs.List.{AllByRecursion, concat}
+use Rattle.reg_core.specs.declared.refusal.Fault.{Fault}
 use Rattle.reg_core.specs.declared.refusal.Fault.TheVariants as fault
 use Rattle.reg_endings.specs.declared.failure.Failure.{Failure}
 use Rattle.reg_endings.specs.declared.failure.Failure.TheVariants as failure
 use Rattle.reg_lines.specs.Accepted.{IsAccepted}
 use Rattle.reg_lines.specs.Script.{HasNoLf, IsWhole}
+use Rattle.reg_lines.specs.Told.{ToldEnds}
 use Rattle.reg_jobs.specs.declared.asking.Next.{Next}
 use Rattle.reg_jobs.specs.declared.asking.Next.TheVariants as next
 use Rattle.reg_jobs.specs.declared.asking.Step.{Step}
@@ -88,3 +90,9 @@ abbrev pub AtCounter : Type 0 → Option (List ℕ) → Option (List ℕ) → Op
 AtCounter met input out out' result =
     ((result ≡ Err (failure.Fault fault.Read)) × (out' ≡ out))
     ⊎ (met × TalksOver input out out' result)
+
+-- rows at the counter at a path: the input was not read whole, and nothing is told; or it was, and the lines of its rows are told there
+abbrev pub RowsAtCounter : Type 0 → Option (List ℕ) → Option (List ℕ) → Option (List ℕ) → Option (List ℕ) → Result (Unit {0}) Failure → Type 0
+RowsAtCounter met input input' out out' result =
+    ((why : Fault) × (result ≡ Err (failure.Fault why)) × ToldEnds input input' (Err why) × (out' ≡ out))
+    ⊎ ((lines : List ℕ) × ToldEnds input input' (Ok lines) × AtCounter met (Some lines) out out' result)

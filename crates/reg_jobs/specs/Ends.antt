@@ -37,7 +37,8 @@ use Rattle.reg_words.specs.declared.job.Job.{Job}
 use Rattle.reg_words.specs.declared.job.KeyHolder.{KeyHolder}
 use Rattle.reg_words.specs.declared.job.Job.TheVariants as job
 use Rattle.reg_words.specs.declared.job.Way.{Way}
-use Rattle.reg_jobs.specs.Asking.{AtCounter}
+use Rattle.reg_jobs.specs.Asking.{AtCounter, RowsAtCounter}
+use Rattle.reg_jobs.specs.Copies.{copied_text}
 use Rattle.reg_jobs.specs.Digest.{digest_alone, digests}
 use Rattle.reg_jobs.specs.Failing.{IsMaking}
 use Rattle.reg_jobs.specs.Identifiers.{Identifies}
@@ -46,7 +47,7 @@ use Rattle.reg_jobs.specs.Sample.{sample_records}
 use Rattle.reg_jobs.specs.Schedules.{Reschedules}
 use Rattle.reg_jobs.specs.Serving.{OpenedAt, Opens, Serves, ServedAt}
 use Rattle.reg_jobs.specs.Signing.{Signing, by_itself}
-use Rattle.reg_jobs.specs.Visits.{Visits, NotAudited, NotOpened, Makes, NotMade, ending_of, ending_of_import}
+use Rattle.reg_jobs.specs.Visits.{Visits, NotAudited, NotCopied, NotOpened, Makes, NotMade, ending_of, ending_of_import}
 use Rattle.reg_jobs.specs.declared.front.Front.{Ghosts as Front}
 use Rattle.reg_jobs.specs.declared.leaving.Unsigned.{Unsigned}
 use Rattle.reg_jobs.specs.declared.place.Place.{Ghosts as Place}
@@ -66,9 +67,9 @@ abbrev pub TellsSet : {W : Type 0} → List ℕ → (W → Option (List ℕ)) �
 TellsSet text contents writer writer' (Ok done) result = Says text (contents writer) (contents writer') result
 TellsSet text contents writer writer' (Err why) result = (result ≡ Err (store_failure why)) × IsCallFault why × (writer' ≡ writer)
 
--- the text of an audit that found all well is said, or there was no memory for it
-abbrev pub TellsSound : {W : Type 0} → List ℕ → (W → Option (List ℕ)) → W → W → Result (Unit {0}) Failure → Type 0
-TellsSound text contents writer writer' result =
+-- the text of a line is said, or there was no memory for it
+abbrev pub TellsLine : {W : Type 0} → List ℕ → (W → Option (List ℕ)) → W → W → Result (Unit {0}) Failure → Type 0
+TellsLine text contents writer writer' result =
     Says text (contents writer) (contents writer') result ⊎ ((result ≡ Err (failure.Fault fault.Memory)) × (writer' ≡ writer))
 
 -- the text of an audit that found a broken row is said, and the job is not done; or a front of it, where the writer fails; or there was
@@ -81,7 +82,7 @@ TellsBroken text contents writer writer' result =
 
 -- what an audit found, as it is told
 abbrev pub TellsVerdict : {W : Type 0} → (W → Option (List ℕ)) → W → W → Verdict → Result (Unit {0}) Failure → Type 0
-TellsVerdict contents writer writer' (verdict.Sound found) result = TellsSound (sound_text found) contents writer writer' result
+TellsVerdict contents writer writer' (verdict.Sound found) result = TellsLine (sound_text found) contents writer writer' result
 TellsVerdict contents writer writer' (verdict.Broken broken) result = TellsBroken (broken_text broken) contents writer writer' result
 TellsVerdict contents writer writer' verdict.OtherSchema result = TellsBroken OTHER_SCHEMA.now contents writer writer' result
 TellsVerdict contents writer writer' verdict.Older result = (result ≡ Err failure.OldVersion) × (writer' ≡ writer)
@@ -125,6 +126,13 @@ module _ {W P K : Type 0} (contents : W → Option (List ℕ)) (writer writer' :
     AuditAt path result =
         (place' ≡ place) × ((NotAudited places place path result × (writer' ≡ writer))
         ⊎ ((found : Verdict) × places.audited place path found × TellsVerdict contents writer writer' found result))
+
+    -- a copy of the register at a path, under another that nothing had: none was laid; or one of so many bytes was, and that is told, with how
+    -- many milliseconds it took
+    abbrev pub CopyAt : List ℕ → List ℕ → Result (Unit {0}) Failure → Type 0
+    CopyAt path to result =
+        (NotCopied places keeper place place' path to result × (writer' ≡ writer))
+        ⊎ ((bytes millis : ℕ) × places.copied place path to bytes place' × TellsLine (copied_text bytes millis) contents writer writer' result)
 
     -- another schedule for the register at a path: its steps are looked at before the path is
     abbrev pub ScheduleAt : List ℕ → List (ℕ × ℕ) → Result (Unit {0}) Failure → Type 0
@@ -247,5 +255,8 @@ module _ {E W : Type 0} (remaining : E → Option (List ℕ)) (contents : W → 
         × OpenAt contents writer writer' places keeper place place' front it.file it.signer it.answerer it.port it.counter result
     Ends front (job.Listing list) result = (reader' ≡ reader)
         × ListAt contents writer writer' places keeper place place' front.told list.file list.from list.moment list.form result
+    Ends front (job.Copy file to) result = (reader' ≡ reader) × CopyAt contents writer writer' places keeper place place' file to result
     Ends front (job.Audit file) result = (reader' ≡ reader) × AuditAt contents writer writer' places keeper place place' file result
-    Ends front (job.At counter) result = (place' ≡ place) × AtCounter (front.met counter) (remaining reader) (contents writer) (contents writer') result
+    Ends front (job.At counter None) result = (place' ≡ place) × AtCounter (front.met counter) (remaining reader) (contents writer) (contents writer') result
+    Ends front (job.At counter (Some file)) result =
+        (place' ≡ place) × RowsAtCounter (front.met counter) (remaining reader) (remaining reader') (contents writer) (contents writer') result

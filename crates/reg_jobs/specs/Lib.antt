@@ -1,4 +1,6 @@
 pub mod Asking
+pub mod Copies
+pub mod CounterWords
 pub mod Counted
 pub mod Deferring
 pub mod Digest

@@ -1,12 +1,14 @@
 -- What the program tells of a job's end.
 use Rattle.std.specs.Prelude.{◌≡◌, ◌⊎◌, ℕ, List, [], ◌∷◌, ◌++◌, Result, Ok, Err}
-use Rattle.std.specs.Prelude.{Bool, IsTrue}
+use Rattle.std.specs.Prelude.{Bool, IsTrue, codes}
 use Rattle.std.specs.declared.option.Option.{Option}
 use Rattle.std.specs.Io.KnownBytes.{Appends}
 use Rattle.reg_causes.specs.Causes.{cause_line}
 use Rattle.reg_causes.specs.declared.cause.Cause.{Cause}
 use Rattle.reg_endings.specs.Endings.{failure_line, status}
 use Rattle.reg_endings.specs.declared.failure.Failure.{Failure}
+use Rattle.reg_jobs.specs.Reasons.{reason_text}
+use Rattle.reg_jobs.specs.declared.reasons.Reason.{Reason}
 use Rattle.reg_wire.specs.Put.{AppendsFront}
 
 -- the bytes were written, or only a front of them, where the device failed
@@ -22,11 +24,17 @@ abbrev pub Tells : Result (Unit {0}) Failure → Option (List ℕ) → Option (L
 Tells (Ok done) old new = new ≡ old
 Tells (Err why) old new = IsTold old new (failure_line why)
 
--- nothing more is told; or, where that is asked for and the exit status is 1, a cause
-abbrev pub Adds : Bool → ℕ → Option (List ℕ) → Option (List ℕ) → Type 0
-Adds is_asked status old new = (new ≡ old) ⊎ (IsTrue is_asked × (status ≡ 1) × ((cause : Cause) × IsTold old new (cause_line cause)))
+-- nothing is told, or why a registration was refused
+abbrev pub TellsReason : Option (List ℕ) → Option (List ℕ) → Type 0
+TellsReason old new = (new ≡ old) ⊎ ((reason : Reason) × IsTold old new (codes "  " ++ reason_text reason))
 
--- what standard error gets of an ending where causes are asked for or not: what it gets without that, and then perhaps a cause
+-- nothing more is told; or, where that is asked for, a cause where the exit status is 1, and why a registration was refused where it is 3
+abbrev pub Adds : Bool → ℕ → Option (List ℕ) → Option (List ℕ) → Type 0
+Adds is_asked status old new =
+    (new ≡ old)
+    ⊎ (IsTrue is_asked × (((status ≡ 1) × ((cause : Cause) × IsTold old new (cause_line cause))) ⊎ ((status ≡ 3) × TellsReason old new)))
+
+-- what standard error gets of an ending where more is asked for or not: what it gets without that, and then perhaps one line more
 abbrev pub Explains : Bool → Result (Unit {0}) Failure → Option (List ℕ) → Option (List ℕ) → Type 0
 Explains is_asked ending old new =
     (between : Option (List ℕ)) × Tells ending old between × Adds is_asked (status ending) between new

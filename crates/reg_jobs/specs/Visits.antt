@@ -55,6 +55,10 @@ module _ {P K : Type 0} (places : Place P K) (keeper : Keeper K) (place place' :
   abbrev pub NotMade : List ℕ → Result (Unit {0}) Failure → Type 0
   NotMade path result = (why : Failure) × (result ≡ Err why) × places.unmade place path why place' × IsMaking why
 
+  -- no copy of the register at a path was laid at another, and that is how the job ends
+  abbrev pub NotCopied : List ℕ → List ℕ → Result (Unit {0}) Failure → Type 0
+  NotCopied path to result = (why : Failure) × (result ≡ Err why) × places.uncopied place path to why place' × IsOpening why
+
 -- no audit was had of what lies at a path, and that is how the job ends
 abbrev pub NotAudited : {P K : Type 0} → Place P K → P → List ℕ → Result (Unit {0}) Failure → Type 0
 NotAudited places place path result = (why : Failure) × (result ≡ Err why) × places.unaudited place path why × IsOpening why

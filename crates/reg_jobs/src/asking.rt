@@ -1,16 +1,16 @@
-//! The job `at`: lines told to the counter of an open desk, and its replies.
+//! The job `at`: lines told to the counter of an open desk, or rows as lines, and its replies.
 
 ghost use Rattle.std.specs.Prelude.{◌≡◌, ◌⊎◌, ◌↔◌, IsFalse, IsTrue, IfErr, IfOk, MatchResult};
 ghost use Rattle.std.specs.Io.{StopsAt};
 ghost use Rattle.std.specs.Io.BufRead.{ends_with_byte};
 ghost use Rattle.std.specs.Io.KnownBytes.{Consumes};
-ghost use Rattle.reg_jobs.specs.Asking.{AtCounter, IsOfTalk, IsReadAs, NextIs, Talks, TalksOnce, TalksOver};
+ghost use Rattle.reg_jobs.specs.Asking.{AtCounter, IsOfTalk, IsReadAs, NextIs, RowsAtCounter, Talks, TalksOnce, TalksOver};
 
 use crate::front::Front;
 use crate::telling::say;
 use reg_core::Fault;
 use reg_endings::Failure;
-use reg_lines::is_accepted;
+use reg_lines::{is_accepted, lines_of_rows};
 use std::alloc::Global;
 use std::io::{BufRead, BufReader, Read, Write};
 use std::os::unix::net::UnixStream;
@@ -50,6 +50,26 @@ pub fn at<F: Front, R: Read, W: Write>(
     match front.meet(counter) {
         Ok(link) => talk_over(alloc, &link, reader, writer),
         Err(_) => Err(Failure::Fault(Fault::Read)),
+    }
+}
+
+/// Tells each row of a CSV file to the counter at a path, as the line of a registration, and says its replies.
+///
+/// # Errors
+///
+/// As of [`at`]; `Read` and `Memory` where the file can't be read whole: nothing is told then.
+pub fn at_rows<F: Front, R: Read, W: Write>(
+    alloc: Global,
+    front: &F,
+    counter: &str,
+    reader: &mut R,
+    writer: &mut W,
+) -> Result<(), Failure>
+    ensures { RowsAtCounter (F.met counter.now) (R.remaining reader.old) (R.remaining reader.new) (W.contents writer.old) (W.contents writer.new) result }
+{
+    match lines_of_rows(alloc, reader) {
+        Ok(lines) => at(alloc, front, counter, &mut lines.as_slice(), writer),
+        Err(fault) => Err(Failure::Fault(fault)),
     }
 }
 

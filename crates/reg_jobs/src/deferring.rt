@@ -3,10 +3,11 @@
 ghost use Rattle.std.specs.Prelude.{◌≡◌, None, IfOk, IfSome, OnErr};
 ghost use Rattle.reg_calls.specs.Leads.{Leads};
 ghost use Rattle.reg_jobs.specs.Deferring.{IsKnown};
-ghost use Rattle.reg_jobs.specs.Reasons.{Word, WordAt};
+ghost use Rattle.reg_jobs.specs.CounterWords.{Word, WordAt};
 
+use crate::entering::tell_counted;
 use crate::front::Front;
-use crate::handling::{OpenDesk, tell_counted};
+use crate::handling::OpenDesk;
 use crate::place::Place;
 use mio::net::UnixStream;
 use reg_calls::{Begun, Keeper};
@@ -294,6 +295,7 @@ fn tell_primed<P: Place, F: Front>(
     alloc: Global,
     office: &mut P::Opened,
     front: &F,
+    file: &str,
     tally: &mut Tally,
     looked: Looked,
     known: Known,
@@ -310,6 +312,7 @@ fn tell_primed<P: Place, F: Front>(
         alloc,
         office,
         front,
+        file,
         tally,
         looked.began,
         moment,
@@ -374,6 +377,7 @@ impl<'a, 'w, P: Place, F: Front> OpenDesk<'a, 'w, P, F> {
             self.alloc,
             &mut self.office,
             self.front,
+            self.file,
             &mut tally,
             looked,
             known,

@@ -1,15 +1,17 @@
 //! A clock, ports and sockets.
 
+use crate::copying::Uncopied;
 use mio::net::{TcpListener, UnixListener, UnixStream as UnwaitingStream};
 use reg_core::{Fault, Moment};
 use std::io;
 use std::os::unix::net::UnixStream;
 
-/// A clock that tells moments, ports and sockets that can be listened at, and standard error. Who is handed no more than this can tell
-/// only by a call of it that a moment is one of the clock, that a port was bound, that a socket was laid or met, and that a line was
-/// given to standard error.
+/// A clock that tells moments, ports and sockets that can be listened at, standard error, and where copies of an open register are laid.
+/// Who is handed no more than this can tell only by a call of it that a moment is one of the clock, that a port was bound, that a socket
+/// was laid or met, that a line was given to standard error, and that a copy was laid.
 pub trait Front {
     ghost use Rattle.std.specs.Prelude.{◌≡◌, ℕ, List, OnOk, IfOk, IfErr, IfSome};
+    ghost use Rattle.reg_jobs.specs.Failing.{IsOfStore};
 
     /// The clock told this moment.
     ghost told: { ℕ → Type 0 };
@@ -25,6 +27,9 @@ pub trait Front {
 
     /// This line was given to standard error.
     ghost warned: { List ℕ → Type 0 };
+
+    /// A copy of so many bytes of the register that is open at a path was laid.
+    ghost copied: { List ℕ → ℕ → Type 0 };
 
     /// The moment of the clock.
     ///
@@ -91,4 +96,14 @@ pub trait Front {
     /// Gives a line with its LF to standard error, for who runs the job. What can't be written there is left out.
     fn warn(&self, line: &[u8])
         ensures { warned line.now };
+
+    /// Copies the register that this program has open, whose file lies at a path, to a path at which nothing lies, as [`crate::Place::copy`]
+    /// does: as it is between two calls of it. Gives how many bytes the copy has.
+    ///
+    /// # Errors
+    ///
+    /// As [`crate::Place::copy`]; also where the register's file is not what this program has open.
+    fn copy(&self, path: &str, to: &str) -> Result<u64, Uncopied>
+        ensures ok { IfOk result (copied path.now) }
+        ensures err { IfErr result (λ why. IsOfStore why.fault) };
 }

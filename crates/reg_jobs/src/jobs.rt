@@ -5,13 +5,16 @@ ghost use Rattle.reg_calls.specs.Items.{items_of};
 ghost use Rattle.reg_endings.specs.Checks.{terms_of};
 ghost use Rattle.reg_calls.specs.Steps.{Crls};
 ghost use Rattle.reg_calls.specs.Leads.{Leads};
-ghost use Rattle.reg_jobs.specs.Ends.{AuditAt, CrlAt, ImportAt, InitAt, KeyIdAt, MakesAt, SaysGiven, ScheduleAt, ScriptAt, StrictImportAt, TellsBroken, TellsSet, TellsSound, TellsVerdict};
+ghost use Rattle.reg_faces.specs.Faces.{Lines};
+ghost use Rattle.reg_lines.specs.Strict.{StrictEnds};
+ghost use Rattle.reg_jobs.specs.Ends.{AuditAt, CrlAt, ImportAt, InitAt, KeyIdAt, MakesAt, SaysGiven, ScheduleAt, ScriptAt, StrictImportAt, TellsBroken, TellsSet, TellsLine, TellsVerdict};
 ghost use Rattle.reg_jobs.specs.Visits.{ending_of, ending_of_import};
 ghost use Rattle.reg_tables.specs.Stays.{IsCallFault};
 ghost use Rattle.reg_findings.specs.Lines.{broken_text, sound_text};
 
 use crate::front::Front;
 use crate::place::Place;
+use crate::reasons::{Reason, keep_reason};
 use crate::sealing::Sealing;
 use crate::telling::say;
 use reg_calls::{Calls, Keeper};
@@ -24,6 +27,7 @@ use reg_lines::Imported;
 use reg_tables::StoreFault;
 use reg_words::{Answerer, KeyHolder, Steps, Word};
 use std::alloc::Global;
+use std::cell::Cell;
 use std::io::{Read, Write};
 
 /// What `init` is told: the issuer's Name, key and key identifier in hexadecimal, and the terms of the policy.
@@ -122,6 +126,7 @@ pub fn script<P: Place, F: Front, R: Read, W: Write>(
         office,
         front,
         is_sealed: signer.is_none(),
+        refused: None,
     };
     let ran = run_script(alloc, reader, writer, &mut opened);
     place.close(path, opened.office);
@@ -129,13 +134,15 @@ pub fn script<P: Place, F: Front, R: Read, W: Write>(
 }
 
 /// Imports standard input into the register at a path. A strict import ends at the first refusal or fault, and runs no last row without
-/// its line end.
-pub fn import_rows<P: Place, R: Read, W: Write>(
+/// its line end; why its last row was refused, if it was, is kept.
+pub fn import_rows<P: Place, F: Front, R: Read, W: Write>(
     alloc: Global,
+    front: &F,
     place: &mut P,
     path: &str,
     now: Moment,
     is_strict: bool,
+    reason: &Cell<Option<Reason>>,
     reader: &mut R,
     writer: &mut W,
 ) -> Result<(), Failure>
@@ -143,27 +150,53 @@ pub fn import_rows<P: Place, R: Read, W: Write>(
         P.Place P.Opened.Keeper.own place.old place.new is_strict path.now now result }
 {
     if is_strict {
-        return import_to_refusal(alloc, place, path, now, reader, writer);
+        return import_to_refusal(alloc, front, place, path, now, reason, reader, writer);
     }
     import_all(alloc, place, path, now, reader, writer)
 }
 
 /// Imports standard input into the register at a path, up to the first refusal or fault.
-fn import_to_refusal<P: Place, R: Read, W: Write>(
+fn import_to_refusal<P: Place, F: Front, R: Read, W: Write>(
     alloc: Global,
+    front: &F,
     place: &mut P,
     path: &str,
     now: Moment,
+    reason: &Cell<Option<Reason>>,
     reader: &mut R,
     writer: &mut W,
 ) -> Result<(), Failure>
     ensures { StrictImportAt R.remaining W.contents reader.old reader.new writer.old writer.new
         P.Place P.Opened.Keeper.own place.old place.new path.now now result }
 {
-    let mut office = place.open(path)?;
-    let imported = import_strictly(alloc, reader, writer, now, &mut office);
-    place.close(path, office);
+    let office = place.open(path)?;
+    let mut opened = Sealing {
+        office,
+        front,
+        is_sealed: false,
+        refused: None,
+    };
+    let imported = import_kept::<P, F, R, W>(alloc, &mut opened, now, reason, reader, writer);
+    place.close(path, opened.office);
     import_ended(imported)
+}
+
+/// Imports rows up to the first refusal or fault, and keeps why the last one was refused, if it was.
+fn import_kept<P: Place, F: Front, R: Read, W: Write>(
+    alloc: Global,
+    opened: &mut Sealing<'_, P::Opened, F>,
+    now: Moment,
+    reason: &Cell<Option<Reason>>,
+    reader: &mut R,
+    writer: &mut W,
+) -> Result<Imported, Fault>
+    ensures { Leads P.Opened.is_clean P.Opened.stands
+        (λ identity before after. StrictEnds (Lines P.Opened.signs identity) R.remaining W.contents now before after
+        reader.old reader.new writer.old writer.new result) opened.old.office opened.new.office }
+{
+    let imported = import_strictly(alloc, reader, writer, now, opened);
+    keep_reason::<P>(&mut opened.office, opened.refused, reason);
+    imported
 }
 
 /// How a job ends whose strict import of rows ended so.
@@ -248,7 +281,7 @@ pub fn schedule<P: Place, W: Write>(
 {
     let schedule = schedule_of(steps)?;
     let mut register = place.open(path)?;
-    let set = place.set_schedule(alloc, &mut register, schedule);
+    let set = P::set_schedule(alloc, &mut register, schedule);
     place.close(path, register);
     tell_set(writer, b"schedule set\n", set)
 }
@@ -313,7 +346,7 @@ fn tell_verdict<W: Write>(alloc: Global, writer: &mut W, verdict: Verdict) -> Re
 
 /// Tells that all rows are sound.
 fn tell_sound<W: Write>(alloc: Global, writer: &mut W, found: Audited) -> Result<(), Failure>
-    ensures { TellsSound (sound_text found) W.contents writer.old writer.new result }
+    ensures { TellsLine (sound_text found) W.contents writer.old writer.new result }
 {
     match sound_line(alloc, found) {
         Ok(line) => say(writer, &line),

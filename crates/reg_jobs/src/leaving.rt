@@ -9,9 +9,9 @@ ghost use Rattle.reg_signer.specs.Forms.{HasForm};
 ghost use Rattle.reg_watch.specs.Exchanges.{route_in};
 
 use crate::front::Front;
-use crate::handling::{TEXT_ROOM, response_of};
 use crate::logging::{log_answer, micros_since};
 use crate::place::Place;
+use crate::visiting::{TEXT_ROOM, response_of};
 use mio::net::UnixStream;
 use reg_core::{Memory, Moment};
 use reg_http::finish_one;

@@ -8,8 +8,9 @@ ghost use Rattle.reg_jobs.specs.Lined.{EndsOrNot, LastEnds, LinesEnd, NextEnds, 
 ghost use Rattle.reg_wire.specs.Run.{Answered};
 
 use crate::front::Front;
-use crate::handling::{ClockedDesk, LinedDesk};
 use crate::place::Place;
+use crate::reasons::{Reason, keep_reason};
+use crate::scripting::{ClockedDesk, LinedDesk};
 use crate::sealing::Sealing;
 use crate::telling::say;
 use reg_calls::Keeper;
@@ -20,6 +21,7 @@ use reg_lines::{LONGEST_LINE, MOST_LINES, is_accepted};
 use reg_wire::{Reached, fill_to_mark};
 use reg_words::{Answerer, KeyHolder, Way};
 use std::alloc::Global;
+use std::cell::Cell;
 use std::io::{Read, Write};
 
 /// Room for the longest line and its LF.
@@ -29,7 +31,8 @@ const ROOM: usize = LONGEST_LINE + 1;
 const CLOCKED_ROOM: usize = ROOM - 21;
 
 /// Runs the script of standard input over the register at a path, line by line. A strict one ends at the first refusal or fault, and runs
-/// no last line without its end. Where a digest seals its first CRL, that is said at the front.
+/// no last line without its end. Where a digest seals its first CRL, that is said at the front; why its last line was refused, if that was
+/// a registration, is kept.
 pub fn script_by_lines<P: Place, F: Front, R: Read, W: Write>(
     alloc: Global,
     front: &F,
@@ -37,6 +40,7 @@ pub fn script_by_lines<P: Place, F: Front, R: Read, W: Write>(
     path: &str,
     signer: &Option<KeyHolder<'_>>,
     way: Way,
+    reason: &Cell<Option<Reason>>,
     reader: &mut R,
     writer: &mut W,
 ) -> Result<(), Failure>
@@ -49,6 +53,7 @@ pub fn script_by_lines<P: Place, F: Front, R: Read, W: Write>(
         office,
         front,
         is_sealed: signer.is_none(),
+        refused: None,
     };
     if way.is_clocked {
         let mut opened = ClockedDesk {
@@ -57,6 +62,7 @@ pub fn script_by_lines<P: Place, F: Front, R: Read, W: Write>(
             front,
         };
         let ran = run_clocked(alloc, &mut opened, way.is_strict, reader, writer);
+        keep_reason::<P>(&mut opened.office.office, opened.office.refused, reason);
         place.close(path, opened.office.office);
         return ran;
     }
@@ -65,6 +71,7 @@ pub fn script_by_lines<P: Place, F: Front, R: Read, W: Write>(
         alloc,
     };
     let ran = run_unclocked(alloc, &mut lined, way.is_strict, reader, writer);
+    keep_reason::<P>(&mut lined.office.office, lined.office.refused, reason);
     place.close(path, lined.office.office);
     ran
 }

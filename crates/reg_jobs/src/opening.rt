@@ -42,6 +42,7 @@ pub fn hold_open<'w, P: Place, F: Front, W: Write>(
         office,
         alloc,
         front,
+        file: path,
         signer: answers_at(signer, answerer),
         crl_signer: crls_at(signer),
         alone_since: None,

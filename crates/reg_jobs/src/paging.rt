@@ -4,8 +4,8 @@ ghost use Rattle.std.specs.Prelude.{◌≡◌, []};
 ghost use Rattle.reg_calls.specs.Leads.{Leads};
 ghost use Rattle.reg_jobs.specs.Exchanges.{ListEnds, ListedAt, SaysList};
 
-use crate::handling::response_of;
 use crate::place::Place;
+use crate::visiting::response_of;
 use reg_core::{Fault, Moment};
 use reg_http::{ListAsked, read_list, refuse_list, send_list, tell_page};
 use std::alloc::Global;

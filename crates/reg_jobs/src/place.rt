@@ -62,6 +62,12 @@ pub trait Place {
     /// What was opened at the path was closed, with this register in it, and the place after it.
     ghost closed: { Self → List ℕ → Self.Opened → Self → Type 0 };
 
+    /// A copy of so many bytes of the register at the path was laid at another path, at which nothing lay, and the place after it.
+    ghost copied: { Self → List ℕ → List ℕ → ℕ → Self → Type 0 };
+
+    /// For this no copy of what lies at the path was laid at another path, and the place after it.
+    ghost uncopied: { Self → List ℕ → List ℕ → Failing → Self → Type 0 };
+
     /// An audit of what lies at the path said this.
     ghost audited: { Self → List ℕ → Verdicts → Type 0 };
 
@@ -139,7 +145,6 @@ pub trait Place {
     ///
     /// `Memory`, `Store`. Nothing has changed then.
     fn set_schedule(
-        &self,
         alloc: Global,
         register: &mut Self::Opened,
         schedule: Schedule,
@@ -233,6 +238,19 @@ pub trait Place {
     fn audit(&self, path: &str) -> Result<Verdict, Failure>
         ensures ok { IfOk result (λ verdict. audited self.now path.now verdict) }
         ensures err { IfErr result (λ why. unaudited self.now path.now why) }
+        ensures faults { IfErr result IsOpening };
+
+    /// Copies the register that lies at a path, and is not open, to a path at which nothing lies: a file that its owner alone may read and write,
+    /// synced with its folder, which holds each page as who opens the register finds it; one of an older version stays so. What lies at the first
+    /// path is only read. Gives how many bytes the copy has. A copy that is not whole never has the name.
+    ///
+    /// # Errors
+    ///
+    /// `NotARegister` where no database was begun; `Fault` of `Memory`, and of `Store` where nothing lies there or it can't be read, something
+    /// lies at the second path or beside it, or the copy can't be written.
+    fn copy(&mut self, path: &str, to: &str) -> Result<u64, Failure>
+        ensures ok { IfOk result (λ bytes. copied self.old path.now to.now bytes self.new) }
+        ensures err { IfErr result (λ why. uncopied self.old path.now to.now why self.new) }
         ensures faults { IfErr result IsOpening };
 
     /// Closes what was opened at a path.

@@ -1,33 +1,37 @@
-//! Why a line of a counter was refused, as the word `why` tells it behind it.
+//! Why a registration was refused: as the word `why` of a counter tells it behind the line, and a strict script or import under `--why`.
 
-ghost use Rattle.std.specs.Prelude.{◌≡◌, IfOk, IfSome};
+ghost use Rattle.std.specs.Prelude.{◌≡◌, ◌++◌, ◌∷◌, [], IfOk, IfSome};
 ghost use Rattle.reg_calls.specs.Leads.{Leads};
-ghost use Rattle.reg_jobs.specs.Reasons.{asks_why as asks, is_refusal as refuses, last_second, latest_text, order_text, why_text};
+ghost use Rattle.reg_jobs.specs.Reasons.{IsReasonLine, is_refusal as refuses, last_second, latest_text, order_text, reason_text, why_text};
 
-use crate::handling::timed_line;
+use crate::entering::timed_line;
 use crate::place::Place;
-use reg_core::{Command, Decimal, Moment};
+use crate::words::without_end;
+use reg_core::{Command, Decimal, Fault, Moment, Outcome, Refusal};
 use reg_lines::{Line, read_line};
 use std::alloc::{AllocError, Global};
+use std::cell::Cell;
 
 /// The seconds of a day.
 const DAY: u64 = 86_400;
 
-/// A registration as a line has it: its order, and from when on the certificate is valid.
-#[derive(Clone, Copy)]
-struct Registration {
-    order: u64,
-    not_before: Moment,
+/// Why a registration was refused, where more is told of that than the refusal.
+#[derive(Clone, Copy, PartialEq, Eq)]
+pub enum Reason {
+    /// There is no order of this number.
+    NoOrder(u64),
+    /// The order of this number has its certificate.
+    Filled(u64),
+    /// The order and the schedule allow no later notAfter than this.
+    Latest(Moment),
 }
 
-/// Whether a line asks why the last refused one was.
-pub(crate) fn asks_why(line: &[u8]) -> bool
-    ensures { result ≡ asks line.now }
-{
-    if line == b"why\n".as_slice() {
-        return true;
-    }
-    line == b"why\r\n".as_slice()
+/// A registration that was refused: its order, from when on the certificate is valid, and for what.
+#[derive(Clone, Copy)]
+pub(crate) struct Refused {
+    order: u64,
+    not_before: Moment,
+    why: Refusal,
 }
 
 /// Whether a reply is a refusal.
@@ -35,7 +39,7 @@ pub(crate) fn is_refusal(reply: &[u8]) -> bool
     ensures { result ≡ refuses reply.now }
 {
     match reply.first() {
-        Some(first) => *first == b'E',
+        Some(first) => *first == b'E' || *first == b'b',
         None => false,
     }
 }
@@ -74,74 +78,68 @@ pub(crate) fn note<P: Place>(
 )
     ensures { Leads P.Opened.is_clean P.Opened.stands (λ identity before after. after ≡ before) office.old office.new }
 {
-    noted.clear();
-    match registration_in(alloc, now, line) {
-        Some(registration) => note_registration::<P>(alloc, office, registration, reply, noted),
+    match refused_in(alloc, now, line, reply) {
+        Some(refused) => {
+            let reason = reason_of::<P>(office, refused);
+            note_reason(alloc, reason, reply, noted);
+        }
         None => note_reply(reply, noted),
     }
 }
 
-/// Notes why a registration was refused by this reply: for its order, or for how long it is valid; else the reply.
-fn note_registration<P: Place>(
-    alloc: Global,
-    office: &mut P::Opened,
-    registration: Registration,
-    reply: &[u8],
-    noted: &mut Vec<u8>,
-)
-    ensures { Leads P.Opened.is_clean P.Opened.stands (λ identity before after. after ≡ before) office.old office.new }
-{
-    let Registration { order, not_before } = registration;
-    match reply {
-        _ if reply == b"E08 no-order\n".as_slice() => {
-            note_text(
-                order_text_of(alloc, b"no order ", order, b"\n"),
-                reply,
-                noted,
-            );
-        }
-        _ if reply == b"E09 order-filled\n".as_slice() => {
-            let text = order_text_of(alloc, b"order ", order, b" has its certificate\n");
-            note_text(text, reply, noted);
-        }
-        _ if reply == b"E12 too-long\n".as_slice() => {
-            note_longest::<P>(alloc, office, order, not_before, reply, noted);
-        }
-        _ => note_reply(reply, noted),
+/// Notes a reason in place of what was noted; where there is none, or no memory for it, the reply.
+fn note_reason(alloc: Global, reason: Option<Reason>, reply: &[u8], noted: &mut Vec<u8>) {
+    match reason_line(alloc, b"", reason) {
+        Some(text) => *noted = text,
+        None => note_reply(reply, noted),
     }
 }
 
-/// Notes up to when a certificate that is valid from a moment on may be valid by its order.
-fn note_longest<P: Place>(
-    alloc: Global,
-    office: &mut P::Opened,
-    order: u64,
-    not_before: Moment,
-    reply: &[u8],
-    noted: &mut Vec<u8>,
-)
+/// Notes a reply in place of what was noted. What there is no memory for is left out.
+pub(crate) fn note_reply(reply: &[u8], noted: &mut Vec<u8>) {
+    noted.clear();
+    let _ = noted.extend_from_slice(reply);
+}
+
+/// Why a registration was refused, as the register tells it. Nothing changes.
+pub(crate) fn reason_of<P: Place>(office: &mut P::Opened, refused: Refused) -> Option<Reason>
+    ensures { Leads P.Opened.is_clean P.Opened.stands (λ identity before after. after ≡ before) office.old office.new }
+{
+    match refused.why {
+        Refusal::NoOrder => Some(Reason::NoOrder(refused.order)),
+        Refusal::OrderFilled => Some(Reason::Filled(refused.order)),
+        Refusal::TooLong => latest_of::<P>(office, refused.order, refused.not_before),
+        _ => None,
+    }
+}
+
+/// Up to when a certificate that is valid from a moment on may be valid by its order.
+fn latest_of<P: Place>(office: &mut P::Opened, order: u64, not_before: Moment) -> Option<Reason>
     ensures { Leads P.Opened.is_clean P.Opened.stands (λ identity before after. after ≡ before) office.old office.new }
 {
     match P::longest(office, order, not_before) {
-        Ok(Some(days)) => note_latest(alloc, last_of(not_before, days), reply, noted),
-        Ok(None) => note_reply(reply, noted),
-        Err(_) => note_reply(reply, noted),
+        Ok(Some(days)) => latest_in(not_before, days),
+        Ok(None) => None,
+        Err(_) => None,
     }
 }
 
-/// Notes the latest notAfter.
-fn note_latest(alloc: Global, latest: Option<Moment>, reply: &[u8], noted: &mut Vec<u8>) {
-    match latest {
-        Some(at) => note_text(latest_text_of(alloc, at), reply, noted),
-        None => note_reply(reply, noted),
-    }
+/// The same by the days that it may be valid.
+fn latest_in(not_before: Moment, days: u64) -> Option<Reason> {
+    Some(Reason::Latest(last_of(not_before, days)?))
 }
 
-/// Notes a text; where there was no memory for it the reply.
-fn note_text(text: Result<Vec<u8>, AllocError>, reply: &[u8], noted: &mut Vec<u8>) {
-    match text {
-        Ok(text) => *noted = text,
-        Err(_) => note_reply(reply, noted),
+/// Keeps why the last command of a run was refused, if it was a registration that was.
+pub(crate) fn keep_reason<P: Place>(
+    office: &mut P::Opened,
+    refused: Option<Refused>,
+    reason: &Cell<Option<Reason>>,
+)
+    ensures { Leads P.Opened.is_clean P.Opened.stands (λ identity before after. after ≡ before) office.old office.new }
+{
+    match refused {
+        Some(refused) => reason.set(reason_of::<P>(office, refused)),
+        None => reason.set(None),
     }
 }
 
@@ -153,6 +151,35 @@ fn last_of(not_before: Moment, days: u64) -> Option<Moment>
     Moment::of_secs(not_before.secs().checked_add(seconds)?)
 }
 
+/// A text and the words of a reason behind it, with an LF, where there is a reason and memory for them.
+pub(crate) fn reason_line(alloc: Global, front: &[u8], reason: Option<Reason>) -> Option<Vec<u8>>
+    ensures { IfSome result (λ text. IsReasonLine front.now reason text.items) }
+{
+    let words = reason_words(alloc, reason?).ok()?;
+    front_and_end(alloc, front, &words).ok()
+}
+
+/// A text, words behind it and an LF.
+fn front_and_end(alloc: Global, front: &[u8], words: &[u8]) -> Result<Vec<u8>, AllocError>
+    ensures { IfOk result (λ text. text.items ≡ front.now ++ words.now ++ 10 ∷ []) }
+{
+    let mut text = Vec::from_slice(alloc, front)?;
+    text.extend_from_slice(words)?;
+    text.push(b'\n')?;
+    Ok(text)
+}
+
+/// The words of a reason.
+fn reason_words(alloc: Global, reason: Reason) -> Result<Vec<u8>, AllocError>
+    ensures { IfOk result (λ text. text.items ≡ reason_text reason) }
+{
+    match reason {
+        Reason::NoOrder(order) => order_text_of(alloc, b"no order ", order, b""),
+        Reason::Filled(order) => order_text_of(alloc, b"order ", order, b" has its certificate"),
+        Reason::Latest(at) => latest_text_of(alloc, at),
+    }
+}
+
 /// The text that tells the latest notAfter.
 #[tactic(auto, unfolding(crate::specs::Reasons::latest_text))]
 fn latest_text_of(alloc: Global, at: Moment) -> Result<Vec<u8>, AllocError>
@@ -160,7 +187,6 @@ fn latest_text_of(alloc: Global, at: Moment) -> Result<Vec<u8>, AllocError>
 {
     let mut text = Vec::from_slice(alloc, b"notAfter at most ")?;
     text.extend_from_slice(&at.text())?;
-    text.push(b'\n')?;
     Ok(text)
 }
 
@@ -175,53 +201,46 @@ fn order_text_of(alloc: Global, front: &[u8], order: u64, end: &[u8]) -> Result<
     Ok(text)
 }
 
-/// Notes a reply. What there is no memory for is left out.
-fn note_reply(reply: &[u8], noted: &mut Vec<u8>) {
-    let _ = noted.extend_from_slice(reply);
-}
-
-/// The registration that a line says, if it says one.
-fn registration_in(alloc: Global, now: Moment, line: &[u8]) -> Option<Registration> {
-    let Ok(timed) = timed_line(alloc, now, line) else {
-        return None;
-    };
-    match read_line(without_end(&timed)) {
-        Some(said) => registration_said(&said),
-        None => None,
-    }
-}
-
-/// The registration that is said, if it is one.
-fn registration_said(said: &Line<'_>) -> Option<Registration> {
-    match *said {
-        Line::Tell(_, command) => registration_of(&command),
+/// The registration of a line that was refused by this reply, if it is one, and more is told of that refusal.
+fn refused_in(alloc: Global, now: Moment, line: &[u8], reply: &[u8]) -> Option<Refused> {
+    let why = refusal_told(reply)?;
+    let timed = timed_line(alloc, now, line).ok()?;
+    match read_line(without_end(&timed))? {
+        Line::Tell(_, command) => refused_for(&command, why),
         _ => None,
     }
 }
 
-/// The registration that a command is, if it is one.
-fn registration_of(command: &Command) -> Option<Registration> {
+/// The refusal that a reply tells, where more is told of it.
+fn refusal_told(reply: &[u8]) -> Option<Refusal> {
+    match reply {
+        _ if reply == b"E08 no-order\n".as_slice() => Some(Refusal::NoOrder),
+        _ if reply == b"E09 order-filled\n".as_slice() => Some(Refusal::OrderFilled),
+        _ if reply == b"E12 too-long\n".as_slice() => Some(Refusal::TooLong),
+        _ => None,
+    }
+}
+
+/// The registration that a command is and that was refused for this, if it is one.
+fn refused_for(command: &Command, why: Refusal) -> Option<Refused> {
     match *command {
         Command::Register {
             order,
             not_before,
             ..
-        } => Some(Registration { order, not_before }),
+        } => Some(Refused {
+            order,
+            not_before,
+            why,
+        }),
         _ => None,
     }
 }
 
-/// A line without its end.
-fn without_end(line: &[u8]) -> &[u8] {
-    without_last(without_last(line, b'\n'), b'\r')
-}
-
-/// A text without a byte at its end.
-fn without_last(text: &[u8], byte: u8) -> &[u8] {
-    let len = text.len();
-    if len > 0 && text[len - 1] == byte {
-        &text[..len - 1]
-    } else {
-        text
+/// The registration that a command is, if it came to a refusal.
+pub(crate) fn refused_by(command: &Command, outcome: &Outcome) -> Option<Refused> {
+    match *outcome {
+        Err(Fault::Refused(why)) => refused_for(command, why),
+        _ => None,
     }
 }

@@ -1,21 +1,24 @@
-//! An office whose first CRL is told of where a digest seals it.
+//! An office whose first CRL is told of where a digest seals it, and of which it is kept which registration was refused last.
 
 ghost use Rattle.std.specs.Prelude.{◌↔◌, IsTrue};
 ghost use Rattle.reg_jobs.specs.Sealing.{IsFirstCrl, IsFirstSealed, sealed_line};
 
 use crate::front::Front;
+use crate::reasons::{Refused, refused_by};
 use reg_calls::{Begun, Calls, Keeper};
 use reg_core::{Command, Fault, Memory, Moment, Outcome, Query, Reply};
 use std::alloc::Global;
 
-/// An office of whose first CRL it is said on standard error that it is no signature, where a digest seals it. All else is as in
-/// the office that it has.
+/// An office of whose first CRL it is said on standard error that it is no signature, where a digest seals it, and of whose last command
+/// it is kept which registration it was, if it was one that was refused. All else is as in the office that it has.
 #[derive(Drop)]
 pub(crate) struct Sealing<'a, K: Keeper, F: Front> {
     pub(crate) office: K,
     pub(crate) front: &'a F,
     /// Whether a digest seals what is issued.
     pub(crate) is_sealed: bool,
+    /// The registration that the last command was, if it was refused.
+    pub(crate) refused: Option<Refused>,
 }
 
 impl<'a, K: Keeper, F: Front> Calls for Sealing<'a, K, F> {
@@ -40,6 +43,7 @@ impl<'a, K: Keeper, F: Front> Calls for Sealing<'a, K, F> {
         if is_first_sealed(self.is_sealed, &outcome) {
             warn(self.front);
         }
+        self.refused = refused_by(command, &outcome);
         outcome
     }
 

@@ -4,21 +4,25 @@ ghost use Rattle.std.specs.Prelude.{◌++◌, ◌∷◌, []};
 ghost use Rattle.reg_causes.specs.Causes.{cause_line};
 ghost use Rattle.reg_endings.specs.Endings.{failure_line};
 ghost use Rattle.reg_jobs.specs.Ends.{Says};
-ghost use Rattle.reg_jobs.specs.Told.{Adds, IsTold, IsWritten};
+ghost use Rattle.reg_jobs.specs.Told.{Adds, IsTold, IsWritten, TellsReason};
 
+use crate::reasons::{Reason, reason_line};
 use reg_causes::Cause;
 use reg_core::Fault;
 use reg_endings::Failure;
 use reg_wire::write_whole;
+use std::alloc::Global;
 use std::cell::Cell;
 use std::io::Write;
 
-/// Where the cause of the call that failed last is noted, and whether it is told.
+/// Where the cause of the call that failed last is noted, and why the last registration was refused, and whether that is told.
 #[derive(Clone, Copy)]
 pub struct Causes<'a> {
     /// Where causes are noted.
     pub noted: &'a Cell<Option<Cause>>,
-    /// Whether a fault's line is followed by its cause.
+    /// Where it is kept why the last registration of a run was refused.
+    pub reason: &'a Cell<Option<Reason>>,
+    /// Whether a fault's line is followed by its cause, and that of a refusal by its reason.
     pub is_told: bool,
 }
 
@@ -46,15 +50,37 @@ pub fn tell<W: Write>(errors: &mut W, failure: &Failure)
     }
 }
 
-/// Tells on standard error the cause of a fault, in one line, where that is asked for, known, and the exit status is that of a fault.
-pub fn explain<W: Write>(errors: &mut W, is_asked: bool, status: u8, cause: Option<Cause>)
+/// Tells on standard error, in one line, where that is asked for and known, the cause of a fault by its exit status, or why a registration
+/// was refused by that of a refusal.
+pub fn explain<W: Write>(
+    alloc: Global,
+    errors: &mut W,
+    is_asked: bool,
+    status: u8,
+    cause: Option<Cause>,
+    reason: Option<Reason>,
+)
     ensures { Adds is_asked status (W.contents errors.old) (W.contents errors.new) }
 {
-    if !is_asked || status != 1 {
+    if !is_asked {
         return;
     }
-    match cause {
-        Some(cause) => tell_cause(errors, cause),
+    match (status, cause) {
+        (1, Some(cause)) => tell_cause(errors, cause),
+        (3, _) => tell_reason(alloc, errors, reason),
+        _ => {}
+    }
+}
+
+/// Tells a reason in one line, if there is one and memory for that.
+fn tell_reason<W: Write>(alloc: Global, errors: &mut W, reason: Option<Reason>)
+    ensures { TellsReason (W.contents errors.old) (W.contents errors.new) }
+{
+    match reason_line(alloc, b"  ", reason) {
+        Some(line) => match write_whole(errors, &line) {
+            Ok(()) => {}
+            Err(_) => {}
+        },
         None => {}
     }
 }

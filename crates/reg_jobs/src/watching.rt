@@ -7,8 +7,8 @@ ghost use Rattle.reg_http.specs.Asked.{path_of as path_in};
 ghost use Rattle.reg_jobs.specs.Watched.{AsksItself, HasCounts, HasDue, HasFound, HasOverdue, HasRequests, IsRecounted, Recounts, TellsItself, Writes, ask_at as ask_told, ask_of as ask_in, by_get, counts_in, due_in, health_response, many_in, metrics_response, only_get as only_get_told, overdue_in, status_of as status_told, told_by};
 ghost use Rattle.reg_watch.specs.Metrics.{metrics_text};
 
-use crate::handling::memory_response;
 use crate::place::Place;
+use crate::visiting::memory_response;
 use reg_calls::Keeper;
 use reg_core::{Counts, Fault, Memory, Moment, Outcome, Overdue, Query, Reply};
 use reg_heads::{Answer, HEAD_ROOM, Request, read_request, status, write_answer};

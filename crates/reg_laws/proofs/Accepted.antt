@@ -1,5 +1,5 @@
 -- What it means that a command is accepted: that none of its checks applies.
-use Rattle.std.proofs.Common.{◌≡◌, ℕ, ◌<◌, ◌≤◌, Bool, true, false, cond, not, ◌||◌, ◌==◌, nat_le, nat_lt, List, [], ◌∷◌, ◌++◌, length, Option, Some, None, Result, Ok, Err, IsTrue, IsFalse, IsSome, refl, sym, ap, subst, ◌∙◌, arith}
+use Rattle.std.proofs.Common.{◌≡◌, ℕ, ◌<◌, ◌≤◌, Bool, true, false, cond, not, ◌||◌, ◌==◌, nat_le, nat_lt, List, [], ◌∷◌, ◌++◌, length, Option, Some, None, Result, Ok, Err, IsTrue, IsFalse, IsSome, IsSomeAnd, refl, sym, ap, subst, ◌∙◌, arith}
 use Rattle.std.specs.List.{AllByRecursion}
 use Rattle.std.specs.Prelude.{option_and_then}
 use Rattle.std.proofs.lemmas.Bool.Decides.{nat_tests}
@@ -19,7 +19,7 @@ use Rattle.reg_core.specs.declared.command.Command.{Command}
 use Rattle.reg_core.specs.declared.command.Command.TheVariants.{Subscriber, Order, Register, Request, Decline, Revoke, Crl as IssueCrl}
 use Rattle.reg_core.specs.declared.refusal.Refusal.{Refusal}
 use Rattle.reg_core.specs.declared.refusal.Refusal.TheVariants.{ClockBack, ClockEnd, Full, BadName, NameTaken, NoSubscriber, BadDays, NoOrder, OrderFilled, SerialTaken, BadValidity, TooLong, Ended, UnknownSerial, NoRequest, DeclinedBefore, RevokedBefore, Expired}
-use Rattle.reg_laws.proofs.Lists.{all_front, all_back, all_found, some_of}
+use Rattle.reg_laws.proofs.Lists.{all_front, all_back, all_found, all_weaker, some_of, some_and_some}
 
 -- WHAT A CHECK THAT DOES NOT APPLY SAYS
 
@@ -206,6 +206,16 @@ accepted_request records now serial word none =
       room = room_of records (length records.requests) (when_none (is_full records records.requests) Full passed.1.1.1.1.0);
     }
 
+-- the certificate of each request is there
+pub certificates_exist : (records : Records) → SoundRows records → AllByRecursion (λ row. IsSome (certificate_in records.certificates row.serial)) records.requests
+certificates_exist records sound =
+    all_weaker
+    (λ row. IsSomeAnd (certificate_in records.certificates row.serial) (λ known. row.received ≤ known.not_after))
+    (λ row. IsSome (certificate_in records.certificates row.serial))
+    (λ row. some_and_some (λ known. row.received ≤ known.not_after) (certificate_in records.certificates row.serial))
+    records.requests
+    sound.requests.within_validity
+
 -- of a decision, from its own checks
 settled : (records : Records) (now id : ℕ) → SoundRows records → OnClock records now
     → AllByRecursion (λ test. test ≡ None) (settle_checks now (request_in records.requests id) (certificate_of_request records id) (revocation_of_request records id))
@@ -225,7 +235,7 @@ settled records now id sound clock passed = record {
     request = found_of (request_in records.requests id) NoRequest passed.0
 
     certificate : (known : CertRow) × (certificate_in records.certificates request.0.serial ≡ Some known)
-    certificate = some_of (certificate_in records.certificates request.0.serial) (all_found (λ row. IsSome (certificate_in records.certificates row.serial)) (λ row. row.id == id) records.requests request.0 request.1 sound.requests.certificates_exist)
+    certificate = some_of (certificate_in records.certificates request.0.serial) (all_found (λ row. IsSome (certificate_in records.certificates row.serial)) (λ row. row.id == id) records.requests request.0 request.1 (certificates_exist records sound))
 
     of_certificate : certificate_of_request records id ≡ Some certificate.0
     of_certificate = ap (option_and_then (λ (row : RequestRow). certificate_in records.certificates row.serial)) request.1 ∙ certificate.1

@@ -3,7 +3,7 @@ use Rattle.std.proofs.Common.{◌≡◌, ℕ, ◌+◌, ◌<◌, ◌≤◌, Bool,
 use Rattle.std.specs.List.{AllByRecursion, list_any}
 use Rattle.std.proofs.lemmas.Bool.Decides.{nat_tests}
 use Rattle.std.proofs.lemmas.List.Elements.{filter-append}
-use Rattle.reg_core.specs.Crls.{content, cert_list, entry_of, ascending, is_on, is_past_on, is_past_end, next_number, latest}
+use Rattle.reg_core.specs.Crls.{content, cert_list, entry_of, ascending, is_on, is_past_on, is_past_end, next_number}
 use Rattle.reg_core.specs.Records.{Records, Crl, certificate_in}
 use Rattle.reg_core.specs.Sound.{SoundRows, SoundRevocation, NumberedFrom}
 use Rattle.reg_core.specs.declared.rows.CertRow.{CertRow}
@@ -61,12 +61,6 @@ grows_on before between after first second = record {
   where
     longer : length before.crls ≤ length between.crls
     longer = let e : length between.crls ≡ length before.crls + length first.more_crls = ap length first.crls ∙ length-append before.crls first.more_crls in omega arith
-
--- the CRL that was issued last is the one that was added
-pub latest_push : (crls : List Crl) (crl : Crl) → latest (crls ++ crl ∷ []) ≡ Some crl
-latest_push [] crl = refl
-latest_push (first ∷ []) crl = refl
-latest_push (first ∷ next ∷ rest) crl = latest_push (next ∷ rest) crl
 
 next_from : (from : ℕ) (first : Crl) (rest : List Crl) → NumberedFrom (λ crl. crl.number) from (first ∷ rest) → next_number (first ∷ rest) ≡ from + length (first ∷ rest)
 next_from from first [] numbered = omega (arith, numbered.0)

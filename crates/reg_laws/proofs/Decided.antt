@@ -1,16 +1,15 @@
 -- The decisions tied to the step: look-ups, a decision on what they found, and one change, are one step.
-use Rattle.std.specs.Prelude.{length, ◌==◌, nat_le, nat_lt, option_and_then, option_map, unwrap_or, Result, Ok, Err, IfSome}
+use Rattle.std.specs.Prelude.{length, ◌==◌, nat_lt, option_and_then, option_map, unwrap_or, Result, Ok, Err, IfSome}
 use Rattle.std.specs.List.{AllByRecursion, list_any}
-use Rattle.std.proofs.Common.{◌≡◌, ◌≢◌, ℕ, ◌+◌, ◌≤◌, Bool, true, false, cond, ◌&&◌, ◌||◌, List, [], ◌∷◌, ◌++◌, Option, Some, None, refl, sym, ap, ◌∙◌, subst, arith, inl, inr}
-use Rattle.std.proofs.lemmas.Bool.Decides.{nat_tests}
+use Rattle.std.proofs.Common.{◌≡◌, ◌≢◌, ℕ, ◌+◌, Bool, true, false, cond, ◌&&◌, ◌||◌, List, [], ◌∷◌, ◌++◌, Option, Some, None, refl, sym, ap, ◌∙◌, subst, inl, inr}
 use Rattle.reg_core.specs.Changes.{touched, with_subscriber, with_order, with_certificate, with_request, with_declined, with_revocation, with_crl}
-use Rattle.reg_core.specs.Checks.{clock_end, clock_checks, first_of_all, when}
+use Rattle.reg_core.specs.Checks.{clock_checks, first_of_all}
 use Rattle.reg_core.specs.Crls.{CertList, cert_list, content, latest, next_number, row_of}
-use Rattle.reg_core.specs.Decisions.{head_of, IsDecidedBy, DecidesSubscriber, DecidesOrder, DecidesRegister, DecidesRequest, DecidesDecline, DecidesRevoke, DecidesCrl, IsRequest, is_same, refused_or, revocation_by}
+use Rattle.reg_core.specs.Decisions.{head_of, IsDecidedBy, DecidesSubscriber, DecidesOrder, DecidesRegister, DecidesRequest, DecidesDecline, DecidesRevoke, DecidesCrl, IsRequest, is_same, revocation_by}
 use Rattle.reg_core.specs.Due.{deadline}
 use Rattle.reg_core.specs.Grounds.{ground_named, ground_or, ground_or_refusal}
 use Rattle.reg_core.specs.Policy.{Terms}
-use Rattle.reg_core.specs.Queries.{answer, query_checks, query_reply}
+use Rattle.reg_core.specs.Queries.{answer}
 use Rattle.reg_core.specs.Records.{Records, subscriber_in, subscriber_named, order_in, certificate_in, certificate_of_order, request_in, revocation_in}
 use Rattle.reg_core.specs.Sound.{KeysDiffer, SoundRows}
 use Rattle.reg_core.specs.Step.{Step, StepBy, IsSigned, refusal, reply, changed, checks, is_repeat, same_certificate, request_row, revocation_row, is_late, certificate_of_request, revocation_of_request}
@@ -25,11 +24,10 @@ use Rattle.reg_core.specs.declared.rows.RevocationRow.{RevocationRow}
 use Rattle.reg_core.specs.declared.rows.CrlRow.{CrlRow}
 use Rattle.reg_core.specs.declared.command.Command.{Command}
 use Rattle.reg_core.specs.declared.command.Command.TheVariants.{Subscriber, Order, Request, Decline, Revoke, Crl as IssueCrl}
-use Rattle.reg_core.specs.declared.command.Query.{Query}
 use Rattle.reg_core.specs.declared.command.Reply.{Reply}
 use Rattle.reg_core.specs.declared.command.Reply.TheVariants.{Subscriber as SubscriberEntered, Order as OrderEntered, Registered, Same, Request as RequestEntered, Declined, Revoked, Crl as CrlIssued}
 use Rattle.reg_core.specs.declared.refusal.Refusal.{Refusal}
-use Rattle.reg_core.specs.declared.refusal.Refusal.TheVariants.{ClockEnd, ClockBack, NoSubscriber, UnknownSerial, NoRequest}
+use Rattle.reg_core.specs.declared.refusal.Refusal.TheVariants.{NoSubscriber, UnknownSerial, NoRequest}
 use Rattle.reg_core.specs.declared.refusal.Fault.TheVariants.{Refused}
 use Rattle.reg_laws.specs.Import.{register}
 use Rattle.reg_laws.proofs.Accepted.{all_passed, found_of}
@@ -95,38 +93,6 @@ accepts_as signed records now command answer change unsigned accepted replies ch
   changes = changes;
   step = step_accepted signed records now command answer [] change accepted unsigned replies changes;
 }
-
--- at the clock's end, or after it, that is the first refusal
-pub ended_first :
-    (now last : ℕ) (own : List (Option Refusal))
-    → clock_end ≤ now → first_of_all (clock_checks now last ++ own) ≡ Some ClockEnd
-ended_first now last own ended =
-    ap (λ b. first_of_all (when b ClockEnd ∷ when (nat_lt now last) (ClockBack last) ∷ own)) (past clock_end now ended)
-  where
-    past : (m n : ℕ) → m ≤ n → nat_le m n ≡ true
-    past m n h = grind (arith, nat_tests)
-
--- each command is refused so
-pub clock_ended :
-    (signed : CertList → List ℕ → Type 0) (records : Records) (now : ℕ) (command : Command)
-    → clock_end ≤ now → Refuses signed records now command ClockEnd
-clock_ended signed records now command ended =
-    step_refused
-    signed
-    records
-    now
-    command
-    ClockEnd
-    (ended_first now records.last (cond (is_repeat records command) [] (checks records now command)) ended)
-
--- and each query
-pub query_ended :
-    (records : Records) (now : ℕ) (query : Query)
-    → clock_end ≤ now → answer records now query ≡ Err ClockEnd
-query_ended records now query ended =
-    ap
-    (λ refused. refused_or refused (query_reply records now query))
-    (ended_first now records.last (query_checks records query) ended)
 
 -- what a decision says of the refusal that applies: it is the one that is answered, or there is none
 abbrev pub Says : {Answer : Type 0} → Option Refusal → (Answer → Type 0) → Result Answer Refusal → Type 0

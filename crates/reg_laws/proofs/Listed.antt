@@ -1,10 +1,9 @@
 -- What CRLs list, over sound records: a revocation from its first CRL to its last, each by an entry of its own, and no
 -- other serial number.
-use Rattle.std.proofs.Common.{◌≡◌, ◌↔◌, ℕ, ◌<◌, ◌≤◌, Bool, true, false, not, ◌&&◌, ◌==◌, nat_lt, nat_le, List, filter, find, Option, Some, None, option_map, IsTrue, IsFalse, IfSome, refl, sym, ap, ◌∙◌, subst, arith}
+use Rattle.std.proofs.Common.{◌≡◌, ◌↔◌, ℕ, ◌<◌, ◌≤◌, Bool, true, not, ◌&&◌, ◌==◌, nat_lt, nat_le, List, find, Option, Some, None, option_map, IsTrue, IsFalse, IfSome, refl, sym, ap, ◌∙◌, subst, arith}
 use Rattle.std.specs.List.{AllByRecursion, list_any}
 use Rattle.std.proofs.lemmas.Bool.{and_parts, and_from, not-true}
 use Rattle.std.proofs.lemmas.Bool.Decides.{nat_tests}
-use Rattle.std.proofs.lemmas.List.Elements.{filter_agree}
 use Rattle.reg_core.specs.Crls.{is_past_end, is_past_on, is_on, content, last_listing, entry_of, entries}
 use Rattle.reg_core.specs.Records.{Records, Crl, certificate_in, revocation_in}
 use Rattle.reg_core.specs.Sound.{NumberedFrom, SoundRevocation, SoundRows}
@@ -16,7 +15,7 @@ use Rattle.reg_laws.specs.Headline.{lists, NonePastBetween, IsDueEntry}
 use Rattle.reg_laws.specs.History.{ListedFromFirstToLast}
 use Rattle.reg_laws.proofs.Entries.{any_entry, all_ascending}
 use Rattle.reg_laws.proofs.Lists.{all_weaker, all_map, all_found, any_none, none_any, each_found, key_found, some_and_of}
-use Rattle.reg_laws.proofs.ListFacts.{all_that_pass, any_unfound, any_kept, any_with_key, any_below, none_below}
+use Rattle.reg_laws.proofs.ListFacts.{all_that_pass, any_unfound, any_with_key, any_below, none_below}
 
 -- ONE REVOCATION
 
@@ -133,21 +132,6 @@ content_of records n revocation numbered =
         (any_below (λ row. row.number) (is_past_on records.certificates revocation) 1 n records.crls crl numbered is)
         ∙ not_below crl.number n
 
--- what CRL n lists, by the last listings
-pub content_by_listings
-    : (records : Records) (n : ℕ)
-    → NumberedFrom (λ crl. crl.number) 1 records.crls
-    → content records n
-    ≡ filter
-    (λ revocation. nat_le revocation.first n && not_past (last_listing records revocation) n)
-    records.revocations
-content_by_listings records n numbered =
-    filter_agree
-    (is_on records.certificates records.crls n)
-    (λ revocation. nat_le revocation.first n && not_past (last_listing records revocation) n)
-    (λ revocation. content_of records n revocation numbered)
-    records.revocations
-
 -- the same of one revocation, both ways
 pub on_from_first_to_last
     : (records : Records) (n : ℕ) (revocation : RevocationRow)
@@ -193,19 +177,6 @@ lists_is records n serial revocation sound is =
     revocation
     sound.revocations.serials_differ
     is
-
--- no CRL has an entry of a serial number that is not revoked
-pub lists_none
-    : (records : Records) (n serial : ℕ)
-    → revocation_in records.revocations serial ≡ None
-    → lists records n serial ≡ false
-lists_none records n serial none =
-    any_entry (λ entry. entry.serial == serial) records n
-    ∙ any_kept
-    (λ row. row.serial == serial)
-    (is_on records.certificates records.crls n)
-    records.revocations
-    (any_unfound (λ row. row.serial == serial) records.revocations none)
 
 -- the certificate of a revocation
 pub record RevokedCertificate (records : Records) (serial : ℕ) (revocation : RevocationRow) : Type 0 where
@@ -261,34 +232,6 @@ revoked_for_good records serial revocation sound is moment =
     ap (λ row. status_by moment row (revocation_in records.revocations serial)) its.registered
     ∙ ap (status_by moment (Some its.certificate)) is
 
--- a serial number that a CRL lists is revoked at every moment, with its revocation's time and reason
-pub listed_is_revoked
-    : (records : Records) (n serial : ℕ)
-    → SoundRows records
-    → IsTrue (lists records n serial)
-    → (revocation : RevocationRow)
-    × (revocation_in records.revocations serial ≡ Some revocation)
-    × IsTrue (is_on records.certificates records.crls n revocation)
-    × ((moment : ℕ) → status records serial moment ≡ Revoked revocation.at revocation.reason)
-listed_is_revoked records n serial sound listed = go (revocation_in records.revocations serial) refl
-  where
-    go
-        : (found : Option RevocationRow)
-        → revocation_in records.revocations serial ≡ found
-        → (revocation : RevocationRow)
-        × (revocation_in records.revocations serial ≡ Some revocation)
-        × IsTrue (is_on records.certificates records.crls n revocation)
-        × ((moment : ℕ) → status records serial moment ≡ Revoked revocation.at revocation.reason)
-    go None is =
-        let unlisted : lists records n serial ≡ false = lists_none records n serial is in
-        absurd (let bad : ⊥ = cc in bad)
-    go (Some revocation) is = (
-      revocation,
-      is,
-      sym (lists_is records n serial revocation sound is) ∙ listed,
-      revoked_for_good records serial revocation sound is,
-    )
-
 -- ALL OF THEM
 
 -- each entry of a CRL is that of a recorded revocation, which the CRL is to list
@@ -331,25 +274,6 @@ due_entries records n sound =
           can_list = told.0;
           none_past = told.1;
         }
-
--- each entry of a CRL is of a serial number that is revoked at every moment, with the entry's time and reason
-pub entries_revoked
-    : (records : Records) (n : ℕ)
-    → SoundRows records
-    → AllByRecursion
-    (λ entry. (moment : ℕ) → status records entry.serial moment ≡ Revoked entry.at entry.reason)
-    (entries records n)
-entries_revoked records n sound =
-    all_weaker
-    (IsDueEntry records n)
-    (λ entry. (moment : ℕ) → status records entry.serial moment ≡ Revoked entry.at entry.reason)
-    (λ entry due moment.
-    let is : status records entry.serial moment ≡ Revoked due.revocation.at due.revocation.reason = revoked_for_good records entry.serial due.revocation sound due.revoked moment in
-    let at : entry.at ≡ due.revocation.at = ap (λ e. e.at) due.told in
-    let reason : entry.reason ≡ due.revocation.reason = ap (λ e. e.reason) due.told in
-    cc)
-    (entries records n)
-    (due_entries records n sound)
 
 -- each revocation is listed from its first CRL to its last
 pub listed_from_first_to_last : (records : Records) → SoundRows records → ListedFromFirstToLast records

@@ -1,5 +1,5 @@
 -- Lists: what holds of each row, look-ups, filters and numbers, as rows are added at the end.
-use Rattle.std.proofs.Common.{◌≡◌, ◌≢◌, ℕ, zero, suc, ◌+◌, ◌<◌, ◌≤◌, Bool, true, false, cond, not, ◌||◌, ◌==◌, List, [], ◌∷◌, ◌++◌, length, map, filter, find, Option, Some, None, option_map, IsTrue, IsFalse, IsSome, IsSomeAnd, refl, ap, subst, ◌∙◌, arith}
+use Rattle.std.proofs.Common.{◌≡◌, ◌≢◌, ℕ, zero, suc, ◌+◌, ◌<◌, ◌≤◌, Bool, true, false, cond, not, ◌||◌, ◌==◌, List, [], ◌∷◌, ◌++◌, length, map, filter, find, Option, Some, None, option_map, IfSome, IsTrue, IsFalse, IsSome, IsSomeAnd, refl, ap, subst, ◌∙◌, arith}
 use Rattle.std.specs.List.{AllByRecursion, list_any}
 use Rattle.std.proofs.lemmas.Bool.Decides.{nat_tests}
 use Rattle.reg_core.specs.Sound.{NumberedFrom, KeysDiffer, NeverFalls}
@@ -147,6 +147,15 @@ kept_pass test (first ∷ rest) = go (test first) refl (kept_pass test rest)
 
 -- WHETHER ANY PASSES
 
+-- a row that passes, at the end
+pub any_last : {Row : Type 0} (test : Row → Bool) (rows : List Row) (row : Row) → IsTrue (test row) → IsTrue (list_any test (rows ++ row ∷ []))
+any_last test [] row passes = ap (λ here. here || false) passes
+any_last test (first ∷ rest) row passes = go (test first) (any_last test rest row passes)
+  where
+    go : (first_passes : Bool) → IsTrue (list_any test (rest ++ row ∷ [])) → IsTrue (first_passes || list_any test (rest ++ row ∷ []))
+    go true later = refl
+    go false later = later
+
 pub any_append : {Row : Type 0} (test : Row → Bool) (rows more : List Row) → list_any test (rows ++ more) ≡ (list_any test rows || list_any test more)
 any_append test [] more = refl
 any_append test (first ∷ rest) more = go (test first) (any_append test rest more)
@@ -205,6 +214,14 @@ keys_push key (first ∷ rest) row differ new = (all_push (λ other. key first �
 pub falls_push : {Row : Type 0} (value : Row → ℕ) (rows : List Row) (row : Row) → NeverFalls value rows → AllByRecursion (λ other. value other ≤ value row) rows → NeverFalls value (rows ++ row ∷ [])
 falls_push value [] row never new = (tt, tt)
 falls_push value (first ∷ rest) row never new = (all_push (λ later. value first ≤ value later) rest row never.0 new.0, falls_push value rest row never.1 new.1)
+
+-- a change of rows that leaves the value
+pub falls_map : {Row : Type 0} (value : Row → ℕ) (f : Row → Row) → ((row : Row) → value (f row) ≡ value row) → (rows : List Row) → NeverFalls value rows → NeverFalls value (map f rows)
+falls_map value f same [] never = tt
+falls_map value f same (first ∷ rest) never = (
+  all_map (λ later. value (f first) ≤ value later) f rest (all_weaker (λ later. value first ≤ value later) (λ later. value (f first) ≤ value (f later)) (λ later le. omega (arith, le, same first, same later)) rest never.0),
+  falls_map value f same rest never.1,
+)
 
 pub keys_kept : {Row Key : Type 0} (key : Row → Key) (test : Row → Bool) (rows : List Row) → KeysDiffer key rows → KeysDiffer key (filter test rows)
 keys_kept key test [] differ = tt
@@ -312,3 +329,36 @@ pub some_and_front : {Row : Type 0} (P : Row → Type 0) (test : Row → Bool) (
 some_and_front P test rows more some =
     let found = some_and_of P (find test rows) some in
     some_and_here P (find test (rows ++ more)) found.0 (find_front test rows more found.0 found.1) found.2
+
+-- what is there with a property is there
+pub some_and_some : {Value : Type 0} (P : Value → Type 0) (value : Option Value) → IsSomeAnd value P → IsSome value
+some_and_some P None some = absurd some
+some_and_some P (Some known) some = refl
+
+-- where nothing was found, all holds of it
+pub if_some_none : {Value : Type 0} (P : Value → Type 0) (value : Option Value) → value ≡ None → IfSome value P
+if_some_none P None none = tt
+if_some_none P (Some known) none = absurd (let bad : ⊥ = cc in bad)
+
+-- what holds of what a look-up finds, and of the row that comes behind, holds of what it finds among both
+pub if_some_push : {Row : Type 0} (P : Row → Type 0) (test : Row → Bool) (rows : List Row) (row : Row) → IfSome (find test rows) P → P row → IfSome (find test (rows ++ row ∷ [])) P
+if_some_push P test [] row old here = go (test row)
+  where
+    go : (passes : Bool) → IfSome (cond passes (Some row) None) P
+    go true = here
+    go false = tt
+if_some_push P test (first ∷ rest) row old here = go (test first) old (if_some_push P test rest row)
+  where
+    go : (passes : Bool) → IfSome (cond passes (Some first) (find test rest)) P → (IfSome (find test rest) P → P row → IfSome (find test (rest ++ row ∷ [])) P) → IfSome (cond passes (Some first) (find test (rest ++ row ∷ []))) P
+    go true own later = own
+    go false own later = later own here
+
+-- rows in which a look-up finds one are some
+pub found_some : {Row : Type 0} (test : Row → Bool) (rows : List Row) → IsSome (find test rows) → rows ≢ []
+found_some test [] some none = absurd (let bad : ⊥ = cc in bad)
+found_some test (first ∷ rest) some none = absurd (let bad : ⊥ = cc in bad)
+
+-- and so are rows with one more
+pub pushed_some : {Row : Type 0} (rows : List Row) (row : Row) → (rows ++ row ∷ []) ≢ []
+pushed_some [] row none = absurd (let bad : ⊥ = cc in bad)
+pushed_some (first ∷ rest) row none = absurd (let bad : ⊥ = cc in bad)

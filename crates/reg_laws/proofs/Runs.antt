@@ -1,13 +1,14 @@
 -- What holds over each command and over every run.
 use Rattle.std.proofs.Common.{◌≡◌, ℕ, ◌+◌, ◌<◌, ◌≤◌, Bool, true, false, cond, List, [], ◌∷◌, ◌++◌, length, None, Result, Err, refl, sym, ap, subst, ◌∙◌, arith, append-nil}
 use Rattle.std.specs.List.{AllByRecursion}
-use Rattle.reg_core.specs.Changes.{touched, with_certificate, with_revocation, with_schedule}
+use Rattle.reg_core.specs.Changes.{touched, with_certificate, with_declined, with_revocation, with_schedule}
 use Rattle.reg_core.specs.Crls.{CertList, cert_list, next_number}
 use Rattle.reg_core.specs.Issuer.{Issuer}
-use Rattle.reg_core.specs.Policy.{Terms}
-use Rattle.reg_core.specs.Records.{Records, no_records, subscriber_in, order_in, certificate_in, request_in}
+use Rattle.reg_core.specs.Policy.{IsPolicy, Terms}
+use Rattle.reg_core.specs.Records.{Records, no_records, subscriber_in, request_in}
+use Rattle.reg_core.specs.Schedule.{IsSchedule}
 use Rattle.reg_core.specs.Sound.{Sound, SoundRows, CrlsSigned}
-use Rattle.reg_core.specs.Step.{refusal, changed, is_repeat, request_row, revocation_row, IsSigned}
+use Rattle.reg_core.specs.Step.{refusal, changed, is_repeat, request_row, revocation_row, same_certificate, IsSigned}
 use Rattle.reg_core.specs.declared.rows.CertRow.{CertRow}
 use Rattle.reg_core.specs.declared.rows.RevocationRow.{RevocationRow}
 use Rattle.reg_core.specs.declared.command.Command.{Command}
@@ -16,9 +17,9 @@ use Rattle.reg_core.specs.declared.command.Reply.{Reply}
 use Rattle.reg_core.specs.declared.refusal.Fault.{Fault}
 use Rattle.reg_laws.specs.Headline.{KeepsSound, RunsInParts, RefusalsChangeNothing}
 use Rattle.reg_laws.specs.Run.{Happens, Run}
-use Rattle.reg_laws.proofs.Accepted.{OnClock, accepted_clock, accepted_subscriber, accepted_order, accepted_register, accepted_request, accepted_revoke, accepted_crl}
+use Rattle.reg_laws.proofs.Accepted.{OnClock, accepted_clock, accepted_subscriber, accepted_order, accepted_register, accepted_request, accepted_decline, accepted_revoke, accepted_crl}
 use Rattle.reg_laws.proofs.Contents.{Grows, grows_none, grows_on, next_is, cert_list_kept, next_cert_list_kept}
-use Rattle.reg_laws.proofs.Kept.{touched_kept, subscriber_kept, order_kept, certificate_kept, request_kept, declined_kept, revocation_kept, crl_kept, schedule_kept, no_records_sound}
+use Rattle.reg_laws.proofs.Kept.{as_ordered_of, days_of_schedule, entered_by_any, touched_kept, subscriber_kept, order_kept, certificate_kept, request_kept, declined_kept, revocation_kept, crl_kept, schedule_kept, no_records_sound}
 use Rattle.reg_laws.proofs.Lists.{all_push, all_join, numbered_below, key_found, some_here}
 use Rattle.reg_laws.proofs.Outcomes.{Outcome, Stays, Changes, outcome_of}
 
@@ -26,29 +27,31 @@ use Rattle.reg_laws.proofs.Outcomes.{Outcome, Stays, Changes, outcome_of}
 changed_rows : (records : Records) (now : ℕ) (command : Command) (bytes : List ℕ) → SoundRows records → refusal records now command ≡ None → SoundRows (changed records now command bytes)
 changed_rows records now (Subscriber name) bytes sound none =
     let accepted = accepted_subscriber records now name none in
-    subscriber_kept records now (record { id = length records.subscribers + 1; name = name }) sound accepted.clock refl accepted.free accepted.room
+    subscriber_kept records now (record { id = length records.subscribers + 1; name = name }) sound accepted.clock refl accepted.is_name accepted.free accepted.room
 changed_rows records now (Order subscriber days) bytes sound none =
     let accepted = accepted_order records now subscriber days none in
-    order_kept records now (record { id = length records.orders + 1; subscriber = subscriber; days = days }) sound accepted.clock refl (some_here (subscriber_in records.subscribers subscriber) accepted.row accepted.found) accepted.room
+    order_kept records now (record { id = length records.orders + 1; subscriber = subscriber; days = days }) sound accepted.clock refl (some_here (subscriber_in records.subscribers subscriber) accepted.row accepted.found) (days_of_schedule days records.policy.schedule sound.policy.schedule accepted.some_days accepted.within_days) accepted.room
 changed_rows records now (Register order serial not_before not_after) bytes sound none = go (is_repeat records (Register order serial not_before not_after)) refl
   where
     wanted : CertRow
     wanted = record { serial = serial; order = order; not_before = not_before; not_after = not_after }
 
     go : (repeat : Bool) → is_repeat records (Register order serial not_before not_after) ≡ repeat → SoundRows (cond repeat (touched records now) (with_certificate records now wanted))
-    go true is = touched_kept records now sound (accepted_clock records now (Register order serial not_before not_after) none)
+    go true is = touched_kept records now sound (accepted_clock records now (Register order serial not_before not_after) none) (entered_by_any records (same_certificate wanted) sound is)
     go false is =
         let accepted = accepted_register records now order serial not_before not_after none is in
-        certificate_kept records now wanted sound accepted.clock (some_here (order_in records.orders order) accepted.row accepted.found) accepted.free_order accepted.free_serial accepted.room
+        certificate_kept records now accepted.row wanted sound accepted.clock accepted.found accepted.free_order accepted.free_serial accepted.ordered (as_ordered_of records.policy wanted accepted.row accepted.within_days) accepted.room
 changed_rows records now (Request serial word) bytes sound none =
     let accepted = accepted_request records now serial word none in
-    request_kept records now (request_row records now serial word) sound accepted.clock refl (some_here (certificate_in records.certificates serial) accepted.certificate accepted.found) (omega arith) accepted.room
+    request_kept records now accepted.certificate (request_row records now serial word) sound accepted.clock refl accepted.found accepted.live accepted.not_revoked refl accepted.room
 changed_rows records now (Decline id) bytes sound none =
-    declined_kept records now id sound (accepted_clock records now (Decline id) none)
+    let accepted = accepted_decline records now id sound none in
+    let own : accepted.request.id ≡ id = key_found (λ row. row.id) records.requests id accepted.request accepted.found in
+    subst (λ declined. SoundRows (with_declined records now declined)) own (declined_kept records now accepted.request accepted.certificate sound accepted.clock (ap (request_in records.requests) own ∙ accepted.found) accepted.registered accepted.not_revoked)
 changed_rows records now (Revoke id) bytes sound none =
     let accepted = accepted_revoke records now id sound none in
     let own : accepted.request.id ≡ id = key_found (λ row. row.id) records.requests id accepted.request accepted.found in
-    rw accepted.found (revocation_kept records now accepted.request accepted.certificate (revocation_row records now accepted.request) sound accepted.clock (ap (request_in records.requests) own ∙ accepted.found) accepted.registered accepted.live accepted.not_revoked refl refl refl refl)
+    rw accepted.found (revocation_kept records now accepted.request accepted.certificate (revocation_row records now accepted.request) sound accepted.clock (ap (request_in records.requests) own ∙ accepted.found) accepted.registered accepted.live accepted.not_revoked accepted.not_declined refl refl refl refl refl)
 changed_rows records now IssueCrl bytes sound none =
     let accepted = accepted_crl records now none in
     crl_kept records now (record { number = next_number records.crls; this_update = now; bytes = bytes }) sound accepted.clock refl refl accepted.room
@@ -238,9 +241,9 @@ refusals_change_nothing signed records after now command fault happens = go (out
     go (Changes bytes none is over made) = absurd (let bad : ⊥ = cc in bad)
 
 -- another schedule keeps the records sound
-pub schedule_keeps_sound : (signed : CertList → List ℕ → Type 0) (records : Records) (schedule : List (ℕ × ℕ)) → Sound signed records → Sound signed (with_schedule records schedule)
-schedule_keeps_sound signed records schedule sound = record { rows = schedule_kept records schedule sound.rows; signatures = sound.signatures }
+pub schedule_keeps_sound : (signed : CertList → List ℕ → Type 0) (records : Records) (schedule : List (ℕ × ℕ)) → IsSchedule schedule → Sound signed records → Sound signed (with_schedule records schedule)
+schedule_keeps_sound signed records schedule is sound = record { rows = schedule_kept records schedule is sound.rows; signatures = sound.signatures }
 
 -- a register as it is created is sound
-pub created_sound : (signed : CertList → List ℕ → Type 0) (issuer : Issuer) (policy : Terms) → Sound signed (no_records issuer policy)
-created_sound signed issuer policy = record { rows = no_records_sound issuer policy; signatures = tt }
+pub created_sound : (signed : CertList → List ℕ → Type 0) (issuer : Issuer) (policy : Terms) → IsPolicy policy → Sound signed (no_records issuer policy)
+created_sound signed issuer policy is = record { rows = no_records_sound issuer policy is; signatures = tt }

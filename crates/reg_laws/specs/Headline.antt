@@ -7,7 +7,7 @@ use Rattle.std.specs.List.{AllByRecursion, list_any}
 use Rattle.reg_core.specs.Checks.{clock_end}
 use Rattle.reg_core.specs.Crls.{CertList, entries}
 use Rattle.reg_core.specs.Issuer.{Issuer}
-use Rattle.reg_core.specs.Policy.{Terms}
+use Rattle.reg_core.specs.Policy.{IsPolicy, Terms}
 use Rattle.reg_core.specs.Records.{Records, Crl, no_records, certificate_in, revocation_in}
 use Rattle.reg_core.specs.Sound.{Sound}
 use Rattle.reg_core.specs.Status.{status, is_good, is_revoked, is_expired, counts}
@@ -23,9 +23,9 @@ use Rattle.reg_core.specs.declared.command.Status.TheVariants.{Good, Expired}
 use Rattle.reg_laws.specs.Revocations.{IsRevocationBy}
 use Rattle.reg_laws.specs.Run.{Happens, Run}
 
--- a register is sound as it is created
+-- a register of any policy is sound as it is created
 abbrev pub CreatedSound : (CertList → List ℕ → Type 0) → Type 0
-CreatedSound signed = (issuer : Issuer) (policy : Terms) → Sound signed (no_records issuer policy)
+CreatedSound signed = (issuer : Issuer) (policy : Terms) → IsPolicy policy → Sound signed (no_records issuer policy)
 
 -- every run keeps the records sound
 abbrev pub KeepsSound : (CertList → List ℕ → Type 0) → Type 0

@@ -4,6 +4,7 @@ pub mod Pieces
 pub mod PublicLaws
 pub mod Readings
 pub mod RowLemmas
+pub mod RowsTold
 pub mod Runs
 pub mod ScriptLemmas
 pub mod StepLemmas

@@ -40,11 +40,11 @@ four_by (a ∷ b ∷ c ∷ d ∷ e ∷ rest) = refl
 
 -- ---- the rows but for the header
 
-header_first : (rows : List Row) (row : Row) → length rows ≡ 0 → is_header row ≡ true → data_rows (rows ++ row ∷ []) ≡ data_rows rows
+pub header_first : (rows : List Row) (row : Row) → length rows ≡ 0 → is_header row ≡ true → data_rows (rows ++ row ∷ []) ≡ data_rows rows
 header_first [] row none header = rw header refl
 header_first (first ∷ rest) row none header = absurd (omega arith)
 
-data_push : (rows : List Row) (row : Row) → ((length rows == 0) && is_header row) ≡ false → data_rows (rows ++ row ∷ []) ≡ data_rows rows ++ row ∷ []
+pub data_push : (rows : List Row) (row : Row) → ((length rows == 0) && is_header row) ≡ false → data_rows (rows ++ row ∷ []) ≡ data_rows rows ++ row ∷ []
 data_push [] row data' = rw data' refl
 data_push (first ∷ rest) row data' = by (is_header first) refl
   where

@@ -2,10 +2,10 @@
 use Rattle.std.specs.Prelude.{◌≡◌, ℕ, Bool, true, false, List, [], ◌∷◌, ◌++◌, IsTrue}
 use Rattle.std.specs.List.{AllByRecursion}
 
--- a reply that is accepted: a refusal begins with E and a fault with F (69 and 70)
+-- a reply that is accepted: a refusal begins with E and a fault with F (69 and 70), and that steps are no schedule with b (98)
 abbrev pub IsAccepted : List ℕ → Type 0
 IsAccepted [] = Unit {0}
-IsAccepted (first ∷ rest) = ¬ (first ≡ 69) × ¬ (first ≡ 70)
+IsAccepted (first ∷ rest) = ¬ (first ≡ 69) × ¬ (first ≡ 70) × ¬ (first ≡ 98)
 
 -- replies of which the last is the first that is a refusal or a fault
 pub record EndsRefused (replies : List (List ℕ)) : Type 0 where

@@ -10,3 +10,4 @@ pub mod Replies
 pub mod Script
 pub mod Steps
 pub mod Strict
+pub mod Told

@@ -8,7 +8,7 @@ pub fn is_accepted(reply: &[u8]) -> bool
     ensures { IsTrue result ↔ IsAccepted reply.now }
 {
     match reply.first() {
-        Some(first) => *first != b'E' && *first != b'F',
+        Some(first) => *first != b'E' && *first != b'F' && *first != b'b',
         None => true,
     }
 }

@@ -8,7 +8,7 @@ use std::marker::Model;
 
 /// The fields of a line that were not yet taken. Contracts see the list of them.
 #[derive(Drop)]
-pub(crate) struct Fields<'a> {
+pub struct Fields<'a> {
     /// What is left of the line, where a field is left.
     rest: Option<&'a [u8]>,
 }
@@ -24,21 +24,21 @@ impl<'a> Model for Fields<'a> {
 
 impl<'a> Fields<'a> {
     /// The fields of a line.
-    pub(crate) fn of(line: &'a [u8]) -> Fields<'a>
+    pub fn of(line: &'a [u8]) -> Fields<'a>
         ensures { result ≡ fields_of line.now }
     {
         Fields { rest: Some(line) }
     }
 
     /// Whether no field is left.
-    pub(crate) fn is_empty(&self) -> bool
+    pub fn is_empty(&self) -> bool
         ensures { IsTrue result ↔ (self.now ≡ []) }
     {
         self.rest.is_none()
     }
 
     /// Takes the next field, if there is one.
-    pub(crate) fn next(&mut self) -> Option<&'a [u8]>
+    pub fn next(&mut self) -> Option<&'a [u8]>
         ensures { MatchOption result ((self.old ≡ []) × (self.new ≡ []))
             (λ field. self.old ≡ field.now ∷ self.new) }
     {

@@ -166,7 +166,7 @@ fn run_row<W: Write, O: Calls>(
 }
 
 /// Whether a row is the header.
-fn is_header(row: &ByteRecord) -> bool
+pub(crate) fn is_header(row: &ByteRecord) -> bool
     ensures { result ≡ is_header (fields_of row.now) }
 {
     match four_fields(row) {
@@ -190,7 +190,7 @@ fn read_row(row: &ByteRecord) -> Option<Command>
 }
 
 /// The four fields of a row that has exactly four.
-fn four_fields(row: &ByteRecord) -> Option<(&[u8], &[u8], &[u8], &[u8])>
+pub(crate) fn four_fields(row: &ByteRecord) -> Option<(&[u8], &[u8], &[u8], &[u8])>
     ensures { option_map (λ p. (p.0.now, p.1.now, p.2.now, p.3.now)) result ≡ four (fields_of row.now) }
 {
     four_of(row.get(0), row.get(1), row.get(2), row.get(3), row.get(4))

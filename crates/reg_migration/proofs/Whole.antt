@@ -14,7 +14,7 @@ use Rattle.reg_core.specs.Schedule.{greatest_of}
 use Rattle.reg_core.specs.Status.{counts}
 use Rattle.reg_tables.specs.Columns.{Columns}
 use Rattle.reg_tables.specs.Kept.{Kept, ShowsKept, standing_of, listed_of}
-use Rattle.reg_tables.specs.Shows.{HasOfficeDays, Holds, Shows}
+use Rattle.reg_tables.specs.Shows.{HasOfficeDays, Holds}
 use Rattle.reg_writing.specs.AtRest.{IsAtRest}
 use Rattle.reg_writing.proofs.Resting.{resting, rests_sound}
 use Rattle.reg_migration.specs.Refilled.{HasKept}
@@ -50,9 +50,6 @@ kept_whole g h records holds = elim (cases_Bool (doubt (state g h).is_clean == 0
 -- where nothing can be known, anything is
 pub any_kept : {S : Type 0} (g : Ghosts S) (h : Held S) (records : Records) → (HasCleanDisk (state g h) → ⊥) → ShowsKept g h records
 any_kept g h records none = (columns_of records, record { saved = λ clean up. absurd (none clean); tables = λ clean up. absurd (none clean) }, columns_stand records)
-
-pub any_shown : {S : Type 0} (g : Ghosts S) (h : Held S) (records : Records) → (HasCleanDisk (state g h) → ⊥) → Shows g h records
-any_shown g h records none = record { saved = λ clean up. absurd (none clean); tables = λ clean up. absurd (none clean) }
 
 pub any_days : {S : Type 0} (g : Ghosts S) (h : Held S) (days : ℕ) → (HasCleanDisk (state g h) → ⊥) → HasOfficeDays g h days
 any_days g h days none = record { saved = λ clean up. absurd (none clean); tables = λ clean up. absurd (none clean) }

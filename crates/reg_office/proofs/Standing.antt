@@ -4,16 +4,13 @@ use Rattle.std.proofs.Common.{◌≡◌, ◌≤◌, ℕ, List, [], ◌∷◌, �
 use Rattle.sqlite_trees.specs.View.{doubt}
 use Rattle.sqlite_trees.specs.declared.store.Store.{Ghosts}
 use Rattle.sqlite.specs.Held.{Held, state}
-use Rattle.reg_core.specs.Checks.{clock_end}
 use Rattle.reg_core.specs.Records.{Records}
 use Rattle.reg_core.specs.declared.command.Command.{Command}
 use Rattle.reg_core.specs.declared.command.Reply.{Reply}
-use Rattle.reg_core.specs.declared.refusal.Refusal.TheVariants.{ClockEnd}
 use Rattle.reg_core.specs.declared.refusal.Fault.{Fault}
 use Rattle.reg_core.specs.declared.refusal.Fault.TheVariants.{Refused, Memory, Store, Signer, Read, Write}
 use Rattle.reg_crl.specs.Signing.{Identity, signed_by}
 use Rattle.reg_laws.specs.Run.{Run}
-use Rattle.reg_laws.proofs.Decided.{clock_ended}
 use Rattle.reg_laws.proofs.Runs.{run_more}
 use Rattle.reg_tables.specs.Stays.{IsRegister, Looked, Stays}
 use Rattle.reg_office.specs.Faults.{IsOfficeFault, IsTableFault}
@@ -104,18 +101,6 @@ ran_more g signs old new who next records commands came timed outcome same ran s
       (subst (λ (i : Identity). Run (signed_by signs i) records commands came ran.after) (sym same) ran.run)
       step.happens;
   stands = step.stands;
-}
-
--- a command at the clock's end, or after it
-pub came_late :
-    {C : Type 0} (g : Ghosts C) (signs : Identity → List ℕ → List ℕ → Type 0) (held : Held C) (identity : Identity)
-    (records : Records) (now : ℕ) (command : Command)
-    → clock_end ≤ now → Stands g signs held identity records
-    → CameTo g signs held identity records now command (Err (Refused ClockEnd))
-came_late g signs held identity records now command ended stands = record {
-  after = records;
-  happens = (clock_ended (signed_by signs identity) records now command ended).step records refl;
-  stands = stands;
 }
 
 pub office_fault : (fault : Fault) → IsTableFault fault → IsOfficeFault fault

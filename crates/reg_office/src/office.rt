@@ -263,6 +263,8 @@ impl<C: Alter, S: Signer> Office<C, S> {
         ensures same_responder { self.new.responder ≡ self.old.responder }
         ensures faults { IfErr result IsCallFault }
     {
+        // Only its contract matters here: these are a schedule's steps, as the schedule promises.
+        let _steps = schedule.steps();
         self.store.set_schedule(schedule)
     }
 

@@ -8,7 +8,7 @@ use Rattle.sqlite_store.specs.declared.store.FileStore.{FileStore}
 use Rattle.sqlite_trees.specs.View.{doubt}
 use Rattle.sqlite_trees.specs.declared.store.Store.{Ghosts}
 use Rattle.reg_core.specs.Issuer.{Issuer}
-use Rattle.reg_core.specs.Policy.{Terms}
+use Rattle.reg_core.specs.Policy.{IsPolicy, Terms}
 use Rattle.reg_core.specs.Records.{Records, no_records}
 use Rattle.reg_core.specs.Sound.{SoundRows}
 use Rattle.reg_migration.specs.Older.{ShowsOlder}
@@ -28,11 +28,11 @@ use Rattle.reg_jobs.specs.Signing.{EmbedsOwn, Follows, IsAnswering, IsSigning, O
 
 -- the records of one that was made
 pub made_stands : {C : Type 0} (g : Ghosts C) (signs : Identity → List ℕ → List ℕ → Type 0) (identity : Identity) (store register : Held C)
-    (issuer : Issuer) (policy : Terms) → register ≡ store
+    (issuer : Issuer) (policy : Terms) → IsPolicy policy → register ≡ store
     → ShowsKept g store (no_records issuer policy) → Stands g signs register identity (no_records issuer policy)
-made_stands {C} g signs identity store register issuer policy is shown =
+made_stands {C} g signs identity store register issuer policy promised is shown =
     let P : Held C → Type 0 = λ v. ShowsKept g v (no_records issuer policy) in
-    record { shown = subst P (sym is) shown; sound = created_sound_for signs identity issuer policy }
+    record { shown = subst P (sym is) shown; sound = created_sound_for signs identity issuer policy promised }
 
 -- the records of one that was opened
 pub opened_shows : {C : Type 0} (g : Ghosts C) (store register : Held C) (records : Records)

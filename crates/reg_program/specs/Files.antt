@@ -20,6 +20,7 @@ use Rattle.reg_tables.specs.Shows.{ShowsBoth}
 use Rattle.reg_tables.specs.Stays.{IsRegister, Stays}
 use Rattle.reg_auditing.specs.Complete.{ShowsSound}
 use Rattle.reg_auditing.specs.Stored.{IsSomeCrl}
+use Rattle.reg_auditing.specs.Values.{HasAllowedDays}
 use Rattle.reg_verdict.specs.Presumed.{IsPresumed}
 use Rattle.reg_verdict.specs.Verdicts.{CountedBy, DeniedBy, IsSound, TellsOf}
 use Rattle.reg_findings.specs.declared.verdict.Verdict.{Verdict}
@@ -67,13 +68,13 @@ module _ {D : Type 0} {g : disk.Ghosts D} where
 
 -- What an audit says of a database, before and after it: its tables are as they were. Where all was said to be sound, they are a register's,
 -- whatever records they showed are sound, each CRL's bytes are those of what it lists, whatever its signature, and what is kept beside the
--- records follows from them, and they are as many as was told; and there are such records, where what is presumed of the connection
--- holds. Where a row was told, they showed no such records whose values are a register's; and where it was not told
--- for the bytes of a CRL, none whatever the bytes of CRLs are. That it is of an older version, or of other tables, is told where they
--- say so.
+-- records follows from them, the office was made with days that a schedule can allow, and they are as many as was told; and there are
+-- such records, where what is presumed of the connection holds. Where a row was told, they showed no such records whose values are a
+-- register's; and where it was not told for the bytes of a CRL, none whatever the bytes of CRLs are. That it is of an older version, or
+-- of other tables, is told where they say so.
 pub record Says {D : Type 0} {g : disk.Ghosts D} (connection after : Held (FileStore D g)) (verdict : Verdict) : Type 0 where
   pub sound : (records : Records) (columns : Columns) → ShowsBoth over_files connection records columns → HasCleanDisk (file_state after)
-      → IsSound verdict → Sound IsSomeCrl records × Kept columns records
+      → IsSound verdict → Sound IsSomeCrl records × Kept columns records × HasAllowedDays columns
   pub shown : IsPresumed over_files connection → HasCleanDisk (file_state after) → IsSound verdict → ShowsSound (file_state connection).now
   pub counted : (records : Records) (columns : Columns) → ShowsBoth over_files connection records columns → HasCleanDisk (file_state after)
       → CountedBy verdict records

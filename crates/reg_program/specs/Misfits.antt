@@ -26,6 +26,7 @@ Differs found algorithm cause.NoRight = ⊥
 Differs found algorithm cause.InUse = ⊥
 Differs found algorithm cause.Damaged = ⊥
 Differs found algorithm cause.DiskFull = ⊥
+Differs found algorithm cause.Taken = ⊥
 Differs found algorithm cause.PortInUse = ⊥
 Differs found algorithm cause.Clock = ⊥
 

@@ -1,6 +1,7 @@
 //! The program as the machine runs it: its words, standard input and output, and the exit status.
 
 use crate::front::open_log;
+use crate::input::Input;
 use crate::machine::Machine;
 use crate::performing::perform_untold;
 use crate::progress::{Counted, tell_opening};
@@ -45,7 +46,7 @@ fn run(rt: &HostRuntime, words: &[String]) -> io::Result<u8> {
     match read_words(rt.alloc(), words) {
         Ok(order) => {
             if let Some(cause) = unlogged(rt, &order) {
-                return Ok(tell_unlogged(rt, &order, cause));
+                return Ok(tell_fault(rt, &order, Fault::Write, cause));
             }
             tell_opening(rt, &order.job);
             Ok(do_order(rt, &order))
@@ -71,15 +72,22 @@ fn log_path<'o>(order: &'o Order<'_>) -> Option<&'o str> {
     }
 }
 
-/// Tells that the log can't be written, and gives the exit status: nothing is done without the log that was asked for.
-fn tell_unlogged(rt: &HostRuntime, order: &Order<'_>, cause: Option<Cause>) -> u8 {
+/// Tells a fault for which nothing is done, as that the log can't be written that was asked for, and gives the exit status.
+fn tell_fault(rt: &HostRuntime, order: &Order<'_>, fault: Fault, cause: Option<Cause>) -> u8 {
     let mut errors = rt.stderr();
-    tell(&mut errors, &Failure::Fault(Fault::Write));
-    explain(&mut errors, order.is_explained, FAULT, cause);
+    tell(&mut errors, &Failure::Fault(fault));
+    explain(
+        rt.alloc(),
+        &mut errors,
+        order.is_explained,
+        FAULT,
+        cause,
+        None,
+    );
     FAULT
 }
 
-/// Does the job of an order over standard input and output.
+/// Does the job of an order over standard input, or the file of its rows, and standard output.
 fn do_order(rt: &HostRuntime, order: &Order<'_>) -> u8 {
     let noted = Cell::new(None);
     let front = Machine::of(*rt, &noted)
@@ -87,11 +95,16 @@ fn do_order(rt: &HostRuntime, order: &Order<'_>) -> u8 {
         .with_log_file(log_path(order))
         .with_watch(rt.stderr().is_terminal());
     let mut place = front;
+    let reason = Cell::new(None);
     let causes = Causes {
         noted: &noted,
+        reason: &reason,
         is_told: order.is_explained,
     };
-    let mut input = rt.stdin();
+    let mut input = match Input::of(rt, &order.job) {
+        Ok(input) => input,
+        Err(error) => return tell_fault(rt, order, Fault::Read, of_io(error.kind())),
+    };
     let mut output = Counted::of(rt, &order.job, &noted);
     let mut errors = rt.stderr();
     perform_untold(

@@ -40,8 +40,8 @@ use reg_crl::Signer;
 use reg_der::Issuer;
 use reg_endings::Failure;
 use reg_files::{
-    Overlay, ReadFile, Source, Sources, Unlaid, Unopened, Unread, claim_file, look_at, open_file,
-    open_sources, read_at, remove_file,
+    Overlay, ReadFile, Source, Sources, Unlaid, Unopened, Unread, claim_file, copy_closed, look_at,
+    open_file, open_sources, read_at, remove_file,
 };
 use reg_findings::Verdict;
 use reg_jobs::{Place, Wanted};
@@ -84,6 +84,10 @@ impl<'a> Place for Machine<'a> {
     ghost made = { λ files path register after. IsMadeFrom register.store };
 
     ghost unmade = { λ files path why after. Unit {0} };
+
+    ghost copied = { λ files path to bytes after. Unit {0} };
+
+    ghost uncopied = { λ files path to why after. Unit {0} };
 
     ghost audited = { λ files path verdict. IsAudited ⟦<Overlay<ReadFile> as Disk>⟧ verdict };
 
@@ -141,7 +145,6 @@ impl<'a> Place for Machine<'a> {
     }
 
     fn set_schedule(
-        &self,
         alloc: Global,
         register: &mut FileOffice,
         schedule: Schedule,
@@ -216,6 +219,17 @@ impl<'a> Place for Machine<'a> {
 
     fn audit(&self, path: &str) -> Result<Verdict, Failure> {
         audit_file(self, path)
+    }
+
+    fn copy(&mut self, path: &str, to: &str) -> Result<u64, Failure>
+        ensures ok { IfOk result (λ bytes. Unit {0}) }
+        ensures err { IfErr result (λ why. Unit {0}) }
+        ensures faults { IfErr result IsOpening }
+    {
+        match copy_closed(&self.rt, path, to) {
+            Ok(bytes) => Ok(bytes),
+            Err(why) => Err(unread(self, why)),
+        }
     }
 
     fn close(&mut self, path: &str, register: FileOffice)
@@ -570,6 +584,7 @@ fn made_over<C: Alter, S: Signer + Drop>(
     ensures clean { IfOk result (λ office. doubt (state C.Store connection).is_clean ≤ doubt (state C.Store office.store).is_clean) }
     ensures err { IfErr result (λ left. IsMaking left.0) }
 {
+    policy.promise();
     match Store::create(connection, issuer, policy) {
         Ok(store) => Ok(Office::new(store, signer)),
         Err(unopened) => Err((Failure::from(unopened.fault), unopened.connection)),

@@ -1,13 +1,16 @@
 //! The machine as it is met from outside: its clock, its ports and its sockets.
 
-ghost use Rattle.std.specs.Prelude.{◌≡◌, IfErr, IfSome};
+ghost use Rattle.std.specs.Prelude.{◌≡◌, IfErr, IfOk, IfSome};
+ghost use Rattle.reg_files.specs.Reading.{IsUnread};
+ghost use Rattle.reg_jobs.specs.Failing.{IsOfStore};
 
 use crate::counter::lay_socket;
 use crate::machine::Machine;
 use mio::net::{TcpListener, UnixListener, UnixStream as UnwaitingStream};
 use reg_causes::{Cause, of_io, of_port};
 use reg_core::{Fault, Moment};
-use reg_jobs::Front;
+use reg_files::{Unread, copy_open};
+use reg_jobs::{Front, Uncopied};
 use reg_signer::ask_unwaiting;
 use reg_wire::write_whole;
 use std::fs::{File, OpenOptions};
@@ -40,6 +43,8 @@ impl<'a> Front for Machine<'a> {
     ghost met = { λ path. Unit {0} };
 
     ghost warned = { λ line. Unit {0} };
+
+    ghost copied = { λ path bytes. Unit {0} };
 
     fn moment(&self) -> Result<Moment, Fault> {
         match moment_of(&self.rt) {
@@ -131,6 +136,33 @@ impl<'a> Front for Machine<'a> {
         ensures { Unit {0} }
     {
         say(&self.rt, line);
+    }
+
+    fn copy(&self, path: &str, to: &str) -> Result<u64, Uncopied>
+        ensures ok { IfOk result (λ bytes. Unit {0}) }
+        ensures err { IfErr result (λ why. IsOfStore why.fault) }
+    {
+        match copy_open(&self.rt, path, to) {
+            Ok(bytes) => Ok(bytes),
+            Err(why) => Err(uncopied_by(why)),
+        }
+    }
+}
+
+/// Why no copy was laid where files could not be copied. Files in which no database was begun are not those that this program has open.
+fn uncopied_by(why: Unread) -> Uncopied
+    requires { IsUnread why }
+    ensures { IsOfStore result.fault }
+{
+    match why {
+        Unread::Nothing => Uncopied {
+            fault: Fault::Store,
+            cause: Some(Cause::Damaged),
+        },
+        Unread::Unopened(why) => Uncopied {
+            fault: why.fault,
+            cause: why.cause,
+        },
     }
 }
 

@@ -6,6 +6,7 @@ mod counter;
 mod desk;
 mod files;
 mod front;
+mod input;
 pub mod laws;
 mod machine;
 mod memory;

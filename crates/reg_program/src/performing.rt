@@ -11,17 +11,19 @@ use crate::memory::script_in_memory;
 use reg_causes::{Cause, of_terms};
 use reg_endings::{Failure, status_of};
 use reg_jobs::{
-    Causes, Front, NewOffice, Place, at, audit, crl, explain, hold_open, import_rows, init,
-    key_identifier, list, schedule, script, script_by_lines, serve, tell,
+    Causes, Front, NewOffice, Place, Reason, at, at_rows, audit, copy, crl, explain, hold_open,
+    import_rows, init, key_identifier, list, schedule, script, script_by_lines, serve, tell,
 };
 use reg_words::{Job, KeptOpen, LinedScript, ListToWrite, NewRegister, RowsToImport, Serving};
 use std::alloc::Global;
+use std::cell::Cell;
 use std::io::{Read, Write};
 
 /// Does a job over standard input and output, the registers of a place, and a front with a clock and ports, and gives its exit
 /// status: 0 where it is done; 3 where a reply at a counter, or in a strict script or import, was a refusal or a fault, or the last line
 /// there has no end; else 1; with the line of that on standard error. Where that is asked for, the line of a fault is followed by one
-/// that tells its cause, where that was noted: by a call of the machine, or by the reader or the writer.
+/// that tells its cause, where that was noted: by a call of the machine, or by the reader or the writer; and that of a refusal of a
+/// strict script or import by one that tells why a registration was refused, where more is told of that.
 pub fn perform<P: Place, F: Front, R: Read, W: Write, E: Write>(
     rt: &HostRuntime,
     causes: &Causes<'_>,
@@ -38,7 +40,14 @@ pub fn perform<P: Place, F: Front, R: Read, W: Write, E: Write>(
         × (result ≡ status ending) × Explains causes.now.is_told ending (E.contents errors.old) (E.contents errors.new) }
 {
     let status = perform_at(rt, causes, front, place, job, reader, writer, errors);
-    explain(errors, causes.is_told, status, causes.noted.get());
+    explain(
+        rt.alloc(),
+        errors,
+        causes.is_told,
+        status,
+        causes.noted.get(),
+        causes.reason.get(),
+    );
     status
 }
 
@@ -73,7 +82,7 @@ fn perform_at<P: Place, F: Front, R: Read, W: Write, E: Write>(
         P.Place P.Opened.Keeper.own place.old place.new F.Front job.now ending
         × (result ≡ status ending) × Tells ending (E.contents errors.old) (E.contents errors.new) }
 {
-    let ending = run(rt, front, place, job, reader, writer);
+    let ending = run(rt, causes.reason, front, place, job, reader, writer);
     match &ending {
         Ok(()) => {}
         Err(failure) => {
@@ -101,9 +110,10 @@ fn wrong_terms(job: &Job<'_>) -> Option<Cause> {
     }
 }
 
-/// Does a job.
+/// Does a job. Why a registration was refused, at which it ended, is kept.
 fn run<P: Place, F: Front, R: Read, W: Write>(
     rt: &HostRuntime,
+    reason: &Cell<Option<Reason>>,
     front: &F,
     place: &mut P,
     job: &Job<'_>,
@@ -128,15 +138,25 @@ fn run<P: Place, F: Front, R: Read, W: Write>(
             file: None,
             signer: Some(_),
         } => Err(Failure::BadSigner),
-        Job::Lines(lined) => run_lined(alloc, front, place, lined, reader, writer),
-        Job::Import(rows) => register(alloc, place, rows, reader, writer),
+        Job::Lines(lined) => run_lined(alloc, front, place, lined, reason, reader, writer),
+        Job::Import(rows) => register(alloc, front, place, rows, reason, reader, writer),
         Job::Crl { file, number } => crl(alloc, place, file.as_str(), *number, writer),
         Job::Serve(serving) => answer(rt, front, place, serving, writer),
         Job::Open(kept) => keep_open(rt, front, place, kept, writer),
-        Job::At { counter } => at(alloc, front, counter.as_str(), reader, writer),
+        Job::At {
+            counter,
+            rows: None,
+        } => at(alloc, front, counter.as_str(), reader, writer),
+        Job::At {
+            counter,
+            rows: Some(_),
+        } => at_rows(alloc, front, counter.as_str(), reader, writer),
         Job::Schedule { file, steps } => schedule(alloc, place, file.as_str(), steps, writer),
         Job::KeyId { file, key_id } => key_identifier(alloc, place, file.as_str(), key_id, writer),
         Job::Listing(wanted) => write_list(alloc, front, place, wanted, writer),
+        Job::Copy { file, path } => {
+            copy(alloc, front, place, file.as_str(), path.as_str(), writer)
+        }
         Job::Audit { file } => audit(alloc, &*place, file.as_str(), writer),
     }
 }
@@ -169,6 +189,7 @@ fn run_lined<P: Place, F: Front, R: Read, W: Write>(
     front: &F,
     place: &mut P,
     lined: &LinedScript<'_>,
+    reason: &Cell<Option<Reason>>,
     reader: &mut R,
     writer: &mut W,
 ) -> Result<(), Failure>
@@ -183,16 +204,19 @@ fn run_lined<P: Place, F: Front, R: Read, W: Write>(
         path,
         &lined.signer,
         lined.way,
+        reason,
         reader,
         writer,
     )
 }
 
 /// Registers rows.
-fn register<P: Place, R: Read, W: Write>(
+fn register<P: Place, F: Front, R: Read, W: Write>(
     alloc: Global,
+    front: &F,
     place: &mut P,
     rows: &RowsToImport<'_>,
+    reason: &Cell<Option<Reason>>,
     reader: &mut R,
     writer: &mut W,
 ) -> Result<(), Failure>
@@ -202,10 +226,12 @@ fn register<P: Place, R: Read, W: Write>(
     let path = rows.file.as_str();
     import_rows(
         alloc,
+        front,
         place,
         path,
         rows.moment,
         rows.is_strict,
+        reason,
         reader,
         writer,
     )

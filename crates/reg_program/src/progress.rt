@@ -105,9 +105,12 @@ fn seconds(rt: &HostRuntime) -> u64 {
     }
 }
 
-/// Whether a job writes a line for each that it reads.
+/// Whether a job writes a line for each that it reads, and may read many.
 fn is_long(job: &Job<'_>) -> bool {
-    matches!(job, Job::Script { .. } | Job::Lines(_) | Job::Import(_))
+    matches!(
+        job,
+        Job::Script { .. } | Job::Lines(_) | Job::Import(_) | Job::At { rows: Some(_), .. }
+    )
 }
 
 /// The path of the register that a job opens, if it opens one.
@@ -123,6 +126,8 @@ fn file_of<'a>(job: &Job<'a>) -> Option<&'a str> {
         Job::KeyId { file, .. } => Some(file.as_str()),
         Job::Listing(wanted) => Some(wanted.file.as_str()),
         Job::Audit { file } => Some(file.as_str()),
+        // It is read as it lies, and not opened.
+        Job::Copy { .. } => None,
         Job::Init(_) => None,
         Job::At { .. } => None,
     }

@@ -14,7 +14,7 @@ use Rattle.sqlite_value.proofs.OrderLemmas.{value_cmp-Int, value_cmp-Text, value
 use Rattle.sqlite_sql.specs.Ops.{binary, is_true, from_truth, test}
 use Rattle.sqlite_sql.specs.declared.ops.BinaryOp.TheVariants.{Compare}
 use Rattle.sqlite_sql.specs.declared.ops.CompareOp.{CompareOp}
-use Rattle.sqlite_sql.specs.declared.ops.CompareOp.TheVariants.{Eq, Lt, Le, Gt, Ge}
+use Rattle.sqlite_sql.specs.declared.ops.CompareOp.TheVariants.{Eq, Lt, Le, Gt}
 use Rattle.reg_core.specs.Integer.{value}
 use Rattle.reg_core.specs.Serial.{IsSerial, serial_bytes}
 use Rattle.reg_core.proofs.Integers.{bytes_order, value-bytes20, is_bytes-bytes_high_first}
@@ -68,9 +68,6 @@ le_number m n = compared Le m n ∙ is_le-nat_cmp m n
 
 pub gt_number : (m n : ℕ) → compares Gt (number m) (number n) ≡ nat_lt n m
 gt_number m n = compared Gt m n ∙ is_gt-nat_cmp m n
-
-pub ge_number : (m n : ℕ) → compares Ge (number m) (number n) ≡ nat_le n m
-ge_number m n = compared Ge m n ∙ is_ge-nat_cmp m n
 
 pub eq_text : (s t : List ℕ) → compares Eq (Text s) (Text t) ≡ bytes_eq s t
 unfolding binary

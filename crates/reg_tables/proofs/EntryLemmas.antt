@@ -95,9 +95,6 @@ or_truth true false = refl
 or_truth false true = refl
 or_truth false false = refl
 
-or_null_truth : is_true (from_truth (or3 (truth (from_truth (Some true))) (truth Null))) ≡ true
-or_null_truth = refl
-
 -- NULL, or a number that is not below
 still_test : (last : Option ℕ) (n : ℕ) → is_true (binary Or (binary (Is Binary) (number_or_null last) Null) (binary (Compare Ge Binary) (number_or_null last) (number n))) ≡ still_on n last
 unfolding binary

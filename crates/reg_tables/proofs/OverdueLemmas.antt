@@ -100,10 +100,6 @@ module _ (db : Database) (records : Records) (shown : IsShownBy db records) (row
   pub undeclined_serials : AllByRecursion (λ (row : RequestRow). IsSerial row.serial) (filter undeclined records.requests)
   undeclined_serials = kept_have (λ (row : RequestRow). IsSerial row.serial) undeclined records.requests shown.rows.request_serials
 
-pub and_true_false : (b : Bool) → (b && false) ≡ false
-and_true_false true = refl
-and_true_false false = refl
-
 -- a status that is not good is told as that
 pub not_good : (s : Status) → (s ≡ Good → ⊥) → false ≡ is_good s
 not_good Unknown never = refl

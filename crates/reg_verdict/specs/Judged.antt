@@ -14,6 +14,7 @@ use Rattle.reg_tables.specs.declared.fault.StoreFault.TheVariants.{NewVersion, N
 use Rattle.reg_opening.specs.Said.{HasVersion, SaysNoRegister}
 use Rattle.reg_auditing.specs.Complete.{ShowsSound}
 use Rattle.reg_auditing.specs.Stored.{IsSomeCrl}
+use Rattle.reg_auditing.specs.Values.{HasAllowedDays}
 use Rattle.reg_findings.specs.declared.verdict.Verdict.{Verdict}
 use Rattle.reg_verdict.specs.Presumed.{IsPresumed}
 use Rattle.reg_verdict.specs.Verdicts.{CountedBy, DeniedBy, IsSound, TellsOf}
@@ -22,7 +23,7 @@ use Rattle.reg_verdict.specs.Verdicts.{CountedBy, DeniedBy, IsSound, TellsOf}
 -- such records; what else is told is what the tables are. A fault is the version's, memory's or the database's. Nothing is changed.
 pub record IsJudged {S : Type 0} (g : Ghosts S) (old new : Held S) (result : Result Verdict StoreFault) : Type 0 where
   pub sound : (records : Records) (columns : Columns) → ShowsBoth g old records columns → HasCleanDisk (state g new)
-      → IfOk result (λ verdict. IsSound verdict → Sound IsSomeCrl records × Kept columns records)
+      → IfOk result (λ verdict. IsSound verdict → Sound IsSomeCrl records × Kept columns records × HasAllowedDays columns)
   pub shown : (HasCleanDisk (state g old) → IsTrue (state g old).is_open) → IsPresumed g old → HasCleanDisk (state g new)
       → IfOk result (λ verdict. IsSound verdict → ShowsSound (state g old).now)
   pub counted : (records : Records) (columns : Columns) → ShowsBoth g old records columns → HasCleanDisk (state g new) → IfOk result (λ verdict. CountedBy verdict records)

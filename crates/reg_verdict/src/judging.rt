@@ -13,6 +13,7 @@ ghost use Rattle.reg_tables.specs.Stays.{IsRegister, Stays};
 ghost use Rattle.reg_opening.specs.Said.{HasVersion, SaysNoRegister};
 ghost use Rattle.reg_auditing.specs.Complete.{ShowsSound};
 ghost use Rattle.reg_auditing.specs.Stored.{IsSomeCrl};
+ghost use Rattle.reg_auditing.specs.Values.{HasAllowedDays};
 ghost use Rattle.reg_verdict.specs.Judged.{IsJudged};
 ghost use Rattle.reg_verdict.specs.Presumed.{IsOverRegister, IsPresumed};
 ghost use Rattle.reg_verdict.specs.Verdicts.{CountedBy, DeniedBy, IsSound, TellsOf, verdict_of};
@@ -55,11 +56,12 @@ fn is_over_register<S: Alter>(conn: &Connection<S>) -> bool
 /// transaction, as one that was just opened.
 ///
 /// Where the answer is `Sound`, the schema is a register's, whatever records the tables show are sound, each CRL's bytes are
-/// those of what it lists, whatever its signature, what is kept beside the records follows from them, and they are as many as is
-/// told; and there are such records, where the connection was open and what is presumed of it holds (`IsPresumed`). Where it is
-/// `Broken`, the tables show no such records, with what follows from them kept beside them, whose names, validities and
-/// reasonCodes are a register's; and, but for the bytes of a CRL, none whatever the bytes of CRLs are (`Denies`). `Older` and
-/// `OtherSchema` tell what the tables are (`TellsOf`). The watch is told how far it is.
+/// those of what it lists, whatever its signature, what is kept beside the records follows from them, the office was made with
+/// days that a schedule can allow, and they are as many as is told; and there are such records, where the connection was open and
+/// what is presumed of it holds (`IsPresumed`). Where it is `Broken`, the tables show no such records, with what follows from them
+/// kept beside them and such days, whose names, validities and reasonCodes are a register's; and, but for the bytes of a CRL, none
+/// whatever the bytes of CRLs are (`Denies`). `Older` and `OtherSchema` tell what the tables are (`TellsOf`). The watch is told how
+/// far it is.
 ///
 /// # Errors
 /// `NotARegister` and `NewVersion` as [`reg_opening::open`] has them; `Memory`; `Store` where the database fails.
@@ -70,7 +72,7 @@ pub fn judge<S: Alter, W: Watch>(
 ) -> Result<Verdict, StoreFault>
     requires { conn.old.in_transaction ≡ false }
     ensures sound { (records : Records) → (columns : Columns) → ShowsBoth S.Store conn.old records columns → HasCleanDisk (state S.Store conn.new)
-        → IfOk result (λ verdict. IsSound verdict → Sound IsSomeCrl records × Kept columns records) }
+        → IfOk result (λ verdict. IsSound verdict → Sound IsSomeCrl records × Kept columns records × HasAllowedDays columns) }
     ensures shown { (HasCleanDisk (state S.Store conn.old) → IsTrue (state S.Store conn.old).is_open) → IsPresumed S.Store conn.old → HasCleanDisk (state S.Store conn.new)
         → IfOk result (λ verdict. IsSound verdict → ShowsSound (state S.Store conn.old).now) }
     ensures counted { (records : Records) → (columns : Columns) → ShowsBoth S.Store conn.old records columns → HasCleanDisk (state S.Store conn.new)

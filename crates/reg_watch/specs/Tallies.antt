@@ -119,11 +119,11 @@ with_reply route code tally = record tally { answers = bumped tally.answers (rou
 abbrev pub with_seconds : ℕ → Tally → Tally
 with_seconds micros tally = record tally { buckets = bumped tally.buckets (bucket_of micros); micros = min (tally.micros + micros) greatest }
 
--- one line more, by the first byte of its reply: a refusal begins with E, a fault with F; with no reply there was no memory for one
+-- one line more, by the first byte of its reply: a refusal begins with E, or with b where steps are no schedule, a fault with F; with no reply there was no memory for one
 abbrev pub with_lines : List ℕ → Tally → Tally
 with_lines [] tally = record tally { faults = one_more tally.faults }
 with_lines (first ∷ rest) tally =
-    cond (first == 69) (record tally { refused = one_more tally.refused })
+    cond ((first == 69) || (first == 98)) (record tally { refused = one_more tally.refused })
     (cond (first == 70) (record tally { faults = one_more tally.faults }) (record tally { accepted = one_more tally.accepted }))
 
 -- what an exchange said of signatures, of CRLs and of OCSP answers, and of the store

@@ -195,7 +195,9 @@ impl Tally {
         ensures { self.new ≡ lined reply.now self.old }
     {
         match reply.first() {
-            Some(first) if *first == b'E' => self.refused = one_more(self.refused),
+            Some(first) if *first == b'E' || *first == b'b' => {
+                self.refused = one_more(self.refused);
+            }
             Some(first) if *first == b'F' => self.faults = one_more(self.faults),
             Some(_) => self.accepted = one_more(self.accepted),
             None => self.faults = one_more(self.faults),

@@ -1,9 +1,11 @@
 -- The steps of a schedule, read one text after the other.
-use Rattle.std.proofs.Common.{◌≡◌, ℕ, suc, ◌+◌, ◌<◌, ◌≤◌, List, [], ◌∷◌, ◌++◌, map, length, drop, get_or, Option, Some, None, Bor, refl, sym, ap, ◌∙◌, add-one, append-nil, append_assoc, drop-cons, drop_of_length-le, arith}
+use Rattle.std.proofs.Common.{◌≡◌, ℕ, suc, ◌+◌, ◌-◌, ◌<◌, ◌≤◌, Bool, true, false, cond, nat_lt, position, List, [], ◌∷◌, ◌++◌, map, length, take, drop, get_or, Option, Some, None, Bor, refl, sym, ap, ◌∙◌, add-one, append-nil, append_assoc, drop-cons, drop_of_length-le, arith}
 use Rattle.std.specs.Prelude.{option_map, option_and_then, ◌==◌}
 use Rattle.std.specs.List.{after_first, position_or_len}
+use Rattle.std.proofs.lemmas.List.{take_rest}
+use Rattle.std.proofs.lemmas.Bool.{ltb-false}
 use Rattle.reg_core.specs.Number.{number_of}
-use Rattle.reg_words.specs.Values.{step_of, steps_of}
+use Rattle.reg_words.specs.Values.{step_of, step_told, steps_of}
 
 abbrev pub texts_of : List (Bor (List ℕ)) → List (List ℕ)
 texts_of texts = map (λ text. text.now) texts
@@ -52,14 +54,34 @@ pub ends : (texts : List (Bor (List ℕ))) (at : ℕ) (steps : List (ℕ × ℕ)
 ends texts at steps past so =
     sym (so ∙ ap (λ l. option_map (λ rest. steps ++ rest) (steps_of (texts_of l))) (drop_of_length-le texts past) ∙ ap (λ l. Some l) (append-nil steps))
 
--- where no byte passes the test, nothing stands after it: no number
-pub nothing_after : (text : List ℕ) → position_or_len (λ b. b == 61) text ≡ length text → after_first (λ b. b == 61) text ≡ []
-nothing_after text none = ap (λ i. drop (i + 1) text) none ∙ drop_of_length-le text (omega arith)
+abbrev is_equals : ℕ → Bool
+is_equals byte = byte == 61
 
-pub no_number : number_of [] ≡ None
+-- where there is no `=`, nothing stands behind it: no number
+no_number : number_of [] ≡ None
 unfolding number_of
 no_number = refl
 
-pub no_step : (text : List ℕ) → position_or_len (λ b. b == 61) text ≡ length text → None ≡ step_of text
+none_by : (text : List ℕ) (b : Bool) → nat_lt (position_or_len is_equals text) (length text) ≡ b
+    → None ≡ cond b (Some (position_or_len is_equals text)) None → None ≡ step_of text
 unfolding step_of
-no_step text none = rw (nothing_after text none, no_number) refl
+none_by text true e found = cc
+none_by text false e found =
+    let nothing : after_first is_equals text ≡ [] = drop_of_length-le text (omega (arith, ltb-false _ _ e)) in
+    rw (nothing, no_number) refl
+
+pub no_step : (text : List ℕ) → None ≡ position is_equals text → None ≡ step_of text
+no_step text found = none_by text _ refl found
+
+-- a moment stands before it, and days behind it
+place_by : (text : List ℕ) (n : ℕ) (b : Bool) → nat_lt (position_or_len is_equals text) (length text) ≡ b
+    → Some n ≡ cond b (Some (position_or_len is_equals text)) None → n ≡ position_or_len is_equals text
+place_by text n true e found = cc
+place_by text n false e found = cc
+
+pub step_cut : (text : List ℕ) (n : ℕ) (step : Option (ℕ × ℕ)) → Some n ≡ position is_equals text
+    → step ≡ step_told (take n text) (take (length text - (n + 1)) (drop (n + 1) text)) → step ≡ step_of text
+unfolding step_of
+step_cut text n step found is =
+    is ∙ ap (λ l. step_told (take n text) l) (take_rest text (n + 1))
+    ∙ ap (λ k. step_told (take k text) (drop (k + 1) text)) (place_by text n _ refl found)

@@ -69,9 +69,9 @@ open_app = with_rules (new_app (codes "open"))
     ∷ takes (codes "responder") ∷ takes (codes "responder-signer") ∷ takes (codes "responder-algorithm") ∷ takes (codes "embed")
     ∷ flag (codes "log") ∷ takes (codes "log-file") ∷ flag (codes "why") ∷ [])
 
--- `at SOCKET [--why]`
+-- `at SOCKET [--import FILE] [--why]`
 abbrev pub at_app : App
-at_app = with_rules (new_app (codes "at")) (must (codes "counter") ∷ flag (codes "why") ∷ [])
+at_app = with_rules (new_app (codes "at")) (must (codes "counter") ∷ takes (codes "import") ∷ flag (codes "why") ∷ [])
 
 -- `schedule FILE MOMENT=DAYS .. [--why]`
 abbrev pub schedule_app : App
@@ -85,6 +85,10 @@ key_id_app = with_rules (new_app (codes "key-id")) (must (codes "file") ∷ must
 abbrev pub list_app : App
 list_app = with_rules (new_app (codes "list"))
     (must (codes "file") ∷ must (codes "list") ∷ takes (codes "before") ∷ takes (codes "now") ∷ flag (codes "json") ∷ flag (codes "why") ∷ [])
+
+-- `copy FILE PATH [--why]`
+abbrev pub copy_app : App
+copy_app = with_rules (new_app (codes "copy")) (must (codes "file") ∷ must (codes "path") ∷ flag (codes "why") ∷ [])
 
 -- `audit FILE [--why]`
 abbrev pub audit_app : App
@@ -105,12 +109,12 @@ abbrev pub with_commands : App → List App → App
 with_commands app [] = app
 with_commands app (command ∷ rest) = with_commands (with_subcommand app command.top) rest
 
--- the commands that make, run and serve a register, and those that set, list and audit what it has
+-- the commands that make, run and serve a register, and those that set, list, copy and audit what it has
 abbrev pub running_apps : List App
 running_apps = init_app ∷ script_app ∷ import_app ∷ crl_app ∷ serve_app ∷ open_app ∷ at_app ∷ []
 
 abbrev pub keeping_apps : List App
-keeping_apps = schedule_app ∷ key_id_app ∷ list_app ∷ audit_app ∷ []
+keeping_apps = schedule_app ∷ key_id_app ∷ list_app ∷ copy_app ∷ audit_app ∷ []
 
 -- `desk [--why] COMMAND ..`
 abbrev pub desk_app : App

@@ -14,7 +14,7 @@ use Rattle.reg_signer.specs.Algorithms.{algorithm_named}
 use Rattle.reg_words.specs.declared.job.Answerer.{Answerer}
 use Rattle.reg_words.specs.declared.job.Answerer.TheVariants.{Issuer, Delegate}
 use Rattle.reg_words.specs.declared.job.Job.{Job}
-use Rattle.reg_words.specs.declared.job.Job.TheVariants.{Init, Script, Lines, Import, Crl, Serve, Open, At, Schedule, KeyId, Listing, Audit}
+use Rattle.reg_words.specs.declared.job.Job.TheVariants.{Init, Script, Lines, Import, Crl, Serve, Open, At, Schedule, KeyId, Listing, Copy, Audit}
 use Rattle.reg_words.specs.declared.job.KeyHolder.{KeyHolder}
 use Rattle.reg_words.specs.declared.job.Order.{Order}
 use Rattle.reg_words.specs.declared.commands.Terms.{Terms}
@@ -167,7 +167,7 @@ open_of rows = do
 unfoldable pub at_of : List Row → Option Job
 at_of rows = do
   counter ← first_of (codes "counter") rows
-  Some (At counter)
+  Some (At counter (first_of (codes "import") rows))
 
 unfoldable pub schedule_of : List Row → Option Job
 schedule_of rows = do
@@ -198,6 +198,12 @@ list_of rows = do
   moment ← moment_given (codes "now") rows
   Some (Listing (record { file = file; from = from; moment = moment; form = form_in rows }))
 
+unfoldable pub copy_of : List Row → Option Job
+copy_of rows = do
+  file ← first_of (codes "file") rows
+  path ← first_of (codes "path") rows
+  Some (Copy file path)
+
 unfoldable pub audit_of : List Row → Option Job
 audit_of rows = do
   file ← first_of (codes "file") rows
@@ -209,6 +215,7 @@ keeping_job_in name rows =
     if bytes_eq name (codes "schedule") then schedule_of rows
     else if bytes_eq name (codes "key-id") then key_id_of rows
     else if bytes_eq name (codes "list") then list_of rows
+    else if bytes_eq name (codes "copy") then copy_of rows
     else if bytes_eq name (codes "audit") then audit_of rows
     else None
 

@@ -2,7 +2,7 @@
 
 ghost use Rattle.std.specs.Prelude.{◌≡◌, codes, IfOk};
 ghost use Rattle.clap.specs.Words.{found_of, rows_of};
-ghost use Rattle.reg_words.specs.Jobs.{job_in, serving_job_in, keeping_job_in, init_of, terms_of, script_by, script_of, import_of, crl_of, number_in, serve_of, open_of, at_of, schedule_of, key_id_of, form_in, list_of, audit_of};
+ghost use Rattle.reg_words.specs.Jobs.{job_in, serving_job_in, keeping_job_in, init_of, terms_of, script_by, script_of, import_of, crl_of, number_in, serve_of, open_of, at_of, schedule_of, key_id_of, form_in, list_of, copy_of, audit_of};
 
 use crate::job::{
     Job, KeptOpen, KeyHolder, LinedScript, ListToWrite, NewRegister, RowsToImport, Serving, Way,
@@ -95,6 +95,8 @@ fn read_keeping<'a>(
         Ok(read_key_id(given))
     } else if name == "list" {
         Ok(read_list(given))
+    } else if name == "copy" {
+        Ok(read_copy(given))
     } else if name == "audit" {
         Ok(read_audit(given))
     } else {
@@ -223,6 +225,7 @@ fn read_at<'a>(given: &ArgMatches<'a>) -> Option<Job<'a>>
 {
     Some(Job::At {
         counter: word_of(given, "counter")?,
+        rows: word_of(given, "import"),
     })
 }
 
@@ -275,6 +278,16 @@ fn form_of(given: &ArgMatches<'_>) -> Form
     } else {
         Form::Csv
     }
+}
+
+#[tactic(auto, unfolding(crate::specs::Jobs::copy_of))]
+fn read_copy<'a>(given: &ArgMatches<'a>) -> Option<Job<'a>>
+    ensures { result ≡ copy_of (rows_of (found_of given.now)) }
+{
+    Some(Job::Copy {
+        file: word_of(given, "file")?,
+        path: word_of(given, "path")?,
+    })
 }
 
 #[tactic(auto, unfolding(crate::specs::Jobs::audit_of))]

@@ -30,7 +30,7 @@ fn running() -> &'static [Entry]
     RUNNING
 }
 
-/// Those that set, list and audit what it has.
+/// Those that set, list, copy and audit what it has.
 fn keeping() -> &'static [Entry]
     ensures { map app_told result.now ≡ keeping_apps }
 {

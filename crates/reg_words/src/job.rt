@@ -152,9 +152,10 @@ pub enum Job<'a> {
     /// at a path. What holds the key signs; a digest seals only where `--unsigned` says that none does. Where one answers with a key
     /// of its own and nothing holds the issuer's, no CRL is signed.
     Open(KeptOpen<'a>),
-    /// Tells the lines of standard input to the counter at a path.
+    /// Tells the lines of standard input to the counter at a path; or the rows of a file that is told.
     At {
         counter: Word<'a>,
+        rows: Option<Word<'a>>,
     },
     /// Gives the register another schedule of longest validities.
     Schedule {
@@ -168,6 +169,11 @@ pub enum Job<'a> {
     },
     /// Writes a list of the register, as CSV with a header or as an object of JSON a line, at a moment or at the machine's clock.
     Listing(ListToWrite<'a>),
+    /// Copies the register, which no program has open, to a path at which nothing lies.
+    Copy {
+        file: Word<'a>,
+        path: Word<'a>,
+    },
     /// Looks whether the tables are those of sound records, and changes nothing.
     Audit {
         file: Word<'a>,

@@ -15,4 +15,5 @@ pub use job::{
     Serving, Usage, Way,
 };
 pub use reading::{no_text, read_words};
+pub use values::read_step;
 pub use word::{Steps, Word};

@@ -97,6 +97,11 @@ const COUNTER: &str = "The Unix socket of the counter, which is made with mode 0
 
 const AT_COUNTER: &str = "The Unix socket of an open desk's counter";
 
+const AT_IMPORT: &str =
+    "In place of standard input: register each certificate of this CSV file, order,serial,notBefore,notAfter";
+
+const COPY: &str = "The path of the copy; nothing may lie there";
+
 const STEPS: &str =
     "From MOMENT on at most DAYS days, 1 to 398; 1 to 16 steps, the first at 1970-01-01T00:00:00Z, moments ascending";
 
@@ -117,6 +122,9 @@ const LOG_FILE: &str =
     "Tell each exchange in a line of this file, which is opened anew for each line; beside --log or in its place";
 
 const CAUSE: &str = "Tell the cause of a fault in a line behind its own, where it is known";
+
+const CAUSE_OR_REASON: &str =
+    "Tell the cause of a fault, or with --strict more of what was refused (E08, E09, E12), in a line behind its own, where it is known";
 
 const CAUSE_ANYWHERE: &str =
     "Tell the cause of a fault in a line behind its own, where it is known; also behind a command";
@@ -153,7 +161,7 @@ pub(crate) const RUNNING: &[Entry] = &[
             Part::Takes("algorithm", "NAME", ALGORITHM),
             Part::Flag("clock", CLOCK),
             Part::Flag("strict", STRICT),
-            Part::Flag("why", CAUSE),
+            Part::Flag("why", CAUSE_OR_REASON),
         ],
     },
     Entry {
@@ -164,7 +172,7 @@ pub(crate) const RUNNING: &[Entry] = &[
             Part::Must("file", "FILE", FILE),
             Part::Needs("now", "MOMENT", NOW),
             Part::Flag("strict", STRICT_IMPORT),
-            Part::Flag("why", CAUSE),
+            Part::Flag("why", CAUSE_OR_REASON),
         ],
     },
     Entry {
@@ -219,15 +227,16 @@ pub(crate) const RUNNING: &[Entry] = &[
     Entry {
         name: "at",
         about: "Tell the lines of standard input to an open desk, and write one reply line for each; a line has no moment.",
-        example: "Example:\n  echo counts | desk at ca.counter\n\nExit status 3 where a reply is a refusal or a fault, or the last line has no end: that one is not told.",
+        example: "Examples:\n  echo counts | desk at ca.counter\n  desk at ca.counter --import certificates.csv\n\nExit status 3 where a reply is a refusal or a fault, or the last line has no end: that one is not told.",
         parts: &[
             Part::Must("counter", "SOCKET", AT_COUNTER),
+            Part::Takes("import", "FILE", AT_IMPORT),
             Part::Flag("why", CAUSE),
         ],
     },
 ];
 
-/// The commands that set, list and audit what a register has; help lists them behind the others.
+/// The commands that set, list, copy and audit what a register has; help lists them behind the others.
 pub(crate) const KEEPING: &[Entry] = &[
     Entry {
         name: "schedule",
@@ -259,6 +268,16 @@ pub(crate) const KEEPING: &[Entry] = &[
             Part::Takes("before", "MOMENT", BEFORE_MOMENT),
             Part::Takes("now", "MOMENT", LIST_NOW),
             Part::Flag("json", JSON),
+            Part::Flag("why", CAUSE),
+        ],
+    },
+    Entry {
+        name: "copy",
+        about: "Copy a register that no program has open into one new file, with what its -wal has.",
+        example: "Example:\n  desk copy ca.db /var/backups/ca/ca.db\n\nOne that is open is copied by the line `copy PATH` at its counter: echo copy /var/backups/ca/ca.db | desk at ca.counter",
+        parts: &[
+            Part::Must("file", "FILE", FILE),
+            Part::Must("path", "PATH", COPY),
             Part::Flag("why", CAUSE),
         ],
     },

@@ -1,10 +1,10 @@
 //! The values that the words of a command give.
 
-ghost use Rattle.std.specs.Prelude.{◌≡◌, ◌≤◌, IfOk, IfSome, List, ℕ, map, option_and_then, option_map};
+ghost use Rattle.std.specs.Prelude.{◌≡◌, ◌≤◌, ◌==◌, IfOk, IfSome, List, ℕ, map, option_and_then, option_map, position};
 ghost use Rattle.reg_core.specs.Number.{number_of};
 ghost use Rattle.clap.specs.Words.{all_of, first_of, found_of, rows_of};
 ghost use Rattle.reg_words.specs.Jobs.{answerer_in, answerer_told, given, given_or, chosen, has_own_key, holder_by_options, holder_chosen, holder_in, is_given, moment_given, number_in, way_in};
-ghost use Rattle.reg_words.specs.Values.{moment_of, step_of, steps_of, within};
+ghost use Rattle.reg_words.specs.Values.{moment_of, step_of, step_told, steps_of, within};
 
 use crate::job::{Answerer, KeyHolder, Way};
 use crate::word::{Steps, Word};
@@ -234,7 +234,7 @@ fn read_steps(alloc: Global, texts: &[&str]) -> Result<Option<Steps>, AllocError
 {
     let mut steps = Vec::new(alloc);
     for text in texts {
-        match read_step(text) {
+        match read_step(text.as_bytes()) {
             Some(step) => steps.push(step)?,
             None => return Ok(None),
         }
@@ -242,14 +242,27 @@ fn read_steps(alloc: Global, texts: &[&str]) -> Result<Option<Steps>, AllocError
     Ok(Some(Steps::of(steps)))
 }
 
-/// Reads `MOMENT=DAYS`; `None` where the text has another form.
-#[tactic(auto, unfolding(crate::specs::Values::step_of))]
-pub(crate) fn read_step(text: &str) -> Option<(Moment, u64)>
+/// Reads `MOMENT=DAYS`, a step of a schedule; `None` where the text has another form.
+pub fn read_step(text: &[u8]) -> Option<(Moment, u64)>
     ensures { result ≡ step_of text.now }
 {
-    let (from, days) = text.split_once('=')?;
-    let days = read_number(days.as_bytes())?;
-    Some((read_moment(from.as_bytes())?, days))
+    let equals = first_equals(text)?;
+    step_by(&text[..equals], &text[equals + 1..])
+}
+
+/// Where the first `=` of a text is.
+fn first_equals(text: &[u8]) -> Option<usize>
+    ensures { result ≡ position (λ byte. byte == 61) text.now }
+{
+    text.iter().position(|byte| *byte == b'=')
+}
+
+/// The step of a moment and of days, where both are.
+fn step_by(from: &[u8], days: &[u8]) -> Option<(Moment, u64)>
+    ensures { result ≡ step_told from.now days.now }
+{
+    let days = read_number(days)?;
+    Some((read_moment(from)?, days))
 }
 
 /// Reads a moment.

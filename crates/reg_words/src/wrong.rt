@@ -133,7 +133,7 @@ fn wrong_moment<'a>(given: &ArgMatches<'a>) -> Option<Wrong<'a>> {
 /// The first step of a schedule that is none.
 fn wrong_step<'a>(given: &ArgMatches<'a>) -> Option<Wrong<'a>> {
     for value in given.get_strs("steps")? {
-        if read_step(value).is_none() {
+        if read_step(value.as_bytes()).is_none() {
             return Some(Wrong {
                 option: "MOMENT=DAYS",
                 value,

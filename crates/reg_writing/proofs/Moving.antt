@@ -1,16 +1,16 @@
 -- One step of a transaction after another, and its end.
-use Rattle.std.proofs.Common.{◌≡◌, ◌≤◌, ℕ, List, inr, true, false, Result, Ok, Err, OnOk, IsTrue, refl, sym, subst, ◌∙◌, arith}
+use Rattle.std.proofs.Common.{◌≡◌, ◌≤◌, ℕ, List, true, false, Result, Ok, Err, OnOk, IsTrue, refl, sym, subst, ◌∙◌, arith}
 use Rattle.sqlite_value.specs.Order.{Row}
 use Rattle.sqlite_trees.specs.View.{doubt}
 use Rattle.sqlite_trees.specs.declared.store.Store.{Ghosts}
 use Rattle.sqlite.specs.Effect.{Database}
 use Rattle.sqlite.specs.Held.{Held, state}
-use Rattle.sqlite.specs.State.{State, HasCleanDisk, KeepsCommit, IsRolledBack, Shows as IsSeen}
+use Rattle.sqlite.specs.State.{State, HasCleanDisk, Shows as IsSeen}
 use Rattle.reg_core.specs.Records.{Records}
 use Rattle.reg_tables.specs.Columns.{Columns}
 use Rattle.reg_tables.specs.Shows.{Holds, ShowsBoth, AreBoth}
 use Rattle.reg_tables.specs.Kept.{Kept, ShowsKept}
-use Rattle.reg_tables.specs.Stays.{Moves, Stays}
+use Rattle.reg_tables.specs.Stays.{Moves}
 use Rattle.reg_writing.specs.Ran.{Ran, Before, Moved}
 
 -- a statement that ran is a step, to tables of which this holds
@@ -39,10 +39,6 @@ was_clean old new forgets clean = omega arith
 pub ok_then_on : {A E : Type 0} (a b c : State) (P Q : Database → Type 0) (r : Result A E) → Moves a b P → OnOk r (Moves b c Q) → OnOk r (Moves a c Q)
 ok_then_on a b c P Q (Ok x) first second = moves_on a b c P Q first second
 ok_then_on a b c P Q (Err e) first second = tt
-
-pub both_ok : {A E : Type 0} (P Q : Type 0) (r : Result A E) → P → OnOk r Q → OnOk r (P × Q)
-both_ok P Q (Ok x) p q = (p, q)
-both_ok P Q (Err e) p q = tt
 
 module _ {S : Type 0} (g : Ghosts S) (was begun entered ended : Held S) (begins : begun ≡ record was { in_transaction = true })
     (first : doubt (state g begun).is_clean ≤ doubt (state g entered).is_clean) (second : doubt (state g entered).is_clean ≤ doubt (state g ended).is_clean) where
@@ -73,28 +69,6 @@ module _ {S : Type 0} (g : Ghosts S) (was begun entered ended : Held S) (begins 
         subst Q (sym (commit clean).now_is) (enters (was_clean (state g entered) (state g ended) second clean) before (commit clean).was_open);
   }
 
-  -- a transaction that is undone
-  pub undoes : (HasCleanDisk (state g entered) → KeepsCommit (state g begun) (state g entered)) → (HasCleanDisk (state g ended) → IsRolledBack (state g entered) (state g ended)) → Stays (state g was) (state g ended)
-  undoes keeps back = record {
-    was_open = λ clean up. same_open ((keeps (clean_entered clean)).was_open ((back clean).was_open up));
-    now = λ clean up. inr (((back clean).undone up).0 ∙ committed_same clean ((back clean).was_open up));
-    committed = λ clean up. ((back clean).undone up).1 ∙ committed_same clean ((back clean).was_open up);
-  }
-    where
-      clean_entered : HasCleanDisk (state g ended) → HasCleanDisk (state g entered)
-      clean_entered = was_clean (state g entered) (state g ended) second
-
-      same_open : IsTrue (state g begun).is_open → IsTrue (state g was).is_open
-      same_open = subst (λ h. IsTrue (state g h).is_open → IsTrue (state g was).is_open) (sym begins) (λ up. up)
-
-      committed_same : HasCleanDisk (state g ended) → IsTrue (state g entered).is_open → (state g entered).committed ≡ (state g was).committed
-      committed_same clean up = (keeps (clean_entered clean)).committed up ∙ subst (λ h. (state g h).committed ≡ (state g was).committed) (sym begins) refl
-
--- tables that show records and columns that stand for them
-pub ok_kept : {S A E : Type 0} (g : Ghosts S) (h : Held S) (records : Records) (columns : Columns) (r : Result A E) → OnOk r (ShowsBoth g h records columns) → Kept columns records → OnOk r (ShowsKept g h records)
-ok_kept g h records columns (Ok x) both stands = (columns, both, stands)
-ok_kept g h records columns (Err e) both stands = tt
-
 -- what a transaction begins with
 pub begun_before : {S : Type 0} (g : Ghosts S) (was begun : Held S) → begun ≡ record was { in_transaction = true } → (records : Records) (columns : Columns) → ShowsBoth g was records columns → HasCleanDisk (state g was)
     → Before (state g begun) records columns
@@ -109,9 +83,6 @@ ok_kept_by g h records columns others (Ok x) both same stands = (
   stands,
 )
 ok_kept_by g h records columns others (Err e) both same stands = tt
-
-pub keeps_on : (a b c : State) → KeepsCommit a b → KeepsCommit b c → KeepsCommit a c
-keeps_on a b c one two = record { was_open = λ up. one.was_open (two.was_open up); committed = λ up. two.committed up ∙ one.committed (two.was_open up) }
 
 pub ok_if : {A E : Type 0} (P : Type 0) (r : Result A E) → P → OnOk r P
 ok_if P (Ok x) p = p

@@ -40,10 +40,3 @@ module _ {S : Type 0} (g : Ghosts S) (was begun entered ended : Held S) (begins 
       survives_begin g was (state g ended) P
       (subst (λ h. Survives (state g h) (state g ended) P) begins
       (survives_then (state g begun) (state g entered) (state g ended) (λ _. ⊥) (λ trees. trees ≡ (state g entered).now.trees) P (λ clean trees none. absurd none) made first second))
-
-  -- a transaction that is undone
-  pub survives_undone : (P : Trees → Type 0) → LeavesNothing (state g begun) (state g entered) → LeavesNothing (state g entered) (state g ended) → Survives (state g was) (state g ended) P
-  survives_undone P first second =
-      survives_begin g was (state g ended) P
-      (subst (λ h. Survives (state g h) (state g ended) P) begins
-      (survives_then (state g begun) (state g entered) (state g ended) (λ _. ⊥) (λ _. ⊥) P (λ clean trees none. absurd none) (λ clean trees none. absurd none) first second))

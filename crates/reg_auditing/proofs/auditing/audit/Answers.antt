@@ -5,7 +5,7 @@ use Rattle.reg_tables.proofs.Staying.{looked_both, looked_then, stays_holds}
 use Rattle.reg_auditing.specs.Said.{AreRead, AreReadFrom, whole, beside}
 use Rattle.reg_auditing.specs.Stops.{IsDenied}
 use Rattle.reg_auditing.proofs.Completed.{holds_both, not_broken_denied}
-use Rattle.reg_auditing.proofs.Denying.{rows_denied, bytes_denied}
+use Rattle.reg_auditing.proofs.Denying.{rows_denied, bytes_denied, days_denied}
 use Rattle.reg_auditing.proofs.Whole.{holds_register}
 use Rattle.reg_auditing.proofs.auditing.audit.Goals as goal
 
@@ -19,7 +19,9 @@ returns-clause-sound g c records columns shows clean =
     let are = c.in_ok-all.ensures.found records columns shows was_clean in
     let judged = c.in_ok-audited.ensures.sound records columns (subst (λ all. AreRead records columns whole all (λ rows. rows.items)) (sym c.deref.ensures.value) are) in
     let signed = c.in_ok-check_crls.ensures.bytes records columns there (subst (λ all. AreRead records columns whole all (λ rows. rows.items)) (sym c.deref-2.ensures.value) are) judged.1 then_clean in
-    (record { rows = judged.0; signatures = signed }, judged.1)
+    let then = looked_both c.check_crls.ensures.looked records columns there in
+    let more = subst (λ all. AreRead records columns beside all (λ rows. rows.items)) (sym c.deref-5.ensures.value) (c.in_ok-more.ensures.found records columns then clean) in
+    (record { rows = judged.0; signatures = signed }, judged.1, c.in_ok-check_days.ensures.allowed records columns more)
 
 pub returns-clause-shown : goal.returns-clause-shown
 returns-clause-shown g c db these are clean =
@@ -75,11 +77,27 @@ returns-in_err-check_complete-clause-broken g c records columns shows clean =
     let denied : IsDenied c.in_err-check_complete.field-0.0 records columns = not_broken_denied records columns _ (c.in_err-check_complete.ensures.broken records columns all more) in
     search rules
 
+pub returns-in_err-check_days-clause-broken : goal.returns-in_err-check_days-clause-broken
+returns-in_err-check_days-clause-broken g c records columns shows clean =
+    let old = c.args.conn.now in
+    let mid = c.read_each.new.conn in
+    let last = c.check_crls.new.conn in
+    let then_clean : HasCleanDisk (state g.S.Store last) = omega (arith, c.read_each-2.ensures.looked.survives.clean) in
+    let was_clean : HasCleanDisk (state g.S.Store mid) = omega (arith, c.check_crls.ensures.looked.survives.clean) in
+    let there = looked_both c.read_each.ensures.looked records columns shows in
+    let then = looked_both c.check_crls.ensures.looked records columns there in
+    let more = subst (λ all. AreRead records columns beside all (λ rows. rows.items)) (sym c.deref-5.ensures.value) (c.in_ok-more.ensures.found records columns then clean) in
+    let denied : IsDenied c.in_err-check_days.field-0.0 records columns = days_denied records columns _ (c.in_err-check_days.ensures.broken records columns more) in
+    search rules
+
 pub returns-clause-looked : goal.returns-clause-looked
 returns-clause-looked g c = looked_then (looked_then c.read_each.ensures.looked c.check_crls.ensures.looked) c.read_each-2.ensures.looked
 
 pub returns-in_err-check_complete-clause-looked : goal.returns-in_err-check_complete-clause-looked
 returns-in_err-check_complete-clause-looked g c = looked_then (looked_then c.read_each.ensures.looked c.check_crls.ensures.looked) c.read_each-2.ensures.looked
+
+pub returns-in_err-check_days-clause-looked : goal.returns-in_err-check_days-clause-looked
+returns-in_err-check_days-clause-looked g c = looked_then (looked_then c.read_each.ensures.looked c.check_crls.ensures.looked) c.read_each-2.ensures.looked
 
 pub returns-in_err-more-clause-looked : goal.returns-in_err-more-clause-looked
 returns-in_err-more-clause-looked g c = looked_then (looked_then c.read_each.ensures.looked c.check_crls.ensures.looked) c.read_each-2.ensures.looked

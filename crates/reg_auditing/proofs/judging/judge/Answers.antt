@@ -30,6 +30,7 @@ returns-clause-sound c records columns are =
     let listed = c.in_ok-listed.ensures.read records columns (c.rows_at-10.ensures.read records columns whole Office are (omega arith)) in
     both (c.in_ok-check.ensures.sound records) (λ of. c.in_ok-check.ensures.kept records of columns)
     (record {
+      policy = (c.rows_at.ensures.read records columns whole Office are (omega arith)).both.shown.rows.policy;
       cap = office.0;
       last = office.1;
       subscribers = c.deref.ensures.value ∙ subscribers;
@@ -131,6 +132,7 @@ returns-in_err-check-clause-broken c records columns are =
     let no : found.IsBroken c.in_err-check.field-0.0 → SoundRows records × Kept columns records → ⊥ =
     c.in_err-check.ensures.broken records
     (record {
+      policy = (c.rows_at.ensures.read records columns whole Office are (omega arith)).both.shown.rows.policy;
       cap = office.0;
       last = office.1;
       subscribers = c.deref.ensures.value ∙ subscribers;

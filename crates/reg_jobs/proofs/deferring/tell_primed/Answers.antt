@@ -1,6 +1,6 @@
 use Rattle.reg_calls.specs.Signatories.{Signatory}
 use Rattle.reg_core.specs.Records.{Records}
-use Rattle.reg_jobs.specs.Reasons.{WordAt}
+use Rattle.reg_jobs.specs.CounterWords.{WordAt}
 use Rattle.reg_jobs.proofs.LookedAt.{still_then, then_still}
 use Rattle.reg_jobs.proofs.deferring.tell_primed.Goals as goal
 

@@ -1,5 +1,6 @@
 use Rattle.std.proofs.Common.{inr}
 use Rattle.reg_jobs.proofs.LineByLine.{clocked, unclocked}
+use Rattle.reg_jobs.proofs.LookedAt.{then_still}
 use Rattle.reg_jobs.proofs.lining.script_by_lines.Goals as goal
 
 pub returns-then-way : goal.returns-then-way
@@ -10,10 +11,12 @@ returns-then-way g c =
       ran.1,
       record {
         first = c.in_ok-office.office;
-        last = c.run_clocked-ran.new.opened.office.office;
+        last = c.keep_reason.new.office;
         between = c.open_to_sign.new.self;
         opened = c.in_ok-office.ensures.ok;
-        moves = clocked g.P.Opened.Keeper.is_clean g.P.Opened.Keeper.stands g.P.Opened.Keeper.signs g.F.Front.told _ _ ran.0 ran.1 c.args.way.is_clocked c.if-way.true ran.2;
+        moves = then_still g.P.Opened.Keeper.is_clean g.P.Opened.Keeper.stands _ _ _ _
+            (clocked g.P.Opened.Keeper.is_clean g.P.Opened.Keeper.stands g.P.Opened.Keeper.signs g.F.Front.told _ _ ran.0 ran.1 c.args.way.is_clocked c.if-way.true ran.2)
+            c.keep_reason.ensures;
         closed = c.close.ensures;
       },
       ran.3,
@@ -27,10 +30,12 @@ returns g c =
       ran.1,
       record {
         first = c.in_ok-office.office;
-        last = c.run_unclocked-ran.new.lined.office.office;
+        last = c.keep_reason-2.new.office;
         between = c.open_to_sign.new.self;
         opened = c.in_ok-office.ensures.ok;
-        moves = unclocked g.P.Opened.Keeper.is_clean g.P.Opened.Keeper.stands g.P.Opened.Keeper.signs g.F.Front.told _ _ ran.0 ran.1 c.args.way.is_clocked c.if-way.false ran.2;
+        moves = then_still g.P.Opened.Keeper.is_clean g.P.Opened.Keeper.stands _ _ _ _
+            (unclocked g.P.Opened.Keeper.is_clean g.P.Opened.Keeper.stands g.P.Opened.Keeper.signs g.F.Front.told _ _ ran.0 ran.1 c.args.way.is_clocked c.if-way.false ran.2)
+            c.keep_reason-2.ensures;
         closed = c.close-2.ensures;
       },
       ran.3,

@@ -60,6 +60,10 @@ returns-in_err-at_most_one-clause-fails g c records written clean =
     let more = c.in_err-at_most_one.ensures.more in
     absurd (omega arith)
 
+-- want of memory is no failure of the store
+no_store : call_fault_of (SqliteFailure OutOfMemory) ≡ Store → ⊥
+no_store clash = cc
+
 pub returns-in_err-get-in-Some-2-clause-fails : goal.returns-in_err-get-in-Some-2-clause-fails
 returns-in_err-get-in-Some-2-clause-fails g c records written clean =
     let value : c.in-Some.value ≡ number c.args.number = (rw c.in-Some.is at c.sql_key.ensures.value).1 in
@@ -69,5 +73,5 @@ returns-in_err-get-in-Some-2-clause-fails g c records written clean =
     let blob : column c.in-Some-2.row.now 0 ≡ Blob one.it.bytes = ap (λ (r : Row). column r 0) one.shown in
     let size : length c.in-Some-2.row.now ≡ 1 = ap length one.shown in
     let told : call_fault_of c.in_err-get-in-Some-2.field-0.0 ≡ Store → HasFailed (state g.S.Store c.args.conn.now) (state g.S.Store c.read.new.conn) =
-    λ store. absurd (c.in_err-get-in-Some-2.ensures.kind (λ memory. let clash : call_fault_of (SqliteFailure OutOfMemory) ≡ Store = sym (ap call_fault_of memory) ∙ store in absurd (cc)) (omega arith) (one.it.bytes, blob)) in
+    λ store. absurd (c.in_err-get-in-Some-2.ensures.kind (λ memory. no_store (sym (ap call_fault_of memory) ∙ store)) (omega arith) (one.it.bytes, blob)) in
     search rules

@@ -12,6 +12,7 @@ use Rattle.std.specs.Prelude.{IsSome}
 use Rattle.std.proofs.lemmas.List.Elements.{All-from_recursion}
 use Rattle.reg_core.specs.Records.{certificate_in}
 use Rattle.reg_core.specs.declared.rows.RequestRow.{RequestRow}
+use Rattle.reg_laws.proofs.Accepted.{certificates_exist}
 use Rattle.reg_tables.specs.declared.sizes.Table.TheVariants.{Requests}
 use Rattle.reg_tables.proofs.Queries.{kept_have}
 use Rattle.reg_tables.proofs.Written.{rows_few}
@@ -60,7 +61,7 @@ returns-in_err-is_late-clause-fails g c records written clean =
     let here = looked_written c.loop-request.invariant.looked records written in
     let requests = c.deref-request-items.ensures.value ∙ c.in_ok-requests.ensures.found records (written_shows g.S.Store c.args.conn.now records written) first_clean in
     let P : RequestRow → Type 0 = λ (row : RequestRow). IsSome (certificate_in records.certificates row.serial) in
-    let all = subst (AllByRecursion P) (sym requests) (kept_have P undeclined records.requests written.sound.requests.certificates_exist) in
+    let all = subst (AllByRecursion P) (sym requests) (kept_have P undeclined records.requests (certificates_exist records written.sound)) in
     let exists = subst P (sym c.request-item.is) (All-from_recursion P c.deref-request-items.result.now all c.loop-request.request-index c.request-item.result c.loop-request-test.true) in
     let told : c.in_err-is_late.field-0.0 ≡ Store → HasFailed (state g.S.Store c.args.conn.now) (state g.S.Store c.is_late.new.conn) =
     λ store. failed_then c.loop-request.invariant.looked c.is_late.ensures.looked clean (c.in_err-is_late.ensures.fails records here exists clean store) in

@@ -1,9 +1,0 @@
-use Rattle.std.proofs.Common.{IsSome, take}
-use Rattle.std.specs.BTreeMap.{get}
-use Rattle.std.specs.List.{AllByRecursion}
-use Rattle.std.specs.Ordering.{nat_cmp}
-use Rattle.reg_core.specs.declared.rows.RequestRow.{RequestRow}
-use Rattle.reg_audit.proofs.relations.certificates_exist.Given as goal
-
-abbrev pub invariant-loop-place : goal.invariant-loop-place
-invariant-loop-place l = AllByRecursion (λ (row : RequestRow). IsSome (get nat_cmp l.certificates row.serial)) (take l.place l.requests)

@@ -1,0 +1,92 @@
+-- Rows that are told as lines, one after the other.
+use Rattle.std.proofs.Common.{◌≡◌, ℕ, ◌+◌, ◌==◌, ◌&&◌, Bool, true, false, cond, List, [], ◌∷◌, ◌++◌, length, Option, Some, Result, Ok, Err, MatchResult, Vec, Global, inl, inr, subst, refl, sym, ap, ◌∙◌, append-nil, append_assoc, length-append}
+use Rattle.std.proofs.lemmas.Bool.{and_parts, eqb-true}
+use Rattle.csv.specs.Reading.{Reached, ReadRecord, default_config, source_of, strip_bom}
+use Rattle.csv.specs.declared.parser.State.{State}
+use Rattle.csv.specs.declared.parser.State.TheVariants as st
+use Rattle.csv.specs.declared.reader.Reader.{Reader}
+use Rattle.csv.proofs.ReadFacts.{rows-end, rows-more}
+use Rattle.std.specs.Result.{result_map_both}
+use Rattle.reg_core.specs.declared.refusal.Fault.{Fault}
+use Rattle.reg_core.specs.declared.refusal.Fault.TheVariants.{Refused, Memory, Store, Signer, Read, Write}
+use Rattle.reg_lines.specs.Import.{Row, TextRead, TookAll, data_rows, is_header}
+use Rattle.reg_lines.specs.Reading.{four}
+use Rattle.reg_lines.specs.Told.{TellsRows, ToldEnds, row_line, rows_told, told_at}
+use Rattle.reg_lines.proofs.RowLemmas.{data_push, header_first}
+
+-- the rows that were told so far, and where the reader is
+pub record Telling (text lines : List ℕ) (source : Option (List ℕ)) (state : State) (index : ℕ) : Type 0 where
+  pub rows : List Row
+  pub left : List ℕ
+  pub known : source ≡ Some left
+  pub reached : Reached default_config st.StartRecord (strip_bom text) rows state left
+  pub counted : length rows ≡ index
+  pub told : lines ≡ rows_told (data_rows rows)
+
+pub telling_start : (text lines : List ℕ) (source : Option (List ℕ)) (state : State)
+    → source ≡ Some (strip_bom text) → state ≡ st.StartRecord → lines ≡ [] → Telling text lines source state 0
+unfolding Reached
+telling_start text lines source state known is none = record {
+  rows = [];
+  left = strip_bom text;
+  known = known;
+  reached = (sym is, refl);
+  counted = refl;
+  told = none;
+}
+
+rows_push : (rows : List Row) (row : Row) → rows_told (rows ++ row ∷ []) ≡ rows_told rows ++ row_line (four row)
+rows_push [] row = append-nil (row_line (four row))
+rows_push (first ∷ rest) row =
+    ap (λ l. row_line (four first) ++ l) (rows_push rest row) ∙ sym (append_assoc (row_line (four first)) (rows_told rest) (row_line (four row)))
+
+told_push : (rows : List Row) (row : Row) (index : ℕ) → length rows ≡ index
+    → rows_told (data_rows rows) ++ told_at (index == 0) row ≡ rows_told (data_rows (rows ++ row ∷ []))
+told_push rows row index counted = by ((index == 0) && is_header row) refl
+  where
+    by : (b : Bool) → ((index == 0) && is_header row) ≡ b
+        → rows_told (data_rows rows) ++ cond ((index == 0) && is_header row) [] (row_line (four row)) ≡ rows_told (data_rows (rows ++ row ∷ []))
+    by true header =
+        let both = and_parts (index == 0) (is_header row) header in
+        let none : length rows ≡ 0 = counted ∙ eqb-true index 0 both.0 in
+        rw (header, header_first rows row none both.1) (append-nil (rows_told (data_rows rows)))
+    by false data' =
+        rw (data', data_push rows row (ap (λ (n : ℕ). (n == 0) && is_header row) counted ∙ data')) (sym (rows_push (data_rows rows) row))
+
+module _ {R : Type 0} (text : List ℕ) (rem : R → Option (List ℕ)) (a b : Reader R) (row : Row) (lines : List ℕ) (index : ℕ) where
+  -- one row more
+  pub telling_more : (more : List ℕ) → Telling text lines (source_of rem a) a.state index → a.config ≡ default_config → ReadRecord rem a b true row
+      → more ≡ lines ++ told_at (index == 0) row → Telling text more (source_of rem b) b.state (index + 1)
+  telling_more more t config read is =
+      let next = rows-more rem a b row default_config st.StartRecord (strip_bom text) t.left t.rows config t.known t.reached read in record {
+        rows = t.rows ++ row ∷ [];
+        left = next.0;
+        known = next.1;
+        reached = next.2;
+        counted = length-append t.rows (row ∷ []) ∙ ap (λ (n : ℕ). n + 1) t.counted;
+        told = is ∙ ap (λ l. l ++ told_at (index == 0) row) t.told ∙ told_push t.rows row index t.counted;
+      }
+
+  -- no row is left
+  pub telling_all : Telling text lines (source_of rem a) a.state index → a.config ≡ default_config → ReadRecord rem a b false row → TellsRows text lines
+  telling_all t config read = (t.rows, (a.state, t.left, t.reached, rows-end rem a b row default_config t.left config t.known read), t.told)
+
+-- four pieces behind a text, put one after the other
+pub four_put : (old a b c d : List ℕ) → old ++ a ++ b ++ c ++ d ≡ old ++ (a ++ b ++ c ++ d)
+four_put old a b c d =
+    ap (λ l. l ++ c ++ d) (append_assoc old a b) ∙ ap (λ l. l ++ d) (append_assoc old (a ++ b) c) ∙ append_assoc old (a ++ b ++ c) d
+
+-- how the telling of an input ends whose text was read, or was not
+pub told_text : (input input' : Option (List ℕ)) (text : List ℕ) (result : Result (Vec ℕ Global) Fault) → TookAll input input' text
+    → MatchResult result (λ lines. TellsRows text lines.items) (λ fault. fault ≡ Memory)
+    → ToldEnds input input' (result_map_both (λ lines. lines.items) (λ fault. fault) result)
+told_text input input' text (Ok lines) took told = (text, took, told)
+told_text input input' text (Err fault) took none = subst (λ f. ToldEnds input input' (Err f)) (sym none) (inr (text, took))
+
+pub told_read : (input input' : Option (List ℕ)) (fault : Fault) → TextRead input input' (Err fault) → ToldEnds input input' (Err fault)
+told_read input input' Read ends = ends
+told_read input input' Memory ends = inl ends
+told_read input input' Write ends = absurd ends
+told_read input input' (Refused refusal) ends = absurd ends
+told_read input input' Store ends = absurd ends
+told_read input input' Signer ends = absurd ends

@@ -1,0 +1,261 @@
+"""Copies of a register, of one that is closed and of one that is open: each is whole, sound and a register, lies where nothing lay, or is not there at all."""
+
+import os
+import re
+import shutil
+import threading
+
+from lib import faults, program, registers
+from lib.program import Counter, parted
+from lib.trial import each, test
+
+DAY, NEXT = "2026-01-01T00:00:00Z", "2026-01-02T00:00:00Z"
+ENTERED = "".join(
+    f"{DAY} {line}\n"
+    for line in ("subscriber acme", "order 1 398", "order 1 398", f"register 1 05 {DAY} 2026-12-31T00:00:00Z", f"register 2 06 {DAY} 2026-12-31T00:00:00Z", "crl")
+)
+SOUND = "sound, 2 certificates, 0 revoked, 1 CRLs\n"
+TAKEN = "something lies there already"
+COPY_FILES = "copy.db,copy.db.part"
+
+
+def copied(t, reply, path="copy.db"):
+    """A reply that tells a copy, of as many bytes as it has, which its owner alone may read and write."""
+    told = re.fullmatch(r"copied (\d+) bytes in \d+ ms\n?", reply)
+    t.true(told, f"the reply {reply!r}")
+    found = (t.room / path).stat()
+    t.same((int(told[1]), "%o" % (found.st_mode & 0o7777), found.st_nlink), (found.st_size, "600", 1), "bytes, mode and names")
+    t.same([it.name for it in (t.room / path).parent.iterdir() if it.name.startswith(f"{(t.room / path).name}.")], [], "what is left beside it")
+
+
+def opens(t, path, wanted):
+    """It is a register, with these counts and the same CRL."""
+    t.same(t.done("script", path, given=f"{NEXT} counts\n"), f"{wanted}\n")
+
+
+def refused(t, counter, path, why):
+    """No copy is laid at the counter, and the cause is told."""
+    with Counter(t.room / counter) as it:
+        t.same((it.ask(f"copy {path}"), it.ask("why")), ("F2 store", f"why {why}"))
+
+
+@test
+def a_closed_register(t):
+    t.register(lines=ENTERED)
+    before = t.lying()
+    copied(t, t.done("copy", "ca.db", "copy.db"))
+    t.same({name: it for name, it in t.lying().items() if name != "copy.db"}, before, "all else that lies there")
+    t.same(t.done("audit", "copy.db"), SOUND)
+    t.same(t.desk("crl", "copy.db").out, t.desk("crl", "ca.db").out, "the CRL")
+    opens(t, "copy.db", "good 2 revoked 0 expired 0")
+
+
+@test(seconds=3)
+def an_open_one_while_it_is_asked(t):
+    t.register(lines=ENTERED)
+    t.clock(NEXT)
+    desk = t.open()
+    crl = parted(desk.ask("GET", "/crl"))[2]
+    stop, wrong = threading.Event(), []
+
+    def asks():
+        with Counter(t.room / "counter") as it:
+            while not stop.is_set():
+                if it.ask("status 05") != "good" or parted(desk.ask("GET", "/status/06"))[2] != f'{{"at":"{NEXT}","status":"good"}}'.encode():
+                    wrong.append("another answer")
+
+    asker = threading.Thread(target=asks)
+    asker.start()
+    try:
+        with Counter(t.room / "counter") as it:
+            for at in range(20):
+                t.same(it.ask(f"subscriber s{at}"), f"subscriber {at + 2}")
+                copied(t, it.ask(f"copy copy{at}.db"), f"copy{at}.db")
+    finally:
+        stop.set()
+        asker.join()
+    t.same(wrong, [], "what was asked meanwhile")
+    # What is entered behind a copy is not in it, and what was entered before is, though the log alone has it.
+    for at in (0, 19):
+        t.same(t.done("audit", f"copy{at}.db"), SOUND)
+        t.same(t.sql(f"copy{at}.db", "SELECT count(*) FROM subscriber"), [(at + 2,)], f"subscribers of copy {at}")
+    t.same(t.desk("crl", "copy19.db").out, crl, "the CRL")
+    opens(t, "copy19.db", "good 2 revoked 0 expired 0")
+    t.same(desk.end().status, -15)
+    t.same(t.done("audit", "ca.db"), SOUND, "the register itself")
+
+
+@test
+def a_path_at_the_counter_is_of_the_desks_own_folder(t):
+    t.register(lines=ENTERED)
+    t.clock(NEXT)
+    t.open()
+    (t.room / "elsewhere").mkdir()
+    with Counter(t.room / "counter") as it:
+        it.peer.sendall(b"copy elsewhere/copy.db\r\n")
+        copied(t, it.file.readline().decode(), "elsewhere/copy.db")
+    copied(t, t.done("at", "counter", given=f"copy {t.room / 'with a blank.db'}\n"), "with a blank.db")
+
+
+def a_file(path):
+    path.write_text("mine")
+
+
+def a_link_to_nowhere(path):
+    path.symlink_to("nowhere")
+
+
+IN_THE_WAY = {
+    "a file": (a_file, ""),
+    "a folder": (lambda path: path.mkdir(), ""),
+    "a link that leads nowhere": (a_link_to_nowhere, ""),
+    "a log": (a_file, "-wal"),
+    "a journal": (a_file, "-journal"),
+    "another copy under way": (a_file, ".part"),
+}
+
+
+@each(IN_THE_WAY)
+def never_over_what_lies_there(t, lay, end):
+    t.register(lines=ENTERED)
+    lay(t.room / f"copy.db{end}")
+    before = sorted((it.name, os.readlink(it) if it.is_symlink() else it.is_file() and it.read_bytes()) for it in t.room.iterdir())
+    ran = t.desk("copy", "ca.db", "copy.db", "--why")
+    t.same((ran.status, ran.out, ran.err.decode()), (1, b"", f"F2 store\n  {TAKEN}\n"))
+    found = sorted((it.name, os.readlink(it) if it.is_symlink() else it.is_file() and it.read_bytes()) for it in t.room.iterdir())
+    t.same(found, before, "what lies there")
+    t.open()
+    refused(t, "counter", "copy.db", TAKEN)
+
+
+@test
+def its_own_register_is_in_the_way(t):
+    t.register(lines=ENTERED)
+    before = (t.room / "ca.db").read_bytes()
+    t.same(t.desk("copy", "ca.db", "ca.db", "--why").err.decode(), f"F2 store\n  {TAKEN}\n")
+    t.same((t.room / "ca.db").read_bytes(), before)
+
+
+REFUSED = {
+    "no register there": (lambda t: None, "nowhere.db", b"F2 store\n  no such file\n"),
+    "nothing begun": (lambda t: (t.room / "nowhere.db").write_bytes(b""), "nowhere.db", b"not-a-register\n"),
+    "no database": (lambda t: (t.room / "nowhere.db").write_bytes(b"x" * 9_000), "nowhere.db", b"F2 store\n  damaged\n"),
+    "one that is open": (lambda t: t.open(), "ca.db", b"F2 store\n  in use by another program\n"),
+}
+
+
+@each(REFUSED)
+def no_copy_by_desk_copy(t, before, file, told):
+    t.register(lines=ENTERED)
+    before(t)
+    ran = t.desk("copy", file, "copy.db", "--why")
+    t.same((ran.status, ran.out, ran.err), (1, b"", told))
+    t.same([it.name for it in t.room.iterdir() if it.name.startswith("copy")], [], "what is left")
+
+
+@test
+def no_copy_at_the_counter(t):
+    t.register(lines=ENTERED)
+    t.open()
+    refused(t, "counter", "nowhere/copy.db", "no such file")
+    refused(t, "counter", "", "no such file")
+    with Counter(t.room / "counter") as it:
+        it.peer.sendall(b"copy \xff\nwhy\ncopy\n")
+        t.same([it.file.readline() for _ in range(3)], [b"F2 store\n", b"why F2 store\n", b"E22 syntax\n"], "no text, and no path")
+    # What lies at the path now is another file, which this desk does not hold.
+    os.rename(t.room / "ca.db", t.room / "moved.db")
+    shutil.copy(t.room / "moved.db", t.room / "ca.db")
+    refused(t, "counter", "copy.db", "no such file")
+    t.same([it.name for it in t.room.iterdir() if it.name.startswith("copy")], [], "what is left")
+
+
+@test
+def no_right(t):
+    t.register(lines=ENTERED)
+    for name in {"ca.db", "ca.db-wal"} & {it.name for it in t.room.iterdir()}:
+        os.chmod(t.room / name, 0o644)
+    ran = t.as_nobody("copy", "ca.db", "copy.db", "--why")
+    t.same((ran.returncode, ran.stdout, ran.stderr), (1, b"", b"F2 store\n  no right\n"))
+
+
+@each({f"of version {version}": (version,) for version in (1, 2)})
+def a_copy_of_an_older_one_stays_so(t, version):
+    registers.make(t.room / "ca.db", registers.Records(50), version)
+    copied(t, t.done("copy", "ca.db", "copy.db"))
+    t.same((t.room / "copy.db").read_bytes(), (t.room / "ca.db").read_bytes(), "there is no log")
+    t.same(t.desk("audit", "copy.db").err, b"old-version\n")
+    lines = "9999-01-01T00:00:00Z counts\n"
+    t.same(t.done("script", "copy.db", given=lines), t.done("script", "ca.db", given=lines), "opened, both are made newer")
+    t.has(t.done("audit", "copy.db"), "sound, ")
+
+
+def left(t):
+    return sorted(it.name for it in t.room.iterdir() if it.name.startswith("copy"))
+
+
+FAILURES = {"write": "  disk full\n", "sync": "", "link": "  no right\n", "open": "", "stat": "", "unlink": "  no right\n"}
+
+
+@each({f"each {kind}": (kind, cause) for kind, cause in FAILURES.items()}, seconds=4)
+def a_call_that_fails_leaves_nothing(t, kind, cause):
+    t.register(lines=ENTERED)
+    words = ("copy", "ca.db", "copy.db", "--why")
+    last = faults.total(t, words, kind, only=COPY_FILES)
+    t.true(last > 0, f"no {kind}")
+    for at in range(1, last + 1):
+        for name in left(t):
+            os.remove(t.room / name)
+        ran, count = faults.run(t, words, fail=f"{kind}:{at}", only=COPY_FILES)
+        t.same((ran.status, ran.out, count["met"]), (1, b"", 1), f"{kind} {at}")
+        t.same(ran.err.decode(), f"F2 store\n{cause}", f"{kind} {at}") if cause else t.has(ran.err.decode(), "F2 store\n")
+        t.same(left(t), [], f"what {kind} {at} leaves")
+    copied(t, t.done("copy", "ca.db", "copy.db"))
+
+
+@test(seconds=4)
+def a_full_disk_at_the_counter(t):
+    t.register(lines=ENTERED)
+    t.clock(NEXT)
+    t.open(faults=faults.environment(fail="write:1+", only="copy.db.part"))
+    refused(t, "counter", "copy.db", "disk full")
+    t.same(left(t), [], "what is left")
+    t.same(t.done("at", "counter", given="subscriber beta\n"), "subscriber 2\n", "the register goes on")
+
+
+LOSSES = {"nothing is lost": {}, "what was not synced is lost": {"lose": 1}, "the write is torn": {"torn": 1}}
+
+
+@each(LOSSES, seconds=6)
+def a_stop_leaves_a_whole_one_or_none(t, told):
+    t.register(lines=ENTERED)
+    words = ("copy", "ca.db", "copy.db")
+    last = faults.total(t, words, "steps", only=COPY_FILES)
+    t.true(last > 5, f"only {last} steps")
+    whole = 0
+    for at in range(1, last + 1):
+        for name in left(t):
+            os.remove(t.room / name)
+        ran, count = faults.run(t, words, stop=at, only=COPY_FILES, **told)
+        t.same((ran.status, count["met"]), (-9, 1), f"stopped at step {at}")
+        t.true(set(left(t)) <= {"copy.db", "copy.db.part"}, f"what is left at step {at}: {left(t)}")
+        if (t.room / "copy.db").exists():
+            # It has its second name still, beside which it is not opened.
+            (t.room / "copy.db.part").unlink()
+            t.same(t.done("audit", "copy.db"), SOUND, f"at step {at}")
+            whole += 1
+    t.same(whole, 1, "stops behind its naming")
+
+
+@test(seconds=2)
+def a_desk_that_was_stopped_while_it_copied(t):
+    """Its register is as it was, and what is left of the copy is in the way until it is taken away."""
+    t.register(lines=ENTERED)
+    desk = t.open(faults=faults.environment(stop=3, only=COPY_FILES))
+    with Counter(t.room / "counter") as it:
+        t.same(it.ask("copy copy.db"), "", "its reply")
+    t.same(desk.wait().status, -9)
+    t.same(left(t), ["copy.db.part"])
+    t.same(t.done("audit", "ca.db"), SOUND)
+    t.same(t.desk("copy", "ca.db", "copy.db", "--why").err.decode(), f"F2 store\n  {TAKEN}\n")
+    (t.room / "copy.db.part").unlink()
+    copied(t, t.done("copy", "ca.db", "copy.db"))
