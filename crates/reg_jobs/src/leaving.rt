@@ -1,6 +1,6 @@
 //! An OCSP answer that is left to be signed, and how it is finished.
 
-ghost use Rattle.std.specs.Prelude.{◌≡◌, ◌≤◌, [], IfSome, length, option_map};
+ghost use Rattle.std.specs.Prelude.{◌≡◌, ◌≤◌, [], IfSome, MatchOption, OnOk, length, option_map};
 ghost use Rattle.reg_calls.specs.Items.{items_of};
 ghost use Rattle.reg_jobs.specs.Counted.{CountsFinished};
 ghost use Rattle.reg_jobs.specs.Exchanges.{Responded};
@@ -84,7 +84,9 @@ pub(crate) fn ask_for<F: Front>(
     front: &F,
     signer: Option<&str>,
     unsigned: &Unsigned,
-) -> io::Result<UnixStream> {
+) -> io::Result<UnixStream>
+    ensures { MatchOption signer.entry (OnOk result ⊥) (λ path. OnOk result (F.asked path.now unsigned.now.draft.message)) }
+{
     match signer {
         Some(path) => front.ask(path, unsigned.draft.message()),
         None => Err(io::Error::from(ErrorKind::NotFound)),
