@@ -90,12 +90,12 @@ fn tell_fault(rt: &HostRuntime, order: &Order<'_>, fault: Fault, cause: Option<C
 /// Does the job of an order over standard input, or the file of its rows, and standard output.
 fn do_order(rt: &HostRuntime, order: &Order<'_>) -> u8 {
     let noted = Cell::new(None);
+    let reason = Cell::new(None);
     let front = Machine::of(*rt, &noted)
         .with_log(order.has_log)
         .with_log_file(log_path(order))
         .with_watch(rt.stderr().is_terminal());
     let mut place = front;
-    let reason = Cell::new(None);
     let causes = Causes {
         noted: &noted,
         reason: &reason,
