@@ -1,8 +1,8 @@
 //! What the system does for the machine, a call at a time.
 
-ghost use Rattle.reg_files.specs.Reading.{IsUnread};
 ghost use Rattle.std.specs.Prelude.{◌≡◌, ◌/◌, Ok, IfErr, IfOk};
 ghost use Rattle.std.specs.Duration.{as_nanos};
+ghost use Rattle.reg_files.specs.Reading.{IsUnread};
 
 use mio::net::{TcpListener, UnixListener, UnixStream as UnwaitingStream};
 use reg_files::{Unread, copy_open};
