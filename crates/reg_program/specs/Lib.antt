@@ -1,3 +1,4 @@
 pub mod Audited
+pub mod Clocks
 pub mod Files
 pub mod Misfits

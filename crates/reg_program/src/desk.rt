@@ -1,10 +1,10 @@
 //! The program as the machine runs it: its words, standard input and output, and the exit status.
 
-use crate::front::open_log;
 use crate::input::Input;
 use crate::machine::Machine;
 use crate::performing::perform_untold;
 use crate::progress::{Counted, tell_opening};
+use crate::system::open_log;
 use reg_causes::{Cause, of_io};
 use reg_core::Fault;
 use reg_endings::Failure;
