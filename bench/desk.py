@@ -5,15 +5,21 @@ It prints tables as docs/PERFORMANCE.md has them.
 
 Usage: bench/desk.py [NUMBER OF CERTIFICATES ..]     (1000 10000 100000 where none is given; DESK names another program)
        bench/desk.py --crl [NUMBER OF ENTRIES ..]    CRLs alone, of registers whose certificates are all revoked
+       bench/desk.py --lists [NUMBER OF CERTIFICATES ..]    lists: of a closed register, and the pages of an open one
 The files lie in the folder that DESK_BENCH_FOLDER names, or else in that of temporary files; /dev/shm has them in memory.
 """
+import json
 import os
 import shutil
+import signal
+import socket
+import statistics
 import subprocess
 import sys
 import tempfile
 import threading
 import time
+import urllib.request
 
 TOP = os.path.dirname(os.path.dirname(os.path.abspath(__file__)))
 sys.path.insert(0, f"{TOP}/tests")
@@ -27,6 +33,9 @@ DAY, END = "2026-01-01T00:00:00Z", "2026-12-31T23:59:59Z"
 LINES, ROUNDS = 2_000, 3
 # A fifth of the certificates are revoked.
 REVOKED = 5
+LISTS = ("certificates", "revoked", "orders", "subscribers", "crls", "open-requests", "overdue")
+# So many pages of a list are timed at most.
+PAGES = 400
 
 
 def serial(place):
@@ -169,11 +178,57 @@ def crls(sizes):
             os.remove(path)
 
 
+def pages(port, word):
+    """The milliseconds of each page of a list of an open desk, at most so many, of 1,000 rows at most."""
+    took, key = [], ""
+    while len(took) < PAGES:
+        began = time.perf_counter()
+        with urllib.request.urlopen(f"http://127.0.0.1:{port}/list/{word}?limit=1000{key}") as answer:
+            body = answer.read()
+        took.append((time.perf_counter() - began) * 1e3)
+        after = json.loads(body)["next"]
+        if after is None:
+            break
+        key = f"&after={after}"
+    return took
+
+
+def lists(sizes):
+    """A list of a closed register, and the pages of the same of an open one."""
+    print("| Certificates | List | Rows | `desk list`, s | Rows a second | Pages | A page of an open desk, ms: median | slowest |\n|---|---|---|---|---|---|---|---|")
+    with tempfile.TemporaryDirectory(prefix="desk-bench-", dir=os.environ.get("DESK_BENCH_FOLDER")) as folder:
+        for size in sizes:
+            path = f"{folder}/{size}.db"
+            make(path, size)
+            opening = min(script(path, [])[0] for _ in range(ROUNDS))
+            closed = {}
+            for word in LISTS:
+                began = time.perf_counter()
+                told = subprocess.run([DESK, "list", path, *word.split(), "--now", DAY], capture_output=True, check=True).stdout
+                closed[word] = told.count(b"\n") - 1, time.perf_counter() - began - opening
+            with socket.create_server(("127.0.0.1", 0)) as free:
+                port = free.getsockname()[1]
+            words = [DESK, "open", path, "--port", str(port), "--counter", f"{folder}/counter", "--unsigned"]
+            with subprocess.Popen(words, stdout=subprocess.PIPE) as desk:
+                desk.stdout.readline()
+                for word in LISTS:
+                    rows, took = closed[word]
+                    asked = word.replace(" --before ", "?before=").split("?")
+                    each = pages(port, asked[0] if len(asked) == 1 else f"{asked[0]}?{asked[1]}")
+                    told = f"| {size:,} | `{word}` | {rows:,} | {took:.2f} | {rows / max(took, 0.001):,.0f} | {len(each):,} | {statistics.median(each):.2f} | {max(each):.2f} |"
+                    print(told, flush=True)
+                desk.send_signal(signal.SIGTERM)
+            os.remove(path)
+
+
 def main():
     words = sys.argv[1:]
-    sizes = [int(it) for it in words if it != "--crl"] or [1_000, 10_000, 100_000]
+    sizes = [int(it) for it in words if not it.startswith("--")] or [1_000, 10_000, 100_000]
     if "--crl" in words:
         crls(sizes)
+        return
+    if "--lists" in words:
+        lists(sizes)
         return
     found, peaks = {}, []
     with tempfile.TemporaryDirectory(prefix="desk-bench-", dir=os.environ.get("DESK_BENCH_FOLDER")) as folder:

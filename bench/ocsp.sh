@@ -4,7 +4,7 @@
 # for eight certificates and for 4,096, and beside 200 silent peers, with the latency of the median and of one in a hundred. Then commands a second at
 # the desk's counter, beside `desk script`.
 # The desk seals with a digest, which costs next to nothing and is no signature; with --signed as the first word it signs with the same
-# P-256 key as openssl, which examples/signer.py holds, in as many processes as SIGNERS says (3). Then also with a signer that takes 5 ms, one
+# P-256 key as openssl, which examples/signer.py holds, in as many processes as SIGNERS says (2: with more of them, on four cores, one that waits takes the time of who asks). Then also with a signer that takes 5 ms, one
 # answer after the other and 32 at once, and how long others wait while one hangs.
 # Run it from the repository's root; needs openssl and python3, for --signed also python3's package cryptography.
 set -eu
@@ -41,7 +41,7 @@ openssl ocsp -index index.txt -port 8091 -rsigner ca.pem -rkey ca.key -CA ca.pem
 theirs=$!
 set -- open ca.db --port 8092 --counter ca.counter
 if [ -n "$signed" ]; then
-    "$signer" --processes "${SIGNERS:-3}" ca.key ca.sign >/dev/null &
+    "$signer" --processes "${SIGNERS:-2}" ca.key ca.sign >/dev/null &
     holder=$!
     sleep 2
     set -- "$@" --signer ca.sign --algorithm ecdsa-sha256

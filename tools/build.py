@@ -23,8 +23,8 @@ from concurrent.futures import FIRST_COMPLETED, ThreadPoolExecutor, wait
 
 TOP = os.path.dirname(os.path.dirname(os.path.abspath(__file__)))
 RT = shutil.which("rt") or "/opt/rattle/bin/rt"
-# What one check may take, by what was seen; a second job of a check takes about half as much again.
-MEMORY_OF_A_CHECK = 3_000_000_000
+# What one check takes on average, by what was seen; a second job of a check takes about half as much again.
+MEMORY_OF_A_CHECK = 2_000_000_000
 MOST_JOBS = 4
 TIMES = f"{TOP}/tools/build-times.txt"
 # A crate that was not measured: seconds of the clock for each of its lines.

@@ -106,10 +106,10 @@ def look_at_promises():
         at = own[-1] if own else crates[0]
         for it in re.finditer(r"\b([A-Z][A-Za-z]+)\.([A-Za-z_]+)\b", cells[1]):
             before = cells[1][: it.start()]
-            named = re.findall(r"\b(reg_\w+|sqlite|std)\b", before)
+            named = re.findall(r"\b(reg_\w+|sqlite\w*|std)\b", before)
             places = [named[-1]] if named else []
             places = [p for p in places if p.startswith("reg_")] + crates + (["reg_jobs"] if "reg_program" in crates else [])
-            if named and named[-1] in ("sqlite", "std") and "'s" in before[before.rindex(named[-1]):][:12]:
+            if named and not named[-1].startswith("reg_") and "'s" in before[before.rindex(named[-1]):][:12]:
                 continue
             specs = [TOP / "crates" / p / "specs" / f"{it[1]}.antt" for p in places]
             if not any(sp.exists() and re.search(rf"\b{it[2]}\b", sp.read_text(encoding="utf-8")) for sp in specs):

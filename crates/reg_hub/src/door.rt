@@ -1,6 +1,6 @@
 //! The door: where peers come in.
 
-ghost use Rattle.std.specs.Prelude.{◌≡◌, ◌≤◌, IfOk};
+ghost use Rattle.std.specs.Prelude.{◌≡◌, ◌≤◌, IfOk, false, true};
 
 use crate::caller::Caller;
 use crate::callers::Callers;
@@ -23,7 +23,9 @@ pub(crate) struct Door {
     /// The peer that was accepted and has no place yet.
     next: Option<(TcpStream, SocketAddr)>,
     /// Whether the listener may have one more connection.
-    pub(crate) has_callers: bool,
+    has_callers: bool,
+    /// Whether it has one for sure: it was ready, and none was accepted since.
+    is_awaited: bool,
     /// How many peers were accepted.
     pub(crate) accepted: u64,
 }
@@ -42,8 +44,17 @@ impl Door {
             listener,
             next: None,
             has_callers: true,
+            is_awaited: false,
             accepted: 0,
         })
+    }
+
+    /// Notes that somebody waits to be accepted.
+    pub(crate) fn note_ready(&mut self)
+        ensures { self.new.is_awaited ≡ true }
+    {
+        self.has_callers = true;
+        self.is_awaited = true;
     }
 
     /// Whether a peer may be seated, where so many are accepted at most.
@@ -107,7 +118,8 @@ impl Door {
         callers: &mut Callers<H>,
         shared: &mut Shared,
     ) -> Result<(), Stopped>
-        ensures { self.old.accepted ≤ most → self.new.accepted ≤ most }
+        ensures within { self.old.accepted ≤ most → self.new.accepted ≤ most }
+        ensures kept { self.old.is_awaited ≡ false → callers.new ≡ callers.old }
     {
         if self.next.is_some() || !self.has_callers || self.accepted >= most {
             return Ok(());
@@ -115,6 +127,7 @@ impl Door {
         match self.listener.accept() {
             Ok((link, peer)) => {
                 self.accepted += 1;
+                self.is_awaited = false;
                 self.next = Some((link, peer));
                 Ok(())
             }
@@ -122,14 +135,15 @@ impl Door {
         }
     }
 
-    /// No connection was accepted.
+    /// No connection was accepted. Nobody is let go for one of whom it is not known that he is there.
     fn refused<H: Handler>(
         &mut self,
         why: ErrorKind,
         callers: &mut Callers<H>,
         shared: &mut Shared,
     ) -> Result<(), Stopped>
-        ensures { self.new.accepted ≡ self.old.accepted }
+        ensures same { self.new.accepted ≡ self.old.accepted }
+        ensures kept { self.old.is_awaited ≡ false → callers.new ≡ callers.old }
     {
         match why {
             ErrorKind::WouldBlock => {
@@ -137,12 +151,27 @@ impl Door {
                 Ok(())
             }
             ErrorKind::Interrupted | ErrorKind::ConnectionAborted => Ok(()),
+            // No descriptor may be left, which Linux says also where nobody waits.
+            _ if !self.is_awaited => {
+                self.look_again(&shared.watcher);
+                Ok(())
+            }
             _ if callers.taken() == 0 => Err(Stopped),
             _ => {
-                // No descriptor may be left.
                 callers.make_room(shared);
                 Ok(())
             }
         }
+    }
+
+    /// Has the listener told as ready once more, if somebody waits. Where that can't be had, somebody may.
+    fn look_again(&mut self, watcher: &Watcher)
+        ensures { self.new.accepted ≡ self.old.accepted }
+    {
+        let is_told = watcher
+            .watch(&mut self.listener, LISTENER, Interest::READABLE, true)
+            .is_ok();
+        self.has_callers = !is_told;
+        self.is_awaited = !is_told;
     }
 }

@@ -235,7 +235,7 @@ impl<H: Handler> Hub<H> {
     /// What is ready under a token.
     fn advance(&mut self, token: usize, now: u64) {
         if token == LISTENER {
-            self.door.has_callers = true;
+            self.door.note_ready();
         } else if token == COUNTER {
             self.tellers.has_tellers = true;
         } else if token < FIRST_SIGNING {

@@ -1,4 +1,4 @@
-pub mod Entering
+pub mod CounterLines
 pub mod Fates
 pub mod Finishing
 pub mod LineByLine

@@ -1,14 +1,11 @@
 -- Who signs for the registers of the program.
-use Rattle.std.specs.Prelude.{◌≡◌, ℕ, List, []}
+use Rattle.std.specs.Prelude.{◌≡◌, ℕ, List}
 use Rattle.sha1.specs.Sha1.{sha1}
-use Rattle.reg_crl.specs.Signing.{Identity, sha1_algorithm}
+use Rattle.reg_crl.specs.Signing.{Identity}
 use Rattle.reg_calls.specs.Signatories.{Signatory, signs_both}
+use Rattle.reg_signer.specs.Both.{digest}
 
--- the digest, which stands where there is no key: the AlgorithmIdentifier of SHA-1 (RFC 5280 4.1.1.2), and a key of no bytes
-abbrev pub digest : Identity
-digest = record { algorithm = sha1_algorithm; public_key = [] }
-
--- it stands for both signatures: of CRLs and of OCSP answers
+-- the digest stands for both signatures: of CRLs and of OCSP answers
 abbrev pub digest_alone : Signatory
 digest_alone = signs_both digest
 

@@ -11,7 +11,7 @@ use Rattle.reg_endings.specs.declared.failure.Failure.{Failure}
 use Rattle.reg_endings.specs.declared.failure.Failure.TheVariants as failure
 use Rattle.reg_jobs.specs.Exchanges.{Exchange, NoEntry, Unmoved}
 use Rattle.reg_jobs.specs.Leaving.{Finished, Meets}
-use Rattle.reg_jobs.specs.Reasons.{Word}
+use Rattle.reg_jobs.specs.CounterWords.{Word}
 use Rattle.reg_jobs.specs.Watched.{Visit}
 use Rattle.reg_jobs.specs.declared.leaving.Unsigned.{Unsigned}
 use Rattle.reg_wire.specs.Put.{AppendsFront}

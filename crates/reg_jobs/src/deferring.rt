@@ -1,6 +1,6 @@
 //! A line at a counter for which something is to be signed: it is looked at, what is to be signed goes out, and then the line is run, once.
 
-ghost use Rattle.std.specs.Prelude.{◌≡◌, None, IfOk, IfSome, OnErr};
+ghost use Rattle.std.specs.Prelude.{◌≡◌, None, IfOk, IfSome, MatchOption, OnErr, OnOk};
 ghost use Rattle.reg_calls.specs.Leads.{Leads};
 ghost use Rattle.reg_jobs.specs.Deferring.{IsKnown};
 ghost use Rattle.reg_jobs.specs.CounterWords.{Word, WordAt};
@@ -200,7 +200,9 @@ pub(crate) fn reach_for<F: Front>(
     front: &F,
     signer: Option<&str>,
     looked: &Looked,
-) -> io::Result<UnixStream> {
+) -> io::Result<UnixStream>
+    ensures { MatchOption signer.entry (OnOk result ⊥) (λ path. OnOk result (F.reached path.now)) }
+{
     match signer {
         Some(path) if !looked.is_left_alone => front.reach(path),
         _ => Err(io::Error::from(ErrorKind::NotFound)),

@@ -25,6 +25,12 @@ pub trait Front {
     /// Who listens at the socket at this path was met.
     ghost met: { List ℕ → Type 0 };
 
+    /// What listens at the socket at this path was asked for the answer to this message.
+    ghost asked: { List ℕ → List ℕ → Type 0 };
+
+    /// What listens at the socket at this path was connected to, to be asked.
+    ghost reached: { List ℕ → Type 0 };
+
     /// This line was given to standard error.
     ghost warned: { List ℕ → Type 0 };
 
@@ -75,14 +81,16 @@ pub trait Front {
     /// # Errors
     ///
     /// `WouldBlock` where the socket has no room for one more; what else the system says where nothing can be asked there.
-    fn ask(&self, path: &str, message: &[u8]) -> io::Result<UnwaitingStream>;
+    fn ask(&self, path: &str, message: &[u8]) -> io::Result<UnwaitingStream>
+        ensures { OnOk result (asked path.now message.now) };
 
     /// Connects to the socket at a path, and waits for nothing.
     ///
     /// # Errors
     ///
     /// `WouldBlock` where the socket has no room for one more; what else the system says where it can't be connected to.
-    fn reach(&self, path: &str) -> io::Result<UnwaitingStream>;
+    fn reach(&self, path: &str) -> io::Result<UnwaitingStream>
+        ensures { OnOk result (reached path.now) };
 
     /// Whether exchanges are told in a log.
     fn has_log(&self) -> bool;

@@ -1,6 +1,6 @@
 //! An OCSP answer that is left to be signed, and how it is finished.
 
-ghost use Rattle.std.specs.Prelude.{◌≡◌, ◌≤◌, [], IfSome, length, option_copied, option_map};
+ghost use Rattle.std.specs.Prelude.{◌≡◌, ◌≤◌, [], IfSome, MatchOption, OnOk, length, option_map};
 ghost use Rattle.reg_calls.specs.Items.{items_of};
 ghost use Rattle.reg_jobs.specs.Counted.{CountsFinished};
 ghost use Rattle.reg_jobs.specs.Exchanges.{Responded};
@@ -15,7 +15,7 @@ use crate::visiting::{TEXT_ROOM, response_of};
 use mio::net::UnixStream;
 use reg_core::{Memory, Moment};
 use reg_http::finish_one;
-use reg_ocsp::Draft;
+use reg_ocsp::{Draft, slice_of};
 use reg_signer::has_form;
 use reg_watch::{Route, Tally, route_of};
 use std::alloc::Global;
@@ -84,7 +84,9 @@ pub(crate) fn ask_for<F: Front>(
     front: &F,
     signer: Option<&str>,
     unsigned: &Unsigned,
-) -> io::Result<UnixStream> {
+) -> io::Result<UnixStream>
+    ensures { MatchOption signer.entry (OnOk result ⊥) (λ path. OnOk result (F.asked path.now unsigned.now.draft.message)) }
+{
     match signer {
         Some(path) => front.ask(path, unsigned.draft.message()),
         None => Err(io::Error::from(ErrorKind::NotFound)),
@@ -186,11 +188,4 @@ fn finish_in(
 {
     let finished = finish_one(alloc, &mut text, moment, given);
     response_of(finished, text)
-}
-
-/// The bytes, where there are any.
-fn slice_of(bytes: &Option<Vec<u8>>) -> Option<&[u8]>
-    ensures { option_copied result ≡ option_map (λ it. it.items) bytes.now }
-{
-    Some(bytes.as_ref()?.as_slice())
 }

@@ -62,8 +62,9 @@ pub fn script_by_lines<P: Place, F: Front, R: Read, W: Write>(
             front,
         };
         let ran = run_clocked(alloc, &mut opened, way.is_strict, reader, writer);
-        keep_reason::<P>(&mut opened.office.office, opened.office.refused, reason);
-        place.close(path, opened.office.office);
+        let mut office = opened.office.office;
+        keep_reason::<P>(&mut office, opened.office.refused, reason);
+        place.close(path, office);
         return ran;
     }
     let mut lined = LinedDesk {
@@ -71,8 +72,9 @@ pub fn script_by_lines<P: Place, F: Front, R: Read, W: Write>(
         alloc,
     };
     let ran = run_unclocked(alloc, &mut lined, way.is_strict, reader, writer);
-    keep_reason::<P>(&mut lined.office.office, lined.office.refused, reason);
-    place.close(path, lined.office.office);
+    let mut office = lined.office.office;
+    keep_reason::<P>(&mut office, lined.office.refused, reason);
+    place.close(path, office);
     ran
 }
 

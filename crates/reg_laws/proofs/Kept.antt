@@ -1,5 +1,5 @@
 -- Each change of an accepted command keeps the rows sound.
-use Rattle.std.proofs.Common.{◌≡◌, ◌≢◌, ℕ, ◌+◌, ◌*◌, ◌<◌, ◌≤◌, Bool, true, false, cond, min, nat_lt, ◌==◌, bytes_eq, List, [], ◌∷◌, ◌++◌, length, map, Some, None, option_map, IfSome, IsFalse, IsTrue, IsSome, IsSomeAnd, inl, inr, refl, sym, ap, subst, ◌∙◌, arith, length-append}
+use Rattle.std.proofs.Common.{◌≡◌, ◌≢◌, ◌⊎◌, ℕ, ◌+◌, ◌*◌, ◌<◌, ◌≤◌, Bool, true, false, cond, max, min, nat_lt, ◌==◌, bytes_eq, List, [], ◌∷◌, ◌++◌, length, map, Some, None, option_map, IfSome, IsFalse, IsTrue, IsSome, IsSomeAnd, inl, inr, refl, sym, ap, subst, ◌∙◌, arith, length-append}
 use Rattle.std.specs.List.{AllByRecursion, list_any}
 use Rattle.std.specs.Cmp.Lexicographic.{bytes_decides}
 use Rattle.std.proofs.lemmas.Bool.Decides.{nat_tests}
@@ -20,7 +20,7 @@ use Rattle.reg_core.specs.declared.rows.CertRow.{CertRow}
 use Rattle.reg_core.specs.declared.rows.RequestRow.{RequestRow}
 use Rattle.reg_core.specs.declared.rows.RevocationRow.{RevocationRow}
 use Rattle.reg_laws.proofs.Accepted.{OnClock}
-use Rattle.reg_laws.proofs.Lists.{all_push, all_weaker, all_found, all_join, all_map, none_passes, find_map, numbered_push, numbered_above, numbered_below, numbered_map, keys_push, falls_push, falls_map, few_keys, key_found, key_new, any_last, some_and_of, some_at, some_and_here, some_front, some_and_front, if_some_none, if_some_push, found_some, pushed_some}
+use Rattle.reg_laws.proofs.Lists.{all_push, all_weaker, all_found, all_join, all_map, none_passes, find_map, numbered_push, numbered_above, numbered_below, numbered_map, keys_push, falls_push, falls_map, few_keys, key_found, key_new, any_last, some_and_of, some_at, some_and_here, some_front, some_here, some_and_front, if_some_none, if_some_push, found_some, pushed_some}
 use Rattle.reg_laws.proofs.Contents.{next_is}
 
 -- WHAT THE CHECKS SAY OF DAYS

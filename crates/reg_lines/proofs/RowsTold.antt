@@ -71,11 +71,6 @@ module _ {R : Type 0} (text : List ℕ) (rem : R → Option (List ℕ)) (a b : R
   pub telling_all : Telling text lines (source_of rem a) a.state index → a.config ≡ default_config → ReadRecord rem a b false row → TellsRows text lines
   telling_all t config read = (t.rows, (a.state, t.left, t.reached, rows-end rem a b row default_config t.left config t.known read), t.told)
 
--- four pieces behind a text, put one after the other
-pub four_put : (old a b c d : List ℕ) → old ++ a ++ b ++ c ++ d ≡ old ++ (a ++ b ++ c ++ d)
-four_put old a b c d =
-    ap (λ l. l ++ c ++ d) (append_assoc old a b) ∙ ap (λ l. l ++ d) (append_assoc old (a ++ b) c) ∙ append_assoc old (a ++ b ++ c) d
-
 -- how the telling of an input ends whose text was read, or was not
 pub told_text : (input input' : Option (List ℕ)) (text : List ℕ) (result : Result (Vec ℕ Global) Fault) → TookAll input input' text
     → MatchResult result (λ lines. TellsRows text lines.items) (λ fault. fault ≡ Memory)

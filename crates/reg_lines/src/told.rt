@@ -89,7 +89,8 @@ fn put_line(
 {
     lines.extend_from_slice(b"register")?;
     put_fields(fields, lines)?;
-    lines.push(b'\n')
+    lines.push(b'\n')?;
+    Ok(())
 }
 
 /// Puts these four fields of a row behind a text, where they spell a registration.
@@ -116,5 +117,6 @@ fn put_field(field: &[u8], text: &mut Vec<u8>) -> Result<(), AllocError>
     ensures { OnOk result (text.new.items ≡ text.old.items ++ 32 ∷ field.now) }
 {
     text.push(b' ')?;
-    text.extend_from_slice(field)
+    text.extend_from_slice(field)?;
+    Ok(())
 }

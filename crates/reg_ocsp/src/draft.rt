@@ -133,7 +133,7 @@ fn copied(alloc: Global, bytes: Option<&[u8]>) -> Result<Option<Vec<u8>>, Memory
 }
 
 /// The bytes, where there are any.
-fn slice_of(bytes: &Option<Vec<u8>>) -> Option<&[u8]>
+pub fn slice_of(bytes: &Option<Vec<u8>>) -> Option<&[u8]>
     ensures { option_copied result ≡ option_map (λ it. it.items) bytes.now }
 {
     Some(bytes.as_ref()?.as_slice())

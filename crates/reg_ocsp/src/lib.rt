@@ -15,7 +15,7 @@ mod values;
 
 pub use asked::{Asked, CertId};
 pub use certificate::{Certificate, CertificateFault, CertifiedKey, certified_key};
-pub use draft::Draft;
+pub use draft::{Draft, slice_of};
 pub use fault::AskFault;
 pub use matching::matches;
 pub use reading::read_request;

@@ -16,7 +16,7 @@ use Rattle.reg_core.specs.declared.command.Reply.{Reply}
 use Rattle.reg_core.specs.declared.refusal.Fault.{Fault}
 use Rattle.reg_crl.specs.Signing.{Identity, signed_by}
 use Rattle.reg_laws.specs.Run.{Happens}
-use Rattle.reg_laws.proofs.Outcomes.{Outcome, Stays, Changes, outcome_of}
+use Rattle.reg_laws.proofs.Outcomes.{Stays, Changes, outcome_of}
 use Rattle.reg_store.proofs.Resting.{at_rest, live_at_rest}
 use Rattle.reg_tables.proofs.Staying.{kept_shows}
 use Rattle.reg_tables.specs.Kept.{ShowsKept}

@@ -3,7 +3,7 @@ use Rattle.std.specs.Prelude.{◌≡◌, ◌⊎◌, ℕ, List, [], ◌∷◌, �
 use Rattle.sqlite_trees.specs.Tree.{Trees}
 use Rattle.sqlite_trees.specs.declared.store.Store.{Ghosts}
 use Rattle.sqlite.specs.Held.{Held, state}
-use Rattle.sqlite.specs.State.{HasCleanDisk, IsLive, Survives}
+use Rattle.sqlite.specs.State.{HasCleanDisk, Survives}
 use Rattle.reg_core.specs.Changes.{with_schedule}
 use Rattle.reg_core.specs.Crls.{CertList}
 use Rattle.reg_core.specs.Records.{Records}
@@ -37,15 +37,6 @@ pub record IsDone (signs : Identity → List ℕ → List ℕ → Type 0) (ident
 -- the rows as a command of an office leaves them that is accepted over the records that stood
 abbrev pub Does : {C : Type 0} → Ghosts C → (Identity → List ℕ → List ℕ → Type 0) → Held C → Identity → ℕ → Command → Trees → Type 0
 Does g signs old identity now command trees = (records : Records) → Stands g signs old identity records → IsDone signs identity records now command trees
-
--- whatever a call left that may have done the command, a stop afterwards, or in the middle of it, leaves rows of the records before the
--- command or of those after it, with what is kept beside them: over any disk that may lose what was not synced
-abbrev pub StopsBeforeOrAfter : {C : Type 0} → Ghosts C → (Identity → List ℕ → List ℕ → Type 0) → Type 0
-StopsBeforeOrAfter {C = C} g signs =
-    (old new : Held C) (identity : Identity) (records : Records) (now : ℕ) (command : Command)
-    → Stands g signs old identity records → IsTrue (state g old).is_open → IsLive (state g old)
-    → Survives (state g old) (state g new) (Does g signs old identity now command) → HasCleanDisk (state g new)
-    → (trees : Trees) → (state g new).may_leave trees → IsAtRest records trees ⊎ IsDone signs identity records now command trees
 
 -- the rows as a key identifier of the issuer's own leaves them, which CRLs have from the next one on
 abbrev pub IsIdentified : {C : Type 0} → Ghosts C → Held C → List ℕ → Trees → Type 0
@@ -92,15 +83,6 @@ AreRunByOne g signs identity old [] (outcome ∷ outcomes) new = ⊥
 AreRunByOne g signs identity old (timed ∷ commands) [] new = ⊥
 AreRunByOne {C = C} g signs identity old (timed ∷ commands) (outcome ∷ outcomes) new =
     (next : Held C) × IsRunOne g signs identity old next timed.0 timed.1 outcome × AreRunByOne g signs identity next commands outcomes new
-
--- a stop after such a run, or in the middle of it, leaves rows of the records after a prefix of the commands, which has at least those
--- whose replies were given, with what is kept beside them: over any disk that may lose what was not synced
-abbrev pub StopsAfterAPrefix : {C : Type 0} → Ghosts C → (Identity → List ℕ → List ℕ → Type 0) → Type 0
-StopsAfterAPrefix {C = C} g signs =
-    (old new : Held C) (identity : Identity) (records : Records) (commands : List (ℕ × Command)) (outcomes : List (Result Reply Fault))
-    → Stands g signs old identity records → IsTrue (state g old).is_open → IsLive (state g old)
-    → AreRunByOne g signs identity old commands outcomes new → HasCleanDisk (state g new)
-    → (trees : Trees) → (state g new).may_leave trees → IsPartlyRun signs identity records commands outcomes trees
 
 -- ---- over any calls
 

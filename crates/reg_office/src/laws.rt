@@ -5,7 +5,6 @@ ghost use Rattle.reg_crl.specs.Signing.{sealed_until, signed_by};
 ghost use Rattle.reg_laws.specs.Headline.{CreatedSound, KeepsSound, RunsInParts, StandsInExactlyOne, CountsMoveExactly, ListsRevoked, RefusalsChangeNothing};
 ghost use Rattle.reg_laws.specs.History.{HistoryStands};
 ghost use Rattle.reg_office.specs.Agreement.{OcspAgrees};
-ghost use Rattle.reg_office.specs.AtRest.{StopsBeforeOrAfter, StopsAfterAPrefix};
 ghost use Rattle.reg_office.specs.Following.{FollowsSeal, RunsSince};
 ghost use Rattle.reg_office.specs.OpenedAgain.{OpensAfterAPrefix, OpensBeforeOrAfter};
 ghost use Rattle.reg_office.specs.Decisions.{SubscribersAreSteps, OrdersAreSteps, RegistrationsAreSteps, RequestsAreSteps, DeclinesAreSteps, RevocationsAreSteps, CrlsAreSteps};
@@ -103,29 +102,6 @@ pub fn nothing_else_is_shown_as_revoked<S: Signer>()
     reg_laws::laws::revocations::<CrlSigner<S>>();
 }
 
-/// A stop at any moment of a command leaves the records before it or those after it.
-///
-/// Of a register whose records stand, whatever the command and whoever signs: what may be found in its tables after
-/// [`Office::run_one`](crate::Office::run_one), or after a stop in the middle of it, is the records as they were, or those after
-/// the command's acceptance, whole and with the letters, counts and last listings that follow from them. It rests on what the
-/// crate `sqlite` says that a stop may leave over a disk which can lose what was not synced.
-pub fn a_stop_leaves_the_records_before_or_after<C: Alter, S: Signer>()
-    ensures { StopsBeforeOrAfter C.Store S.signs }
-{}
-
-/// A stop at any moment of a run leaves the records after a prefix of its commands, which has at least those whose replies
-/// were given.
-///
-/// Of a register whose records stand, over any commands that are run one after another by
-/// [`Office::run_one`](crate::Office::run_one), whoever signs, also after refusals and faults: what may be found in its tables
-/// after them, or after a stop in the middle of one, is the records after the first of them with the outcomes that were
-/// told; or after these and the next one, of which a fault was told. Each command behind them came to a refusal or a fault.
-/// The rows are whole, with the letters, counts and last listings that follow from them, and the records are sound.
-/// [`Office::run`](crate::Office::run) says the same of its list in its clause `survives`.
-pub fn a_stop_leaves_the_records_after_a_prefix<C: Alter, S: Signer>()
-    ensures { StopsAfterAPrefix C.Store S.signs }
-{}
-
 /// A register opened after a stop stands for the records before the command or for those after it.
 ///
 /// A register's records stand, whatever the command and whoever signs. The machine stops after
@@ -133,7 +109,7 @@ pub fn a_stop_leaves_the_records_after_a_prefix<C: Alter, S: Signer>()
 /// left: the records before the command stand in it, or those after the command's acceptance, whole, sound, and with the
 /// letters, counts and last listings that follow from them.
 ///
-/// `IsOpenedAgain` is what `restart` of the crate `reg_restart` ensures over any disk that may lose what was not synced; that a
+/// It rests on what the crate `sqlite` says that a stop may leave over a disk which can lose what was not synced. `IsOpenedAgain` is what `restart` of the crate `reg_restart` ensures over any disk that may lose what was not synced; that a
 /// connection obeys its schema (`IsLive`) is the clause `live` of the crate `sqlite`'s `Connection::schema`.
 pub fn a_register_opened_after_a_stop_stands_before_or_after<C: Alter, S: Signer>()
     ensures { OpensBeforeOrAfter C.Store S.signs }
@@ -145,7 +121,8 @@ pub fn a_register_opened_after_a_stop_stands_before_or_after<C: Alter, S: Signer
 /// Any commands run one after another by [`Office::run_one`](crate::Office::run_one), also after refusals and faults. The
 /// machine stops after them, or in the middle of one, and the register is opened again from what the disk left: the records
 /// after the first of the commands stand in it, with the outcomes that were told; or those after these and the next one, of
-/// which a fault was told. Each command behind them came to a refusal or a fault.
+/// which a fault was told. Each command behind them came to a refusal or a fault. [`Office::run`](crate::Office::run) says the
+/// same of the rows that its list may leave, in its clause `survives`.
 pub fn a_register_opened_after_a_stop_stands_after_a_prefix<C: Alter, S: Signer>()
     ensures { OpensAfterAPrefix C.Store S.signs }
 {}

@@ -94,7 +94,8 @@ impl<C: Alter, S: Signer> Office<C, S> {
     ///
     /// # Errors
     /// `ClockEnd` before all; the refusals of the command, in their order; `Memory`, `Store`; for a CRL that is accepted
-    /// `Signer`, where the signer counted a failure. Nothing has changed then.
+    /// `Signer`, where the signer counted a failure. Nothing has changed then; but where the disk failed in the commit and shut the
+    /// connection, the change stands whole or not at all in a register that is opened again (`changed`, in its `survives`).
     pub fn run_one(&mut self, alloc: Global, now: Moment, command: &Command) -> Result<Reply, Fault>
         ensures step { (records : Records) → Stands C.Store S.signs self.old.store (S.identity self.old.signer) records
             → HasCleanDisk (state C.Store self.new.store)

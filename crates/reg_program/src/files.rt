@@ -148,7 +148,10 @@ impl<'a> Place for Machine<'a> {
         alloc: Global,
         register: &mut FileOffice,
         schedule: Schedule,
-    ) -> Result<(), StoreFault> {
+    ) -> Result<(), StoreFault>
+        ensures moves { Leads ⟦<FileOffice as Keeper>⟧.is_clean ⟦<FileOffice as Keeper>⟧.stands (λ identity. Reschedules schedule result) register.old register.new }
+        ensures faults { IfErr result IsCallFault }
+    {
         reschedule(alloc, register, schedule)
     }
 

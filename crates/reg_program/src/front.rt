@@ -42,6 +42,10 @@ impl<'a> Front for Machine<'a> {
 
     ghost met = { λ path. Unit {0} };
 
+    ghost asked = { λ path message. Unit {0} };
+
+    ghost reached = { λ path. Unit {0} };
+
     ghost warned = { λ line. Unit {0} };
 
     ghost copied = { λ path bytes. Unit {0} };

@@ -8,9 +8,10 @@ ghost use Rattle.reg_jobs.specs.Ends.{ScriptInMemory};
 ghost use Rattle.sqlite.specs.Steps.{over_memory};
 ghost use Rattle.reg_office.specs.Stands.{Stands};
 ghost use Rattle.reg_office.specs.declared.responder.Responder.TheVariants.{Issuer as ByIssuer};
-ghost use Rattle.reg_jobs.specs.Digest.{digest, digest_alone, digests};
+ghost use Rattle.reg_jobs.specs.Digest.{digest_alone, digests};
 ghost use Rattle.reg_jobs.specs.Failing.{IsMaking};
 ghost use Rattle.reg_jobs.specs.Sample.{sample_records};
+ghost use Rattle.reg_signer.specs.Both.{digest};
 
 use reg_core::{Fault, Policy};
 use reg_crl::DigestSeal;

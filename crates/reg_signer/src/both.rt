@@ -1,6 +1,6 @@
 //! Who signs where there may be a key.
 
-ghost use Rattle.std.specs.Prelude.{◌≡◌, ◌<◌, ◌≤◌, Some, None, false, true, IfOk, IsErrOf, OnOk, length};
+ghost use Rattle.std.specs.Prelude.{◌≡◌, ◌<◌, ◌≤◌, Some, None, false, true, option_map, IfOk, IfSome, IsErrOf, OnOk, length};
 ghost use Rattle.std.specs.Option.{option_map_or};
 ghost use Rattle.sha1.specs.Sha1.{sha1};
 ghost use Rattle.reg_signer.specs.Both.{digest};
@@ -70,6 +70,7 @@ impl<D: Device + Drop> KeyOrDigest<D> {
             ≡ option_map_or (λ signer. identity_of signer.algorithm (D.public_key signer.device)) self.old.key digest }
         ensures same_failures { option_map_or (λ signer. signer.failures) self.new.key self.new.failures
             ≡ option_map_or (λ signer. signer.failures) self.old.key self.old.failures }
+        ensures same_place { option_map (λ signer. D.place signer.device) self.new.key ≡ option_map (λ signer. D.place signer.device) self.old.key }
     {
         match &mut self.key {
             Some(signer) => signer.prime(primed),
@@ -124,7 +125,22 @@ impl<D: Device + Drop> Signer for KeyOrDigest<D> {
         }
     }
 
-    fn sign(&mut self, alloc: Global, message: &[u8]) -> Result<Vec<u8>, SignFault> {
+    fn sign(&mut self, alloc: Global, message: &[u8]) -> Result<Vec<u8>, SignFault>
+        ensures signed { IfOk result (λ signature. SignsBoth D.answers (option_map_or (λ signer. identity_of signer.algorithm (D.public_key signer.device)) self.old.key digest)
+            message.now signature.items) }
+        ensures short { IfOk result (λ signature. length signature.items ≤ 65536) }
+        ensures device { IsErrOf result SignFault.Device → option_map_or (λ signer. signer.failures) self.old.key self.old.failures
+            < option_map_or (λ signer. signer.failures) self.new.key self.new.failures }
+        ensures exhausted { option_map_or (λ signer. signer.failures) self.old.key self.old.failures ≡ u64.MAX → ¬ (IsErrOf result SignFault.Device) }
+        ensures memory { IsErrOf result SignFault.Memory → option_map_or (λ signer. signer.failures) self.new.key self.new.failures
+            ≡ option_map_or (λ signer. signer.failures) self.old.key self.old.failures }
+        ensures ok { OnOk result (option_map_or (λ signer. signer.failures) self.new.key self.new.failures
+            ≡ option_map_or (λ signer. signer.failures) self.old.key self.old.failures) }
+        ensures same_identity { option_map_or (λ signer. identity_of signer.algorithm (D.public_key signer.device)) self.new.key digest
+            ≡ option_map_or (λ signer. identity_of signer.algorithm (D.public_key signer.device)) self.old.key digest }
+        ensures asked { IfSome self.old.key (λ signer. signer.primed ≡ None → IfOk result (λ signature. D.asked (D.place signer.device) message.now signature.items)) }
+        ensures same_place { option_map (λ signer. D.place signer.device) self.new.key ≡ option_map (λ signer. D.place signer.device) self.old.key }
+    {
         match &mut self.key {
             Some(signer) => signer.sign(alloc, message),
             None => self.seal(alloc, message),

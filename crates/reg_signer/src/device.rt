@@ -11,6 +11,12 @@ pub trait Device {
     // The bits of its public key.
     ghost public_key: { Self → List ℕ };
 
+    // Where it is asked, as the path of a socket is.
+    ghost place: { Self → List ℕ };
+
+    // What is at this place was asked for the answer to this message, and gave this one.
+    ghost asked: { List ℕ → List ℕ → List ℕ → Type 0 };
+
     // Under this key this is the answer to this message.
     ghost answers: { List ℕ → List ℕ → List ℕ → Type 0 };
 
@@ -36,10 +42,13 @@ pub trait Device {
         requires { length room.old ≤ 4097 }
         ensures short { IfOk result (λ count. count < length room.new) }
         ensures answered { IfOk result (λ count. answers (public_key self.old) message.now (take count room.new)) }
+        ensures asked { IfOk result (λ count. asked (place self.old) message.now (take count room.new)) }
         ensures failed { OnErr result (fails self.old message.now self.new) }
+        ensures same_place { place self.new ≡ place self.old }
         ensures same_key { public_key self.new ≡ public_key self.old };
 
     /// Has it asked at the next exchange, also where it would be left alone for a while.
     fn rouse(&mut self)
+        ensures same_place { place self.new ≡ place self.old }
         ensures same_key { public_key self.new ≡ public_key self.old };
 }

@@ -81,6 +81,12 @@ impl<C: Connector> Device for SocketDevice<C> {
 
     ghost public_key = { λ it. it.key.items };
 
+    ghost place = { λ it. string_bytes it.path };
+
+    // A connection to what listens at this path took the message whole, and gave the answer until its end.
+    ghost asked = { λ path message answer. (link : C.Link) × C.connected path link
+        × GivesBack C.Link.Read.remaining C.Link.Write.contents C.Link.Connection.finished link message answer };
+
     // Some connection to what listens at some path took the message whole, and gave the answer until its end; or one that never waits did.
     ghost answers = { λ key message answer. ((path : List ℕ) × (link : C.Link) × C.connected path link
         × GivesBack C.Link.Read.remaining C.Link.Write.contents C.Link.Connection.finished link message answer)

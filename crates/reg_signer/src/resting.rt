@@ -52,8 +52,10 @@ impl<D: Device, C: Clock> RestingDevice<D, C> {
         ensures late { ¬ IsResting self.old.since began → IfSome self.new.since (λ since. 10000000000 ≤ instant_nanos since - instant_nanos began) }
         ensures short { IfOk result (λ count. count < length room.new) }
         ensures answered { IfOk result (λ count. D.answers (D.public_key self.old.device) message.now (take count room.new)) }
+        ensures asked_there { IfOk result (λ count. D.asked (D.place self.old.device) message.now (take count room.new)) }
         ensures failed { OnErr result (D.fails self.old.device message.now self.new.device
             ⊎ (IsLeftAlone self.old.since × (self.new ≡ self.old))) }
+        ensures same_place { D.place self.new.device ≡ D.place self.old.device }
         ensures same_key { D.public_key self.new.device ≡ D.public_key self.old.device }
     {
         if is_resting(self.since, began) {
@@ -77,6 +79,10 @@ impl<D: Device, C: Clock> Device for RestingDevice<D, C> {
     ghost use Rattle.reg_signer.specs.Resting.{IsLeftAlone};
 
     ghost public_key = { λ it. D.public_key it.device };
+
+    ghost place = { λ it. D.place it.device };
+
+    ghost asked = { D.asked };
 
     ghost answers = { D.answers };
 
@@ -102,6 +108,7 @@ impl<D: Device, C: Clock> Device for RestingDevice<D, C> {
 
     /// It is left alone no longer.
     fn rouse(&mut self)
+        ensures same_place { D.place self.new.device ≡ D.place self.old.device }
         ensures same_key { D.public_key self.new.device ≡ D.public_key self.old.device }
         ensures awake { self.new.since ≡ None }
     {

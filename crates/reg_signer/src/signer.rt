@@ -73,10 +73,12 @@ impl<D: Device + Drop> DeviceSigner<D> {
         requires { vec_len answer.old ≤ 4097 }
         ensures signed { OnTrue result (D.answers (D.public_key self.old.device) message.now answer.new.items
             × IsSignature self.old.algorithm (D.public_key self.old.device) answer.new.items) }
+        ensures asked { OnTrue result (D.asked (D.place self.old.device) message.now answer.new.items) }
         ensures short { OnTrue result (vec_len answer.new ≤ 4096) }
         ensures failed { OnFalse result (D.fails self.old.device message.now self.new.device
             ⊎ ((other : List ℕ) × D.answers (D.public_key self.old.device) message.now other
             × ¬ (IsSignature self.old.algorithm (D.public_key self.old.device) other))) }
+        ensures same_place { D.place self.new.device ≡ D.place self.old.device }
         ensures same_key { D.public_key self.new.device ≡ D.public_key self.old.device }
         ensures same_algorithm { self.new.algorithm ≡ self.old.algorithm }
         ensures same_failures { self.new.failures ≡ self.old.failures }
@@ -118,6 +120,8 @@ impl<D: Device + Drop> DeviceSigner<D> {
         ensures ok { OnOk result (self.new.failures ≡ self.old.failures) }
         ensures same_identity { identity_of self.new.algorithm (D.public_key self.new.device)
             ≡ identity_of self.old.algorithm (D.public_key self.old.device) }
+        ensures asked { IfOk result (λ signature. D.asked (D.place self.old.device) message.now signature.items) }
+        ensures same_place { D.place self.new.device ≡ D.place self.old.device }
         ensures why { IsErrOf result SignFault.Device → D.fails self.old.device message.now self.new.device
             ⊎ ((answer : List ℕ) × D.answers (D.public_key self.old.device) message.now answer
             × ¬ (IsSignature self.old.algorithm (D.public_key self.old.device) answer)) }
@@ -182,7 +186,8 @@ impl<D: Device + Drop> Signer for DeviceSigner<D> {
         Some(self.device.public_key())
     }
 
-    /// A signature of the message: what the device answered, now or when others asked it, where that has the form of one.
+    /// A signature of the message: what the device answered, now or when others asked it, where that has the form of one. The device is
+    /// asked where it was told to be, and nowhere else.
     fn sign(&mut self, alloc: Global, message: &[u8]) -> Result<Vec<u8>, SignFault>
         ensures signed { IfOk result (λ signature. D.answers (D.public_key self.old.device) message.now signature.items
             × HasForm (identity_of self.old.algorithm (D.public_key self.old.device)) signature.items) }
@@ -193,6 +198,9 @@ impl<D: Device + Drop> Signer for DeviceSigner<D> {
         ensures ok { OnOk result (self.new.failures ≡ self.old.failures) }
         ensures same_identity { identity_of self.new.algorithm (D.public_key self.new.device)
             ≡ identity_of self.old.algorithm (D.public_key self.old.device) }
+
+        ensures asked { self.old.primed ≡ None → IfOk result (λ signature. D.asked (D.place self.old.device) message.now signature.items) }
+        ensures same_place { D.place self.new.device ≡ D.place self.old.device }
 
         // Where the device is asked, a fault of it comes only where it failed, or its answer has not the form of a signature.
         ensures why { self.old.primed ≡ None → IsErrOf result SignFault.Device → D.fails self.old.device message.now self.new.device

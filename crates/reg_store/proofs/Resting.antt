@@ -1,5 +1,5 @@
 -- What was shown, at rest.
-use Rattle.std.proofs.Common.{◌≡◌, ◌⊎◌, inl, inr, None, IsTrue, refl, sym, ap, subst, ◌∙◌, arith}
+use Rattle.std.proofs.Common.{◌≡◌, ◌⊎◌, inl, inr, None, IsTrue, sym, ap, ◌∙◌, arith}
 use Rattle.sqlite_value.specs.Order.{column}
 use Rattle.sqlite_trees.specs.Tree.{Trees}
 use Rattle.sqlite_trees.specs.declared.store.Store.{Ghosts}
@@ -7,13 +7,12 @@ use Rattle.sqlite.specs.Effect.{Database}
 use Rattle.sqlite.specs.Held.{Held, state}
 use Rattle.sqlite.specs.State.{HasCleanDisk, IsLive}
 use Rattle.reg_core.specs.Records.{Records}
-use Rattle.reg_core.specs.Sound.{SoundRows}
 use Rattle.reg_tables.specs.Kept.{ShowsKept}
 use Rattle.reg_tables.specs.Shows.{IsShownBy, Shows}
 use Rattle.reg_tables.proofs.Staying.{kept_shows}
 use Rattle.reg_writing.specs.AtRest.{AreARegisters, IsAtRest}
 use Rattle.reg_writing.proofs.Resting.{resting, rests_sound}
-use Rattle.reg_migration.specs.Older.{number_of, older_schema, IsShownByOlder, ShowsOlder}
+use Rattle.reg_migration.specs.Older.{number_of}
 use Rattle.reg_migration.specs.declared.version.Earlier.{Earlier}
 use Rattle.reg_migration.specs.declared.version.Earlier.TheVariants.{First, Second}
 use Rattle.reg_opening.specs.AtRest.{IsOpened}
@@ -21,7 +20,10 @@ use Rattle.reg_opening.specs.Said.{IsOlder}
 use Rattle.reg_opening.proofs.OlderRead.{register_of, version_read}
 use Rattle.reg_opening.proofs.Registered.{number_one}
 use Rattle.reg_opening.proofs.Steps.{only_row}
-use Rattle.reg_store.specs.AtRest.{IsUntouched, IsOlderAtRest}
+
+-- the rows are those that were committed last
+abbrev pub IsUntouched : {S : Type 0} → Ghosts S → Held S → Trees → Type 0
+IsUntouched g old trees = trees ≡ (state g old).committed.trees
 
 -- what is committed of shown records obeys a register's schema
 pub at_rest_sound : {S : Type 0} (g : Ghosts S) (held : Held S) (records : Records) (trees : Trees) → HasCleanDisk (state g held) → IsTrue (state g held).is_open → Shows g held records → IsLive (state g held) → IsUntouched g held trees
@@ -44,16 +46,6 @@ pub live_at_rest : {S : Type 0} (g : Ghosts S) (held : Held S) (records : Record
     → IsAtRest records trees
 live_at_rest g held records trees clean up kept live is = at_rest g held records trees clean up kept (at_rest_sound g held records trees clean up (kept_shows g held records kept) live is) is
 
--- the same of the tables of an older version
-pub older_at_rest : {S : Type 0} (g : Ghosts S) (held : Held S) (version : Earlier) (records : Records) (trees : Trees) → HasCleanDisk (state g held) → IsTrue (state g held).is_open → ShowsOlder version g held records → IsUntouched g held trees
-    → IsOlderAtRest version records trees
-older_at_rest g held version records trees clean up shows is =
-    let db = (state g held).now in
-    let same : trees ≡ db.trees = is ∙ ap (λ (d : Database). d.trees) (sym (shows.saved clean up)) in
-    let it = shows.tables clean up in
-    subst (λ (t : Trees). IsShownByOlder version (record { schema = older_schema version; trees = t }) records) (sym same)
-    (record { schema = refl; days = it.days; office = it.office; schedule = it.schedule; policy = it.policy; rows = it.rows; beside = it.beside })
-
 -- ---- tables of the program's version say no older one
 
 never_three : (version : Earlier) → 3 ≡ number_of version → ⊥
@@ -72,8 +64,3 @@ pub opened_rests : {S : Type 0} (g : Ghosts S) (held : Held S) (records : Record
     → IsUntouched g held trees ⊎ IsOpened g held trees → IsUntouched g held trees
 opened_rests g held records trees clean up shows (inl is) = is
 opened_rests g held records trees clean up shows (inr opened) = absurd (never_older (state g held).now records (shows.tables clean up) opened.0)
-
-pub older_rests : {S : Type 0} (g : Ghosts S) (held : Held S) (version : Earlier) (records : Records) (trees : Trees) → HasCleanDisk (state g held) → IsTrue (state g held).is_open → ShowsOlder version g held records → SoundRows records
-    → IsUntouched g held trees ⊎ IsOpened g held trees → IsOlderAtRest version records trees ⊎ IsAtRest records trees
-older_rests g held version records trees clean up shows sound (inl is) = inl (older_at_rest g held version records trees clean up shows is)
-older_rests g held version records trees clean up shows sound (inr opened) = inr (opened.1 version records shows sound)

@@ -1,2 +1,1 @@
-pub mod AtRest
 pub mod OpenedAgain

@@ -10,6 +10,7 @@ use Rattle.reg_core.specs.Records.{Records, no_records}
 use Rattle.reg_core.specs.Sound.{SoundRows}
 use Rattle.reg_tables.specs.Kept.{ShowsKept}
 use Rattle.reg_tables.specs.Schema.{no_schema}
+use Rattle.reg_tables.specs.Shows.{Shows}
 use Rattle.reg_changes.specs.AtRest.{IsNamed, IsScheduled}
 use Rattle.reg_der.specs.Issuers.{with_issuer}
 use Rattle.reg_migration.specs.Older.{ShowsOlder}
@@ -31,13 +32,14 @@ OpensEmptyOrMade {S = S} g =
     → IsTrue (state g old).is_open → IsLive (state g old) → Survives (state g old) (state g new) (IsCreated old issuer policy) → IsOpenedAgain g new again
     → ∥ ((state g again).now ≡ (state g old).committed) ⊎ ((old.schema ≡ no_schema) × ShowsKept g again (no_records issuer policy)) ∥₁
 
--- a register that is opened: after a stop, one of the program's version shows what it showed, and one of an older version shows the same records,
--- as its tables or as those of the program's version, with what is kept beside them
+-- a register that is opened: after a stop, one of the program's version is as it was, and shows what it showed; one of an older version, whose
+-- records are sound, shows the same records, as its tables or as those of the program's version, with what is kept beside them
 abbrev pub OpensWithTheSame : {S : Type 0} → Ghosts S → Type 0
 OpensWithTheSame {S = S} g =
     (old new again : Held S)
     → IsTrue (state g old).is_open → IsLive (state g old) → Survives (state g old) (state g new) (IsOpened g old) → IsOpenedAgain g new again
-    → ((records : Records) → ShowsKept g old records → ShowsKept g again records)
+    → ((records : Records) → Shows g old records → (state g again).now ≡ (state g old).committed)
+    × ((records : Records) → ShowsKept g old records → ShowsKept g again records)
     × ((version : Earlier) (records : Records) → ShowsOlder version g old records → SoundRows records → ∥ ShowsOlder version g again records ⊎ ShowsKept g again records ∥₁)
 
 -- a schedule that is set: after a stop, the register that is opened shows the records with the schedule before the call, or with the one that was set

@@ -26,9 +26,13 @@ pub(crate) struct Scripted {
 }
 
 impl Device for Scripted {
-    ghost use Rattle.std.specs.Prelude.{◌≡◌, ◌<◌, IfOk, length};
+    ghost use Rattle.std.specs.Prelude.{◌≡◌, ◌<◌, [], IfOk, length};
 
     ghost public_key = { λ it. it.key.items };
+
+    ghost place = { λ it. [] };
+
+    ghost asked = { λ place message answer. Unit {0} };
 
     ghost answers = { λ key message answer. Unit {0} };
 
@@ -98,9 +102,13 @@ pub(crate) struct Lasting {
 }
 
 impl Device for Lasting {
-    ghost use Rattle.std.specs.Prelude.{◌≡◌, ◌<◌, IfOk, length};
+    ghost use Rattle.std.specs.Prelude.{◌≡◌, ◌<◌, [], IfOk, length};
 
     ghost public_key = { λ it. it.key.items };
+
+    ghost place = { λ it. [] };
+
+    ghost asked = { λ place message answer. Unit {0} };
 
     ghost answers = { λ key message answer. Unit {0} };
 

@@ -15,8 +15,8 @@ loop-place-preserved c =
       latest = all_more c.args.revocations.now c.loop-place.place row c.loop-place-test.true c.index-revocations-place.is (λ (x : RevocationRow). x.first ≤ row.first) below (omega arith);
     }
 
-pub returns-then-first-latest-clause-broken : goal.returns-then-first-latest-clause-broken
-returns-then-first-latest-clause-broken c is never =
+pub returns-then-revocation-latest-clause-broken : goal.returns-then-revocation-latest-clause-broken
+returns-then-revocation-latest-clause-broken c is never =
     let row = c.index-revocations-place.result in
     let high : c.loop-place.latest ≤ row.first = c.loop-place.invariant.top row.first (falls_here c.args.revocations.now c.loop-place.place row c.loop-place-test.true c.index-revocations-place.is (λ (x : RevocationRow). x.first) never) in
     search rules

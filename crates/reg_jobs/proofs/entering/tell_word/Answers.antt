@@ -1,5 +1,5 @@
 use Rattle.std.proofs.Common.{refl}
-use Rattle.reg_jobs.proofs.Entering.{copied, entered, rescheduled, unread, why_told}
+use Rattle.reg_jobs.proofs.CounterLines.{copied, entered, rescheduled, unread, why_told}
 use Rattle.reg_jobs.proofs.entering.tell_word.Goals as goal
 
 pub returns-in-Ok-Why : goal.returns-in-Ok-Why

@@ -1,7 +1,7 @@
 use Rattle.std.proofs.Common.{[], inl, inr, refl}
 use Rattle.reg_faces.proofs.Steps.{stays}
 use Rattle.reg_jobs.specs.Exchanges.{Unmoved}
-use Rattle.reg_jobs.specs.Reasons.{Word}
+use Rattle.reg_jobs.specs.CounterWords.{Word}
 use Rattle.reg_jobs.specs.Serving.{Visiting}
 use Rattle.reg_jobs.proofs.Fates.{unbound}
 use Rattle.reg_jobs.proofs.Peers.{exchanges_move}

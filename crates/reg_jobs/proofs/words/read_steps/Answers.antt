@@ -1,5 +1,5 @@
-use Rattle.std.proofs.Common.{◌∙◌, List, ℕ, ap, sym, subst}
-use Rattle.reg_jobs.proofs.StepWords.{SoFar, begins, breaks, ends, goes_on}
+use Rattle.std.proofs.Common.{◌∙◌, Some, ap, sym}
+use Rattle.reg_jobs.proofs.StepWords.{begins, breaks, ends, goes_on}
 use Rattle.reg_jobs.proofs.words.read_steps.Goals as goal
 
 pub loop-init : goal.loop-init
@@ -7,7 +7,11 @@ loop-init c = begins c.args.fields c.new-steps.result.items c.new-steps.ensures.
 
 pub loop-preserved : goal.loop-preserved
 loop-preserved c =
-    goes_on _ _ _ _ _ c.in-Some.step _ c.loop.invariant c.in_ok-text.ensures (sym c.in-Some.is ∙ c.read_step.ensures) c.in_ok-push-in-Some.ensures.items
+    goes_on _ _ _ _ _ c.in-Some-read_step.step _ c.loop.invariant c.in-Some.ensures (sym c.in-Some-read_step.is ∙ c.read_step.ensures)
+    c.in_ok-push-in-Some-read_step.ensures.items
 
-pub returns : goal.returns
-returns c = ends _ _ _ c.loop.invariant
+pub returns-in-None : goal.returns-in-None
+returns-in-None c = breaks _ _ _ _ _ c.loop.invariant c.in-Some.ensures (sym c.in-None.is ∙ c.read_step.ensures)
+
+pub returns-in-else : goal.returns-in-else
+returns-in-else c = ap (λ steps. Some steps) c.of.ensures ∙ ends _ _ _ c.loop.invariant c.in-else.ensures

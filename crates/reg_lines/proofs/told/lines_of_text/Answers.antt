@@ -1,8 +1,8 @@
 use Rattle.std.proofs.Common.{inr, ◌∙◌}
 use Rattle.reg_lines.proofs.told.lines_of_text.Goals as goal
 
-pub put_each-requires-at_start : goal.put_each-requires-at_start
-put_each-requires-at_start c =
+pub put_each-requires-clause-at_start : goal.put_each-requires-clause-at_start
+put_each-requires-clause-at_start c =
     let made = c.from_reader-rows.ensures in
     let config = rw (c.flexible.ensures, c.has_headers.ensures) at made.config in
     let trim = rw (c.flexible.ensures, c.has_headers.ensures) at made.trim in

@@ -27,5 +27,5 @@ loop-index-preserved c =
       config = read.2 ∙ so_far.config;
       going = λ text reads.
           telling_more text (λ (s : Bor (List ℕ)). Some s.now) c.loop-index.rows c.read_byte_record.new.self _ _ c.loop-index.index
-          _ (so_far.going text reads) so_far.config read c.in-Ok-put_row.ensures;
+          _ (so_far.going text reads) so_far.config read c.in-Ok.ensures;
     }

@@ -1,6 +1,7 @@
 use Rattle.std.proofs.Common.{rules}
 use Rattle.sqlite.specs.Steps.{over_memory}
-use Rattle.reg_jobs.specs.Digest.{digest, digests}
+use Rattle.reg_signer.specs.Both.{digest}
+use Rattle.reg_jobs.specs.Digest.{digests}
 use Rattle.reg_program.proofs.Clean.{sample_stands}
 use Rattle.reg_program.proofs.memory.office_in_memory.Goals as goal
 

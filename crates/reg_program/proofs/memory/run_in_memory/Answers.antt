@@ -1,6 +1,7 @@
 use Rattle.std.proofs.Common.{ap}
-use Rattle.reg_jobs.specs.Digest.{digest, digest_alone}
+use Rattle.reg_jobs.specs.Digest.{digest_alone}
 use Rattle.reg_jobs.specs.Sample.{sample_records}
+use Rattle.reg_signer.specs.Both.{digest}
 use Rattle.reg_office.specs.Answering.{signatory_of}
 use Rattle.reg_program.proofs.Clean.{always_clean}
 use Rattle.reg_program.proofs.memory.run_in_memory.Goals as goal

@@ -1,8 +1,9 @@
 -- What a stop found before the call is what was committed; the rest is what the call may commit, and that only of older tables.
-use Rattle.std.proofs.Common.{◌⊎◌, inl, inr}
+use Rattle.std.proofs.Common.{◌≡◌, ◌⊎◌, inl, inr}
 use Rattle.std.proofs.Math.Logic.{∥∥₁_elim, ∥∥₁_map}
 use Rattle.sqlite_trees.specs.Props.{Trees-set}
 use Rattle.sqlite.specs.Effect.{Database}
+use Rattle.reg_core.specs.Records.{Records}
 use Rattle.sqlite.specs.Held.{state}
 use Rattle.sqlite.specs.State.{HasCleanDisk}
 use Rattle.reg_writing.proofs.Moving.{was_clean}
@@ -10,9 +11,9 @@ use Rattle.reg_migration.specs.Older.{IsShownByOlder, ShowsOlder}
 use Rattle.reg_opening.specs.AtRest.{IsOpened}
 use Rattle.reg_tables.proofs.Staying.{kept_shows}
 use Rattle.reg_tables.specs.Kept.{ShowsKept}
-use Rattle.reg_store.specs.AtRest.{IsUntouched}
-use Rattle.reg_store.proofs.OpenedAgain.{holds_again, keeps_again, shows_again}
-use Rattle.reg_store.proofs.Resting.{opened_rests}
+use Rattle.reg_tables.specs.Shows.{Shows}
+use Rattle.reg_store.proofs.OpenedAgain.{holds_again, keeps_again, same_again, shows_again}
+use Rattle.reg_store.proofs.Resting.{IsUntouched, opened_rests}
 use Rattle.reg_store.proofs.laws.a_register_opened_after_a_stop_during_a_migration_shows_the_same_records.Goals as goal
 
 pub returns : goal.returns
@@ -23,10 +24,11 @@ returns g c = λ old new again up live survives opened.
     let found : (state s new).may_leave trees → IsUntouched s old trees ⊎ IsOpened s old trees = λ may. elim (survives.crash opened.honest trees may) [
       | inl before ↦ inl (g.met.S.Store.settled old.store trees up before)
       | inr newer ↦ inr newer
-    ] in (
-      λ records kept.
-          let same : IsUntouched s old trees = ∥∥₁_elim opened.found (Trees-set _ _) (λ may. opened_rests s old records trees first up (kept_shows s old records kept) (found may)) in
-          keeps_again s again opened.opens opened.live old up live same records first kept,
+    ] in
+    let untouched : (records : Records) → Shows s old records → IsUntouched s old trees = λ records shows.
+    ∥∥₁_elim opened.found (Trees-set _ _) (λ may. opened_rests s old records trees first up shows (found may)) in (
+      λ records shows. same_again s again opened.opens opened.live old up live (untouched records shows),
+      λ records kept. keeps_again s again opened.opens opened.live old up live (untouched records (kept_shows s old records kept)) records first kept,
       λ version records shows sound. ∥∥₁_map opened.found (λ may.
           let shown : ShowsOlder version s again records ⊎ ShowsKept s again records = elim (found may) [
             | inl is ↦ inl (holds_again s again opened.opens opened.live old up live is (λ (db : Database). IsShownByOlder version db records) first shows)

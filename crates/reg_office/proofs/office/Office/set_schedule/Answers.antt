@@ -9,7 +9,7 @@ use Rattle.reg_office.proofs.office.Office.set_schedule.Goals as goal
 pub returns-clause-ok : goal.returns-clause-ok
 returns-clause-ok g c records stands =
     let identity = g.S.Signer.identity c.args.self.now.signer in
-    let is_schedule : IsSchedule c.args.schedule = subst IsSchedule c.steps-_steps.ensures.steps c.steps-_steps.ensures.schedule in
+    let is_schedule : IsSchedule c.args.schedule = subst IsSchedule c.steps-steps.ensures.steps c.steps-steps.ensures.schedule in
     on_ok_weaker
     c.set_schedule.result
     (λ (shown : ShowsKept g.C.Store c.set_schedule.new.self (with_schedule records c.args.schedule)). record {
