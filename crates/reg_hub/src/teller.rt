@@ -1,6 +1,6 @@
 //! One connection at a counter, whose lines are answered in turn.
 
-ghost use Rattle.std.specs.Prelude.{◌≡◌, ◌≤◌, ◌⊎◌, ◌∷◌, [], length, take, drop, true, false, MatchOption, IfNone, OnOk, OnErr};
+ghost use Rattle.std.specs.Prelude.{◌≡◌, ◌≤◌, ◌⊎◌, ◌∷◌, [], length, take, drop, Some, true, false, MatchOption, IfNone, OnOk, OnErr};
 ghost use Rattle.reg_wire.specs.Mark.{FirstMark, HasNoMark};
 ghost use Rattle.reg_hub.specs.Held.{AddsTo, TakesIn};
 ghost use Rattle.reg_hub.specs.Lines.{Advances, Deferring, Gathers, Telling, TellingLater, ends_by};
@@ -64,14 +64,19 @@ impl<S: Link> Teller<S> {
 
     /// Goes on as far as the connection does without waiting.
     pub fn advance(&mut self, room: &mut [u8]) -> Next
-        ensures { Advances S.Write.contents S.Read.remaining self.old.link self.new.link self.old.came.items self.new.came.items
+        ensures advances { Advances S.Write.contents S.Read.remaining self.old.link self.new.link self.old.came.items self.new.came.items
             (unsent_of self.old.unsent) (unsent_of self.new.unsent) self.old.has_ended self.new.has_ended }
+
+        // Once the reply before it was sent, a line that is whole is due, also where the counter has ended.
+        ensures whole { unsent_of self.new.unsent ≡ [] → (result ≡ Next.Due) ⊎ HasNoMark (10 ∷ []) self.new.came.items }
     {
-        match self.unsent.send_on(&mut self.link) {
-            Sent::All => self.take(room),
-            Sent::Waits => Next::Waits(Interest::WRITABLE),
-            Sent::More => Next::Waits(Interest::WRITABLE),
+        let sent = self.unsent.send_on(&mut self.link);
+        if self.unsent.len() == 0 {
+            return self.take(room);
+        }
+        match sent {
             Sent::Broken => Next::Gone,
+            _ => Next::Waits(Interest::WRITABLE),
         }
     }
 
@@ -81,6 +86,7 @@ impl<S: Link> Teller<S> {
             self.new.has_ended }
         ensures ended { self.old.has_ended ≡ true → (self.new.came.items ≡ self.old.came.items) × (self.new.has_ended ≡ true) }
         ensures unsent { self.new.unsent ≡ self.old.unsent }
+        ensures whole { (result ≡ Next.Due) ⊎ HasNoMark (10 ∷ []) self.new.came.items }
     {
         for _ in 0..MOST_READS {
             if let Some(next) = self.after_reading() {
@@ -99,12 +105,19 @@ impl<S: Link> Teller<S> {
 
     /// What is to be done where nothing more is to be read; `None` where a line is not whole yet.
     fn after_reading(&self) -> Option<Next>
+        ensures goes_on { IfNone result (self.now.has_ended ≡ false) }
+        ensures whole { (result ≡ Some Next.Due) ⊎ HasNoMark (10 ∷ []) self.now.came.items }
+    {
+        match line_end(self.came.as_slice()) {
+            Some(_) => Some(Next::Due),
+            None => self.after_part(),
+        }
+    }
+
+    /// The same where no line is whole: what there is of one is none.
+    fn after_part(&self) -> Option<Next>
         ensures { IfNone result (self.now.has_ended ≡ false) }
     {
-        if line_end(self.came.as_slice()).is_some() {
-            return Some(Next::Due);
-        }
-        // A line that is not whole is none.
         if self.has_ended {
             return Some(Next::Gone);
         }
@@ -119,6 +132,7 @@ impl<S: Link> Teller<S> {
         ensures gathers { Gathers (S.Read.remaining self.old.link) (S.Read.remaining self.new.link) self.old.came.items self.new.came.items
             self.new.has_ended }
         ensures unsent { self.new.unsent ≡ self.old.unsent }
+        ensures waits { result ≡ false → self.new.came.items ≡ self.old.came.items }
     {
         let taken = gather(&mut self.link, &mut self.came, room);
         self.has_ended = is_end(taken);
@@ -243,7 +257,8 @@ impl<S: Link> Teller<S> {
 
 /// Takes in what one read of a counter gives; where the reading came to rest.
 fn gather<R: Read>(reader: &mut R, held: &mut Vec<u8>, room: &mut [u8]) -> Taken
-    ensures { TakesIn (R.remaining reader.old) (R.remaining reader.new) held.old.items held.new.items result }
+    ensures takes { TakesIn (R.remaining reader.old) (R.remaining reader.new) held.old.items held.new.items result }
+    ensures waits { result ≡ Taken.Waits → held.new.items ≡ held.old.items }
 {
     match reader.read(room) {
         Ok(0) => Taken::Ended,
@@ -258,7 +273,8 @@ fn gather<R: Read>(reader: &mut R, held: &mut Vec<u8>, room: &mut [u8]) -> Taken
 
 /// Holds bytes that came behind the others.
 fn hold(held: &mut Vec<u8>, came: &[u8]) -> Taken
-    ensures { AddsTo held.old.items came.now held.new.items result }
+    ensures adds { AddsTo held.old.items came.now held.new.items result }
+    ensures goes { ¬ (result ≡ Taken.Waits) }
 {
     match held.extend_from_slice(came) {
         Ok(()) => Taken::More,

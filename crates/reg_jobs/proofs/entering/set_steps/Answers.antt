@@ -1,4 +1,5 @@
-use Rattle.std.proofs.Common.{ap, refl, sym}
+use Rattle.std.proofs.Common.{◌∙◌, Err, ap, refl, sym}
+use Rattle.reg_jobs.specs.Schedules.{set_ending}
 use Rattle.reg_jobs.proofs.Setting.{none_set, one_set}
 use Rattle.reg_jobs.proofs.entering.set_steps.Goals as goal
 
@@ -8,9 +9,9 @@ returns-in-Err g c = none_set g.P.Opened.Keeper.is_clean g.P.Opened.Keeper.stand
 pub returns-in-Ok-set_schedule : goal.returns-in-Ok-set_schedule
 returns-in-Ok-set_schedule g c =
     one_set g.P.Opened.Keeper.is_clean g.P.Opened.Keeper.stands _ _ c.args.steps.now c.set_schedule.result c.in-Ok.schedule _ c.in-Ok.ensures.ok.0 c.in-Ok.ensures.ok.1
-    refl c.set_schedule.ensures.moves
+    (ap set_ending (sym c.in-Ok-set_schedule.is)) c.set_schedule.ensures.moves
 
 pub returns-in-Err-set_schedule : goal.returns-in-Err-set_schedule
 returns-in-Err-set_schedule g c =
     one_set g.P.Opened.Keeper.is_clean g.P.Opened.Keeper.stands _ _ c.args.steps.now c.set_schedule.result c.in-Ok.schedule _ c.in-Ok.ensures.ok.0 c.in-Ok.ensures.ok.1
-    refl c.set_schedule.ensures.moves
+    (ap (λ why. Err why) c.from.ensures ∙ ap set_ending (sym c.in-Err-set_schedule.is)) c.set_schedule.ensures.moves
