@@ -1,3 +1,4 @@
 pub mod Audited
 pub mod Files
 pub mod Misfits
+pub mod Stops
