@@ -89,31 +89,40 @@ fn tell_fault(rt: &HostRuntime, order: &Order<'_>, fault: Fault, cause: Option<C
 
 /// Does the job of an order over standard input, or the file of its rows, and standard output.
 fn do_order(rt: &HostRuntime, order: &Order<'_>) -> u8 {
+    match Input::of(rt, &order.job) {
+        Ok(mut input) => do_reading(rt, order, &mut input),
+        Err(error) => tell_fault(rt, order, Fault::Read, of_io(error.kind())),
+    }
+}
+
+/// The same over what it reads.
+fn do_reading(rt: &HostRuntime, order: &Order<'_>, input: &mut Input) -> u8 {
     let noted = Cell::new(None);
     let reason = Cell::new(None);
-    let front = Machine::of(*rt, &noted)
-        .with_log(order.has_log)
-        .with_log_file(log_path(order))
-        .with_watch(rt.stderr().is_terminal());
-    let mut place = front;
     let causes = Causes {
         noted: &noted,
         reason: &reason,
         is_told: order.is_explained,
     };
-    let mut input = match Input::of(rt, &order.job) {
-        Ok(input) => input,
-        Err(error) => return tell_fault(rt, order, Fault::Read, of_io(error.kind())),
-    };
-    let mut output = Counted::of(rt, &order.job, &noted);
+    do_noting(rt, order, &causes, input)
+}
+
+/// The same, where causes are noted.
+fn do_noting(rt: &HostRuntime, order: &Order<'_>, causes: &Causes<'_>, input: &mut Input) -> u8 {
+    let front = Machine::of(*rt, causes.noted)
+        .with_log(order.has_log)
+        .with_log_file(log_path(order))
+        .with_watch(rt.stderr().is_terminal());
+    let mut place = front;
+    let mut output = Counted::of(rt, &order.job, causes.noted);
     let mut errors = rt.stderr();
     perform_untold(
         rt,
-        &causes,
+        causes,
         &front,
         &mut place,
         &order.job,
-        &mut input,
+        input,
         &mut output,
         &mut errors,
     )

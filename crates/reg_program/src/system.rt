@@ -60,7 +60,7 @@ pub trait System {
     fn seconds(&self) -> io::Result<u64>
         ensures { IfOk result read };
 
-    /// The time of a clock that never goes back.
+    /// The time by a clock that never goes back, since some begin of it.
     ///
     /// # Errors
     /// What the system says where it can't be read.
