@@ -152,7 +152,7 @@ module _ {D : Type 0} {g : disk.Ghosts D} {O L : Type 0} (store : O → Held (Fi
           → IfOk r (λ office. Stands over_files signs (store office) (who office).crls records)
           → IfOk r (λ office. (HasCleanDisk (file_state connection) → IsOpened connection) → LeavesTold over_files signs (store office) (who office).crls records)
           → IfOk r (λ office. (those : Signatory) × StandsFor over_files signs (store office, who office) those records)
-      go (Ok office) stands leaves = (who office, refl, stands, leaves connects.whole)
+      go (Ok office) stands leaves = (who office, (refl, stands, leaves connects.whole))
       go (Err left) stands leaves = tt
 
 -- what was opened for signatures of CRLs, and is answered in as it was told

@@ -2,3 +2,4 @@ pub mod Audited
 pub mod Clocks
 pub mod Files
 pub mod Misfits
+pub mod Stops

@@ -15,6 +15,6 @@ returns-in-Ok-create-clause-ok c =
 pub returns-in-Ok-create-clause-leaves : goal.returns-in-Ok-create-clause-leaves
 returns-in-Ok-create-clause-leaves c =
     sample_leaves over_memory digests digest _ _ c.in-Ok.issuer c.usual.result c.new-in-Ok-create.ensures.store (search rules) (search rules) c.usual.ensures
-    (leaves_made over_memory _ _ (no_records c.in-Ok.issuer c.usual.result) _ (λ held trees is_open leaves. leaves)
+    (leaves_made over_memory c.in-Ok-open_in_memory.connection c.in-Ok-create.store (no_records c.in-Ok.issuer c.usual.result) _ (λ held trees is_open leaves. leaves)
     (λ clean. let empty = c.in-Ok-open_in_memory.ensures.empty in (empty.0, empty.1))
     c.in-Ok-create.ensures.survives digests digest c.in-Ok-create.ensures.empty (λ trees made. made.1))
