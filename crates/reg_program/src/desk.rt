@@ -8,7 +8,7 @@ use crate::system::open_log;
 use reg_causes::{Cause, of_io};
 use reg_core::Fault;
 use reg_endings::Failure;
-use reg_jobs::{Causes, explain, tell};
+use reg_jobs::{Causes, Place, explain, tell};
 use reg_words::{Order, Usage, no_text, read_words};
 use std::cell::Cell;
 use std::io::{ErrorKind, IsTerminal};
@@ -107,25 +107,46 @@ fn do_reading(rt: &HostRuntime, order: &Order<'_>, input: &mut Input) -> u8 {
     do_noting(rt, order, &causes, input)
 }
 
-/// The same, where causes are noted.
+/// The same, where causes are noted, over the machine's files.
 fn do_noting(rt: &HostRuntime, order: &Order<'_>, causes: &Causes<'_>, input: &mut Input) -> u8 {
-    let front = Machine::of(*rt, causes.noted)
-        .with_log(order.has_log)
-        .with_log_file(log_path(order))
-        .with_watch(rt.stderr().is_terminal());
-    let mut place = front;
+    let mut place = machine_for(rt, order, causes.noted);
+    do_at(rt, order, causes, &mut place, input)
+}
+
+/// The same over any place. What is said of the machine's files is told apart from what is said of its front, since both at one call are
+/// more than one check can do.
+fn do_at<P: Place>(
+    rt: &HostRuntime,
+    order: &Order<'_>,
+    causes: &Causes<'_>,
+    place: &mut P,
+    input: &mut Input,
+) -> u8 {
+    let front = machine_for(rt, order, causes.noted);
     let mut output = Counted::of(rt, &order.job, causes.noted);
     let mut errors = rt.stderr();
     perform_untold(
         rt,
         causes,
         &front,
-        &mut place,
+        place,
         &order.job,
         input,
         &mut output,
         &mut errors,
     )
+}
+
+/// The machine for an order, which notes causes here.
+fn machine_for<'n>(
+    rt: &HostRuntime,
+    order: &'n Order<'_>,
+    noted: &'n Cell<Option<Cause>>,
+) -> Machine<'n> {
+    Machine::of(*rt, noted)
+        .with_log(order.has_log)
+        .with_log_file(log_path(order))
+        .with_watch(rt.stderr().is_terminal())
 }
 
 /// What is said where the words could not be had: one is no text, or there is no memory for them.
