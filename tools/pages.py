@@ -1,9 +1,11 @@
 #!/usr/bin/env python3
 """Says what the pages name that is not there: files and functions of docs/PROOFS.md and docs/ARCHITECTURE.md, definitions of docs/PROOFS.md, crates and what they
-stand on in docs/ARCHITECTURE.md, and links to headings. Prints a line for each, and nothing where all is there; the exit status is 1 where something is not."""
+stand on in docs/ARCHITECTURE.md, links to headings, and what docs/MODEL.md counts. Prints a line for each, and nothing where all is there; the exit status is 1 where something is not."""
 import re
 import sys
 from pathlib import Path
+
+import chain
 
 TOP = Path(__file__).resolve().parent.parent
 PAGES = ["README.md", "SECURITY.md", "CHANGELOG.md", *sorted(str(it.relative_to(TOP)) for it in (TOP / "docs").glob("*.md"))]
@@ -135,7 +137,12 @@ def look_at_crates():
             miss(page, f"{crate} stands on {' '.join(sorted(wanted))}, and not on {' '.join(sorted(told))}")
 
 
-for look in (look_at_links, look_at_ways, look_at_laws, look_at_promises, look_at_crates):
+def look_at_chain():
+    for it in chain.wrong():
+        miss("docs/MODEL.md", it)
+
+
+for look in (look_at_links, look_at_ways, look_at_laws, look_at_promises, look_at_crates, look_at_chain):
     look()
 print(*missing, sep="\n", end="\n" if missing else "")
 sys.exit(1 if missing else 0)

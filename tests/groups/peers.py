@@ -1,11 +1,13 @@
 """Peers of an open desk, of all kinds and many at once: nobody who is slow holds anybody up. And lines at the counter, beside them."""
 
+import os
 import re
 import resource
 import socket
 import threading
 import time
 
+from lib.authority import until
 from lib.program import Counter, parted, read_all
 from lib.trial import Skipped, test
 
@@ -106,6 +108,36 @@ def more_peers_than_there_are_places(t):
     held[-1].settimeout(10)
     held[-1].sendall(COUNTS)
     t.same(parted(read_all(held[-1]))[0], 200, "the newest")
+
+
+@test(seconds=4)
+def the_last_descriptor_lets_nobody_go(t):
+    """The system says that no descriptor is left also where nobody comes. The oldest is let go only once somebody does."""
+    desk = opened(t)
+    files = lambda: len(os.listdir(f"/proc/{desk.process.pid}/fd"))
+    before = files()
+    t.tool("prlimit", "--pid", desk.process.pid, f"--nofile={before + 3}:{before + 3}")
+    held = []
+    for at in range(3):
+        held.append(peer(t, desk, COUNTS[:9]))
+        until(lambda: files() == before + at + 1, f"peer {at + 1}")
+    time.sleep(0.5)
+    for at, each in enumerate(held):
+        each.settimeout(10)
+        each.sendall(COUNTS[9:])
+        t.same(parted(read_all(each))[0], 200, f"peer {at + 1} of as many as there are descriptors for")
+    until(lambda: files() == before, "the end of all")
+    held = []
+    for at in range(3):
+        held.append(peer(t, desk, COUNTS[:9]))
+        until(lambda: files() == before + at + 1, f"peer {at + 1} once more")
+    at_once(t, desk, "as many as there are descriptors for")
+    held[0].settimeout(10)
+    t.same(read_all(held[0]), b"", "the oldest is let go, with no answer")
+    for each in held[1:]:
+        each.settimeout(10)
+        each.sendall(COUNTS[9:])
+        t.same(parted(read_all(each))[0], 200, "who is not the oldest")
 
 
 @test(seconds=3)

@@ -1,6 +1,6 @@
 -- What a counter's connection gives, held piece by piece.
 use Rattle.std.proofs.Common.{◌≡◌, ℕ, Bool, List, ◌++◌, [], ◌⊎◌, refl, sym, subst, ap, ◌∙◌, inl, inr}
-use Rattle.std.specs.Prelude.{Option, true, false}
+use Rattle.std.specs.Prelude.{Option, Some, None, true, false}
 use Rattle.std.specs.Io.KnownBytes.{Consumes}
 use Rattle.std.proofs.KnownBytes.{Consumes-nil, Consumes-trans}
 use Rattle.std.proofs.lemmas.List.{append-nil, append_assoc}
@@ -40,6 +40,11 @@ gathers_taken a b x y taken.Broken ended is took = gathers_all a b x y took.came
 -- what goes on has not ended
 pub goes_on : (ended : Bool) → ended ≡ false → ended ≡ true → ⊥
 goes_on ended goes ends = let both : false ≡ true = sym goes ∙ ends in let bad : ⊥ = cc in bad
+
+-- what is not due at all is the other
+pub not_due : {N : Type 0} (next : N) (P : Type 0) → (None ≡ Some next) ⊎ P → P
+not_due next P (inl none) = let bad : ⊥ = cc in absurd bad
+not_due next P (inr other) = other
 
 -- as long as a counter has not ended, nothing was lost
 pub none_lost : (lost : List ℕ) (ended : Bool) → ended ≡ false → (lost ≡ []) ⊎ (ended ≡ true) → lost ≡ []

@@ -108,10 +108,16 @@ impl<S: Link> Teller<S> {
         ensures goes_on { IfNone result (self.now.has_ended ≡ false) }
         ensures whole { (result ≡ Some Next.Due) ⊎ HasNoMark (10 ∷ []) self.now.came.items }
     {
-        if line_end(self.came.as_slice()).is_some() {
-            return Some(Next::Due);
+        match line_end(self.came.as_slice()) {
+            Some(_) => Some(Next::Due),
+            None => self.after_part(),
         }
-        // A line that is not whole is none.
+    }
+
+    /// The same where no line is whole: what there is of one is none.
+    fn after_part(&self) -> Option<Next>
+        ensures { IfNone result (self.now.has_ended ≡ false) }
+    {
         if self.has_ended {
             return Some(Next::Gone);
         }
@@ -126,7 +132,7 @@ impl<S: Link> Teller<S> {
         ensures gathers { Gathers (S.Read.remaining self.old.link) (S.Read.remaining self.new.link) self.old.came.items self.new.came.items
             self.new.has_ended }
         ensures unsent { self.new.unsent ≡ self.old.unsent }
-        ensures waits { result ≡ false → self.new.came ≡ self.old.came }
+        ensures waits { result ≡ false → self.new.came.items ≡ self.old.came.items }
     {
         let taken = gather(&mut self.link, &mut self.came, room);
         self.has_ended = is_end(taken);
@@ -252,7 +258,7 @@ impl<S: Link> Teller<S> {
 /// Takes in what one read of a counter gives; where the reading came to rest.
 fn gather<R: Read>(reader: &mut R, held: &mut Vec<u8>, room: &mut [u8]) -> Taken
     ensures takes { TakesIn (R.remaining reader.old) (R.remaining reader.new) held.old.items held.new.items result }
-    ensures waits { result ≡ Taken.Waits → held.new ≡ held.old }
+    ensures waits { result ≡ Taken.Waits → held.new.items ≡ held.old.items }
 {
     match reader.read(room) {
         Ok(0) => Taken::Ended,
@@ -267,7 +273,8 @@ fn gather<R: Read>(reader: &mut R, held: &mut Vec<u8>, room: &mut [u8]) -> Taken
 
 /// Holds bytes that came behind the others.
 fn hold(held: &mut Vec<u8>, came: &[u8]) -> Taken
-    ensures { AddsTo held.old.items came.now held.new.items result }
+    ensures adds { AddsTo held.old.items came.now held.new.items result }
+    ensures goes { ¬ (result ≡ Taken.Waits) }
 {
     match held.extend_from_slice(came) {
         Ok(()) => Taken::More,

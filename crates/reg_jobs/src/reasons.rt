@@ -204,8 +204,18 @@ fn order_text_of(alloc: Global, front: &[u8], order: u64, end: &[u8]) -> Result<
 /// The registration of a line that was refused by this reply, if it is one, and more is told of that refusal.
 fn refused_in(alloc: Global, now: Moment, line: &[u8], reply: &[u8]) -> Option<Refused> {
     let why = refusal_told(reply)?;
-    let timed = timed_line(alloc, now, line).ok()?;
-    match read_line(without_end(&timed))? {
+    let Ok(timed) = timed_line(alloc, now, line) else {
+        return None;
+    };
+    match read_line(without_end(&timed)) {
+        Some(said) => refused_said(&said, why),
+        None => None,
+    }
+}
+
+/// The registration that is said and was refused for this, if it is one.
+fn refused_said(said: &Line<'_>, why: Refusal) -> Option<Refused> {
+    match *said {
         Line::Tell(_, command) => refused_for(&command, why),
         _ => None,
     }

@@ -77,12 +77,12 @@ fn read_steps(alloc: Global, mut fields: Fields<'_>) -> Result<Option<Steps>, Al
 {
     let mut steps = Vec::new(alloc);
     for _ in 0..u64::MAX {
-        let Some(text) = fields.next() else {
-            return Ok(Some(Steps::of(steps)));
-        };
-        match read_step(text) {
-            Some(step) => steps.push(step)?,
-            None => return Ok(None),
+        match fields.next() {
+            Some(text) => match read_step(text) {
+                Some(step) => steps.push(step)?,
+                None => return Ok(None),
+            },
+            None => return Ok(Some(Steps::of(steps))),
         }
     }
     // No line has so many fields.

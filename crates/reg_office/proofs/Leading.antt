@@ -1,9 +1,8 @@
 -- The calls of an office over a store, as steps of its records.
-use Rattle.std.proofs.Common.{◌≡◌, ℕ, ◌≤◌, List, refl, sym, ◌∙◌, subst}
+use Rattle.std.proofs.Common.{◌≡◌, ℕ, List, refl, sym, ◌∙◌, subst}
 use Rattle.std.specs.Prelude.{Result, Ok, Err, Vec, IfOk, IfErr, IsErrOf}
 use Rattle.sqlite.specs.Held.{Held, state}
 use Rattle.sqlite.specs.State.{HasCleanDisk}
-use Rattle.sqlite_trees.specs.View.{doubt}
 use Rattle.sqlite_trees.specs.declared.store.Store.{Ghosts}
 use Rattle.reg_calls.specs.Items.{items_of}
 use Rattle.reg_core.specs.Records.{Records}
@@ -20,47 +19,65 @@ use Rattle.reg_calls.specs.Drafts.{Begins, Drafts, IsDraft}
 use Rattle.reg_calls.specs.declared.begun.Begun.{Begun}
 use Rattle.reg_calls.specs.declared.begun.Begun.TheVariants.{Whole, Left}
 use Rattle.reg_ocsp.specs.Drafts.{Drafted}
+use Rattle.reg_tables.specs.Stays.{Changed, LeavesNothing}
+use Rattle.reg_office.specs.AtRest.{Does, LeavesTold}
 use Rattle.reg_office.specs.Calls.{StandsFor, LeadsOver}
 use Rattle.reg_office.specs.Beginning.{IsBegun}
 use Rattle.reg_office.specs.Faults.{IsTableFault}
 use Rattle.reg_office.specs.Stands.{Stands, CameTo}
 use Rattle.reg_calls.specs.Ocsp.{IsOcspReply}
 use Rattle.reg_office.proofs.Composing.{was_clean}
+use Rattle.reg_office.proofs.Leaving.{leaves_done, leaves_looked}
+use Rattle.reg_office.proofs.Stopping.{Settles}
 
 -- The calls of an office: its store and who signs, before and after.
-module _ {C : Type 0} (g : Ghosts C) (signs : Signs) (old new : Held C) (who who' : Signatory)
-    (clean : doubt (state g old).is_clean ≤ doubt (state g new).is_clean) (same : who' ≡ who) where
+module _ {C : Type 0} (g : Ghosts C) (signs : Signs) (old new : Held C) (who who' : Signatory) (same : who' ≡ who) where
   -- what stood for who signs stood for those
   stood_for : (those : Signatory) (before : Records) → StandsFor g signs (old, who) those before → Stands g signs old who.crls before
-  stood_for those before (is, stands) =
+  stood_for those before (is, stands, leaves) =
       let P : Signatory → Type 0 = λ v. Stands g signs old v.crls before in
       subst P (sym is) stands
 
   -- a command
-  pub command_leads : (now : ℕ) (command : Command) (outcome : Result Reply Fault)
+  pub command_leads : (now : ℕ) (command : Command) (outcome : Result Reply Fault) → Settles g
+      → Changed g old new (Does g signs old who.crls now command) outcome
       → ((records : Records) → Stands g signs old who.crls records → HasCleanDisk (state g new) → CameTo g signs new who'.crls records now command outcome)
       → LeadsOver g signs (λ those before after. Runs signs those before now command outcome after) (old, who) (new, who')
-  command_leads now command outcome step = (
-    was_clean (state g old) (state g new) clean,
+  command_leads now command outcome settles changed step = (
+    was_clean (state g old) (state g new) changed.survives.clean,
     (λ those before stood is_clean.
         let came = step before (stood_for those before stood) is_clean in
         let is : who' ≡ those = same ∙ stood.0 in
         let P : Signatory → Type 0 = λ v. Happens (signed_by signs v.crls) before now command outcome came.after in
         let Q : Signatory → Type 0 = λ v. Stands g signs new v.crls came.after in
-        (came.after, subst P is came.happens, (is, subst Q is came.stands))),
+        let R : Signatory → Type 0 = λ v. Changed g old new (Does g signs old v.crls now command) outcome in
+        let happens = subst P is came.happens in
+        let stands = subst Q is came.stands in
+        let leaves = leaves_done g signs those.crls old new before came.after now command outcome settles (subst R stood.0 changed) stood.1 happens stands stood.2 in
+        (came.after, happens, (is, stands, leaves))),
   )
+
+-- A call that commits nothing: its store and who signs, before and after.
+module _ {C : Type 0} (g : Ghosts C) (signs : Signs) (old new : Held C) (who who' : Signatory)
+    (survives : LeavesNothing (state g old) (state g new)) (same : who' ≡ who) where
+  -- what a stop leaves stays
+  left_by : (those : Signatory) (before : Records) → StandsFor g signs (old, who) those before → LeavesTold g signs new those.crls before
+  left_by those before stood = leaves_looked g signs those.crls old new before survives stood.2
+
+  stood_by : (those : Signatory) (before : Records) → StandsFor g signs (old, who) those before → Stands g signs old who.crls before
+  stood_by = stood_for g signs old new who who' same
 
   -- a call that leaves the records
   pub answer_leads : (Answers : Records → Type 0)
       → ((records : Records) → Stands g signs old who.crls records → HasCleanDisk (state g new) → Answers records × Stands g signs new who'.crls records)
       → LeadsOver g signs (λ those before after. Answers before × (after ≡ before)) (old, who) (new, who')
   answer_leads Answers call = (
-    was_clean (state g old) (state g new) clean,
+    was_clean (state g old) (state g new) survives.clean,
     (λ those before stood is_clean.
-        let (answered, stands) = call before (stood_for those before stood) is_clean in
+        let (answered, stands) = call before (stood_by those before stood) is_clean in
         let is : who' ≡ those = same ∙ stood.0 in
         let Q : Signatory → Type 0 = λ v. Stands g signs new v.crls before in
-        (before, (answered, refl), (is, subst Q is stands))),
+        (before, (answered, refl), (is, subst Q is stands, left_by those before stood))),
   )
 
   -- an OCSP request
@@ -70,20 +87,20 @@ module _ {C : Type 0} (g : Ghosts C) (signs : Signs) (old new : Held C) (who who
       → ((records : Records) → Stands g signs old who.crls records → Stands g signs new who'.crls records)
       → LeadsOver g signs (λ those before after. Ocsps signs those before now request (items_of result) after) (old, who) (new, who')
   ocsp_leads now request (Ok bytes) replied stays = (
-    was_clean (state g old) (state g new) clean,
+    was_clean (state g old) (state g new) survives.clean,
     (λ those before stood is_clean.
-        let stands = stood_for those before stood in
+        let stands = stood_by those before stood in
         let is : who' ≡ those = same ∙ stood.0 in
         let P : Signatory → Type 0 = λ v. IsOcspReply signs v.answers before now request bytes.items in
         let Q : Signatory → Type 0 = λ v. Stands g signs new v.crls before in
-        (before, (subst P stood.0 (replied before stands is_clean), refl), (is, subst Q is (stays before stands)))),
+        (before, (subst P stood.0 (replied before stands is_clean), refl), (is, subst Q is (stays before stands), left_by those before stood))),
   )
   ocsp_leads now request (Err memory) replied stays = (
-    was_clean (state g old) (state g new) clean,
+    was_clean (state g old) (state g new) survives.clean,
     (λ those before stood is_clean.
         let is : who' ≡ those = same ∙ stood.0 in
         let Q : Signatory → Type 0 = λ v. Stands g signs new v.crls before in
-        (before, refl, (is, subst Q is (stays before (stood_for those before stood))))),
+        (before, refl, (is, subst Q is (stays before (stood_by those before stood)), left_by those before stood))),
   )
 
   -- what is left to be signed for one
@@ -92,13 +109,13 @@ module _ {C : Type 0} (g : Ghosts C) (signs : Signs) (old new : Held C) (who who
       → ((records : Records) → Stands g signs old who.crls records → Stands g signs new who'.crls records)
       → LeadsOver g signs (λ those before after. Drafts those before now request draft after) (old, who) (new, who')
   draft_leads now request draft left stays = (
-    was_clean (state g old) (state g new) clean,
+    was_clean (state g old) (state g new) survives.clean,
     (λ those before stood is_clean.
-        let stands = stood_for those before stood in
+        let stands = stood_by those before stood in
         let is : who' ≡ those = same ∙ stood.0 in
         let P : Signatory → Type 0 = λ v. IsDraft v.answers before now request draft in
         let Q : Signatory → Type 0 = λ v. Stands g signs new v.crls before in
-        (before, (subst P stood.0 (left before stands is_clean), refl), (is, subst Q is (stays before stands)))),
+        (before, (subst P stood.0 (left before stands is_clean), refl), (is, subst Q is (stays before stands), left_by those before stood))),
   )
 
   -- an OCSP request whose answer may be left to be signed

@@ -11,6 +11,7 @@ pub mod Following
 pub mod Identified
 pub mod Issuing
 pub mod Leading
+pub mod Leaving
 pub mod OpenedAgain
 pub mod Paging
 pub mod Responding

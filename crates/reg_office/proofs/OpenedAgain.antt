@@ -1,16 +1,24 @@
 -- What a stop may leave stands in a register that is opened again.
-use Rattle.std.proofs.Common.{ℕ, List, [], ◌∷◌, Result, inl, inr}
+use Rattle.std.proofs.Common.{◌≡◌, ◌⊎◌, ℕ, List, [], ◌∷◌, Result, inl, inr, subst}
+use Rattle.std.proofs.Math.Logic.{∥∥₁_map}
 use Rattle.sqlite_trees.specs.declared.store.Store.{Ghosts}
 use Rattle.sqlite.specs.Held.{Held, state}
 use Rattle.sqlite.specs.State.{IsLive, Opens}
+use Rattle.reg_core.specs.Changes.{with_schedule}
 use Rattle.reg_core.specs.Records.{Records}
 use Rattle.reg_core.specs.declared.command.Command.{Command}
 use Rattle.reg_core.specs.declared.command.Reply.{Reply}
 use Rattle.reg_core.specs.declared.refusal.Fault.{Fault}
 use Rattle.reg_crl.specs.Signing.{Identity}
+use Rattle.reg_der.specs.Issuers.{with_key_identifier}
+use Rattle.sqlite_catalog.specs.Listing.{IsSound}
+use Rattle.sqlite_schema.specs.declared.schema.Schema.{Schema}
 use Rattle.reg_store.proofs.OpenedAgain.{shows_again}
-use Rattle.reg_office.specs.AtRest.{IsDone, IsNextDone, IsPartlyRun}
-use Rattle.reg_office.specs.OpenedAgain.{StandsDone, StandsNext, StandsPartlyRun}
+use Rattle.reg_tables.specs.Schema.{register_schema}
+use Rattle.reg_writing.specs.AtRest.{AreARegisters, IsAtRest}
+use Rattle.reg_office.specs.AtRest.{IsDone, IsNextDone, IsOneMore, IsPartlyRun, LeavesTold}
+use Rattle.reg_office.specs.OpenedAgain.{OpensTold, StandsDone, StandsNext, StandsOneMore, StandsPartlyRun}
+use Rattle.reg_office.specs.Stands.{SoundFor, Stands}
 
 module _ {C : Type 0} (g : Ghosts C) (signs : Identity → List ℕ → List ℕ → Type 0) (again : Held C) (identity : Identity) (opens : Opens (state g again)) (live : IsLive (state g again)) where
   pub stands_done : (records : Records) (now : ℕ) (command : Command) → IsDone signs identity records now command (state g again).committed.trees → StandsDone g signs again identity records now command
@@ -45,3 +53,27 @@ module _ {C : Type 0} (g : Ghosts C) (signs : Identity → List ℕ → List ℕ
       | inr next ↦ inr (stands_next it.after it.left next)
     ];
   }
+
+  stands_one_more : (records : Records) → IsOneMore signs identity records (state g again).committed.trees → StandsOneMore g signs again identity records
+  stands_one_more records (inl (now, command, it)) = inl (now, command, stands_done records now command it)
+  stands_one_more records (inr (inl (steps, rests))) = inr (inl (steps, shows_again g again opens live (with_schedule records steps) rests))
+  stands_one_more records (inr (inr (octets, rests))) = inr (inr (octets, shows_again g again opens live (with_key_identifier records octets) rests))
+
+  pub stands_told : (records : Records) → SoundFor signs identity records
+      → IsAtRest records (state g again).committed.trees ⊎ IsOneMore signs identity records (state g again).committed.trees
+      → Stands g signs again identity records ⊎ StandsOneMore g signs again identity records
+  stands_told records sound (inl rests) = inl (record { shown = shows_again g again opens live records rests; sound = sound })
+  stands_told records sound (inr more) = inr (stands_one_more records more)
+
+  -- a register's tables obey its schema
+  pub registers_again : (state g again).committed.schema ≡ register_schema → AreARegisters (state g again).committed.trees
+  registers_again same = subst (λ (schema : Schema). IsSound schema (state g again).committed.trees) same (live opens.is_open).1
+
+-- what a stop leaves stands
+pub opens_told : {C : Type 0} (g : Ghosts C) (signs : Identity → List ℕ → List ℕ → Type 0) (held : Held C) (identity : Identity) (records : Records)
+    → SoundFor signs identity records → LeavesTold g signs held identity records → OpensTold g signs held identity records
+opens_told g signs held identity records sound leaves again opened same = ∥∥₁_map opened.found (λ may.
+    let told : Stands g signs again identity records ⊎ StandsOneMore g signs again identity records =
+    stands_told g signs again identity opened.opens opened.live records sound
+    (leaves opened.honest (state g again).committed.trees may (registers_again g signs again identity opened.opens opened.live same)) in
+    told)

@@ -4,6 +4,7 @@ use Rattle.sqlite_trees.specs.Tree.{Trees}
 use Rattle.sqlite_trees.specs.declared.store.Store.{Ghosts}
 use Rattle.sqlite.specs.Held.{Held, state}
 use Rattle.sqlite.specs.State.{HasCleanDisk, Survives}
+use Rattle.reg_core.specs.Changes.{with_schedule}
 use Rattle.reg_core.specs.Crls.{CertList}
 use Rattle.reg_core.specs.Records.{Records}
 use Rattle.reg_core.specs.Sound.{SoundRows}
@@ -13,7 +14,7 @@ use Rattle.reg_core.specs.declared.refusal.Fault.{Fault}
 use Rattle.reg_crl.specs.Signing.{Identity, signed_by}
 use Rattle.reg_der.specs.Issuers.{with_key_identifier}
 use Rattle.reg_tables.specs.Kept.{ShowsKept}
-use Rattle.reg_writing.specs.AtRest.{IsAtRest}
+use Rattle.reg_writing.specs.AtRest.{AreARegisters, IsAtRest}
 use Rattle.reg_laws.specs.Run.{Happens, Run}
 use Rattle.reg_office.specs.Stands.{SoundFor, Stands, CameTo}
 
@@ -82,3 +83,22 @@ AreRunByOne g signs identity old [] (outcome ∷ outcomes) new = ⊥
 AreRunByOne g signs identity old (timed ∷ commands) [] new = ⊥
 AreRunByOne {C = C} g signs identity old (timed ∷ commands) (outcome ∷ outcomes) new =
     (next : Held C) × IsRunOne g signs identity old next timed.0 timed.1 outcome × AreRunByOne g signs identity next commands outcomes new
+
+-- ---- over any calls
+
+-- a stop after a call, or in the middle of it, leaves rows of these records, with what is kept beside them
+abbrev pub LeavesThese : {C : Type 0} → Ghosts C → Held C → Records → Type 0
+LeavesThese g held records = HasCleanDisk (state g held) → (trees : Trees) → (state g held).may_leave trees → IsAtRest records trees
+
+-- the rows of the records after one change more, to which no acceptance was told: a command, or another schedule or key identifier
+abbrev pub IsOneMore : (Identity → List ℕ → List ℕ → Type 0) → Identity → Records → Trees → Type 0
+IsOneMore signs identity records trees =
+    ((now : ℕ) × (command : Command) × IsDone signs identity records now command trees)
+    ⊎ (((steps : List (ℕ × ℕ)) × IsAtRest (with_schedule records steps) trees)
+    ⊎ ((octets : List ℕ) × IsAtRest (with_key_identifier records octets) trees))
+
+-- where a stop after a call, or in the middle of it, leaves a register, its rows are those of these records, or of one change more
+abbrev pub LeavesTold : {C : Type 0} → Ghosts C → (Identity → List ℕ → List ℕ → Type 0) → Held C → Identity → Records → Type 0
+LeavesTold g signs held identity records =
+    HasCleanDisk (state g held) → (trees : Trees) → (state g held).may_leave trees → AreARegisters trees
+    → IsAtRest records trees ⊎ IsOneMore signs identity records trees

@@ -7,11 +7,13 @@ use Rattle.reg_calls.specs.Leads.{Leads}
 use Rattle.reg_calls.specs.Signatories.{Signatory}
 use Rattle.reg_calls.specs.Steps.{Signs}
 use Rattle.reg_core.specs.Records.{Records}
+use Rattle.reg_office.specs.AtRest.{LeavesTold}
 use Rattle.reg_office.specs.Stands.{Stands}
 
--- the records stand in a store for those who sign
+-- the records stand in a store for those who sign, and a stop leaves them, or one change more
 abbrev pub StandsFor : {C : Type 0} → Ghosts C → Signs → Held C × Signatory → Signatory → Records → Type 0
-StandsFor g signs office who records = (office.1 ≡ who) × Stands g signs office.0 who.crls records
+StandsFor g signs office who records =
+    (office.1 ≡ who) × Stands g signs office.0 who.crls records × LeavesTold g signs office.0 who.crls records
 
 -- a call of an office over a store leads from its store, and who signs for it, to those after it by a step of the records
 abbrev pub LeadsOver : {C : Type 0} → Ghosts C → Signs → (Signatory → Records → Records → Type 0) → Held C × Signatory → Held C × Signatory → Type 0

@@ -3,13 +3,17 @@ use Rattle.std.specs.Prelude.{◌≡◌, ◌⊎◌, ℕ, List, [], ◌∷◌, �
 use Rattle.sqlite_trees.specs.declared.store.Store.{Ghosts}
 use Rattle.sqlite.specs.Held.{Held, state}
 use Rattle.sqlite.specs.State.{IsLive, Survives}
+use Rattle.reg_core.specs.Changes.{with_schedule}
 use Rattle.reg_core.specs.Records.{Records}
 use Rattle.reg_core.specs.declared.command.Command.{Command}
 use Rattle.reg_core.specs.declared.command.Reply.{Reply}
 use Rattle.reg_core.specs.declared.refusal.Fault.{Fault}
 use Rattle.reg_crl.specs.Signing.{Identity, signed_by}
+use Rattle.reg_der.specs.Issuers.{with_key_identifier}
 use Rattle.reg_laws.specs.Run.{Run}
 use Rattle.reg_store.specs.OpenedAgain.{IsOpenedAgain}
+use Rattle.reg_tables.specs.Kept.{ShowsKept}
+use Rattle.reg_tables.specs.Schema.{register_schema}
 use Rattle.reg_office.specs.AtRest.{AreRunByOne, Does, HaveNoReply}
 use Rattle.reg_office.specs.Stands.{Stands, CameTo}
 
@@ -56,3 +60,18 @@ OpensAfterAPrefix {C = C} g signs =
     → Stands g signs old identity records → IsTrue (state g old).is_open → IsLive (state g old)
     → AreRunByOne g signs identity old commands outcomes new → IsOpenedAgain g new again
     → ∥ StandsPartlyRun g signs again identity records commands outcomes ∥₁
+
+-- ---- over any calls
+
+-- the records stand after one change more, to which no acceptance was told: a command, or another schedule or key identifier
+abbrev pub StandsOneMore : {C : Type 0} → Ghosts C → (Identity → List ℕ → List ℕ → Type 0) → Held C → Identity → Records → Type 0
+StandsOneMore g signs held identity records =
+    ((now : ℕ) × (command : Command) × StandsDone g signs held identity records now command)
+    ⊎ (((steps : List (ℕ × ℕ)) × ShowsKept g held (with_schedule records steps))
+    ⊎ ((octets : List ℕ) × ShowsKept g held (with_key_identifier records octets)))
+
+-- the machine stops, and a register is opened again from what the disk left: these records stand, or those after one change more
+abbrev pub OpensTold : {C : Type 0} → Ghosts C → (Identity → List ℕ → List ℕ → Type 0) → Held C → Identity → Records → Type 0
+OpensTold {C = C} g signs held identity records =
+    (again : Held C) → IsOpenedAgain g held again → (state g again).committed.schema ≡ register_schema
+    → ∥ Stands g signs again identity records ⊎ StandsOneMore g signs again identity records ∥₁

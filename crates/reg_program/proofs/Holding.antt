@@ -1,7 +1,9 @@
 -- A register that was opened, over the look-ups that find who signs.
-use Rattle.std.proofs.Common.{◌≡◌, ◌≤◌, ◌⊎◌, ℕ, List, inl, inr, sym, subst, arith}
+use Rattle.std.proofs.Common.{◌≡◌, ◌≤◌, ◌⊎◌, ℕ, List, inl, inr, sym, subst}
 use Rattle.sqlite.specs.Held.{Held, state}
-use Rattle.sqlite.specs.State.{HasCleanDisk}
+use Rattle.sqlite.specs.State.{HasCleanDisk, Survives}
+use Rattle.sqlite.proofs.StateLemmas.{survives_then}
+use Rattle.sqlite_trees.specs.Tree.{Trees}
 use Rattle.sqlite_trees.specs.View.{doubt}
 use Rattle.sqlite_trees.specs.declared.store.Store.{Ghosts}
 use Rattle.reg_core.specs.Records.{Records}
@@ -12,7 +14,7 @@ use Rattle.reg_office.proofs.Composing.{after_look}
 use Rattle.reg_tables.proofs.Staying.{kept_shows}
 use Rattle.reg_tables.specs.Kept.{ShowsKept}
 use Rattle.reg_tables.specs.Shows.{Shows}
-use Rattle.reg_tables.specs.Stays.{IsRegister, Stays}
+use Rattle.reg_tables.specs.Stays.{IsRegister, LeavesNothing, Stays}
 use Rattle.reg_program.specs.Files.{Showed}
 
 -- The connection, the store that was opened, that store after the look-ups, and what the office holds.
@@ -31,12 +33,13 @@ module _ {C : Type 0} (g : Ghosts C) (connection opened after held : Held C) (is
       let P : Held C → Type 0 = λ v. HasCleanDisk (state g v) in
       subst P is clean
 
-  -- a disk is clean no longer than before
-  pub forgets : doubt (state g connection).is_clean ≤ doubt (state g opened).is_clean
-      → doubt (state g opened).is_clean ≤ doubt (state g after).is_clean → doubt (state g connection).is_clean ≤ doubt (state g held).is_clean
-  forgets first second =
-      let P : Held C → Type 0 = λ v. doubt (state g connection).is_clean ≤ doubt (state g v).is_clean in
-      subst P (sym is) (omega (arith, first, second))
+  -- a stop leaves what the opening left
+  pub survives : (Made : Trees → Type 0) → Survives (state g connection) (state g opened) Made
+      → LeavesNothing (state g opened) (state g after) → Survives (state g connection) (state g held) Made
+  survives Made first second =
+      let P : Held C → Type 0 = λ v. Survives (state g connection) (state g v) Made in
+      subst P (sym is)
+      (survives_then (state g connection) (state g opened) (state g after) Made (λ _. ⊥) Made (λ clean trees made. made) (λ clean trees none. absurd none) first second)
 
   -- what the connection showed, the store shows
   pub shown : (records : Records) → (ShowsKept g connection records → ShowsKept g opened records)

@@ -1,4 +1,5 @@
 pub mod Clean
+pub mod Clocking
 pub mod Holding
 pub mod Looking
 pub mod Misfitting

@@ -1,6 +1,6 @@
 -- Registers in files, as they were opened and made.
-use Rattle.std.proofs.Common.{◌≡◌, ◌≤◌, ℕ, List, Result, Ok, Err, IfOk, IfErr, MatchResult, sym, subst}
-use Rattle.sqlite.specs.Files.{file_state, over_files}
+use Rattle.std.proofs.Common.{◌≡◌, ◌≤◌, ℕ, List, Result, Ok, Err, IfOk, IfErr, MatchResult, refl, sym, subst}
+use Rattle.sqlite.specs.Files.{file_state, over_files, IsOpened}
 use Rattle.sqlite.specs.Held.{Held, state}
 use Rattle.sqlite.specs.State.{HasCleanDisk}
 use Rattle.sqlite_disk.specs.declared.Disk as disk
@@ -16,6 +16,8 @@ use Rattle.reg_migration.specs.declared.version.Earlier.{Earlier}
 use Rattle.reg_crl.specs.Signing.{Identity}
 use Rattle.reg_endings.specs.declared.failure.Failure.{Failure}
 use Rattle.reg_office.proofs.Following.{created_sound_for}
+use Rattle.reg_office.specs.AtRest.{LeavesThese, LeavesTold}
+use Rattle.reg_office.specs.Calls.{StandsFor}
 use Rattle.reg_office.specs.Stands.{Stands}
 use Rattle.reg_tables.specs.Kept.{ShowsKept}
 use Rattle.reg_tables.specs.Schema.{no_schema}
@@ -83,6 +85,12 @@ module _ {D : Type 0} {g : disk.Ghosts D} {O L : Type 0} (store : O → Held (Fi
       (records : Records) → Showed over_files connection records → HasCleanDisk (file_state (store office))
       → EmbedsOwn records.issuer.key (who office).answers
 
+  -- what a stop leaves of a database that was whole
+  abbrev pub LeavesShown : O → Type 0
+  LeavesShown office =
+      (HasCleanDisk (file_state connection) → IsOpened connection)
+      → (records : Records) → ShowsKept over_files connection records → LeavesThese over_files (store office) records
+
   -- one that was opened
   pub settled_opened : (who : O → Signatory) (signing : OfCrls)
       → IfOk found (λ office. (records : Records) → ShowsKept over_files connection records → ShowsKept over_files (store office) records)
@@ -91,9 +99,10 @@ module _ {D : Type 0} {g : disk.Ghosts D} {O L : Type 0} (store : O → Held (Fi
       → IfOk found (Tells who signing)
       → IfOk found (FollowsLatest who)
       → IfOk found (EmbedsIssuers who)
+      → IfOk found LeavesShown
       → IfOk result (λ office. IsOpenedFrom signing (store office) (who office))
-  settled_opened who signing kept migrated clean told follows embeds =
-      settled_ok (λ office. IsOpenedFrom signing (store office) (who office)) failure found result (go found kept migrated clean told follows embeds) settled
+  settled_opened who signing kept migrated clean told follows embeds leaves =
+      settled_ok (λ office. IsOpenedFrom signing (store office) (who office)) failure found result (go found kept migrated clean told follows embeds leaves) settled
     where
       go : (r : Result O L)
           → IfOk r (λ office. (records : Records) → ShowsKept over_files connection records → ShowsKept over_files (store office) records)
@@ -102,8 +111,9 @@ module _ {D : Type 0} {g : disk.Ghosts D} {O L : Type 0} (store : O → Held (Fi
           → IfOk r (Tells who signing)
           → IfOk r (FollowsLatest who)
           → IfOk r (EmbedsIssuers who)
+          → IfOk r LeavesShown
           → IfOk r (λ office. IsOpenedFrom signing (store office) (who office))
-      go (Ok office) kept migrated clean told follows embeds = record {
+      go (Ok office) kept migrated clean told follows embeds leaves = record {
         connection = connection;
         connects = connects;
         kept = kept;
@@ -112,8 +122,9 @@ module _ {D : Type 0} {g : disk.Ghosts D} {O L : Type 0} (store : O → Held (Fi
         told = told;
         follows = follows;
         embeds = embeds;
+        leaves = leaves connects.whole;
       }
-      go (Err left) kept migrated clean told follows embeds = tt
+      go (Err left) kept migrated clean told follows embeds leaves = tt
 
   -- one that was made
   pub settled_made :
@@ -128,6 +139,21 @@ module _ {D : Type 0} {g : disk.Ghosts D} {O L : Type 0} (store : O → Held (Fi
           → IfOk r (λ office. IsMadeFrom (store office))
       go (Ok office) empty clean = record { connection = connection; connects = connects; empty = empty; clean = clean }
       go (Err left) empty clean = tt
+
+  -- and the records that stand in it
+  pub settled_stands : (signs : Identity → List ℕ → List ℕ → Type 0) (who : O → Signatory) (records : Records)
+      → IfOk found (λ office. Stands over_files signs (store office) (who office).crls records)
+      → IfOk found (λ office. (HasCleanDisk (file_state connection) → IsOpened connection) → LeavesTold over_files signs (store office) (who office).crls records)
+      → IfOk result (λ office. (those : Signatory) × StandsFor over_files signs (store office, who office) those records)
+  settled_stands signs who records stands leaves =
+      settled_ok (λ office. (those : Signatory) × StandsFor over_files signs (store office, who office) those records) failure found result (go found stands leaves) settled
+    where
+      go : (r : Result O L)
+          → IfOk r (λ office. Stands over_files signs (store office) (who office).crls records)
+          → IfOk r (λ office. (HasCleanDisk (file_state connection) → IsOpened connection) → LeavesTold over_files signs (store office) (who office).crls records)
+          → IfOk r (λ office. (those : Signatory) × StandsFor over_files signs (store office, who office) those records)
+      go (Ok office) stands leaves = (who office, (refl, stands, leaves connects.whole))
+      go (Err left) stands leaves = tt
 
 -- what was opened for signatures of CRLs, and is answered in as it was told
 module _ {D : Type 0} {g : disk.Ghosts D} {O : Type 0} (store : O → Held (FileStore D g)) (who : O → Signatory) (signing : Signing) where

@@ -25,6 +25,7 @@ use Rattle.reg_verdict.specs.Presumed.{IsPresumed}
 use Rattle.reg_verdict.specs.Verdicts.{CountedBy, DeniedBy, IsSound, TellsOf}
 use Rattle.reg_findings.specs.declared.verdict.Verdict.{Verdict}
 use Rattle.reg_calls.specs.Signatories.{Signatory}
+use Rattle.reg_office.specs.AtRest.{LeavesThese}
 use Rattle.reg_jobs.specs.Signing.{EmbedsOwn, Follows, IsAnswering, IsSigning, OfCrls, Signing, answerer_told, crls_told}
 
 -- tables showed the records of a register, of this program's version or of an older one
@@ -40,7 +41,7 @@ module _ {D : Type 0} {g : disk.Ghosts D} where
   -- What a register holds was opened by a connection, and shows the records that the connection showed, also those that its
   -- tables showed as ones of an older version. Who signs CRLs is as it was told, or as the latest CRL tells where nothing will be
   -- signed; over the issuer's key, and under the algorithm of the latest CRL, or behind one that the digest sealed. A certificate that
-  -- stands with OCSP answers by the issuer's key is of that key.
+  -- stands with OCSP answers by the issuer's key is of that key. A stop leaves the records that the connection showed.
   pub record IsOpenedFrom (signing : OfCrls) (register : Held (FileStore D g)) (who : Signatory) : Type 0 where
     pub connection : Held (FileStore D g)
     pub connects : IsConnection connection
@@ -53,6 +54,7 @@ module _ {D : Type 0} {g : disk.Ghosts D} where
         → Follows records who.crls.algorithm
     pub embeds : (records : Records) → Showed over_files connection records → HasCleanDisk (file_state register)
         → EmbedsOwn records.issuer.key who.answers
+    pub leaves : (records : Records) → ShowsKept over_files connection records → LeavesThese over_files register records
 
   -- the same for all that it was opened for: OCSP requests are answered in it as it was told
   pub record IsOpenedFor (signing : Signing) (register : Held (FileStore D g)) (who : Signatory) : Type 0 where

@@ -1,3 +1,5 @@
 pub mod Audited
+pub mod Clocks
 pub mod Files
 pub mod Misfits
+pub mod Stops

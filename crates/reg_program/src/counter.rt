@@ -1,13 +1,11 @@
 //! The counter: a Unix socket of the machine.
 
-use mio::net::{UnixListener, UnixStream as Caller};
-use std::fs::Permissions;
-use std::io::ErrorKind;
-use std::os::unix::fs::{FileTypeExt, PermissionsExt};
-use std::{fs, io};
+ghost use Rattle.std.specs.Prelude.{OnOk};
 
-/// The mode of a socket that its owner alone may connect to.
-const OWNER_ALONE: u32 = 0o600;
+use crate::system::{OWNER_ALONE, System};
+use mio::net::UnixListener;
+use std::io;
+use std::io::ErrorKind;
 
 /// The most connections that can wait before the mode is set.
 const MOST_WAITING: usize = 4_096;
@@ -19,29 +17,38 @@ const MOST_WAITING: usize = 4_096;
 ///
 /// What the system says: `AddrInUse` where somebody listens there, `AlreadyExists` where something else than a socket lies
 /// there.
-pub(crate) fn lay_socket(rt: &HostRuntime, path: &str) -> io::Result<UnixListener> {
-    let listener = match UnixListener::bind(rt, path) {
-        Err(error) if error.kind() == ErrorKind::AddrInUse => {
-            remove_stale(rt, path)?;
-            UnixListener::bind(rt, path)?
-        }
-        Err(error) => return Err(error),
-        Ok(listener) => listener,
-    };
-    fs::set_permissions(rt, path, Permissions::from_mode(OWNER_ALONE))?;
+pub(crate) fn lay_socket<S: System>(system: &S, path: &str) -> io::Result<UnixListener>
+    ensures { OnOk result (S.laid path.now × S.moded path.now 384) }
+{
+    let listener = lay_anew(system, path)?;
+    system.set_mode(path, OWNER_ALONE)?;
     drop_waiting(&listener);
     Ok(listener)
 }
 
+/// Listens at a new socket at a path, also where one lies at which nobody listens any more.
+fn lay_anew<S: System>(system: &S, path: &str) -> io::Result<UnixListener>
+    ensures { OnOk result (S.laid path.now) }
+{
+    match system.lay(path) {
+        Ok(listener) => Ok(listener),
+        Err(error) if error.kind() == ErrorKind::AddrInUse => {
+            remove_stale(system, path)?;
+            system.lay(path)
+        }
+        Err(error) => Err(error),
+    }
+}
+
 /// Removes a socket at which nobody listens.
-fn remove_stale(rt: &HostRuntime, path: &str) -> io::Result<()> {
-    if !fs::symlink_metadata(rt, path)?.file_type().is_socket() {
+fn remove_stale<S: System>(system: &S, path: &str) -> io::Result<()> {
+    if !system.is_socket(path)? {
         return Err(io::Error::from(ErrorKind::AlreadyExists));
     }
-    match Caller::connect(rt, path) {
-        Err(error) if error.kind() == ErrorKind::ConnectionRefused => fs::remove_file(rt, path),
-        _ => Err(io::Error::from(ErrorKind::AddrInUse)),
+    if !system.is_deserted(path) {
+        return Err(io::Error::from(ErrorKind::AddrInUse));
     }
+    system.remove(path)
 }
 
 /// Lets those go who connected before the mode was set.

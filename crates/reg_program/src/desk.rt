@@ -1,14 +1,14 @@
 //! The program as the machine runs it: its words, standard input and output, and the exit status.
 
-use crate::front::open_log;
 use crate::input::Input;
 use crate::machine::Machine;
 use crate::performing::perform_untold;
 use crate::progress::{Counted, tell_opening};
+use crate::system::open_log;
 use reg_causes::{Cause, of_io};
 use reg_core::Fault;
 use reg_endings::Failure;
-use reg_jobs::{Causes, explain, tell};
+use reg_jobs::{Causes, Place, explain, tell};
 use reg_words::{Order, Usage, no_text, read_words};
 use std::cell::Cell;
 use std::io::{ErrorKind, IsTerminal};
@@ -89,34 +89,64 @@ fn tell_fault(rt: &HostRuntime, order: &Order<'_>, fault: Fault, cause: Option<C
 
 /// Does the job of an order over standard input, or the file of its rows, and standard output.
 fn do_order(rt: &HostRuntime, order: &Order<'_>) -> u8 {
+    match Input::of(rt, &order.job) {
+        Ok(mut input) => do_reading(rt, order, &mut input),
+        Err(error) => tell_fault(rt, order, Fault::Read, of_io(error.kind())),
+    }
+}
+
+/// The same over what it reads.
+fn do_reading(rt: &HostRuntime, order: &Order<'_>, input: &mut Input) -> u8 {
     let noted = Cell::new(None);
-    let front = Machine::of(*rt, &noted)
-        .with_log(order.has_log)
-        .with_log_file(log_path(order))
-        .with_watch(rt.stderr().is_terminal());
-    let mut place = front;
     let reason = Cell::new(None);
     let causes = Causes {
         noted: &noted,
         reason: &reason,
         is_told: order.is_explained,
     };
-    let mut input = match Input::of(rt, &order.job) {
-        Ok(input) => input,
-        Err(error) => return tell_fault(rt, order, Fault::Read, of_io(error.kind())),
-    };
-    let mut output = Counted::of(rt, &order.job, &noted);
+    do_noting(rt, order, &causes, input)
+}
+
+/// The same, where causes are noted, over the machine's files.
+fn do_noting(rt: &HostRuntime, order: &Order<'_>, causes: &Causes<'_>, input: &mut Input) -> u8 {
+    let mut place = machine_for(rt, order, causes.noted);
+    do_at(rt, order, causes, &mut place, input)
+}
+
+/// The same over any place. What is said of the machine's files is told apart from what is said of its front, since both at one call are
+/// more than one check can do.
+fn do_at<P: Place>(
+    rt: &HostRuntime,
+    order: &Order<'_>,
+    causes: &Causes<'_>,
+    place: &mut P,
+    input: &mut Input,
+) -> u8 {
+    let front = machine_for(rt, order, causes.noted);
+    let mut output = Counted::of(rt, &order.job, causes.noted);
     let mut errors = rt.stderr();
     perform_untold(
         rt,
-        &causes,
+        causes,
         &front,
-        &mut place,
+        place,
         &order.job,
-        &mut input,
+        input,
         &mut output,
         &mut errors,
     )
+}
+
+/// The machine for an order, which notes causes here.
+fn machine_for<'n>(
+    rt: &HostRuntime,
+    order: &'n Order<'_>,
+    noted: &'n Cell<Option<Cause>>,
+) -> Machine<'n> {
+    Machine::of(*rt, noted)
+        .with_log(order.has_log)
+        .with_log_file(log_path(order))
+        .with_watch(rt.stderr().is_terminal())
 }
 
 /// What is said where the words could not be had: one is no text, or there is no memory for them.

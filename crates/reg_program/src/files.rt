@@ -4,7 +4,7 @@ ghost use Rattle.std.specs.Prelude.{◌≡◌, ◌≤◌, ◌⊎◌, None, Some,
 ghost use Rattle.sqlite.specs.Files.{file_state, over_files, IsOpened};
 ghost use Rattle.sqlite.specs.Held.{state, IsNew};
 ghost use Rattle.sqlite.specs.Start.{FindsIn};
-ghost use Rattle.sqlite.specs.State.{HasCleanDisk};
+ghost use Rattle.sqlite.specs.State.{HasCleanDisk, IsLive, Opens};
 ghost use Rattle.sqlite_trees.specs.View.{doubt};
 ghost use Rattle.reg_core.specs.Records.{Records, no_records};
 ghost use Rattle.reg_core.specs.Sound.{SoundRows};
@@ -16,12 +16,14 @@ ghost use Rattle.reg_files.specs.Reading.{IsUnread};
 ghost use Rattle.reg_program.specs.Files.{IsAudited, IsAuditOf, IsOpenedFor, IsOpenedFrom, IsMadeFrom, Says, Showed};
 ghost use Rattle.reg_jobs.specs.Signing.{EmbedsOwn, Follows, IsSigning, crls_told};
 ghost use Rattle.reg_calls.specs.Leads.{Leads};
+ghost use Rattle.reg_calls.specs.Signatories.{Signatory};
 ghost use Rattle.reg_lists.specs.Pages.{Pages};
 ghost use Rattle.reg_jobs.specs.Identifiers.{Identifies};
 ghost use Rattle.reg_jobs.specs.Schedules.{Reschedules};
 ghost use Rattle.reg_jobs.specs.Reasons.{HasLongest};
 ghost use Rattle.reg_jobs.specs.Watched.{HasOpen, HasStanding};
 ghost use Rattle.reg_office.specs.Answering.{answers_by, failures_of, signatory_of};
+ghost use Rattle.reg_office.specs.AtRest.{LeavesThese, LeavesTold};
 ghost use Rattle.reg_office.specs.Calls.{StandsFor};
 ghost use Rattle.reg_office.specs.Stands.{Stands};
 ghost use Rattle.reg_tables.specs.Kept.{ShowsKept};
@@ -302,8 +304,7 @@ fn make_register(
     policy: Policy,
 ) -> Result<FileOffice, Failure>
     ensures ok { IfOk result (λ register. IsMadeFrom register.store) }
-    ensures stands { IfOk result (λ register. Stands over_files ⟦<FileSigner as Signer>⟧.signs register.store
-        (⟦<FileSigner as Signer>⟧.identity register.signer) (no_records issuer policy)) }
+    ensures stands { IfOk result (λ register. (who : Signatory) × ⟦<FileOffice as Keeper>⟧.stands who register (no_records issuer policy)) }
     ensures err { IfErr result IsMaking }
 {
     let connection = open_noted(machine, path)?;
@@ -583,6 +584,8 @@ fn made_over<C: Alter, S: Signer + Drop>(
 ) -> Result<Office<C, S>, (Failure, Connection<C>)>
     requires { connection.in_transaction ≡ false }
     ensures stands { IfOk result (λ office. Stands C.Store S.signs office.store (S.identity office.signer) (no_records issuer policy)) }
+    ensures leaves { IfOk result (λ office. (HasCleanDisk (state C.Store connection) → Opens (state C.Store connection) × IsLive (state C.Store connection))
+        → LeavesTold C.Store S.signs office.store (S.identity office.signer) (no_records issuer policy)) }
     ensures empty { IfOk result (λ office. connection.schema ≡ no_schema) }
     ensures clean { IfOk result (λ office. doubt (state C.Store connection).is_clean ≤ doubt (state C.Store office.store).is_clean) }
     ensures err { IfErr result (λ left. IsMaking left.0) }
@@ -613,6 +616,8 @@ fn office_over<C: Alter>(
         → HasCleanDisk (state C.Store office.store) → Follows records (⟦<FileSigner as Signer>⟧.identity office.signer).algorithm) }
     ensures embeds { IfOk result (λ office. (records : Records) → Showed C.Store connection records → HasCleanDisk (state C.Store office.store)
         → EmbedsOwn records.issuer.key (answers_by ⟦<FileSigner as Signer>⟧.identity (⟦<FileSigner as Signer>⟧.identity office.signer) office.responder)) }
+    ensures leaves { IfOk result (λ office. (HasCleanDisk (state C.Store connection) → Opens (state C.Store connection) × IsLive (state C.Store connection))
+        → (records : Records) → ShowsKept C.Store connection records → LeavesThese C.Store office.store records) }
     ensures responder { IfOk result (λ office. office.responder ≡ responder) }
     ensures err { IfErr result (λ left. IsOpening left.0) }
 {

@@ -1,28 +1,22 @@
 //! The machine as it is met from outside: its clock, its ports and its sockets.
 
-ghost use Rattle.std.specs.Prelude.{◌≡◌, IfErr, IfOk, IfSome};
+ghost use Rattle.std.specs.Prelude.{◌≡◌, IfErr, IfOk};
 ghost use Rattle.reg_files.specs.Reading.{IsUnread};
 ghost use Rattle.reg_jobs.specs.Failing.{IsOfStore};
+ghost use Rattle.reg_program.specs.Clocks.{StoodAt, Tells, TellsAt};
 
 use crate::counter::lay_socket;
 use crate::machine::Machine;
+use crate::system::System;
 use mio::net::{TcpListener, UnixListener, UnixStream as UnwaitingStream};
 use reg_causes::{Cause, of_io, of_port};
 use reg_core::{Fault, Moment};
-use reg_files::{Unread, copy_open};
+use reg_files::Unread;
 use reg_jobs::{Front, Uncopied};
-use reg_signer::ask_unwaiting;
-use reg_wire::write_whole;
-use std::fs::{File, OpenOptions};
 use std::io;
 use std::io::ErrorKind;
-use std::net::SocketAddr;
-use std::os::unix::fs::OpenOptionsExt;
 use std::os::unix::net::UnixStream;
-use std::time::{Clock, Duration};
-
-/// The mode of a log that its owner alone may read and write.
-const OWNER_ALONE: u32 = 0o600;
+use std::time::Duration;
 
 /// The last moment, 9999-12-31T23:59:59Z.
 const LAST_SECOND: u64 = 253_402_300_799;
@@ -32,21 +26,33 @@ const TOO_MANY_HERE: i32 = 24;
 
 const TOO_MANY: i32 = 23;
 
-/// The machine. What its clock says and what listens at its ports, no clause can say.
-impl<'a> Front for Machine<'a> {
-    ghost told = { λ now. Unit {0} };
+/// The machine over any system: what is told, bound, laid, asked and said is what the system was told. A moment that is recalled is one at
+/// which the clock stood, or one before it.
+impl<'a, S: System> Front for Machine<'a, S> {
+    ghost use Rattle.std.specs.Prelude.{ℕ, List};
+    ghost use Rattle.reg_program.specs.Clocks.{StoodAt};
 
-    ghost bound = { λ address port. Unit {0} };
+    ghost told = { StoodAt S.read };
 
-    ghost laid = { λ path. Unit {0} };
+    ghost bound = { S.bound };
 
-    ghost met = { λ path. Unit {0} };
+    ghost laid = { λ path. S.laid path × S.moded path 384 };
 
-    ghost warned = { λ line. Unit {0} };
+    ghost met = { S.met };
 
-    ghost copied = { λ path bytes. Unit {0} };
+    ghost asked = { S.asked };
 
-    fn moment(&self) -> Result<Moment, Fault> {
+    ghost reached = { S.met };
+
+    ghost warned = { S.said };
+
+    ghost copied = { λ path bytes. (other : List ℕ) × S.copied path other bytes };
+
+    fn moment(&self) -> Result<Moment, Fault>
+        ensures told { IfOk result (StoodAt S.read) }
+        ensures exact { IfOk result (Tells S.read) }
+        ensures err { IfErr result (λ fault. fault ≡ Fault.Read) }
+    {
         match moment_of(&self.rt) {
             Ok(now) => Ok(now),
             Err(fault) => {
@@ -56,9 +62,7 @@ impl<'a> Front for Machine<'a> {
         }
     }
 
-    fn recall(&self, moment: Moment) -> Option<Moment>
-        ensures { IfSome result (λ recalled. Unit {0} × (recalled ≡ moment)) }
-    {
+    fn recall(&self, moment: Moment) -> Option<Moment> {
         match moment_of(&self.rt) {
             Ok(now) if moment <= now => Some(moment),
             _ => None,
@@ -66,7 +70,7 @@ impl<'a> Front for Machine<'a> {
     }
 
     fn listen(&self, address: [u8; 4], port: u16) -> io::Result<TcpListener> {
-        match TcpListener::bind(&self.rt, SocketAddr::from((address, port))) {
+        match self.rt.bind(address, port) {
             Ok(listener) => Ok(listener),
             Err(error) => {
                 self.note(of_port(error.kind()));
@@ -86,7 +90,7 @@ impl<'a> Front for Machine<'a> {
     }
 
     fn meet(&self, path: &str) -> io::Result<UnixStream> {
-        match UnixStream::connect(&self.rt, path) {
+        match self.rt.meet(path) {
             Ok(stream) => Ok(stream),
             Err(error) => {
                 self.note(of_io(error.kind()));
@@ -96,7 +100,7 @@ impl<'a> Front for Machine<'a> {
     }
 
     fn ask(&self, path: &str, message: &[u8]) -> io::Result<UnwaitingStream> {
-        match ask_unwaiting(&self.rt, path, message) {
+        match self.rt.ask(path, message) {
             Ok(link) => Ok(link),
             // One that is let go gives it room.
             Err(error) if is_crowded(&error) => Err(io::Error::from(ErrorKind::WouldBlock)),
@@ -105,7 +109,7 @@ impl<'a> Front for Machine<'a> {
     }
 
     fn reach(&self, path: &str) -> io::Result<UnwaitingStream> {
-        match UnwaitingStream::connect(&self.rt, path) {
+        match self.rt.reach(path) {
             Ok(link) => Ok(link),
             Err(error) if is_crowded(&error) => Err(io::Error::from(ErrorKind::WouldBlock)),
             Err(error) => Err(error),
@@ -117,7 +121,7 @@ impl<'a> Front for Machine<'a> {
     }
 
     fn micros(&self) -> u64 {
-        match self.rt.monotonic() {
+        match self.rt.passed() {
             Ok(passed) => micros_of(passed),
             Err(_) => 0,
         }
@@ -125,24 +129,19 @@ impl<'a> Front for Machine<'a> {
 
     fn log(&self, line: &[u8]) {
         if self.has_log {
-            say(&self.rt, line);
+            self.rt.say(line);
         }
         if let Some(path) = self.log_file {
-            append(&self.rt, path, line);
+            self.rt.append(path, line);
         }
     }
 
-    fn warn(&self, line: &[u8])
-        ensures { Unit {0} }
-    {
-        say(&self.rt, line);
+    fn warn(&self, line: &[u8]) {
+        self.rt.say(line);
     }
 
-    fn copy(&self, path: &str, to: &str) -> Result<u64, Uncopied>
-        ensures ok { IfOk result (λ bytes. Unit {0}) }
-        ensures err { IfErr result (λ why. IsOfStore why.fault) }
-    {
-        match copy_open(&self.rt, path, to) {
+    fn copy(&self, path: &str, to: &str) -> Result<u64, Uncopied> {
+        match self.rt.copy(path, to) {
             Ok(bytes) => Ok(bytes),
             Err(why) => Err(uncopied_by(why)),
         }
@@ -166,31 +165,6 @@ fn uncopied_by(why: Unread) -> Uncopied
     }
 }
 
-/// Writes to standard error. What can't be written disturbs nobody.
-fn say(rt: &HostRuntime, text: &[u8]) {
-    let mut errors = rt.stderr();
-    let _ = write_whole(&mut errors, text);
-}
-
-/// The file of a log, opened so that what is written goes behind what is there. Where none is, it is made, and its owner alone may read
-/// and write it.
-///
-/// # Errors
-/// What the system says where it can't be opened.
-pub(crate) fn open_log(rt: &HostRuntime, path: &str) -> io::Result<File> {
-    let mut options = OpenOptions::new();
-    options.append(true).create(true).mode(OWNER_ALONE);
-    options.open(rt, path)
-}
-
-/// Writes a line behind a file, which is opened for it alone: so a file that was renamed is followed by a new one at its path. What
-/// can't be written disturbs nobody.
-fn append(rt: &HostRuntime, path: &str, line: &[u8]) {
-    if let Ok(mut file) = open_log(rt, path) {
-        let _ = write_whole(&mut file, line);
-    }
-}
-
 /// A time in microseconds.
 fn micros_of(passed: Duration) -> u64 {
     passed
@@ -199,24 +173,38 @@ fn micros_of(passed: Duration) -> u64 {
         .saturating_add(u64::from(passed.subsec_micros()))
 }
 
-/// The moment of the machine's clock: moment 0 where it is set before 1970, the last moment where it is past that.
+/// The moment of a system's clock: moment 0 where it is set before 1970, the last moment where it is past that.
 ///
 /// # Errors
 /// `Read` where the clock can't be read.
-fn moment_of(clock: &impl Clock) -> Result<Moment, Fault>
-    ensures { IfErr result (λ fault. fault ≡ Fault.Read) }
+fn moment_of<S: System>(system: &S) -> Result<Moment, Fault>
+    ensures ok { IfOk result (Tells S.read) }
+    ensures err { IfErr result (λ fault. fault ≡ Fault.Read) }
 {
-    match clock.since_1970() {
-        Ok(time) => Ok(moment_at(time.as_secs())),
-        // The clock stands before 1970.
-        Err(error) if error.kind() == ErrorKind::InvalidData => Ok(Moment::EPOCH),
+    match system.seconds() {
+        Ok(seconds) => Ok(moment_at(seconds)),
         Err(_) => Err(Fault::Read),
     }
 }
 
 /// The moment so many seconds after 1970 began, or the last one.
-fn moment_at(seconds: u64) -> Moment {
-    Moment::of_secs(seconds.min(LAST_SECOND)).unwrap_or(Moment::EPOCH)
+fn moment_at(seconds: u64) -> Moment
+    ensures { TellsAt seconds result }
+{
+    match Moment::of_secs(seconds) {
+        Some(moment) => moment,
+        None => last_moment(),
+    }
+}
+
+/// The last moment.
+fn last_moment() -> Moment
+    ensures { result ≡ 253402300799 }
+{
+    match Moment::of_secs(LAST_SECOND) {
+        Some(moment) => moment,
+        None => Moment::EPOCH,
+    }
 }
 
 /// Whether no socket could be had since too many files are open.

@@ -2,6 +2,7 @@
 
 ghost use Rattle.reg_office.specs.Following.{IsSeal};
 ghost use Rattle.reg_program.specs.Audited.{FoundSound, StandsOnceAudited};
+ghost use Rattle.reg_program.specs.Stops.{LeavesWhatWasTold};
 ghost use Rattle.reg_signer.specs.Both.{SignsBoth, digest};
 
 use reg_crl::Signer;
@@ -24,4 +25,20 @@ pub fn a_register_that_was_found_sound_stands<A: Disk, D: Disk, S: Signer>()
 /// [`reg_office::laws::a_key_follows_the_digest`].
 pub fn the_digest_is_a_seal<D: Device>()
     ensures { IsSeal (SignsBoth D.answers) digest }
+{}
+
+/// A stop at any moment of a job leaves the records that its replies tell, or these after one change more.
+///
+/// [`perform`](crate::perform) ends with the register that a job opened and closed (`Visits` in `Ends`): what it did leads from records
+/// that stand, by all that was replied on the output, at the counter or to peers, to others that stand. In a register of this program's
+/// version that is opened, the sound records stand that its file showed (`begins`). And whatever stands, wherever the job has come to, is
+/// there after a stop (`leaves`): where a register is opened again from what the disk left, those records stand, or they after one
+/// command more that is accepted, or with one schedule or key identifier more that is set, to which no acceptance was told. So nothing
+/// that was told as accepted is lost. Which one is not said here: of commands run one after another it is, in
+/// [`reg_office::laws::a_register_opened_after_a_stop_stands_after_a_prefix`].
+///
+/// A job that a stop cuts is one over a disk that refuses each call from that moment on, and what it tells after it is told nobody. A reply
+/// is written only after its call.
+pub fn a_stop_leaves_what_was_told<D: Disk, S: Signer>()
+    ensures { LeavesWhatWasTold D.Disk S.signs }
 {}

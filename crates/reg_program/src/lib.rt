@@ -13,6 +13,7 @@ mod memory;
 mod performing;
 mod progress;
 mod signing;
+mod system;
 mod watching;
 
 pub use desk::run_desk;
@@ -20,3 +21,4 @@ pub use files::FileOffice;
 pub use machine::Machine;
 pub use performing::perform;
 pub use signing::FileSigner;
+pub use system::System;

@@ -7,10 +7,10 @@ use reg_core::Fault;
 use reg_files::Unopened;
 use std::cell::Cell;
 
-/// The machine: its files, its clock, its ports and its sockets. The cause of the call that failed last is noted.
+/// The machine: its files, its clock, its ports and its sockets, by a system. The cause of the call that failed last is noted.
 #[derive(Clone, Copy)]
-pub struct Machine<'a> {
-    pub(crate) rt: HostRuntime,
+pub struct Machine<'a, S = HostRuntime> {
+    pub(crate) rt: S,
     noted: &'a Cell<Option<Cause>>,
     pub(crate) has_log: bool,
     pub(crate) log_file: Option<&'a str>,
@@ -61,7 +61,9 @@ impl<'a> Machine<'a> {
             is_watched,
         }
     }
+}
 
+impl<'a, S> Machine<'a, S> {
     /// Notes a cause.
     pub(crate) fn note(&self, cause: Option<Cause>) {
         self.noted.set(cause);

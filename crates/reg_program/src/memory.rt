@@ -6,6 +6,7 @@ ghost use Rattle.reg_faces.specs.Faces.{Lines};
 ghost use Rattle.reg_lines.specs.Script.{ScriptEnds};
 ghost use Rattle.reg_jobs.specs.Ends.{ScriptInMemory};
 ghost use Rattle.sqlite.specs.Steps.{over_memory};
+ghost use Rattle.reg_office.specs.AtRest.{LeavesTold};
 ghost use Rattle.reg_office.specs.Stands.{Stands};
 ghost use Rattle.reg_office.specs.declared.responder.Responder.TheVariants.{Issuer as ByIssuer};
 ghost use Rattle.reg_jobs.specs.Digest.{digest_alone, digests};
@@ -55,6 +56,7 @@ fn run_in_memory<R: Read, W: Write>(
     office: &mut MemoryOffice,
 ) -> Result<(), Fault>
     requires stands { Stands over_memory digests office.old.store digest sample_records }
+    requires leaves { LeavesTold over_memory digests office.old.store digest sample_records }
     requires alone { office.old.responder ≡ ByIssuer None }
     ensures { (after : Records) × ScriptEnds (Lines digests digest_alone) R.remaining W.contents sample_records after
         reader.old reader.new writer.old writer.new result }
@@ -68,6 +70,7 @@ fn run_in_memory<R: Read, W: Write>(
 /// `Memory`, and `Store` where the database fails.
 fn office_in_memory(alloc: Global) -> Result<MemoryOffice, Failure>
     ensures ok { IfOk result (λ office. Stands over_memory digests office.store digest sample_records) }
+    ensures leaves { IfOk result (λ office. LeavesTold over_memory digests office.store digest sample_records) }
     ensures alone { IfOk result (λ office. office.responder ≡ ByIssuer None) }
     ensures err { IfErr result IsMaking }
 {

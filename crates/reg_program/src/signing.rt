@@ -1,6 +1,6 @@
 //! Who signs for a register in a file.
 
-ghost use Rattle.std.specs.Prelude.{◌≡◌, ◌↔◌, ◌⊎◌, List, ℕ, Some, None, option_map, IsTrue, IfOk, IfErr, MatchOption};
+ghost use Rattle.std.specs.Prelude.{◌≡◌, ◌↔◌, ◌⊎◌, List, ℕ, Some, None, option_map, string_bytes, IsTrue, IfOk, IfErr, IfSome, MatchOption};
 ghost use Rattle.sqlite.specs.Held.{state};
 ghost use Rattle.sqlite.specs.State.{HasCleanDisk};
 ghost use Rattle.reg_core.specs.Crls.{latest};
@@ -52,6 +52,8 @@ pub(crate) fn signer_for<C: Alter>(
         → HasCleanDisk (state C.Store store.new) → Follows records (⟦<FileSigner as Signer>⟧.identity signer).algorithm) }
     ensures embeds { IfOk result (λ signer. (records : Records) → Shows C.Store store.old records → HasCleanDisk (state C.Store store.new)
         → (crls : Identity) → EmbedsOwn records.issuer.key (answers_by ⟦<FileSigner as Signer>⟧.identity crls responder.now)) }
+    ensures asks { IfSome signing.entry (λ told. IfOk result (λ signer.
+        option_map (λ it. string_bytes it.device.device.path) signer.key ≡ option_map (λ holder. holder.socket) told.now)) }
     ensures looked { Looked C.Store store.old store.new }
     ensures faults { IfErr result IsOpening }
 {
@@ -113,6 +115,7 @@ fn signer_after<C: Alter>(
         → (other : List ℕ) → IsCrlUnder crl other → MayFollow (⟦<FileSigner as Signer>⟧.identity signer).algorithm other) }
     ensures embeds { IfOk result (λ signer. (records : Records) → Shows C.Store store.old records → HasCleanDisk (state C.Store store.new)
         → (crls : Identity) → EmbedsOwn records.issuer.key (answers_by ⟦<FileSigner as Signer>⟧.identity crls responder.now)) }
+    ensures asks { IfOk result (λ signer. option_map (λ it. string_bytes it.device.device.path) signer.key ≡ option_map (λ holder. holder.socket) told.now) }
     ensures looked { Looked C.Store store.old store.new }
     ensures faults { IfErr result IsOpening }
 {
@@ -137,6 +140,7 @@ fn signer_told(
     key: &[u8],
 ) -> Result<FileSigner, Failure>
     ensures ok { IfOk result (λ signer. ⟦<FileSigner as Signer>⟧.identity signer ≡ identity_told told.now key.now) }
+    ensures asks { IfOk result (λ signer. option_map (λ it. string_bytes it.device.device.path) signer.key ≡ option_map (λ holder. holder.socket) told.now) }
     ensures faults { IfErr result IsOpening }
 {
     let Some(holder) = told else {
@@ -160,6 +164,7 @@ pub(crate) fn key_signer(
     key: &[u8],
 ) -> Result<FileSigner, Failure>
     ensures ok { IfOk result (λ signer. ⟦<FileSigner as Signer>⟧.identity signer ≡ identity_of algorithm key.now) }
+    ensures asks { IfOk result (λ signer. option_map (λ it. string_bytes it.device.device.path) signer.key ≡ Some socket.now) }
     ensures faults { IfErr result (λ why. (why ≡ Failure.Fault Fault.Memory) ⊎ (why ≡ Failure.BadSigner)) }
 {
     let (Ok(path), Ok(key)) = (

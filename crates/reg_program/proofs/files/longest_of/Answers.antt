@@ -7,7 +7,7 @@ use Rattle.reg_program.proofs.files.longest_of.Goals as goal
 
 pub returns : goal.returns
 returns g c =
-    answer_leads g.C.Store g.S.Signer.signs _ _ _ _ c.longest_in.ensures.looked.survives.clean refl
+    answer_leads g.C.Store g.S.Signer.signs _ _ _ _ c.longest_in.ensures.looked.survives refl
     (λ records. HasLongest records c.args.order c.args.not_before c.longest_in.result)
     (λ records stands clean. (
       c.longest_in.ensures.found records (kept_shows g.C.Store _ records stands.shown) clean,

@@ -9,7 +9,7 @@ use Rattle.reg_program.proofs.files.message_in.Goals as goal
 pub returns : goal.returns
 returns g c =
     let same = ap g.S.Signer.identity c.crl_message.ensures.same_signer in
-    let moved = answer_leads g.C.Store g.S.Signer.signs _ _ _ _ c.crl_message.ensures.looked.survives.clean
+    let moved = answer_leads g.C.Store g.S.Signer.signs _ _ _ _ c.crl_message.ensures.looked.survives
     (same_signatory g.S.Signer.identity _ _ _ _ same c.crl_message.ensures.same_responder)
     (λ records. Unit {0})
     (λ records stands clean.

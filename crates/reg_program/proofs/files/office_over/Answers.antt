@@ -1,5 +1,7 @@
 use Rattle.std.proofs.Common.{sym}
-use Rattle.reg_program.proofs.Holding.{forgets, holds, shown, was_clean}
+use Rattle.reg_office.proofs.Leaving.{leaves_opened}
+use Rattle.reg_store.proofs.Resting.{opened_rests}
+use Rattle.reg_program.proofs.Holding.{holds, shown, survives, was_clean}
 use Rattle.reg_program.proofs.Opened.{embeds_as}
 use Rattle.reg_program.proofs.files.office_over.Goals as goal
 
@@ -29,8 +31,18 @@ returns-in-Ok-signer_for-clause-follows g c records showed sound clean crl is ot
 
 pub returns-in-Ok-signer_for-clause-clean : goal.returns-in-Ok-signer_for-clause-clean
 returns-in-Ok-signer_for-clause-clean g c =
-    forgets g.C.Store c.args.connection c.in-Ok.store c.signer_for.new.store c.answering.result.store c.answering.ensures.store
-    c.in-Ok.ensures.survives.clean c.signer_for.ensures.looked.survives.clean
+    (survives g.C.Store c.args.connection c.in-Ok.store c.signer_for.new.store c.answering.result.store c.answering.ensures.store
+    _ c.in-Ok.ensures.survives c.signer_for.ensures.looked.survives).clean
+
+pub returns-in-Ok-signer_for-clause-leaves : goal.returns-in-Ok-signer_for-clause-leaves
+returns-in-Ok-signer_for-clause-leaves g c whole records kept =
+    leaves_opened g.C.Store c.args.connection c.answering.result.store records _
+    (λ held trees is_open leaves. g.met.C.Store.settled held.store trees is_open leaves)
+    whole
+    (survives g.C.Store c.args.connection c.in-Ok.store c.signer_for.new.store c.answering.result.store c.answering.ensures.store
+    _ c.in-Ok.ensures.survives c.signer_for.ensures.looked.survives)
+    kept
+    (λ trees clean up shows. opened_rests g.C.Store c.args.connection records trees clean up shows)
 
 pub returns-in-Ok-signer_for-clause-embeds : goal.returns-in-Ok-signer_for-clause-embeds
 returns-in-Ok-signer_for-clause-embeds g c records showed clean =

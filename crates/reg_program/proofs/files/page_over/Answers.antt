@@ -6,7 +6,7 @@ use Rattle.reg_program.proofs.files.page_over.Goals as goal
 
 pub returns : goal.returns
 returns g c =
-    answer_leads g.C.Store g.S.Signer.signs _ _ _ _ c.page.ensures.looked.survives.clean
+    answer_leads g.C.Store g.S.Signer.signs _ _ _ _ c.page.ensures.looked.survives
     (same_signatory g.S.Signer.identity _ _ _ _ (ap g.S.Signer.identity c.page.ensures.same_signer) c.page.ensures.same_responder)
     (λ records. IsPagedSoundly records c.args.now c.args.most c.args.from c.page.result)
     c.page.ensures.page

@@ -7,7 +7,7 @@ use Rattle.reg_program.proofs.files.standing_of.Goals as goal
 
 pub returns-clause-moves : goal.returns-clause-moves
 returns-clause-moves g c =
-    answer_leads g.C.Store g.S.Signer.signs _ _ _ _ c.standing_in.ensures.looked.survives.clean refl
+    answer_leads g.C.Store g.S.Signer.signs _ _ _ _ c.standing_in.ensures.looked.survives refl
     (λ records. HasStanding records c.standing_in.result)
     (λ records stands clean. (
       c.standing_in.ensures.found records (kept_shows g.C.Store _ records stands.shown) clean,

@@ -10,5 +10,5 @@ pub returns : goal.returns
 returns g c =
     let clean = always_clean c.run_script.new.office.store in
     let alone = ap (signatory_of (λ seal. digest) digest) c.requires.alone in
-    let (after, ran, stands) = c.run_script.ensures.ends.1 digest_alone sample_records (alone, c.requires.stands) clean in
+    let (after, ran, stands) = c.run_script.ensures.ends.1 digest_alone sample_records (alone, c.requires.stands, c.requires.leaves) clean in
     (after, ran)

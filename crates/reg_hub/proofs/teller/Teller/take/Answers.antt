@@ -1,5 +1,6 @@
-use Rattle.std.proofs.Common.{refl, ◌∙◌}
-use Rattle.reg_hub.proofs.Gatherings.{gathers_none, gathers_then, goes_on}
+use Rattle.std.proofs.Common.{refl, sym, subst, inr, ℕ, List, ◌∷◌, [], ◌∙◌}
+use Rattle.reg_wire.specs.Mark.{HasNoMark}
+use Rattle.reg_hub.proofs.Gatherings.{gathers_none, gathers_then, goes_on, not_due}
 use Rattle.reg_hub.proofs.teller.Teller.take.Goals as goal
 
 pub loop-init : goal.loop-init
@@ -11,6 +12,10 @@ returns-then-not-take_once-clause-gathers g c =
 
 pub returns-then-not-take_once-clause-ended : goal.returns-then-not-take_once-clause-ended
 returns-then-not-take_once-clause-ended g c was = absurd (goes_on _ c.in_default.ensures.goes_on (c.loop.invariant.1 was).1)
+
+pub returns-then-not-take_once-clause-whole : goal.returns-then-not-take_once-clause-whole
+returns-then-not-take_once-clause-whole g c =
+    inr (subst (λ (bytes : List ℕ). HasNoMark (10 ∷ []) bytes) (sym (c.if-not-take_once.ensures.waits refl)) (not_due _ _ c.in_default.ensures.whole))
 
 pub loop-preserved : goal.loop-preserved
 loop-preserved g c = (

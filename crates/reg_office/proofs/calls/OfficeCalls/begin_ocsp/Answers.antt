@@ -9,7 +9,7 @@ use Rattle.reg_office.proofs.calls.OfficeCalls.begin_ocsp.Goals as goal
 pub returns : goal.returns
 returns g c =
     let identity = g.S.Signer.identity in
-    begin_leads g.C.Store g.S.Signer.signs _ _ _ _ c.begin_ocsp.ensures.looked.survives.clean
+    begin_leads g.C.Store g.S.Signer.signs _ _ _ _ c.begin_ocsp.ensures.looked.survives
     (same_answers g.S.Signer.identity _ _ _ _ c.begin_ocsp.ensures.same_identity c.begin_ocsp.ensures.same_responder)
     c.args.self.now c.begin_ocsp.new.self
     (λ s now request given t. LeadsOver g.C.Store g.S.Signer.signs (λ who before after. Ocsps g.S.Signer.signs who before now request given after)
