@@ -126,6 +126,7 @@ def the_last_descriptor_lets_nobody_go(t):
         each.settimeout(10)
         each.sendall(COUNTS[9:])
         t.same(parted(read_all(each))[0], 200, f"peer {at + 1} of as many as there are descriptors for")
+        each.close()
     until(lambda: files() == before, "the end of all")
     held = []
     for at in range(3):
