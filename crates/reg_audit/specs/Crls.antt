@@ -5,9 +5,10 @@ use Rattle.reg_core.specs.Crls.{CertList}
 use Rattle.reg_core.specs.Issuer.{Issuer}
 use Rattle.reg_core.specs.Records.{Records}
 use Rattle.reg_core.specs.Sound.{NumberedFrom}
+use Rattle.reg_core.specs.Sequence.{◌>>=◌}
 use Rattle.reg_core.specs.declared.rows.Entry.{Entry}
 use Rattle.reg_crl.specs.Crl.{tbs_of, certificate_list}
-use Rattle.reg_der.specs.Reading.{value_at, ◌>>=◌}
+use Rattle.reg_der.specs.Reading.{value_at}
 use Rattle.reg_tables.specs.Kept.{listed_of}
 use Rattle.reg_audit.specs.Beside.{listed_in}
 use Rattle.reg_audit.specs.declared.beside.Listed.{Listed}

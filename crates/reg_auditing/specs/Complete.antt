@@ -18,15 +18,11 @@ use Rattle.reg_core.specs.declared.rows.SubscriberRow.{SubscriberRow}
 use Rattle.reg_tables.specs.Columns.{Columns, Standing, Listed, stored_standing, stored_counts, stored_listed}
 use Rattle.reg_tables.specs.Kept.{Kept}
 use Rattle.reg_tables.specs.Rows.{number, version, counted_rows, stored_office, stored_subscriber, stored_order, stored_certificate, stored_request, stored_revocation, stored_crl, stored_step}
-use Rattle.reg_tables.specs.Schema.{register_schema}
+use Rattle.reg_tables.specs.Schema.{register_schema, table_trees}
 use Rattle.reg_tables.specs.Shows.{AreBoth}
 use Rattle.reg_auditing.specs.Cells.{HasCells}
 use Rattle.reg_auditing.specs.Stored.{IsSomeCrl}
 use Rattle.reg_auditing.specs.declared.complete.Terms.{Terms as Found}
-
--- the trees of a register's tables, in the order of its schema
-abbrev pub table_trees : List ℕ
-table_trees = 0 ∷ 1 ∷ 3 ∷ 4 ∷ 7 ∷ 8 ∷ 11 ∷ 12 ∷ 14 ∷ 15 ∷ 17 ∷ []
 
 -- What holds of a register's tables whatever rows stand in them: they have its schema and obey it, and the rowids of each table
 -- rise. Beside that each row of listed has all its columns: one may lack the last, which can be NULL, and no query tells that

@@ -3,9 +3,10 @@ use Rattle.std.specs.Prelude.{ℕ, ◌≤◌, List, Option, Some, length, IsSome
 use Rattle.reg_core.specs.Crls.{CertList, cert_list}
 use Rattle.reg_core.specs.Records.{Records, crl_in}
 use Rattle.reg_core.specs.Sound.{KeysDiffer}
+use Rattle.reg_core.specs.Sequence.{◌>>=◌}
 use Rattle.reg_core.specs.declared.rows.CrlRow.{CrlRow}
 use Rattle.reg_crl.specs.Signing.{IsAlgorithm}
-use Rattle.reg_der.specs.Reading.{Parts, value_at, ◌>>=◌}
+use Rattle.reg_der.specs.Reading.{Parts, value_at}
 use Rattle.reg_audit.specs.Crls.{IsCrlOf}
 use Rattle.reg_audit.specs.declared.beside.Listed.{Listed}
 

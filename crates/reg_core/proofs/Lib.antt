@@ -4,6 +4,7 @@ pub mod Decided
 pub mod Digits
 pub mod Integers
 pub mod Labels
+pub mod MomentTexts
 pub mod Moments
 pub mod Numbers
 pub mod Padded

@@ -1,5 +1,6 @@
 -- The civil date and time that a moment shows in UTC, and the texts of a moment.
-use Rattle.std.specs.Prelude.{◌≡◌, ℕ, zero, suc, ◌+◌, ◌-◌, ◌/◌, ◌%◌, ◌<◌, ◌≤◌, Bool, true, false, not, ◌&&◌, ◌||◌, ◌==◌, nat_lt, if◌then◌else◌, List, [], ◌∷◌, ◌++◌, codes, slice_index, pos}
+use Rattle.std.specs.Prelude.{◌≡◌, ℕ, zero, suc, ◌+◌, ◌-◌, ◌/◌, ◌%◌, ◌<◌, ◌≤◌, Bool, true, false, not, ◌&&◌, ◌||◌, ◌==◌, nat_lt, if◌then◌else◌, List, [], ◌∷◌, ◌++◌, codes, slice_index, pos, bytes_eq, cond, Option, Some, None}
+use Rattle.std.specs.Option.{option_or}
 use Rattle.jiff_core.specs.Calendar.{IsCivilDate, days_from_civil}
 use Rattle.reg_core.specs.declared.calendar.Civil.{Civil}
 
@@ -110,6 +111,15 @@ generalized_time c =
 -- the register's own text of a moment
 unfoldable pub moment_text : ℕ → List ℕ
 moment_text seconds = date_time (shown_of seconds)
+
+-- the first number below a bound that passes a test
+unfoldable pub first_below : (ℕ → Bool) → ℕ → Option ℕ
+first_below test zero = None
+first_below test (suc n) = option_or (first_below test n) (cond (test n) (Some n) None)
+
+-- the moment whose text it is (a moment is below 253402300800)
+unfoldable pub moment_of : List ℕ → Option ℕ
+moment_of text = first_below (λ m. bytes_eq text (moment_text m)) 253402300800
 
 -- the contents of its UTCTime, whose two digits of the year mean 1950 to 2049
 unfoldable pub utc_text : ℕ → List ℕ

@@ -15,6 +15,7 @@ pub mod Policy
 pub mod Queries
 pub mod Records
 pub mod Schedule
+pub mod Sequence
 pub mod Serial
 pub mod Sound
 pub mod Status

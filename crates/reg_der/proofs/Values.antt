@@ -5,8 +5,9 @@ use Rattle.std.proofs.Math.Nat.{mod-eq_of_lt, mod-lt, pow-le-pow_right}
 use Rattle.std.proofs.lemmas.Bool.{cases_lt, ltb-false, le-ltb, lt-ltb, ne_eqb, eqb-false}
 use Rattle.std.proofs.lemmas.List.{take_at, drop_at, take-append-drop, length-append, length-take, get_or-take, get_or_append_left}
 use Rattle.reg_core.specs.Integer.{IsBytes, value, without_zeros}
+use Rattle.reg_core.specs.Sequence.{◌>>=◌}
 use Rattle.reg_der.specs.Der.{fewest, length_octets, tlv, IsTlv, IsLength, IsLongForm, NoTwoPrefixes, LengthIsFewest, ValuesHaveSizes}
-use Rattle.reg_der.specs.Reading.{◌>>=◌, Parts, Takes, TakesValue, ReadsValues, ReadsAgain, long_at, length_at, counted_at, value_at}
+use Rattle.reg_der.specs.Reading.{Parts, Takes, TakesValue, ReadsValues, ReadsAgain, long_at, length_at, counted_at, value_at}
 use Rattle.reg_core.proofs.PublicLaws.{octets_are_below, octets_are_lowest, one_spelling, zeros_count_nothing}
 use Rattle.reg_der.proofs.Octets.{is_bytes-cons, is_bytes-tail, is_bytes-take, is_bytes-append, is_bytes-drop, is_bytes-without_zeros, without_zeros-leads, without_zeros-first, length-without_zeros, same_digits}
 

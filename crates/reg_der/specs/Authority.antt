@@ -4,8 +4,9 @@ use Rattle.std.specs.Int.{bytes_high_first}
 use Rattle.reg_core.specs.Integer.{IsBytes, value}
 use Rattle.reg_core.specs.Issuer as core
 use Rattle.reg_core.specs.Label.{IsLabel}
+use Rattle.reg_core.specs.Sequence.{◌>>=◌}
 use Rattle.reg_der.specs.Der.{IsTlv, tlv}
-use Rattle.reg_der.specs.Reading.{◌>>=◌, Parts, value_at}
+use Rattle.reg_der.specs.Reading.{Parts, value_at}
 use Rattle.reg_der.specs.declared.identifiers.KeyIdentifier.{KeyIdentifier}
 
 -- a Name: one SEQUENCE, and not an empty one (RFC 5280 4.1.2.4), at most 1,024 bytes

@@ -1,11 +1,8 @@
 -- Reading one value from the front of bytes, as a function on lists. What it means is `IsTlv`.
-use Rattle.std.specs.Prelude.{◌≡◌, ℕ, ◌-◌, ◌%◌, ◌^◌, ◌<◌, List, [], ◌∷◌, ◌++◌, length, take, drop, get_or, Option, Some, None, option_and_then, nat_lt, ◌==◌, ◌||◌, if◌then◌else◌}
+use Rattle.std.specs.Prelude.{◌≡◌, ℕ, ◌-◌, ◌%◌, ◌^◌, ◌<◌, List, [], ◌∷◌, ◌++◌, length, take, drop, get_or, Option, Some, None, nat_lt, ◌==◌, ◌||◌, if◌then◌else◌}
 use Rattle.reg_core.specs.Integer.{IsBytes, value}
+use Rattle.reg_core.specs.Sequence.{◌>>=◌}
 use Rattle.reg_der.specs.Der.{tlv, IsTlv}
-
-infixl 10 ◌>>=◌
-abbrev pub ◌>>=◌ : {A B : Type 0} → Option A → (A → Option B) → Option B
-option >>= next = option_and_then next option
 
 -- what a function returned, seen by view, is what reading gives
 abbrev pub Gives : {X Y : Type 0} → (X → Y) → Option X → Option Y → Type 0

@@ -1,5 +1,5 @@
 -- What a request asks: its route, its method, and what its path or body says.
-use Rattle.std.specs.Prelude.{ℕ, Bool, false, ◌&&◌, ◌==◌, nat_le, List, [], ◌∷◌, length, codes, bytes_eq, if◌then◌else◌, Option, Some, None, option_and_then, option_map}
+use Rattle.std.specs.Prelude.{ℕ, Bool, false, ◌==◌, List, [], ◌∷◌, codes, bytes_eq, if◌then◌else◌, Option, Some, None, option_and_then, option_map}
 use Rattle.std.specs.List.{before_first}
 use Rattle.std.specs.Result.{result_ok}
 use Rattle.std.specs.Str.{is_utf8}
@@ -11,6 +11,7 @@ use Rattle.serde_json.specs.Find.{get, as_str}
 use Rattle.serde_json.specs.Read.{read}
 use Rattle.reg_core.specs.Number.{number_of}
 use Rattle.reg_core.specs.Serial.{serial_of}
+use Rattle.reg_lists.specs.Asked.{label_of}
 use Rattle.reg_http.specs.Routes.{Route, ocsp, ocsp_rest, crl, crl_number, status, counts, requests, nowhere, route}
 
 -- what is asked: a refusal of HTTP, another method than the route's, what can't be read, an OCSP request that can't be
@@ -38,10 +39,6 @@ path_of target = before_first (λ b. b == 63) target
 -- the OCSP request in a path: percent-decoded, then base64 (RFC 6960 A.1)
 unfoldable pub decoded : List ℕ → Option (List ℕ)
 decoded text = result_ok (decode_of standard (percent_decode text))
-
--- a text of 1 to 64 bytes
-abbrev pub label_of : List ℕ → Option (List ℕ)
-label_of text = if nat_le 1 (length text) && nat_le (length text) 64 then Some text else None
 
 -- the JSON value of a body that is UTF-8 (RFC 8259 8.1)
 unfoldable pub json_of : List ℕ → Option Data

@@ -4,9 +4,10 @@ ghost use Rattle.std.specs.Prelude.{◌≡◌, ℕ, List, IfOk, Some, codes, opt
 ghost use Rattle.reg_http.specs.Routes.{seen};
 ghost use Rattle.reg_core.specs.Number.{number_of};
 ghost use Rattle.reg_core.specs.Serial.{serial_of};
+ghost use Rattle.reg_lists.specs.Asked.{label_of as label_in};
 ghost use Rattle.serde_json.specs.Errors.{IsMemory};
 ghost use Rattle.serde_json.specs.View.{view};
-ghost use Rattle.reg_http.specs.Asked.{crl_of, status_of, asked as asked_by, asked_at, decoded as decoded_in, is_rooted as is_rooted_text, json_of, label_of as label_in, or_malformed, or_unread, path_of as path_in, request_of, string_at as text_at, wanted as wanted_by, wanted_in as wanted_of};
+ghost use Rattle.reg_http.specs.Asked.{crl_of, status_of, asked as asked_by, asked_at, decoded as decoded_in, is_rooted as is_rooted_text, json_of, or_malformed, or_unread, path_of as path_in, request_of, string_at as text_at, wanted as wanted_by, wanted_in as wanted_of};
 ghost use Rattle.reg_http.specs.Parts.{part_asks};
 
 use crate::paths::{Route, find_route};

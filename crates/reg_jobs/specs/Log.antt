@@ -1,8 +1,8 @@
 -- The lines of the log: one line an exchange, whatever came.
-use Rattle.std.specs.Prelude.{ℕ, Bool, false, cond, ◌||◌, List, [], ◌∷◌, ◌++◌, ◌+◌, ◌/◌, ◌%◌, ◌==◌, nat_lt, Some, None, take, length, codes, decimal}
+use Rattle.std.specs.Prelude.{ℕ, Bool, false, cond, ◌||◌, List, [], ◌∷◌, ◌++◌, ◌+◌, ◌/◌, ◌%◌, ◌==◌, nat_lt, take, length, codes, decimal}
 use Rattle.std.specs.List.{flat_map, position}
-use Rattle.std.specs.declared.option.Option.{Option}
 use Rattle.reg_core.specs.Calendar.{moment_text}
+use Rattle.reg_watch.specs.Exchanges.{before}
 
 -- whether a byte is told as it is: ASCII from the space to the tilde (RFC 20 2), but the quotation mark and the backslash
 abbrev pub is_plain : ℕ → Bool
@@ -19,11 +19,6 @@ told_byte byte = cond (is_plain byte) (byte ∷ []) (92 ∷ 120 ∷ digit (byte 
 -- whether a byte ends a line: CR or LF
 abbrev pub ends_line : ℕ → Bool
 ends_line byte = (byte == 13) || (byte == 10)
-
--- what stands before this place, or all of a text where there is none
-abbrev pub before : Option ℕ → List ℕ → List ℕ
-before (Some end) text = take end text
-before None text = text
 
 -- the first line of a text
 abbrev pub first_line : List ℕ → List ℕ

@@ -2,9 +2,10 @@
 use Rattle.std.proofs.Common.{◌≡◌, ◌⊎◌, ℕ, Bool, true, false, cond, List, [], ◌∷◌, Option, Some, None, option_map, refl, sym, ap, ◌∙◌, subst, inl, inr}
 use Rattle.std.specs.Prelude.{bytes_eq, codes, IfNone, IfSome, option_and_then}
 use Rattle.std.proofs.lemmas.Slice.Eq.{bytes_eq-Decides}
-use Rattle.reg_core.specs.Calendar.{moment_text}
+use Rattle.reg_core.specs.Calendar.{moment_of, moment_text}
 use Rattle.reg_core.specs.Number.{IsNumberText, number_of}
 use Rattle.reg_core.specs.Serial.{IsSerialText, serial_of}
+use Rattle.reg_core.proofs.MomentTexts.{moment_of-some, moment_of-text}
 use Rattle.reg_core.proofs.PublicLaws.{numbers_are_read, serials_are_read}
 use Rattle.reg_core.specs.declared.command.Command.{Command}
 use Rattle.reg_core.specs.declared.command.Command.TheVariants.{Subscriber, Order, Register, Request, Decline, Revoke, Crl}
@@ -12,9 +13,9 @@ use Rattle.reg_core.specs.declared.command.Query.{Query}
 use Rattle.reg_core.specs.declared.command.Query.TheVariants.{Status, Counts, Listing, Overdue, NextCrl}
 use Rattle.reg_lines.specs.Fields.{fields_of}
 use Rattle.reg_lines.specs.Meaning.{Meaning, tells, asks, asks_ocsp, BeginsAt, IsUnreadable, LineMeans, OneMeaning, SpellsCommand, SpellsOcsp, SpellsQuery, SpellsRegister, meaning_of}
-use Rattle.reg_lines.specs.Reading.{alone, asked_by, decline_of, four, hex_of, label_of, listing_of, moment_of, ocsp_of, one, order_of, register_by, register_of, request_of, revoke_of, revoking_by, said_by, said_of, status_of, subscriber_of, two}
+use Rattle.reg_lines.specs.Reading.{alone, asked_by, decline_of, four, hex_of, label_of, listing_of, ocsp_of, one, order_of, register_by, register_of, request_of, revoke_of, revoking_by, said_by, said_of, status_of, subscriber_of, two}
 use Rattle.reg_lines.specs.declared.line.Line.{Line}
-use Rattle.reg_lines.proofs.Readings.{hex_of-is, hex_of-some, label_of-is, label_of-some, moment_of-some, moment_of-text}
+use Rattle.reg_lines.proofs.Readings.{hex_of-is, hex_of-some, label_of-is, label_of-some}
 
 -- ---- steps that may fail
 

@@ -3,9 +3,10 @@
 ghost use Rattle.std.specs.Prelude.{◌≡◌, ◌<◌, IfNone, IfSome, IsTrue, ◌↔◌, Some, None, option_map, length, cond};
 ghost use Rattle.std.specs.List.{AllPass};
 ghost use Rattle.hex.specs.Hex.{is_hex_digit};
+ghost use Rattle.reg_core.specs.Calendar.{moment_of};
 ghost use Rattle.reg_lines.specs.Fields.{fields_of};
 ghost use Rattle.reg_lines.specs.Meaning.{Meaning, IsUnreadable, LineMeans, OneMeaning, meaning_of, bytes_of, tells, asks, asks_ocsp};
-ghost use Rattle.reg_lines.specs.Reading.{moment_of, label_of, subscriber_of, order_of, register_by, register_of, request_of, decline_of, revoke_of, status_of, listing_of, hex_of, ocsp_of, alone, asked_by, revoking_by, said_by, said_of};
+ghost use Rattle.reg_lines.specs.Reading.{label_of, subscriber_of, order_of, register_by, register_of, request_of, decline_of, revoke_of, status_of, listing_of, hex_of, ocsp_of, alone, asked_by, revoking_by, said_by, said_of};
 
 use crate::fields::{Fields, four, one, two};
 use reg_core::{Command, Label, Moment, Query, Serial, read_number};

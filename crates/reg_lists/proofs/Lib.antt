@@ -1,4 +1,3 @@
-pub mod Moments
 pub mod Numbers
 pub mod Orders
 pub mod Pieces

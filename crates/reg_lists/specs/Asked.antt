@@ -1,21 +1,11 @@
 -- What is asked of a list: a page, by the word of the list and what is told beside it.
-use Rattle.std.specs.Prelude.{ℕ, zero, suc, ◌==◌, Bool, ◌&&◌, ◌||◌, List, [], ◌∷◌, length, bytes_eq, codes, cond, min, nat_le, nat_lt, if◌then◌else◌, Option, Some, None, is_some, option_map, option_and_then}
+use Rattle.std.specs.Prelude.{ℕ, ◌==◌, ◌&&◌, ◌||◌, List, [], ◌∷◌, length, bytes_eq, codes, cond, min, nat_le, nat_lt, if◌then◌else◌, Option, Some, None, is_some, option_map, option_and_then}
 use Rattle.std.specs.List.{before_first, after_first, position_or_len}
-use Rattle.std.specs.Option.{option_or}
-use Rattle.reg_core.specs.Calendar.{moment_text}
+use Rattle.reg_core.specs.Calendar.{moment_of}
 use Rattle.reg_core.specs.Number.{number_of}
 use Rattle.reg_lists.specs.Cursors.{cursor_named, cursor_past}
 use Rattle.reg_lists.specs.declared.asked.Params.{Params}
 use Rattle.reg_lists.specs.declared.cursor.Cursor.{Cursor}
-
--- the first number below a bound that passes a test
-unfoldable pub first_below : (ℕ → Bool) → ℕ → Option ℕ
-first_below test zero = None
-first_below test (suc n) = option_or (first_below test n) (cond (test n) (Some n) None)
-
--- the moment whose text it is (a moment is below 253402300800)
-unfoldable pub moment_of : List ℕ → Option ℕ
-moment_of text = first_below (λ m. bytes_eq text (moment_text m)) 253402300800
 
 -- a text of 1 to 64 bytes
 abbrev pub label_of : List ℕ → Option (List ℕ)

@@ -2,7 +2,8 @@
 
 ghost use Rattle.std.specs.Prelude.{◌≡◌, ◌≤◌, ◌<◌, ◌+◌, ◌==◌, drop, length};
 ghost use Rattle.std.specs.List.{position, position_or_len};
-ghost use Rattle.reg_lists.specs.Asked.{at_most, cursor_at, label_of, moment_of, page_asked, params_of, with_after, with_before, with_limit, with_piece, with_value};
+ghost use Rattle.reg_core.specs.Calendar.{moment_of};
+ghost use Rattle.reg_lists.specs.Asked.{at_most, cursor_at, label_of, page_asked, params_of, with_after, with_before, with_limit, with_piece, with_value};
 
 use crate::cursor::Cursor;
 use reg_core::{Label, Moment, read_number};

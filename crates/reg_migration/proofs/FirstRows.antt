@@ -24,12 +24,12 @@ use Rattle.reg_core.specs.Records.{Records}
 use Rattle.reg_core.specs.Schedule.{greatest_of, one_step}
 use Rattle.reg_tables.specs.Columns.{stored_counts, office_days}
 use Rattle.reg_tables.specs.Rows.{number, stored_office}
-use Rattle.reg_tables.specs.Schema.{register_schema, office, kept}
+use Rattle.reg_tables.specs.Schema.{register_schema, office, kept, table_trees}
 use Rattle.reg_tables.specs.Shows.{AreRows, AreColumns, AreBoth}
 use Rattle.reg_tables.specs.Stays.{Moves}
 use Rattle.reg_tables.proofs.Queries.{passes}
 use Rattle.reg_writing.specs.Ran.{Ran}
-use Rattle.reg_writing.specs.Staged.{IsStaged, table_trees}
+use Rattle.reg_writing.specs.Staged.{IsStaged}
 use Rattle.reg_writing.specs.Steps.{turned}
 use Rattle.reg_writing.proofs.Edits.{Turns, made, cast_int, cast_null}
 use Rattle.reg_writing.proofs.Meaning.{updates, inserts, IsWriting}

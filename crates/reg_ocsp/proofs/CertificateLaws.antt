@@ -5,9 +5,10 @@ use Rattle.std.proofs.lemmas.Bool.{eqb-true, le-ltb, ltb-false}
 use Rattle.std.proofs.lemmas.Bool.Decides.{nat_tests}
 use Rattle.std.proofs.lemmas.List.{length-append}
 use Rattle.reg_core.specs.Integer.{IsBytes}
+use Rattle.reg_core.specs.Sequence.{◌>>=◌}
 use Rattle.reg_der.specs.Authority.{IsKey}
 use Rattle.reg_der.specs.Der.{tlv}
-use Rattle.reg_der.specs.Reading.{◌>>=◌, Gives, Takes}
+use Rattle.reg_der.specs.Reading.{Gives, Takes}
 use Rattle.reg_der.specs.Values.{bits_value}
 use Rattle.reg_der.proofs.PublicLaws.{value_size}
 use Rattle.reg_ocsp.specs.declared.certificate.CertifiedKey.{CertifiedKey}

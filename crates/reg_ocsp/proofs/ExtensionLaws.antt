@@ -7,8 +7,9 @@ use Rattle.std.proofs.lemmas.Bool.{eqb-true, eqb-false, ne_eqb, not-false, not_f
 use Rattle.std.proofs.lemmas.List.{length-append}
 use Rattle.std.proofs.lemmas.Slice.Eq.{bytes_eq-Decides}
 use Rattle.reg_core.specs.Integer.{IsBytes}
+use Rattle.reg_core.specs.Sequence.{◌>>=◌}
 use Rattle.reg_der.specs.Der.{tlv}
-use Rattle.reg_der.specs.Reading.{◌>>=◌, Takes}
+use Rattle.reg_der.specs.Reading.{Takes}
 use Rattle.reg_der.proofs.PublicLaws.{value_size}
 use Rattle.reg_ocsp.proofs.Steps.{bind_then, some_is, kept}
 use Rattle.reg_ocsp.specs.Request.{Extension, IsExtension, AreExtensions, nonce_identifier, first_nonce, optional, boolean, critical, extension, extensions}

@@ -3,7 +3,8 @@ use Rattle.std.proofs.Common.{◌≡◌, ℕ, zero, suc, ◌<◌, ◌≤◌, Lis
 use Rattle.std.specs.List.{flat_map, AllByRecursion}
 use Rattle.std.proofs.lemmas.List.{length-append}
 use Rattle.reg_core.specs.Integer.{IsBytes}
-use Rattle.reg_der.specs.Reading.{◌>>=◌, Takes}
+use Rattle.reg_core.specs.Sequence.{◌>>=◌}
+use Rattle.reg_der.specs.Reading.{Takes}
 use Rattle.reg_ocsp.proofs.Steps.{bind_then, some_is}
 use Rattle.reg_ocsp.specs.Reading.{items_at, all_at}
 use Rattle.reg_ocsp.proofs.PartLaws.{bind_same}

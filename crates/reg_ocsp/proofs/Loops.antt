@@ -5,7 +5,7 @@ use Rattle.std.specs.Str.{bytes_eq}
 use Rattle.std.proofs.lemmas.Bool.{ne_eqb}
 use Rattle.std.proofs.lemmas.List.{append-nil, nil_from_length}
 use Rattle.reg_core.specs.Integer.{IsBytes}
-use Rattle.reg_der.specs.Reading.{◌>>=◌}
+use Rattle.reg_core.specs.Sequence.{◌>>=◌}
 use Rattle.reg_ocsp.specs.Request.{Extension, IsExtension, Id, asked_by, single, IsSingle, extension, first_nonce, nonce_identifier}
 use Rattle.reg_ocsp.specs.Reading.{whole_at, all_at, extension_at, nonce_at, single_at, ids_at}
 use Rattle.reg_ocsp.proofs.PartLaws.{whole_takes}

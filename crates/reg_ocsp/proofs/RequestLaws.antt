@@ -7,8 +7,9 @@ use Rattle.std.proofs.lemmas.List.{length-append, length-map}
 use Rattle.std.proofs.lemmas.List.Sums.{sum_by-cons}
 use Rattle.std.proofs.lemmas.Slice.Eq.{bytes_eq-Decides}
 use Rattle.reg_core.specs.Integer.{IsBytes}
+use Rattle.reg_core.specs.Sequence.{◌>>=◌}
 use Rattle.reg_der.specs.Der.{tlv, length_octets}
-use Rattle.reg_der.specs.Reading.{◌>>=◌, Takes}
+use Rattle.reg_der.specs.Reading.{Takes}
 use Rattle.reg_der.proofs.PublicLaws.{value_size}
 use Rattle.reg_ocsp.proofs.Steps.{bind_then, some_is, kept}
 use Rattle.reg_ocsp.specs.Request.{Single, IsSingle, Extension, AreExtensions, Id, asked_by, Form, IsForm, single, version, optional, extensions, to_be_signed, spelling, repeated, nonce_of, first_nonce, IsRequest, OneReading, cert_id, algorithm, raw_length, IsNonce, CanBeAnswered}

@@ -1,6 +1,6 @@
 -- Steps of a reading that did not fail.
 use Rattle.std.proofs.Common.{◌≡◌, Bool, true, false, cond, Option, Some, None, refl}
-use Rattle.reg_der.specs.Reading.{◌>>=◌}
+use Rattle.reg_core.specs.Sequence.{◌>>=◌}
 
 -- the value of a step and of what followed it, for whoever goes on with both
 pub bind_then : {A B P : Type 0} (read : Option A) (next : A → Option B) (y : B) → (read >>= next) ≡ Some y → ((x : A) → read ≡ Some x → next x ≡ Some y → P) → P

@@ -1,9 +1,9 @@
 -- What is read of a certificate (RFC 5280 4.1): its public key. A tree of what stands in one, how a tree is spelled, and how it is read.
 use Rattle.std.specs.Prelude.{◌≡◌, ℕ, ◌≤◌, ◌==◌, ◌&&◌, nat_le, nat_lt, if◌then◌else◌, List, [], ◌∷◌, ◌++◌, length, Option, Some, None}
 use Rattle.reg_core.specs.Integer.{IsBytes}
+use Rattle.reg_core.specs.Sequence.{◌>>=◌}
 use Rattle.reg_der.specs.Authority.{IsKey}
 use Rattle.reg_der.specs.Der.{tlv}
-use Rattle.reg_der.specs.Reading.{◌>>=◌}
 use Rattle.reg_der.specs.Values.{bits_value}
 use Rattle.reg_ocsp.specs.Request.{optional}
 use Rattle.reg_ocsp.specs.Reading.{expect_at, whole_at, optional_at}

@@ -2,7 +2,8 @@
 use Rattle.std.specs.Prelude.{ℕ, zero, suc, Bool, true, false, not, ◌&&◌, ◌||◌, ◌==◌, nat_lt, nat_le, if◌then◌else◌, List, [], ◌∷◌, length, Option, Some, None, unwrap_or}
 use Rattle.std.specs.Str.{bytes_eq}
 use Rattle.reg_der.specs.Der.{tlv}
-use Rattle.reg_der.specs.Reading.{◌>>=◌, Parts, value_at}
+use Rattle.reg_core.specs.Sequence.{◌>>=◌}
+use Rattle.reg_der.specs.Reading.{Parts, value_at}
 use Rattle.reg_ocsp.specs.Request.{Extension, Id, nonce_identifier, first_nonce, repeated}
 
 -- ---- values of a known tag

@@ -19,14 +19,14 @@ use Rattle.reg_core.specs.Issuer.{Issuer}
 use Rattle.reg_core.specs.Policy.{Terms, IsPolicy}
 use Rattle.reg_core.specs.Records.{no_records}
 use Rattle.reg_core.specs.Schedule.{greatest_of}
-use Rattle.reg_tables.specs.Schema.{register_schema, office, kept}
+use Rattle.reg_tables.specs.Schema.{register_schema, office, kept, table_trees}
 use Rattle.reg_tables.specs.Rows.{number, stored_office}
 use Rattle.reg_tables.specs.Columns.{stored_counts, office_days}
 use Rattle.reg_tables.specs.Kept.{Kept}
 use Rattle.reg_tables.specs.Shows.{AreRows, AreColumns, AreBoth}
 use Rattle.reg_tables.specs.Stays.{Moves}
 use Rattle.reg_writing.specs.Ran.{Ran}
-use Rattle.reg_writing.specs.Staged.{IsStaged, table_trees}
+use Rattle.reg_writing.specs.Staged.{IsStaged}
 use Rattle.reg_writing.proofs.Edits.{cast_int, cast_null}
 use Rattle.reg_writing.proofs.Meaning.{inserts, IsWriting}
 use Rattle.reg_writing.proofs.Obeying.{obeys}

@@ -5,10 +5,9 @@ use Rattle.sqlite.specs.Effect.{Database}
 use Rattle.reg_core.specs.Issuer.{Issuer}
 use Rattle.reg_core.specs.Policy.{Terms, IsPolicy}
 use Rattle.reg_core.specs.Schedule.{greatest_of}
-use Rattle.reg_tables.specs.Schema.{register_schema}
+use Rattle.reg_tables.specs.Schema.{register_schema, table_trees}
 use Rattle.reg_tables.specs.Rows.{stored_office}
 use Rattle.reg_tables.specs.Columns.{stored_counts}
-use Rattle.reg_writing.specs.Staged.{table_trees}
 use Rattle.reg_migration.specs.Refilled.{no_counts}
 
 -- the office's row is written, with the greatest days of the schedule and at moment 0, and no other table has a row

@@ -174,3 +174,7 @@ all_tables = created (created (created (created record_tables standing) kept) li
 -- and then the indexes: the schema of a register
 unfoldable pub register_schema : Schema
 register_schema = indexed (indexed all_tables crl crl_at) standing standing_due
+
+-- the trees of its tables, in its order
+abbrev pub table_trees : List ℕ
+table_trees = 0 ∷ 1 ∷ 3 ∷ 4 ∷ 7 ∷ 8 ∷ 11 ∷ 12 ∷ 14 ∷ 15 ∷ 17 ∷ []

@@ -1,4 +1,3 @@
 pub mod DeskLemmas
-pub mod Moments
 pub mod StepTexts
 pub mod TableLemmas

@@ -4,12 +4,14 @@ use Rattle.std.specs.Option.{option_map_or}
 use Rattle.clap.specs.Words.{IsAmong, Row, Text, all_of, fault_of, first_of, matches_of, subcommand_of}
 use Rattle.clap.specs.declared.error.kind.ErrorKind.{ErrorKind}
 use Rattle.clap.specs.declared.error.kind.ErrorKind.TheVariants.{DisplayHelp, DisplayVersion, OutOfMemory}
+use Rattle.reg_core.specs.Calendar.{moment_of}
 use Rattle.reg_core.specs.Number.{number_of}
+use Rattle.reg_core.specs.Sequence.{◌>>=◌}
 use Rattle.reg_lists.specs.Cursors.{cursor_named}
 use Rattle.reg_lists.specs.declared.texts.Form.{Form}
 use Rattle.reg_lists.specs.declared.texts.Form.TheVariants.{Csv, Json}
 use Rattle.reg_words.specs.Desk.{desk_app}
-use Rattle.reg_words.specs.Values.{moment_of, steps_of, within}
+use Rattle.reg_words.specs.Values.{steps_of, within}
 use Rattle.reg_signer.specs.Algorithms.{algorithm_named}
 use Rattle.reg_words.specs.declared.job.Answerer.{Answerer}
 use Rattle.reg_words.specs.declared.job.Answerer.TheVariants.{Issuer, Delegate}
@@ -21,11 +23,6 @@ use Rattle.reg_words.specs.declared.commands.Terms.{Terms}
 use Rattle.reg_words.specs.declared.job.Usage.{Usage}
 use Rattle.reg_words.specs.declared.job.Way.{Way}
 use Rattle.reg_words.specs.declared.job.Usage.TheVariants.{Help, Version, Bad, Memory}
-
--- the second step, if the first gave a value
-infixl 10 ◌>>=◌
-abbrev pub ◌>>=◌ : {A B : Type 0} → Option A → (A → Option B) → Option B
-o >>= f = option_and_then f o
 
 -- the number of an option, or the usual one where the option is left out
 abbrev pub given_or : ℕ → Text → List Row → Option ℕ

@@ -1,18 +1,8 @@
 -- The values that a word of the command line may write.
-use Rattle.std.specs.Prelude.{ℕ, zero, suc, ◌==◌, Bool, ◌&&◌, List, [], ◌∷◌, bytes_eq, nat_le, if◌then◌else◌, cond, Option, Some, None, option_map, option_and_then}
+use Rattle.std.specs.Prelude.{ℕ, ◌==◌, ◌&&◌, List, [], ◌∷◌, nat_le, if◌then◌else◌, Option, Some, None, option_map, option_and_then}
 use Rattle.std.specs.List.{before_first, after_first}
-use Rattle.std.specs.Option.{option_or}
-use Rattle.reg_core.specs.Calendar.{moment_text}
+use Rattle.reg_core.specs.Calendar.{moment_of}
 use Rattle.reg_core.specs.Number.{number_of}
-
--- the first number below a bound that passes a test
-unfoldable pub first_below : (ℕ → Bool) → ℕ → Option ℕ
-first_below test zero = None
-first_below test (suc n) = option_or (first_below test n) (cond (test n) (Some n) None)
-
--- the moment whose text it is (a moment is below 253402300800)
-unfoldable pub moment_of : List ℕ → Option ℕ
-moment_of text = first_below (λ m. bytes_eq text (moment_text m)) 253402300800
 
 -- the number, where it is within the bounds
 abbrev pub within : ℕ → ℕ → ℕ → Option ℕ

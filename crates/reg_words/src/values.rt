@@ -1,10 +1,11 @@
 //! The values that the words of a command give.
 
 ghost use Rattle.std.specs.Prelude.{◌≡◌, ◌≤◌, ◌==◌, IfOk, IfSome, List, ℕ, map, option_and_then, option_map, position};
+ghost use Rattle.reg_core.specs.Calendar.{moment_of};
 ghost use Rattle.reg_core.specs.Number.{number_of};
 ghost use Rattle.clap.specs.Words.{all_of, first_of, found_of, rows_of};
 ghost use Rattle.reg_words.specs.Jobs.{answerer_in, answerer_told, given, given_or, chosen, has_own_key, holder_by_options, holder_chosen, holder_in, is_given, moment_given, number_in, way_in};
-ghost use Rattle.reg_words.specs.Values.{moment_of, step_of, step_told, steps_of, within};
+ghost use Rattle.reg_words.specs.Values.{step_of, step_told, steps_of, within};
 
 use crate::job::{Answerer, KeyHolder, Way};
 use crate::word::{Steps, Word};

@@ -18,10 +18,9 @@ use Rattle.sqlite.specs.Rows.{stamped}
 use Rattle.sqlite.specs.State.{State, mode_of, Writes}
 use Rattle.sqlite.specs.Listing.{understood}
 use Rattle.sqlite.proofs.Callers.{runs_as, statement_of}
-use Rattle.reg_tables.specs.Schema.{register_schema}
+use Rattle.reg_tables.specs.Schema.{register_schema, table_trees}
 use Rattle.reg_tables.proofs.Queries.{passes}
 use Rattle.reg_writing.specs.Ran.{Ran}
-use Rattle.reg_writing.specs.Staged.{table_trees}
 use Rattle.reg_writing.proofs.Meaning.{updates, inserts, deletes, IsWriting}
 use Rattle.reg_writing.proofs.Turning.{IsKeyed}
 use Rattle.reg_writing.proofs.Edits.{made, Turns, Puts, Empties, does_turn, does_put, does_empty}

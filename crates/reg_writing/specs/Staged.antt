@@ -1,14 +1,10 @@
 -- Tables in which the schedule is being written anew.
-use Rattle.std.specs.Prelude.{◌≡◌, ◌<◌, ◌==◌, ℕ, true, false, List, [], ◌∷◌, map}
+use Rattle.std.specs.Prelude.{◌≡◌, ◌<◌, ◌==◌, ℕ, true, false, List, map}
 use Rattle.std.specs.List.{AllByRecursion, list_any}
 use Rattle.sqlite_trees.specs.Tree.{Trees}
 use Rattle.sqlite.specs.Effect.{Database}
-use Rattle.reg_tables.specs.Schema.{register_schema}
+use Rattle.reg_tables.specs.Schema.{register_schema, table_trees}
 use Rattle.reg_tables.specs.Rows.{stored_step}
-
--- the trees of the tables
-abbrev pub table_trees : List ℕ
-table_trees = 0 ∷ 1 ∷ 3 ∷ 4 ∷ 7 ∷ 8 ∷ 11 ∷ 12 ∷ 14 ∷ 15 ∷ 17 ∷ []
 
 -- the table of the schedule has these steps, and each other table has the rows that it had
 pub record IsStaged (base : Trees) (steps : List (ℕ × ℕ)) (db : Database) : Type 0 where

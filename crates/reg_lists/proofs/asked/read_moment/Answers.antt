@@ -1,4 +1,4 @@
-use Rattle.reg_lists.proofs.Moments.{reads_moment}
+use Rattle.reg_core.proofs.MomentTexts.{reads_moment}
 use Rattle.reg_lists.proofs.asked.read_moment.Goals as goal
 
 pub returns : goal.returns

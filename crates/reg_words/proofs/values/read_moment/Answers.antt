@@ -1,4 +1,4 @@
-use Rattle.reg_words.proofs.Moments.{reads_moment}
+use Rattle.reg_core.proofs.MomentTexts.{reads_moment}
 use Rattle.reg_words.proofs.values.read_moment.Goals as goal
 
 pub returns : goal.returns

@@ -1,11 +1,13 @@
--- What `Moment::read` answers is the moment whose text it is.
-use Rattle.std.proofs.Common.{◌≡◌, ℕ, zero, suc, ◌<◌, Bool, true, false, cond, List, Option, Some, None, IfSome, refl, sym, ◌∙◌, subst, arith, inl, inr}
+-- Which moment a text shows: what `Moment::read` answers is `moment_of`, and the text of a moment shows that moment alone.
+use Rattle.std.proofs.Common.{◌≡◌, ℕ, zero, suc, ◌<◌, Bool, true, false, cond, List, Option, Some, None, IfSome, refl, sym, ap, ◌∙◌, subst, arith, inl, inr}
 use Rattle.std.specs.Prelude.{bytes_eq}
 use Rattle.std.specs.Option.{option_or}
 use Rattle.std.proofs.lemmas.Bool.{cases_order, false≢true}
 use Rattle.std.proofs.lemmas.Slice.Eq.{bytes_eq-Decides}
-use Rattle.reg_core.specs.Calendar.{IsMoment, moment_text}
-use Rattle.reg_lists.specs.Asked.{first_below, moment_of}
+use Rattle.reg_core.specs.Calendar.{IsMoment, first_below, moment_of, moment_text}
+use Rattle.reg_core.proofs.Moments.{moment_text_injective}
+
+-- ---- the first number below a bound that passes a test
 
 below_some : (test : ℕ → Bool) (n m : ℕ) → first_below test n ≡ Some m → (m < n) × (test m ≡ true)
 unfolding first_below
@@ -64,3 +66,25 @@ pub reads_moment : (r : Option ℕ) (text : List ℕ) → IfSome r (λ m. IsMome
     → ((m : ℕ) → IsMoment m → text ≡ moment_text m → r ≡ Some m) → r ≡ moment_of text
 unfolding moment_of
 reads_moment r text found only = reads_below 253402300800 r text found only
+
+pub moment_of-some : (text : List ℕ) (m : ℕ) → moment_of text ≡ Some m → IsMoment m × (text ≡ moment_text m)
+unfolding moment_of
+moment_of-some text m e =
+    let at = below_some (is_text_of text) 253402300800 m e in
+    (at.0, (bytes_eq-Decides text (moment_text m)).0 at.1)
+
+text_below : (n m : ℕ) → ((k : ℕ) → k < n → moment_text m ≡ moment_text k → k ≡ m) → m < n → first_below (is_text_of (moment_text m)) n ≡ Some m
+text_below n m one below = by (first_below (is_text_of (moment_text m)) n) refl
+  where
+    by : (o : Option ℕ) → first_below (is_text_of (moment_text m)) n ≡ o → o ≡ Some m
+    by (Some k) is =
+        let at = below_some (is_text_of (moment_text m)) n k is in
+        ap (λ j. Some j) (one k at.0 ((bytes_eq-Decides (moment_text m) (moment_text k)).0 at.1))
+    by None is =
+        let never = below_none (is_text_of (moment_text m)) n is m below in
+        let always = (bytes_eq-Decides (moment_text m) (moment_text m)).1 refl in
+        absurd (false≢true (sym never ∙ always))
+
+pub moment_of-text : (m : ℕ) → IsMoment m → moment_of (moment_text m) ≡ Some m
+unfolding moment_of
+moment_of-text m is = text_below 253402300800 m (λ k below same. sym (moment_text_injective m k is below same)) is
