@@ -1,10 +1,9 @@
 -- The entries of a CRL by what is kept of each revocation, and by the records.
-use Rattle.std.proofs.Common.{◌≡◌, ◌≤◌, ◌<◌, ◌+◌, ◌&&◌, ℕ, Bool, true, false, not, List, [], ◌∷◌, map, find, filter, option_map, refl, sym, ap, subst, ◌∙◌, arith, inl, inr}
+use Rattle.std.proofs.Common.{◌≡◌, ◌≤◌, ◌<◌, ◌+◌, ◌&&◌, ℕ, Bool, false, not, List, [], ◌∷◌, map, find, filter, option_map, refl, sym, ap, subst, ◌∙◌, arith, inl, inr}
 use Rattle.std.specs.Prelude.{nat_le, nat_lt}
 use Rattle.std.specs.List.{list_any}
 use Rattle.std.specs.List.Sorted.{IsPermutation}
 use Rattle.std.proofs.lemmas.Bool.{cases_Bool, le-ltb, ltb-true, ltb-false}
-use Rattle.std.proofs.lemmas.Bool.Decides.{nat_tests}
 use Rattle.std.proofs.lemmas.List.Sorted.{IsPermutation-map, IsPermutation-trans, IsPermutation-sym}
 use Rattle.sqlite_trees.proofs.ListLemmas.{filter-map, map-map, IsPermutation-filter}
 use Rattle.reg_core.specs.Crls.{EntriesAscend, entries, entry_of, content, is_on, is_past_on}
@@ -16,6 +15,8 @@ use Rattle.reg_tables.specs.Columns as column
 use Rattle.reg_tables.specs.Kept.{listed_of}
 use Rattle.reg_tables.proofs.AscendLemmas.{serial_of, ascending_same, ascending_sorted}
 use Rattle.reg_tables.proofs.Sorting.{Rises, sorted_same}
+use Rattle.reg_tables.proofs.Compares.{and_true}
+use Rattle.reg_tables.proofs.EntryLemmas.{and_false, not_le, is_le}
 use Rattle.reg_audit.specs.Beside.{listed_in}
 use Rattle.reg_audit.specs.Crls.{still_on, lists, entry_in}
 use Rattle.reg_audit.specs.declared.beside.Listed.{Listed}
@@ -33,20 +34,6 @@ none_below p n from [] numbered low = refl
 none_below p n from (crl ∷ rest) numbered low =
     let above : n ≤ crl.number = let is = numbered.0 in omega arith in
     rw (le-ltb crl.number n above) (none_below p n (from + 1) rest numbered.1 (omega arith))
-
-and_true : (b : Bool) → (b && true) ≡ b
-and_true true = refl
-and_true false = refl
-
-and_false : (b : Bool) → (b && false) ≡ false
-and_false true = refl
-and_false false = refl
-
-not_le : (n m : ℕ) → m < n → nat_le n m ≡ false
-not_le n m less = grind (arith, nat_tests)
-
-is_le : (n m : ℕ) → n ≤ m → nat_le n m ≡ true
-is_le n m le = grind (arith, nat_tests)
 
 -- the first that passes is the one of the least number
 first_any : (p : Crl → Bool) (n from : ℕ) (crls : List Crl) → NumberedFrom (λ crl. crl.number) from crls

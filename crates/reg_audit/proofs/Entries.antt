@@ -9,13 +9,11 @@ use Rattle.reg_core.specs.Sound.{KeysDiffer}
 use Rattle.reg_core.specs.declared.rows.Entry.{Entry}
 use Rattle.reg_laws.proofs.Lists.{keys_kept}
 use Rattle.reg_tables.proofs.Sorting.{Rises}
+use Rattle.reg_tables.proofs.AscendLemmas.{serial_of}
 use Rattle.reg_audit.specs.Crls.{lists, entry_in}
 use Rattle.reg_audit.specs.declared.beside.Listed.{Listed}
 use Rattle.reg_audit.proofs.Following.{keys_made}
 use Rattle.reg_audit.proofs.Sorted.{in_strict_order}
-
-abbrev serial_of : Entry → ℕ
-serial_of entry = entry.serial
 
 as_entries : (entries : List Entry) → Rises serial_of entries → EntriesAscend entries
 as_entries [] rises = tt

@@ -4,7 +4,6 @@ use Rattle.std.specs.Prelude.{nat_le, nat_lt}
 use Rattle.std.specs.List.{AllByRecursion}
 use Rattle.std.specs.List.Sorted.{IsPermutation}
 use Rattle.std.proofs.lemmas.Bool.{cases_Bool}
-use Rattle.std.proofs.lemmas.List.{length-map}
 use Rattle.std.proofs.lemmas.List.Sorted.{IsPermutation-map}
 use Rattle.sqlite_trees.proofs.ListLemmas.{filter-map, map-map}
 use Rattle.reg_core.specs.Crls.{row_of, last_listing, is_past_on}
@@ -21,6 +20,7 @@ use Rattle.reg_laws.proofs.CountFacts.{same_length}
 use Rattle.reg_laws.proofs.Listed.{past_end_is}
 use Rattle.reg_tables.specs.Columns as column
 use Rattle.reg_tables.specs.Kept.{letter_of, standing_of, not_after_of, listed_of}
+use Rattle.reg_tables.proofs.Few.{mapped}
 use Rattle.reg_migration.specs.Refilled.{last_in}
 use Rattle.reg_audit.specs.Beside.{letter_in, standing_in, listed_in, letter_by, standing_by, end_by, listed_with, same_letter, counted}
 use Rattle.reg_audit.specs.Read.{AreOf}
@@ -34,9 +34,6 @@ map_same : {A B : Type 0} (f g : A → B) (xs : List A) → AllByRecursion (λ x
 map_same f g [] all = refl
 map_same f g (x ∷ xs) all = λ i. all.0 i ∷ map_same f g xs all.1 i
 
-mapped : {A B : Type 0} (f : A → B) (xs : List A) → length (map f xs) ≡ length xs
-mapped f xs = rw length-map refl
-
 -- keys differ in what is made of rows whose keys differ
 pub keys_made : {A B : Type 0} (key : B → ℕ) (f : A → B) (xs : List A) → KeysDiffer (λ x. key (f x)) xs → KeysDiffer key (map f xs)
 keys_made key f [] differ = tt
@@ -44,7 +41,7 @@ keys_made key f (x ∷ xs) differ = (all_map (λ other. key (f x) ≢ key other)
 
 -- ---- rows as they were read, and back
 
-abbrev letter_out : column.Letter → Letter
+abbrev pub letter_out : column.Letter → Letter
 letter_out column.good = Good
 letter_out column.revoked = Revoked
 letter_out column.expired = Expired
@@ -54,13 +51,13 @@ letter_back Good = refl
 letter_back Revoked = refl
 letter_back Expired = refl
 
-abbrev standing_out : column.Standing → Standing
+abbrev pub standing_out : column.Standing → Standing
 standing_out row = record { serial = row.serial; not_after = row.not_after; letter = letter_out row.letter }
 
 standing_back : (row : Standing) → standing_out (standing_in row) ≡ row
 standing_back row = λ i. record { serial = row.serial; not_after = row.not_after; letter = letter_back row.letter i }
 
-abbrev listed_out : column.Listed → Listed
+abbrev pub listed_out : column.Listed → Listed
 listed_out row = record { serial = row.serial; at = row.at; reason = row.reason; first = row.first; not_after = row.not_after; last = row.last }
 
 all_back : {A B : Type 0} (f : A → B) (g : B → A) → ((x : A) → g (f x) ≡ x) → (xs : List A) → map g (map f xs) ≡ xs

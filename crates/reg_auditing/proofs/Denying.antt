@@ -5,7 +5,6 @@ use Rattle.std.specs.List.{AllByRecursion}
 use Rattle.std.specs.List.Sorted.{IsPermutation}
 use Rattle.std.proofs.lemmas.Bool.{cases_Bool}
 use Rattle.std.proofs.lemmas.Bool.Decides.{nat_tests}
-use Rattle.std.proofs.lemmas.List.{length-map}
 use Rattle.std.proofs.lemmas.List.Sorted.{length_permutation}
 use Rattle.sqlite_trees.proofs.ListLemmas.{IsPermutation-filter}
 use Rattle.reg_core.specs.Calendar.{clock_end}
@@ -19,6 +18,7 @@ use Rattle.reg_laws.proofs.Lists.{all_map, all_weaker, each_found}
 use Rattle.reg_tables.specs.Columns as column
 use Rattle.reg_tables.specs.Columns.{Columns}
 use Rattle.reg_tables.specs.Kept.{Kept, listed_of}
+use Rattle.reg_tables.proofs.Few.{mapped}
 use Rattle.reg_audit.proofs.Following.{keys_made}
 use Rattle.reg_audit.specs.Beside.{listed_in}
 use Rattle.reg_audit.specs.declared.beside.Listed.{Listed}
@@ -80,9 +80,6 @@ differ_mapped f key (row ∷ rest) differ = (unmapped f (λ other. key (f row) �
     unmapped : {A B : Type 0} (f : A → B) (P : B → Type 0) (rows : List A) → AllByRecursion P (map f rows) → AllByRecursion (λ row. P (f row)) rows
     unmapped f P [] all = tt
     unmapped f P (row ∷ rest) all = (all.0, unmapped f P rest all.1)
-
-mapped : {A B : Type 0} (f : A → B) (xs : List A) → length (map f xs) ≡ length xs
-mapped f xs = rw length-map refl
 
 -- what was read of the listings can be listed, where the records are sound and what is kept follows from them
 pub can_list : {listed : List Listed} (records : Records) (columns : Columns) → IsPolicy records.policy → SoundRows records → Kept columns records → map listed_in listed ≡ columns.listed → CanList listed

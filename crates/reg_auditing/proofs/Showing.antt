@@ -1,6 +1,5 @@
 -- What the texts over whole tables read, in the order of the keys.
 use Rattle.std.proofs.Common.{◌≡◌, ◌+◌, ℕ, true, List, [], ◌∷◌, map, codes, sym, subst, ap, ◌∙◌, refl}
-use Rattle.std.specs.List.{filter}
 use Rattle.std.specs.List.Sorted.{IsPermutation}
 use Rattle.sqlite_value.specs.Order.{Row}
 use Rattle.sqlite_value.specs.declared.value.Value.TheVariants.{Text}
@@ -26,22 +25,15 @@ use Rattle.reg_tables.specs.Rows.{number, serial_value, behind_rowids, counted_r
 use Rattle.reg_tables.specs.Schema.{register_schema}
 use Rattle.reg_tables.specs.Shows.{HaveSerials}
 use Rattle.reg_tables.specs.Reading.{command_of, shown_subscriber, shown_order, shown_certificate, shown_request, shown_revocation, shown_crl}
-use Rattle.reg_tables.proofs.Queries.{selects, as_command, no_limit, keyed_given, all_of}
+use Rattle.reg_tables.proofs.Queries.{selects, as_command, no_limit, keyed_given, all_of, all_kept}
 use Rattle.reg_tables.proofs.Sorting.{ascending_key, ascends, sorted_same}
 use Rattle.reg_tables.proofs.Greatest.{numbered_rises}
 use Rattle.reg_audit.specs.Beside.{letter_in, standing_in, listed_in}
-use Rattle.reg_audit.specs.declared.beside.Letter.TheVariants as letter
-use Rattle.reg_audit.specs.declared.beside.Letter.{Letter}
-use Rattle.reg_audit.specs.declared.beside.Standing.{Standing}
-use Rattle.reg_audit.specs.declared.beside.Listed.{Listed}
+use Rattle.reg_audit.proofs.Following.{letter_out, standing_out, listed_out}
 use Rattle.reg_auditing.specs.Said.{IsReadOf}
 use Rattle.reg_auditing.specs.Shown.{shown_office, shown_standing, shown_counts, shown_listed}
 use Rattle.reg_auditing.specs.declared.texts.What.TheVariants.{Office, Subscribers, Orders, Certificates, Requests, Revocations, Crls, Standings, Counts, Listings}
 use Rattle.reg_auditing.specs.declared.texts.TheConstants.{OFFICE, SUBSCRIBERS, ORDERS, CERTIFICATES, REQUESTS, REVOCATIONS, CRLS, STANDINGS, COUNTS, LISTINGS}
-
-all_kept : {A : Type 0} (xs : List A) → filter (λ _. true) xs ≡ xs
-all_kept [] = refl
-all_kept (x ∷ xs) = ap (λ l. x ∷ l) (all_kept xs)
 
 abbrev by_first : List (Term × Key)
 by_first = (col 1 0, ascending_key) ∷ []
@@ -212,17 +204,6 @@ crls_are records columns rows is =
     ∙ sym (map-map shown_crl row_of records.crls)
 
 -- ---- what is kept beside the records
-
-abbrev pub letter_out : column.Letter → Letter
-letter_out column.good = letter.Good
-letter_out column.revoked = letter.Revoked
-letter_out column.expired = letter.Expired
-
-abbrev pub standing_out : column.Standing → Standing
-standing_out row = record { serial = row.serial; not_after = row.not_after; letter = letter_out row.letter }
-
-abbrev pub listed_out : column.Listed → Listed
-listed_out row = record { serial = row.serial; at = row.at; reason = row.reason; first = row.first; not_after = row.not_after; last = row.last }
 
 letter_back : (l : column.Letter) → letter_in (letter_out l) ≡ l
 letter_back column.good = refl

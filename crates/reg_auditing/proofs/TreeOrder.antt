@@ -1,6 +1,6 @@
 -- A tree's rows stand in the order of their rowids, so a text that reads them in that order reads the tree.
 use Rattle.std.proofs.Common.{◌≡◌, ◌<◌, ◌+◌, ℕ, pos, true, List, [], ◌∷◌, map, refl, sym, ap, subst, ◌∙◌, arith}
-use Rattle.std.specs.List.{filter, AllByRecursion}
+use Rattle.std.specs.List.{AllByRecursion}
 use Rattle.std.specs.List.Sorted.{IsPermutation, IsSorted}
 use Rattle.std.specs.Ordering.{nat_cmp, is_lt}
 use Rattle.std.specs.declared.cmp.Ordering.TheVariants.{Less}
@@ -21,12 +21,8 @@ use Rattle.reg_tables.specs.Reading.{command_of}
 use Rattle.reg_tables.specs.Rows.{number}
 use Rattle.reg_tables.specs.Schema.{register_schema}
 use Rattle.reg_tables.proofs.Compares.{as_numbers}
-use Rattle.reg_tables.proofs.Queries.{selects, as_command, no_limit, Given, keyed_given, all_of}
+use Rattle.reg_tables.proofs.Queries.{selects, as_command, no_limit, Given, keyed_given, all_of, all_kept}
 use Rattle.reg_tables.proofs.Sorting.{ascending_key, ascends, Rises, sorted_same}
-
-all_kept : {A : Type 0} (xs : List A) → filter (λ _. true) xs ≡ xs
-all_kept [] = refl
-all_kept (x ∷ xs) = ap (λ l. x ∷ l) (all_kept xs)
 
 themselves : (rows : List Row) → map (λ (row : Row). row) rows ≡ rows
 themselves [] = refl

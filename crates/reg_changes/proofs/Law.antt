@@ -8,7 +8,7 @@ use Rattle.std.proofs.lemmas.Bool.Decides.{nat_tests}
 use Rattle.std.proofs.lemmas.List.{map-append, length-map}
 use Rattle.std.proofs.lemmas.List.Sorted.{IsPermutation-map, IsPermutation-append, IsPermutation-refl, length_permutation}
 use Rattle.sqlite_trees.proofs.ListLemmas.{map-map, filter-map, IsPermutation-filter}
-use Rattle.reg_laws.proofs.CountFacts.{same_length, one_has}
+use Rattle.reg_laws.proofs.CountFacts.{same_length, one_has, equal_numbers, same_number}
 use Rattle.reg_core.specs.Changes.{Fits, changed_by, touched, with_subscriber, with_order, with_certificate, with_request, with_declined, with_revocation, with_crl}
 use Rattle.reg_core.specs.Crls.{last_listing, is_past_end, is_past_on, next_number}
 use Rattle.reg_core.specs.Records.{Records, Crl, certificate_in, revocation_in}
@@ -103,12 +103,6 @@ module _ (records : Records) (columns : Columns) (now : ℕ) (sound : SoundRows 
 
 -- ---- one certificate more
 
-equal_numbers : (m n : ℕ) → (m == n) ≡ true → m ≡ n
-equal_numbers m n e = grind (arith, nat_tests)
-
-itself : (n : ℕ) → (n == n) ≡ true
-itself n = grind (arith, nat_tests)
-
 -- a serial number that is not registered is not revoked
 pub unrevoked : (records : Records) (serial : ℕ) → SoundRows records → certificate_in records.certificates serial ≡ None → revocation_in records.revocations serial ≡ None
 unrevoked records serial sound none =
@@ -132,7 +126,7 @@ module _ (records : Records) (columns : Columns) (now : ℕ) (sound : SoundRows 
   found_on r found = find_front (λ (other : CertRow). other.serial == r.serial) records.certificates (row ∷ []) r found
 
   found_row : certificate_in later.certificates row.serial ≡ Some row
-  found_row = find_back (λ (other : CertRow). other.serial == row.serial) records.certificates (row ∷ []) fresh ∙ ap (λ b. cond b (Some row) None) (itself row.serial)
+  found_row = find_back (λ (other : CertRow). other.serial == row.serial) records.certificates (row ∷ []) fresh ∙ ap (λ b. cond b (Some row) None) (same_number row.serial)
 
   found_all : AllByRecursion (λ (r : CertRow). certificate_in later.certificates r.serial ≡ Some r) later.certificates
   found_all = all_push (λ (r : CertRow). certificate_in later.certificates r.serial ≡ Some r) records.certificates row
@@ -193,9 +187,9 @@ module _ (records : Records) (columns : Columns) (now : ℕ) (sound : SoundRows 
       let one : c ≡ certificate = let both = sym is ∙ ap (certificate_in records.certificates) same ∙ found in cc in
       let unended : nat_lt c.not_after now ≡ false = ap (λ (x : CertRow). nat_lt x.not_after now) one ∙ not_past in
       let before : revocation_in records.revocations c.serial ≡ None = ap (revocation_in records.revocations) same ∙ none in
-      let here : (row.serial == c.serial) ≡ true = ap (λ n. row.serial == n) same ∙ itself row.serial in
+      let here : (row.serial == c.serial) ≡ true = ap (λ n. row.serial == n) same ∙ same_number row.serial in
       let after : revocation_in revoking.revocations c.serial ≡ Some row = find_back (λ (other : RevocationRow). other.serial == c.serial) records.revocations (row ∷ []) before ∙ ap (λ b. cond b (Some row) None) here in
-      let hit : (c.serial == row.serial) ≡ true = ap (λ n. n == row.serial) same ∙ itself row.serial in
+      let hit : (c.serial == row.serial) ≡ true = ap (λ n. n == row.serial) same ∙ same_number row.serial in
       ap (λ revocation. turned (is_good_at row.serial) (lettered revoked) (standing_at now c (Some c) revocation)) before
       ∙ ap (λ b. turned (is_good_at row.serial) (lettered revoked) (letter_standing c (cond b Expired Good))) unended
       ∙ ap (λ b. cond (b && true) (letter_standing c (Revoked row.at row.reason)) (letter_standing c Good)) hit

@@ -21,11 +21,12 @@ use Rattle.reg_core.specs.Sound.{NumberedFrom}
 use Rattle.reg_core.specs.declared.rows.RequestRow.{RequestRow}
 use Rattle.reg_tables.specs.Schema.{register_schema, standing, listed, office, request}
 use Rattle.reg_tables.specs.Rows.{number, serial_value, counted_rows, stored_office, stored_request}
-use Rattle.reg_tables.specs.Columns.{Letter, good, revoked, expired, is_good_letter, ends_before, letter_text, Standing, Listed, Columns, stored_standing, stored_listed, number_or_null, office_days}
+use Rattle.reg_tables.specs.Columns.{Letter, revoked, expired, is_good_letter, ends_before, letter_text, Standing, Listed, Columns, stored_standing, stored_listed, number_or_null, office_days}
 use Rattle.reg_tables.specs.Shows.{AreBoth}
 use Rattle.reg_tables.specs.Stays.{Moves}
 use Rattle.reg_tables.proofs.Compares.{compares, and_true, eq_number, lt_number, eq_text, eq_serial}
 use Rattle.reg_tables.proofs.Queries.{passes, all_of}
+use Rattle.reg_tables.proofs.CountLemmas.{is_g}
 use Rattle.reg_writing.specs.Ran.{Ran}
 use Rattle.reg_writing.specs.Steps.{turned}
 use Rattle.reg_der.specs.Issuers.{with_issuer}
@@ -51,13 +52,8 @@ all_turned {A} P q g keeps (x ∷ xs) all = (go (q x), all_turned P q g keeps xs
 
 -- ---- tests
 
-letter_codes : (letter : Letter) → Rattle.std.specs.Prelude.bytes_eq (letter_text letter) (codes "G") ≡ is_good_letter letter
-letter_codes good = refl
-letter_codes revoked = refl
-letter_codes expired = refl
-
 letter_test : (letter : Letter) → compares Eq (Text (letter_text letter)) (Text (codes "G")) ≡ is_good_letter letter
-letter_test letter = eq_text (letter_text letter) (codes "G") ∙ letter_codes letter
+letter_test letter = eq_text (letter_text letter) (codes "G") ∙ is_g letter
 
 sweep_test : (now id : ℕ) (row : Standing) → passes (equals (col 1 3) (text (codes "G")) ∷ below (col 1 2) (col 0 0) ∷ []) (number now ∷ []) (number id ∷ stored_standing row) ≡ ends_before now row
 sweep_test now id row = ap₂ ◌&&◌ (letter_test row.letter) (ap₂ ◌&&◌ (lt_number row.not_after now) refl ∙ and_true (nat_lt row.not_after now))

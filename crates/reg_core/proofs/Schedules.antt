@@ -32,10 +32,10 @@ neighbours_of_ascends (step ∷ next ∷ rest) rise zero d within = rise.0
 neighbours_of_ascends (step ∷ next ∷ rest) rise (suc k) d within = rw (add-one (suc k)) (rw (add-one k) at (neighbours_of_ascends (next ∷ rest) rise.1 k d (omega arith)))
 
 -- What the test of two moments tells.
-before_from_test : (earlier later : ℕ) → is_lt (nat_cmp earlier later) ≡ true → earlier < later
+pub before_from_test : (earlier later : ℕ) → is_lt (nat_cmp earlier later) ≡ true → earlier < later
 before_from_test earlier later tested = grind (arith, nat_tests)
 
-test_from_before : (earlier later : ℕ) → earlier < later → is_lt (nat_cmp earlier later) ≡ true
+pub test_from_before : (earlier later : ℕ) → earlier < later → is_lt (nat_cmp earlier later) ≡ true
 test_from_before earlier later before = grind (arith, nat_tests)
 
 -- What the test of each two neighbours tells.

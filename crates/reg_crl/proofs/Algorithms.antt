@@ -5,7 +5,7 @@ use Rattle.reg_core.specs.Integer.{IsBytes}
 use Rattle.reg_der.specs.Der.{tlv, length_octets}
 use Rattle.reg_crl.specs.Signing.{IsAlgorithm}
 
-each_byte : (bytes : List ℕ) → AllByRecursion (λ byte. byte < 256) bytes → IsBytes bytes
+pub each_byte : (bytes : List ℕ) → AllByRecursion (λ byte. byte < 256) bytes → IsBytes bytes
 each_byte [] all i = omega arith
 each_byte (byte ∷ bytes) all zero = all.0
 each_byte (byte ∷ bytes) all (suc i) = each_byte bytes all.1 i

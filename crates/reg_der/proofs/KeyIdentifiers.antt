@@ -10,11 +10,11 @@ use Rattle.reg_core.specs.Issuer as core
 use Rattle.reg_core.specs.Label.{IsLabel}
 use Rattle.reg_core.specs.Sequence.{◌>>=◌}
 use Rattle.reg_core.proofs.PublicLaws.{octets_are_below, octets_are_lowest}
+use Rattle.reg_core.proofs.Integers.{is_bytes-take, is_bytes-append}
 use Rattle.reg_der.specs.Der.{tlv, IsTlv}
 use Rattle.reg_der.specs.Reading.{Parts, value_at}
 use Rattle.reg_der.specs.Authority.{IsName, IsKept, IsIssuer, name_in, behind_name, name_of, key_identifiers, key_identifier_at, identifier_value, identifier_at, identifiers_by, identifiers_at, identifier_for, but_for, others_than, with_identifier, HasIdentifier, IdentifiersFollow, IsPlain, NamesArePlain}
 use Rattle.reg_der.specs.declared.identifiers.KeyIdentifier.{KeyIdentifier}
-use Rattle.reg_der.proofs.Octets.{is_bytes-append, is_bytes-take}
 use Rattle.reg_der.proofs.Values.{bind_then, value_takes, value_again, value_reads, length-tlv_at_least, is_bytes-tlv}
 
 -- ---- the number in eight octets
@@ -85,7 +85,7 @@ with_first x xs = Some (x ∷ xs)
 abbrev then_more : ℕ → KeyIdentifier × List ℕ → Option (List KeyIdentifier)
 then_more fuel x = identifiers_by fuel x.1 >>= with_first x.0
 
-bind_same : {A B : Type 0} (read : Option A) (f g : A → Option B) → ((x : A) → read ≡ Some x → f x ≡ g x) → (read >>= f) ≡ (read >>= g)
+pub bind_same : {A B : Type 0} (read : Option A) (f g : A → Option B) → ((x : A) → read ≡ Some x → f x ≡ g x) → (read >>= f) ≡ (read >>= g)
 bind_same (Some x) f g same = same x refl
 bind_same None f g same = refl
 

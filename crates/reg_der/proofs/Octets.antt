@@ -6,25 +6,9 @@ use Rattle.std.proofs.lemmas.Bool.{cases_lt}
 use Rattle.std.proofs.lemmas.List.{length-append, length-replicate, length-take, get_or-drop, get_or_past, get_or_append_left}
 use Rattle.reg_core.specs.Integer.{IsBytes, value, without_zeros}
 use Rattle.reg_core.proofs.PublicLaws.{octets_are_places, octets_are_below, one_spelling}
+use Rattle.reg_core.proofs.Integers.{is_bytes-cons, is_bytes-tail, is_bytes-take, is_bytes-append}
 
 -- ---- bytes
-
-pub is_bytes-cons : (b : ℕ) (bs : List ℕ) → b < 256 → IsBytes bs → IsBytes (b ∷ bs)
-is_bytes-cons b bs h hs zero = h
-is_bytes-cons b bs h hs (suc i) = hs i
-
-pub is_bytes-tail : (b : ℕ) (bs : List ℕ) → IsBytes (b ∷ bs) → IsBytes bs
-is_bytes-tail b bs h i = h (suc i)
-
-pub is_bytes-take : (k : ℕ) (bs : List ℕ) → IsBytes bs → IsBytes (take k bs)
-is_bytes-take zero bs h i = omega arith
-is_bytes-take (suc k) [] h i = omega arith
-is_bytes-take (suc k) (b ∷ bs) h zero = h 0
-is_bytes-take (suc k) (b ∷ bs) h (suc i) = is_bytes-take k bs (is_bytes-tail b bs h) i
-
-pub is_bytes-append : (xs ys : List ℕ) → IsBytes xs → IsBytes ys → IsBytes (xs ++ ys)
-is_bytes-append [] ys hx hy = hy
-is_bytes-append (x ∷ xs) ys hx hy = is_bytes-cons x (xs ++ ys) (hx 0) (is_bytes-append xs ys (is_bytes-tail x xs hx) hy)
 
 pub is_bytes-drop : (n : ℕ) (bytes : List ℕ) → IsBytes bytes → IsBytes (drop n bytes)
 is_bytes-drop n bytes h i = rw get_or-drop (h (n + i))

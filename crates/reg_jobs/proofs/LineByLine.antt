@@ -12,7 +12,9 @@ use Rattle.reg_calls.specs.Leads.{Leads}
 use Rattle.reg_endings.specs.declared.failure.Failure.{Failure}
 use Rattle.reg_endings.specs.declared.failure.Failure.TheVariants as failure
 use Rattle.reg_lines.specs.Accepted.{IsAccepted}
-use Rattle.reg_jobs.proofs.Pieces.{concat_push, turned, whole_at, whole_push}
+use Rattle.reg_lines.proofs.Pieces.{turned, concat_push}
+use Rattle.reg_lines.proofs.StepLemmas.{whole_at}
+use Rattle.reg_jobs.proofs.Pieces.{whole_push}
 use Rattle.reg_jobs.proofs.Talking.{all_push}
 use Rattle.reg_jobs.specs.Asking.{AreWhole, IsCut, IsOfTalk}
 use Rattle.reg_jobs.specs.Exchanges.{Entry, LineRuns}

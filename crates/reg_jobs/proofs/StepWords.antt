@@ -1,7 +1,8 @@
 -- The steps of a schedule, read one field after the other.
-use Rattle.std.proofs.Common.{◌≡◌, ℕ, List, [], ◌∷◌, ◌++◌, Option, Some, None, append-nil, append_assoc, refl, sym, ap, ◌∙◌}
+use Rattle.std.proofs.Common.{◌≡◌, ℕ, List, [], ◌∷◌, ◌++◌, Option, Some, None, append-nil, refl, sym, ap, ◌∙◌}
 use Rattle.std.specs.Prelude.{option_map, option_and_then}
 use Rattle.reg_words.specs.Values.{step_of, steps_of}
+use Rattle.reg_words.proofs.StepTexts.{shifted}
 
 -- all fields are these steps and what the fields are that are left
 abbrev pub SoFar : List (List ℕ) → List (List ℕ) → List (ℕ × ℕ) → Type 0
@@ -19,11 +20,6 @@ from_here : (left next : List (List ℕ)) (field : List ℕ) (step : Option (ℕ
     → steps_of left ≡ option_and_then (λ s. option_map (λ rest. s ∷ rest) (steps_of next)) step
 from_here left next field step are is =
     ap steps_of are ∙ ap (λ o. option_and_then (λ s. option_map (λ rest. s ∷ rest) (steps_of next)) o) (sym is)
-
-shifted : (steps : List (ℕ × ℕ)) (step : ℕ × ℕ) (o : Option (List (ℕ × ℕ)))
-    → option_map (λ rest. steps ++ rest) (option_map (λ rest. step ∷ rest) o) ≡ option_map (λ rest. (steps ++ step ∷ []) ++ rest) o
-shifted steps step None = refl
-shifted steps step (Some rest) = ap (λ l. Some l) (sym (append_assoc steps (step ∷ []) rest))
 
 -- a field that is a step
 pub goes_on : (fields left next : List (List ℕ)) (steps more : List (ℕ × ℕ)) (step : ℕ × ℕ) (field : List ℕ) → SoFar fields left steps

@@ -12,27 +12,23 @@ use Rattle.reg_core.specs.Issuer.{Issuer}
 use Rattle.reg_core.specs.Label.{IsName}
 use Rattle.reg_core.specs.Policy.{Terms, IsPolicy}
 use Rattle.reg_core.specs.Records.{Records, no_records, Crl, subscriber_in, subscriber_named, order_in, certificate_in, certificate_of_order, request_in, revocation_in}
-use Rattle.reg_core.specs.Schedule.{HasDays, IsDays, IsSchedule, greatest_of, longest_at}
+use Rattle.reg_core.specs.Schedule.{IsDays, IsSchedule, greatest_of, longest_at}
 use Rattle.reg_core.specs.Sound.{LeadsTo, SoundRows, SoundRequests, SoundRevocation, SoundRevocations, SoundCrls}
 use Rattle.reg_core.specs.declared.rows.SubscriberRow.{SubscriberRow}
 use Rattle.reg_core.specs.declared.rows.OrderRow.{OrderRow}
 use Rattle.reg_core.specs.declared.rows.CertRow.{CertRow}
 use Rattle.reg_core.specs.declared.rows.RequestRow.{RequestRow}
 use Rattle.reg_core.specs.declared.rows.RevocationRow.{RevocationRow}
+use Rattle.reg_core.proofs.Schedules.{greatest_at_most_398}
 use Rattle.reg_laws.proofs.Accepted.{OnClock}
 use Rattle.reg_laws.proofs.Lists.{all_push, all_weaker, all_found, all_join, all_map, none_passes, find_map, numbered_push, numbered_above, numbered_below, numbered_map, keys_push, falls_push, falls_map, few_keys, key_found, key_new, any_last, some_and_of, some_at, some_and_here, some_front, some_here, some_and_front, if_some_none, if_some_push, found_some, pushed_some}
 use Rattle.reg_laws.proofs.Contents.{next_is}
 
 -- WHAT THE CHECKS SAY OF DAYS
 
--- no days of a schedule are more than 398
-greatest_within : (steps : List (ℕ × ℕ)) → AllByRecursion HasDays steps → greatest_of steps ≤ 398
-greatest_within [] days = omega arith
-greatest_within (step ∷ rest) days = omega (arith, days.0.1, greatest_within rest days.1)
-
 -- days that are some, and no more than the greatest of a schedule
 pub days_of_schedule : (days : ℕ) (steps : List (ℕ × ℕ)) → IsSchedule steps → 1 ≤ days → days ≤ greatest_of steps → IsDays days
-days_of_schedule days steps schedule some within = (some, omega (arith, within, greatest_within steps schedule.days))
+days_of_schedule days steps schedule some within = (some, omega (arith, within, greatest_at_most_398 steps schedule.days))
 
 -- a validity that is not too long is no longer than ordered
 pub as_ordered_of : (policy : Terms) (wanted : CertRow) (order : OrderRow) → IsFalse (is_too_long policy wanted order) → validity_seconds wanted ≤ 86400 * order.days

@@ -1,8 +1,7 @@
 -- What is kept beside the records of version 2, taken out.
-use Rattle.std.proofs.Common.{◌≡◌, ◌≢◌, ℕ, Bool, true, false, cond, ◌==◌, List, [], ◌∷◌, length, slice_get, Some, None, Ok, refl, sym, ap, subst, ◌∙◌, inl, inr, arith}
+use Rattle.std.proofs.Common.{◌≡◌, ◌≢◌, ℕ, Bool, true, false, cond, ◌==◌, List, [], ◌∷◌, length, slice_get, Some, None, Ok, refl, sym, ap, subst, ◌∙◌, inl, inr}
 use Rattle.std.specs.List.{AllByRecursion, flat_map, filter_map}
 use Rattle.std.proofs.lemmas.Bool.{cases_Bool}
-use Rattle.std.proofs.lemmas.Bool.Decides.{nat_tests}
 use Rattle.sqlite_value.specs.declared.value.Value.TheVariants.{Int}
 use Rattle.sqlite_value.specs.Order.{Row}
 use Rattle.sqlite_trees.specs.Tree.{Trees}
@@ -18,6 +17,7 @@ use Rattle.sqlite.specs.Given.{IsPlain}
 use Rattle.sqlite.specs.State.{State, mode_of, Writes}
 use Rattle.sqlite.specs.Listing.{understood}
 use Rattle.sqlite.proofs.Callers.{runs_as, statement_of}
+use Rattle.reg_laws.proofs.CountFacts.{equal_numbers}
 use Rattle.reg_tables.specs.Reading.{command_of}
 use Rattle.reg_tables.specs.Schema.{standing, kept, listed}
 use Rattle.reg_tables.specs.Stays.{Moves}
@@ -26,6 +26,7 @@ use Rattle.reg_writing.proofs.Edits.{Empties, does_empty}
 use Rattle.reg_writing.proofs.Keeping.{deletes_keep}
 use Rattle.reg_writing.proofs.Meaning.{deletes}
 use Rattle.reg_writing.proofs.Turning.{IsKeyed}
+use Rattle.reg_writing.proofs.Registers.{unequal_trees}
 use Rattle.reg_migration.specs.Older.{kept_tables}
 use Rattle.reg_migration.specs.Rows.{IsNumbered, HasRows, HadRows, with_rows}
 use Rattle.reg_migration.specs.declared.texts.TheConstants.{CLEAR_STANDING, CLEAR_KEPT, CLEAR_LISTED}
@@ -44,20 +45,14 @@ numbered_keyed : (rows : List Row) → AllByRecursion IsNumbered rows → AllByR
 numbered_keyed [] all = tt
 numbered_keyed (row ∷ rows) all = (all.0.1 ∙ ap (λ v. Int (id_in v)) (sym all.0.1), numbered_keyed rows all.1)
 
-same_tree : (m n : ℕ) → (m == n) ≡ true → m ≡ n
-same_tree m n e = grind (arith, nat_tests)
-
-pub other_tree : (m n : ℕ) → (m == n) ≡ false → m ≢ n
-other_tree m n e = λ same. let t : (m == n) ≡ true = grind (arith, nat_tests) in cc
-
 -- the rows of one table are others, and those of the other tables are not
 pub with_other : (tables : List Table) (tree : ℕ) (those : List Row) (rows db after : Trees) → after tree ≡ those → AllByRecursion (λ t. t.tree ≢ tree → after t.tree ≡ db t.tree) tables
     → AllByRecursion (λ t. db t.tree ≡ rows t.tree) tables → AllByRecursion (λ t. after t.tree ≡ with_rows tree those rows t.tree) tables
 with_other [] tree those rows db after is others had = tt
 with_other (t ∷ tables) tree those rows db after is others had = (
   elim (cases_Bool (t.tree == tree)) [
-    | inl here ↦ ap after (same_tree t.tree tree here) ∙ is ∙ sym (ap (λ b. cond b those (rows t.tree)) here)
-    | inr apart ↦ others.0 (other_tree t.tree tree apart) ∙ had.0 ∙ sym (ap (λ b. cond b those (rows t.tree)) apart)
+    | inl here ↦ ap after (equal_numbers t.tree tree here) ∙ is ∙ sym (ap (λ b. cond b those (rows t.tree)) here)
+    | inr apart ↦ others.0 (unequal_trees t.tree tree apart) ∙ had.0 ∙ sym (ap (λ b. cond b those (rows t.tree)) apart)
   ],
   with_other tables tree those rows db after is others.1 had.1,
 )

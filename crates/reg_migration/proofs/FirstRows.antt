@@ -2,7 +2,6 @@
 use Rattle.std.proofs.Common.{◌≡◌, ◌≢◌, ◌==◌, ℕ, pos, Bool, true, false, List, [], ◌∷◌, map, length, refl, sym, ap, subst, ◌∙◌, inl, inr, arith}
 use Rattle.std.specs.List.{AllByRecursion, list_any, flat_map, filter_map}
 use Rattle.std.proofs.lemmas.Bool.{cases_Bool}
-use Rattle.std.proofs.lemmas.Bool.Decides.{nat_tests}
 use Rattle.sqlite_value.specs.declared.value.Value.TheVariants.{Null, Int}
 use Rattle.sqlite_value.specs.Order.{Row}
 use Rattle.sqlite_trees.specs.Tree.{Trees, IsTable, put_row}
@@ -22,6 +21,7 @@ use Rattle.reg_core.specs.Issuer.{Issuer}
 use Rattle.reg_core.specs.Policy.{Terms}
 use Rattle.reg_core.specs.Records.{Records}
 use Rattle.reg_core.specs.Schedule.{greatest_of, one_step}
+use Rattle.reg_laws.proofs.CountFacts.{equal_numbers}
 use Rattle.reg_tables.specs.Columns.{stored_counts, office_days}
 use Rattle.reg_tables.specs.Rows.{number, stored_office}
 use Rattle.reg_tables.specs.Schema.{register_schema, office, kept, table_trees}
@@ -33,7 +33,7 @@ use Rattle.reg_writing.specs.Staged.{IsStaged}
 use Rattle.reg_writing.specs.Steps.{turned}
 use Rattle.reg_writing.proofs.Edits.{Turns, made, cast_int, cast_null}
 use Rattle.reg_writing.proofs.Meaning.{updates, inserts, IsWriting}
-use Rattle.reg_writing.proofs.Registers.{Spares, turns_rows, puts_row}
+use Rattle.reg_writing.proofs.Registers.{Spares, turns_rows, puts_row, unequal_trees}
 use Rattle.reg_writing.proofs.Turning.{IsKeyed}
 use Rattle.reg_migration.specs.Older.{older_schema, stored_older, IsShownByOlder}
 use Rattle.reg_migration.specs.Refilled.{no_columns, no_counts}
@@ -42,12 +42,12 @@ use Rattle.reg_migration.specs.declared.version.Earlier.{Earlier}
 use Rattle.reg_migration.specs.declared.version.Earlier.TheVariants.{First, Second}
 use Rattle.reg_migration.specs.declared.texts.TheConstants.{SET_VERSION, PUT_COUNTS}
 use Rattle.reg_migration.proofs.Defining.{moves_to}
-use Rattle.reg_migration.proofs.Emptying.{other_tree, with_other}
+use Rattle.reg_migration.proofs.Emptying.{with_other}
 
 abbrev version_columns : List Term
 version_columns = lit Null ∷ lit (Int (pos 3)) ∷ col 1 3 ∷ col 1 4 ∷ col 1 5 ∷ col 1 6 ∷ col 1 7 ∷ col 1 8 ∷ col 1 9 ∷ []
 
-abbrev counts_terms : List Term
+abbrev pub counts_terms : List Term
 counts_terms = lit (Int (pos 1)) ∷ lit Null ∷ lit (Int (pos 0)) ∷ lit (Int (pos 0)) ∷ lit (Int (pos 0)) ∷ []
 
 pub set_version_means : IsWriting SET_VERSION.now (updates 0 0 [] version_columns)
@@ -58,13 +58,10 @@ pub put_counts_means : IsWriting PUT_COUNTS.now (inserts 8 counts_terms 5)
 unfolding understood everything register_schema
 put_counts_means = record { plain = (refl, refl); is = refl }
 
-same_tree : (m n : ℕ) → (m == n) ≡ true → m ≡ n
-same_tree m n e = grind (arith, nat_tests)
-
-at_any : (P : ℕ → Type 0) (xs : List ℕ) (n : ℕ) → AllByRecursion P xs → list_any (λ t. t == n) xs ≡ true → P n
+pub at_any : (P : ℕ → Type 0) (xs : List ℕ) (n : ℕ) → AllByRecursion P xs → list_any (λ t. t == n) xs ≡ true → P n
 at_any P [] n all known = absurd (cc)
 at_any P (x ∷ xs) n all known = elim (cases_Bool (x == n)) [
-  | inl here ↦ subst P (same_tree x n here) all.0
+  | inl here ↦ subst P (equal_numbers x n here) all.0
   | inr apart ↦ at_any P xs n all.1 (rw apart at known)
 ]
 
@@ -76,7 +73,7 @@ rows_at db rows has n known = at_any (λ t. db.trees t ≡ rows t) table_trees n
 -- the tables that a statement does not write have the rows that they had
 pub spares_others : (tree : ℕ) (db after : Trees) → AllByRecursion (λ t. t.tree ≢ tree → after t.tree ≡ db t.tree) register_schema.tables → Spares tree db after
 unfolding register_schema
-spares_others tree db after all = record { same = λ n known apart. at_any (λ t. t ≢ tree → after t ≡ db t) table_trees n all known (other_tree n tree apart) }
+spares_others tree db after all = record { same = λ n known apart. at_any (λ t. t ≢ tree → after t ≡ db t) table_trees n all known (unequal_trees n tree apart) }
 
 acts_by : (tree : ℕ) (olds news : List Row) (deletes : Bool)
     → flat_map (λ (child : Table). filter_map (λ ref. work_by 0 tree (pairs olds news) child ref (deed_for Enforced deletes ref) (parent_key register_schema.tables ref)) child.references) register_schema.tables ≡ []

@@ -1,16 +1,13 @@
 -- How many letters of a kind there are.
 use Rattle.std.proofs.Common.{◌≡◌, ◌≤◌, ◌&&◌, ℕ, pos, Bool, true, false, Some, List, [], ◌∷◌, map, length, filter, codes, refl, sym, ap, subst, ◌∙◌, arith, inl, inr}
 use Rattle.std.proofs.lemmas.Bool.{cases_Bool}
-use Rattle.std.proofs.lemmas.Bool.Decides.{nat_tests}
-use Rattle.std.specs.Prelude.{min, bytes_eq}
+use Rattle.std.specs.Prelude.{bytes_eq}
 use Rattle.sqlite_value.specs.Order.{Row}
 use Rattle.sqlite_value.specs.declared.keys.Collation.TheVariants.{Binary}
-use Rattle.sqlite_value.specs.declared.value.Value.TheVariants.{Null, Int, Text}
+use Rattle.sqlite_value.specs.declared.value.Value.TheVariants.{Int, Text}
 use Rattle.sqlite_sql.specs.Aggregate.{count}
-use Rattle.sqlite_sql.specs.Group.{Aggregate, Grouping}
-use Rattle.sqlite_sql.specs.declared.aggregate.AggregateOp.TheVariants.{CountRows}
 use Rattle.sqlite_sql.specs.Term.{Term, lit, col, op2}
-use Rattle.sqlite_sql.specs.Query.{Query, inner, end, Output}
+use Rattle.sqlite_sql.specs.Query.{Query, inner, end}
 use Rattle.sqlite_sql.specs.declared.ops.BinaryOp.TheVariants.{Compare}
 use Rattle.sqlite_sql.specs.declared.ops.CompareOp.TheVariants.{Eq}
 use Rattle.sqlite.specs.Effect.{Database, Reads}
@@ -24,17 +21,11 @@ use Rattle.reg_tables.specs.Rows.{number, counted_rows}
 use Rattle.reg_tables.specs.Schema.{register_schema}
 use Rattle.reg_tables.specs.Shows.{AreBoth}
 use Rattle.reg_tables.proofs.Compares.{and_true, compares, eq_text}
-use Rattle.reg_tables.proofs.CountLemmas.{counted}
+use Rattle.reg_tables.proofs.CountLemmas.{counted, in_one, min_is, blank, blank_standing}
 use Rattle.reg_tables.proofs.Queries.{as_command, no_limit, passes, kept_behind, all_of}
 use Rattle.reg_tables.proofs.Selecting.{select_never}
 use Rattle.reg_migration.specs.Refilled.{with_letter}
 use Rattle.reg_migration.specs.declared.texts.TheConstants.{COUNT_LETTER}
-
-abbrev count_rows : Aggregate
-count_rows = record { op = CountRows; distinct = false; collation = Binary; argument = lit Null }
-
-abbrev in_one : Grouping
-in_one = record { keys = []; collations = []; aggregates = count_rows ∷ []; having = [] }
 
 abbrev counts_of : ℕ → List Term → Query
 counts_of tree terms = record {
@@ -66,15 +57,6 @@ at_most_all p (x ∷ xs) = let rest = at_most_all p xs in elim (cases_Bool (p x)
   | inl passed ↦ rw passed (omega arith)
   | inr failed ↦ rw failed (omega arith)
 ]
-
-min_is : (n most : ℕ) → n ≤ most → min n most ≡ n
-min_is n most le = grind (arith, nat_tests)
-
-abbrev blank : Row → Output
-blank row = ([], [])
-
-abbrev blank_standing : Standing → Output
-blank_standing row = ([], [])
 
 module _ (text : List ℕ) (test : Letter → Bool) (is : (of : Letter) → bytes_eq (letter_text of) text ≡ test of) where
   letter_test : (row : Standing) → (compares Eq (Text (letter_text row.letter)) (Text text) && true) ≡ test row.letter

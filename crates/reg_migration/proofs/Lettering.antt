@@ -1,12 +1,11 @@
 -- The letters of all certificates, put in by one statement.
 use Rattle.std.proofs.Common.{◌≡◌, ◌≢◌, ◌+◌, ◌==◌, ℕ, suc, min, pos, Bool, true, false, cond, List, [], ◌∷◌, ◌++◌, map, length, filter, find, flat_map, slice_get, unwrap_or, Option, None, Some, Ok, IsTrue, append_assoc, append-nil, refl, sym, ap, subst, ◌∙◌, inl, inr, arith}
-use Rattle.std.specs.Prelude.{MatchBool, nat_lt}
+use Rattle.std.specs.Prelude.{nat_lt}
 use Rattle.std.specs.List.{AllByRecursion, list_all}
 use Rattle.std.specs.List.Sorted.{IsPermutation, IsSorted}
-use Rattle.std.specs.declared.cmp.Ordering.{Ordering}
 use Rattle.std.proofs.lemmas.Bool.{cases_Bool}
 use Rattle.std.proofs.lemmas.Bool.Decides.{nat_tests}
-use Rattle.std.proofs.lemmas.List.{length-map, get_or-map}
+use Rattle.std.proofs.lemmas.List.{length-map}
 use Rattle.std.proofs.lemmas.List.Elements.{All-from_recursion, recursion_from_All}
 use Rattle.std.proofs.lemmas.List.Sorted.{All-permutation, IsPermutation-map}
 use Rattle.sqlite_value.specs.declared.value.Value.TheVariants.{Null, Int, Text}
@@ -57,10 +56,10 @@ use Rattle.reg_tables.specs.Schema.{register_schema, standing}
 use Rattle.reg_tables.specs.Shows.{IsShownBy, AreBoth}
 use Rattle.reg_tables.specs.Stays.{Moves}
 use Rattle.reg_tables.proofs.Compares.{and_true, compares, lt_number, eq_serial}
-use Rattle.reg_tables.proofs.Queries.{Given, picked, kept_behind, no_limit}
+use Rattle.reg_tables.proofs.Queries.{Given, picked, kept_behind, no_limit, unmapped, all_kept}
 use Rattle.reg_tables.proofs.Sorting.{ascending_key}
 use Rattle.reg_writing.specs.Ran.{Ran}
-use Rattle.reg_writing.proofs.Edits.{went, same_value, cast_int, cast_null}
+use Rattle.reg_writing.proofs.Edits.{went, same_value, cast_int, cast_null, uncounted_is}
 use Rattle.reg_writing.proofs.Letters.{found_each}
 use Rattle.reg_writing.proofs.Placing.{counted_put}
 use Rattle.reg_writing.proofs.Spared.{rows_spared, letters_are}
@@ -70,14 +69,6 @@ use Rattle.reg_migration.proofs.Defining.{moves_to}
 use Rattle.reg_migration.proofs.FirstRows.{spares_others, none_act}
 
 -- ---- the rows of one table, whatever the collations
-
-unmapped : {X Y : Type 0} (cmp : Y → Y → Ordering) (f : X → Y) (xs : List X) → IsSorted cmp (map f xs) → IsSorted (λ a b. cmp (f a) (f b)) xs
-unmapped cmp f xs sorted k d low high =
-    rw (← get_or-map f xs (k + 1) d (f d) high, ← get_or-map f xs k d (f d) (omega arith)) (sorted k (f d) low (rw length-map high))
-
-all_kept : {A : Type 0} (xs : List A) → filter (λ _. true) xs ≡ xs
-all_kept [] = refl
-all_kept (x ∷ xs) = ap (λ l. x ∷ l) (all_kept xs)
 
 each_once : {X Y : Type 0} (f : X → List Y) (g : X → Y) → ((x : X) → f x ≡ g x ∷ []) → (xs : List X) → flat_map f xs ≡ map g xs
 each_once f g once [] = refl
@@ -130,10 +121,6 @@ record Fills (schema : Schema) (table : Table) (q : Query) (params : Row) (db : 
 length-numbered : (table news : List Row) → length (numbered Chosen table news) ≡ length news
 length-numbered table [] = refl
 length-numbered table (r ∷ news) = let rest = length-numbered (put_row (with_rowid Chosen table r) table) news in omega arith
-
-uncounted_is : (X Y : Type 0) (b c : Bool) → b ≡ false → MatchBool (cond b c false) X Y → Y
-uncounted_is X Y true c e h = absurd (cc)
-uncounted_is X Y false c e h = h
 
 module _ (limit : Option ℕ) (mode : Mode) (schema : Schema) (table : Table) (params : Row) (db : Trees) (place : ℕ) (q : Query) (tally : Tally) (after : Database) where
   abbrev task : Task

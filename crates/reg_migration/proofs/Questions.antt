@@ -1,18 +1,16 @@
 -- What is read inside a transaction, and that nothing changes by it.
-use Rattle.std.proofs.Common.{◌≡◌, ◌⊎◌, ◌+◌, ℕ, true, Option, None, Some, List, [], ◌∷◌, map, codes, IsTrue, refl, sym, ap, subst, ◌∙◌, inl, inr}
-use Rattle.std.specs.List.{AllByRecursion, filter}
+use Rattle.std.proofs.Common.{◌≡◌, ◌⊎◌, ◌+◌, ℕ, true, List, [], ◌∷◌, map, codes, IsTrue, refl, sym, ap, subst, ◌∙◌, inl, inr}
+use Rattle.std.specs.List.{AllByRecursion}
 use Rattle.sqlite_value.specs.Order.{Row}
 use Rattle.sqlite_value.specs.declared.keys.Key.{Key}
 use Rattle.sqlite_trees.proofs.ListLemmas.{map-map}
 use Rattle.sqlite_sql.specs.Term.{Term, col}
 use Rattle.sqlite_sql.specs.Query.{Output}
-use Rattle.sqlite_schema.specs.declared.command.Returning.{Returning}
-use Rattle.sqlite_resolve.specs.declared.compiled.Compiled.{Compiled}
 use Rattle.sqlite_resolve.specs.Compile.{first}
 use Rattle.sqlite_tied.specs.Compute.{everything}
 use Rattle.sqlite.specs.Effect.{Database, Reads}
 use Rattle.sqlite.specs.Listing.{understood}
-use Rattle.sqlite.specs.State.{State, KeepsCommit, IsUnchanged, IsRolledBack, ShowsRows, Shown, FailsToQuery, IsTooLate}
+use Rattle.sqlite.specs.State.{State, KeepsCommit, IsUnchanged, IsRolledBack, Shown, FailsToQuery, IsTooLate}
 use Rattle.sqlite.specs.declared.error.Error.{Error}
 use Rattle.sqlite.proofs.Callers.{reads_as}
 use Rattle.reg_core.specs.Crls.{row_of}
@@ -24,21 +22,18 @@ use Rattle.reg_tables.proofs.Selecting.{select_never}
 use Rattle.reg_tables.specs.Rows.{number, behind_rowids, stored_revocation, stored_crl}
 use Rattle.reg_tables.specs.Shows.{IsShownBy}
 use Rattle.reg_tables.specs.Reading.{Answers, IsReading, command_of, shown_revocation, shown_crl}
-use Rattle.reg_tables.proofs.Queries.{selects, as_command, no_limit, Given, keyed_given, all_of}
+use Rattle.reg_tables.proofs.Queries.{selects, as_command, no_limit, Given, keyed_given, all_of, all_kept}
 use Rattle.reg_tables.proofs.Sorting.{ascending_key, ascends, sorted_same}
 use Rattle.reg_tables.proofs.Greatest.{numbered_rises}
-use Rattle.reg_tables.proofs.Staying.{shown_open, fails_remains}
+use Rattle.reg_tables.proofs.Staying.{shown_open, fails_remains, rows_same}
+use Rattle.reg_tables.proofs.PageLemmas.{crl_out}
 use Rattle.reg_migration.specs.declared.texts.TheConstants.{REVOCATIONS, CRLS}
 
 -- ---- a text that only reads changes nothing
 
-unchanged_by : (old new : State) (sql : List ℕ) (c : Compiled) (params : Row) (rows : List Row) (returning : Option Returning) → returning ≡ None → ShowsRows old new sql c params rows returning → IsUnchanged old new
-unchanged_by old new sql c params rows None none h = h.3
-unchanged_by old new sql c params rows (Some what) none h = absurd (cc)
-
 pub asked_same : (old new : State) (sql : List ℕ) (params : Row) (rows : List Row) → IsReading sql → Shown sql params old new rows → IsUnchanged old new
 unfolding Shown
-asked_same old new sql params rows reading h = unchanged_by old new sql h.0 _ rows _ (reading.never.none old.now.schema h.0 h.1.is) h.2
+asked_same old new sql params rows reading h = rows_same old new sql h.0 _ rows _ (reading.never.none old.now.schema h.0 h.1.is) h.2
 
 pub unchanged_keeps : (old new : State) → IsUnchanged old new → KeepsCommit old new
 unchanged_keeps old new same = record { was_open = λ up. same.0.was_open; committed = λ up. same.0.committed_is }
@@ -79,10 +74,6 @@ shown_numbered row = shown_revocation row.1
 rowids_shown : (from : ℕ) (rows : List RevocationRow) → map shown_numbered (with_rowids from rows) ≡ map shown_revocation rows
 rowids_shown from [] = refl
 rowids_shown from (row ∷ rest) = ap (λ (l : List Row). shown_revocation row ∷ l) (rowids_shown (from + 1) rest)
-
-all_kept : {A : Type 0} (xs : List A) → filter (λ _. true) xs ≡ xs
-all_kept [] = refl
-all_kept (x ∷ xs) = ap (λ l. x ∷ l) (all_kept xs)
 
 abbrev by_first : List (Term × Key)
 by_first = (col 1 0, ascending_key) ∷ []
@@ -135,9 +126,6 @@ reading_crls = record { plain = (refl, refl); unlisted = refl; never = select_ne
 
 abbrev number_of_crl : Crl → ℕ
 number_of_crl crl = crl.number
-
-abbrev crl_out : Crl → Output
-crl_out crl = (number crl.number ∷ [], shown_crl (row_of crl))
 
 module _ (db : Database) (records : Records) (shown : IsShownBy db records) (rows : List Row) (reads : Reads (command_of (understood register_schema CRLS.now)) db [] rows) where
   crls_given : Given (λ _. true) crl_out records.crls (selects 11 [] (col 1 0 ∷ col 1 2 ∷ []) by_first no_limit) [] rows

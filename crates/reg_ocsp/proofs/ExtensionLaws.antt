@@ -1,5 +1,5 @@
 -- Extensions: what is read is spelled so, and what is spelled so is read.
-use Rattle.std.proofs.Common.{◌≡◌, ℕ, ◌%◌, ◌<◌, ◌≤◌, Bool, true, false, not, ◌&&◌, ◌||◌, cond, eqb, List, [], ◌∷◌, ◌++◌, length, map, Option, Some, None, unwrap_or, refl, sym, ap, subst, ◌∙◌, arith}
+use Rattle.std.proofs.Common.{◌≡◌, ℕ, ◌%◌, ◌<◌, ◌≤◌, Bool, true, false, not, ◌&&◌, cond, eqb, List, [], ◌∷◌, ◌++◌, length, map, Option, Some, None, unwrap_or, refl, sym, ap, subst, ◌∙◌, arith}
 use Rattle.std.specs.Prelude.{IfSome}
 use Rattle.std.specs.List.{flat_map}
 use Rattle.std.specs.Str.{bytes_eq}
@@ -11,15 +11,11 @@ use Rattle.reg_core.specs.Sequence.{◌>>=◌}
 use Rattle.reg_der.specs.Der.{tlv}
 use Rattle.reg_der.specs.Reading.{Takes}
 use Rattle.reg_der.proofs.PublicLaws.{value_size}
-use Rattle.reg_ocsp.proofs.Steps.{bind_then, some_is, kept}
+use Rattle.reg_der.proofs.Values.{bind_then, kept, some_is, or_false}
 use Rattle.reg_ocsp.specs.Request.{Extension, IsExtension, AreExtensions, nonce_identifier, first_nonce, optional, boolean, critical, extension, extensions}
 use Rattle.reg_ocsp.specs.Reading.{expect_at, whole_at, optional_at, last_at, all_at, flag_of, written_flag, critical_at, is_refused, fields_at, extension_at, nonce_at, written_nonce, last_nonce_at}
 use Rattle.reg_ocsp.proofs.PartLaws.{expect_takes, expect_again, whole_takes, whole_again, optional_takes, optional_again, last_takes, last_again, IsSmall, BeginsElse, begins_last}
 use Rattle.reg_ocsp.proofs.ItemLaws.{Reads, TakesItem, items_take, items_again}
-
-pub or_false : (a b : Bool) → (a || b) ≡ false → (a ≡ false) × (b ≡ false)
-or_false true b e = absurd cc
-or_false false b e = (refl, e)
 
 -- ---- the flag
 

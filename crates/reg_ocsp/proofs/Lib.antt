@@ -1,4 +1,3 @@
-pub mod Steps
 pub mod Sizes
 pub mod PartLaws
 pub mod ItemLaws

@@ -8,7 +8,7 @@ use Rattle.reg_core.specs.Sequence.{◌>>=◌}
 use Rattle.reg_der.specs.Der.{tlv}
 use Rattle.reg_der.specs.Reading.{Parts, value_at, Takes}
 use Rattle.reg_der.proofs.PublicLaws.{value_takes, value_again}
-use Rattle.reg_ocsp.proofs.Steps.{bind_then, some_is}
+use Rattle.reg_der.proofs.Values.{bind_then, some_is}
 use Rattle.reg_ocsp.specs.Request.{optional}
 use Rattle.reg_ocsp.specs.Reading.{expect_at, whole_at, optional_at, last_at}
 
@@ -18,11 +18,6 @@ use Rattle.reg_ocsp.specs.Reading.{expect_at, whole_at, optional_at, last_at}
 pub chosen : {A : Type 0} (b : Bool) (x : Option A) (y : A) → cond b x None ≡ Some y → (b ≡ true) × (x ≡ Some y)
 chosen true x y e = (refl, e)
 chosen false x y e = absurd cc
-
--- two ways to go on that do the same
-pub bind_same : {A B : Type 0} (read : Option A) (f g : A → Option B) → ((x : A) → read ≡ Some x → f x ≡ g x) → (read >>= f) ≡ (read >>= g)
-bind_same (Some x) f g same = same x refl
-bind_same None f g same = refl
 
 -- ---- one value
 

@@ -11,7 +11,7 @@ use Rattle.reg_core.specs.Sequence.{◌>>=◌}
 use Rattle.reg_der.specs.Der.{tlv, length_octets}
 use Rattle.reg_der.specs.Reading.{Takes}
 use Rattle.reg_der.proofs.PublicLaws.{value_size}
-use Rattle.reg_ocsp.proofs.Steps.{bind_then, some_is, kept}
+use Rattle.reg_der.proofs.Values.{bind_then, kept, some_is}
 use Rattle.reg_ocsp.specs.Request.{Single, IsSingle, Extension, AreExtensions, Id, asked_by, Form, IsForm, single, version, optional, extensions, to_be_signed, spelling, repeated, nonce_of, first_nonce, IsRequest, OneReading, cert_id, algorithm, raw_length, IsNonce, CanBeAnswered}
 use Rattle.reg_ocsp.specs.declared.asked.Asked.{Asked}
 use Rattle.reg_ocsp.specs.declared.fault.AskFault.{AskFault}

@@ -9,12 +9,12 @@ use Rattle.reg_core.specs.Sequence.{◌>>=◌}
 use Rattle.reg_der.specs.Der.{tlv}
 use Rattle.reg_der.specs.Reading.{Parts, value_at, Takes}
 use Rattle.reg_der.proofs.PublicLaws.{value_takes, value_again, value_size}
-use Rattle.reg_ocsp.proofs.Steps.{bind_then, some_is, kept}
+use Rattle.reg_der.proofs.Values.{bind_then, kept, some_is, or_false}
 use Rattle.reg_ocsp.specs.Request.{Target, IsTarget, Single, IsSingle, Id, id_of, asked_by, parameters, algorithm, cert_id, single, extensions}
 use Rattle.reg_ocsp.specs.Reading.{expect_at, whole_at, last_nonce_at, read_all, algorithm_at, is_shortest, serial_at, names_at, target_at, single_at}
 use Rattle.reg_ocsp.proofs.PartLaws.{chosen, expect_takes, expect_again, whole_takes, whole_again}
 use Rattle.reg_ocsp.proofs.ItemLaws.{Reads, TakesItem}
-use Rattle.reg_ocsp.proofs.ExtensionLaws.{or_false, last_nonce_takes, last_nonce_again}
+use Rattle.reg_ocsp.proofs.ExtensionLaws.{last_nonce_takes, last_nonce_again}
 
 -- ---- parameters
 

@@ -3,7 +3,7 @@ use Rattle.std.proofs.Common.{◌≡◌, ◌≤◌, ◌<◌, ◌⊎◌, ◌+◌,
 use Rattle.std.specs.Prelude.{⊤, IfErr, IfOk, IsErrAnd, filter_map, min, nat_lt, option_and_then, option_map, slice_get}
 use Rattle.std.specs.List.{AllByRecursion, cons_option, find}
 use Rattle.std.proofs.lemmas.Bool.{cases_Bool, cases_order, le-ltb, lt-ltb, ltb-true, ltb-false}
-use Rattle.std.proofs.lemmas.List.{length-map, length-take-le, take_all, take_more}
+use Rattle.std.proofs.lemmas.List.{length-take-le, take_all, take_more}
 use Rattle.reg_core.specs.Checks.{clock_checks, first_of_all}
 use Rattle.reg_core.specs.Crls.{row_of}
 use Rattle.reg_core.specs.Decisions.{IsDecidedBy}
@@ -30,6 +30,7 @@ use Rattle.reg_lists.proofs.Numbers.{dropped_numbered, find_self, looked_up, num
 use Rattle.reg_lists.proofs.Orders.{numbers_differ}
 use Rattle.reg_tables.specs.Tables.{rows_of}
 use Rattle.reg_tables.proofs.PageLemmas.{past_have}
+use Rattle.reg_tables.proofs.Few.{mapped}
 use Rattle.reg_office.specs.Faults.{IsStoreFault}
 use Rattle.reg_office.specs.Numbered.{cursor_of, row_at, table_of}
 use Rattle.reg_office.specs.declared.pages.Numbered.{Numbered}
@@ -102,9 +103,6 @@ get_mapped f [] n = refl
 get_mapped f (x ∷ xs) zero = refl
 get_mapped f (x ∷ xs) (suc n) = get_mapped f xs n
 
-size_mapped : {A B : Type 0} (f : A → B) (xs : List A) → length (map f xs) ≡ length xs
-size_mapped f xs = rw length-map refl
-
 mapped_cond : {A B : Type 0} (f : A → B) (b : Bool) (o : Option A) → option_map f (cond b o None) ≡ cond b (option_map f o) None
 mapped_cond f true o = refl
 mapped_cond f false o = refl
@@ -113,7 +111,7 @@ mapped_cond f false o = refl
 pub next_same : {A : Type 0} (key : A → ℕ) (at : ℕ → Cursor) (most : ℕ) (found : List A) (last : Option ℕ) (next : Option Cursor)
     → last ≡ cond (length found == most) (option_map key (slice_get found (length found - 1))) None → next ≡ option_map at last → next ≡ next_behind at most (map key found)
 next_same key at most found last next is told =
-    let size = size_mapped key found in
+    let size = mapped key found in
     told ∙ ap (option_map at) is ∙ mapped_cond at (length found == most) (option_map key (slice_get found (length found - 1)))
     ∙ ap (λ o. cond (length found == most) (option_map at o) None) (sym (get_mapped key found (length found - 1)))
     ∙ sym (ap (λ n. cond (n == most) (option_map at (slice_get (map key found) (n - 1))) None) size)

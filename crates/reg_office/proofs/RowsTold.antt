@@ -12,7 +12,7 @@ use Rattle.reg_core.specs.Records.{Records, certificate_in, certificate_of_order
 use Rattle.reg_core.specs.Status.{is_good, status_by}
 use Rattle.reg_core.specs.declared.command.Listing.{Listing}
 use Rattle.reg_core.specs.declared.command.Status.{Status}
-use Rattle.reg_core.specs.declared.command.Status.TheVariants.{Unknown, Good, Expired, Revoked}
+use Rattle.reg_core.specs.declared.command.Status.TheVariants.{Good}
 use Rattle.reg_core.specs.declared.rows.CertRow.{CertRow}
 use Rattle.reg_core.specs.declared.rows.OrderRow.{OrderRow}
 use Rattle.reg_core.specs.declared.rows.RequestRow.{RequestRow}
@@ -24,6 +24,7 @@ use Rattle.reg_lists.specs.declared.rows.OrderLine.{OrderLine}
 use Rattle.reg_lists.specs.declared.rows.RequestLine.{RequestLine}
 use Rattle.reg_lists.specs.declared.rows.Row.{Row}
 use Rattle.reg_lists.specs.declared.rows.Row.TheVariants.{Certificate, Request, Order}
+use Rattle.reg_tables.proofs.OverdueLemmas.{not_good}
 
 -- ---- what is there
 
@@ -141,13 +142,6 @@ pub ending_none : (records : Records) (now before : ℕ) (certificate : CertRow)
     → None ≡ ending_row records now before certificate
 ending_none records now before certificate late =
     not_so (is_good (status_at records now certificate)) (nat_lt certificate.not_after before) (certificate_row records now certificate) late
-
--- a status that is not good
-pub not_good : (s : Status) → (s ≡ Good → ⊥) → false ≡ is_good s
-not_good Unknown never = refl
-not_good Good never = absurd (never refl)
-not_good Expired never = refl
-not_good (Revoked at reason) never = refl
 
 pub none_good : {T : Type 0} (s : Status) (row : Option T) → (s ≡ Good → ⊥) → None ≡ cond (is_good s) row None
 none_good s row never = ap (λ b. cond b row None) (not_good s never)

@@ -1,6 +1,6 @@
 -- Over tables with no view, what is told as no register is none.
-use Rattle.std.proofs.Common.{◌≡◌, ℕ, true, List, [], ◌∷◌, map, refl, sym, ap, subst, ◌∙◌, arith, ◌<◌}
-use Rattle.std.specs.List.{filter, AllByRecursion}
+use Rattle.std.proofs.Common.{◌≡◌, ℕ, true, List, [], ◌∷◌, map, refl, sym, ap, subst, ◌∙◌}
+use Rattle.std.specs.List.{filter}
 use Rattle.std.specs.List.Sorted.{IsPermutation}
 use Rattle.std.specs.Ordering.{is_lt}
 use Rattle.std.proofs.lemmas.List.Sorted.{IsPermutation-sym, IsPermutation-trans, IsPermutation-map}
@@ -22,7 +22,8 @@ use Rattle.reg_core.specs.Schedule.{Ascends}
 use Rattle.reg_tables.specs.Reading.{shown_step}
 use Rattle.reg_tables.specs.Rows.{number}
 use Rattle.reg_tables.proofs.Queries.{selects, as_command, no_limit, passes, shows, Given, given, all_of}
-use Rattle.reg_tables.proofs.Sorting.{ascending_key, ascends, Rises, sorted_same}
+use Rattle.reg_tables.proofs.Sorting.{ascending_key, ascends, sorted_same}
+use Rattle.reg_tables.proofs.ScheduleLemmas.{ascends_rises, moment_of}
 use Rattle.reg_opening.specs.Said.{AreSteps}
 use Rattle.reg_opening.proofs.Resolved.{Names, names_one}
 use Rattle.reg_opening.proofs.OneTable.{AreOutputs}
@@ -31,20 +32,6 @@ use Rattle.reg_opening.proofs.Understood.{ReadsTable}
 use Rattle.reg_opening.proofs.SameRows.{answer, plain_tree}
 
 -- ---- steps
-
-abbrev moment_of : ℕ × ℕ → ℕ
-moment_of step = step.0
-
-above : (low high : ℕ) (xs : List (ℕ × ℕ)) → low < high → AllByRecursion (λ step. high < moment_of step) xs → AllByRecursion (λ step. low < moment_of step) xs
-above low high [] le all = tt
-above low high (x ∷ xs) le all = (omega arith, above low high xs le all.1)
-
-ascends_rises : (xs : List (ℕ × ℕ)) → Ascends xs → Rises moment_of xs
-ascends_rises [] up = tt
-ascends_rises (x ∷ []) up = (tt, tt)
-ascends_rises (x ∷ y ∷ xs) up =
-    let rest = ascends_rises (y ∷ xs) up.1 in
-    ((up.0, above (moment_of x) (moment_of y) xs up.0 rest.0), rest)
 
 -- a collation speaks of texts alone
 by_number : (c : Collation) (a b : ℕ) → key_cmp 0 (ascending c ∷ []) (number a ∷ []) (number b ∷ []) ≡ key_cmp 0 (ascending_key ∷ []) (number a ∷ []) (number b ∷ [])

@@ -1,8 +1,6 @@
 -- What the first rows make of a register's tables.
-use Rattle.std.proofs.Common.{◌≡◌, ◌==◌, ℕ, pos, true, false, List, [], ◌∷◌, IsTrue, refl, ap, subst, ◌∙◌, inl, inr, arith}
-use Rattle.std.specs.List.{AllByRecursion, list_any}
-use Rattle.std.proofs.lemmas.Bool.{cases_Bool}
-use Rattle.std.proofs.lemmas.Bool.Decides.{nat_tests}
+use Rattle.std.proofs.Common.{◌≡◌, ◌==◌, ℕ, pos, true, false, List, [], ◌∷◌, IsTrue, refl, ap, ◌∙◌}
+use Rattle.std.specs.List.{list_any}
 use Rattle.std.proofs.lemmas.List.Sorted.{IsPermutation-refl}
 use Rattle.sqlite_value.specs.declared.value.Value.TheVariants.{Null, Int, Blob}
 use Rattle.sqlite_value.specs.Order.{Row}
@@ -35,31 +33,15 @@ use Rattle.reg_opening.specs.Blank.{IsBlank, BlankBefore}
 use Rattle.reg_migration.specs.Refilled.{no_columns, no_counts}
 use Rattle.reg_opening.specs.Filled.{HasOffice, HasCounts}
 use Rattle.reg_migration.specs.declared.texts.TheConstants.{PUT_COUNTS}
+use Rattle.reg_migration.proofs.FirstRows.{counts_terms, at_any, put_counts_means}
 use Rattle.reg_opening.specs.declared.texts.TheConstants.{PUT_OFFICE}
 
 abbrev office_terms : List Term
 office_terms = lit (Int (pos 1)) ∷ lit Null ∷ lit (Int (pos 3)) ∷ col 0 0 ∷ col 0 1 ∷ col 0 2 ∷ col 0 3 ∷ col 0 4 ∷ col 0 5 ∷ lit (Int (pos 0)) ∷ []
 
-abbrev counts_terms : List Term
-counts_terms = lit (Int (pos 1)) ∷ lit Null ∷ lit (Int (pos 0)) ∷ lit (Int (pos 0)) ∷ lit (Int (pos 0)) ∷ []
-
 put_office_means : IsWriting PUT_OFFICE.now (inserts 0 office_terms 10)
 unfolding understood everything register_schema
 put_office_means = record { plain = (refl, refl); is = refl }
-
-put_counts_means : IsWriting PUT_COUNTS.now (inserts 8 counts_terms 5)
-unfolding understood everything register_schema
-put_counts_means = record { plain = (refl, refl); is = refl }
-
-same_tree : (m n : ℕ) → (m == n) ≡ true → m ≡ n
-same_tree m n e = grind (arith, nat_tests)
-
-at_any : (P : ℕ → Type 0) (xs : List ℕ) (n : ℕ) → AllByRecursion P xs → list_any (λ t. t == n) xs ≡ true → P n
-at_any P [] n all known = absurd (cc)
-at_any P (x ∷ xs) n all known = elim (cases_Bool (x == n)) [
-  | inl here ↦ subst P (same_tree x n here) all.0
-  | inr apart ↦ at_any P xs n all.1 (rw apart at known)
-]
 
 -- each table has no row
 blank_at : (db : Database) → IsBlank register_schema db → (n : ℕ) → list_any (λ t. t == n) table_trees ≡ true → db.trees n ≡ []

@@ -1,5 +1,5 @@
 -- A register that is created shows no records.
-use Rattle.std.proofs.Common.{◌≡◌, ◌≤◌, true, false, Result, Ok, Err, OnOk, IsTrue, sym, ap, subst, ◌∙◌, arith}
+use Rattle.std.proofs.Common.{◌≡◌, ◌≤◌, true, false, IsTrue, sym, ap, subst, ◌∙◌, arith}
 use Rattle.sqlite_trees.specs.Tree.{Trees}
 use Rattle.sqlite_trees.specs.View.{doubt}
 use Rattle.sqlite_trees.specs.declared.store.Store.{Ghosts}
@@ -23,11 +23,6 @@ use Rattle.reg_opening.proofs.FirstRows.{none_kept}
 -- what a transaction begins with, where there is no table
 pub begun_blank : {S : Type 0} (g : Ghosts S) (was begun : Held S) → begun ≡ record was { in_transaction = true } → was.schema ≡ no_schema → BlankBefore (state g begun) no_schema
 begun_blank g was begun begins none = subst (λ h. BlankBefore (state g h) no_schema) (sym begins) (λ up. record { schema = none; rows = tt })
-
--- a step after steps, of which each may fail
-pub ok_on : {A E : Type 0} (P Q : Type 0) (r : Result A E) → (P → Q) → OnOk r P → OnOk r Q
-ok_on P Q (Ok x) leads holds = leads holds
-ok_on P Q (Err e) leads holds = tt
 
 -- the transaction that makes the tables is committed
 pub created_shows : {S : Type 0} (g : Ghosts S) (issuer : Issuer) (policy : Terms) (entered ended : Held S) → doubt (state g entered).is_clean ≤ doubt (state g ended).is_clean

@@ -17,6 +17,7 @@ use Rattle.reg_opening.proofs.Understood.{ReadsTable}
 use Rattle.reg_opening.proofs.TableTexts.{version_names, version_is, office_names, office_is, older_names, older_is, steps_names, steps_keys, steps_is}
 use Rattle.reg_opening.proofs.SameRows.{not_both, same_row}
 use Rattle.reg_opening.proofs.Determined.{same_steps}
+use Rattle.reg_opening.proofs.Registered.{number_one}
 
 -- ---- a text that reads one table
 
@@ -45,9 +46,6 @@ module _ (text : List ℕ) (names keys : List (List ℕ)) (db : Database) (means
       (one.0, same ∙ one.1, one.2)
 
 -- ---- the tables of an office
-
-number_one : (a b : ℕ) → number a ≡ number b → a ≡ b
-number_one a b e = cc
 
 one_version : (rows : List Row) (a b : ℕ) → IsOne (λ row. column row 0 ≡ number a) rows → IsOne (λ row. column row 0 ≡ number b) rows → a ≡ b
 one_version rows a b one two = number_one a b (sym one.2 ∙ ap (λ r. column r 0) (only_row rows one.0 two.0 one.1 two.1) ∙ two.2)

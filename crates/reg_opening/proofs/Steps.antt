@@ -4,6 +4,7 @@ use Rattle.sqlite_value.specs.Order.{Row, column}
 use Rattle.reg_core.specs.Calendar.{IsMoment}
 use Rattle.reg_tables.specs.Rows.{number}
 use Rattle.reg_opening.specs.Said.{AreSteps, HaveMoments}
+use Rattle.reg_opening.proofs.Registered.{number_one}
 
 abbrev IsStep : Row → ℕ × ℕ → Type 0
 IsStep row step = (column row 0 ≡ number step.0) × (column row 1 ≡ number step.1)
@@ -31,9 +32,6 @@ take_rows zero [] h = refl
 take_rows (suc n) [] h = refl
 take_rows zero (x ∷ rows) h = absurd (omega arith)
 take_rows (suc n) (x ∷ rows) h = ap (λ l. x ∷ l) (take_rows n rows (omega arith))
-
-number_one : (a b : ℕ) → number a ≡ number b → a ≡ b
-number_one a b e = cc
 
 -- rows are the steps of one schedule alone
 pub steps_same : (rows : List Row) (a b : List (ℕ × ℕ)) → AreSteps rows a → AreSteps rows b → a ≡ b

@@ -1,24 +1,15 @@
 -- Bytes that come into a room, one read behind the other.
-use Rattle.std.proofs.Common.{◌≡◌, ℕ, ◌≤◌, ◌+◌, List, ◌++◌, length, take, sym, ap, ◌∙◌, subst, arith}
+use Rattle.std.proofs.Common.{◌≡◌, ℕ, ◌≤◌, ◌+◌, List, length, take, sym, subst, arith}
 use Rattle.std.specs.declared.option.Option.{Option}
 use Rattle.std.specs.Io.KnownBytes.{Consumes}
 use Rattle.std.proofs.KnownBytes.{Consumes-trans}
-use Rattle.std.proofs.Math.Seq.{take-append-add}
-use Rattle.std.proofs.lemmas.List.{take-append-le, length-take-le}
-use borrow.Rule.Slice.PartMut.{put_mid, post_of}
+use borrow.Rule.Slice.PartMut.{put_mid}
+use Rattle.reg_wire.proofs.Buffers.{filled}
 
 -- so many bytes at the front of the room are those that came
 pub record CameSoFar (input left : Option (List ℕ)) (room : List ℕ) (count : ℕ) : Type 0 where
   pub within : count ≤ length room
   pub came : Consumes input left (take count room)
-
--- after a read of n bytes into `room[a..]`, which left ys there: the first a bytes stayed, and the n bytes follow
-filled : (a k n : ℕ) (xs ys : List ℕ) → a ≤ length xs → n ≤ length ys → take (a + n) (put_mid a k xs ys) ≡ take a xs ++ take n ys
-filled a k n xs ys fits short =
-    let front : length (take a xs) ≡ a = length-take-le a xs fits in
-    ap (λ m. take (m + n) (put_mid a k xs ys)) (sym front)
-    ∙ take-append-add (take a xs) (ys ++ post_of a k xs) n
-    ∙ ap (λ l. take a xs ++ l) (take-append-le n ys (post_of a k xs) short)
 
 -- one read more
 pub came_more : (input middle left : Option (List ℕ)) (room ys : List ℕ) (count k n : ℕ)

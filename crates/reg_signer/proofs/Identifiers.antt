@@ -1,17 +1,12 @@
 -- Each AlgorithmIdentifier is one.
-use Rattle.std.proofs.Common.{ℕ, zero, suc, ◌<◌, List, [], ◌∷◌, refl, arith, rules}
-use Rattle.std.specs.List.{AllByRecursion}
+use Rattle.std.proofs.Common.{ℕ, List, [], ◌∷◌, refl, arith, rules}
 use Rattle.reg_core.specs.Integer.{IsBytes}
 use Rattle.reg_der.specs.Der.{tlv, length_octets}
 use Rattle.reg_crl.specs.Signing.{IsAlgorithm}
+use Rattle.reg_crl.proofs.Algorithms.{each_byte}
 use Rattle.reg_signer.specs.Algorithms.{identifier_of}
 use Rattle.reg_signer.specs.declared.algorithm.Algorithm.{Algorithm}
 use Rattle.reg_signer.specs.declared.algorithm.Algorithm.TheVariants.{EcdsaSha256, EcdsaSha384, RsaSha256, Ed25519}
-
-each_byte : (bytes : List ℕ) → AllByRecursion (λ byte. byte < 256) bytes → IsBytes bytes
-each_byte [] all i = omega arith
-each_byte (byte ∷ bytes) all zero = all.0
-each_byte (byte ∷ bytes) all (suc i) = each_byte bytes all.1 i
 
 -- the contents of each SEQUENCE
 abbrev contents_of : Algorithm → List ℕ

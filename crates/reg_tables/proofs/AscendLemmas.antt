@@ -5,12 +5,12 @@ use Rattle.std.specs.List.{AllByRecursion, IsAllAdjacentAnswer}
 use Rattle.std.specs.List.Sorted.{IsPermutation, IsNonDecreasingBy}
 use Rattle.std.specs.Ordering.{nat_cmp, is_lt}
 use Rattle.std.proofs.lemmas.Bool.{cases_Bool, ltb-true, ltb-false}
-use Rattle.std.proofs.lemmas.Bool.Decides.{nat_tests}
 use Rattle.std.proofs.lemmas.List.Elements.{All-from_recursion}
 use Rattle.std.proofs.lemmas.List.Sorted.{IsPermutation-refl, IsPermutation-cons, IsPermutation-trans, IsPermutation-append_left, IsPermutation-append_comm}
 use native.Mathlib.Numerals.{add-one}
 use Rattle.reg_core.specs.Crls.{EntriesAscend, insert_entry, ascending}
 use Rattle.reg_core.specs.declared.rows.Entry.{Entry}
+use Rattle.reg_core.proofs.Schedules.{before_from_test, test_from_before}
 
 -- ---- the test of neighbours
 
@@ -31,12 +31,6 @@ to_neighbours [] up k d within = absurd (omega arith)
 to_neighbours (x ∷ []) up k d within = absurd (omega arith)
 to_neighbours (x ∷ y ∷ xs) up zero d within = up.0.0
 to_neighbours (x ∷ y ∷ xs) up (suc k) d within = rw (add-one (suc k)) (rw (add-one k) at (to_neighbours (y ∷ xs) up.1 k d (omega arith)))
-
-before_from_test : (earlier later : ℕ) → is_lt (nat_cmp earlier later) ≡ true → earlier < later
-before_from_test earlier later tested = grind (arith, nat_tests)
-
-test_from_before : (earlier later : ℕ) → earlier < later → is_lt (nat_cmp earlier later) ≡ true
-test_from_before earlier later before = grind (arith, nat_tests)
 
 pub ascends_tested : (xs : List Entry) (risen : Bool) → IsAllAdjacentAnswer (λ (earlier later : Entry) answer. answer ≡ is_lt (nat_cmp earlier.serial later.serial)) xs risen → IsTrue risen ↔ EntriesAscend xs
 ascends_tested xs true tested = (

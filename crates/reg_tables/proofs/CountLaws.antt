@@ -18,10 +18,7 @@ use Rattle.reg_core.specs.declared.rows.RevocationRow.{RevocationRow}
 use Rattle.reg_tables.specs.Columns.{Columns, Standing, is_good_letter, ends_before}
 use Rattle.reg_tables.specs.Kept.{Kept, letter_of, standing_of}
 use Rattle.reg_tables.proofs.Few.{fewer}
-
-all_map : {A : Type 0} (P Q : A → Type 0) → ((x : A) → P x → Q x) → (xs : List A) → AllByRecursion P xs → AllByRecursion Q xs
-all_map P Q to [] all = tt
-all_map P Q to (x ∷ xs) all = (to x all.0, all_map P Q to xs all.1)
+use Rattle.reg_tables.proofs.Greatest.{all_map}
 
 all_both : {A : Type 0} (P Q R : A → Type 0) → ((x : A) → P x → Q x → R x) → (xs : List A) → AllByRecursion P xs → AllByRecursion Q xs → AllByRecursion R xs
 all_both P Q R to [] p q = tt

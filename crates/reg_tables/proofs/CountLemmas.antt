@@ -41,10 +41,10 @@ use Rattle.reg_tables.proofs.FailingLemmas.{asked_by, asked_of}
 
 -- ---- how many rows pass
 
-abbrev count_rows : Aggregate
+abbrev pub count_rows : Aggregate
 count_rows = record { op = CountRows; distinct = false; collation = Binary; argument = lit Null }
 
-abbrev in_one : Grouping
+abbrev pub in_one : Grouping
 in_one = record { keys = []; collations = []; aggregates = count_rows ∷ []; having = [] }
 
 abbrev counts_of : ℕ → List Term → Query
@@ -125,7 +125,7 @@ pub asked_ended : (now : ℕ) → IsAsked ENDED_BEFORE.now (number now ∷ [])
 unfolding understood everything register_schema
 asked_ended now = asked_of ENDED_BEFORE.now (counts_of 12 ended_terms) (codes "count(*)" ∷ []) (number now ∷ []) (never_overflows 12 ended_terms (number now ∷ [])) (omega arith, refl) ended_means refl
 
-is_g : (letter : Letter) → bytes_eq (letter_text letter) (codes "G") ≡ is_good_letter letter
+pub is_g : (letter : Letter) → bytes_eq (letter_text letter) (codes "G") ≡ is_good_letter letter
 is_g good = refl
 is_g revoked = refl
 is_g expired = refl
@@ -136,10 +136,10 @@ ended_test row now =
     let second = and_true (compares Lt (number row.not_after) (number now)) ∙ lt_number row.not_after now in
     λ i. first i && second i
 
-abbrev blank : Row → Output
+abbrev pub blank : Row → Output
 blank row = ([], [])
 
-abbrev blank_standing : Standing → Output
+abbrev pub blank_standing : Standing → Output
 blank_standing row = ([], [])
 
 ended_length : (letters : List Standing) (now : ℕ) → length (filter (passes ended_terms (number now ∷ [])) (counted_rows (map stored_standing letters))) ≡ length (filter (ends_before now) letters)
@@ -156,7 +156,7 @@ at_most_all p (x ∷ xs) = let rest = at_most_all p xs in elim (cases_Bool (p x)
   | inr failed ↦ rw failed (omega arith)
 ]
 
-min_is : (n most : ℕ) → n ≤ most → min n most ≡ n
+pub min_is : (n most : ℕ) → n ≤ most → min n most ≡ n
 min_is n most le = grind (arith, nat_tests)
 
 module _ (db : Database) (records : Records) (kept : Columns) (both : AreBoth db records kept) (now : ℕ) (rows : List Row) (reads : Reads (command_of (understood register_schema ENDED_BEFORE.now)) db (number now ∷ []) rows) where

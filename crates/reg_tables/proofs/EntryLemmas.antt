@@ -112,14 +112,14 @@ none_below p n from (crl ∷ rest) numbered low =
     let above : n ≤ crl.number = let is = numbered.0 in omega arith in
     rw (le-ltb crl.number n above) (none_below p n (from + 1) rest numbered.1 (omega arith))
 
-and_false : (b : Bool) → (b && false) ≡ false
+pub and_false : (b : Bool) → (b && false) ≡ false
 and_false true = refl
 and_false false = refl
 
-not_le : (n m : ℕ) → m < n → nat_le n m ≡ false
+pub not_le : (n m : ℕ) → m < n → nat_le n m ≡ false
 not_le n m less = grind (arith, nat_tests)
 
-is_le : (n m : ℕ) → n ≤ m → nat_le n m ≡ true
+pub is_le : (n m : ℕ) → n ≤ m → nat_le n m ≡ true
 is_le n m le = grind (arith, nat_tests)
 
 -- the first that passes is the one of the least number
@@ -141,7 +141,7 @@ first_any p n from (crl ∷ rest) numbered = elim (cases_Bool (p crl)) [
 listed_on : (records : Records) (n : ℕ) (row : RevocationRow) → NumberedFrom (λ crl. crl.number) 1 records.crls → lists n (listed_of records row) ≡ is_on records.certificates records.crls n row
 listed_on records n row numbered = ap (λ b. nat_le row.first n && b) (sym (first_any (is_past_on records.certificates row) n 1 records.crls numbered))
 
-same_filter : {A : Type 0} (p q : A → Bool) → ((x : A) → p x ≡ q x) → (xs : List A) → filter p xs ≡ filter q xs
+pub same_filter : {A : Type 0} (p q : A → Bool) → ((x : A) → p x ≡ q x) → (xs : List A) → filter p xs ≡ filter q xs
 same_filter p q same [] = refl
 same_filter p q same (x ∷ xs) = rw (same x, same_filter p q same xs) refl
 
@@ -172,7 +172,7 @@ pub record Lists (records : Records) (n : ℕ) (rows : List Row) (found : List E
   pub serials : AllByRecursion (λ (entry : Entry). IsSerial entry.serial) found
   pub same : IsPermutation (map entry_of (content records n)) found
 
-all_mapped : {A B : Type 0} (P : B → Type 0) (f : A → B) (xs : List A) → AllByRecursion (λ x. P (f x)) xs → AllByRecursion P (map f xs)
+pub all_mapped : {A B : Type 0} (P : B → Type 0) (f : A → B) (xs : List A) → AllByRecursion (λ x. P (f x)) xs → AllByRecursion P (map f xs)
 all_mapped P f [] all = tt
 all_mapped P f (x ∷ xs) all = (all.0, all_mapped P f xs all.1)
 

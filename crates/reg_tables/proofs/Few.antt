@@ -2,7 +2,6 @@
 use Rattle.std.proofs.Common.{◌≡◌, ◌≢◌, ◌≤◌, ◌<◌, ◌==◌, ℕ, Bool, true, List, [], ◌∷◌, map, take, length, refl, sym, ap, subst, arith, inl, inr}
 use Rattle.std.specs.List.{filter, AllByRecursion}
 use Rattle.std.proofs.lemmas.Bool.{cases_Bool}
-use Rattle.std.proofs.lemmas.Bool.Decides.{nat_tests}
 use Rattle.std.proofs.lemmas.List.{length-map}
 use Rattle.std.proofs.lemmas.List.Sorted.{length_permutation}
 use Rattle.sqlite_value.specs.Order.{Row}
@@ -10,6 +9,7 @@ use Rattle.sqlite_value.specs.declared.keys.Key.{Key}
 use Rattle.sqlite_sql.specs.Term.{Term}
 use Rattle.sqlite_sql.specs.Query.{Output}
 use Rattle.reg_core.specs.Sound.{NumberedFrom, KeysDiffer}
+use Rattle.reg_laws.proofs.CountFacts.{equal_numbers}
 use Rattle.reg_tables.proofs.Queries.{selects, no_limit, Given}
 use Rattle.reg_tables.proofs.Sorting.{Rises}
 use Rattle.reg_tables.proofs.Greatest.{numbered_rises}
@@ -33,12 +33,9 @@ module _ {A Key : Type 0} (key : A → Key) (k : Key) (keep : A → Bool) (is : 
     | inr lost ↦ rw lost (at_most_one xs differ.1)
   ]
 
-same_number : (m n : ℕ) → (m == n) ≡ true → m ≡ n
-same_number m n same = grind (arith, nat_tests)
-
 -- at most one row has a number
 pub one_number : {A : Type 0} (n : A → ℕ) (k : ℕ) (xs : List A) → KeysDiffer n xs → length (filter (λ a. n a == k) xs) ≤ 1
-one_number n k xs = at_most_one n k (λ a. n a == k) (λ a same. same_number (n a) k same) xs
+one_number n k xs = at_most_one n k (λ a. n a == k) (λ a same. equal_numbers (n a) k same) xs
 
 module _ {A : Type 0} (n : A → ℕ) where
   apart : (x : A) (xs : List A) → AllByRecursion (λ a. n x < n a) xs → AllByRecursion (λ a. n x ≢ n a) xs
@@ -62,7 +59,7 @@ fewer keep (x ∷ xs) = let rest = fewer keep xs in elim (cases_Bool (keep x)) [
   | inr lost ↦ rw lost (omega arith)
 ]
 
-mapped : {A B : Type 0} (f : A → B) (xs : List A) → length (map f xs) ≡ length xs
+pub mapped : {A B : Type 0} (f : A → B) (xs : List A) → length (map f xs) ≡ length xs
 mapped f xs = rw length-map refl
 
 -- as many rows as are kept

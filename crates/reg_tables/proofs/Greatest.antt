@@ -102,7 +102,7 @@ module _ {A : Type 0} (n : A → ℕ) (view : A → Row) (xs : List A) (numbered
   pub greatest_one : (P : A → Type 0) → AllByRecursion P xs → (row : Row) → rows ≡ row ∷ [] → Greatest P n view xs row
   greatest_one P all row one = first_one P all row g.to refl (sym one ∙ g.shown)
 
-all_map : {A : Type 0} (P Q : A → Type 0) → ((x : A) → P x → Q x) → (xs : List A) → AllByRecursion P xs → AllByRecursion Q xs
+pub all_map : {A : Type 0} (P Q : A → Type 0) → ((x : A) → P x → Q x) → (xs : List A) → AllByRecursion P xs → AllByRecursion Q xs
 all_map P Q to [] all = tt
 all_map P Q to (x ∷ xs) all = (to x all.0, all_map P Q to xs all.1)
 

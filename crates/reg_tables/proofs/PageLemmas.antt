@@ -217,16 +217,12 @@ unfolding understood everything register_schema
 asked_crls after most =
     asked_by CRLS_AFTER.now 11 past_number (col 1 0 ∷ col 1 2 ∷ []) by_number as_many (codes "number" ∷ codes "this_update" ∷ []) (number after ∷ number most ∷ []) (omega arith, refl) crls_mean refl
 
-abbrev crl_out : Crl → Output
+abbrev pub crl_out : Crl → Output
 crl_out crl = (number crl.number ∷ [], shown_crl (row_of crl))
 
 map-twice : {A B C : Type 0} (f : B → C) (g : A → B) (xs : List A) → map (λ x. f (g x)) xs ≡ map f (map g xs)
 map-twice f g [] = refl
 map-twice f g (x ∷ xs) = ap (λ l. f (g x) ∷ l) (map-twice f g xs)
-
-pub mapped_have : {A B : Type 0} (P : B → Type 0) (f : A → B) (xs : List A) → AllByRecursion (λ x. P (f x)) xs → AllByRecursion P (map f xs)
-mapped_have P f [] all = tt
-mapped_have P f (x ∷ xs) all = (all.0, mapped_have P f xs all.1)
 
 module _ (db : Database) (records : Records) (shown : IsShownBy db records) (after most : ℕ) (rows : List Row)
     (reads : Reads (command_of (understood register_schema CRLS_AFTER.now)) db (number after ∷ number most ∷ []) rows) where

@@ -1,5 +1,5 @@
 -- What a query on one table shows, of rows that records stand in.
-use Rattle.std.proofs.Common.{◌≡◌, ◌+◌, ℕ, pos, negsuc, Bool, false, cond, List, [], ◌∷◌, map, length, Option, None, Some, slice_get, refl, sym, ap, subst, ◌∙◌, arith, inl, inr}
+use Rattle.std.proofs.Common.{◌≡◌, ◌+◌, ℕ, pos, negsuc, Bool, true, false, cond, List, [], ◌∷◌, map, length, Option, None, Some, slice_get, refl, sym, ap, subst, ◌∙◌, arith, inl, inr}
 use Rattle.std.specs.List.{filter, find, flat_map, list_all, AllByRecursion}
 use Rattle.std.specs.List.Sorted.{IsPermutation, IsSorted}
 use Rattle.std.specs.declared.cmp.Ordering.{Ordering}
@@ -70,7 +70,11 @@ pub record Given {A : Type 0} (keep : A → Bool) (out : A → Output) (xs : Lis
   pub sorted : IsSorted (λ a b. key_cmp 0 (map (λ k. k.1) q.order) (out a).0 (out b).0) to
   pub shown : rows ≡ page q params (map (λ a. (out a).1) to)
 
-unmapped : {X Y : Type 0} (cmp : Y → Y → Ordering) (f : X → Y) (xs : List X) → IsSorted cmp (map f xs) → IsSorted (λ a b. cmp (f a) (f b)) xs
+pub all_kept : {A : Type 0} (xs : List A) → filter (λ _. true) xs ≡ xs
+all_kept [] = refl
+all_kept (x ∷ xs) = ap (λ l. x ∷ l) (all_kept xs)
+
+pub unmapped : {X Y : Type 0} (cmp : Y → Y → Ordering) (f : X → Y) (xs : List X) → IsSorted cmp (map f xs) → IsSorted (λ a b. cmp (f a) (f b)) xs
 unmapped cmp f xs sorted k d low high =
     rw (← get_or-map f xs (k + 1) d (f d) high, ← get_or-map f xs k d (f d) (omega arith)) (sorted k (f d) low (rw length-map high))
 

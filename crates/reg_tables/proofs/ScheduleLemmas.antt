@@ -24,14 +24,14 @@ use Rattle.reg_tables.proofs.Selecting.{select_never}
 use Rattle.reg_tables.proofs.FailingLemmas.{asked_by}
 use Rattle.reg_tables.proofs.Sorting.{ascending_key, ascends, Rises, sorted_same}
 
-abbrev moment_of : ℕ × ℕ → ℕ
+abbrev pub moment_of : ℕ × ℕ → ℕ
 moment_of step = step.0
 
 weaken : (low high : ℕ) (xs : List (ℕ × ℕ)) → low < high → AllByRecursion (λ step. high < moment_of step) xs → AllByRecursion (λ step. low < moment_of step) xs
 weaken low high [] le all = tt
 weaken low high (x ∷ xs) le all = (omega arith, weaken low high xs le all.1)
 
-ascends_rises : (xs : List (ℕ × ℕ)) → Ascends xs → Rises moment_of xs
+pub ascends_rises : (xs : List (ℕ × ℕ)) → Ascends xs → Rises moment_of xs
 ascends_rises [] up = tt
 ascends_rises (x ∷ []) up = (tt, tt)
 ascends_rises (x ∷ y ∷ xs) up =

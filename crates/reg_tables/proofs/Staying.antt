@@ -77,7 +77,7 @@ pub shown_open : (old new : State) (sql : List ℕ) (params : Row) (rows : List 
 unfolding Shown
 shown_open old new sql params rows h = rows_open old new sql h.0 _ rows _ h.2
 
-rows_same : (old new : State) (sql : List ℕ) (c : Compiled) (params : Row) (rows : List Row) (returning : Option Returning) → returning ≡ None → ShowsRows old new sql c params rows returning → IsUnchanged old new
+pub rows_same : (old new : State) (sql : List ℕ) (c : Compiled) (params : Row) (rows : List Row) (returning : Option Returning) → returning ≡ None → ShowsRows old new sql c params rows returning → IsUnchanged old new
 rows_same old new sql c params rows None none h = h.3
 rows_same old new sql c params rows (Some what) none h = absurd (cc)
 

@@ -31,9 +31,10 @@ use Rattle.reg_tables.proofs.Compares.{and_true, gt_number}
 use Rattle.reg_tables.proofs.Queries.{selects, as_command, Given, counted_given, all_of, kept_have}
 use Rattle.reg_tables.proofs.Selecting.{select_never}
 use Rattle.reg_tables.proofs.Sorting.{ascending_key, ascends, least_first, first_is_one}
-use Rattle.reg_tables.proofs.Greatest.{one_row}
+use Rattle.reg_tables.proofs.Greatest.{one_row, all_map}
 use Rattle.reg_tables.proofs.FailingLemmas.{asked_by}
 use Rattle.reg_tables.proofs.Few.{taken_few}
+use Rattle.reg_tables.proofs.EntryLemmas.{same_filter}
 
 -- ---- the number of the next CRL
 
@@ -47,10 +48,6 @@ next_is (x ∷ xs) numbered = let it = next_from 1 x xs numbered in omega arith
 
 le_next : (low first : ℕ) → nat_le (low + 1) first ≡ nat_lt low first
 le_next low first = grind (arith, nat_tests)
-
-same_filter : {A : Type 0} (p q : A → Bool) → ((x : A) → p x ≡ q x) → (xs : List A) → filter p xs ≡ filter q xs
-same_filter p q same [] = refl
-same_filter p q same (x ∷ xs) = rw (same x, same_filter p q same xs) refl
 
 pub unlisted_is : (records : Records) → NumberedFrom (λ crl. crl.number) 1 records.crls → filter (λ row. nat_lt (length records.crls) row.first) records.revocations ≡ unlisted records
 unlisted_is records numbered =
@@ -90,10 +87,6 @@ bound k (x ∷ xs) m all is = go (earliest xs) refl (bound k xs)
         let same : min x.at j ≡ m = some_number (min x.at j) m (sym (earliest_step x xs j some) ∙ is) in
         let low : k ≤ min x.at j = le_min k x.at j all.0 (later j all.1 some) in
         omega arith
-
-all_map : {A : Type 0} (P Q : A → Type 0) → ((x : A) → P x → Q x) → (xs : List A) → AllByRecursion P xs → AllByRecursion Q xs
-all_map P Q to [] all = tt
-all_map P Q to (x ∷ xs) all = (to x all.0, all_map P Q to xs all.1)
 
 -- one that none is below is the earliest
 earliest_all : (xs : List RevocationRow) → AllByRecursion (λ a. AllByRecursion (λ b. a.at ≤ b.at) xs → Some a.at ≡ earliest xs) xs

@@ -29,7 +29,7 @@ from_here texts at d step within is =
     ap (λ l. steps_of (texts_of l)) (drop-cons texts at d within)
     ∙ ap (λ o. option_and_then (λ s. option_map (λ rest. s ∷ rest) (steps_of (texts_of (drop (suc at) texts)))) o) (sym is)
 
-shifted : (steps : List (ℕ × ℕ)) (step : ℕ × ℕ) (o : Option (List (ℕ × ℕ)))
+pub shifted : (steps : List (ℕ × ℕ)) (step : ℕ × ℕ) (o : Option (List (ℕ × ℕ)))
     → option_map (λ rest. steps ++ rest) (option_map (λ rest. step ∷ rest) o) ≡ option_map (λ rest. (steps ++ step ∷ []) ++ rest) o
 shifted steps step None = refl
 shifted steps step (Some rest) = ap (λ l. Some l) (sym (append_assoc steps (step ∷ []) rest))

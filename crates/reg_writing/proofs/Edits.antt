@@ -68,7 +68,7 @@ pub record Turns (schema : Schema) (table : Table) (p : Row → Bool) (f : Row �
   pub others : AllByRecursion (λ t. t.tree ≢ table.tree → after.trees t.tree ≡ db t.tree) schema.tables
   pub counted : count ≡ length (filter p (db table.tree))
 
-uncounted_is : (X Y : Type 0) (b c : Bool) → b ≡ false → MatchBool (cond b c false) X Y → Y
+pub uncounted_is : (X Y : Type 0) (b c : Bool) → b ≡ false → MatchBool (cond b c false) X Y → Y
 uncounted_is X Y true c e h = absurd (cc)
 uncounted_is X Y false c e h = h
 

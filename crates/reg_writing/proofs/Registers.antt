@@ -18,6 +18,7 @@ use Rattle.sqlite.specs.Rows.{stamped}
 use Rattle.sqlite.specs.State.{State, mode_of, Writes}
 use Rattle.sqlite.specs.Listing.{understood}
 use Rattle.sqlite.proofs.Callers.{runs_as, statement_of}
+use Rattle.reg_laws.proofs.CountFacts.{equal_numbers}
 use Rattle.reg_tables.specs.Schema.{register_schema, table_trees}
 use Rattle.reg_tables.proofs.Queries.{passes}
 use Rattle.reg_writing.specs.Ran.{Ran}
@@ -43,10 +44,7 @@ none_acts tree olds news = acts_by tree olds news (length news == 0)
 pub record Spares (tree : ℕ) (db after : Trees) : Type 0 where
   pub same : (n : ℕ) → list_any (λ t. t == n) table_trees ≡ true → (n == tree) ≡ false → after n ≡ db n
 
-equal_trees : (m n : ℕ) → (m == n) ≡ true → m ≡ n
-equal_trees m n e = grind (arith, nat_tests)
-
-unequal_trees : (m n : ℕ) → (m == n) ≡ false → m ≢ n
+pub unequal_trees : (m n : ℕ) → (m == n) ≡ false → m ≢ n
 unequal_trees m n e = λ same. let t : (m == n) ≡ true = grind (arith, nat_tests) in cc
 
 listed_in : (n : ℕ) (tables : List Table) → list_any (λ t. t == n) (map (λ (t : Table). t.tree) tables) ≡ list_any (λ (t : Table). t.tree == n) tables
@@ -57,7 +55,7 @@ spares : (tree : ℕ) (db after : Trees) → AllByRecursion (λ t. t.tree ≢ tr
 spares tree db after all = record {
   same = λ n known apart.
       let found = some_has (λ (t : Table). t.tree == n) register_schema.tables (sym (listed_in n register_schema.tables) ∙ ap (list_any (λ t. t == n)) trees_are ∙ known) in
-      let is : found.0.tree ≡ n = equal_trees found.0.tree n found.2 in
+      let is : found.0.tree ≡ n = equal_numbers found.0.tree n found.2 in
       let keeps = all_has (λ (t : Table). t.tree ≢ tree → after t.tree ≡ db t.tree) register_schema.tables found.0 all found.1 in
       subst (λ m. m ≢ tree → after m ≡ db m) is keeps (unequal_trees n tree apart);
 }

@@ -4,8 +4,9 @@ use Rattle.reg_tables.proofs.Staying.{ok_then}
 use Rattle.reg_tables.specs.Columns as column
 use Rattle.reg_audit.specs.Beside.{standing_in}
 use Rattle.reg_audit.specs.declared.beside.Standing.{Standing}
+use Rattle.reg_audit.proofs.Following.{standing_out}
 use Rattle.reg_auditing.proofs.Having.{all_map}
-use Rattle.reg_auditing.proofs.Showing.{standing_out, letters_back, letters_are, serials_out}
+use Rattle.reg_auditing.proofs.Showing.{letters_back, letters_are, serials_out}
 use Rattle.reg_auditing.proofs.tables.letters.Goals as goal
 
 pub returns : goal.returns

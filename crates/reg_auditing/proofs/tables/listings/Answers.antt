@@ -4,9 +4,10 @@ use Rattle.reg_tables.proofs.Staying.{ok_then}
 use Rattle.reg_tables.specs.Columns as column
 use Rattle.reg_audit.specs.Beside.{listed_in}
 use Rattle.reg_audit.specs.declared.beside.Listed.{Listed}
+use Rattle.reg_audit.proofs.Following.{listed_out}
 use Rattle.reg_auditing.specs.Values.{AreMomentAndReason}
 use Rattle.reg_auditing.proofs.Having.{all_map}
-use Rattle.reg_auditing.proofs.Showing.{listed_out, listings_back, listed_are, serials_out}
+use Rattle.reg_auditing.proofs.Showing.{listings_back, listed_are, serials_out}
 use Rattle.reg_auditing.proofs.tables.listings.Goals as goal
 
 pub returns : goal.returns

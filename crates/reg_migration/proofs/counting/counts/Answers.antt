@@ -4,16 +4,12 @@ use Rattle.sqlite.specs.Held.{state}
 use Rattle.sqlite.specs.State.{HasCleanDisk}
 use Rattle.reg_tables.specs.Columns.{Letter, good, revoked, expired, letter_text, is_good_letter}
 use Rattle.reg_tables.specs.Shows.{AreBoth}
+use Rattle.reg_tables.proofs.CountLemmas.{is_g}
 use Rattle.reg_writing.specs.Ran.{Before}
 use Rattle.reg_writing.proofs.Moving.{was_clean}
 use Rattle.reg_migration.specs.Refilled.{is_revoked, is_expired}
 use Rattle.reg_migration.proofs.Steps.{unchanged_before}
 use Rattle.reg_migration.proofs.counting.counts.Goals as goal
-
-is_g : (letter : Letter) → bytes_eq (letter_text letter) (codes "G") ≡ is_good_letter letter
-is_g good = refl
-is_g revoked = refl
-is_g expired = refl
 
 is_r : (letter : Letter) → bytes_eq (letter_text letter) (codes "R") ≡ is_revoked letter
 is_r good = refl

@@ -9,7 +9,7 @@ use Rattle.reg_tables.proofs.Staying.{stepped_then}
 use Rattle.reg_writing.proofs.Moving.{was_clean}
 use Rattle.reg_opening.specs.Said.{SaysOffice, IsRead, IsRefused}
 use Rattle.reg_tables.specs.declared.statements.TheConstants.{STEPS}
-use Rattle.reg_opening.proofs.FirstShown.{ok_on}
+use Rattle.reg_migration.proofs.Steps.{ok_on}
 use Rattle.reg_opening.proofs.QueryTexts.{office_query, steps_query}
 use Rattle.reg_opening.proofs.Registered.{office_never, steps_never, office_read, steps_read, office_shown}
 use Rattle.reg_opening.proofs.opening.test_office.Goals as goal

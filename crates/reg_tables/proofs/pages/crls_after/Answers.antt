@@ -6,8 +6,9 @@ use Rattle.reg_core.specs.Crls.{row_of}
 use Rattle.reg_core.specs.Records.{Crl}
 use Rattle.reg_core.specs.declared.rows.CrlRow.{CrlRow}
 use Rattle.reg_lists.specs.Lists.{past}
+use Rattle.reg_tables.proofs.EntryLemmas.{all_mapped}
 use Rattle.reg_tables.proofs.Judging.{if_ok}
-use Rattle.reg_tables.proofs.PageLemmas.{reading_crls, asked_crls, crls_shown, mapped_have, past_have}
+use Rattle.reg_tables.proofs.PageLemmas.{reading_crls, asked_crls, crls_shown, past_have}
 use Rattle.reg_tables.proofs.Staying.{shows_register, shown_then}
 use Rattle.reg_tables.proofs.FailingLemmas.{never_store, written_register, written_shown}
 use Rattle.reg_tables.proofs.Written.{updated_early}
@@ -48,4 +49,4 @@ returns-clause-fails g c low below records written clean =
     never_store _ _ _ c.crls_in.result
     (c.crls_in.ensures.read (map row_of (take c.args.most (past (λ (crl : Crl). crl.number) c.args.after records.crls)))
     (crls_shown (state g.S.Store c.args.conn.now).now records shown c.args.after c.args.most c.in_ok-found.found.items reads))
-    (λ fault told store. told store (mapped_have (λ (crl : CrlRow). crl.this_update < clock_end) row_of (take c.args.most (past (λ (crl : Crl). crl.number) c.args.after records.crls)) early))
+    (λ fault told store. told store (all_mapped (λ (crl : CrlRow). crl.this_update < clock_end) row_of (take c.args.most (past (λ (crl : Crl). crl.number) c.args.after records.crls)) early))
