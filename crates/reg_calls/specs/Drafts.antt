@@ -4,7 +4,7 @@ use Rattle.reg_core.specs.Checks.{clock_checks, first_of_all}
 use Rattle.reg_core.specs.Records.{Records}
 use Rattle.reg_core.specs.declared.memory.Memory.{Memory}
 use Rattle.reg_ocsp.specs.Drafts.{Drafted}
-use Rattle.reg_ocsp.specs.Request.{Id, IsRequest}
+use Rattle.reg_ocsp.specs.Request.{Id, IsOcspRequest}
 use Rattle.reg_calls.specs.Ocsp.{IsOcspData, IsOcspReply}
 use Rattle.reg_calls.specs.Signatories.{Responder, Signatory, responder_key}
 use Rattle.reg_calls.specs.declared.begun.Begun.{Begun}
@@ -25,7 +25,7 @@ pub record IsReadDraft (responder : Responder) (records : Records) (now : ℕ) (
 pub record IsDraft (responder : Responder) (records : Records) (now : ℕ) (request : List ℕ) (draft : Drafted) : Type 0 where
   pub ids : List Id
   pub nonce : Option (List ℕ)
-  pub is_request : IsRequest request ids nonce
+  pub is_request : IsOcspRequest request ids nonce
   pub timely : first_of_all (clock_checks now records.last) ≡ None
   pub read : IsReadDraft responder records now ids nonce draft
 

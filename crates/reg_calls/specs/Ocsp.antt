@@ -9,14 +9,14 @@ use Rattle.reg_core.specs.declared.command.Status.TheVariants.{Unknown}
 use Rattle.reg_core.specs.declared.refusal.Refusal.{Refusal}
 use Rattle.reg_crl.specs.Signing.{Identity}
 use Rattle.reg_ocsp.specs.Matching.{IsMatch}
-use Rattle.reg_ocsp.specs.Request.{Id, IsRequest}
-use Rattle.reg_ocsp.specs.Response.{Answer, ocsp_response, refusal_response, response_data}
+use Rattle.reg_ocsp.specs.Request.{Id, IsOcspRequest}
+use Rattle.reg_ocsp.specs.Response.{SingleAnswer, ocsp_response, refusal_response, response_data}
 use Rattle.reg_ocsp.specs.declared.response.RefusalStatus.TheVariants.{Malformed, Internal, TryLater}
 use Rattle.reg_calls.specs.Signatories.{Responder, responder_key}
 
 -- the bytes are no OCSP request (RFC 6960 4.1.1)
 abbrev pub HasNoReading : List ℕ → Type 0
-HasNoReading bytes = (ids : List Id) (nonce : Option (List ℕ)) → ¬ (IsRequest bytes ids nonce)
+HasNoReading bytes = (ids : List Id) (nonce : Option (List ℕ)) → ¬ (IsOcspRequest bytes ids nonce)
 
 -- what a CertID is told: the status of the issuer's certificate that it names, and unknown where it names none
 -- (RFC 6960 2.2)
@@ -26,14 +26,14 @@ IsTold records now id told =
     ⊎ (((serial : ℕ) → ¬ (IsMatch records.issuer id serial)) × (told ≡ Unknown))
 
 -- the answer to a CertID: it is repeated byte for byte, with what it is told (SingleResponse, RFC 6960 4.2.1)
-pub record IsAnswer (records : Records) (now : ℕ) (id : Id) (answer : Answer) : Type 0 where
+pub record IsAnswer (records : Records) (now : ℕ) (id : Id) (answer : SingleAnswer) : Type 0 where
   pub repeated : answer.raw ≡ id.raw
   pub told : IsTold records now id answer.status
 
 -- the ResponseData of the records at a moment, by the key of who answers: one answer for each CertID in the order asked, each
 -- from this moment on for the life that the policy gives it, and the nonce (RFC 6960 4.2.1)
 pub record IsOcspData (key : List ℕ) (records : Records) (now : ℕ) (ids : List Id) (nonce : Option (List ℕ)) (tbs : List ℕ) : Type 0 where
-  pub answers : List Answer
+  pub answers : List SingleAnswer
   pub each : AllZip (IsAnswer records now) ids answers
   pub spelled : tbs ≡ response_data key now (now + records.policy.ocsp_life) answers nonce
 
@@ -90,5 +90,5 @@ IsOcspReply signs responder records now request bytes =
     (HasNoReading request × (bytes ≡ refusal_response Malformed))
     ⊎ ((ids : List Id)
     × (nonce : Option (List ℕ))
-    × IsRequest request ids nonce
+    × IsOcspRequest request ids nonce
     × IsReadReply signs responder records now ids nonce bytes)

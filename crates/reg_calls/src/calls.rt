@@ -5,7 +5,7 @@ use reg_core::{Command, Fault, Memory, Moment, Outcome, Query};
 use std::alloc::Global;
 
 /// What a face can ask of an office. Each call is stated by a relation of the office before and after it.
-pub trait Calls {
+pub trait OfficeCalls {
     ghost use Rattle.std.specs.Prelude.{ℕ, List, Option, Result};
     ghost use Rattle.reg_calls.specs.Drafts.{Begins};
     ghost use Rattle.reg_calls.specs.Items.{items_of};

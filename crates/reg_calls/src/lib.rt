@@ -3,8 +3,8 @@
 
 mod begun;
 mod calls;
-mod keeper;
+mod records;
 
 pub use begun::Begun;
-pub use calls::Calls;
-pub use keeper::Keeper;
+pub use calls::OfficeCalls;
+pub use records::OfficeOfRecords;

@@ -10,10 +10,10 @@ use Rattle.reg_core.specs.declared.change.Change.TheVariants.{Touch, Subscriber,
 use Rattle.reg_tables.specs.Columns.{Columns, office_days}
 use Rattle.reg_tables.specs.Rows.{number}
 use Rattle.reg_tables.specs.Shows.{Holds, ShowsBoth, AreBoth, HasOfficeDays, KeepsOfficeDays}
-use Rattle.reg_changes.specs.Beside.{beside}
+use Rattle.reg_changes.specs.ChangeEffects.{kept_rows_after}
 
 -- no change turns the days that are kept
-pub beside_days : (change : Change) (not_after : ℕ) (columns : Columns) → (beside change not_after columns).days ≡ columns.days
+pub beside_days : (change : Change) (not_after : ℕ) (columns : Columns) → (kept_rows_after change not_after columns).days ≡ columns.days
 beside_days Touch not_after columns = refl
 beside_days (Subscriber row) not_after columns = refl
 beside_days (Order row) not_after columns = refl

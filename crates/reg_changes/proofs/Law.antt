@@ -26,9 +26,9 @@ use Rattle.reg_tables.specs.Kept.{letter_of, standing_of, not_after_of, listed_o
 use Rattle.reg_laws.proofs.Lists.{all_push, all_weaker, all_join, find_none, find_front, find_back, find_past, some_and_of}
 use Rattle.reg_laws.proofs.Listed.{past_end_is}
 use Rattle.reg_laws.proofs.Listings.{last_stays, last_added, first_by_next, last_new, last_kept}
-use Rattle.reg_writing.specs.Steps.{turned, with_counts}
-use Rattle.reg_changes.specs.Steps.{lettered, swept, ended_by, is_good_at, good_at, revoked_at, has_passed, last_at, with_good, marked, shifted}
-use Rattle.reg_changes.specs.Beside.{after, end_by}
+use Rattle.reg_writing.specs.RowEffects.{turned, with_counts}
+use Rattle.reg_changes.specs.ColumnEffects.{lettered, swept, ended_by, is_good_at, good_at, with_revoked_letter, has_passed, with_last_listing, with_good, marked, shifted}
+use Rattle.reg_changes.specs.ChangeEffects.{columns_after, end_in_change}
 use Rattle.reg_writing.proofs.Letters.{letter_counts, map_same, found_each, counts_stand}
 use Rattle.reg_changes.proofs.Letters.{counts_swept, counts_good, counts_revoked, ended_enough}
 
@@ -86,19 +86,19 @@ module _ (records : Records) (columns : Columns) (now : ℕ) (sound : SoundRows 
   moved_stand : shifted columns.counts (ended_by now columns) 0 0 ≡ counts (touched records now) now
   moved_stand = moved ∙ counts_stand (touched records now) (found_each records sound) (swept now columns).letters passed
 
-  kept_touched : (end : ℕ) → Kept (after now Touch end columns) (touched records now)
+  kept_touched : (end : ℕ) → Kept (columns_after now Touch end columns) (touched records now)
   kept_touched end = record { letters = passed; counts = moved_stand; listed = kept.listed }
 
-  kept_subscriber : (row : _) (end : ℕ) → Kept (after now (Subscriber row) end columns) (with_subscriber records now row)
+  kept_subscriber : (row : _) (end : ℕ) → Kept (columns_after now (Subscriber row) end columns) (with_subscriber records now row)
   kept_subscriber row end = record { letters = passed; counts = moved_stand; listed = kept.listed }
 
-  kept_order : (row : _) (end : ℕ) → Kept (after now (Order row) end columns) (with_order records now row)
+  kept_order : (row : _) (end : ℕ) → Kept (columns_after now (Order row) end columns) (with_order records now row)
   kept_order row end = record { letters = passed; counts = moved_stand; listed = kept.listed }
 
-  kept_request : (row : _) (end : ℕ) → Kept (after now (Request row) end columns) (with_request records now row)
+  kept_request : (row : _) (end : ℕ) → Kept (columns_after now (Request row) end columns) (with_request records now row)
   kept_request row end = record { letters = passed; counts = moved_stand; listed = kept.listed }
 
-  kept_declined : (id end : ℕ) → Kept (after now (Decline id) end columns) (with_declined records now id)
+  kept_declined : (id end : ℕ) → Kept (columns_after now (Decline id) end columns) (with_declined records now id)
   kept_declined id end = record { letters = passed; counts = moved_stand; listed = kept.listed }
 
 -- ---- one certificate more
@@ -163,7 +163,7 @@ module _ (records : Records) (columns : Columns) (now : ℕ) (sound : SoundRows 
       λ i. record { serial = r.serial; at = r.at; reason = r.reason; first = r.first; not_after = ends i; last = lasts i })
       records.revocations sound.revocations.each (last_kept records now row sound))
 
-  kept_certificate : (end : ℕ) → Kept (after now (Certificate row) end columns) (with_certificate records now row)
+  kept_certificate : (end : ℕ) → Kept (columns_after now (Certificate row) end columns) (with_certificate records now row)
   kept_certificate end = record {
     letters = letters_grown;
     counts = counts_good (ended_by now columns) row.serial row.not_after columns.counts (swept now columns).letters (moved records columns now sound up kept) (enough records columns now sound up kept)
@@ -216,8 +216,8 @@ module _ (records : Records) (columns : Columns) (now : ℕ) (sound : SoundRows 
       ]))
       records.certificates (found_each records sound))
 
-  letters_lost : IsPermutation (map (standing_of revoking) records.certificates) (revoked_at row.serial (swept now columns)).letters
-  letters_lost = subst (λ those. IsPermutation those (revoked_at row.serial (swept now columns)).letters) letters_revoked
+  letters_lost : IsPermutation (map (standing_of revoking) records.certificates) (with_revoked_letter row.serial (swept now columns)).letters
+  letters_lost = subst (λ those. IsPermutation those (with_revoked_letter row.serial (swept now columns)).letters) letters_revoked
       (IsPermutation-map (turned (is_good_at row.serial) (lettered revoked)) (map (standing_of (touched records now)) records.certificates) (swept now columns).letters (passed records columns now sound up kept))
 
   new_listed : row.first ≡ next_number records.crls → listed_of revoking row ≡ record { serial = row.serial; at = row.at; reason = row.reason; first = row.first; not_after = certificate.not_after; last = None }
@@ -248,11 +248,11 @@ module _ (records : Records) (columns : Columns) (now : ℕ) (sound : SoundRows 
       (all_weaker (λ (c : CertRow). certificate_in records.certificates c.serial ≡ Some c) (λ (c : CertRow). is_good_at row.serial (standing_of (touched records now) c) ≡ (c.serial == row.serial)) good_here records.certificates (found_each records sound))
       ∙ one_has (λ (c : CertRow). c.serial) row.serial records.certificates certificate sound.certificates.serials_differ found
 
-  kept_revocation : row.first ≡ next_number records.crls → Kept (after now (Revocation row) certificate.not_after columns) (with_revocation records now row)
+  kept_revocation : row.first ≡ next_number records.crls → Kept (columns_after now (Revocation row) certificate.not_after columns) (with_revocation records now row)
   kept_revocation next = record {
     letters = letters_lost;
     counts = counts_revoked (ended_by now columns) row.serial columns.counts (swept now columns).letters (moved records columns now sound up kept) good_once (enough records columns now sound up kept)
-        ∙ counts_stand revoking (found_each records sound) (revoked_at row.serial (swept now columns)).letters letters_lost;
+        ∙ counts_stand revoking (found_each records sound) (with_revoked_letter row.serial (swept now columns)).letters letters_lost;
     listed =
         let new : Listed = record { serial = row.serial; at = row.at; reason = row.reason; first = row.first; not_after = certificate.not_after; last = None } in
         subst (λ those. IsPermutation those (columns.listed ++ new ∷ []))
@@ -267,7 +267,7 @@ module _ (records : Records) (columns : Columns) (now : ℕ) (sound : SoundRows 
   listing r not_after last = record { serial = r.serial; at = r.at; reason = r.reason; first = r.first; not_after = not_after; last = last }
 
   listed_on : (r : RevocationRow) → SoundRevocation records.last records.certificates records.requests records.crls r → r.first ≤ next_number records.crls
-      → turned (has_passed crl.this_update) (last_at crl.number) (listed_of records r) ≡ listed_of (with_crl records now crl) r
+      → turned (has_passed crl.this_update) (with_last_listing crl.number) (listed_of records r) ≡ listed_of (with_crl records now crl) r
   listed_on r its can = go (last_listing records r) refl
     where
       known : (c : CertRow) × (certificate_in records.certificates r.serial ≡ Some c) × (r.at ≤ c.not_after)
@@ -285,35 +285,35 @@ module _ (records : Records) (columns : Columns) (now : ℕ) (sound : SoundRows 
       by_test true = refl
       by_test false = refl
 
-      go : (last : Option ℕ) → last_listing records r ≡ last → turned (has_passed crl.this_update) (last_at crl.number) (listed_of records r) ≡ listed_of (with_crl records now crl) r
+      go : (last : Option ℕ) → last_listing records r ≡ last → turned (has_passed crl.this_update) (with_last_listing crl.number) (listed_of records r) ≡ listed_of (with_crl records now crl) r
       go (Some last) is =
-          ap (λ l. turned (has_passed crl.this_update) (last_at crl.number) (listing r (not_after_of records r.serial) l)) is
+          ap (λ l. turned (has_passed crl.this_update) (with_last_listing crl.number) (listing r (not_after_of records r.serial) l)) is
           ∙ ap (listing r (not_after_of records r.serial)) (sym (last_stays records now crl r last is))
       go None is =
-          ap (λ l. turned (has_passed crl.this_update) (last_at crl.number) (listing r (not_after_of records r.serial) l)) is
+          ap (λ l. turned (has_passed crl.this_update) (with_last_listing crl.number) (listing r (not_after_of records r.serial) l)) is
           ∙ by_test (nat_lt (not_after_of records r.serial) crl.this_update)
           ∙ ap (λ b. listing r (not_after_of records r.serial) (cond b (Some crl.number) None)) (sym past)
           ∙ ap (listing r (not_after_of records r.serial)) (sym (last_added records now crl r is))
 
-  all_listed_on : map (turned (has_passed crl.this_update) (last_at crl.number)) (map (listed_of records) records.revocations) ≡ map (listed_of (with_crl records now crl)) records.revocations
+  all_listed_on : map (turned (has_passed crl.this_update) (with_last_listing crl.number)) (map (listed_of records) records.revocations) ≡ map (listed_of (with_crl records now crl)) records.revocations
   all_listed_on =
-      map-map (turned (has_passed crl.this_update) (last_at crl.number)) (listed_of records) records.revocations
-      ∙ map_same (λ r. turned (has_passed crl.this_update) (last_at crl.number) (listed_of records r)) (listed_of (with_crl records now crl)) records.revocations
+      map-map (turned (has_passed crl.this_update) (with_last_listing crl.number)) (listed_of records) records.revocations
+      ∙ map_same (λ r. turned (has_passed crl.this_update) (with_last_listing crl.number) (listed_of records r)) (listed_of (with_crl records now crl)) records.revocations
       (all_join (SoundRevocation records.last records.certificates records.requests records.crls) (λ (r : RevocationRow). r.first ≤ next_number records.crls)
-      (λ (r : RevocationRow). turned (has_passed crl.this_update) (last_at crl.number) (listed_of records r) ≡ listed_of (with_crl records now crl) r) listed_on records.revocations sound.revocations.each (first_by_next records sound))
+      (λ (r : RevocationRow). turned (has_passed crl.this_update) (with_last_listing crl.number) (listed_of records r) ≡ listed_of (with_crl records now crl) r) listed_on records.revocations sound.revocations.each (first_by_next records sound))
 
   kept_crl : Kept (with_counts (shifted columns.counts (ended_by now columns) 0 0) (marked crl.number crl.this_update (swept now columns))) (with_crl records now crl)
   kept_crl = record {
     letters = passed records columns now sound up kept;
     counts = moved_stand records columns now sound up kept;
-    listed = subst (λ those. IsPermutation those (map (turned (has_passed crl.this_update) (last_at crl.number)) columns.listed)) all_listed_on
-        (IsPermutation-map (turned (has_passed crl.this_update) (last_at crl.number)) (map (listed_of records) records.revocations) columns.listed kept.listed);
+    listed = subst (λ those. IsPermutation those (map (turned (has_passed crl.this_update) (with_last_listing crl.number)) columns.listed)) all_listed_on
+        (IsPermutation-map (turned (has_passed crl.this_update) (with_last_listing crl.number)) (map (listed_of records) records.revocations) columns.listed kept.listed);
   }
 
 -- ---- each change
 
 pub kept_change : (records : Records) (columns : Columns) (now : ℕ) → SoundRows records → records.last ≤ now → Kept columns records → (change : Change) → Fits records now change
-    → Kept (after now change (end_by records now change) columns) (changed_by records now change)
+    → Kept (columns_after now change (end_in_change records now change) columns) (changed_by records now change)
 kept_change records columns now sound up kept Touch fits = kept_touched records columns now sound up kept now
 kept_change records columns now sound up kept (Subscriber row) fits = kept_subscriber records columns now sound up kept row now
 kept_change records columns now sound up kept (Order row) fits = kept_order records columns now sound up kept row now
@@ -323,7 +323,7 @@ kept_change records columns now sound up kept (Decline id) fits = kept_declined 
 kept_change records columns now sound up kept (Revocation row) fits =
     let known = some_and_of (λ certificate. now ≤ certificate.not_after) (certificate_in records.certificates row.serial) fits.1 in
     let ends : known.0.not_after ≡ not_after_of records row.serial = ap (λ found. unwrap_or (option_map (λ (c : CertRow). c.not_after) found) 0) (sym known.1) in
-    subst (λ moment. Kept (after now (Revocation row) moment columns) (with_revocation records now row)) ends
+    subst (λ moment. Kept (columns_after now (Revocation row) moment columns) (with_revocation records now row)) ends
     (kept_revocation records columns now sound up kept row known.0 known.1 known.2 fits.0 fits.2)
 kept_change records columns now sound up kept (NewCrl row der) fits =
     kept_crl records columns now sound up kept (record { number = row.number; this_update = row.this_update; bytes = der.now }) fits

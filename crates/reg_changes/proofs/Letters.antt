@@ -6,8 +6,8 @@ use Rattle.reg_core.specs.declared.command.Counts.{Counts}
 use Rattle.reg_tables.specs.Columns.{Letter, good, revoked, expired, is_good_letter, ends_before, Standing}
 use Rattle.reg_laws.proofs.CountFacts.{one_if, sum_of_two, same_length}
 use Rattle.reg_laws.proofs.Lists.{all_any}
-use Rattle.reg_writing.specs.Steps.{turned}
-use Rattle.reg_changes.specs.Steps.{lettered, is_good_at, shifted}
+use Rattle.reg_writing.specs.RowEffects.{turned}
+use Rattle.reg_changes.specs.ColumnEffects.{lettered, is_good_at, shifted}
 use Rattle.reg_writing.proofs.Letters.{is_revoked, is_expired, with_letter, letter_counts, same_counts}
 
 -- ---- some good ones are turned

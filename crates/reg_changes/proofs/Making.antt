@@ -7,7 +7,7 @@ use Rattle.reg_core.specs.declared.change.Change.{Change}
 use Rattle.reg_core.specs.declared.change.Change.TheVariants.{Touch, Subscriber, Order, Certificate, Request, Decline, Revocation, Crl as NewCrl}
 use Rattle.reg_core.specs.declared.rows.CertRow.{CertRow}
 use Rattle.reg_tables.specs.Columns.{Columns}
-use Rattle.reg_changes.specs.Beside.{TurnsOne, beside}
+use Rattle.reg_changes.specs.ChangeEffects.{TurnsOne, kept_rows_after}
 use Rattle.reg_writing.specs.Ran.{Before, Moved}
 
 -- a change at the last accepted moment, and then the moment
@@ -30,10 +30,10 @@ end_is (Some certificate) (Err e) is = is
 
 -- in a transaction that is under way, what makes this change makes the one that was given
 pub makes : {A E : Type 0} (old new : State) (records : Records) (columns : Columns) (now not_after : ℕ) (given change : Change) (r : Result A E) → given ≡ change → Fits records now given → Moved old old records columns
-    → (Fits records now change → Before old records columns → OnOk r (Moved old new (changed_by records records.last change) (beside change not_after columns)))
-    → OnOk r (Moved old new (changed_by records records.last given) (beside given not_after columns))
+    → (Fits records now change → Before old records columns → OnOk r (Moved old new (changed_by records records.last change) (kept_rows_after change not_after columns)))
+    → OnOk r (Moved old new (changed_by records records.last given) (kept_rows_after given not_after columns))
 makes old new records columns now not_after given change r same fits earlier step =
-    subst (λ those. OnOk r (Moved old new (changed_by records records.last those) (beside those not_after columns))) (sym same)
+    subst (λ those. OnOk r (Moved old new (changed_by records records.last those) (kept_rows_after those not_after columns))) (sym same)
     (step (subst (λ those. Fits records now those) same fits) (λ up. earlier.tables))
 
 -- what this change turns, the one that was given turns

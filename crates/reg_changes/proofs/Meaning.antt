@@ -8,7 +8,7 @@ use Rattle.sqlite_sql.specs.declared.ops.CompareOp.TheVariants.{Eq, Lt}
 use Rattle.sqlite.specs.Listing.{understood}
 use Rattle.sqlite_tied.specs.Compute.{everything}
 use Rattle.reg_tables.specs.Schema.{register_schema}
-use Rattle.reg_changes.specs.declared.texts.TheConstants.{SWEEP, MARK_REVOKED, SET_LAST, SET_NAME, PUT_SUBSCRIBER, PUT_ORDER, PUT_CERT, PUT_LETTER, PUT_REQUEST, SET_DECLINED, PUT_REVOCATION, PUT_LISTED, PUT_CRL, MARK_LISTED, CLEAR_STEPS}
+use Rattle.reg_changes.specs.declared.sql.TheConstants.{SWEEP, MARK_REVOKED, SET_LAST, SET_NAME, PUT_SUBSCRIBER, PUT_ORDER, PUT_CERT, PUT_LETTER, PUT_REQUEST, SET_DECLINED, PUT_REVOCATION, PUT_LISTED, PUT_CRL, MARK_LISTED, CLEAR_STEPS}
 use Rattle.reg_writing.proofs.Meaning.{updates, inserts, deletes, IsWriting}
 
 abbrev pub equals : Term → Term → Term

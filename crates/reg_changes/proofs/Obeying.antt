@@ -7,7 +7,7 @@ use Rattle.sqlite.specs.Effect.{IsDatabase}
 use Rattle.sqlite.specs.State.{State}
 use Rattle.reg_tables.specs.Schema.{register_schema}
 use Rattle.reg_writing.specs.Ran.{Ran}
-use Rattle.reg_changes.specs.declared.texts.TheConstants.{SET_LAST, SET_NAME, CLEAR_STEPS}
+use Rattle.reg_changes.specs.declared.sql.TheConstants.{SET_LAST, SET_NAME, CLEAR_STEPS}
 use Rattle.reg_writing.proofs.Meaning.{updates, deletes}
 use Rattle.reg_changes.proofs.Meaning.{set_last_means, set_name_means, clear_steps_means}
 use Rattle.reg_writing.proofs.Obeying.{obeys}

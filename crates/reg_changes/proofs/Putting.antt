@@ -22,8 +22,8 @@ use Rattle.reg_tables.specs.Columns.{good, Standing, Listed, Columns, stored_sta
 use Rattle.reg_tables.specs.Shows.{AreBoth}
 use Rattle.reg_tables.specs.Stays.{Moves}
 use Rattle.reg_writing.specs.Ran.{Ran}
-use Rattle.reg_changes.specs.Steps.{with_good, with_unlisted}
-use Rattle.reg_changes.specs.declared.texts.TheConstants.{PUT_SUBSCRIBER, PUT_ORDER, PUT_CERT, PUT_LETTER, PUT_REQUEST, PUT_REVOCATION, PUT_LISTED, PUT_CRL}
+use Rattle.reg_changes.specs.ColumnEffects.{with_good, with_unlisted}
+use Rattle.reg_changes.specs.declared.sql.TheConstants.{PUT_SUBSCRIBER, PUT_ORDER, PUT_CERT, PUT_LETTER, PUT_REQUEST, PUT_REVOCATION, PUT_LISTED, PUT_CRL}
 use Rattle.reg_changes.proofs.Meaning.{text, put_subscriber_means, put_order_means, put_cert_means, put_letter_means, put_request_means, put_revocation_means, put_listed_means, put_crl_means}
 use Rattle.reg_writing.proofs.Placing.{counted_put, stored_put, mapped_push, pushed}
 use Rattle.reg_writing.proofs.Edits.{cast_int, cast_null}

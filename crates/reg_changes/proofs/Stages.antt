@@ -16,7 +16,7 @@ use Rattle.reg_tables.specs.Shows.{IsShownBy, AreBoth}
 use Rattle.reg_writing.specs.Ran.{Ran}
 use Rattle.reg_writing.specs.Staged.{IsStaged}
 use Rattle.reg_der.specs.Issuers.{with_issuer}
-use Rattle.reg_changes.specs.declared.texts.TheConstants.{CLEAR_STEPS}
+use Rattle.reg_changes.specs.declared.sql.TheConstants.{CLEAR_STEPS}
 use Rattle.reg_changes.proofs.Meaning.{clear_steps_means}
 use Rattle.reg_writing.proofs.Turning.{stored_keyed}
 use Rattle.reg_writing.proofs.Registers.{empties_rows, empties_spares}

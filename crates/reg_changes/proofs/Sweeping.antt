@@ -28,10 +28,10 @@ use Rattle.reg_tables.proofs.Compares.{compares, and_true, eq_number, lt_number,
 use Rattle.reg_tables.proofs.Queries.{passes, all_of}
 use Rattle.reg_tables.proofs.CountLemmas.{is_g}
 use Rattle.reg_writing.specs.Ran.{Ran}
-use Rattle.reg_writing.specs.Steps.{turned}
+use Rattle.reg_writing.specs.RowEffects.{turned}
 use Rattle.reg_der.specs.Issuers.{with_issuer}
-use Rattle.reg_changes.specs.Steps.{lettered, swept, ended_by, is_good_at, revoked_at, good_at, has_passed, last_at, marked}
-use Rattle.reg_changes.specs.declared.texts.TheConstants.{SWEEP, MARK_REVOKED, SET_LAST, SET_NAME, SET_DECLINED, MARK_LISTED}
+use Rattle.reg_changes.specs.ColumnEffects.{lettered, swept, ended_by, is_good_at, with_revoked_letter, good_at, has_passed, with_last_listing, marked}
+use Rattle.reg_changes.specs.declared.sql.TheConstants.{SWEEP, MARK_REVOKED, SET_LAST, SET_NAME, SET_DECLINED, MARK_LISTED}
 use Rattle.reg_writing.proofs.Meaning.{IsWriting, updates}
 use Rattle.reg_changes.proofs.Meaning.{equals, below, text, sweep_means, mark_revoked_means, set_last_means, set_name_means, set_declined_means, mark_listed_means}
 use Rattle.reg_writing.proofs.Turning.{IsKeyed, behind_table, behind_keyed, behind_turned, behind_passing, stored_table, stored_keyed, stored_turned}
@@ -128,7 +128,7 @@ mark_test serial id row in_range its = ap₂ ◌&&◌ (eq_serial row.serial seri
 -- the good certificate with the serial number is revoked, and the UPDATE answers how many they are
 pub marks_revoked : (old new : State) (records : Records) (columns : Columns) (serial count : ℕ) → IsSerial serial → Ran MARK_REVOKED.now (serial_value serial ∷ []) old new count
     → (IsTrue old.is_open → AreBoth old.now records columns)
-    → Moves old new (λ db. AreBoth db records (revoked_at serial columns)) × (count ≡ good_at serial columns)
+    → Moves old new (λ db. AreBoth db records (with_revoked_letter serial columns)) × (count ≡ good_at serial columns)
 marks_revoked old new records columns serial count in_range ran before =
     letters_turned MARK_REVOKED.now (serial_value serial ∷ []) old new count ran records columns before
     (equals (col 1 1) (col 0 0) ∷ equals (col 1 3) (text (codes "G")) ∷ []) (col 1 1 ∷ col 1 2 ∷ text (codes "R") ∷ []) (is_good_at serial) (lettered revoked) mark_revoked_means
@@ -148,7 +148,7 @@ pub marks_listed : (old new : State) (records : Records) (columns : Columns) (n 
     → (IsTrue old.is_open → AreBoth old.now records columns) → Moves old new (λ db. AreBoth db records (marked n now columns))
 marks_listed old new records columns n now count ran before =
     listed_turned MARK_LISTED.now (number n ∷ number now ∷ []) old new count ran records columns before
-    (op2 (Is Binary) (col 1 6) (lit Null) ∷ below (col 1 5) (col 0 1) ∷ []) (col 1 1 ∷ col 1 2 ∷ col 1 3 ∷ col 1 4 ∷ col 1 5 ∷ col 0 0 ∷ []) (has_passed now) (last_at n) mark_listed_means
+    (op2 (Is Binary) (col 1 6) (lit Null) ∷ below (col 1 5) (col 0 1) ∷ []) (col 1 1 ∷ col 1 2 ∷ col 1 3 ∷ col 1 4 ∷ col 1 5 ∷ col 0 0 ∷ []) (has_passed now) (with_last_listing n) mark_listed_means
     (λ id row its. passed_test n now id row) (λ id row. simp cast_int) (λ row its. its)
 
 -- ---- a table of one row

@@ -1,4 +1,4 @@
-pub mod AtRest
-pub mod Beside
+pub mod AfterStoppedChange
+pub mod ChangeEffects
+pub mod ColumnEffects
 pub mod Days
-pub mod Steps

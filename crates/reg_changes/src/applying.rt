@@ -12,26 +12,26 @@ ghost use Rattle.reg_tables.specs.Columns.{Columns};
 ghost use Rattle.reg_tables.specs.Kept.{ShowsKept};
 ghost use Rattle.reg_tables.specs.Shows.{KeepsOfficeDays, Shows, ShowsBoth};
 ghost use Rattle.reg_tables.specs.Stays.{IsRegister, Looked, Stays};
-ghost use Rattle.reg_changes.specs.AtRest.{IsChanged, IsEntered};
-ghost use Rattle.reg_changes.specs.Beside.{TurnsOne, after, end_by};
+ghost use Rattle.reg_changes.specs.AfterStoppedChange.{IsChanged, IsEntered};
+ghost use Rattle.reg_changes.specs.ChangeEffects.{TurnsOne, columns_after, end_in_change};
 ghost use Rattle.reg_changes.specs.Days.{LeavesOfficeDays};
-ghost use Rattle.reg_changes.specs.Steps.{swept};
+ghost use Rattle.reg_changes.specs.ColumnEffects.{swept};
 
 use crate::entering::enter;
 use reg_core::{Change, Moment, Serial};
-use reg_tables::{CallFault, cert, kept_counts};
+use reg_tables::{DatabaseFault, cert, kept_counts};
 use sqlite::{Alter, Connection};
 
 /// Makes a change at a moment, in one transaction.
 ///
 /// # Errors
-/// `Memory`; `Store` where the database fails, where a count is missing or less than what is taken from it, and where what
-/// is revoked has not exactly one good letter. Nothing has changed then.
+/// `Memory`; `Store` where the database fails, where a count is missing or less than what is taken from it, and, of a
+/// revocation, where what is revoked has not exactly one good letter. Nothing has changed then.
 pub fn apply<S: Alter>(
     conn: &mut Connection<S>,
     now: Moment,
     change: &Change<'_>,
-) -> Result<(), CallFault>
+) -> Result<(), DatabaseFault>
     requires { conn.old.in_transaction ≡ false }
     ensures ok { (records : Records) → ShowsKept S.Store conn.old records → SoundRows records → records.last ≤ now → Fits records now change.now
         → OnOk result (ShowsKept S.Store conn.new (changed_by records now change.now)) }
@@ -53,8 +53,8 @@ fn end_for<S: Alter>(
     conn: &mut Connection<S>,
     now: Moment,
     change: &Change<'_>,
-) -> Result<Moment, CallFault>
-    ensures found { (records : Records) → Shows S.Store conn.old records → HasCleanDisk (state S.Store conn.new) → IfOk result (λ end. end ≡ end_by records now change.now) }
+) -> Result<Moment, DatabaseFault>
+    ensures found { (records : Records) → Shows S.Store conn.old records → HasCleanDisk (state S.Store conn.new) → IfOk result (λ end. end ≡ end_in_change records now change.now) }
     ensures looked { Looked S.Store conn.old conn.new }
 {
     match *change {
@@ -64,13 +64,13 @@ fn end_for<S: Alter>(
 }
 
 /// The end of the certificate with a serial number. `Store` where there is none.
-fn end_of<S: Alter>(conn: &mut Connection<S>, serial: Serial) -> Result<Moment, CallFault>
+fn end_of<S: Alter>(conn: &mut Connection<S>, serial: Serial) -> Result<Moment, DatabaseFault>
     ensures found { (records : Records) → Shows S.Store conn.old records → HasCleanDisk (state S.Store conn.new)
         → IfOk result (λ end. IsSomeAnd (certificate_in records.certificates serial) (λ certificate. certificate.not_after ≡ end)) }
     ensures looked { Looked S.Store conn.old conn.new }
 {
     let found = cert(conn, serial)?;
-    Ok(found.ok_or(CallFault::Store)?.not_after)
+    Ok(found.ok_or(DatabaseFault::Store)?.not_after)
 }
 
 /// The change as one transaction.
@@ -79,10 +79,10 @@ fn commit<S: Alter>(
     now: Moment,
     change: &Change<'_>,
     not_after: Moment,
-) -> Result<(), CallFault>
+) -> Result<(), DatabaseFault>
     requires { conn.old.in_transaction ≡ false }
     ensures ok { (records : Records) → (columns : Columns) → ShowsBoth S.Store conn.old records columns → SoundRows records → Fits records now change.now
-        → OnOk result (ShowsBoth S.Store conn.new (changed_by records now change.now) (after now change.now not_after columns)) }
+        → OnOk result (ShowsBoth S.Store conn.new (changed_by records now change.now) (columns_after now change.now not_after columns)) }
     ensures days { (records : Records) → (columns : Columns) → ShowsBoth S.Store conn.old records columns → SoundRows records → Fits records now change.now
         → OnOk result (KeepsOfficeDays S.Store conn.old conn.new) }
     ensures one { HasCleanDisk (state S.Store conn.new) → (records : Records) → (columns : Columns) → ShowsBoth S.Store conn.old records columns

@@ -10,32 +10,38 @@ ghost use Rattle.reg_core.specs.Sound.{SoundRows};
 ghost use Rattle.reg_tables.specs.Columns.{Columns};
 ghost use Rattle.reg_tables.specs.Stays.{Stepped};
 ghost use Rattle.reg_writing.specs.Ran.{Before, Moved};
-ghost use Rattle.reg_writing.specs.Steps.{with_counts};
-ghost use Rattle.reg_changes.specs.Steps.{swept, revoked_at, good_at, with_good, with_unlisted, marked, shifted};
-ghost use Rattle.reg_changes.specs.Beside.{TurnsOne, lost, added, beside, after};
+ghost use Rattle.reg_writing.specs.RowEffects.{with_counts};
+ghost use Rattle.reg_changes.specs.ColumnEffects.{swept, with_revoked_letter, good_at, with_good, with_unlisted, marked, shifted};
+ghost use Rattle.reg_changes.specs.ChangeEffects.{TurnsOne, lost, added, kept_rows_after, columns_after};
 
-use crate::steps::{
+use crate::statements::{
     mark_listed, mark_revoked, put_cert, put_crl, put_letter, put_listed, put_order, put_request,
     put_revocation, put_subscriber, set_declined, set_last, sweep,
 };
 use reg_core::{CertRow, Change, Counts, CrlRow, Moment, RevocationRow};
-use reg_tables::CallFault;
+use reg_tables::DatabaseFault;
 use reg_writing::set_counts;
 use sqlite::{Alter, Transaction};
 
 /// The counts once some good ones have ended, and a change is made. `Store` where the good ones are fewer than what is taken
 /// from them, or a count is too great.
-fn shift(counts: Counts, ended: usize, change: &Change<'_>) -> Result<Counts, CallFault>
+fn shift(counts: Counts, ended: usize, change: &Change<'_>) -> Result<Counts, DatabaseFault>
     ensures shifted { IfOk result (λ next. next ≡ shifted counts ended (lost change.now) (added change.now)) }
 {
     let (lost, added) = moves_good(change);
     let ended = ended as u64;
-    let gone = ended.checked_add(lost).ok_or(CallFault::Store)?;
-    let before = counts.good.checked_add(added).ok_or(CallFault::Store)?;
+    let gone = ended.checked_add(lost).ok_or(DatabaseFault::Store)?;
+    let before = counts.good.checked_add(added).ok_or(DatabaseFault::Store)?;
     Ok(Counts {
-        good: before.checked_sub(gone).ok_or(CallFault::Store)?,
-        revoked: counts.revoked.checked_add(lost).ok_or(CallFault::Store)?,
-        expired: counts.expired.checked_add(ended).ok_or(CallFault::Store)?,
+        good: before.checked_sub(gone).ok_or(DatabaseFault::Store)?,
+        revoked: counts
+            .revoked
+            .checked_add(lost)
+            .ok_or(DatabaseFault::Store)?,
+        expired: counts
+            .expired
+            .checked_add(ended)
+            .ok_or(DatabaseFault::Store)?,
     })
 }
 
@@ -55,7 +61,7 @@ fn close<S: Alter>(
     tx: &mut Transaction<'_, S>,
     now: Moment,
     counts: Counts,
-) -> Result<(), CallFault>
+) -> Result<(), DatabaseFault>
     ensures ok { HasCleanDisk (state S.Store tx.new.conn.now) → (records : Records) → (columns : Columns) → Before (state S.Store tx.old.conn.now) records columns
         → OnOk result (Moved (state S.Store tx.old.conn.now) (state S.Store tx.new.conn.now) (touched records now) (with_counts counts columns)) }
     ensures database { HasCleanDisk (state S.Store tx.new.conn.now) → (records : Records) → (columns : Columns) → Before (state S.Store tx.old.conn.now) records columns
@@ -68,7 +74,7 @@ fn close<S: Alter>(
 }
 
 /// One certificate more, with its letter, which is good.
-fn register<S: Alter>(tx: &mut Transaction<'_, S>, row: CertRow) -> Result<(), CallFault>
+fn register<S: Alter>(tx: &mut Transaction<'_, S>, row: CertRow) -> Result<(), DatabaseFault>
     ensures ok { HasCleanDisk (state S.Store tx.new.conn.now) → (records : Records) → (columns : Columns) → Before (state S.Store tx.old.conn.now) records columns
         → OnOk result (Moved (state S.Store tx.old.conn.now) (state S.Store tx.new.conn.now) (with_certificate records records.last row) (with_good row.serial row.not_after columns)) }
     ensures stepped { Stepped S.Store tx.old tx.new }
@@ -83,9 +89,9 @@ fn revoke<S: Alter>(
     tx: &mut Transaction<'_, S>,
     row: RevocationRow,
     not_after: Moment,
-) -> Result<(), CallFault>
+) -> Result<(), DatabaseFault>
     ensures ok { HasCleanDisk (state S.Store tx.new.conn.now) → (records : Records) → (columns : Columns) → Before (state S.Store tx.old.conn.now) records columns
-        → OnOk result ((good_at row.serial columns ≡ 1) × Moved (state S.Store tx.old.conn.now) (state S.Store tx.new.conn.now) (with_revocation records records.last row) (with_unlisted row not_after (revoked_at row.serial columns))) }
+        → OnOk result ((good_at row.serial columns ≡ 1) × Moved (state S.Store tx.old.conn.now) (state S.Store tx.new.conn.now) (with_revocation records records.last row) (with_unlisted row not_after (with_revoked_letter row.serial columns))) }
     ensures stepped { Stepped S.Store tx.old tx.new }
 {
     put_revocation(tx, row)?;
@@ -93,12 +99,16 @@ fn revoke<S: Alter>(
     if mark_revoked(tx, row.serial)? == 1 {
         Ok(())
     } else {
-        Err(CallFault::Store)
+        Err(DatabaseFault::Store)
     }
 }
 
 /// One CRL more, with its bytes: it is the last that lists the certificates that ended before it.
-fn issue<S: Alter>(tx: &mut Transaction<'_, S>, row: CrlRow, der: &[u8]) -> Result<(), CallFault>
+fn issue<S: Alter>(
+    tx: &mut Transaction<'_, S>,
+    row: CrlRow,
+    der: &[u8],
+) -> Result<(), DatabaseFault>
     ensures ok { HasCleanDisk (state S.Store tx.new.conn.now) → (records : Records) → (columns : Columns) → row.number ≡ length records.crls + 1 → Before (state S.Store tx.old.conn.now) records columns
         → OnOk result (Moved (state S.Store tx.old.conn.now) (state S.Store tx.new.conn.now) (with_crl records records.last (record { number = row.number; this_update = row.this_update; bytes = der.now })) (marked row.number row.this_update columns)) }
     ensures stepped { Stepped S.Store tx.old tx.new }
@@ -114,10 +124,10 @@ fn put<S: Alter>(
     tx: &mut Transaction<'_, S>,
     change: &Change<'_>,
     not_after: Moment,
-) -> Result<(), CallFault>
+) -> Result<(), DatabaseFault>
     ensures ok { HasCleanDisk (state S.Store tx.new.conn.now) → (records : Records) → (columns : Columns) → (now : ℕ) → SoundRows records → Fits records now change.now
         → Moved (state S.Store tx.old.conn.now) (state S.Store tx.old.conn.now) records columns
-        → OnOk result (Moved (state S.Store tx.old.conn.now) (state S.Store tx.new.conn.now) (changed_by records records.last change.now) (beside change.now not_after columns)) }
+        → OnOk result (Moved (state S.Store tx.old.conn.now) (state S.Store tx.new.conn.now) (changed_by records records.last change.now) (kept_rows_after change.now not_after columns)) }
     ensures one { HasCleanDisk (state S.Store tx.new.conn.now) → (records : Records) → (columns : Columns) → Before (state S.Store tx.old.conn.now) records columns
         → OnOk result (TurnsOne change.now columns) }
     ensures stepped { Stepped S.Store tx.old tx.new }
@@ -141,10 +151,10 @@ pub(crate) fn enter<S: Alter>(
     change: &Change<'_>,
     not_after: Moment,
     counts: Counts,
-) -> Result<(), CallFault>
+) -> Result<(), DatabaseFault>
     ensures ok { HasCleanDisk (state S.Store tx.new.conn.now) → (records : Records) → (columns : Columns) → counts ≡ columns.counts → SoundRows records → Fits records now change.now
         → Before (state S.Store tx.old.conn.now) records columns
-        → OnOk result (Moved (state S.Store tx.old.conn.now) (state S.Store tx.new.conn.now) (changed_by records now change.now) (after now change.now not_after columns)) }
+        → OnOk result (Moved (state S.Store tx.old.conn.now) (state S.Store tx.new.conn.now) (changed_by records now change.now) (columns_after now change.now not_after columns)) }
     ensures database { HasCleanDisk (state S.Store tx.new.conn.now) → (records : Records) → (columns : Columns) → counts ≡ columns.counts → SoundRows records → Fits records now change.now → Before (state S.Store tx.old.conn.now) records columns
         → OnOk result (IsDatabase (state S.Store tx.new.conn.now).now) }
     ensures one { HasCleanDisk (state S.Store tx.new.conn.now) → (records : Records) → (columns : Columns) → Before (state S.Store tx.old.conn.now) records columns

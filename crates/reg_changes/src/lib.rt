@@ -5,8 +5,8 @@ mod applying;
 mod entering;
 mod naming;
 mod scheduling;
-pub mod steps;
-mod texts;
+mod sql;
+pub mod statements;
 
 pub use applying::apply;
 pub use naming::set_issuer;

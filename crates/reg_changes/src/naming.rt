@@ -9,19 +9,19 @@ ghost use Rattle.reg_tables.specs.Columns.{Columns};
 ghost use Rattle.reg_tables.specs.Kept.{ShowsKept};
 ghost use Rattle.reg_tables.specs.Shows.{KeepsOfficeDays};
 ghost use Rattle.reg_tables.specs.Stays.{Stays, Stepped};
-ghost use Rattle.reg_changes.specs.AtRest.{IsNamed};
+ghost use Rattle.reg_changes.specs.AfterStoppedChange.{IsNamed};
 ghost use Rattle.reg_der.specs.Issuers.{with_issuer};
 ghost use Rattle.reg_writing.specs.Ran.{Before, Moved};
 
-use crate::texts;
+use crate::sql;
 use reg_der::Issuer;
-use reg_tables::CallFault;
+use reg_tables::DatabaseFault;
 use reg_writing::writing::write;
 use sqlite::types::ValueRef;
 use sqlite::{Alter, Connection, Transaction};
 
 /// Sets what is kept of the issuer's Name. The key stays.
-fn set_name<S: Alter>(tx: &mut Transaction<'_, S>, issuer: &Issuer) -> Result<(), CallFault>
+fn set_name<S: Alter>(tx: &mut Transaction<'_, S>, issuer: &Issuer) -> Result<(), DatabaseFault>
     ensures ok { HasCleanDisk (state S.Store tx.new.conn.now) → (records : Records) → (columns : Columns) → records.issuer.key ≡ issuer.now.key → Before (state S.Store tx.old.conn.now) records columns
         → OnOk result (Moved (state S.Store tx.old.conn.now) (state S.Store tx.new.conn.now) (with_issuer records issuer.now) columns) }
     ensures database { HasCleanDisk (state S.Store tx.new.conn.now) → (records : Records) → (columns : Columns) → Before (state S.Store tx.old.conn.now) records columns
@@ -29,7 +29,7 @@ fn set_name<S: Alter>(tx: &mut Transaction<'_, S>, issuer: &Issuer) -> Result<()
     ensures inside { HasCleanDisk (state S.Store tx.new.conn.now) → OnOk result (tx.new.conn.now.in_transaction ≡ true) }
     ensures stepped { Stepped S.Store tx.old tx.new }
 {
-    write(tx, texts::SET_NAME, &[ValueRef::Blob(issuer.kept())])?;
+    write(tx, sql::SET_NAME, &[ValueRef::Blob(issuer.kept())])?;
     Ok(())
 }
 
@@ -38,7 +38,7 @@ fn set_name<S: Alter>(tx: &mut Transaction<'_, S>, issuer: &Issuer) -> Result<()
 ///
 /// # Errors
 /// `Memory`; `Store` where the database fails. Nothing has changed then.
-pub fn set_issuer<S: Alter>(conn: &mut Connection<S>, issuer: &Issuer) -> Result<(), CallFault>
+pub fn set_issuer<S: Alter>(conn: &mut Connection<S>, issuer: &Issuer) -> Result<(), DatabaseFault>
     requires { conn.old.in_transaction ≡ false }
     ensures ok { (records : Records) → ShowsKept S.Store conn.old records → (HasCleanDisk (state S.Store conn.new) → records.issuer.key ≡ issuer.now.key) → OnOk result (ShowsKept S.Store conn.new (with_issuer records issuer.now)) }
     ensures days { (records : Records) → ShowsKept S.Store conn.old records → records.issuer.key ≡ issuer.now.key → OnOk result (KeepsOfficeDays S.Store conn.old conn.new) }

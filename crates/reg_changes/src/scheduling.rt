@@ -11,18 +11,18 @@ ghost use Rattle.reg_core.specs.Schedule.{IsSchedule};
 ghost use Rattle.reg_tables.specs.Kept.{ShowsKept};
 ghost use Rattle.reg_tables.specs.Shows.{Shows, KeepsOfficeDays};
 ghost use Rattle.reg_tables.specs.Stays.{Stays, Stepped};
-ghost use Rattle.reg_changes.specs.AtRest.{IsScheduled};
+ghost use Rattle.reg_changes.specs.AfterStoppedChange.{IsScheduled};
 ghost use Rattle.reg_writing.specs.Staged.{IsStaged};
 
-use crate::texts;
+use crate::sql;
 use reg_core::Schedule;
-use reg_tables::CallFault;
-use reg_writing::put_steps;
+use reg_tables::DatabaseFault;
+use reg_writing::put_schedule_steps;
 use reg_writing::writing::write;
 use sqlite::{Alter, Connection, Transaction};
 
 /// Takes all steps of the schedule out.
-fn clear_steps<S: Alter>(tx: &mut Transaction<'_, S>) -> Result<(), CallFault>
+fn clear_schedule_steps<S: Alter>(tx: &mut Transaction<'_, S>) -> Result<(), DatabaseFault>
     ensures ok { HasCleanDisk (state S.Store tx.new.conn.now) → (base : Trees) → (steps : List (ℕ × ℕ))
         → (IsTrue (state S.Store tx.old.conn.now).is_open → IsStaged base steps (state S.Store tx.old.conn.now).now)
         → OnOk result (IsStaged base [] (state S.Store tx.new.conn.now).now) }
@@ -32,7 +32,7 @@ fn clear_steps<S: Alter>(tx: &mut Transaction<'_, S>) -> Result<(), CallFault>
     ensures live { HasCleanDisk (state S.Store tx.new.conn.now) → OnOk result (IsTrue (state S.Store tx.new.conn.now).is_open) }
     ensures stepped { Stepped S.Store tx.old tx.new }
 {
-    write(tx, texts::CLEAR_STEPS, &[])?;
+    write(tx, sql::CLEAR_STEPS, &[])?;
     Ok(())
 }
 
@@ -40,7 +40,7 @@ fn clear_steps<S: Alter>(tx: &mut Transaction<'_, S>) -> Result<(), CallFault>
 fn write_schedule<S: Alter>(
     tx: &mut Transaction<'_, S>,
     schedule: &Schedule,
-) -> Result<(), CallFault>
+) -> Result<(), DatabaseFault>
     ensures ok { HasCleanDisk (state S.Store tx.new.conn.now) → (base : Trees) → (steps : List (ℕ × ℕ))
         → (IsTrue (state S.Store tx.old.conn.now).is_open → IsStaged base steps (state S.Store tx.old.conn.now).now)
         → OnOk result (IsTrue (state S.Store tx.new.conn.now).is_open → IsStaged base schedule.now (state S.Store tx.new.conn.now).now) }
@@ -51,8 +51,8 @@ fn write_schedule<S: Alter>(
     ensures live { HasCleanDisk (state S.Store tx.new.conn.now) → OnOk result (IsTrue (state S.Store tx.new.conn.now).is_open) }
     ensures stepped { Stepped S.Store tx.old tx.new }
 {
-    clear_steps(tx)?;
-    put_steps(tx, schedule.steps())
+    clear_schedule_steps(tx)?;
+    put_schedule_steps(tx, schedule.steps())
 }
 
 /// Sets the schedule of longest validities. It is no command: no record, nothing that is kept beside them and not the
@@ -63,7 +63,7 @@ fn write_schedule<S: Alter>(
 pub fn set_schedule<S: Alter>(
     conn: &mut Connection<S>,
     schedule: &Schedule,
-) -> Result<(), CallFault>
+) -> Result<(), DatabaseFault>
     requires { conn.old.in_transaction ≡ false }
     ensures ok { (records : Records) → ShowsKept S.Store conn.old records → OnOk result (ShowsKept S.Store conn.new (with_schedule records schedule.now)) }
     ensures shown { (records : Records) → Shows S.Store conn.old records → OnOk result (Shows S.Store conn.new (with_schedule records schedule.now)) }

@@ -5,7 +5,7 @@
 ghost use Rattle.std.specs.Prelude.{◌≡◌, ℕ, ◌+◌, ◌<◌, ◌^◌, false, IfSome, ⊤};
 ghost use Rattle.reg_core.specs.Checks.{clock_checks, first_of_all, live_checks, settle_checks, validity_checks, when};
 ghost use Rattle.reg_core.specs.Crls.{number_after};
-ghost use Rattle.reg_core.specs.Decisions.{is_full, IsDecided, IsDecidedBy, DecidesSubscriber, DecidesOrder, DecidesRegister, DecidesRequest, DecidesDecline, DecidesRevoke, DecidesCrl};
+ghost use Rattle.reg_core.specs.Decisions.{head_is_full, IsDecided, IsDecidedBy, DecidesSubscriber, DecidesOrder, DecidesRegister, DecidesRequest, DecidesDecline, DecidesRevoke, DecidesCrl};
 
 use crate::grounds::Ground;
 use crate::label::Label;
@@ -212,7 +212,7 @@ pub fn decide_crl(head: &Head, latest: Option<CrlRow>) -> Result<CrlRow, Refusal
 
 /// The next id of the table that would grow.
 fn next_id(head: &Head) -> Result<u64, Refusal>
-    ensures { IsDecidedBy (when (is_full head.entry.now) Refusal.Full) (λ id. id ≡ head.entry.now.held + 1) result }
+    ensures { IsDecidedBy (when (head_is_full head.entry.now) Refusal.Full) (λ id. id ≡ head.entry.now.held + 1) result }
 {
     if has_no_room(head) {
         return Err(Refusal::Full);
@@ -222,7 +222,7 @@ fn next_id(head: &Head) -> Result<u64, Refusal>
 
 /// The table that would grow holds as many rows as the policy allows.
 fn has_no_room(head: &Head) -> bool
-    ensures full { result ≡ is_full head.entry.now }
+    ensures full { result ≡ head_is_full head.entry.now }
     ensures room { (result ≡ false) → head.entry.now.held < 1000000 }
 {
     head.held >= head.policy.cap()

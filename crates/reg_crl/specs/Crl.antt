@@ -7,7 +7,7 @@ use Rattle.reg_core.specs.Crls.{CertList}
 use Rattle.reg_core.specs.declared.rows.Entry.{Entry}
 use Rattle.reg_der.specs.Authority.{name_of, key_identifier_at}
 use Rattle.reg_der.specs.Der.{tlv}
-use Rattle.reg_der.specs.Values.{integer_value, bits_value, time_value}
+use Rattle.reg_der.specs.WrittenValues.{integer_value, bits_value, time_value}
 
 -- an Extension that is not critical: extnID and extnValue, for DER leaves out the default FALSE (RFC 5280 4.1, X.690 11.5)
 unfoldable pub extension : List ℕ → List ℕ → List ℕ

@@ -5,6 +5,6 @@ use Rattle.reg_crl.specs.declared.signer.SignFault.{SignFault}
 use Rattle.reg_crl.specs.declared.signer.SignFault.TheVariants.{Device, Memory}
 
 -- want of memory stays so; else the signer failed
-abbrev pub fault_of : SignFault → Fault
-fault_of Device = SignerFailed
-fault_of Memory = LackedMemory
+abbrev pub signer_fault_of : SignFault → Fault
+signer_fault_of Device = SignerFailed
+signer_fault_of Memory = LackedMemory

@@ -25,9 +25,9 @@ impl From<AllocError> for SignFault {
 
 impl From<SignFault> for Fault {
     ghost use Rattle.std.specs.Prelude.{◌≡◌};
-    ghost use Rattle.reg_crl.specs.Faults.{fault_of};
+    ghost use Rattle.reg_crl.specs.Faults.{signer_fault_of};
 
-    ghost from_gives = { λ signing fault. fault ≡ fault_of signing };
+    ghost from_gives = { λ signing fault. fault ≡ signer_fault_of signing };
 
     fn from(signing: SignFault) -> Fault {
         match signing {

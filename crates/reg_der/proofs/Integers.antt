@@ -6,7 +6,7 @@ use Rattle.reg_core.specs.Integer.{IsBytes, value, without_zeros, with_clear_bit
 use Rattle.reg_core.proofs.PublicLaws.{octets_are_lowest, integer_is, integers_are_short}
 use Rattle.reg_core.specs.Serial.{serial_bytes}
 use Rattle.reg_der.specs.Der.{IsTlv}
-use Rattle.reg_der.specs.Values.{integer_value}
+use Rattle.reg_der.specs.WrittenValues.{integer_value}
 use Rattle.reg_der.proofs.Octets.{same_digits}
 
 -- 20 octets hold any such number

@@ -12,10 +12,10 @@ use Rattle.reg_core.specs.Sequence.{◌>>=◌}
 use Rattle.reg_core.proofs.PublicLaws.{octets_are_below, octets_are_lowest}
 use Rattle.reg_core.proofs.Integers.{is_bytes-take, is_bytes-append}
 use Rattle.reg_der.specs.Der.{tlv, IsTlv}
-use Rattle.reg_der.specs.Reading.{Parts, value_at}
-use Rattle.reg_der.specs.Authority.{IsName, IsKept, IsIssuer, name_in, behind_name, name_of, key_identifiers, key_identifier_at, identifier_value, identifier_at, identifiers_by, identifiers_at, identifier_for, but_for, others_than, with_identifier, HasIdentifier, IdentifiersFollow, IsPlain, NamesArePlain}
+use Rattle.reg_der.specs.ValueReading.{Parts, value_at}
+use Rattle.reg_der.specs.Authority.{IsIssuerName, IsKept, IsIssuer, name_in, behind_name, name_of, key_identifiers, key_identifier_at, identifier_value, identifier_at, identifiers_by, identifiers_at, identifier_for, but_for, others_than, with_identifier, HasIdentifier, IdentifiersFollow, IsPlain, NamesArePlain}
 use Rattle.reg_der.specs.declared.identifiers.KeyIdentifier.{KeyIdentifier}
-use Rattle.reg_der.proofs.Values.{bind_then, value_takes, value_again, value_reads, length-tlv_at_least, is_bytes-tlv}
+use Rattle.reg_der.proofs.ValueLemmas.{bind_then, value_takes, value_again, value_reads, length-tlv_at_least, is_bytes-tlv}
 
 -- ---- the number in eight octets
 
@@ -192,18 +192,18 @@ seeks_none number (first ∷ rest) bytes seeks read =
 
 -- ---- what is kept of a Name
 
-front_is : (name rest : List ℕ) (is : IsName name) → value_at (name ++ rest) ≡ Some (record { tag = 48; contents = is.contents }, rest)
+front_is : (name rest : List ℕ) (is : IsIssuerName name) → value_at (name ++ rest) ≡ Some (record { tag = 48; contents = is.contents }, rest)
 front_is name rest is = value_reads (name ++ rest) name rest is.contents 48 is.sequence refl
 
-pub name_in-is : (name rest : List ℕ) → IsName name → name_in (name ++ rest) ≡ name
+pub name_in-is : (name rest : List ℕ) → IsIssuerName name → name_in (name ++ rest) ≡ name
 unfolding name_in
 name_in-is name rest is = rw (front_is name rest is) (sym is.sequence.spelled)
 
-pub behind-is : (name rest : List ℕ) → IsName name → behind_name (name ++ rest) ≡ rest
+pub behind-is : (name rest : List ℕ) → IsIssuerName name → behind_name (name ++ rest) ≡ rest
 unfolding behind_name
 behind-is name rest is = rw (front_is name rest is) refl
 
-name_bytes : (name : List ℕ) → IsName name → IsBytes name
+name_bytes : (name : List ℕ) → IsIssuerName name → IsBytes name
 name_bytes name is =
     subst IsBytes (sym is.sequence.spelled) (is_bytes-tlv 48 is.contents (omega arith) is.sequence.short is.sequence.byte_contents)
 
@@ -216,14 +216,14 @@ behind_bytes kept each = by (value_at kept) refl
     by None is = λ i. omega arith
 
 -- a Name alone, as it was before there were key identifiers
-pub name_kept : (name : List ℕ) → IsName name → (IsKept name) × (name_in name ≡ name) × (behind_name name ≡ [])
+pub name_kept : (name : List ℕ) → IsIssuerName name → (IsKept name) × (name_in name ≡ name) × (behind_name name ≡ [])
 name_kept name is =
     let whole : name ++ [] ≡ name = append-nil name in
     let front : name_in name ≡ name = ap name_in (sym whole) ∙ name_in-is name [] is in
     let behind : behind_name name ≡ [] = ap behind_name (sym whole) ∙ behind-is name [] is in (
       record {
         each = name_bytes name is;
-        name = subst IsName (sym front) is;
+        name = subst IsIssuerName (sym front) is;
         identifiers = subst (λ (l : List ℕ). IsSome (identifiers_at l)) (sym behind) refl;
       },
       front,
@@ -309,7 +309,7 @@ identifiers_follow issuer first octets is fits label =
       within = record {
         name = record {
           each = is_bytes-append name more (name_bytes name is.name.name) more_bytes;
-          name = subst IsName (sym name_is) is.name.name;
+          name = subst IsIssuerName (sym name_is) is.name.name;
           identifiers = subst (λ (l : List ℕ). IsSome (identifiers_at l)) (sym behind) (subst (λ (o : Option (List KeyIdentifier)). IsSome o) (sym step) some);
         };
         key = is.key;

@@ -1,5 +1,5 @@
 pub mod Octets
-pub mod Values
+pub mod ValueLemmas
 pub mod Integers
 pub mod Names
 pub mod KeyIdentifiers

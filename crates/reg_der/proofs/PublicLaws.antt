@@ -1,8 +1,8 @@
 -- The laws, for proofs above: they cite these alone. Each is stated in specs/, and is what a function of `laws` ensures.
 use Rattle.reg_der.specs.Der.{NoTwoPrefixes, LengthIsFewest, ValuesHaveSizes}
-use Rattle.reg_der.specs.Reading.{ReadsValues, ReadsAgain}
+use Rattle.reg_der.specs.ValueReading.{ReadsValues, ReadsAgain}
 use Rattle.reg_der.specs.Authority.{IdentifiersFollow, NamesArePlain}
-use Rattle.reg_der.proofs.Values as values
+use Rattle.reg_der.proofs.ValueLemmas as values
 use Rattle.reg_der.proofs.KeyIdentifiers as identifiers
 use Rattle.reg_core.specs.Laws.{OneNumber}
 use Rattle.reg_core.proofs.PublicLaws as octets

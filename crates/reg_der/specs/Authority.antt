@@ -6,11 +6,11 @@ use Rattle.reg_core.specs.Issuer as core
 use Rattle.reg_core.specs.Label.{IsLabel}
 use Rattle.reg_core.specs.Sequence.{◌>>=◌}
 use Rattle.reg_der.specs.Der.{IsTlv, tlv}
-use Rattle.reg_der.specs.Reading.{Parts, value_at}
+use Rattle.reg_der.specs.ValueReading.{Parts, value_at}
 use Rattle.reg_der.specs.declared.identifiers.KeyIdentifier.{KeyIdentifier}
 
 -- a Name: one SEQUENCE, and not an empty one (RFC 5280 4.1.2.4), at most 1,024 bytes
-pub record IsName (name : List ℕ) : Type 0 where
+pub record IsIssuerName (name : List ℕ) : Type 0 where
   pub contents : List ℕ
   pub sequence : IsTlv name 48 contents
   pub some : 1 ≤ length contents
@@ -57,7 +57,7 @@ identifiers_at bytes = identifiers_by (length bytes) bytes
 -- a Name, and behind it key identifiers and nothing else
 pub record IsKept (kept : List ℕ) : Type 0 where
   pub each : IsBytes kept
-  pub name : IsName (name_in kept)
+  pub name : IsIssuerName (name_in kept)
   pub identifiers : IsSome (identifiers_at (behind_name kept))
 
 -- what is kept of the Name, and the key, are within their limits
@@ -116,4 +116,4 @@ pub record IsPlain (issuer : core.Issuer) : Type 0 where
   pub none : (number : ℕ) → key_identifier_at issuer number ≡ None
 
 abbrev pub NamesArePlain : Type 0
-NamesArePlain = (issuer : core.Issuer) → IsName issuer.name → IsPlain issuer
+NamesArePlain = (issuer : core.Issuer) → IsIssuerName issuer.name → IsPlain issuer

@@ -1,5 +1,5 @@
 pub mod Der
-pub mod Values
-pub mod Reading
+pub mod WrittenValues
+pub mod ValueReading
 pub mod Authority
 pub mod Issuers

@@ -3,7 +3,7 @@
 ghost use Rattle.std.specs.Prelude.{◌≡◌, ◌+◌, ◌<◌, ◌≤◌, length, IfSome, IsSome, IsTrue, ◌↔◌, unwrap_or, []};
 ghost use Rattle.reg_core.specs.Integer.{value};
 ghost use Rattle.reg_der.specs.Authority as authority;
-ghost use Rattle.reg_der.specs.Reading.{Gives};
+ghost use Rattle.reg_der.specs.ValueReading.{Gives};
 
 use crate::reading::take;
 use reg_core::Label;

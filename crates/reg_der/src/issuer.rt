@@ -2,7 +2,7 @@
 
 ghost use Rattle.std.specs.Prelude.{◌≡◌, ◌≤◌, ◌↔◌, ◌++◌, length, IfOk, IfSome, OnOk, IsErrOf, IsTrue};
 ghost use Rattle.sha1.specs.Sha1.{sha1};
-ghost use Rattle.reg_der.specs.Authority.{IsName, IsKey, IsKept, IsIssuer, name_in, behind_name, name_of, identifier_value, key_identifier_at, others_than, with_identifier, HasIdentifier};
+ghost use Rattle.reg_der.specs.Authority.{IsIssuerName, IsKey, IsKept, IsIssuer, name_in, behind_name, name_of, identifier_value, key_identifier_at, others_than, with_identifier, HasIdentifier};
 ghost use Rattle.reg_der.specs.declared.issuer.IssuerFault.TheVariants.{Memory};
 
 use crate::identifiers::{KEY_IDENTIFIER, are_identifiers, identifier_for, others_than};
@@ -70,9 +70,9 @@ impl Issuer {
     /// 2,048 bytes (RFC 5280 4.1.2.7). It has no key identifier of its own.
     pub fn new(alloc: Global, name: &[u8], key: &[u8]) -> Result<Issuer, IssuerFault>
         ensures ok { IfOk result (λ issuer. (issuer.name ≡ name.now) × (issuer.key ≡ key.now)) }
-        ensures good { OnOk result (IsName name.now × IsKey key.now) }
-        ensures bad_name { IsErrOf result IssuerFault.BadName ↔ ¬ (IsName name.now) }
-        ensures bad_key { IsErrOf result IssuerFault.BadKey ↔ (IsName name.now × ¬ (IsKey key.now)) }
+        ensures good { OnOk result (IsIssuerName name.now × IsKey key.now) }
+        ensures bad_name { IsErrOf result IssuerFault.BadName ↔ ¬ (IsIssuerName name.now) }
+        ensures bad_key { IsErrOf result IssuerFault.BadKey ↔ (IsIssuerName name.now × ¬ (IsKey key.now)) }
     {
         if is_name(name) {
             Issuer::of_kept(alloc, name, key)
@@ -124,7 +124,7 @@ impl Issuer {
     /// The DER value of the Name.
     pub fn name(&self) -> &[u8]
         ensures name { result.now ≡ name_of self.now }
-        ensures within { IsName result.now }
+        ensures within { IsIssuerName result.now }
     {
         parts(&self.name).0
     }
@@ -229,7 +229,7 @@ fn append(out: &mut Vec<u8>, bytes: &[u8]) -> Result<(), Memory>
 }
 
 fn is_name(name: &[u8]) -> bool
-    ensures { IsTrue result ↔ IsName name.now }
+    ensures { IsTrue result ↔ IsIssuerName name.now }
 {
     if name.len() > LONGEST_NAME {
         return false;

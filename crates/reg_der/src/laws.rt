@@ -1,7 +1,7 @@
 //! Laws of DER values. The functions do nothing: their contracts are the laws. Proofs above cite them by `proofs/PublicLaws.antt`.
 
 ghost use Rattle.reg_der.specs.Der.{NoTwoPrefixes, LengthIsFewest, ValuesHaveSizes};
-ghost use Rattle.reg_der.specs.Reading.{ReadsValues, ReadsAgain};
+ghost use Rattle.reg_der.specs.ValueReading.{ReadsValues, ReadsAgain};
 ghost use Rattle.reg_der.specs.Authority.{IdentifiersFollow, NamesArePlain};
 
 /// No two prefixes of the same bytes are values, so what `take` gives is the only one.

@@ -3,7 +3,7 @@
 ghost use Rattle.std.specs.Prelude.{◌≡◌, ℕ, List, ◌+◌, ◌++◌, ◌≤◌, length, IfSome, IfNone};
 ghost use Rattle.reg_core.specs.Integer.{value};
 ghost use Rattle.reg_der.specs.Der.{IsTlv};
-ghost use Rattle.reg_der.specs.Reading.{Gives, Parts, long_at, length_at, counted_at, value_at};
+ghost use Rattle.reg_der.specs.ValueReading.{Gives, Parts, long_at, length_at, counted_at, value_at};
 
 /// A value as it stands in the bytes that it was taken from.
 #[derive(Clone, Copy)]
@@ -35,7 +35,7 @@ fn number(digits: &[u8]) -> usize
 }
 
 /// The length in the `count` octets at the front, which the octet before them announced, and what follows.
-#[tactic(auto, unfolding(crate::specs::Reading::long_at))]
+#[tactic(auto, unfolding(crate::specs::ValueReading::long_at))]
 fn long_length(count: usize, bytes: &[u8]) -> Option<(usize, &[u8])>
     ensures exact { Gives (λ x. (x.0, x.1.now)) result (long_at count bytes.now) }
     ensures shorter { IfSome result (λ x. length x.1.now ≤ length bytes.now) }
@@ -53,7 +53,7 @@ fn long_length(count: usize, bytes: &[u8]) -> Option<(usize, &[u8])>
 }
 
 /// The length at the front, and what follows.
-#[tactic(auto, unfolding(crate::specs::Reading::length_at))]
+#[tactic(auto, unfolding(crate::specs::ValueReading::length_at))]
 fn length(bytes: &[u8]) -> Option<(usize, &[u8])>
     ensures exact { Gives (λ x. (x.0, x.1.now)) result (length_at bytes.now) }
     ensures shorter { IfSome result (λ x. length x.1.now ≤ length bytes.now) }
@@ -71,7 +71,7 @@ fn length(bytes: &[u8]) -> Option<(usize, &[u8])>
 }
 
 /// The contents that the length at the front counts, and what follows.
-#[tactic(auto, unfolding(crate::specs::Reading::counted_at))]
+#[tactic(auto, unfolding(crate::specs::ValueReading::counted_at))]
 fn counted(bytes: &[u8]) -> Option<(&[u8], &[u8])>
     ensures exact { Gives (λ x. (x.0.now, x.1.now)) result (counted_at bytes.now) }
     ensures shorter { IfSome result (λ x. length x.1.now ≤ length bytes.now) }
@@ -84,7 +84,7 @@ fn counted(bytes: &[u8]) -> Option<(&[u8], &[u8])>
 }
 
 /// The tag and the contents of the value at the front, and what follows.
-#[tactic(auto, unfolding(crate::specs::Reading::value_at))]
+#[tactic(auto, unfolding(crate::specs::ValueReading::value_at))]
 fn front(bytes: &[u8]) -> Option<(u8, &[u8], &[u8])>
     ensures exact { Gives (λ x. (record { tag = x.0; contents = x.1.now }, x.2.now)) result (value_at bytes.now) }
     ensures shorter { IfSome result (λ x. length x.2.now ≤ length bytes.now) }

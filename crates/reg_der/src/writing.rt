@@ -5,7 +5,7 @@ ghost use Rattle.std.specs.Prelude.{◌≡◌, ℕ, List, ◌∷◌, ◌++◌, �
 ghost use Rattle.reg_core.specs.Integer.{IsInteger, integer, without_zeros, with_clear_bit};
 ghost use Rattle.reg_core.specs.Calendar as calendar;
 ghost use Rattle.reg_der.specs.Der.{IsTlv, tlv, length_octets};
-ghost use Rattle.reg_der.specs.Values.{integer_value, bits_value, general_value, time_value};
+ghost use Rattle.reg_der.specs.WrittenValues.{integer_value, bits_value, general_value, time_value};
 
 use crate::times::{general_text, utc_text};
 use reg_core::{Memory, Moment, Serial};
@@ -54,7 +54,7 @@ pub fn put(out: &mut Vec<u8>, tag: u8, contents: &[u8]) -> Result<(), Memory>
 /// Appends the INTEGER of the number.
 ///
 /// # Errors
-/// `Memory` only where `out` has no capacity for the value. It leaves `out` unchanged.
+/// As [`put`].
 pub fn put_number(out: &mut Vec<u8>, number: u64) -> Result<(), Memory>
     ensures ok { OnOk result (out.new.items ≡ out.old.items ++ integer_value number) }
     ensures value { IsTlv (integer_value number) 2 (integer number) }
@@ -70,7 +70,7 @@ pub fn put_number(out: &mut Vec<u8>, number: u64) -> Result<(), Memory>
 /// Appends the INTEGER of the serial number (RFC 5280 4.1.2.2).
 ///
 /// # Errors
-/// `Memory` only where `out` has no capacity for the value. It leaves `out` unchanged.
+/// As [`put`].
 pub fn put_serial(out: &mut Vec<u8>, serial: Serial) -> Result<(), Memory>
     ensures ok { OnOk result (out.new.items ≡ out.old.items ++ integer_value serial) }
     ensures value { IsTlv (integer_value serial) 2 (integer serial) }
@@ -88,7 +88,7 @@ pub fn put_serial(out: &mut Vec<u8>, serial: Serial) -> Result<(), Memory>
 /// There are fewer than 2^32 - 1 bytes, since one octet of the contents counts unused bits.
 ///
 /// # Errors
-/// `Memory` only where `out` has no capacity for the value. It leaves `out` unchanged.
+/// As [`put`].
 pub fn put_bits(out: &mut Vec<u8>, bytes: &[u8]) -> Result<(), Memory>
     requires { length bytes.now + 1 < 2 ^ 32 }
     ensures ok { OnOk result (out.new.items ≡ out.old.items ++ bits_value bytes.now) }
@@ -105,8 +105,8 @@ pub fn put_bits(out: &mut Vec<u8>, bytes: &[u8]) -> Result<(), Memory>
 /// from 2050 on, to the second and in UTC.
 ///
 /// # Errors
-/// `Memory` only where `out` has no capacity for the value. It leaves `out` unchanged.
-#[tactic(auto, unfolding(crate::specs::Values::time_value, reg_core::specs::Calendar::utc_text, reg_core::specs::Calendar::general_text))]
+/// As [`put`].
+#[tactic(auto, unfolding(crate::specs::WrittenValues::time_value, reg_core::specs::Calendar::utc_text, reg_core::specs::Calendar::general_text))]
 pub fn put_utc_or_general(out: &mut Vec<u8>, moment: Moment) -> Result<(), Memory>
     ensures ok { OnOk result (out.new.items ≡ out.old.items ++ time_value moment) }
     ensures value { (tag : ℕ) × (contents : List ℕ) × IsTlv (time_value moment) tag contents }
@@ -126,7 +126,7 @@ pub fn put_utc_or_general(out: &mut Vec<u8>, moment: Moment) -> Result<(), Memor
 /// Appends the GeneralizedTime of the moment (RFC 5280 4.1.2.5.2), to the second and in UTC.
 ///
 /// # Errors
-/// `Memory` only where `out` has no capacity for the value. It leaves `out` unchanged.
+/// As [`put`].
 #[tactic(auto, unfolding(reg_core::specs::Calendar::general_text))]
 pub fn put_general(out: &mut Vec<u8>, moment: Moment) -> Result<(), Memory>
     ensures ok { OnOk result (out.new.items ≡ out.old.items ++ general_value moment) }

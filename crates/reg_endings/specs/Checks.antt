@@ -6,7 +6,7 @@ use Rattle.reg_core.specs.Policy.{Terms, IsPolicy}
 use Rattle.reg_core.specs.Schedule.{IsSchedule, one_step}
 use Rattle.reg_core.specs.declared.refusal.Fault.TheVariants as fault
 use Rattle.reg_core.specs.Label.{IsLabel}
-use Rattle.reg_der.specs.Authority.{IsName, IsKey, with_identifier}
+use Rattle.reg_der.specs.Authority.{IsIssuerName, IsKey, with_identifier}
 use Rattle.reg_endings.specs.declared.failure.Failure.{Failure}
 use Rattle.reg_endings.specs.declared.failure.Failure.TheVariants as failure
 
@@ -14,7 +14,7 @@ use Rattle.reg_endings.specs.declared.failure.Failure.TheVariants as failure
 pub record WritesIssuer (name key : List ℕ) (issuer : core.Issuer) : Type 0 where
   pub writes_name : decode_of name ≡ Ok issuer.name
   pub writes_key : decode_of key ≡ Ok issuer.key
-  pub is_name : IsName issuer.name
+  pub is_name : IsIssuerName issuer.name
   pub is_key : IsKey issuer.key
 
 -- want of memory, or the words write no issuer
@@ -44,8 +44,8 @@ IsNotIdentified name key key_id why = (why ≡ failure.Fault fault.Memory)
     ⊎ ((why ≡ failure.BadIssuer) × ((issuer : core.Issuer) → ¬ WritesIdentified name key key_id issuer))
 
 -- the terms of one longest validity
-abbrev pub terms_of : ℕ → ℕ → ℕ → ℕ → Terms
-terms_of days crl_life ocsp_life cap = record {
+abbrev pub terms_of_days : ℕ → ℕ → ℕ → ℕ → Terms
+terms_of_days days crl_life ocsp_life cap = record {
   schedule = one_step days;
   crl_life = crl_life;
   ocsp_life = ocsp_life;

@@ -25,21 +25,21 @@ failure_line failure.Broken = codes "broken"
 
 -- the exit status: 0 where the job is done; 3 where a reply at a counter, in a strict script or in a strict import was a refusal or a
 -- fault, or the last line there has no end; 1 where the job is not done
-abbrev pub status : {T : Type 0} → Result T Failure → ℕ
-status (Ok done) = 0
-status (Err failure.Refused) = 3
-status (Err failure.NoLineEnd) = 3
-status (Err failure.RefusedNoLineEnd) = 3
-status (Err (failure.Fault fault)) = 1
-status (Err failure.NotEmpty) = 1
-status (Err failure.NotARegister) = 1
-status (Err failure.NewVersion) = 1
-status (Err failure.OldVersion) = 1
-status (Err failure.BadIssuer) = 1
-status (Err failure.BadPolicy) = 1
-status (Err failure.BadSigner) = 1
-status (Err failure.BadResponder) = 1
-status (Err failure.Broken) = 1
+abbrev pub exit_status : {T : Type 0} → Result T Failure → ℕ
+exit_status (Ok done) = 0
+exit_status (Err failure.Refused) = 3
+exit_status (Err failure.NoLineEnd) = 3
+exit_status (Err failure.RefusedNoLineEnd) = 3
+exit_status (Err (failure.Fault fault)) = 1
+exit_status (Err failure.NotEmpty) = 1
+exit_status (Err failure.NotARegister) = 1
+exit_status (Err failure.NewVersion) = 1
+exit_status (Err failure.OldVersion) = 1
+exit_status (Err failure.BadIssuer) = 1
+exit_status (Err failure.BadPolicy) = 1
+exit_status (Err failure.BadSigner) = 1
+exit_status (Err failure.BadResponder) = 1
+exit_status (Err failure.Broken) = 1
 
 -- a register that can't be made, opened or changed, as the end of a job
 abbrev pub store_failure : StoreFault → Failure

@@ -2,7 +2,7 @@
 
 ghost use Rattle.std.specs.Prelude.{◌≡◌, ◌⊎◌, IfErr, IfOk, IsErr, Ok};
 ghost use Rattle.reg_core.specs.Schedule.{IsSchedule};
-ghost use Rattle.reg_endings.specs.Checks.{WritesIssuer, WritesIdentifier, WritesIdentified, IsNoIssuer, IsNoIdentifier, IsNotIdentified, IsNoPolicy, IsNoOffice, IsNoSchedule, terms_of};
+ghost use Rattle.reg_endings.specs.Checks.{WritesIssuer, WritesIdentifier, WritesIdentified, IsNoIssuer, IsNoIdentifier, IsNotIdentified, IsNoPolicy, IsNoOffice, IsNoSchedule, terms_of_days};
 ghost use Rattle.reg_core.specs.Policy.{IsPolicy};
 ghost use Rattle.hex.specs.Hex.{decode_of};
 
@@ -85,8 +85,8 @@ fn bytes_of(alloc: Global, word: &Word<'_>) -> Result<Vec<u8>, Failure>
 /// The policy of one longest validity in days, of the lives of CRLs and OCSP answers in seconds, and of the most rows
 /// of a table; `BadPolicy` where it is none.
 pub fn policy_of(days: u64, crl_life: u64, ocsp_life: u64, cap: u64) -> Result<Policy, Failure>
-    ensures ok { IfOk result (λ policy. (policy ≡ terms_of days crl_life ocsp_life cap) × IsPolicy policy) }
-    ensures err { IfErr result (IsNoPolicy (terms_of days crl_life ocsp_life cap)) }
+    ensures ok { IfOk result (λ policy. (policy ≡ terms_of_days days crl_life ocsp_life cap) × IsPolicy policy) }
+    ensures err { IfErr result (IsNoPolicy (terms_of_days days crl_life ocsp_life cap)) }
 {
     match Policy::new(days, crl_life, ocsp_life, cap) {
         Some(policy) => Ok(policy),
@@ -107,8 +107,8 @@ pub fn office_of(
     cap: u64,
 ) -> Result<(Issuer, Policy), Failure>
     ensures ok { IfOk result (λ made. WritesIdentified name.now key.now key_id.now made.0
-        × (made.1 ≡ terms_of days crl_life ocsp_life cap) × IsPolicy made.1) }
-    ensures err { IfErr result (IsNoOffice name.now key.now key_id.now (terms_of days crl_life ocsp_life cap)) }
+        × (made.1 ≡ terms_of_days days crl_life ocsp_life cap) × IsPolicy made.1) }
+    ensures err { IfErr result (IsNoOffice name.now key.now key_id.now (terms_of_days days crl_life ocsp_life cap)) }
 {
     let issuer = identified_issuer_of(alloc, name, key, key_id)?;
     let policy = policy_of(days, crl_life, ocsp_life, cap)?;

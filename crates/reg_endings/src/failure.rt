@@ -1,7 +1,7 @@
 //! How a job ends that is not done.
 
 ghost use Rattle.std.specs.Prelude.{◌≡◌, ◌≤◌, length};
-ghost use Rattle.reg_endings.specs.Endings.{failure_line, status};
+ghost use Rattle.reg_endings.specs.Endings.{failure_line, exit_status};
 
 use reg_core::{Fault, Label};
 use reg_tables::StoreFault;
@@ -91,7 +91,7 @@ impl From<StoreFault> for Failure {
 /// The exit status of a job: 0 where it is done; 3 where a reply at a counter, in a strict script or in a strict import was a refusal
 /// or a fault, or the last line there has no end; 1 where it is not done.
 pub fn status_of(ending: &Result<(), Failure>) -> u8
-    ensures { result ≡ status ending.now }
+    ensures { result ≡ exit_status ending.now }
 {
     match ending {
         Ok(()) => 0,

@@ -17,7 +17,7 @@ use Rattle.reg_http.specs.RespondsTo.{RespondsTo}
 use Rattle.reg_http.specs.Asked.{Asked, refused, only, unread, malformed, ocsp_of, crl_of, status_of, counts_of, request_of}
 use Rattle.reg_laws.specs.Run.{Happens}
 use Rattle.reg_faces.specs.Faces.{AddsARequestAtMost}
-use Rattle.reg_calls.specs.Steps.{Signs, Runs, Asks, Ocsps, Crls}
+use Rattle.reg_calls.specs.CallSteps.{Signs, Runs, Asks, Ocsps, Crls}
 use Rattle.reg_calls.specs.Signatories.{Signatory}
 use Rattle.reg_crl.specs.Signing.{signed_by}
 

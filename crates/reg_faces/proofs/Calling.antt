@@ -11,7 +11,7 @@ use Rattle.reg_calls.specs.Signatories.{Signatory}
 use Rattle.reg_lines.specs.Answer.{Answer, came_to, responded}
 use Rattle.reg_lines.specs.ByCalls.{ByCalls}
 use Rattle.reg_lines.specs.Meaning.{Meaning, tells, asks, asks_ocsp}
-use Rattle.reg_calls.specs.Steps.{Signs, Runs, Asks, Ocsps}
+use Rattle.reg_calls.specs.CallSteps.{Signs, Runs, Asks, Ocsps}
 use Rattle.reg_calls.specs.Leads.{Leads}
 use Rattle.reg_faces.specs.Faces.{Lines}
 

@@ -17,7 +17,7 @@ use Rattle.reg_http.specs.Beginning.{BeginningEnds, LeftOf}
 use Rattle.reg_http.specs.Served.{ServingEnds, Responds}
 use Rattle.reg_ocsp.specs.Drafts.{Drafted}
 use Rattle.reg_calls.specs.Leads.{Leads}
-use Rattle.reg_faces.proofs.Steps.{stays, follows}
+use Rattle.reg_faces.proofs.ComposedCalls.{stays, follows}
 
 module _ {S I R : Type 0} (is_clean : S → Type 0) (stands : I → S → R → Type 0)
     (runs : S → ℕ → Command → Result Reply Fault → S → Type 0) (asks : S → ℕ → Query → Result Reply Fault → S → Type 0)

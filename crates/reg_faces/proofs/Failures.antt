@@ -12,7 +12,7 @@ use Rattle.reg_lines.specs.ByCalls.{ByCalls}
 use Rattle.reg_lines.specs.Meaning.{Meaning, tells, asks, asks_ocsp}
 use Rattle.reg_lines.specs.Script.{ScriptEnds}
 use Rattle.reg_faces.specs.Faces.{CountsFailure}
-use Rattle.reg_faces.proofs.Lines.{script_moves}
+use Rattle.reg_faces.proofs.ScriptsAndImports.{script_moves}
 
 -- what an answer came to
 same_outcome : (outcome other : Result Reply Fault) → came_to outcome ≡ came_to other → outcome ≡ other

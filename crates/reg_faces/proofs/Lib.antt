@@ -1,7 +1,7 @@
 pub mod Added
 pub mod Calling
-pub mod Steps
-pub mod Lines
+pub mod ComposedCalls
+pub mod ScriptsAndImports
 pub mod Failures
 pub mod Exchanges
 pub mod Twice

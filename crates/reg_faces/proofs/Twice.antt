@@ -29,10 +29,10 @@ use Rattle.reg_laws.proofs.Outcomes.{Outcome, Stays, Changes, outcome_of}
 use Rattle.reg_lines.specs.Answer.{Answer, came_to}
 use Rattle.reg_lines.specs.Import.{AllRan, Row, RowMeans, RowReplies, data_rows}
 use Rattle.reg_lines.specs.Meaning.{Meaning, tells}
-use Rattle.reg_lines.specs.Reading.{register_of}
+use Rattle.reg_lines.specs.LineReading.{register_of}
 use Rattle.reg_lines.specs.Replies.{outcome_line, reply_line, with_lf}
 use Rattle.reg_lines.proofs.PublicLaws.{register_read, row_spelled}
-use Rattle.reg_wire.specs.Run.{Answered}
+use Rattle.reg_wire.specs.RunsOfAnswers.{Answered}
 use Rattle.reg_faces.specs.Twice.{TellsFault, RepliedAgain}
 
 -- ---- the rows of a text

@@ -9,7 +9,7 @@ use Rattle.reg_calls.specs.Signatories.{Signatory}
 use Rattle.reg_lines.specs.Answer.{Answer, came_to}
 use Rattle.reg_lines.specs.ByCalls.{ByCalls}
 use Rattle.reg_lines.specs.Meaning.{Meaning}
-use Rattle.reg_calls.specs.Steps.{Signs, Runs, Asks, Ocsps}
+use Rattle.reg_calls.specs.CallSteps.{Signs, Runs, Asks, Ocsps}
 
 -- what a line means and is answered, by what each call comes to
 abbrev pub Lines : Signs → Signatory → Records → Meaning → Answer → Records → Type 0

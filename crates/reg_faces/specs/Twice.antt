@@ -10,7 +10,7 @@ use Rattle.reg_lines.specs.Import.{AllRan}
 use Rattle.reg_lines.specs.Replies.{outcome_line, with_lf}
 use Rattle.reg_faces.specs.Faces.{Lines}
 use Rattle.reg_calls.specs.Signatories.{Signatory}
-use Rattle.reg_calls.specs.Steps.{Signs}
+use Rattle.reg_calls.specs.CallSteps.{Signs}
 
 -- the reply tells a fault of memory, store, signer, input or output
 abbrev pub TellsFault : List ℕ → Type 0
@@ -24,8 +24,8 @@ RepliedAgain first second =
 -- Of a text that is imported twice at one moment, with nothing between, where each row ran both times and no fault was told the
 -- first time, over records that hold together, whatever signed their CRLs: the second time adds no certificate, and each of its replies
 -- is as above.
-abbrev pub ImportsTwice : Signs → Type 0
-ImportsTwice signs =
+abbrev pub ImportsTextTwice : Signs → Type 0
+ImportsTextTwice signs =
     (identity : Signatory)
     (records between after : Records)
     (now : ℕ)

@@ -4,7 +4,7 @@ ghost use Rattle.std.specs.Prelude.{◌≡◌, ◌≢◌, IfErr, IfOk, OnErr};
 ghost use Rattle.reg_calls.specs.Leads.{Leads};
 ghost use Rattle.reg_faces.specs.Faces.{Lines, CountsFailure, AddsARequestAtMost};
 ghost use Rattle.reg_calls.specs.Drafts.{Drafts};
-ghost use Rattle.reg_calls.specs.Steps.{Runs, Asks, Ocsps, Crls};
+ghost use Rattle.reg_calls.specs.CallSteps.{Runs, Asks, Ocsps, Crls};
 ghost use Rattle.reg_heads.specs.Response.{shown};
 ghost use Rattle.reg_http.specs.RespondsTo.{RespondsTo};
 ghost use Rattle.reg_http.specs.Asked.{asked};
@@ -15,7 +15,7 @@ ghost use Rattle.reg_lines.specs.Script.{ScriptEnds};
 ghost use Rattle.reg_lines.specs.Strict.{StrictEnds};
 
 use http::Method;
-use reg_calls::Keeper;
+use reg_calls::OfficeOfRecords;
 use reg_core::{Fault, Memory, Moment};
 use reg_heads::Answer;
 use reg_lines::Imported;
@@ -29,17 +29,17 @@ use std::io::{Read, Write};
 /// # Errors
 ///
 /// As of [`reg_lines::run_script`].
-pub fn run_script<R: Read, W: Write, K: Keeper>(
+pub fn run_script<R: Read, W: Write, O: OfficeOfRecords>(
     alloc: Global,
     reader: &mut R,
     writer: &mut W,
-    office: &mut K,
+    office: &mut O,
 ) -> Result<(), Fault>
-    ensures ends { Leads K.is_clean K.stands
-        (λ identity before after. ScriptEnds (Lines K.signs identity) R.remaining W.contents before after
+    ensures ends { Leads O.is_clean O.stands
+        (λ identity before after. ScriptEnds (Lines O.signs identity) R.remaining W.contents before after
         reader.old reader.new writer.old writer.new result)
         office.old office.new }
-    ensures device { ScriptEnds (λ s meaning given t. CountsFailure (K.failures s) given (K.failures t))
+    ensures device { ScriptEnds (λ s meaning given t. CountsFailure (O.failures s) given (O.failures t))
         R.remaining W.contents office.old office.new reader.old reader.new writer.old writer.new result }
 {
     reg_lines::run_script(alloc, reader, writer, office)
@@ -50,15 +50,15 @@ pub fn run_script<R: Read, W: Write, K: Keeper>(
 /// # Errors
 ///
 /// As of [`reg_lines::import`].
-pub fn import<R: Read, W: Write, K: Keeper>(
+pub fn import<R: Read, W: Write, O: OfficeOfRecords>(
     alloc: Global,
     reader: &mut R,
     writer: &mut W,
     now: Moment,
-    office: &mut K,
+    office: &mut O,
 ) -> Result<(), Fault>
-    ensures { Leads K.is_clean K.stands
-        (λ identity before after. ImportEnds (Lines K.signs identity) R.remaining W.contents now before after
+    ensures { Leads O.is_clean O.stands
+        (λ identity before after. ImportEnds (Lines O.signs identity) R.remaining W.contents now before after
         reader.old reader.new writer.old writer.new result)
         office.old office.new }
 {
@@ -71,15 +71,15 @@ pub fn import<R: Read, W: Write, K: Keeper>(
 /// # Errors
 ///
 /// As of [`reg_lines::import_strictly`].
-pub fn import_strictly<R: Read, W: Write, K: Keeper>(
+pub fn import_strictly<R: Read, W: Write, O: OfficeOfRecords>(
     alloc: Global,
     reader: &mut R,
     writer: &mut W,
     now: Moment,
-    office: &mut K,
+    office: &mut O,
 ) -> Result<Imported, Fault>
-    ensures { Leads K.is_clean K.stands
-        (λ identity before after. StrictEnds (Lines K.signs identity) R.remaining W.contents now before after
+    ensures { Leads O.is_clean O.stands
+        (λ identity before after. StrictEnds (Lines O.signs identity) R.remaining W.contents now before after
         reader.old reader.new writer.old writer.new result)
         office.old office.new }
 {
@@ -91,16 +91,16 @@ pub fn import_strictly<R: Read, W: Write, K: Keeper>(
 /// # Errors
 ///
 /// As of [`reg_http::routes::answer`].
-pub fn answer<K: Keeper>(
+pub fn answer<O: OfficeOfRecords>(
     alloc: Global,
     method: &Method,
     target: &str,
     body: &[u8],
     now: Moment,
-    office: &mut K,
+    office: &mut O,
 ) -> Result<Answer, Memory>
-    ensures ok { IfOk result (λ answer. Leads K.is_clean K.stands
-        (λ identity before after. RespondsTo (Runs K.signs identity) Asks (Ocsps K.signs identity) Crls now before
+    ensures ok { IfOk result (λ answer. Leads O.is_clean O.stands
+        (λ identity before after. RespondsTo (Runs O.signs identity) Asks (Ocsps O.signs identity) Crls now before
         (asked method.now target.now body.now) (shown answer) after
         × AddsARequestAtMost now before after)
         office.old office.new) }
@@ -114,15 +114,15 @@ pub fn answer<K: Keeper>(
 /// # Errors
 ///
 /// As of [`reg_http::serve_one`].
-pub fn serve_one<R: Read, W: Write, K: Keeper>(
+pub fn serve_one<R: Read, W: Write, O: OfficeOfRecords>(
     alloc: Global,
     reader: &mut R,
     writer: &mut W,
     now: Moment,
-    office: &mut K,
+    office: &mut O,
 ) -> Result<(), Fault>
-    ensures ends { Leads K.is_clean K.stands
-        (λ identity before after. ServingEnds (Runs K.signs identity) Asks (Ocsps K.signs identity) Crls now before after
+    ensures ends { Leads O.is_clean O.stands
+        (λ identity before after. ServingEnds (Runs O.signs identity) Asks (Ocsps O.signs identity) Crls now before after
         (R.remaining reader.old) (R.remaining reader.new) (W.contents writer.old) (W.contents writer.new) result)
         office.old office.new }
     ensures silent { IfErr result (λ fault. fault ≢ Fault.Write
@@ -136,15 +136,15 @@ pub fn serve_one<R: Read, W: Write, K: Keeper>(
 /// # Errors
 ///
 /// As of [`reg_http::begin_one`].
-pub fn begin_one<R: Read, W: Write, K: Keeper>(
+pub fn begin_one<R: Read, W: Write, O: OfficeOfRecords>(
     alloc: Global,
     reader: &mut R,
     writer: &mut W,
     now: Moment,
-    office: &mut K,
+    office: &mut O,
 ) -> Result<Option<Draft>, Fault>
-    ensures ends { Leads K.is_clean K.stands
-        (λ identity before after. BeginningEnds (Runs K.signs identity) Asks (Ocsps K.signs identity) Crls (Drafts identity) now before after
+    ensures ends { Leads O.is_clean O.stands
+        (λ identity before after. BeginningEnds (Runs O.signs identity) Asks (Ocsps O.signs identity) Crls (Drafts identity) now before after
         (R.remaining reader.old) (R.remaining reader.new) (W.contents writer.old) (W.contents writer.new) result)
         office.old office.new }
     ensures silent { IfErr result (λ fault. fault ≢ Fault.Write

@@ -9,12 +9,12 @@ ghost use Rattle.sqlite_wal.specs.Recovery.{Recovers};
 ghost use Rattle.reg_files.specs.Copied.{laid_out, page_bytes};
 ghost use Rattle.reg_files.specs.Reading.{IsUnread};
 
+use crate::file_fault::{FileFault, damaged, no_memory, of_call, of_lay, unlooked};
 use crate::laying::lay_pages;
 use crate::overlay::overlaid;
 use crate::read_file::Holder;
 use crate::reading::{Sources, Unread, is_begun, sources_at};
 use crate::source::Source;
-use crate::unopened::{Unopened, damaged, no_memory, of_call, of_lay, unlooked};
 use reg_core::Fault;
 use sqlite::Options;
 use sqlite_disk::{Disk, Files};
@@ -147,7 +147,7 @@ fn recovered_by<D: Disk + Drop>(
 ///
 /// # Errors
 /// `Memory`; `Store` where a page can't be read, or not all could be written.
-pub fn put_pages<D: Disk, W: Write>(pager: &mut Pager<D>, writer: &mut W) -> Result<u64, Unopened>
+pub fn put_pages<D: Disk, W: Write>(pager: &mut Pager<D>, writer: &mut W) -> Result<u64, FileFault>
     ensures whole { IfOk result (λ bytes. IsTrue (state pager.new).is_clean
         → Appends (W.contents writer.old) (W.contents writer.new) (laid_out (visible pager.old) (page_count pager.old))) }
     ensures bytes { IfOk result (λ bytes. bytes ≡ min (page_count pager.old * (state pager.old).page_size) 18446744073709551615) }
@@ -166,7 +166,7 @@ fn put_page<D: Disk, W: Write>(
     pager: &mut Pager<D>,
     page: u32,
     writer: &mut W,
-) -> Result<(), Unopened>
+) -> Result<(), FileFault>
     ensures whole { OnOk result (IsTrue (state pager.new).is_clean
         → Appends (W.contents writer.old) (W.contents writer.new) (page_bytes (visible pager.old page))) }
     ensures clean { IsTrue (state pager.new).is_clean → IsTrue (state pager.old).is_clean }
@@ -180,7 +180,7 @@ fn put_page<D: Disk, W: Write>(
 }
 
 /// Puts bytes into a writer.
-fn put<W: Write>(writer: &mut W, bytes: &[u8]) -> Result<(), Unopened>
+fn put<W: Write>(writer: &mut W, bytes: &[u8]) -> Result<(), FileFault>
     ensures whole { OnOk result (Appends (W.contents writer.old) (W.contents writer.new) bytes.now) }
     ensures faults { IfErr result (λ why. (why.fault ≡ Fault.Memory) ⊎ (why.fault ≡ Fault.Store)) }
 {

@@ -7,8 +7,8 @@ ghost use Rattle.sqlite.specs.Start.{FindsIn};
 ghost use Rattle.sqlite.specs.State.{HasCleanDisk};
 ghost use Rattle.sqlite_wal.specs.Files.{image_at};
 
+use crate::file_fault::{FileFault, no_database, not_found, with_cause};
 use crate::holding::{held_alone, log_of};
-use crate::unopened::{Unopened, no_database, not_found, with_cause};
 use reg_causes::{Cause, of_io};
 use reg_core::Fault;
 use sqlite::{Connection, FileFrom, FileStore, Options};
@@ -42,7 +42,7 @@ pub fn open_file<S: Start>(
     rt: &HostRuntime,
     path: &str,
     start: S,
-) -> Result<Connection<FileStore<FileFrom<S>>>, Unopened>
+) -> Result<Connection<FileStore<FileFrom<S>>>, FileFault>
     ensures opened { IfOk result (λ connection. HasCleanDisk (file_state connection) → IsOpened connection) }
     ensures found { IfOk result (λ connection. HasCleanDisk (file_state connection) → FindsIn (image_at S.Start) (file_state connection)) }
     ensures fresh { IfOk result IsNew }
@@ -66,7 +66,7 @@ pub fn open_file<S: Start>(
 
 /// How a file is opened: with room for its pages, and as much for changed ones before they go to the log; and with a random
 /// number for the marks in its log.
-pub(crate) fn options_for(rt: &HostRuntime, path: &str) -> Result<Options, Unopened>
+pub(crate) fn options_for(rt: &HostRuntime, path: &str) -> Result<Options, FileFault>
     ensures room { IfOk result (λ options. (2000 ≤ options.cache_pages) × (options.cache_pages ≤ 131072)
         × (options.spill_pages ≡ options.cache_pages)) }
     ensures faults { IfErr result (λ why. why.fault ≡ Fault.Store) }
@@ -96,7 +96,7 @@ fn pages_for(rt: &HostRuntime, path: &str) -> usize
 
 /// Why no file was laid.
 #[derive(Clone, Copy, PartialEq, Eq)]
-pub enum Unlaid {
+pub enum ClaimFault {
     /// Memory was wanting.
     Memory,
     /// Something lies there, or may, or the system refused it; with the cause where the call that failed told one.
@@ -108,36 +108,36 @@ pub enum Unlaid {
 /// beside no register: it may be all that is left of one.
 ///
 /// # Errors
-/// No file was laid, and [`Unlaid`] says why.
-pub fn claim_file(rt: &HostRuntime, path: &str) -> Result<(), Unlaid> {
+/// No file was laid, and [`ClaimFault`] says why.
+pub fn claim_file(rt: &HostRuntime, path: &str) -> Result<(), ClaimFault> {
     let Ok(log) = log_of(rt, path) else {
-        return Err(Unlaid::Memory);
+        return Err(ClaimFault::Memory);
     };
     match fs::exists(rt, log.as_str()) {
         Ok(false) => lay(rt, path),
-        Ok(true) => Err(Unlaid::Taken(None)),
-        Err(error) => Err(unlaid_by(error.kind())),
+        Ok(true) => Err(ClaimFault::Taken(None)),
+        Err(error) => Err(claim_fault_of(error.kind())),
     }
 }
 
 /// Lays an empty file at a path where nothing lies.
-fn lay(rt: &HostRuntime, path: &str) -> Result<(), Unlaid> {
+fn lay(rt: &HostRuntime, path: &str) -> Result<(), ClaimFault> {
     let mut options = OpenOptions::new();
     options.write(true).create_new(true).mode(OWNER_ALONE);
     match options.open(rt, path) {
         Ok(_) => Ok(()),
-        Err(error) => Err(unlaid_by(error.kind())),
+        Err(error) => Err(claim_fault_of(error.kind())),
     }
 }
 
 /// Why no file was laid where a call of the system failed.
-fn unlaid_by(kind: ErrorKind) -> Unlaid
-    ensures memory { kind ≡ ErrorKind.OutOfMemory → result ≡ Unlaid.Memory }
-    ensures others { kind ≢ ErrorKind.OutOfMemory → result ≢ Unlaid.Memory }
+fn claim_fault_of(kind: ErrorKind) -> ClaimFault
+    ensures memory { kind ≡ ErrorKind.OutOfMemory → result ≡ ClaimFault.Memory }
+    ensures others { kind ≢ ErrorKind.OutOfMemory → result ≢ ClaimFault.Memory }
 {
     match kind {
-        ErrorKind::OutOfMemory => Unlaid::Memory,
-        other => Unlaid::Taken(of_io(other)),
+        ErrorKind::OutOfMemory => ClaimFault::Memory,
+        other => ClaimFault::Taken(of_io(other)),
     }
 }
 

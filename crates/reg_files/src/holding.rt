@@ -2,7 +2,7 @@
 
 ghost use Rattle.std.specs.Prelude.{◌≡◌, ◌⊎◌, ◌++◌, codes, string_bytes, IfErr, IfOk};
 
-use crate::unopened::{Unopened, in_use, of_call, with_cause};
+use crate::file_fault::{FileFault, in_use, of_call, with_cause};
 use os::RangeLock;
 use reg_causes::Cause;
 use reg_core::Fault;
@@ -22,7 +22,7 @@ const LOCKS_LENGTH: u64 = 512;
 ///
 /// # Errors
 /// `Store` where another program has them otherwise, or the system refused.
-pub(crate) fn lock(file: &fs::File, kind: RangeLock) -> Result<(), Unopened>
+pub(crate) fn lock(file: &fs::File, kind: RangeLock) -> Result<(), FileFault>
     ensures { IfErr result (λ why. (why.fault ≡ Fault.Memory) ⊎ (why.fault ≡ Fault.Store)) }
 {
     if os::try_lock_range(file.as_raw_fd(), kind, LOCKS, LOCKS_LENGTH) == 0 {
@@ -38,7 +38,7 @@ pub(crate) fn lock(file: &fs::File, kind: RangeLock) -> Result<(), Unopened>
 ///
 /// # Errors
 /// `Store` where nobody holds it: what was opened at its path lies there no more.
-pub(crate) fn look_held(file: &fs::File) -> Result<(), Unopened>
+pub(crate) fn look_held(file: &fs::File) -> Result<(), FileFault>
     ensures { IfErr result (λ why. (why.fault ≡ Fault.Memory) ⊎ (why.fault ≡ Fault.Store)) }
 {
     match lock(file, RangeLock::Shared) {

@@ -3,8 +3,8 @@
 ghost use Rattle.std.specs.Prelude.{◌≡◌, ◌⊎◌, IfErr};
 
 use crate::copying::put_pages;
+use crate::file_fault::{FileFault, no_memory, of_lay, with_cause};
 use crate::holding::beside;
-use crate::unopened::{Unopened, no_memory, of_lay, with_cause};
 use reg_causes::Cause;
 use reg_core::Fault;
 use sqlite_disk::Disk;
@@ -29,7 +29,7 @@ pub(crate) fn lay_pages<D: Disk>(
     rt: &HostRuntime,
     pager: &mut Pager<D>,
     to: &str,
-) -> Result<u64, Unopened>
+) -> Result<u64, FileFault>
     ensures { IfErr result (λ why. (why.fault ≡ Fault.Memory) ⊎ (why.fault ≡ Fault.Store)) }
 {
     look_all_free(rt, to)?;
@@ -47,7 +47,7 @@ pub(crate) fn lay_pages<D: Disk>(
 }
 
 /// Looks that nothing lies at a path, and nothing beside it that would be taken for its log or its journal.
-fn look_all_free(rt: &HostRuntime, to: &str) -> Result<(), Unopened>
+fn look_all_free(rt: &HostRuntime, to: &str) -> Result<(), FileFault>
     ensures { IfErr result (λ why. (why.fault ≡ Fault.Memory) ⊎ (why.fault ≡ Fault.Store)) }
 {
     if to.is_empty() {
@@ -59,7 +59,7 @@ fn look_all_free(rt: &HostRuntime, to: &str) -> Result<(), Unopened>
 }
 
 /// Looks that nothing lies at a path with this end, a link that leads nowhere neither.
-fn look_free(rt: &HostRuntime, to: &str, end: &str) -> Result<(), Unopened>
+fn look_free(rt: &HostRuntime, to: &str, end: &str) -> Result<(), FileFault>
     ensures { IfErr result (λ why. (why.fault ≡ Fault.Memory) ⊎ (why.fault ≡ Fault.Store)) }
 {
     let Ok(path) = beside(rt, to, end) else {
@@ -73,7 +73,7 @@ fn look_free(rt: &HostRuntime, to: &str, end: &str) -> Result<(), Unopened>
 }
 
 /// Makes an empty file where nothing lies, which its owner alone may read and write.
-fn new_file(rt: &HostRuntime, path: &str) -> Result<File, Unopened>
+fn new_file(rt: &HostRuntime, path: &str) -> Result<File, FileFault>
     ensures { IfErr result (λ why. (why.fault ≡ Fault.Memory) ⊎ (why.fault ≡ Fault.Store)) }
 {
     let mut options = OpenOptions::new();
@@ -91,7 +91,7 @@ fn fill_and_name<D: Disk>(
     file: &mut File,
     part: &str,
     to: &str,
-) -> Result<u64, Unopened>
+) -> Result<u64, FileFault>
     ensures { IfErr result (λ why. (why.fault ≡ Fault.Memory) ⊎ (why.fault ≡ Fault.Store)) }
 {
     let bytes = put_pages(pager, file)?;
@@ -101,7 +101,7 @@ fn fill_and_name<D: Disk>(
 }
 
 /// Gives a file that is whole its name where nothing lies, and takes its first one. Where that fails, it has lost its name again.
-fn name(rt: &HostRuntime, part: &str, to: &str) -> Result<(), Unopened>
+fn name(rt: &HostRuntime, part: &str, to: &str) -> Result<(), FileFault>
     ensures { IfErr result (λ why. (why.fault ≡ Fault.Memory) ⊎ (why.fault ≡ Fault.Store)) }
 {
     laid(fs::hard_link(rt, part, to))?;
@@ -124,7 +124,7 @@ fn settle(rt: &HostRuntime, part: &str) -> io::Result<()> {
 }
 
 /// What a call came to by which a file is laid.
-fn laid(outcome: io::Result<()>) -> Result<(), Unopened>
+fn laid(outcome: io::Result<()>) -> Result<(), FileFault>
     ensures { IfErr result (λ why. (why.fault ≡ Fault.Memory) ⊎ (why.fault ≡ Fault.Store)) }
 {
     match outcome {

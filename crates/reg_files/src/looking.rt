@@ -7,7 +7,7 @@ ghost use Rattle.sqlite_trees.specs.Tree.{Trees};
 ghost use Rattle.sqlite_wal.specs.PageSize.{bytes_of};
 ghost use Rattle.sqlite_wal.specs.Reads.{AreClean, OnlyReads};
 
-use crate::unopened::{Unopened, unlooked};
+use crate::file_fault::{FileFault, unlooked};
 use reg_core::Fault;
 use sqlite_disk::{Disk, Files};
 use sqlite_pool::probe_blank;
@@ -32,7 +32,7 @@ pub enum Found {
 ///
 /// # Errors
 /// `Memory`; `Store` where a call failed, or the log is none of a database.
-pub fn look<D: Disk>(alloc: Global, files: &mut Files<D>) -> Result<Found, Unopened>
+pub fn look<D: Disk>(alloc: Global, files: &mut Files<D>) -> Result<Found, FileFault>
     requires log { IsTrue (D.Disk.is_usable files.old.log) }
     requires db { IsTrue (D.Disk.is_usable files.old.db) }
     ensures nothing { IfOk result (λ found. AreClean D.Disk files.new.log files.new.db → (found ≡ Found.Nothing ↔ IsNothing (image_of D.Disk files.old))) }

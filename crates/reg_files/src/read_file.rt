@@ -3,9 +3,9 @@
 ghost use Rattle.std.specs.Prelude.{◌≡◌, ◌⊎◌, [], false, IfErr};
 ghost use Rattle.std.specs.Fs.{asks_append, asks_create, asks_create_new, asks_truncate, asks_write};
 
+use crate::file_fault::{FileFault, no_memory, of_call, with_cause};
 use crate::holding::{beside, lock, look_held};
 use crate::source::Source;
-use crate::unopened::{Unopened, no_memory, of_call, with_cause};
 use os::RangeLock;
 use reg_core::Fault;
 use std::fs::OpenOptions;
@@ -55,7 +55,7 @@ pub(crate) struct HeldFiles {
 /// # Errors
 /// `Memory`; `Store` where there is no file at the path, or none that can be read; where another program has it open to write, or this one
 /// should and has not; or where SQLite left a rollback journal beside it, which only SQLite can play back.
-pub(crate) fn hold(rt: &HostRuntime, path: &str, holder: Holder) -> Result<HeldFiles, Unopened>
+pub(crate) fn hold(rt: &HostRuntime, path: &str, holder: Holder) -> Result<HeldFiles, FileFault>
     ensures { IfErr result (λ why. (why.fault ≡ Fault.Memory) ⊎ (why.fault ≡ Fault.Store)) }
 {
     // A path that SQLite reads as another thing than a file's name is refused.
@@ -79,7 +79,7 @@ pub(crate) fn hold(rt: &HostRuntime, path: &str, holder: Holder) -> Result<HeldF
 }
 
 /// The log that lies beside a database's file, `None` where none does.
-fn log_at(rt: &HostRuntime, path: &str) -> Result<Option<ReadFile>, Unopened>
+fn log_at(rt: &HostRuntime, path: &str) -> Result<Option<ReadFile>, FileFault>
     ensures { IfErr result (λ why. (why.fault ≡ Fault.Memory) ⊎ (why.fault ≡ Fault.Store)) }
 {
     let Ok(journal) = beside(rt, path, "-journal") else {

@@ -10,11 +10,11 @@ ghost use Rattle.reg_files.specs.Overlaid.{image};
 ghost use Rattle.reg_files.specs.Reading.{IsUnread};
 
 use crate::file::options_for;
+use crate::file_fault::{FileFault, damaged, no_database, no_memory, of_call};
 use crate::looking::{Found, look};
 use crate::overlay::{Overlay, overlaid};
 use crate::read_file::{HeldFiles, Holder, ReadFile, hold};
 use crate::source::Source;
-use crate::unopened::{Unopened, damaged, no_database, no_memory, of_call};
 use reg_core::Fault;
 use sqlite::{Connection, FileStore, Options};
 use sqlite_disk::{Disk, Files};
@@ -30,7 +30,7 @@ pub enum Unread {
     /// There is no database yet: who opened them to write would make one.
     Nothing,
     /// They are not opened.
-    Unopened(Unopened),
+    Unopened(FileFault),
 }
 
 /// The files of a database, which are only read, and how it is to be opened.
@@ -52,7 +52,7 @@ pub struct Sources<F: Source> {
 ///
 /// # Errors
 /// `Memory`; `Store` where the files can't be opened, with the cause that the failing call told.
-pub fn read_at(rt: &HostRuntime, path: &str) -> Result<Sources<ReadFile>, Unopened>
+pub fn read_at(rt: &HostRuntime, path: &str) -> Result<Sources<ReadFile>, FileFault>
     ensures { IfErr result (λ why. (why.fault ≡ Fault.Memory) ⊎ (why.fault ≡ Fault.Store)) }
 {
     sources_at(rt, path, Holder::Nobody)
@@ -66,7 +66,7 @@ pub(crate) fn sources_at(
     rt: &HostRuntime,
     path: &str,
     holder: Holder,
-) -> Result<Sources<ReadFile>, Unopened>
+) -> Result<Sources<ReadFile>, FileFault>
     ensures { IfErr result (λ why. (why.fault ≡ Fault.Memory) ⊎ (why.fault ≡ Fault.Store)) }
 {
     let options = options_for(rt, path)?;
@@ -176,7 +176,7 @@ pub(crate) fn is_begun<D: Disk>(alloc: Global, files: &mut Files<D>) -> Result<(
 ///
 /// # Errors
 /// `Memory`; `Store` where a call failed.
-pub fn copy_of<F: Source>(alloc: Global, file: &F) -> Result<Vec<u8>, Unopened>
+pub fn copy_of<F: Source>(alloc: Global, file: &F) -> Result<Vec<u8>, FileFault>
     ensures bytes { IfOk result (λ copy. IsTrue (F.Source.is_honest file.now) → copy.items ≡ F.Source.bytes file.now) }
     ensures faults { IfErr result (λ why. (why.fault ≡ Fault.Memory) ⊎ (why.fault ≡ Fault.Store)) }
 {

@@ -2,7 +2,7 @@
 
 /// A table of a register.
 #[derive(Clone, Copy, PartialEq, Eq)]
-pub enum Table {
+pub enum RegisterTable {
     Office,
     Subscriber,
     Orders,
@@ -17,7 +17,7 @@ pub enum Table {
 
 /// What is wrong with a row.
 #[derive(Clone, Copy, PartialEq, Eq)]
-pub enum Why {
+pub enum Defect {
     /// The last accepted moment is past the clock's end.
     PastClockEnd,
     /// No command set the last accepted moment: nobody was entered, and it is neither 0 nor that of a CRL.
@@ -82,8 +82,8 @@ pub enum Why {
 
 /// A row that breaks a rule: its place in its table, from 1 on, and why.
 #[derive(Clone, Copy, PartialEq, Eq)]
-pub struct Broken {
-    pub table: Table,
+pub struct BrokenRow {
+    pub table: RegisterTable,
     pub row: u64,
-    pub why: Why,
+    pub why: Defect,
 }

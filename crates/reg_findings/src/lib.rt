@@ -5,6 +5,6 @@ mod finding;
 mod lines;
 mod verdict;
 
-pub use finding::{Broken, Table, Why};
+pub use finding::{BrokenRow, Defect, RegisterTable};
 pub use lines::{OTHER_SCHEMA, broken_line, sound_line};
 pub use verdict::{Audited, Verdict};

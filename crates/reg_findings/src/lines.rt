@@ -2,9 +2,9 @@
 
 ghost use Rattle.std.specs.Prelude.{◌≡◌, ◌++◌, IfOk};
 ghost use Rattle.std.specs.Fmt.{decimal};
-ghost use Rattle.reg_findings.specs.Lines.{broken_text, sound_text, table_name, why_text};
+ghost use Rattle.reg_findings.specs.FindingLines.{broken_text, sound_text, table_name, why_text};
 
-use crate::finding::{Broken, Table, Why};
+use crate::finding::{BrokenRow, Defect, RegisterTable};
 use crate::verdict::Audited;
 use reg_core::Decimal;
 use std::alloc::{AllocError, Global};
@@ -14,60 +14,60 @@ pub const OTHER_SCHEMA: &str =
     "broken: schema: other tables, columns or indexes than a register has\n";
 
 /// The name of a table.
-#[tactic(auto, unfolding(crate::specs::Lines::table_name))]
-fn name_of(table: Table) -> &'static str
+#[tactic(auto, unfolding(crate::specs::FindingLines::table_name))]
+fn name_of(table: RegisterTable) -> &'static str
     ensures { result.now ≡ table_name table }
 {
     match table {
-        Table::Office => "office",
-        Table::Subscriber => "subscriber",
-        Table::Orders => "orders",
-        Table::Cert => "cert",
-        Table::Request => "request",
-        Table::Revocation => "revocation",
-        Table::Crl => "crl",
-        Table::Standing => "standing",
-        Table::Kept => "kept",
-        Table::Listed => "listed",
+        RegisterTable::Office => "office",
+        RegisterTable::Subscriber => "subscriber",
+        RegisterTable::Orders => "orders",
+        RegisterTable::Cert => "cert",
+        RegisterTable::Request => "request",
+        RegisterTable::Revocation => "revocation",
+        RegisterTable::Crl => "crl",
+        RegisterTable::Standing => "standing",
+        RegisterTable::Kept => "kept",
+        RegisterTable::Listed => "listed",
     }
 }
 
 /// What is wrong with a row.
-#[tactic(auto, unfolding(crate::specs::Lines::why_text))]
-fn text_of(why: Why) -> &'static str
+#[tactic(auto, unfolding(crate::specs::FindingLines::why_text))]
+fn text_of(why: Defect) -> &'static str
     ensures { result.now ≡ why_text why }
 {
     match why {
-        Why::PastClockEnd => "a moment past the end of the clock",
-        Why::NeverAccepted => "a last accepted moment that no command set",
-        Why::AboveCap => "more rows than the policy's cap",
-        Why::OutOfOrder => "its number is not one more than that before it",
-        Why::BadName => "a name that no command takes",
-        Why::SameName => "an earlier row has the same name",
-        Why::BadDays => "days that no schedule allows",
-        Why::SameSerial => "an earlier row has the same serial number",
-        Why::SameOrder => "an earlier row fills the same order",
-        Why::SameRequest => "an earlier row has the same request",
-        Why::NoSubscriber => "no such subscriber",
-        Why::NoOrder => "no such order",
-        Why::Backwards => "its notBefore is after its notAfter",
-        Why::TooLong => "a longer validity than its order allows",
-        Why::NoCertificate => "no such certificate",
-        Why::NoRequest => "no such request for this serial number",
-        Why::ByDeclined => "its request was declined",
-        Why::OtherReason => "another reason than that of its request's ground",
-        Why::AfterLast => "its moment is after the last accepted one",
-        Why::AfterEnd => "its moment is after the end of the certificate",
-        Why::AfterRevocation => "its moment is after the revocation of its serial number",
-        Why::Earlier => "its moment is before that of the row before it",
-        Why::NoFirst => "its first CRL is neither issued nor the next",
-        Why::WrongFirst => "its first CRL is not the first one after it",
-        Why::EarlierFirst => "its first CRL is before that of the row before it",
-        Why::BeforeThePrevious => "its thisUpdate is before that of the CRL before it",
-        Why::NotKept => "not what follows from the records, or a row before it is missing",
-        Why::OtherBytes => "its bytes are not those of what the records list",
-        Why::WrongCounts => "not the counts of the letters",
-        Why::NoValue => "a value that no register writes, or no such row",
+        Defect::PastClockEnd => "a moment past the end of the clock",
+        Defect::NeverAccepted => "a last accepted moment that no command set",
+        Defect::AboveCap => "more rows than the policy's cap",
+        Defect::OutOfOrder => "its number is not one more than that before it",
+        Defect::BadName => "a name that no command takes",
+        Defect::SameName => "an earlier row has the same name",
+        Defect::BadDays => "days that no schedule allows",
+        Defect::SameSerial => "an earlier row has the same serial number",
+        Defect::SameOrder => "an earlier row fills the same order",
+        Defect::SameRequest => "an earlier row has the same request",
+        Defect::NoSubscriber => "no such subscriber",
+        Defect::NoOrder => "no such order",
+        Defect::Backwards => "its notBefore is after its notAfter",
+        Defect::TooLong => "a longer validity than its order allows",
+        Defect::NoCertificate => "no such certificate",
+        Defect::NoRequest => "no such request for this serial number",
+        Defect::ByDeclined => "its request was declined",
+        Defect::OtherReason => "another reason than that of its request's ground",
+        Defect::AfterLast => "its moment is after the last accepted one",
+        Defect::AfterEnd => "its moment is after the end of the certificate",
+        Defect::AfterRevocation => "its moment is after the revocation of its serial number",
+        Defect::Earlier => "its moment is before that of the row before it",
+        Defect::NoFirst => "its first CRL is neither issued nor the next",
+        Defect::WrongFirst => "its first CRL is not the first one after it",
+        Defect::EarlierFirst => "its first CRL is before that of the row before it",
+        Defect::BeforeThePrevious => "its thisUpdate is before that of the CRL before it",
+        Defect::NotKept => "not what follows from the records, or a row before it is missing",
+        Defect::OtherBytes => "its bytes are not those of what the records list",
+        Defect::WrongCounts => "not the counts of the letters",
+        Defect::NoValue => "a value that no register writes, or no such row",
     }
 }
 
@@ -105,7 +105,7 @@ pub fn sound_line(alloc: Global, found: Audited) -> Result<Vec<u8>, AllocError>
 ///
 /// # Errors
 /// Memory could not be had.
-pub fn broken_line(alloc: Global, broken: Broken) -> Result<Vec<u8>, AllocError>
+pub fn broken_line(alloc: Global, broken: BrokenRow) -> Result<Vec<u8>, AllocError>
     ensures { IfOk result (λ line. line.items ≡ broken_text broken) }
 {
     let text = with(Vec::new(alloc), b"broken: ")?;

@@ -1,6 +1,6 @@
 //! What an audit says.
 
-use crate::finding::Broken;
+use crate::finding::BrokenRow;
 
 /// How many rows an audit found well: those of certificates, of revocations and of CRLs.
 #[derive(Clone, Copy, PartialEq, Eq)]
@@ -16,7 +16,7 @@ pub enum Verdict {
     /// The rows that are looked at are those of sound records: how many there are.
     Sound(Audited),
     /// A row breaks a rule.
-    Broken(Broken),
+    Broken(BrokenRow),
     /// The register is of version 1 or 2: its rows are not looked at.
     Older,
     /// The tables, columns or indexes are not those of a register: its rows are not looked at.

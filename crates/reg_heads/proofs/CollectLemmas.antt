@@ -6,13 +6,13 @@ use Rattle.reg_wire.proofs.PublicLaws.{first_mark_in_front, no_mark_in_front}
 use Rattle.reg_heads.specs.Head.{blank_line, longest_head, IsHead, RefusesHead}
 use Rattle.reg_heads.specs.Frame.{refused, asked, AsksFor, Framed, HasHead, IsUnfinished}
 use Rattle.reg_heads.specs.Bytes.{IsExact}
-use Rattle.reg_heads.specs.Collected.{IsWhole, IsUnmarked, IsRefused, NeedsBytes, Knows, Tells}
+use Rattle.reg_heads.specs.Collected.{IsWholeRequest, IsUnmarked, IsRefusedRequest, NeedsBytes, Knows, IsAllKnown}
 use Rattle.reg_heads.specs.declared.known.Known.{Known}
 use Rattle.reg_heads.specs.declared.known.Known.TheVariants.{Unmarked, Refused, Asked}
 use Rattle.reg_heads.proofs.FrameLemmas.{head_of_more, take_of_more}
 
 -- a head that is refused is refused by its own bytes
-pub refused_at : (bytes : List ℕ) (end status : ℕ) → HasHead bytes end → RefusesHead (take end bytes) status → (end ≤ length bytes) × IsRefused bytes end
+pub refused_at : (bytes : List ℕ) (end status : ℕ) → HasHead bytes end → RefusesHead (take end bytes) status → (end ≤ length bytes) × IsRefusedRequest bytes end
 refused_at bytes end status head refuses =
     let kept : HasHead (take end bytes) end = record { within = head.within; ends = first_mark_in_front blank_line bytes end end head.ends (omega arith) } in
     let same : take end (take end bytes) ≡ take end bytes = take-take end end bytes (omega arith) in
@@ -20,12 +20,12 @@ refused_at bytes end status head refuses =
     (head.ends.within, record { status = status; framed = inr (end, kept, subst P (sym same) refuses) })
 
 -- 8,192 bytes in which no head ends
-pub refused_long : (bytes : List ℕ) → longest_head ≤ length bytes → IsUnmarked bytes longest_head → (longest_head ≤ length bytes) × IsRefused bytes longest_head
+pub refused_long : (bytes : List ℕ) → longest_head ≤ length bytes → IsUnmarked bytes longest_head → (longest_head ≤ length bytes) × IsRefusedRequest bytes longest_head
 refused_long bytes long none =
     (long, record { status = 431; framed = inl (refl, (length-take-le longest_head bytes long, no_mark_in_front blank_line bytes longest_head none)) })
 
 -- what is told is known
-pub known_of_told : (bytes : List ℕ) (known : Known) → Tells bytes known → Knows bytes known
+pub known_of_told : (bytes : List ℕ) (known : Known) → IsAllKnown bytes known → Knows bytes known
 known_of_told bytes (Unmarked count) told = (omega (arith, told.0), told.2)
 known_of_told bytes (Refused count) told = told
 known_of_told bytes (Asked needed) told = told
@@ -51,7 +51,7 @@ known_of_more bytes more (Asked needed) known = record {
 }
 
 -- a refusal is a whole request
-pub whole_of_refused : (bytes : List ℕ) (count : ℕ) → IsRefused bytes count → IsWhole bytes
+pub whole_of_refused : (bytes : List ℕ) (count : ℕ) → IsRefusedRequest bytes count → IsWholeRequest bytes
 whole_of_refused bytes count is = record {
   took = take count bytes;
   left = drop count bytes;
@@ -80,7 +80,7 @@ asks_of_needs bytes needed needs there =
       refl,
     )
 
-pub whole_of_needs : (bytes : List ℕ) (needed : ℕ) → NeedsBytes bytes needed → needed ≤ length bytes → IsWhole bytes
+pub whole_of_needs : (bytes : List ℕ) (needed : ℕ) → NeedsBytes bytes needed → needed ≤ length bytes → IsWholeRequest bytes
 whole_of_needs bytes needed needs there = record {
   took = bytes;
   left = [];
@@ -104,7 +104,7 @@ exact_of_needs bytes needed needs all =
     }
 
 -- no head yet, or a head with less than its body
-pub unfinished_of_unmarked : (bytes : List ℕ) (count : ℕ) → Tells bytes (Unmarked count) → IsUnfinished bytes
+pub unfinished_of_unmarked : (bytes : List ℕ) (count : ℕ) → IsAllKnown bytes (Unmarked count) → IsUnfinished bytes
 unfinished_of_unmarked bytes count told =
     let P : List ℕ → Type 0 = λ b. HasNoMark blank_line b in
     inl (

@@ -4,8 +4,8 @@ use Rattle.reg_heads.specs.Frame.{AsksFor}
 use Rattle.reg_heads.specs.declared.collected.Collected.{Collected}
 
 -- these bytes
-abbrev pub bytes_of : Collected → List ℕ
-bytes_of collected = collected.bytes.items
+abbrev pub collected_bytes : Collected → List ℕ
+collected_bytes collected = collected.bytes.items
 
 -- how many bytes are held without more memory
 abbrev pub room_of : Collected → ℕ

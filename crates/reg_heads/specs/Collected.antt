@@ -8,7 +8,7 @@ use Rattle.reg_heads.specs.declared.known.Known.{Known}
 use Rattle.reg_heads.specs.declared.known.Known.TheVariants.{Unmarked, Refused, Asked}
 
 -- the bytes begin with a whole request, which comes to this part
-pub record IsWhole (bytes : List ℕ) : Type 0 where
+pub record IsWholeRequest (bytes : List ℕ) : Type 0 where
   pub took : List ℕ
   pub left : List ℕ
   pub part : Part
@@ -20,7 +20,7 @@ abbrev pub IsUnmarked : List ℕ → ℕ → Type 0
 IsUnmarked bytes count = (n : ℕ) → n ≤ count → ¬ EndsWith (take n bytes) blank_line
 
 -- the first `count` bytes come to a refusal
-pub record IsRefused (bytes : List ℕ) (count : ℕ) : Type 0 where
+pub record IsRefusedRequest (bytes : List ℕ) (count : ℕ) : Type 0 where
   pub status : ℕ
   pub framed : Framed (take count bytes) (refused status)
 
@@ -37,11 +37,11 @@ pub record NeedsBytes (bytes : List ℕ) (needed : ℕ) : Type 0 where
 -- what is known of the bytes, however they go on
 abbrev pub Knows : List ℕ → Known → Type 0
 Knows bytes (Unmarked count) = (count ≤ length bytes) × IsUnmarked bytes count
-Knows bytes (Refused count) = (count ≤ length bytes) × IsRefused bytes count
+Knows bytes (Refused count) = (count ≤ length bytes) × IsRefusedRequest bytes count
 Knows bytes (Asked needed) = NeedsBytes bytes needed
 
 -- what is known once all of the bytes were looked at: where no head ends in them, there is room for more of it
-abbrev pub Tells : List ℕ → Known → Type 0
-Tells bytes (Unmarked count) = (count ≡ length bytes) × (count < longest_head) × IsUnmarked bytes count
-Tells bytes (Refused count) = (count ≤ length bytes) × IsRefused bytes count
-Tells bytes (Asked needed) = NeedsBytes bytes needed
+abbrev pub IsAllKnown : List ℕ → Known → Type 0
+IsAllKnown bytes (Unmarked count) = (count ≡ length bytes) × (count < longest_head) × IsUnmarked bytes count
+IsAllKnown bytes (Refused count) = (count ≤ length bytes) × IsRefusedRequest bytes count
+IsAllKnown bytes (Asked needed) = NeedsBytes bytes needed

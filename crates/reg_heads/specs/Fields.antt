@@ -5,7 +5,7 @@ use Rattle.reg_heads.specs.declared.fields.Values.{Values}
 use Rattle.reg_heads.specs.declared.fields.Values.TheVariants.{Absent, One, Several}
 
 -- none, the one at its place in the head, or more than one
-abbrev pub HasValues : List ℕ → List (List ℕ) → Values → Type 0
-HasValues head values Absent = values ≡ []
-HasValues head values (One span) = IsWithin (length head) span × (values ≡ span_bytes head span ∷ [])
-HasValues head values Several = 2 ≤ length values
+abbrev pub HasFieldValues : List ℕ → List (List ℕ) → Values → Type 0
+HasFieldValues head values Absent = values ≡ []
+HasFieldValues head values (One span) = IsWithin (length head) span × (values ≡ span_bytes head span ∷ [])
+HasFieldValues head values Several = 2 ≤ length values

@@ -36,28 +36,28 @@ phrase status =
     else (if status == 503 then codes "Service Unavailable" else [])))))))))
 
 -- a line of a start and a value, with its CR LF
-unfoldable pub line : List ℕ → List ℕ → List ℕ
-line start value = start ++ value ++ 13 ∷ 10 ∷ []
+unfoldable pub field_line : List ℕ → List ℕ → List ℕ
+field_line start value = start ++ value ++ 13 ∷ 10 ∷ []
 
 -- the status line: version, code and phrase (RFC 9112 4)
 unfoldable pub status_line : ℕ → List ℕ
-status_line status = codes "HTTP/1.1 " ++ decimal status ++ line (codes " ") (phrase status)
+status_line status = codes "HTTP/1.1 " ++ decimal status ++ field_line (codes " ") (phrase status)
 
 -- the line of the method that a 405 allows (RFC 9110 10.2.1)
 unfoldable pub allow_line : Option (List ℕ) → List ℕ
 allow_line None = []
-allow_line (Some method) = line (codes "Allow: ") method
+allow_line (Some method) = field_line (codes "Allow: ") method
 
 -- the status line and the fields, up to and with the empty line; the connection is closed after each response (RFC 9112 9.6)
 unfoldable pub head_text : List ℕ → Response → List ℕ
 head_text date response =
     status_line response.status
-    ++ line (codes "Date: ") date
+    ++ field_line (codes "Date: ") date
     ++ allow_line response.allow
-    ++ line (codes "Content-Type: ") response.kind
-    ++ line (codes "Content-Length: ") (decimal (length response.body))
-    ++ line (codes "Connection: close") []
-    ++ line [] []
+    ++ field_line (codes "Content-Type: ") response.kind
+    ++ field_line (codes "Content-Length: ") (decimal (length response.body))
+    ++ field_line (codes "Connection: close") []
+    ++ field_line [] []
 
 -- the date as IMF-fixdate of this moment (RFC 9110 5.6.7)
 abbrev pub IsDateOf : ℕ → List ℕ → Type 0
@@ -71,7 +71,7 @@ IsText response moment text =
 -- what is written where there was no memory for an answer: a response of status 500 with no body
 unfoldable pub memory_text : List ℕ
 memory_text =
-    line (codes "HTTP/1.1 500 Internal Server Error") []
-    ++ line (codes "Connection: close") []
-    ++ line (codes "Content-Length: 0") []
-    ++ line [] []
+    field_line (codes "HTTP/1.1 500 Internal Server Error") []
+    ++ field_line (codes "Connection: close") []
+    ++ field_line (codes "Content-Length: 0") []
+    ++ field_line [] []

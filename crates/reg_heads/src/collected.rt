@@ -16,13 +16,13 @@ pub struct Collected {
 
 impl Collected {
     ghost use Rattle.std.specs.Prelude.{◌≡◌, ◌+◌, ◌<◌, ◌≤◌, ◌++◌, [], length, true, false, OnOk, OnErr};
-    ghost use Rattle.reg_heads.specs.Bytes.{bytes_of, room_of, IsExact};
-    ghost use Rattle.reg_heads.specs.Collected.{IsWhole};
+    ghost use Rattle.reg_heads.specs.Bytes.{collected_bytes, room_of, IsExact};
+    ghost use Rattle.reg_heads.specs.Collected.{IsWholeRequest};
     ghost use Rattle.reg_heads.specs.Frame.{IsUnfinished};
 
     /// No bytes yet.
     pub fn new(alloc: Global) -> Collected
-        ensures { bytes_of result ≡ [] }
+        ensures { collected_bytes result ≡ [] }
     {
         Collected {
             bytes: Vec::new(alloc),
@@ -32,7 +32,7 @@ impl Collected {
 
     /// The bytes that came.
     pub fn as_slice(&self) -> &[u8]
-        ensures { result.now ≡ bytes_of self.now }
+        ensures { result.now ≡ collected_bytes self.now }
     {
         self.bytes.as_slice()
     }
@@ -43,9 +43,9 @@ impl Collected {
     ///
     /// `AllocError` only where what is held has no capacity for them. None of them was taken.
     pub fn add(&mut self, more: &[u8]) -> Result<(), AllocError>
-        ensures ok { OnOk result (bytes_of self.new ≡ bytes_of self.old ++ more.now) }
-        ensures err { OnErr result (bytes_of self.new ≡ bytes_of self.old) }
-        ensures full { OnErr result (room_of self.old < length (bytes_of self.old) + length more.now) }
+        ensures ok { OnOk result (collected_bytes self.new ≡ collected_bytes self.old ++ more.now) }
+        ensures err { OnErr result (collected_bytes self.new ≡ collected_bytes self.old) }
+        ensures full { OnErr result (room_of self.old < length (collected_bytes self.old) + length more.now) }
         ensures room { room_of self.old ≤ room_of self.new }
     {
         self.bytes.extend_from_slice(more)
@@ -54,9 +54,9 @@ impl Collected {
     /// Whether the bytes begin with a whole request (RFC 9112 2.1): one that is asked with all of its body, or one that
     /// is refused by its head. Whoever reads it from these bytes is not kept waiting for more.
     pub fn is_whole(&mut self) -> bool
-        ensures same { bytes_of self.new ≡ bytes_of self.old }
-        ensures whole { result ≡ true → ∥ IsWhole (bytes_of self.old) ∥₁ }
-        ensures unfinished { result ≡ false → ∥ IsUnfinished (bytes_of self.old) ∥₁ }
+        ensures same { collected_bytes self.new ≡ collected_bytes self.old }
+        ensures whole { result ≡ true → ∥ IsWholeRequest (collected_bytes self.old) ∥₁ }
+        ensures unfinished { result ≡ false → ∥ IsUnfinished (collected_bytes self.old) ∥₁ }
     {
         self.known = told(self.bytes.as_slice(), self.known);
         match self.known {
@@ -68,7 +68,7 @@ impl Collected {
 
     /// Whether the bytes were found to be one whole request that is asked, and nothing behind it.
     pub fn is_exact(&self) -> bool
-        ensures { result ≡ true → ∥ IsExact (bytes_of self.now) ∥₁ }
+        ensures { result ≡ true → ∥ IsExact (collected_bytes self.now) ∥₁ }
     {
         match self.known {
             Known::Asked(needed) => needed == self.bytes.len(),

@@ -3,7 +3,7 @@
 ghost use Rattle.std.specs.Prelude.{◌≡◌, ◌++◌, ◌∷◌, [], ℕ, List, codes, length, map, All};
 ghost use Rattle.httparse.specs.Spans.{header_bytes, IsHeaderWithin};
 ghost use Rattle.reg_heads.specs.Head.{size_by, values_of};
-ghost use Rattle.reg_heads.specs.Fields.{HasValues};
+ghost use Rattle.reg_heads.specs.Fields.{HasFieldValues};
 
 use crate::status;
 use httparse::spans::{HeaderSpan, Span};
@@ -23,8 +23,8 @@ pub(crate) enum Values {
 /// The values, with that of one more field where it has the name.
 fn with_field(head: &[u8], field: &HeaderSpan, name: &[u8], values: Values) -> Values
     requires { IsHeaderWithin (length head.now) field.now }
-    ensures { (before : List (List ℕ)) → HasValues head.now before values
-        → HasValues head.now (before ++ values_of name.now (header_bytes head.now field.now ∷ [])) result }
+    ensures { (before : List (List ℕ)) → HasFieldValues head.now before values
+        → HasFieldValues head.now (before ++ values_of name.now (header_bytes head.now field.now ∷ [])) result }
 {
     if !field.name.of(head).eq_ignore_ascii_case(name) {
         return values;
@@ -39,7 +39,7 @@ fn with_field(head: &[u8], field: &HeaderSpan, name: &[u8], values: Values) -> V
 /// The values of the fields of this name, which is compared without regard to case (RFC 9110 5.1).
 fn values_of(head: &[u8], fields: &[HeaderSpan], name: &[u8]) -> Values
     requires { All (IsHeaderWithin (length head.now)) fields.now }
-    ensures { HasValues head.now (values_of name.now (map (header_bytes head.now) fields.now)) result }
+    ensures { HasFieldValues head.now (values_of name.now (map (header_bytes head.now) fields.now)) result }
 {
     let mut values = Values::Absent;
     for field in fields {

@@ -16,7 +16,7 @@ const MOST_FIELDS: usize = 64;
 
 /// What a head asks for, in slices of its bytes.
 #[derive(Clone, Copy)]
-pub struct Head<'b> {
+pub struct HeadParts<'b> {
     /// The method (RFC 9110 9.1).
     pub method: &'b [u8],
     /// The target, as it stands in the request line (RFC 9112 3.2).
@@ -31,7 +31,7 @@ pub struct Head<'b> {
 ///
 /// The status that refuses it: 431 for more than 64 fields; 400 where the bytes are no head for another cause; for a
 /// POST 411, 400 or 413 by its Transfer-Encoding and Content-Length.
-pub fn read_head(head: &[u8]) -> Result<Head<'_>, u16>
+pub fn read_head(head: &[u8]) -> Result<HeadParts<'_>, u16>
     ensures ok { IfOk result (λ r. (h : RequestHead) × IsHead head.now h × (r.method.now ≡ h.method)
         × (r.target.now ≡ h.target) × (body_size h ≡ Ok r.size)) }
     ensures small { IfOk result (λ r. r.size ≤ longest_body) }
@@ -45,7 +45,7 @@ pub fn read_head(head: &[u8]) -> Result<Head<'_>, u16>
                 return Err(status::BAD_REQUEST);
             };
             match size_of(method, head, &fields[..parts.headers]) {
-                Ok(size) => Ok(Head {
+                Ok(size) => Ok(HeadParts {
                     method,
                     target,
                     size,

@@ -1,7 +1,7 @@
 //! What is known of the bytes of a connection, so that none of them is searched twice.
 
 ghost use Rattle.reg_heads.specs.Frame.{HasHead};
-ghost use Rattle.reg_heads.specs.Collected.{IsUnmarked, Knows, Tells};
+ghost use Rattle.reg_heads.specs.Collected.{IsUnmarked, Knows, IsAllKnown};
 
 use crate::head::read_head;
 use crate::request::{BLANK_LINE, LONGEST_HEAD};
@@ -21,7 +21,7 @@ pub(crate) enum Known {
 /// What is known of the bytes once all of them are looked at.
 pub(crate) fn told(bytes: &[u8], known: Known) -> Known
     requires { ∥ Knows bytes.now known ∥₁ }
-    ensures { ∥ Tells bytes.now result ∥₁ }
+    ensures { ∥ IsAllKnown bytes.now result ∥₁ }
 {
     match known {
         Known::Unmarked(searched) => searched_on(bytes, searched),
@@ -33,7 +33,7 @@ pub(crate) fn told(bytes: &[u8], known: Known) -> Known
 /// What is known of the bytes once they are searched for the end of a head, which none of the first `searched` is.
 fn searched_on(bytes: &[u8], searched: usize) -> Known
     requires { IsUnmarked bytes.now searched }
-    ensures { Tells bytes.now result }
+    ensures { IsAllKnown bytes.now result }
 {
     let within = bytes.len().min(LONGEST_HEAD);
     match first_mark(bytes, within, BLANK_LINE, searched) {
@@ -46,7 +46,7 @@ fn searched_on(bytes: &[u8], searched: usize) -> Known
 /// What the head that ends at `end` tells.
 fn read_to(bytes: &[u8], end: usize) -> Known
     requires { HasHead bytes.now end }
-    ensures { Tells bytes.now result }
+    ensures { IsAllKnown bytes.now result }
 {
     match read_head(&bytes[..end]) {
         Ok(head) => Known::Asked(end + head.size as usize),

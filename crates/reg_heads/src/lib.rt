@@ -13,6 +13,6 @@ pub mod status;
 
 pub use answer::Answer;
 pub use collected::Collected;
-pub use head::{Head, read_head};
+pub use head::{HeadParts, read_head};
 pub use request::{Request, read_request};
 pub use response::{HEAD_ROOM, put, write_answer, write_memory_fault};

@@ -5,7 +5,7 @@ ghost use Rattle.std.specs.Io.KnownBytes.{Consumes};
 ghost use Rattle.reg_heads.specs.Head.{longest_head, longest_body};
 ghost use Rattle.reg_heads.specs.Frame.{Framed, HasHead, IsUnfinished, part_of, asked};
 
-use crate::head::{Head, read_head};
+use crate::head::{HeadParts, read_head};
 use crate::status;
 use http::Method;
 use reg_core::Fault;
@@ -144,7 +144,7 @@ fn fill_body<R: Read>(reader: &mut R, body: &mut [u8], held: &[u8]) -> Result<()
 }
 
 /// The request, with its own copy of what its head asks.
-fn owned(alloc: Global, head: Head<'_>, body: Vec<u8>) -> Result<Request, Fault>
+fn owned(alloc: Global, head: HeadParts<'_>, body: Vec<u8>) -> Result<Request, Fault>
     ensures ok { IfOk result (λ request. part_of request ≡ asked head.entry.method.now head.entry.target.now body.items) }
     ensures err { IfErr result (λ fault. fault ≡ Fault.Memory) }
 {

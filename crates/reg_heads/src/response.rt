@@ -4,7 +4,7 @@ ghost use Rattle.std.specs.Prelude.{◌≡◌, ◌+◌, ◌≤◌, ◌++◌, ℕ
 ghost use Rattle.std.specs.Io.KnownBytes.{Appends};
 ghost use Rattle.reg_wire.specs.Put.{AppendsFront};
 ghost use Rattle.reg_heads.specs.Allow.{allowed};
-ghost use Rattle.reg_heads.specs.Response.{shown, phrase, line, status_line, allow_line, head_text, IsDateOf, IsText, memory_text};
+ghost use Rattle.reg_heads.specs.Response.{shown, phrase, field_line, status_line, allow_line, head_text, IsDateOf, IsText, memory_text};
 
 use crate::answer::Answer;
 use crate::status;
@@ -30,10 +30,10 @@ pub fn put(out: &mut Vec<u8>, bytes: &[u8])
 }
 
 /// Appends one line: what it starts with, its value, and CR LF.
-#[tactic(auto, unfolding(crate::specs::Response::line))]
+#[tactic(auto, unfolding(crate::specs::Response::field_line))]
 fn put_line(out: &mut Vec<u8>, start: &[u8], value: &[u8])
     requires { length out.old.items + length start.now + length value.now + 2 ≤ vec_capacity out.old }
-    ensures items { out.new.items ≡ out.old.items ++ line start.now value.now }
+    ensures items { out.new.items ≡ out.old.items ++ field_line start.now value.now }
     ensures room { vec_capacity out.old ≤ vec_capacity out.new }
     ensures length { length out.new.items ≡ length out.old.items + length start.now + length value.now + 2 }
 {

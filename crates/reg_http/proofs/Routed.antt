@@ -5,43 +5,43 @@ use Rattle.matchit.specs.Rows.{RowsOf}
 use Rattle.matchit.specs.Router.{RouteOf, rename, map_key}
 use Rattle.matchit.specs.Seek.{seek, first, has_slash}
 use Rattle.matchit.proofs.RenameLemmas.{first-rename}
-use Rattle.reg_http.specs.Rows.{rows, IsLed, Finds}
-use Rattle.reg_http.specs.Routes.{ocsp, ocsp_rest, crl, crl_number, status, counts, requests, nowhere, Line, Ending, here, one, rest, line, after, ended, or_next, route_in, route}
+use Rattle.reg_http.specs.RouterRows.{rows, IsLed, Finds}
+use Rattle.reg_http.specs.Routes.{ocsp, ocsp_rest, crl, crl_number, status, counts, requests, nowhere, RouteLine, Ending, here, one, rest, route_line, path_after, ended, or_next, route_in, route}
 use Rattle.reg_http.specs.declared.paths.Which.{Which}
 use Rattle.reg_http.specs.declared.paths.Which.TheVariants.{Ocsp, OcspRest, Crl, CrlNumber, Status, Counts, Requests}
 use Rattle.reg_http.proofs.SeekOne.{mark, apart_all, all_bytes, is_byte, left, seek_one, seek_nothing}
 
 -- the table, each line with what the router keeps of it
-abbrev pub keyed : List (Line × Which)
+abbrev pub keyed : List (RouteLine × Which)
 keyed =
-    (line (codes "/counts") here (λ _. counts), Counts)
-    ∷ (line (codes "/crl/") one crl_number, CrlNumber)
-    ∷ (line (codes "/crl") here (λ _. crl), Crl)
-    ∷ (line (codes "/ocsp/") rest ocsp_rest, OcspRest)
-    ∷ (line (codes "/ocsp") here (λ _. ocsp), Ocsp)
-    ∷ (line (codes "/requests") here (λ _. requests), Requests)
-    ∷ (line (codes "/status/") one status, Status)
+    (route_line (codes "/counts") here (λ _. counts), Counts)
+    ∷ (route_line (codes "/crl/") one crl_number, CrlNumber)
+    ∷ (route_line (codes "/crl") here (λ _. crl), Crl)
+    ∷ (route_line (codes "/ocsp/") rest ocsp_rest, OcspRest)
+    ∷ (route_line (codes "/ocsp") here (λ _. ocsp), Ocsp)
+    ∷ (route_line (codes "/requests") here (λ _. requests), Requests)
+    ∷ (route_line (codes "/status/") one status, Status)
     ∷ []
 
-abbrev pub lines_of : List (Line × Which) → List Line
+abbrev pub lines_of : List (RouteLine × Which) → List RouteLine
 lines_of [] = []
 lines_of (x ∷ xs) = x.0 ∷ lines_of xs
 
-abbrev pub rows_for : List (Line × Which) → RowsOf Which
+abbrev pub rows_for : List (RouteLine × Which) → RowsOf Which
 rows_for [] = []
 rows_for (x ∷ xs) = (x.0.prefix ++ mark x.0.ending, x.1) ∷ rows_for xs
 
 -- what the first line that takes the path keeps
-abbrev pub chain : List (Line × Which) → List ℕ → Option Which
+abbrev pub chain : List (RouteLine × Which) → List ℕ → Option Which
 chain [] path = None
 chain (x ∷ xs) path = cond (is_some (left x.0.prefix x.0.ending path)) (Some x.1) (chain xs path)
 
 -- prefixes are bytes, and no two rows catch one path
-abbrev pub all_apart : List (Line × Which) → Bool
+abbrev pub all_apart : List (RouteLine × Which) → Bool
 all_apart [] = true
 all_apart (x ∷ xs) = all_bytes x.0.prefix && (apart_all (x.0.prefix ++ mark x.0.ending) (rows_for xs) && all_apart xs)
 
-pub seek_chain : (ls : List (Line × Which)) (path : List ℕ) → All is_byte path → all_apart ls ≡ true → seek 0 (rows_for ls) path ≡ chain ls path
+pub seek_chain : (ls : List (RouteLine × Which)) (path : List ℕ) → All is_byte path → all_apart ls ≡ true → seek 0 (rows_for ls) path ≡ chain ls path
 seek_chain [] path small parts = seek_nothing 0 path
 seek_chain (x ∷ xs) path small parts =
     let (bytes, more) = and_parts (all_bytes x.0.prefix) (apart_all (x.0.prefix ++ mark x.0.ending) (rows_for xs) && all_apart xs) parts in
@@ -49,14 +49,14 @@ seek_chain (x ∷ xs) path small parts =
     seek_one x.0.prefix x.0.ending x.1 (rows_for xs) path small bytes parted
     ∙ ap (λ (next : Option Which). cond (is_some (left x.0.prefix x.0.ending path)) (Some x.1) next) (seek_chain xs path small others)
 
-abbrev pub Fits : Line → Which → Type 0
+abbrev pub Fits : RouteLine → Which → Type 0
 Fits l which = (path text : List ℕ) → left l.prefix l.ending path ≡ Some text → IsLed which path (l.to text)
 
-abbrev pub AllFit : List (Line × Which) → Type 0
+abbrev pub AllFit : List (RouteLine × Which) → Type 0
 AllFit [] = Unit {0}
 AllFit (x ∷ xs) = Fits x.0 x.1 × AllFit xs
 
-pub led : (ls : List (Line × Which)) (path : List ℕ) (which : Which) → AllFit ls → chain ls path ≡ Some which → IsLed which path (route_in (lines_of ls) path)
+pub led : (ls : List (RouteLine × Which)) (path : List ℕ) (which : Which) → AllFit ls → chain ls path ≡ Some which → IsLed which path (route_in (lines_of ls) path)
 led [] path which fit found = absurd (cc)
 led (x ∷ xs) path which fit found = by (left x.0.prefix x.0.ending path) refl found (led xs path which fit.1)
   where
@@ -69,7 +69,7 @@ led (x ∷ xs) path which fit found = by (left x.0.prefix x.0.ending path) refl 
         subst P key (fit.0 path text e)
     by None e same next = next same
 
-pub lost : (ls : List (Line × Which)) (path : List ℕ) → chain ls path ≡ None → route_in (lines_of ls) path ≡ nowhere
+pub lost : (ls : List (RouteLine × Which)) (path : List ℕ) → chain ls path ≡ None → route_in (lines_of ls) path ≡ nowhere
 lost [] path none = refl
 lost (x ∷ xs) path none = by (left x.0.prefix x.0.ending path) none (lost xs path)
   where
@@ -79,12 +79,12 @@ lost (x ∷ xs) path none = by (left x.0.prefix x.0.ending path) none (lost xs p
     by None same next = next same
 
 -- what is after a prefix
-pub after_is : (w path text : List ℕ) → after w path ≡ Some text → (text ≡ drop (length w) path) × (length w ≤ length path)
+pub after_is : (w path text : List ℕ) → path_after w path ≡ Some text → (text ≡ drop (length w) path) × (length w ≤ length path)
 after_is [] path text e = (let same : path ≡ text = cc in sym same, omega arith)
 after_is (x ∷ w) [] text e = absurd (cc)
 after_is (x ∷ w) (b ∷ path) text e = by (x == b) e (after_is w path text)
   where
-    by : (v : Bool) → cond v (after w path) None ≡ Some text → (after w path ≡ Some text → (text ≡ drop (length w) path) × (length w ≤ length path))
+    by : (v : Bool) → cond v (path_after w path) None ≡ Some text → (path_after w path ≡ Some text → (text ≡ drop (length w) path) × (length w ≤ length path))
         → (text ≡ drop (length (x ∷ w)) (b ∷ path)) × (length (x ∷ w) ≤ length (b ∷ path))
     by true e next = let found = next e in (found.0, omega (arith, found.1))
     by false e next = absurd (cc)
@@ -104,9 +104,9 @@ rest_takes (b ∷ more) text e = cc
 -- a line that ends in a segment, or in anything, takes what is after its prefix
 pub left_is : (w : List ℕ) (e : Ending) → ((left_over text : List ℕ) → ended e left_over ≡ Some text → left_over ≡ text)
     → (path text : List ℕ) → left w e path ≡ Some text → (text ≡ drop (length w) path) × (length w ≤ length path)
-left_is w e exact path text found = by (after w path) refl found
+left_is w e exact path text found = by (path_after w path) refl found
   where
-    by : (v : Option (List ℕ)) → after w path ≡ v → option_and_then (ended e) v ≡ Some text → (text ≡ drop (length w) path) × (length w ≤ length path)
+    by : (v : Option (List ℕ)) → path_after w path ≡ v → option_and_then (ended e) v ≡ Some text → (text ≡ drop (length w) path) × (length w ≤ length path)
     by None same got = absurd (cc)
     by (Some left_over) same got = let whole = exact left_over text got in after_is w path text (same ∙ ap (λ (t : List ℕ). Some t) whole)
 

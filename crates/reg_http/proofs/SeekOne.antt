@@ -5,7 +5,7 @@ use Rattle.std.proofs.lemmas.Bool.{and_parts}
 use Rattle.std.proofs.lemmas.List.Elements.{All-head, All-tail}
 use Rattle.matchit.specs.Rows.{RowsOf}
 use Rattle.matchit.specs.Seek.{own, step, or_else, seek, param_step, has_slash}
-use Rattle.reg_http.specs.Routes.{Ending, here, one, rest, after, ended}
+use Rattle.reg_http.specs.Routes.{Ending, here, one, rest, path_after, ended}
 
 -- what stands for an ending among the tokens of a pattern
 abbrev pub mark : Ending → List ℕ
@@ -30,7 +30,7 @@ is_byte b = b < 256
 
 -- what the ending takes of the path after a prefix
 abbrev pub left : List ℕ → Ending → List ℕ → Option (List ℕ)
-left prefix ending path = option_and_then (ended ending) (after prefix path)
+left prefix ending path = option_and_then (ended ending) (path_after prefix path)
 
 module _ {K : Type 0} where
   -- a pattern parts from each row
@@ -109,7 +109,7 @@ module _ {K : Type 0} where
   pub static_step : (x b : ℕ) (w : List ℕ) (e : Ending) (key : K) (rs : RowsOf K) (p : List ℕ) (others : Option K) (v : Bool)
       → (v ≡ true → seek 0 ((w ++ mark e, key) ∷ step b rs) p ≡ cond (is_some (left w e p)) (Some key) (seek 0 (step b rs) p))
       → or_else (seek 0 (cond v ((w ++ mark e, key) ∷ step b rs) (step b rs)) p) others
-      ≡ cond (is_some (option_and_then (ended e) (cond v (after w p) None))) (Some key) (or_else (seek 0 (step b rs) p) others)
+      ≡ cond (is_some (option_and_then (ended e) (cond v (path_after w p) None))) (Some key) (or_else (seek 0 (step b rs) p) others)
   static_step x b w e key rs p others true next = ap (λ (found : Option K). or_else found others) (next refl) ∙ by (is_some (left w e p))
     where
       by : (v : Bool) → or_else (cond v (Some key) (seek 0 (step b rs) p)) others ≡ cond v (Some key) (or_else (seek 0 (step b rs) p) others)

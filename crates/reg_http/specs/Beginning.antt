@@ -14,7 +14,7 @@ use Rattle.reg_heads.specs.Response.{IsText, shown}
 use Rattle.reg_http.specs.Asked.{Asked, ocsp_of, asked as asks_for}
 use Rattle.reg_http.specs.Bodies.{ocsp_told}
 use Rattle.reg_http.specs.RespondsTo.{RespondsTo}
-use Rattle.reg_http.specs.Served.{Responds, ServingEnds, Takes}
+use Rattle.reg_http.specs.Served.{Responds, ServingEnds, TakesRequest}
 use Rattle.reg_http.specs.declared.respond.Beginning.{Beginning}
 use Rattle.reg_http.specs.declared.respond.Beginning.TheVariants.{Told, Left}
 use Rattle.reg_ocsp.specs.Drafts.{Drafted}
@@ -57,7 +57,7 @@ module _ {S : Type 0} (runs : S → ℕ → Command → Result Reply Fault → S
     pub target : List ℕ
     pub body : List ℕ
     pub request : List ℕ
-    pub takes : Takes input left took
+    pub takes : TakesRequest input left took
     pub framed : Framed took (asked method target body)
     pub asks_it : asks_for method target body ≡ ocsp_of request
     pub drafted : drafts s now request draft t

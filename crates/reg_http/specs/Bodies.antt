@@ -45,8 +45,8 @@ unfoldable pub der : List ℕ → List ℕ → Response
 der kind body = record { status = 200; kind = kind; allow = None; body = body }
 
 -- a refusal of HTTP itself: its own status, in the body too
-unfoldable pub refusal : ℕ → Response
-refusal status = json status (error_text (decimal status))
+unfoldable pub http_refusal : ℕ → Response
+http_refusal status = json status (error_text (decimal status))
 
 -- a 405 names the method that the route has (RFC 9110 15.5.6)
 unfoldable pub only : List ℕ → Response
@@ -89,9 +89,9 @@ told_or (Some body) = json 200 body
 told_or None = fault_response Store
 
 -- the response to an outcome
-abbrev pub told : (Reply → Option (List ℕ)) → Result Reply Fault → Response
-told body_of (Ok reply) = told_or (body_of reply)
-told body_of (Err fault) = fault_response fault
+abbrev pub told_response : (Reply → Option (List ℕ)) → Result Reply Fault → Response
+told_response body_of (Ok reply) = told_or (body_of reply)
+told_response body_of (Err fault) = fault_response fault
 
 -- an OCSP response, of any status (RFC 6960 A.2); want of memory is a fault
 abbrev pub ocsp_told : Result (List ℕ) NoMemory → Response

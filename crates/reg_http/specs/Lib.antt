@@ -4,6 +4,6 @@ pub mod Bodies
 pub mod Lists
 pub mod Parts
 pub mod RespondsTo
+pub mod RouterRows
 pub mod Routes
-pub mod Rows
 pub mod Served

@@ -13,7 +13,7 @@ use Rattle.reg_lists.specs.Pages.{IsPaged}
 use Rattle.reg_lists.specs.Texts.{page_body}
 use Rattle.reg_lists.specs.declared.cursor.Cursor.{Cursor}
 use Rattle.reg_lists.specs.declared.rows.Page.{Page as PageOf}
-use Rattle.reg_http.specs.Bodies.{fault_response, json, refusal, only}
+use Rattle.reg_http.specs.Bodies.{fault_response, json, http_refusal, only}
 use Rattle.reg_http.specs.declared.lists.ListAsked.{ListAsked}
 use Rattle.reg_http.specs.declared.lists.ListAsked.TheVariants.{Nothing, Page}
 use Rattle.reg_http.specs.declared.lists.NoPage.{NoPage}
@@ -48,13 +48,13 @@ given_told from (Ok given) = json 200 (page_body from given.next given.rows.item
 given_told from (Err why) = fault_response why
 
 -- the response to a request for a list that asks no page
-abbrev pub unlisted : NoPage → Response
-unlisted (Refused status) = refusal status
-unlisted OnlyGet = only (codes "GET")
-unlisted Unread = fault_response (fault.Refused Syntax)
+abbrev pub no_page_response : NoPage → Response
+no_page_response (Refused status) = http_refusal status
+no_page_response OnlyGet = only (codes "GET")
+no_page_response Unread = fault_response (fault.Refused Syntax)
 
 -- the response to a request for a list, of records at a moment
 abbrev pub RespondsList : Records → ℕ → ListAsked → Response → Type 0
 RespondsList records now (Page from most) response =
     (given : Result PageOf Fault) × IsPaged records now most from given × (response ≡ given_told from given)
-RespondsList records now (Nothing why) response = response ≡ unlisted why
+RespondsList records now (Nothing why) response = response ≡ no_page_response why

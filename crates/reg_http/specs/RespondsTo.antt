@@ -11,7 +11,7 @@ use Rattle.reg_core.specs.declared.refusal.Fault.TheVariants.{Refused}
 use Rattle.reg_core.specs.declared.refusal.Refusal.TheVariants.{Syntax}
 use Rattle.reg_heads.specs.Response.{Response}
 use Rattle.reg_http.specs.Asked.{Asked, refused, only, unread, malformed, ocsp_of, crl_of, status_of, counts_of, request_of}
-use Rattle.reg_http.specs.Bodies.{refusal, fault_response, der, malformed_text, told, status_reply, counts_reply, due_reply, ocsp_told, crl_told}
+use Rattle.reg_http.specs.Bodies.{http_refusal, fault_response, der, malformed_text, told_response, status_reply, counts_reply, due_reply, ocsp_told, crl_told}
 use Rattle.reg_http.specs.Bodies.{only as only_response}
 
 -- The office's relations: a command, a query, an OCSP request and a CRL; `s` is the office before, `t` after.
@@ -21,7 +21,7 @@ module _ {S : Type 0} (runs : S → ℕ → Command → Result Reply Fault → S
     (crls : S → Option ℕ → Result (List ℕ) Fault → S → Type 0) where
   -- the response to what is asked; only a request for revocation runs a command
   abbrev pub RespondsTo : ℕ → S → Asked → Response → S → Type 0
-  RespondsTo now s (refused status) response t = (t ≡ s) × (response ≡ refusal status)
+  RespondsTo now s (refused status) response t = (t ≡ s) × (response ≡ http_refusal status)
   RespondsTo now s (only method) response t = (t ≡ s) × (response ≡ only_response method)
   RespondsTo now s unread response t = (t ≡ s) × (response ≡ fault_response (Refused Syntax))
   RespondsTo now s malformed response t = (t ≡ s) × (response ≡ der (codes "application/ocsp-response") malformed_text)
@@ -30,8 +30,8 @@ module _ {S : Type 0} (runs : S → ℕ → Command → Result Reply Fault → S
   RespondsTo now s (crl_of number) response t =
       (given : Result (List ℕ) Fault) × crls s number given t × (response ≡ crl_told given)
   RespondsTo now s (status_of serial) response t =
-      (given : Result Reply Fault) × asks s now (Status serial) given t × (response ≡ told status_reply given)
+      (given : Result Reply Fault) × asks s now (Status serial) given t × (response ≡ told_response status_reply given)
   RespondsTo now s counts_of response t =
-      (given : Result Reply Fault) × asks s now Counts given t × (response ≡ told counts_reply given)
+      (given : Result Reply Fault) × asks s now Counts given t × (response ≡ told_response counts_reply given)
   RespondsTo now s (request_of serial word) response t =
-      (given : Result Reply Fault) × runs s now (Request serial word) given t × (response ≡ told due_reply given)
+      (given : Result Reply Fault) × runs s now (Request serial word) given t × (response ≡ told_response due_reply given)

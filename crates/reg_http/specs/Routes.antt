@@ -22,31 +22,31 @@ pub data Ending : Type 0 where
   rest : Ending
 
 -- a line of the table
-pub record Line : Type 0 where
+pub record RouteLine : Type 0 where
   pub prefix : List ℕ
   pub ending : Ending
   pub to : List ℕ → Route
 
-abbrev pub line : List ℕ → Ending → (List ℕ → Route) → Line
-line prefix ending to = record { prefix = prefix; ending = ending; to = to }
+abbrev pub route_line : List ℕ → Ending → (List ℕ → Route) → RouteLine
+route_line prefix ending to = record { prefix = prefix; ending = ending; to = to }
 
 -- the routes of the desk
-abbrev pub table : List Line
+abbrev pub table : List RouteLine
 table =
-    line (codes "/counts") here (λ _. counts)
-    ∷ line (codes "/crl/") one crl_number
-    ∷ line (codes "/crl") here (λ _. crl)
-    ∷ line (codes "/ocsp/") rest ocsp_rest
-    ∷ line (codes "/ocsp") here (λ _. ocsp)
-    ∷ line (codes "/requests") here (λ _. requests)
-    ∷ line (codes "/status/") one status
+    route_line (codes "/counts") here (λ _. counts)
+    ∷ route_line (codes "/crl/") one crl_number
+    ∷ route_line (codes "/crl") here (λ _. crl)
+    ∷ route_line (codes "/ocsp/") rest ocsp_rest
+    ∷ route_line (codes "/ocsp") here (λ _. ocsp)
+    ∷ route_line (codes "/requests") here (λ _. requests)
+    ∷ route_line (codes "/status/") one status
     ∷ []
 
 -- the path after a prefix, where it begins with it
-abbrev pub after : List ℕ → List ℕ → Option (List ℕ)
-after [] path = Some path
-after (x ∷ prefix) [] = None
-after (x ∷ prefix) (b ∷ path) = if x == b then after prefix path else None
+abbrev pub path_after : List ℕ → List ℕ → Option (List ℕ)
+path_after [] path = Some path
+path_after (x ∷ prefix) [] = None
+path_after (x ∷ prefix) (b ∷ path) = if x == b then path_after prefix path else None
 
 -- what is left is nothing, a segment with no slash, or any bytes but none
 abbrev pub ended : Ending → List ℕ → Option (List ℕ)
@@ -58,8 +58,8 @@ ended rest [] = None
 ended rest (b ∷ left) = Some (b ∷ left)
 
 -- the route of a line, where the path is the line's
-abbrev pub takes : Line → List ℕ → Option Route
-takes l path = option_map l.to (option_and_then (ended l.ending) (after l.prefix path))
+abbrev pub route_taken : RouteLine → List ℕ → Option Route
+route_taken l path = option_map l.to (option_and_then (ended l.ending) (path_after l.prefix path))
 
 -- the route that was found, or the next
 abbrev pub or_next : Option Route → Route → Route
@@ -67,9 +67,9 @@ or_next (Some found) next = found
 or_next None next = next
 
 -- the route of the first line that takes the path; nowhere where none does
-abbrev pub route_in : List Line → List ℕ → Route
+abbrev pub route_in : List RouteLine → List ℕ → Route
 route_in [] path = nowhere
-route_in (l ∷ ls) path = or_next (takes l path) (route_in ls path)
+route_in (l ∷ ls) path = or_next (route_taken l path) (route_in ls path)
 
 -- the route of a path
 unfoldable pub route : List ℕ → Route

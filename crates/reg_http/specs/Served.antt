@@ -13,10 +13,10 @@ use Rattle.reg_heads.specs.Head.{longest_head, longest_body}
 use Rattle.reg_heads.specs.Response.{Response, IsText, memory_text}
 use Rattle.reg_http.specs.RespondsTo.{RespondsTo}
 use Rattle.reg_http.specs.Asked.{asked as asks_for}
-use Rattle.reg_http.specs.Bodies.{refusal}
+use Rattle.reg_http.specs.Bodies.{http_refusal}
 
 -- these bytes were taken from the reader, no more than a head and a body can have
-pub record Takes (input left : Option (List ℕ)) (took : List ℕ) : Type 0 where
+pub record TakesRequest (input left : Option (List ℕ)) (took : List ℕ) : Type 0 where
   pub consumed : Consumes input left took
   pub few : length took ≤ longest_head + longest_body
 
@@ -27,7 +27,7 @@ module _ {S : Type 0} (runs : S → ℕ → Command → Result Reply Fault → S
     (crls : S → Option ℕ → Result (List ℕ) Fault → S → Type 0) where
   -- the text of the refusal, or of what is answered; the constant text where there was no memory for an answer
   abbrev pub Responds : ℕ → S → Part → List ℕ → S → Type 0
-  Responds now s (refused status) text t = (t ≡ s) × IsText (refusal status) now text
+  Responds now s (refused status) text t = (t ≡ s) × IsText (http_refusal status) now text
   Responds now s (asked method target body) text t =
       ((response : Response) × RespondsTo runs asks ocsps crls now s (asks_for method target body) response t × IsText response now text)
       ⊎ ((t ≡ s) × (text ≡ memory_text))
@@ -37,7 +37,7 @@ module _ {S : Type 0} (runs : S → ℕ → Command → Result Reply Fault → S
     pub took : List ℕ
     pub part : Part
     pub text : List ℕ
-    pub takes : Takes input left took
+    pub takes : TakesRequest input left took
     pub framed : Framed took part
     pub responds : Responds now s part text t
     pub wrote : Appends out written text
@@ -47,7 +47,7 @@ module _ {S : Type 0} (runs : S → ℕ → Command → Result Reply Fault → S
     pub took : List ℕ
     pub part : Part
     pub text : List ℕ
-    pub takes : Takes input left took
+    pub takes : TakesRequest input left took
     pub framed : Framed took part
     pub responds : Responds now s part text t
     pub wrote : AppendsFront out written text
@@ -56,8 +56,8 @@ module _ {S : Type 0} (runs : S → ℕ → Command → Result Reply Fault → S
   abbrev pub ServingEnds : ℕ → S → S → Option (List ℕ) → Option (List ℕ) → Option (List ℕ) → Option (List ℕ) → Result (Unit {0}) Fault → Type 0
   ServingEnds now s t input left out written (Ok done) = Served now s t input left out written
   ServingEnds now s t input left out written (Err Write) = CutShort now s t input left out written
-  ServingEnds now s t input left out written (Err Read) = (took : List ℕ) × Takes input left took × IsUnfinished took
-  ServingEnds now s t input left out written (Err Memory) = (took : List ℕ) × Takes input left took
+  ServingEnds now s t input left out written (Err Read) = (took : List ℕ) × TakesRequest input left took × IsUnfinished took
+  ServingEnds now s t input left out written (Err Memory) = (took : List ℕ) × TakesRequest input left took
   ServingEnds now s t input left out written (Err Store) = ⊥
   ServingEnds now s t input left out written (Err Signer) = ⊥
   ServingEnds now s t input left out written (Err (Refused why)) = ⊥

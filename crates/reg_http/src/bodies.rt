@@ -2,7 +2,7 @@
 
 ghost use Rattle.std.specs.Prelude.{◌≡◌, ◌+◌, ◌≤◌, ◌++◌, List, [], length, codes, decimal, Some, None, vec_capacity};
 ghost use Rattle.reg_heads.specs.Response.{shown};
-ghost use Rattle.reg_http.specs.Bodies.{counts_reply, counts_text, der, due_reply, due_text, error_text, fault_response, fault_status, json, only as only_response, refusal as refusal_of, refusal_status, status_reply, status_text, told, told_or};
+ghost use Rattle.reg_http.specs.Bodies.{counts_reply, counts_text, der, due_reply, due_text, error_text, fault_response, fault_status, json, only as only_response, http_refusal as refusal_of, refusal_status, status_reply, status_text, told_response, told_or};
 
 use reg_core::{Counts, Decimal, Fault, Moment, Outcome, Refusal, Reply, Status};
 use reg_heads::{Answer, put, status};
@@ -124,7 +124,7 @@ pub(crate) fn crl(body: Vec<u8>) -> Answer
 }
 
 /// The answer that refuses a request by a status of HTTP alone.
-#[tactic(auto, unfolding(crate::specs::Bodies::refusal))]
+#[tactic(auto, unfolding(crate::specs::Bodies::http_refusal))]
 pub(crate) fn refusal(mut room: Vec<u8>, code: u16) -> Answer
     requires empty { room.items ≡ [] }
     requires room { 256 ≤ vec_capacity room }
@@ -199,7 +199,7 @@ pub(crate) fn told_fault(mut room: Vec<u8>, fault: Fault) -> Answer
 pub(crate) fn told_status(mut room: Vec<u8>, outcome: Outcome) -> Answer
     requires empty { room.items ≡ [] }
     requires room { 256 ≤ vec_capacity room }
-    ensures { shown result ≡ told status_reply outcome }
+    ensures { shown result ≡ told_response status_reply outcome }
 {
     match outcome {
         Ok(Reply::Status(status)) => {
@@ -215,7 +215,7 @@ pub(crate) fn told_status(mut room: Vec<u8>, outcome: Outcome) -> Answer
 pub(crate) fn told_counts(mut room: Vec<u8>, outcome: Outcome) -> Answer
     requires empty { room.items ≡ [] }
     requires room { 256 ≤ vec_capacity room }
-    ensures { shown result ≡ told counts_reply outcome }
+    ensures { shown result ≡ told_response counts_reply outcome }
 {
     match outcome {
         Ok(Reply::Counts(counts)) => {
@@ -247,7 +247,7 @@ fn told_entered(mut room: Vec<u8>, reply: Reply) -> Answer
 pub(crate) fn told_request(room: Vec<u8>, outcome: Outcome) -> Answer
     requires empty { room.items ≡ [] }
     requires room { 256 ≤ vec_capacity room }
-    ensures { shown result ≡ told due_reply outcome }
+    ensures { shown result ≡ told_response due_reply outcome }
 {
     match outcome {
         Ok(reply) => told_entered(room, reply),

@@ -6,7 +6,7 @@ ghost use Rattle.std.specs.Io.KnownBytes.{Appends, Consumes};
 ghost use Rattle.std.specs.List.{position, position_or_len};
 ghost use Rattle.reg_heads.specs.Frame.{Framed, Part, part_of};
 ghost use Rattle.reg_heads.specs.Response.{IsText, shown};
-ghost use Rattle.reg_http.specs.Lists.{asks_list, given_told, list_asked, or_unread, page_in, page_told, unlisted};
+ghost use Rattle.reg_http.specs.Lists.{asks_list, given_told, list_asked, or_unread, page_in, page_told, no_page_response};
 
 use crate::bodies::{JSON_ROOM, listed, only_get, refusal, told_fault};
 use percent_encoding::percent_decode;
@@ -149,7 +149,7 @@ fn page_of(asked: Option<(Cursor, u64)>) -> ListAsked
 ///
 /// [`Fault::Memory`] where memory is refused.
 pub fn refuse_list(alloc: Global, why: NoPage) -> Result<Answer, Fault>
-    ensures ok { IfOk result (λ answer. shown answer ≡ unlisted why) }
+    ensures ok { IfOk result (λ answer. shown answer ≡ no_page_response why) }
     ensures err { IfErr result (λ fault. fault ≡ Fault.Memory) }
 {
     let Ok(room) = Vec::with_capacity(alloc, JSON_ROOM) else {

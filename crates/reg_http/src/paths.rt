@@ -3,7 +3,7 @@
 ghost use Rattle.std.specs.Prelude.{◌≡◌, ◌≤◌, ◌<◌, [], All, length, codes, IfOk, IsTrue, OnOk};
 ghost use Rattle.matchit.specs.Router.{map_key, rename};
 ghost use Rattle.matchit.specs.Seek.{first};
-ghost use Rattle.reg_http.specs.Rows.{rows, Finds, leads, passed};
+ghost use Rattle.reg_http.specs.RouterRows.{rows, Finds, leads, passed};
 ghost use Rattle.reg_http.specs.Routes.{route, seen};
 
 use matchit::{InsertError, Router};

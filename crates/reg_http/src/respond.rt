@@ -13,7 +13,7 @@ use crate::bodies::{
     told_status,
 };
 use crate::parts::Part;
-use reg_calls::{Begun, Calls};
+use reg_calls::{Begun, OfficeCalls};
 use reg_core::{Command, Fault, Memory, Moment, Query, Refusal};
 use reg_heads::{Answer, put};
 use reg_ocsp::Draft;
@@ -66,7 +66,7 @@ fn malformed(mut room: Vec<u8>) -> Answer
 }
 
 /// Asks the office and tells its answer, in room that was made before, so that no memory is wanted after the call.
-pub(crate) fn respond<O: Calls>(
+pub(crate) fn respond<O: OfficeCalls>(
     alloc: Global,
     room: Vec<u8>,
     part: Part,
@@ -100,7 +100,7 @@ pub(crate) fn respond<O: Calls>(
 }
 
 /// The same as [`respond`], but an OCSP answer may be left to be signed.
-pub(crate) fn begin<O: Calls>(
+pub(crate) fn begin<O: OfficeCalls>(
     alloc: Global,
     room: Vec<u8>,
     part: Part,

@@ -10,7 +10,7 @@ use crate::bodies::JSON_ROOM;
 use crate::parts::read_part;
 use crate::respond::{Beginning, begin as begin_answer, respond};
 use http::Method;
-use reg_calls::Calls;
+use reg_calls::OfficeCalls;
 use reg_core::{Memory, Moment};
 use reg_heads::Answer;
 use std::alloc::Global;
@@ -21,7 +21,7 @@ use std::alloc::Global;
 ///
 /// [`Memory`] where memory is refused before any call of the office, which stays as it is: all that is needed to read the
 /// request and to tell the answer is made first.
-pub fn answer<O: Calls>(
+pub fn answer<O: OfficeCalls>(
     alloc: Global,
     method: &Method,
     target: &str,
@@ -47,7 +47,7 @@ pub fn answer<O: Calls>(
 /// # Errors
 ///
 /// As of [`answer`].
-pub fn begin<O: Calls>(
+pub fn begin<O: OfficeCalls>(
     alloc: Global,
     method: &Method,
     target: &str,

@@ -7,13 +7,13 @@ ghost use Rattle.reg_heads.specs.Frame.{part_of};
 ghost use Rattle.reg_heads.specs.Response.{IsText, memory_text, shown};
 ghost use Rattle.reg_calls.specs.Items.{items_of};
 ghost use Rattle.reg_http.specs.Beginning.{BeginningEnds, BeginsReply, FinishingEnds, SendsOrLeaves};
-ghost use Rattle.reg_http.specs.Bodies.{refusal as refusal_of};
+ghost use Rattle.reg_http.specs.Bodies.{http_refusal as refusal_of};
 ghost use Rattle.reg_http.specs.Served.{ServingEnds, Responds};
 
 use crate::bodies::{JSON_ROOM, refusal};
 use crate::respond::{Beginning, told_ocsp};
 use crate::routes::{answer, begin};
-use reg_calls::Calls;
+use reg_calls::OfficeCalls;
 use reg_core::{Fault, Memory, Moment};
 use reg_heads::{Answer, HEAD_ROOM, Request, read_request, write_answer, write_memory_fault};
 use reg_ocsp::Draft;
@@ -70,7 +70,7 @@ fn refuse<W: Write>(
 }
 
 /// Answers a request that was read, and writes the response.
-fn reply<W: Write, O: Calls>(
+fn reply<W: Write, O: OfficeCalls>(
     alloc: Global,
     writer: &mut W,
     room: Vec<u8>,
@@ -116,7 +116,7 @@ fn reply<W: Write, O: Calls>(
 /// [`Fault::Read`] where the reader fails or ends within the request, and [`Fault::Memory`] where memory is refused before
 /// the request is answered: then nothing was written, and the office is as it was. [`Fault::Write`] where the writer fails
 /// or takes nothing more: less than the whole response went out, from the front, and the office is as the answer left it.
-pub fn serve_one<R: Read, W: Write, O: Calls>(
+pub fn serve_one<R: Read, W: Write, O: OfficeCalls>(
     alloc: Global,
     reader: &mut R,
     writer: &mut W,
@@ -158,7 +158,7 @@ fn send_or_leave<W: Write>(
 }
 
 /// Begins to answer a request that was read: writes the response, or gives what is left to be signed for it.
-fn begin_reply<W: Write, O: Calls>(
+fn begin_reply<W: Write, O: OfficeCalls>(
     alloc: Global,
     writer: &mut W,
     room: Vec<u8>,
@@ -205,7 +205,7 @@ fn begin_reply<W: Write, O: Calls>(
 /// # Errors
 ///
 /// As of [`serve_one`].
-pub fn begin_one<R: Read, W: Write, O: Calls>(
+pub fn begin_one<R: Read, W: Write, O: OfficeCalls>(
     alloc: Global,
     reader: &mut R,
     writer: &mut W,

@@ -3,7 +3,7 @@ use Rattle.std.proofs.Common.{◌≡◌, ℕ, ◌+◌, List, [], ◌∷◌, ◌+
 use Rattle.reg_wire.proofs.PublicLaws.{answered_append}
 use Rattle.std.specs.Prelude.{Result, Ok, Err, OnOk, OnErr, take, drop}
 use Rattle.reg_wire.specs.Mark.{FirstMark}
-use Rattle.reg_hub.specs.Lines.{Deferring, Telling, TellingLater}
+use Rattle.reg_hub.specs.CounterLines.{Deferring, Telling, TellingLater}
 use Rattle.reg_hub.specs.Exchange.{Input, request, line, Outcome, said, later, asked_in, Handles, Exchanged}
 
 -- the requests of two lists

@@ -5,7 +5,7 @@ use Rattle.std.specs.Io.KnownBytes.{Consumes}
 use Rattle.std.proofs.KnownBytes.{Consumes-nil, Consumes-trans}
 use Rattle.std.proofs.lemmas.List.{append-nil, append_assoc}
 use Rattle.reg_hub.specs.Held.{TakesIn, SendsOn}
-use Rattle.reg_hub.specs.Lines.{Advances, Gathers, ends_by}
+use Rattle.reg_hub.specs.CounterLines.{Advances, Gathers, ends_by}
 use Rattle.reg_hub.specs.Unsent.{unsent_of}
 use Rattle.reg_hub.specs.declared.taking.Taken.{Taken}
 use Rattle.reg_hub.specs.declared.taking.Taken.TheVariants as taken

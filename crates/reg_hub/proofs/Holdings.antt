@@ -6,11 +6,11 @@ use Rattle.std.proofs.KnownBytes.{Appends-nil, Appends-trans, Consumes-nil, Cons
 use Rattle.std.proofs.lemmas.List.{append-nil, append_assoc, drop-drop, take-take, take_all}
 use Rattle.reg_wire.specs.Mark.{EndsWith, FirstMark, HasNoMark}
 use Rattle.reg_wire.proofs.PublicLaws.{no_mark_in_front}
-use Rattle.reg_heads.specs.Bytes.{bytes_of}
-use Rattle.reg_hub.specs.Stages.{Takes, Sends}
+use Rattle.reg_heads.specs.Bytes.{collected_bytes}
+use Rattle.reg_hub.specs.Stages.{TakesMore, Sends}
 use Rattle.reg_hub.specs.Held.{AddsTo, TakesIn, SendsOn}
 use Rattle.reg_hub.specs.Unsent.{unsent_of}
-use Rattle.reg_hub.specs.declared.caller.Stage.TheVariants as stage
+use Rattle.reg_hub.specs.declared.http_peer.Stage.TheVariants as stage
 use Rattle.reg_hub.specs.declared.taking.Taken.{Taken}
 use Rattle.reg_hub.specs.declared.taking.Taken.TheVariants as taken
 use Rattle.reg_hub.specs.declared.unsent.Unsent.{Unsent}
@@ -92,9 +92,9 @@ empty_is (x ∷ xs) none = absurd (omega (arith, none))
 
 -- a taking in, of a peer that asks
 pub takes_asking : {S : Type 0} (T : Type 0) (remaining : S → Option (List ℕ)) (s t : S) (c c' : Collected) (taken : Taken)
-    → TakesIn (remaining s) (remaining t) (bytes_of c) (bytes_of c') taken → Takes {T = T} remaining s t (stage.Asking c) (stage.Asking c')
+    → TakesIn (remaining s) (remaining t) (collected_bytes c) (collected_bytes c') taken → TakesMore {T = T} remaining s t (stage.Asking c) (stage.Asking c')
 takes_asking T remaining s t c c' taken took bytes is =
-    let k = kept_of (bytes_of c) took.came (bytes_of c') taken took.held in (
+    let k = kept_of (collected_bytes c) took.came (collected_bytes c') taken took.held in (
       k.0,
       k.1,
       subst (Consumes (remaining s) (remaining t)) k.2 took.consumed,

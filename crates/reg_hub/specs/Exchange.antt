@@ -1,6 +1,6 @@
 -- What became of a handler: exchanges with peers and at counters, one after the other.
 use Rattle.std.specs.Prelude.{◌≡◌, ℕ, zero, suc, ◌+◌, List, [], ◌∷◌}
-use Rattle.reg_wire.specs.Run.{Answered}
+use Rattle.reg_wire.specs.RunsOfAnswers.{Answered}
 
 -- what came: the bytes of a request, or of a line at a counter
 pub data Input : Type 0 where

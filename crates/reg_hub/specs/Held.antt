@@ -2,7 +2,7 @@
 use Rattle.std.specs.Prelude.{◌≡◌, ℕ, List, [], ◌++◌}
 use Rattle.std.specs.declared.option.Option.{Option}
 use Rattle.std.specs.Io.KnownBytes.{Appends, Consumes}
-use Rattle.reg_heads.specs.Collected.{IsWhole}
+use Rattle.reg_heads.specs.Collected.{IsWholeRequest}
 use Rattle.reg_hub.specs.declared.taking.Taken.{Taken}
 use Rattle.reg_hub.specs.declared.taking.Taken.TheVariants as taken
 use Rattle.reg_hub.specs.declared.unsent.Sent.{Sent}
@@ -25,7 +25,7 @@ pub record TakesIn (input left : Option (List ℕ)) (before after : List ℕ) (t
 
 -- a whole request is held
 abbrev pub IsWholeAt : List ℕ → Taken → Type 0
-IsWholeAt bytes taken.Whole = ∥ IsWhole bytes ∥₁
+IsWholeAt bytes taken.Whole = ∥ IsWholeRequest bytes ∥₁
 IsWholeAt bytes taken.Waits = Unit {0}
 IsWholeAt bytes taken.More = Unit {0}
 IsWholeAt bytes taken.Ended = Unit {0}

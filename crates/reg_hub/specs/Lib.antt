@@ -1,6 +1,6 @@
+pub mod CounterLines
 pub mod Exchange
 pub mod Held
-pub mod Lines
 pub mod Notes
 pub mod Outcomes
 pub mod Stages

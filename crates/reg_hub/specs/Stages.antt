@@ -3,25 +3,25 @@
 use Rattle.std.specs.Prelude.{◌≡◌, ℕ, List, ◌++◌}
 use Rattle.std.specs.declared.option.Option.{Option}
 use Rattle.std.specs.Io.KnownBytes.{Appends, Consumes}
-use Rattle.reg_heads.specs.Bytes.{bytes_of}
+use Rattle.reg_heads.specs.Bytes.{collected_bytes}
 use Rattle.reg_hub.specs.Exchange.{Outcome, said, pending, later}
 use Rattle.reg_hub.specs.Unsent.{unsent_of}
-use Rattle.reg_hub.specs.declared.caller.Stage.{Stage}
-use Rattle.reg_hub.specs.declared.caller.Stage.TheVariants as stage
+use Rattle.reg_hub.specs.declared.http_peer.Stage.{Stage}
+use Rattle.reg_hub.specs.declared.http_peer.Stage.TheVariants as stage
 
 -- the bytes of a request that came
 abbrev pub HasAsked : {T : Type 0} → Stage T → List ℕ → Type 0
-HasAsked (stage.Asking collected) bytes = bytes ≡ bytes_of collected
+HasAsked (stage.Asking collected) bytes = bytes ≡ collected_bytes collected
 HasAsked (stage.Waiting ticket link exact) bytes = ⊥
 HasAsked (stage.Answering unsent exact) bytes = ⊥
 HasAsked stage.Leaving bytes = ⊥
 
 -- an answer of which this is left
-abbrev pub Holds : {T : Type 0} → Stage T → List ℕ → Type 0
-Holds (stage.Asking collected) text = ⊥
-Holds (stage.Waiting ticket link exact) text = ⊥
-Holds (stage.Answering unsent exact) text = text ≡ unsent_of unsent
-Holds stage.Leaving text = ⊥
+abbrev pub HoldsAnswer : {T : Type 0} → Stage T → List ℕ → Type 0
+HoldsAnswer (stage.Asking collected) text = ⊥
+HoldsAnswer (stage.Waiting ticket link exact) text = ⊥
+HoldsAnswer (stage.Answering unsent exact) text = text ≡ unsent_of unsent
+HoldsAnswer stage.Leaving text = ⊥
 
 -- an answer of which this is left to be signed
 abbrev pub Waits : {T : Type 0} → Stage T → T → Type 0
@@ -32,7 +32,7 @@ Waits stage.Leaving ticket = ⊥
 
 -- what came of a request: its text is held; or what was left of it is
 abbrev pub IsHeld : {T : Type 0} → Outcome T → Stage T → Type 0
-IsHeld (said text) after = Holds after text
+IsHeld (said text) after = HoldsAnswer after text
 IsHeld (pending ticket) after = Waits after ticket
 IsHeld later after = ⊥
 
@@ -44,7 +44,7 @@ Answering {T = T} answers s t before after =
 -- who waited is answered by a text that finishes what was left of its own answer; who did not is as it was
 abbrev pub Finishing : {T : Type 0} → (T → List ℕ → Type 0) → Stage T → Stage T → Type 0
 Finishing finishes (stage.Asking collected) after = after ≡ stage.Asking collected
-Finishing finishes (stage.Waiting ticket link exact) after = (text : List ℕ) × finishes ticket text × Holds after text
+Finishing finishes (stage.Waiting ticket link exact) after = (text : List ℕ) × finishes ticket text × HoldsAnswer after text
 Finishing finishes (stage.Answering unsent exact) after = after ≡ stage.Answering unsent exact
 Finishing finishes stage.Leaving after = after ≡ stage.Leaving
 
@@ -56,13 +56,13 @@ WaitsOn (stage.Answering unsent exact) after = after ≡ stage.Answering unsent 
 WaitsOn stage.Leaving after = after ≡ stage.Leaving
 
 -- what is held of a request is what was, and the next bytes of the connection behind it; for want of memory the last may be lost
-abbrev pub Takes : {S T : Type 0} → (S → Option (List ℕ)) → S → S → Stage T → Stage T → Type 0
-Takes remaining s t before after =
+abbrev pub TakesMore : {S T : Type 0} → (S → Option (List ℕ)) → S → S → Stage T → Stage T → Type 0
+TakesMore remaining s t before after =
     (bytes : List ℕ) → HasAsked before bytes
     → (kept : List ℕ) × (lost : List ℕ) × Consumes (remaining s) (remaining t) (kept ++ lost) × HasAsked after (bytes ++ kept)
 
 -- what went out of an answer are its next bytes, and the rest is held
 abbrev pub Sends : {S T : Type 0} → (S → Option (List ℕ)) → S → S → Stage T → Stage T → Type 0
 Sends contents s t before after =
-    (text : List ℕ) → Holds before text
-    → (went : List ℕ) × (rest : List ℕ) × (text ≡ went ++ rest) × Appends (contents s) (contents t) went × Holds after rest
+    (text : List ℕ) → HoldsAnswer before text
+    → (went : List ℕ) × (rest : List ℕ) × (text ≡ went ++ rest) × Appends (contents s) (contents t) went × HoldsAnswer after rest

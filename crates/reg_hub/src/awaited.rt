@@ -1,9 +1,9 @@
 //! A line of a counter that waits for a signature.
 
+use crate::counter_peer::CounterPeer;
 use crate::given::Deferred;
 use crate::handler::Handler;
 use crate::link::Link;
-use crate::teller::Teller;
 use crate::unsent::{Sent, Unsent};
 use crate::watcher::{LINE, Watcher};
 use mio::Interest;
@@ -30,7 +30,7 @@ enum Way {
 #[derive(Drop)]
 pub(crate) struct Awaited<H: Handler> {
     place: usize,
-    teller: Teller<UnixStream>,
+    counter_peer: CounterPeer<UnixStream>,
     ticket: H::Line,
     /// What is to be signed, with what of it is not sent yet.
     message: Unsent,
@@ -45,13 +45,13 @@ impl<H: Handler> Awaited<H> {
     /// A line of the counter at a place, of which this is to be signed.
     pub(crate) fn new(
         place: usize,
-        teller: Teller<UnixStream>,
+        counter_peer: CounterPeer<UnixStream>,
         deferred: Deferred<H::Line>,
         now: u64,
     ) -> Awaited<H> {
         Awaited {
             place,
-            teller,
+            counter_peer,
             ticket: deferred.ticket,
             message: Unsent::new(deferred.message),
             link: None,
@@ -145,13 +145,13 @@ impl<H: Handler> Awaited<H> {
         self,
     ) -> (
         usize,
-        Teller<UnixStream>,
+        CounterPeer<UnixStream>,
         Deferred<H::Line>,
         Option<UnixStream>,
     ) {
         let Awaited {
             place,
-            teller,
+            counter_peer,
             ticket,
             message,
             link,
@@ -164,8 +164,8 @@ impl<H: Handler> Awaited<H> {
             ticket,
         };
         match way {
-            Way::There => (place, teller, deferred, link),
-            Way::Out | Way::Back | Way::Lost => (place, teller, deferred, None),
+            Way::There => (place, counter_peer, deferred, link),
+            Way::Out | Way::Back | Way::Lost => (place, counter_peer, deferred, None),
         }
     }
 }

@@ -2,9 +2,9 @@
 
 ghost use Rattle.std.specs.Prelude.{◌≡◌, ◌≤◌, IfOk, false, true};
 
-use crate::caller::Caller;
-use crate::callers::Callers;
-use crate::handler::{Handler, Stopped};
+use crate::handler::{Handler, HubFault};
+use crate::http_peer::HttpPeer;
+use crate::http_peers::HttpPeers;
 use crate::shared::Shared;
 use crate::watcher::{LISTENER, Watcher};
 use mio::Interest;
@@ -23,7 +23,7 @@ pub(crate) struct Door {
     /// The peer that was accepted and has no place yet.
     next: Option<(TcpStream, SocketAddr)>,
     /// Whether the listener may have one more connection.
-    has_callers: bool,
+    has_http_peers: bool,
     /// Whether it has one for sure: it was ready, and none was accepted since.
     is_awaited: bool,
     /// How many peers were accepted.
@@ -43,7 +43,7 @@ impl Door {
         Ok(Door {
             listener,
             next: None,
-            has_callers: true,
+            has_http_peers: true,
             is_awaited: false,
             accepted: 0,
         })
@@ -53,31 +53,31 @@ impl Door {
     pub(crate) fn note_ready(&mut self)
         ensures { self.new.is_awaited ≡ true }
     {
-        self.has_callers = true;
+        self.has_http_peers = true;
         self.is_awaited = true;
     }
 
     /// Whether a peer may be seated, where so many are accepted at most.
     pub(crate) fn may_seat(&self, most: u64) -> bool {
-        self.next.is_some() || (self.has_callers && self.accepted < most)
+        self.next.is_some() || (self.has_http_peers && self.accepted < most)
     }
 
     /// Seats peers, as long as there are any, of which so many are accepted at most.
     ///
     /// # Errors
     ///
-    /// [`Stopped`], where the system gives no peer and none is there whose end could help.
+    /// [`HubFault`], where the system gives no peer and none is there whose end could help.
     pub(crate) fn seat_all<H: Handler>(
         &mut self,
         most: u64,
-        callers: &mut Callers<H>,
+        http_peers: &mut HttpPeers<H>,
         shared: &mut Shared,
         now: u64,
-    ) -> Result<(), Stopped>
+    ) -> Result<(), HubFault>
         ensures { self.old.accepted ≤ most → self.new.accepted ≤ most }
     {
         for _ in 0..MOST_ACCEPTED {
-            match self.seat_next(most, callers, shared, now) {
+            match self.seat_next(most, http_peers, shared, now) {
                 Ok(true) => {}
                 Ok(false) => return Ok(()),
                 Err(stopped) => return Err(stopped),
@@ -90,21 +90,21 @@ impl Door {
     fn seat_next<H: Handler>(
         &mut self,
         most: u64,
-        callers: &mut Callers<H>,
+        http_peers: &mut HttpPeers<H>,
         shared: &mut Shared,
         now: u64,
-    ) -> Result<bool, Stopped>
+    ) -> Result<bool, HubFault>
         ensures { self.old.accepted ≤ most → self.new.accepted ≤ most }
     {
-        self.accept_next(most, callers, shared)?;
-        if self.next.is_some() && !callers.has_room() {
-            callers.make_room(shared);
+        self.accept_next(most, http_peers, shared)?;
+        if self.next.is_some() && !http_peers.has_room() {
+            http_peers.make_room(shared);
             return Ok(false);
         }
         match self.next.take() {
             Some((link, peer)) => {
-                let caller = Caller::new(shared.alloc, link, peer, self.accepted, now);
-                callers.seat(caller, shared, now);
+                let http_peer = HttpPeer::new(shared.alloc, link, peer, self.accepted, now);
+                http_peers.seat(http_peer, shared, now);
                 Ok(true)
             }
             None => Ok(false),
@@ -115,13 +115,13 @@ impl Door {
     fn accept_next<H: Handler>(
         &mut self,
         most: u64,
-        callers: &mut Callers<H>,
+        http_peers: &mut HttpPeers<H>,
         shared: &mut Shared,
-    ) -> Result<(), Stopped>
+    ) -> Result<(), HubFault>
         ensures within { self.old.accepted ≤ most → self.new.accepted ≤ most }
-        ensures kept { self.old.is_awaited ≡ false → callers.new ≡ callers.old }
+        ensures kept { self.old.is_awaited ≡ false → http_peers.new ≡ http_peers.old }
     {
-        if self.next.is_some() || !self.has_callers || self.accepted >= most {
+        if self.next.is_some() || !self.has_http_peers || self.accepted >= most {
             return Ok(());
         }
         match self.listener.accept() {
@@ -131,7 +131,7 @@ impl Door {
                 self.next = Some((link, peer));
                 Ok(())
             }
-            Err(error) => self.refused(error.kind(), callers, shared),
+            Err(error) => self.refused(error.kind(), http_peers, shared),
         }
     }
 
@@ -139,15 +139,15 @@ impl Door {
     fn refused<H: Handler>(
         &mut self,
         why: ErrorKind,
-        callers: &mut Callers<H>,
+        http_peers: &mut HttpPeers<H>,
         shared: &mut Shared,
-    ) -> Result<(), Stopped>
+    ) -> Result<(), HubFault>
         ensures same { self.new.accepted ≡ self.old.accepted }
-        ensures kept { self.old.is_awaited ≡ false → callers.new ≡ callers.old }
+        ensures kept { self.old.is_awaited ≡ false → http_peers.new ≡ http_peers.old }
     {
         match why {
             ErrorKind::WouldBlock => {
-                self.has_callers = false;
+                self.has_http_peers = false;
                 Ok(())
             }
             ErrorKind::Interrupted | ErrorKind::ConnectionAborted => Ok(()),
@@ -156,9 +156,9 @@ impl Door {
                 self.look_again(&shared.watcher);
                 Ok(())
             }
-            _ if callers.taken() == 0 => Err(Stopped),
+            _ if http_peers.taken() == 0 => Err(HubFault),
             _ => {
-                callers.make_room(shared);
+                http_peers.make_room(shared);
                 Ok(())
             }
         }
@@ -171,7 +171,7 @@ impl Door {
         let is_told = watcher
             .watch(&mut self.listener, LISTENER, Interest::READABLE, true)
             .is_ok();
-        self.has_callers = !is_told;
+        self.has_http_peers = !is_told;
         self.is_awaited = !is_told;
     }
 }

@@ -10,11 +10,11 @@ use std::net::SocketAddr;
 
 /// No more can be answered: the clock can't be read, or the sockets fail.
 #[derive(Clone, Copy, Debug, PartialEq, Eq)]
-pub struct Stopped;
+pub struct HubFault;
 
 /// Why a connection ended by a fault.
 #[derive(Clone, Copy, Debug, PartialEq, Eq)]
-pub enum Lost {
+pub enum PeerFault {
     /// It failed: the peer broke it off, or it can't be watched.
     Broken,
     /// Its time was over: its request was not whole, or its answer not taken.
@@ -66,8 +66,8 @@ pub trait Handler {
     ///
     /// # Errors
     ///
-    /// [`Stopped`], and the handler is as it was.
-    fn answer(&mut self, peer: SocketAddr, request: &[u8]) -> Result<Given<Self::Ticket>, Stopped>
+    /// [`HubFault`], and the handler is as it was.
+    fn answer(&mut self, peer: SocketAddr, request: &[u8]) -> Result<Given<Self::Ticket>, HubFault>
         ensures ok { IfOk result (λ given. answers self.old request.now (outcome_of given) self.new) }
         ensures err { OnErr result (self.new ≡ self.old) };
 
@@ -87,8 +87,8 @@ pub trait Handler {
     ///
     /// # Errors
     ///
-    /// [`Stopped`], and the handler and what is noted are as they were.
-    fn tell(&mut self, line: &[u8], noted: &mut Vec<u8>) -> Result<Vec<u8>, Stopped>
+    /// [`HubFault`], and the handler and what is noted are as they were.
+    fn tell(&mut self, line: &[u8], noted: &mut Vec<u8>) -> Result<Vec<u8>, HubFault>
         ensures ok { IfOk result (λ text. tells self.old line.now text.items self.new) }
         ensures err { OnErr result ((self.new ≡ self.old) × (noted.new ≡ noted.old)) };
 
@@ -109,19 +109,19 @@ pub trait Handler {
     ///
     /// # Errors
     ///
-    /// [`Stopped`], and the handler and what is noted are as they were.
+    /// [`HubFault`], and the handler and what is noted are as they were.
     fn tell_deferred(
         &mut self,
         line: &[u8],
         noted: &mut Vec<u8>,
         deferred: Deferred<Self::Line>,
         link: Option<UnixStream>,
-    ) -> Result<Option<Vec<u8>>, Stopped>
+    ) -> Result<Option<Vec<u8>>, HubFault>
         ensures ok { IfOk result (λ told. MatchOption told (defers self.old line.now self.new) (λ text. tells self.old line.now text.items self.new)) }
         ensures err { OnErr result ((self.new ≡ self.old) × (noted.new ≡ noted.old)) };
 
     /// Is told that the connection of the peer at an address ended by a fault; a counter has no address. Nothing changes by it.
-    fn lose(&self, peer: Option<SocketAddr>, why: Lost);
+    fn lose(&self, peer: Option<SocketAddr>, why: PeerFault);
 
     /// Is told how many connections there are, before it answers any of a turn. Nothing changes by it.
     fn hold(&self, crowd: Crowd);
@@ -133,13 +133,13 @@ pub(crate) fn answer_one<H: Handler>(
     made: &mut u64,
     peer: SocketAddr,
     request: &[u8],
-) -> Result<Given<H::Ticket>, Stopped>
+) -> Result<Given<H::Ticket>, HubFault>
     ensures ok { IfOk result (λ given. H.answers handler.old request.now (outcome_of given) handler.new) }
     ensures counted { OnOk result (made.new ≡ made.old + 1) }
     ensures err { OnErr result ((handler.new ≡ handler.old) × (made.new ≡ made.old)) }
 {
     let Some(count) = made.checked_add(1) else {
-        return Err(Stopped);
+        return Err(HubFault);
     };
     let given = handler.answer(peer, request)?;
     *made = count;

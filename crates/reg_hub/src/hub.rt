@@ -3,16 +3,17 @@
 ghost use Rattle.std.specs.Prelude.{◌≡◌, ◌≤◌, ◌+◌, IfOk, OnOk};
 ghost use Rattle.reg_hub.specs.Exchange.{Exchanged};
 
-use crate::caller::Caller;
-use crate::callers::{Callers, MOST_CALLERS, SWEEP};
+use crate::counter_peers::CounterPeers;
 use crate::door::Door;
-use crate::handler::{Crowd, Handler, Stopped};
+use crate::handler::{Crowd, Handler, HubFault};
+use crate::http_peer::HttpPeer;
+use crate::http_peers::{HttpPeers, MOST_HTTP_PEERS, SWEEP};
 use crate::losses::{Loss, Losses};
 use crate::shared::Shared;
 use crate::signings::{Asker, Pending, Signings};
-use crate::tellers::Tellers;
 use crate::watcher::{
-    COUNTER, FIRST_CALLER, FIRST_SIGNING, FIRST_TELLER, LINE, LINE_ENDED, LISTENER, MOST_SIGNINGS,
+    COUNTER, FIRST_COUNTER_PEER, FIRST_HTTP_PEER, FIRST_SIGNING, LINE, LINE_ENDED, LISTENER,
+    MOST_SIGNINGS,
 };
 use mio::net::{TcpListener, TcpStream, UnixListener};
 use std::alloc::AllocGlobal;
@@ -26,13 +27,13 @@ use std::time::{Clock, Duration};
 pub struct Hub<H: Handler> {
     shared: Shared,
     door: Door,
-    callers: Callers<H>,
-    tellers: Tellers<H>,
+    http_peers: HttpPeers<H>,
+    counter_peers: CounterPeers<H>,
     signings: Signings,
 }
 
 /// The time of a clock that never goes back, in milliseconds.
-fn now_of<C: Clock>(clock: &C) -> Result<u64, Stopped> {
+fn now_of<C: Clock>(clock: &C) -> Result<u64, HubFault> {
     match clock.monotonic() {
         Ok(passed) => Ok(
             passed
@@ -40,7 +41,7 @@ fn now_of<C: Clock>(clock: &C) -> Result<u64, Stopped> {
                 .saturating_mul(1_000)
                 .saturating_add(u64::from(passed.subsec_millis())),
         ),
-        Err(_) => Err(Stopped),
+        Err(_) => Err(HubFault),
     }
 }
 
@@ -79,28 +80,28 @@ impl<H: Handler> Hub<H> {
     ) -> io::Result<Hub<H>>
         ensures { IfOk result (λ hub. hub.door ≡ door) }
     {
-        let tellers = Tellers::new(shared.alloc, counter, &shared.watcher)?;
-        let callers = Callers::new(shared.alloc, places)?;
+        let counter_peers = CounterPeers::new(shared.alloc, counter, &shared.watcher)?;
+        let http_peers = HttpPeers::new(shared.alloc, places)?;
         let signings = Signings::new(shared.alloc);
         Ok(Hub {
             shared,
             door,
-            callers,
-            tellers,
+            http_peers,
+            counter_peers,
             signings,
         })
     }
 
     /// How many peers there are.
-    pub fn callers(&self) -> usize {
-        self.callers.taken()
+    pub fn http_peers(&self) -> usize {
+        self.http_peers.taken()
     }
 
     /// How many connections there are.
     fn crowd(&self) -> Crowd {
         Crowd {
-            peers: self.callers.taken(),
-            counters: self.tellers.taken(),
+            peers: self.http_peers.taken(),
+            counters: self.counter_peers.taken(),
             accepted: self.door.accepted,
         }
     }
@@ -111,14 +112,14 @@ impl<H: Handler> Hub<H> {
     ///
     /// # Errors
     ///
-    /// [`Stopped`], where the handler or the sockets are.
+    /// [`HubFault`], where the handler or the sockets are.
     pub fn serve_all<C: Clock>(
         &mut self,
         clock: &C,
         handler: &mut H,
         made: &mut u64,
         most: u64,
-    ) -> Result<(), Stopped>
+    ) -> Result<(), HubFault>
         requires { made.old ≤ most }
         ensures exchanged { Exchanged H.answers H.tells H.defers handler.old handler.new made.old made.new }
         ensures all { OnOk result (made.new ≡ most) }
@@ -132,7 +133,7 @@ impl<H: Handler> Hub<H> {
                 Err(stopped) => return Err(stopped),
             }
         }
-        Err(Stopped)
+        Err(HubFault)
     }
 
     /// One turn: waits until something is to be done, no longer than `longest`, and does it. Each connection gets on a little,
@@ -141,7 +142,7 @@ impl<H: Handler> Hub<H> {
     ///
     /// # Errors
     ///
-    /// [`Stopped`], where the handler or the sockets are.
+    /// [`HubFault`], where the handler or the sockets are.
     pub fn turn<C: Clock>(
         &mut self,
         clock: &C,
@@ -149,7 +150,7 @@ impl<H: Handler> Hub<H> {
         made: &mut u64,
         most: u64,
         longest: Duration,
-    ) -> Result<(), Stopped>
+    ) -> Result<(), HubFault>
         requires { made.old ≤ most }
         ensures exchanged { Exchanged H.answers H.tells H.defers handler.old handler.new made.old made.new }
         ensures within { made.new ≤ most }
@@ -158,7 +159,7 @@ impl<H: Handler> Hub<H> {
         self.shared.losses.tell(handler);
         handler.hold(self.crowd());
         self.finish_all(handler, now);
-        self.tellers.tell_all(&mut self.shared, handler, now)?;
+        self.counter_peers.tell_all(&mut self.shared, handler, now)?;
         let answered = self.answer_all(handler, made, most, now);
         self.ask_all(handler, now);
         answered
@@ -169,20 +170,20 @@ impl<H: Handler> Hub<H> {
     ///
     /// # Errors
     ///
-    /// [`Stopped`], where the sockets are.
-    pub fn finish<C: Clock>(&mut self, clock: &C, handler: &H) -> Result<(), Stopped> {
+    /// [`HubFault`], where the sockets are.
+    pub fn finish<C: Clock>(&mut self, clock: &C, handler: &H) -> Result<(), HubFault> {
         let most = self.door.accepted;
-        self.callers.leave_all(&mut self.shared);
+        self.http_peers.leave_all(&mut self.shared);
         for _ in 0..u64::MAX {
             self.shared.losses.tell(handler);
-            if self.callers.taken() == 0 {
+            if self.http_peers.taken() == 0 {
                 return Ok(());
             }
             let now = self.look(clock, most, Duration::MAX)?;
             self.finish_all(handler, now);
             self.ask_all(handler, now);
-            self.callers.leave_due(&mut self.shared);
-            self.tellers.rest();
+            self.http_peers.leave_due(&mut self.shared);
+            self.counter_peers.rest();
         }
         Ok(())
     }
@@ -191,28 +192,31 @@ impl<H: Handler> Hub<H> {
 /// What is done without the handler.
 impl<H: Handler> Hub<H> {
     /// Waits until something is to be done, takes in and sends on, accepts, and looks for those whose time is over.
-    fn look<C: Clock>(&mut self, clock: &C, most: u64, longest: Duration) -> Result<u64, Stopped> {
-        let for_signatures = least(self.signings.longest_wait(), self.tellers.longest_wait());
+    fn look<C: Clock>(&mut self, clock: &C, most: u64, longest: Duration) -> Result<u64, HubFault> {
+        let for_signatures = least(
+            self.signings.longest_wait(),
+            self.counter_peers.longest_wait(),
+        );
         let wait = self.wait(for_signatures, most).min(longest);
         self.shared.watcher.wait(wait)?;
         let now = now_of(clock)?;
         self.advance_all(now);
-        self.tellers.accept_all(&mut self.shared);
+        self.counter_peers.accept_all(&mut self.shared);
         self.door
-            .seat_all(most, &mut self.callers, &mut self.shared, now)?;
-        self.callers.sweep(&mut self.shared, now);
+            .seat_all(most, &mut self.http_peers, &mut self.shared, now)?;
+        self.http_peers.sweep(&mut self.shared, now);
         Ok(now)
     }
 
     /// How long may be waited; where a signature is waited for, no longer than so many milliseconds.
     fn wait(&self, for_signatures: Option<u64>, most: u64) -> Duration {
-        if self.door.may_seat(most) || self.tellers.is_ready() || self.has_work() {
+        if self.door.may_seat(most) || self.counter_peers.is_ready() || self.has_work() {
             return Duration::ZERO;
         }
         if let Some(millis) = for_signatures {
             return Duration::from_millis(millis);
         }
-        if self.callers.taken() == 0 {
+        if self.http_peers.taken() == 0 {
             return Duration::from_secs(3_600);
         }
         Duration::from_millis(SWEEP)
@@ -220,7 +224,7 @@ impl<H: Handler> Hub<H> {
 
     /// Whether somebody is due, or a loss is to be told.
     fn has_work(&self) -> bool {
-        !self.callers.due.is_empty() || !self.shared.losses.is_empty()
+        !self.http_peers.due.is_empty() || !self.shared.losses.is_empty()
     }
 
     /// Goes on with each that is ready.
@@ -237,19 +241,19 @@ impl<H: Handler> Hub<H> {
         if token == LISTENER {
             self.door.note_ready();
         } else if token == COUNTER {
-            self.tellers.has_tellers = true;
+            self.counter_peers.has_counter_peers = true;
         } else if token < FIRST_SIGNING {
-            let place = token.saturating_sub(FIRST_TELLER);
-            self.tellers.advance(place, &mut self.shared);
+            let place = token.saturating_sub(FIRST_COUNTER_PEER);
+            self.counter_peers.advance(place, &mut self.shared);
         } else if token < LINE {
             self.signings.note_come(token.saturating_sub(FIRST_SIGNING));
         } else if token == LINE {
-            self.tellers.send_on(&self.shared.watcher);
+            self.counter_peers.send_on(&self.shared.watcher);
         } else if token == LINE_ENDED {
-            self.tellers.note_come();
+            self.counter_peers.note_come();
         } else {
-            let place = token.saturating_sub(FIRST_CALLER);
-            self.callers.advance(place, &mut self.shared, now);
+            let place = token.saturating_sub(FIRST_HTTP_PEER);
+            self.http_peers.advance(place, &mut self.shared, now);
         }
     }
 }
@@ -263,12 +267,12 @@ impl<H: Handler> Hub<H> {
         made: &mut u64,
         most: u64,
         now: u64,
-    ) -> Result<(), Stopped>
+    ) -> Result<(), HubFault>
         requires { made.old ≤ most }
         ensures exchanged { Exchanged H.answers H.tells H.defers handler.old handler.new made.old made.new }
         ensures within { made.new ≤ most }
     {
-        for index in 0..self.callers.due.count() {
+        for index in 0..self.http_peers.due.count() {
             if *made == most {
                 return Ok(());
             }
@@ -277,7 +281,7 @@ impl<H: Handler> Hub<H> {
                 Err(stopped) => return Err(stopped),
             }
         }
-        self.callers.due.clear();
+        self.http_peers.due.clear();
         Ok(())
     }
 
@@ -288,11 +292,11 @@ impl<H: Handler> Hub<H> {
         handler: &mut H,
         made: &mut u64,
         now: u64,
-    ) -> Result<(), Stopped>
+    ) -> Result<(), HubFault>
         ensures exchanged { Exchanged H.answers H.tells H.defers handler.old handler.new made.old made.new }
         ensures one { made.new ≤ made.old + 1 }
     {
-        match self.callers.due.at(index) {
+        match self.http_peers.due.at(index) {
             Some(place) => self.answer_at(place, handler, made, now),
             None => Ok(()),
         }
@@ -305,46 +309,53 @@ impl<H: Handler> Hub<H> {
         handler: &mut H,
         made: &mut u64,
         now: u64,
-    ) -> Result<(), Stopped>
+    ) -> Result<(), HubFault>
         ensures exchanged { Exchanged H.answers H.tells H.defers handler.old handler.new made.old made.new }
         ensures one { made.new ≤ made.old + 1 }
     {
-        let Some(mut caller) = self.callers.lift(place) else {
+        let Some(mut http_peer) = self.http_peers.lift(place) else {
             return Ok(());
         };
-        let before = caller.unsent();
-        note_fault(&mut caller, &mut self.shared.losses, now);
-        match caller.answer(handler, made, now) {
+        let before = http_peer.unsent();
+        note_fault(&mut http_peer, &mut self.shared.losses, now);
+        match http_peer.answer(handler, made, now) {
             Ok(true) => {
-                self.leave(place, caller, handler, now);
+                self.leave(place, http_peer, handler, now);
                 Ok(())
             }
             Ok(false) => {
-                self.send_on(place, caller, before, now);
+                self.send_on(place, http_peer, before, now);
                 Ok(())
             }
             Err(stopped) => {
-                self.send_on(place, caller, before, now);
+                self.send_on(place, http_peer, before, now);
                 Err(stopped)
             }
         }
     }
 
     /// Sends on the answer of a peer that was lifted out of a place, of whose answer so many bytes were not sent before.
-    fn send_on(&mut self, place: usize, caller: Caller<TcpStream, H>, before: usize, now: u64) {
-        self.callers.count_unsent(before, caller.unsent());
-        self.callers.settle(place, caller, &mut self.shared, now);
-        self.callers.shed(place, &mut self.shared);
+    fn send_on(
+        &mut self,
+        place: usize,
+        http_peer: HttpPeer<TcpStream, H>,
+        before: usize,
+        now: u64,
+    ) {
+        self.http_peers.count_unsent(before, http_peer.unsent());
+        self.http_peers
+            .settle(place, http_peer, &mut self.shared, now);
+        self.http_peers.shed(place, &mut self.shared);
     }
 }
 
 /// What is left to be signed.
 impl<H: Handler> Hub<H> {
     /// Has a peer that was lifted out of a place wait for the signature of its answer, once it is its turn.
-    fn leave(&mut self, place: usize, caller: Caller<TcpStream, H>, handler: &H, now: u64) {
-        let number = caller.number;
+    fn leave(&mut self, place: usize, http_peer: HttpPeer<TcpStream, H>, handler: &H, now: u64) {
+        let number = http_peer.number;
         let asker = Asker { place, number };
-        self.callers.put_back(place, caller);
+        self.http_peers.put_back(place, http_peer);
         // Where there is no memory for it, nothing signs.
         if !self.signings.add(asker, now) {
             self.finish_one(asker, false, handler, now);
@@ -353,7 +364,7 @@ impl<H: Handler> Hub<H> {
 
     /// Asks for what is left to be signed, as far as there is room.
     fn ask_all(&mut self, handler: &H, now: u64) {
-        for _ in 0..MOST_CALLERS {
+        for _ in 0..MOST_HTTP_PEERS {
             match self.signings.next(now) {
                 Some(pending) => self.ask_next(pending, handler, now),
                 None => return,
@@ -372,7 +383,7 @@ impl<H: Handler> Hub<H> {
         };
         let token = place.saturating_add(FIRST_SIGNING);
         match self
-            .callers
+            .http_peers
             .ask(pending.asker, handler, &self.shared.watcher, token)
         {
             Ok(()) => self.wait_for(place, pending, handler, now),
@@ -392,11 +403,11 @@ impl<H: Handler> Hub<H> {
 
     /// Whether who waits for an answer has gone: the connection broke, or its side of it ended. It is let go then.
     fn has_gone(&mut self, asker: Asker, now: u64) -> bool {
-        self.callers.advance(asker.place, &mut self.shared, now);
-        if self.callers.has_ended(asker) {
-            self.callers.dismiss(asker, &mut self.shared);
+        self.http_peers.advance(asker.place, &mut self.shared, now);
+        if self.http_peers.has_ended(asker) {
+            self.http_peers.dismiss(asker, &mut self.shared);
         }
-        !self.callers.is_waiting(asker)
+        !self.http_peers.is_waiting(asker)
     }
 
     /// Finishes the answers whose signatures came, and those whose time is over; lets those signatures go for which nobody waits.
@@ -404,7 +415,7 @@ impl<H: Handler> Hub<H> {
         for place in 0..MOST_SIGNINGS {
             self.finish_at(place, handler, now);
         }
-        for _ in 0..MOST_CALLERS {
+        for _ in 0..MOST_HTTP_PEERS {
             match self.signings.take_late(now) {
                 Some(late) => self.finish_one(late.asker, false, handler, now),
                 None => return,
@@ -417,7 +428,7 @@ impl<H: Handler> Hub<H> {
         let Some(asker) = self.signings.asker_at(place) else {
             return;
         };
-        if !self.callers.is_waiting(asker) {
+        if !self.http_peers.is_waiting(asker) {
             self.signings.let_go(place);
             return;
         }
@@ -428,18 +439,18 @@ impl<H: Handler> Hub<H> {
 
     /// Finishes the answer for which a peer waits, with its signature where that has come, and sends it on.
     fn finish_one(&mut self, asker: Asker, has_come: bool, handler: &H, now: u64) {
-        self.callers
+        self.http_peers
             .complete(asker, has_come, handler, &mut self.shared, now);
     }
 }
 
 /// Notes by what fault a peer is answered at this moment before its request is whole, if by one.
-fn note_fault<H: Handler>(caller: &mut Caller<TcpStream, H>, losses: &mut Losses, now: u64)
-    ensures { caller.new.stage ≡ caller.old.stage }
+fn note_fault<H: Handler>(http_peer: &mut HttpPeer<TcpStream, H>, losses: &mut Losses, now: u64)
+    ensures { http_peer.new.stage ≡ http_peer.old.stage }
 {
-    if let Some(why) = caller.fault(now) {
-        caller.fault = Some(why);
-        let peer = Some(caller.peer);
+    if let Some(why) = http_peer.fault(now) {
+        http_peer.fault = Some(why);
+        let peer = Some(http_peer.peer);
         losses.note(Loss { peer, why });
     }
 }

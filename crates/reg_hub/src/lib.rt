@@ -3,12 +3,14 @@
 #![tactic(auto)]
 
 mod awaited;
-mod caller;
-mod callers;
+mod counter_peer;
+mod counter_peers;
 mod door;
 mod due;
 mod given;
 mod handler;
+mod http_peer;
+mod http_peers;
 mod hub;
 mod link;
 mod losses;
@@ -17,17 +19,15 @@ mod shared;
 mod signings;
 mod sought;
 mod taking;
-mod teller;
-mod tellers;
 mod unsent;
 mod watcher;
 
-pub use caller::{Caller, Next};
-pub use callers::MOST_CALLERS;
+pub use counter_peer::CounterPeer;
 pub use given::{Deferred, Given};
-pub use handler::{Crowd, Handler, Lost, Stopped};
+pub use handler::{Crowd, Handler, HubFault, PeerFault};
+pub use http_peer::{HttpPeer, Next};
+pub use http_peers::MOST_HTTP_PEERS;
 pub use hub::Hub;
 pub use link::Link;
 pub use taking::{Taken, take_in};
-pub use teller::Teller;
 pub use unsent::{Sent, Unsent};

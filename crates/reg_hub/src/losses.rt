@@ -3,7 +3,7 @@
 ghost use Rattle.std.specs.Prelude.{◌≡◌, [], IfOk, ◌==◌, vec_len};
 ghost use Rattle.reg_hub.specs.Notes.{Notes};
 
-use crate::handler::{Handler, Lost};
+use crate::handler::{Handler, PeerFault};
 use std::alloc::{AllocError, Global};
 use std::net::SocketAddr;
 
@@ -11,7 +11,7 @@ use std::net::SocketAddr;
 #[derive(Clone, Copy)]
 pub(crate) struct Loss {
     pub(crate) peer: Option<SocketAddr>,
-    pub(crate) why: Lost,
+    pub(crate) why: PeerFault,
 }
 
 /// Those that were not told yet, in the order in which they ended.

@@ -1,7 +1,7 @@
 //! Whom among the peers is looked for.
 
-use crate::caller::Caller;
 use crate::handler::Handler;
+use crate::http_peer::HttpPeer;
 use mio::net::TcpStream;
 
 /// Whom among the peers is looked for.
@@ -17,18 +17,18 @@ pub(crate) enum Sought {
 
 /// Whether the peer at a place is one that is looked for.
 pub(crate) fn is_sought<H: Handler>(
-    caller: &Caller<TcpStream, H>,
+    http_peer: &HttpPeer<TcpStream, H>,
     place: usize,
     sought: Sought,
 ) -> bool {
     match sought {
-        Sought::Unanswered => !has_answer(caller),
-        Sought::Answered => has_answer(caller),
-        Sought::Unsent(newest) => caller.unsent() > 0 && place != newest,
+        Sought::Unanswered => !has_answer(http_peer),
+        Sought::Answered => has_answer(http_peer),
+        Sought::Unsent(newest) => http_peer.unsent() > 0 && place != newest,
     }
 }
 
 /// Whether a peer has its answer.
-fn has_answer<H: Handler>(caller: &Caller<TcpStream, H>) -> bool {
-    !caller.is_asking() && !caller.is_waiting()
+fn has_answer<H: Handler>(http_peer: &HttpPeer<TcpStream, H>) -> bool {
+    !http_peer.is_asking() && !http_peer.is_waiting()
 }

@@ -1,7 +1,7 @@
 //! Taking in what a peer sends.
 
 ghost use Rattle.std.specs.Prelude.{◌≡◌, ◌⊎◌};
-ghost use Rattle.reg_heads.specs.Bytes.{bytes_of};
+ghost use Rattle.reg_heads.specs.Bytes.{collected_bytes};
 ghost use Rattle.reg_hub.specs.Held.{AddsTo, IsWholeAt, TakesIn};
 
 use reg_heads::Collected;
@@ -29,8 +29,8 @@ pub enum Taken {
 
 /// Takes in what has come, until it is a whole request, or for so many reads.
 pub fn take_in<R: Read>(reader: &mut R, collected: &mut Collected, room: &mut [u8]) -> Taken
-    ensures took { TakesIn (R.remaining reader.old) (R.remaining reader.new) (bytes_of collected.old) (bytes_of collected.new) result }
-    ensures whole { IsWholeAt (bytes_of collected.new) result }
+    ensures took { TakesIn (R.remaining reader.old) (R.remaining reader.new) (collected_bytes collected.old) (collected_bytes collected.new) result }
+    ensures whole { IsWholeAt (collected_bytes collected.new) result }
 {
     for _ in 0..MOST_READS {
         match take_once(reader, collected, room) {
@@ -43,8 +43,8 @@ pub fn take_in<R: Read>(reader: &mut R, collected: &mut Collected, room: &mut [u
 
 /// Takes in what one read gives.
 fn take_once<R: Read>(reader: &mut R, collected: &mut Collected, room: &mut [u8]) -> Taken
-    ensures took { TakesIn (R.remaining reader.old) (R.remaining reader.new) (bytes_of collected.old) (bytes_of collected.new) result }
-    ensures whole { IsWholeAt (bytes_of collected.new) result }
+    ensures took { TakesIn (R.remaining reader.old) (R.remaining reader.new) (collected_bytes collected.old) (collected_bytes collected.new) result }
+    ensures whole { IsWholeAt (collected_bytes collected.new) result }
 {
     match reader.read(room) {
         Ok(0) => Taken::Ended,
@@ -59,8 +59,8 @@ fn take_once<R: Read>(reader: &mut R, collected: &mut Collected, room: &mut [u8]
 
 /// Adds bytes that came.
 fn add(collected: &mut Collected, came: &[u8]) -> Taken
-    ensures kept { AddsTo (bytes_of collected.old) came.now (bytes_of collected.new) result }
-    ensures whole { IsWholeAt (bytes_of collected.new) result }
+    ensures kept { AddsTo (collected_bytes collected.old) came.now (collected_bytes collected.new) result }
+    ensures whole { IsWholeAt (collected_bytes collected.new) result }
 {
     match collected.add(came) {
         Ok(()) => told(collected),
@@ -70,9 +70,9 @@ fn add(collected: &mut Collected, came: &[u8]) -> Taken
 
 /// Whether what was collected is whole.
 fn told(collected: &mut Collected) -> Taken
-    ensures same { bytes_of collected.new ≡ bytes_of collected.old }
+    ensures same { collected_bytes collected.new ≡ collected_bytes collected.old }
     ensures rests { (result ≡ Taken.Whole) ⊎ (result ≡ Taken.More) }
-    ensures whole { IsWholeAt (bytes_of collected.new) result }
+    ensures whole { IsWholeAt (collected_bytes collected.new) result }
 {
     if collected.is_whole() {
         Taken::Whole

@@ -2,7 +2,7 @@
 
 ghost use Rattle.std.specs.Prelude.{◌≡◌, [], IfOk, slice_get, vec_len};
 
-use crate::handler::Stopped;
+use crate::handler::HubFault;
 use mio::event::Source;
 use mio::{Events, Interest, Poll, Token};
 use std::alloc::AllocGlobal;
@@ -22,7 +22,7 @@ pub(crate) const LISTENER: usize = 0;
 
 pub(crate) const COUNTER: usize = 1;
 
-pub(crate) const FIRST_TELLER: usize = 2;
+pub(crate) const FIRST_COUNTER_PEER: usize = 2;
 
 pub(crate) const FIRST_SIGNING: usize = 10;
 
@@ -31,7 +31,7 @@ pub(crate) const LINE: usize = FIRST_SIGNING + MOST_SIGNINGS;
 /// The connection under the token before is at its end.
 pub(crate) const LINE_ENDED: usize = LINE + 1;
 
-pub(crate) const FIRST_CALLER: usize = LINE + 2;
+pub(crate) const FIRST_HTTP_PEER: usize = LINE + 2;
 
 /// Watches connections, and holds the tokens of those that are ready in this turn.
 #[derive(Drop)]
@@ -83,10 +83,10 @@ impl Watcher {
     ///
     /// # Errors
     ///
-    /// [`Stopped`], where the system can't tell what is ready.
-    pub(crate) fn wait(&mut self, longest: Duration) -> Result<(), Stopped> {
+    /// [`HubFault`], where the system can't tell what is ready.
+    pub(crate) fn wait(&mut self, longest: Duration) -> Result<(), HubFault> {
         if self.poll.poll(&mut self.events, Some(longest)).is_err() {
-            return Err(Stopped);
+            return Err(HubFault);
         }
         self.copy_tokens();
         Ok(())

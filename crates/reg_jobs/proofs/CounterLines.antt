@@ -4,8 +4,8 @@ use Rattle.reg_core.specs.Records.{Records}
 use Rattle.reg_core.specs.declared.refusal.Fault.TheVariants as fault
 use Rattle.reg_calls.specs.Leads.{Leads}
 use Rattle.reg_calls.specs.Signatories.{Signatory}
-use Rattle.reg_calls.specs.Steps.{Signs}
-use Rattle.reg_faces.proofs.Steps.{follows, stays}
+use Rattle.reg_calls.specs.CallSteps.{Signs}
+use Rattle.reg_faces.proofs.ComposedCalls.{follows, stays}
 use Rattle.reg_jobs.specs.Copies.{TellsCopy}
 use Rattle.reg_jobs.specs.CounterWords.{TellsWord, WordAt, word_in}
 use Rattle.reg_jobs.specs.Exchanges.{EntryAt, Replied}

@@ -5,15 +5,15 @@ use Rattle.std.proofs.KnownBytes.{Appends-trans}
 use Rattle.reg_wire.proofs.PublicLaws.{front_of_first, front_of_second}
 use Rattle.reg_endings.specs.Endings.{store_failure}
 use Rattle.reg_endings.specs.declared.failure.Failure.{Failure}
-use Rattle.reg_tables.specs.Stays.{IsCallFault}
+use Rattle.reg_tables.specs.Stays.{IsDatabaseFault}
 use Rattle.reg_tables.specs.declared.fault.StoreFault.{StoreFault}
 use Rattle.reg_tables.specs.declared.fault.StoreFault.TheVariants as stored
-use Rattle.reg_jobs.specs.Ends.{Says}
+use Rattle.reg_jobs.specs.Ends.{SaysText}
 use Rattle.reg_core.specs.declared.refusal.Fault.TheVariants as fault
 use Rattle.reg_endings.specs.declared.failure.Failure.TheVariants as failure
-use Rattle.reg_jobs.specs.Failing.{IsMaking, IsOpening}
+use Rattle.reg_jobs.specs.RegisterFailures.{IsMaking, IsOpening}
 use Rattle.reg_jobs.specs.Serving.{Served, Unbound, listening}
-use Rattle.reg_jobs.specs.Told.{IsTold, IsWritten}
+use Rattle.reg_jobs.specs.Told.{IsToldLine, IsWritten}
 
 -- a register that can't be opened
 pub opened : (fault : StoreFault) (why : Failure) → why ≡ store_failure fault → fault ≢ stored.NotEmpty → IsOpening why
@@ -29,7 +29,7 @@ opened fault why is other =
     go stored.NewVersion not = tt
 
 -- a register that can't be made
-pub unmade : (fault : StoreFault) (why : Failure) → why ≡ store_failure fault → (fault ≡ stored.NotEmpty) ⊎ IsCallFault fault → IsMaking why
+pub unmade : (fault : StoreFault) (why : Failure) → why ≡ store_failure fault → (fault ≡ stored.NotEmpty) ⊎ IsDatabaseFault fault → IsMaking why
 unmade fault why is which =
     let P : Failure → Type 0 = λ w. IsMaking w in
     let Q : StoreFault → Type 0 = λ f. IsMaking (store_failure f) in
@@ -41,23 +41,23 @@ unmade fault why is which =
 
 -- a line, and then its end
 pub told : (old middle new : Option (List ℕ)) (line : List ℕ) → Appends old middle line → IsWritten middle new (10 ∷ [])
-    → IsTold old new line
+    → IsToldLine old new line
 told old middle new line first (inl second) = inl (Appends-trans old middle new line (10 ∷ []) first second)
 told old middle new line first (inr front) = inr (front_of_second old middle new line (10 ∷ []) first front)
 
 -- a second part is said, after the first
 pub says_then : (head body : List ℕ) (old middle new : Option (List ℕ)) (result : Result (Unit {0}) Failure)
-    → Appends old middle head → Says body middle new result → Says (head ++ body) old new result
+    → Appends old middle head → SaysText body middle new result → SaysText (head ++ body) old new result
 says_then head body old middle new (Ok done) first second = Appends-trans old middle new head body first second
 says_then head body old middle new (Err why) first second = (second.0, front_of_second old middle new head body first second.1)
 
 -- the first part is not said whole
-pub says_not : (head body : List ℕ) (old new : Option (List ℕ)) (why : Failure) → Says head old new (Err why)
-    → Says (head ++ body) old new (Err why)
+pub says_not : (head body : List ℕ) (old new : Option (List ℕ)) (why : Failure) → SaysText head old new (Err why)
+    → SaysText (head ++ body) old new (Err why)
 says_not head body old new why first = (first.0, front_of_first old new head body first.1)
 
 -- a port that is not told whole
-pub untold : (port requests : ℕ) (old new : Option (List ℕ)) (why : Failure) → Says (listening port) old new (Err why)
+pub untold : (port requests : ℕ) (old new : Option (List ℕ)) (why : Failure) → SaysText (listening port) old new (Err why)
     → Served port requests [] old new (Err why)
 untold port requests old new why said =
     let P : Failure → Type 0 = λ w. Served port requests [] old new (Err w) in

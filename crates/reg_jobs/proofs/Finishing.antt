@@ -10,10 +10,10 @@ use Rattle.reg_calls.specs.Items.{items_of}
 use Rattle.reg_calls.specs.Leads.{Leads}
 use Rattle.reg_calls.specs.Ocsp.{IsOcspReply}
 use Rattle.reg_calls.specs.Signatories.{Responder, Signatory}
-use Rattle.reg_calls.specs.Steps.{Signs, Runs, Asks, Ocsps, Crls}
+use Rattle.reg_calls.specs.CallSteps.{Signs, Runs, Asks, Ocsps, Crls}
 use Rattle.reg_calls.proofs.Drafting.{signed_reply, unsigned_reply}
 use Rattle.reg_crl.specs.Signing.{Identity}
-use Rattle.reg_faces.proofs.Steps.{follows}
+use Rattle.reg_faces.proofs.ComposedCalls.{follows}
 use Rattle.reg_heads.specs.Frame.{asked}
 use Rattle.reg_heads.specs.Response.{IsText}
 use Rattle.reg_http.specs.Asked.{Asked, ocsp_of, asked as asks_for}
@@ -25,7 +25,7 @@ use Rattle.reg_ocsp.specs.Drafts.{Drafted, drafted_response}
 use Rattle.reg_signer.specs.Forms.{HasForm}
 use Rattle.reg_hub.specs.Exchange.{Outcome, said, pending, later}
 use Rattle.reg_jobs.specs.Exchanges.{ExchangeAt}
-use Rattle.reg_jobs.specs.Leaving.{Finished, FinishesAt, IsSignatureOf, Meets}
+use Rattle.reg_jobs.specs.Leaving.{FinishesUnsigned, FinishesAt, IsSignatureOf, Meets}
 use Rattle.reg_jobs.specs.declared.leaving.Unsigned.{Unsigned}
 
 -- What holds a key gave, and what that is.
@@ -177,11 +177,11 @@ module _ {S : Type 0} (is_clean : S → Type 0) (stands : Signatory → S → Re
   pub kept_moves : (wanted : Signatory → Records → Records → List ℕ → Type 0) (now : ℕ) (gave : List ℕ → List ℕ → Type 0) (draft : Drafted)
       (unsigned : Unsigned) → unsigned.draft ≡ draft → unsigned.moment ≡ now
       → Leads is_clean stands (λ identity before after. (text : List ℕ) → FinishesAt gave draft now text → wanted identity before after text) s t
-      → Leads is_clean stands (λ identity before after. (text : List ℕ) → Finished gave unsigned text → wanted identity before after text) s t
+      → Leads is_clean stands (λ identity before after. (text : List ℕ) → FinishesUnsigned gave unsigned text → wanted identity before after text) s t
   kept_moves wanted now gave draft unsigned same at moved =
       follows is_clean stands
       (λ identity before after. (text : List ℕ) → FinishesAt gave draft now text → wanted identity before after text)
-      (λ identity before after. (text : List ℕ) → Finished gave unsigned text → wanted identity before after text)
+      (λ identity before after. (text : List ℕ) → FinishesUnsigned gave unsigned text → wanted identity before after text)
       (λ identity before after met text finished.
       let P : Drafted → ℕ → Type 0 = λ it moment. FinishesAt gave it moment text in
       met text (subst (λ it. P it now) same (subst (P unsigned.draft) at finished)))

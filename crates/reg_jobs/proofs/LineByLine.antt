@@ -7,7 +7,7 @@ use Rattle.std.proofs.KnownBytes.{Appends-nil, Appends-trans, Consumes-nil, Cons
 use Rattle.reg_core.specs.Records.{Records}
 use Rattle.reg_core.specs.declared.refusal.Fault.TheVariants as fault
 use Rattle.reg_calls.specs.Signatories.{Signatory}
-use Rattle.reg_calls.specs.Steps.{Signs}
+use Rattle.reg_calls.specs.CallSteps.{Signs}
 use Rattle.reg_calls.specs.Leads.{Leads}
 use Rattle.reg_endings.specs.declared.failure.Failure.{Failure}
 use Rattle.reg_endings.specs.declared.failure.Failure.TheVariants as failure
@@ -22,7 +22,7 @@ use Rattle.reg_jobs.specs.Lined.{AreLines, EndsOrNot, IsLine, LastEnds, LineBy, 
 use Rattle.reg_wire.proofs.PublicLaws.{answered_push, cut_at_mark, front_of_second, held_now, no_byte}
 use Rattle.reg_wire.specs.Fill.{FillsShort, FillsTo}
 use Rattle.reg_wire.specs.Put.{AppendsFront}
-use Rattle.reg_wire.specs.Run.{Answered}
+use Rattle.reg_wire.specs.RunsOfAnswers.{Answered}
 use Rattle.reg_wire.specs.declared.fill.Reached.TheVariants.{Mark, Full, End}
 
 -- ---- lines

@@ -7,12 +7,12 @@ use Rattle.reg_core.specs.declared.refusal.Fault.{Fault}
 use Rattle.reg_core.specs.declared.refusal.Fault.TheVariants as fault
 use Rattle.reg_calls.specs.Leads.{Leads}
 use Rattle.reg_calls.specs.Signatories.{Signatory}
-use Rattle.reg_calls.specs.Steps.{Signs}
-use Rattle.reg_faces.proofs.Steps.{follows, stays}
+use Rattle.reg_calls.specs.CallSteps.{Signs}
+use Rattle.reg_faces.proofs.ComposedCalls.{follows, stays}
 use Rattle.reg_heads.specs.Frame.{Framed, Part}
 use Rattle.reg_heads.specs.Response.{IsText, Response}
 use Rattle.reg_hub.specs.Exchange.{Outcome, said}
-use Rattle.reg_http.specs.Lists.{asks_list, given_told, list_asked, unlisted}
+use Rattle.reg_http.specs.Lists.{asks_list, given_told, list_asked, no_page_response}
 use Rattle.reg_http.specs.declared.lists.ListAsked.{ListAsked}
 use Rattle.reg_http.specs.declared.lists.ListAsked.TheVariants.{Nothing, Page as APage}
 use Rattle.reg_http.specs.declared.lists.NoPage.{NoPage}
@@ -35,7 +35,7 @@ untold records now asked written why (inr is) = subst (λ it. SaysList records n
 -- What stands in an office before and after, and the moment.
 module _ {S : Type 0} (is_clean : S → Type 0) (stands : Signatory → S → Records → Type 0) (now : ℕ) where
   -- what is said of no page
-  pub nothing_told : (s t : S) (why : NoPage) (response : Response) (written : List ℕ) → t ≡ s → response ≡ unlisted why → IsText response now written
+  pub nothing_told : (s t : S) (why : NoPage) (response : Response) (written : List ℕ) → t ≡ s → response ≡ no_page_response why → IsText response now written
       → Leads is_clean stands (λ identity before after. SaysList before now (Nothing why) written (Ok tt) × (after ≡ before)) s t
   nothing_told s t why response written same is text =
       follows is_clean stands (λ identity before after. after ≡ before) (λ identity before after. SaysList before now (Nothing why) written (Ok tt) × (after ≡ before))

@@ -6,10 +6,10 @@ use Rattle.reg_core.specs.declared.memory.Memory.{Memory as NoMemory}
 use Rattle.reg_calls.specs.Drafts.{Begins, Drafts}
 use Rattle.reg_calls.specs.Leads.{Leads}
 use Rattle.reg_calls.specs.Signatories.{Signatory}
-use Rattle.reg_calls.specs.Steps.{Signs, Ocsps}
+use Rattle.reg_calls.specs.CallSteps.{Signs, Ocsps}
 use Rattle.reg_calls.specs.declared.begun.Begun.{Begun}
 use Rattle.reg_calls.specs.declared.begun.Begun.TheVariants.{Whole, Left}
-use Rattle.reg_faces.proofs.Steps.{follows}
+use Rattle.reg_faces.proofs.ComposedCalls.{follows}
 use Rattle.reg_ocsp.specs.Drafts.{Drafted}
 
 module _ {S I R : Type 0} (is_clean : S → Type 0) (stands : I → S → R → Type 0) where

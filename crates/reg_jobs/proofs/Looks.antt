@@ -9,9 +9,9 @@ use Rattle.reg_core.specs.declared.command.Reply.{Reply}
 use Rattle.reg_core.specs.declared.command.Reply.TheVariants as reply
 use Rattle.reg_core.specs.declared.refusal.Fault.{Fault}
 use Rattle.reg_core.specs.declared.refusal.Fault.TheVariants as fault
-use Rattle.reg_faces.proofs.Steps.{chains, follows, stays}
-use Rattle.reg_jobs.specs.Failing.{IsOfStore}
-use Rattle.reg_jobs.specs.Watched.{HasCounts, HasDue, HasFound, HasOverdue, counts_in, due_in, overdue_in}
+use Rattle.reg_faces.proofs.ComposedCalls.{chains, follows, stays}
+use Rattle.reg_jobs.specs.RegisterFailures.{IsOfStore}
+use Rattle.reg_jobs.specs.Watched.{HasCountsAt, HasDue, HasFound, HasOverdue, counts_in, due_in, overdue_in}
 
 module _ {S I R : Type 0} (is_clean : S → Type 0) (stands : I → S → R → Type 0) where
   -- a look: this is seen of the records, which stay
@@ -61,7 +61,7 @@ module _ {S I R : Type 0} (is_clean : S → Type 0) (stands : I → S → R → 
       (stays is_clean stands s t same)
 
 -- what the outcomes of the queries say
-pub counts_had : (records : Records) (now : ℕ) (outcome : Result Reply Fault) → IsAnswered records now AskCounts outcome → HasCounts records now (counts_in outcome)
+pub counts_had : (records : Records) (now : ℕ) (outcome : Result Reply Fault) → IsAnswered records now AskCounts outcome → HasCountsAt records now (counts_in outcome)
 counts_had records now (Ok (reply.Counts counts)) answered = answered
 counts_had records now (Ok (reply.Subscriber id)) answered = tt
 counts_had records now (Ok (reply.Order id)) answered = tt
@@ -120,7 +120,7 @@ overdue_had records now (Ok (reply.NextCrl due)) answered = tt
 overdue_had records now (Err why) answered = tt
 
 -- a register that tells nothing: for what its counts, or the moment of its next CRL, came to
-pub found_not_counts : (records : Records) (now : ℕ) (why : Fault) → HasCounts records now (Err why) → HasFound records now (Err why)
+pub found_not_counts : (records : Records) (now : ℕ) (why : Fault) → HasCountsAt records now (Err why) → HasFound records now (Err why)
 found_not_counts records now (fault.Refused refusal) refused = inl refused
 found_not_counts records now fault.Memory had = tt
 found_not_counts records now fault.Store had = tt

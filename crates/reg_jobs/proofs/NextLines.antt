@@ -7,10 +7,10 @@ use Rattle.std.proofs.BufReadLemmas.{take_through-append, take_through-nil}
 use Rattle.std.proofs.Transfers.{All-of_StopsAt}
 use Rattle.std.proofs.lemmas.Bool.{and_parts, eqb-true, false≢true}
 use Rattle.std.proofs.lemmas.List.{get_or_default, nil_from_length, take_more}
-use Rattle.reg_lines.specs.Script.{HasNoLf, IsWhole}
+use Rattle.reg_lines.specs.Script.{HasNoLf, IsWholeLine}
 use Rattle.reg_jobs.specs.Asking.{IsCut, IsInput, IsReadAs, NextIs}
-use Rattle.reg_jobs.specs.declared.asking.Next.{Next}
-use Rattle.reg_jobs.specs.declared.asking.Next.TheVariants as next
+use Rattle.reg_jobs.specs.declared.at_job.Next.{Next}
+use Rattle.reg_jobs.specs.declared.at_job.Next.TheVariants as next
 
 -- ---- what the bytes are
 
@@ -22,7 +22,7 @@ one_there : (bytes : List ℕ) → (length bytes == 0) ≡ false → 0 < length 
 one_there [] is = absurd (false≢true (sym is))
 one_there (byte ∷ rest) is = omega arith
 
-pub read_whole : (bytes : List ℕ) (found : Bool) → StopsAt bytes 10 → found ≡ ends_with_byte 10 bytes → found ≡ true → IsWhole bytes
+pub read_whole : (bytes : List ℕ) (found : Bool) → StopsAt bytes 10 → found ≡ ends_with_byte 10 bytes → found ≡ true → IsWholeLine bytes
 read_whole bytes found stops is holds =
     let both = and_parts (nat_lt 0 (length bytes)) (slice_index bytes (length bytes - 1) == 10) (sym is ∙ holds) in
     let some = one_tested bytes both.0 in
@@ -69,6 +69,6 @@ none_there (Some xs) bytes through none = take_through-nil 10 xs (ap length (sym
 pub next_is : (input input' : Option (List ℕ)) (bytes : List ℕ) (it : Next) → Consumes input input' bytes → IfSome input (λ xs. bytes ≡ take_through 10 xs)
     → IsReadAs bytes it → NextIs input input' it
 next_is input input' bytes (next.Line line) took through (is, whole) =
-    (subst IsWhole (sym is) whole, subst (Consumes input input') (sym is) took)
+    (subst IsWholeLine (sym is) whole, subst (Consumes input input') (sym is) took)
 next_is input input' bytes next.Cut took through cut = (bytes, cut, all_taken input input' bytes took through cut.0)
 next_is input input' bytes next.End took through none = none_there input bytes through none

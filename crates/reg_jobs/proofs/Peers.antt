@@ -6,16 +6,16 @@ use Rattle.reg_core.specs.declared.refusal.Fault.{Fault}
 use Rattle.reg_core.specs.declared.refusal.Fault.TheVariants as fault
 use Rattle.reg_calls.specs.Signatories.{Signatory}
 use Rattle.reg_faces.specs.Faces.{Lines}
-use Rattle.reg_calls.specs.Steps.{Signs, Runs, Asks, Ocsps, Crls}
+use Rattle.reg_calls.specs.CallSteps.{Signs, Runs, Asks, Ocsps, Crls}
 use Rattle.reg_calls.specs.Leads.{Leads}
 use Rattle.reg_faces.proofs.Exchanges.{read_is_not_write, memory_is_not_write}
-use Rattle.reg_faces.proofs.Steps.{follows, runs, stays}
+use Rattle.reg_faces.proofs.ComposedCalls.{follows, runs, stays}
 use Rattle.reg_http.specs.Served.{ServingEnds}
 use Rattle.reg_hub.specs.Exchange.{Input, request, line, Outcome, said, pending, later, Handles}
 use Rattle.reg_lines.specs.Answer.{Answer}
 use Rattle.reg_lines.specs.Meaning.{Meaning}
 use Rattle.reg_lines.specs.Script.{ScriptEnds}
-use Rattle.reg_wire.specs.Run.{Answered}
+use Rattle.reg_wire.specs.RunsOfAnswers.{Answered}
 use Rattle.reg_jobs.specs.Exchanges.{EntryAt, ExchangeAt, LineRuns, Replied, Responded, line_at}
 
 -- A script over a reader and a writer that tell their bytes, as one over bytes.

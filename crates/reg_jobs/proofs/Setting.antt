@@ -6,7 +6,7 @@ use Rattle.reg_calls.specs.Leads.{Leads}
 use Rattle.reg_calls.specs.Signatories.{Signatory}
 use Rattle.reg_endings.specs.Checks.{IsNoSchedule}
 use Rattle.reg_endings.specs.declared.failure.Failure.{Failure}
-use Rattle.reg_faces.proofs.Steps.{follows, stays}
+use Rattle.reg_faces.proofs.ComposedCalls.{follows, stays}
 use Rattle.reg_tables.specs.declared.fault.StoreFault.{StoreFault}
 use Rattle.reg_jobs.specs.Schedules.{Reschedules, SetAt, SetsSteps, set_ending, set_line}
 

@@ -1,7 +1,7 @@
 -- The steps of a schedule, read one field after the other.
 use Rattle.std.proofs.Common.{◌≡◌, ℕ, List, [], ◌∷◌, ◌++◌, Option, Some, None, append-nil, refl, sym, ap, ◌∙◌}
 use Rattle.std.specs.Prelude.{option_map, option_and_then}
-use Rattle.reg_words.specs.Values.{step_of, steps_of}
+use Rattle.reg_words.specs.WordValues.{step_of, steps_of}
 use Rattle.reg_words.proofs.StepTexts.{shifted}
 
 -- all fields are these steps and what the fields are that are left

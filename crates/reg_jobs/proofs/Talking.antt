@@ -11,7 +11,7 @@ use Rattle.reg_endings.specs.declared.failure.Failure.TheVariants as failure
 use Rattle.reg_lines.specs.Accepted.{IsAccepted}
 use Rattle.reg_lines.proofs.Pieces.{concat_push}
 use Rattle.reg_jobs.specs.Asking.{IsCut, IsInput, Talked, Talks, TalksOnce}
-use Rattle.reg_jobs.specs.declared.asking.Step.TheVariants as step
+use Rattle.reg_jobs.specs.declared.at_job.Step.TheVariants as step
 use Rattle.reg_jobs.proofs.Pieces.{whole_push}
 
 -- all replies so far, and one more

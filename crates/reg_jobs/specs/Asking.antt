@@ -7,17 +7,17 @@ use Rattle.reg_core.specs.declared.refusal.Fault.TheVariants as fault
 use Rattle.reg_endings.specs.declared.failure.Failure.{Failure}
 use Rattle.reg_endings.specs.declared.failure.Failure.TheVariants as failure
 use Rattle.reg_lines.specs.Accepted.{IsAccepted}
-use Rattle.reg_lines.specs.Script.{HasNoLf, IsWhole}
+use Rattle.reg_lines.specs.Script.{HasNoLf, IsWholeLine}
 use Rattle.reg_lines.specs.Told.{ToldEnds}
-use Rattle.reg_jobs.specs.declared.asking.Next.{Next}
-use Rattle.reg_jobs.specs.declared.asking.Next.TheVariants as next
-use Rattle.reg_jobs.specs.declared.asking.Step.{Step}
-use Rattle.reg_jobs.specs.declared.asking.Step.TheVariants as step
+use Rattle.reg_jobs.specs.declared.at_job.Next.{Next}
+use Rattle.reg_jobs.specs.declared.at_job.Next.TheVariants as next
+use Rattle.reg_jobs.specs.declared.at_job.Step.{Step}
+use Rattle.reg_jobs.specs.declared.at_job.Step.TheVariants as step
 
 -- each of the lines ends with its LF
 abbrev pub AreWhole : List (List ℕ) → Type 0
 AreWhole [] = Unit {0}
-AreWhole (line ∷ rest) = IsWhole line × AreWhole rest
+AreWhole (line ∷ rest) = IsWholeLine line × AreWhole rest
 
 -- a last line without its end
 abbrev pub IsCut : List ℕ → Type 0
@@ -33,13 +33,13 @@ IsOfTalk why = (why ≡ failure.Fault fault.Read) ⊎ ((why ≡ failure.Fault fa
 
 -- what bytes are that were read up to and with the first LF, or to the end
 abbrev pub IsReadAs : List ℕ → Next → Type 0
-IsReadAs bytes (next.Line line) = (line.items ≡ bytes) × IsWhole bytes
+IsReadAs bytes (next.Line line) = (line.items ≡ bytes) × IsWholeLine bytes
 IsReadAs bytes next.Cut = IsCut bytes
 IsReadAs bytes next.End = bytes ≡ []
 
 -- what an input has next, before and after it was read: a line, or nothing but a last line without its end, or nothing
 abbrev pub NextIs : Option (List ℕ) → Option (List ℕ) → Next → Type 0
-NextIs input input' (next.Line line) = IsWhole line.items × Consumes input input' line.items
+NextIs input input' (next.Line line) = IsWholeLine line.items × Consumes input input' line.items
 NextIs input input' next.Cut = (left : List ℕ) × IsCut left × IsInput input left
 NextIs input input' next.End = IsInput input []
 
@@ -64,7 +64,7 @@ module _ (sent sent' came came' out out' : Option (List ℕ)) where
   -- one line of an input: it was told, and its reply was accepted or not; or nothing was told, since it has no end, or none is left
   abbrev pub TalksOnce : Option (List ℕ) → Option (List ℕ) → Result Step Failure → Type 0
   TalksOnce input input' (Ok (step.Told accepted)) =
-      (line reply : List ℕ) × IsWhole line × Consumes input input' line × Appends sent sent' line × Consumes came came' reply × Appends out out' reply
+      (line reply : List ℕ) × IsWholeLine line × Consumes input input' line × Appends sent sent' line × Consumes came came' reply × Appends out out' reply
       × (IsTrue accepted ↔ IsAccepted reply)
   TalksOnce input input' (Ok step.Cut) = (left : List ℕ) × IsCut left × IsInput input left × (sent' ≡ sent) × (came' ≡ came) × (out' ≡ out)
   TalksOnce input input' (Ok step.End) = IsInput input [] × (sent' ≡ sent) × (came' ≡ came) × (out' ≡ out)

@@ -4,7 +4,7 @@ use Rattle.std.specs.List.{starts_with}
 use Rattle.reg_core.specs.Lines.{fault_line}
 use Rattle.reg_core.specs.Records.{Records}
 use Rattle.reg_core.specs.declared.refusal.Fault.{Fault}
-use Rattle.reg_jobs.specs.Failing.{IsOfStore}
+use Rattle.reg_jobs.specs.RegisterFailures.{IsOfStore}
 
 -- whether a line asks for a copy: its path stands behind that word and a space
 abbrev pub asks_copy : List ℕ → Bool

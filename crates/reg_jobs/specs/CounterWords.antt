@@ -5,9 +5,9 @@ use Rattle.std.specs.Option.{option_map_or}
 use Rattle.reg_core.specs.Records.{Records}
 use Rattle.reg_core.specs.declared.refusal.Fault.TheVariants as fault
 use Rattle.reg_calls.specs.Signatories.{Signatory}
-use Rattle.reg_calls.specs.Steps.{Signs}
+use Rattle.reg_calls.specs.CallSteps.{Signs}
 use Rattle.reg_lines.specs.Fields.{fields_of}
-use Rattle.reg_words.specs.Values.{steps_of}
+use Rattle.reg_words.specs.WordValues.{steps_of}
 use Rattle.reg_jobs.specs.Copies.{TellsCopy, asks_copy}
 use Rattle.reg_jobs.specs.Exchanges.{EntryAt, Replied}
 use Rattle.reg_jobs.specs.Schedules.{SetAt}

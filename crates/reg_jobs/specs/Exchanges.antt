@@ -8,7 +8,7 @@ use Rattle.reg_core.specs.declared.refusal.Fault.{Fault}
 use Rattle.reg_core.specs.declared.refusal.Fault.TheVariants as fault
 use Rattle.reg_calls.specs.Signatories.{Signatory}
 use Rattle.reg_faces.specs.Faces.{Lines}
-use Rattle.reg_calls.specs.Steps.{Signs, Runs, Asks, Ocsps, Crls}
+use Rattle.reg_calls.specs.CallSteps.{Signs, Runs, Asks, Ocsps, Crls}
 use Rattle.reg_heads.specs.Frame.{Framed, Part}
 use Rattle.reg_heads.specs.Response.{IsText, Response, memory_text}
 use Rattle.reg_http.specs.Lists.{RespondsList, asks_list, list_asked}

@@ -17,7 +17,7 @@ pub record FinishedOf (moment : ℕ) (given : Result (List ℕ) Memory) (text : 
   pub responded : Responded result written text
 
 -- the text of the response with this signature, or of internalError without one; or of want of memory
-pub record Wrote (draft : Drafted) (moment : ℕ) (signature : Option (List ℕ)) (text : List ℕ) : Type 0 where
+pub record IsFinishedText (draft : Drafted) (moment : ℕ) (signature : Option (List ℕ)) (text : List ℕ) : Type 0 where
   pub given : Result (List ℕ) Memory
   pub made : IfOk given (λ bytes. bytes ≡ drafted_response draft signature)
   pub told : FinishedOf moment given text
@@ -32,10 +32,10 @@ IsSignatureOf gave draft None = Unit {0}
 pub record FinishesAt (gave : List ℕ → List ℕ → Type 0) (draft : Drafted) (moment : ℕ) (text : List ℕ) : Type 0 where
   pub signature : Option (List ℕ)
   pub signed : IsSignatureOf gave draft signature
-  pub wrote : Wrote draft moment signature text
+  pub wrote : IsFinishedText draft moment signature text
 
-abbrev pub Finished : (List ℕ → List ℕ → Type 0) → Unsigned → List ℕ → Type 0
-Finished gave unsigned text = FinishesAt gave unsigned.draft unsigned.moment text
+abbrev pub FinishesUnsigned : (List ℕ → List ℕ → Type 0) → Unsigned → List ℕ → Type 0
+FinishesUnsigned gave unsigned text = FinishesAt gave unsigned.draft unsigned.moment text
 
 -- what came of a request meets what is wanted of its text: a text does; or whatever text finishes what was left does
 abbrev pub Meets : {T : Type 0} → (T → List ℕ → Type 0) → (List ℕ → Type 0) → Outcome T → Type 0

@@ -6,7 +6,7 @@ pub mod Deferring
 pub mod Digest
 pub mod Ends
 pub mod Exchanges
-pub mod Failing
+pub mod RegisterFailures
 pub mod Identifiers
 pub mod Leaving
 pub mod Lined
@@ -16,7 +16,7 @@ pub mod Sample
 pub mod Schedules
 pub mod Sealing
 pub mod Serving
-pub mod Signing
+pub mod WhoSigns
 pub mod Told
 pub mod Visits
 pub mod Watched

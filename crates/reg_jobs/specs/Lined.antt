@@ -5,11 +5,11 @@ use Rattle.std.specs.List.{AllByRecursion, concat}
 use Rattle.reg_core.specs.Records.{Records}
 use Rattle.reg_core.specs.declared.refusal.Fault.TheVariants as fault
 use Rattle.reg_calls.specs.Signatories.{Signatory}
-use Rattle.reg_calls.specs.Steps.{Signs}
+use Rattle.reg_calls.specs.CallSteps.{Signs}
 use Rattle.reg_endings.specs.declared.failure.Failure.{Failure}
 use Rattle.reg_endings.specs.declared.failure.Failure.TheVariants as failure
 use Rattle.reg_lines.specs.Accepted.{EndsRefused, IsAccepted}
-use Rattle.reg_lines.specs.Script.{IsWhole}
+use Rattle.reg_lines.specs.Script.{IsWholeLine}
 use Rattle.reg_jobs.specs.Asking.{IsCut, IsOfTalk}
 use Rattle.reg_jobs.specs.Exchanges.{Entry, LineRuns}
 use Rattle.reg_wire.specs.Put.{AppendsFront}
@@ -21,13 +21,13 @@ LineBy false signs told = LineRuns signs
 
 -- a line that is run, where a script is strict or is not: it ends with its LF; where it is not, a last one may have none
 abbrev pub IsLine : Bool → List ℕ → Type 0
-IsLine is_strict line = IsWhole line ⊎ (IsFalse is_strict × IsCut line)
+IsLine is_strict line = IsWholeLine line ⊎ (IsFalse is_strict × IsCut line)
 
 -- such lines of an input: each but the last ends with its LF
 abbrev pub AreLines : Bool → List (List ℕ) → Type 0
 AreLines is_strict [] = Unit {0}
 AreLines is_strict (line ∷ []) = IsLine is_strict line
-AreLines is_strict (line ∷ next ∷ rest) = IsWhole line × AreLines is_strict (next ∷ rest)
+AreLines is_strict (line ∷ next ∷ rest) = IsWholeLine line × AreLines is_strict (next ∷ rest)
 
 -- where a script is strict: a reply that lets it go on, and one that ends it
 abbrev pub Passed : Bool → List ℕ → Result (Unit {0}) Failure → Type 0
@@ -61,7 +61,7 @@ module _ {H : Type 0} (tells : H → List ℕ → List ℕ → H → Type 0) (is
       pub line : List ℕ
       pub consumed : Consumes input input' took
       pub cut : held ++ took ≡ line ++ left
-      pub whole : IsWhole line
+      pub whole : IsWholeLine line
       pub told : TellEnds line (Ok tt)
 
     -- the input is at its end, and the bytes that are left were a line that was told, or there are none

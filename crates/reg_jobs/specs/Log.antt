@@ -29,8 +29,8 @@ abbrev pub most_told : ℕ
 most_told = 256
 
 -- what a text is told as: its first line, as far as it is told, in quotation marks
-abbrev pub told : List ℕ → List ℕ
-told text = 34 ∷ flat_map told_byte (take most_told (first_line text)) ++ (34 ∷ [])
+abbrev pub told_text : List ℕ → List ℕ
+told_text text = 34 ∷ flat_map told_byte (take most_told (first_line text)) ++ (34 ∷ [])
 
 -- what the line of an exchange ends with where a signature was asked for and did not come
 abbrev pub unsigned_end : Bool → List ℕ
@@ -40,7 +40,7 @@ unsigned_end is_unsigned = cond is_unsigned (codes " signer") []
 -- microseconds it was made, and whether a signature did not come
 abbrev pub exchange_line : ℕ → List ℕ → List ℕ → List ℕ → ℕ → Bool → List ℕ
 exchange_line now who asked answered micros is_unsigned =
-    moment_text now ++ (32 ∷ who) ++ (32 ∷ told asked) ++ (32 ∷ told answered) ++ (32 ∷ decimal (length answered)) ++ (32 ∷ decimal micros)
+    moment_text now ++ (32 ∷ who) ++ (32 ∷ told_text asked) ++ (32 ∷ told_text answered) ++ (32 ∷ decimal (length answered)) ++ (32 ∷ decimal micros)
     ++ unsigned_end is_unsigned
 
 -- the line of a connection that ended by a fault, without LF

@@ -13,9 +13,9 @@ is_refusal [] = false
 is_refusal (first ∷ rest) = (first == 69) || (first == 98)
 
 -- what is told: what was noted, or nothing
-unfoldable pub why_text : List ℕ → List ℕ
-why_text [] = codes "why nothing\n"
-why_text (first ∷ rest) = codes "why " ++ first ∷ rest
+unfoldable pub noted_why_text : List ℕ → List ℕ
+noted_why_text [] = codes "why nothing\n"
+noted_why_text (first ∷ rest) = codes "why " ++ first ∷ rest
 
 -- the last second of so many days from a moment on, both ends counted (RFC 5280 4.1.2.5)
 abbrev pub last_second : ℕ → ℕ → ℕ

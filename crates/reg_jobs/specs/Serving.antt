@@ -5,17 +5,17 @@ use Rattle.std.specs.Io.KnownBytes.{Appends}
 use Rattle.reg_core.specs.Records.{Records}
 use Rattle.reg_core.specs.declared.refusal.Fault.TheVariants as fault
 use Rattle.reg_calls.specs.Signatories.{Signatory}
-use Rattle.reg_calls.specs.Steps.{Signs}
+use Rattle.reg_calls.specs.CallSteps.{Signs}
 use Rattle.reg_hub.specs.Exchange.{Input, Outcome, Handles, asked_in}
 use Rattle.reg_endings.specs.declared.failure.Failure.{Failure}
 use Rattle.reg_endings.specs.declared.failure.Failure.TheVariants as failure
 use Rattle.reg_jobs.specs.Exchanges.{Exchange, NoEntry, Unmoved}
-use Rattle.reg_jobs.specs.Leaving.{Finished, Meets}
+use Rattle.reg_jobs.specs.Leaving.{FinishesUnsigned, Meets}
 use Rattle.reg_jobs.specs.CounterWords.{Word}
 use Rattle.reg_jobs.specs.Watched.{Visit}
 use Rattle.reg_jobs.specs.declared.leaving.Unsigned.{Unsigned}
 use Rattle.reg_wire.specs.Put.{AppendsFront}
-use Rattle.reg_wire.specs.Run.{Answered}
+use Rattle.reg_wire.specs.RunsOfAnswers.{Answered}
 
 -- What came of a request: its text is that of an exchange; or its answer was left to be signed, and whatever text finishes that is of one. In
 -- both the exchange is one over the records as they are where it stands among the others: so each answer is what they say at one moment
@@ -23,13 +23,13 @@ use Rattle.reg_wire.specs.Run.{Answered}
 abbrev pub Exchanging
     : Signs → (List ℕ → List ℕ → Type 0) → (ℕ → Type 0) → Signatory → Records → List ℕ → Outcome Unsigned → Records → Type 0
 Exchanging signs gave told identity before request outcome after =
-    Meets (Finished gave) (λ text. Exchange signs told identity before request text after) outcome
+    Meets (FinishesUnsigned gave) (λ text. Exchange signs told identity before request text after) outcome
 
 -- the same of an open register, where a request may ask for a list, or of the register itself: that is told at once, and the records stay
 abbrev pub Visiting
     : Signs → (List ℕ → List ℕ → Type 0) → (ℕ → Type 0) → Signatory → Records → List ℕ → Outcome Unsigned → Records → Type 0
 Visiting signs gave told identity before request outcome after =
-    Meets (Finished gave) (λ text. Visit signs told identity before request text after) outcome
+    Meets (FinishesUnsigned gave) (λ text. Visit signs told identity before request text after) outcome
 
 -- what peers made of the records: exchanges, one after the other, and nothing else
 abbrev pub Serves

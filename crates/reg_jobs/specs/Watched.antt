@@ -14,7 +14,7 @@ use Rattle.reg_core.specs.declared.command.Reply.TheVariants.{Counts as CountsAr
 use Rattle.reg_core.specs.declared.refusal.Fault.{Fault}
 use Rattle.reg_core.specs.declared.refusal.Fault.TheVariants.{Refused, Memory, Store, Signer, Read, Write}
 use Rattle.reg_calls.specs.Signatories.{Signatory}
-use Rattle.reg_calls.specs.Steps.{Signs}
+use Rattle.reg_calls.specs.CallSteps.{Signs}
 use Rattle.reg_heads.specs.Frame.{Framed, asked}
 use Rattle.reg_heads.specs.Response.{Response, IsText, memory_text}
 use Rattle.reg_http.specs.Asked.{path_of}
@@ -70,14 +70,14 @@ overdue_in (Ok other) = Err Store
 overdue_in (Err fault) = Err fault
 
 -- the counts at a moment as the query has them, or its refusal; or a fault
-abbrev pub HasCounts : Records → ℕ → Result Counts Fault → Type 0
-HasCounts records now (Ok counts) = answer records now AskCounts ≡ Ok (CountsAre counts)
-HasCounts records now (Err (Refused refusal)) = answer records now AskCounts ≡ Err refusal
-HasCounts records now (Err Memory) = Unit {0}
-HasCounts records now (Err Store) = Unit {0}
-HasCounts records now (Err Signer) = Unit {0}
-HasCounts records now (Err Read) = Unit {0}
-HasCounts records now (Err Write) = Unit {0}
+abbrev pub HasCountsAt : Records → ℕ → Result Counts Fault → Type 0
+HasCountsAt records now (Ok counts) = answer records now AskCounts ≡ Ok (CountsAre counts)
+HasCountsAt records now (Err (Refused refusal)) = answer records now AskCounts ≡ Err refusal
+HasCountsAt records now (Err Memory) = Unit {0}
+HasCountsAt records now (Err Store) = Unit {0}
+HasCountsAt records now (Err Signer) = Unit {0}
+HasCountsAt records now (Err Read) = Unit {0}
+HasCountsAt records now (Err Write) = Unit {0}
 
 abbrev pub HasDue : Records → ℕ → Result (Option ℕ) Fault → Type 0
 HasDue records now (Ok due) = answer records now AskNextCrl ≡ Ok (NextCrlIs due)
@@ -94,7 +94,7 @@ HasOverdue records now (Err fault) = Unit {0}
 
 -- what a register has at a moment: its counts and when its next CRL is due, as the queries have them, and what stands there; or why it tells nothing
 abbrev pub HasFound : Records → ℕ → Result Numbers Fault → Type 0
-HasFound records now (Ok numbers) = HasCounts records now (Ok numbers.counts) × HasDue records now (Ok numbers.due) × IsStanding records numbers.standing
+HasFound records now (Ok numbers) = HasCountsAt records now (Ok numbers.counts) × HasDue records now (Ok numbers.due) × IsStanding records numbers.standing
 HasFound records now (Err (Refused refusal)) = (answer records now AskCounts ≡ Err refusal) ⊎ (answer records now AskNextCrl ≡ Err refusal)
 HasFound records now (Err Memory) = Unit {0}
 HasFound records now (Err Store) = Unit {0}
@@ -143,8 +143,8 @@ pub record AsksItself (request : List ℕ) (ask : Ask) : Type 0 where
   pub is : ask_of method target ≡ Some ask
 
 -- 200 where all is well, else 503 (RFC 9110 15.6.4)
-abbrev pub status_of : Bool → ℕ
-status_of is_well = cond is_well 200 503
+abbrev pub health_status : Bool → ℕ
+health_status is_well = cond is_well 200 503
 
 -- a response with a JSON body (RFC 8259)
 unfoldable pub told_by : ℕ → List ℕ → Response
@@ -152,7 +152,7 @@ told_by status body = record { status = status; kind = codes "application/json";
 
 -- whether all is well, with what is not in the body
 abbrev pub health_response : HealthOf → Response
-health_response health = told_by (status_of (is_well health)) (health_text health)
+health_response health = told_by (health_status (is_well health)) (health_text health)
 
 -- 200 with the text form of Prometheus
 abbrev pub metrics_response : List ℕ → Response

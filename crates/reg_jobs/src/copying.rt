@@ -4,7 +4,7 @@ ghost use Rattle.std.specs.Prelude.{◌≡◌, ◌⊎◌, ◌++◌, ◌∷◌, [
 ghost use Rattle.reg_core.specs.Lines.{fault_line};
 ghost use Rattle.reg_jobs.specs.Copies.{TellsCopy, asks_copy as asks, copied_text};
 ghost use Rattle.reg_jobs.specs.Ends.{CopyAt, TellsLine};
-ghost use Rattle.reg_jobs.specs.Failing.{IsOfStore};
+ghost use Rattle.reg_jobs.specs.RegisterFailures.{IsOfStore};
 
 use crate::front::Front;
 use crate::logging::micros_since;
@@ -148,7 +148,7 @@ pub fn copy<P: Place, F: Front, W: Write>(
     to: &str,
     writer: &mut W,
 ) -> Result<(), Failure>
-    ensures { CopyAt W.contents writer.old writer.new P.Place P.Opened.Keeper.own place.old place.new file.now to.now result }
+    ensures { CopyAt W.contents writer.old writer.new P.Place P.Opened.OfficeOfRecords.own place.old place.new file.now to.now result }
 {
     let began = front.micros();
     let bytes = place.copy(file, to)?;

@@ -5,14 +5,14 @@ ghost use Rattle.reg_calls.specs.Leads.{Leads};
 ghost use Rattle.reg_jobs.specs.Deferring.{IsKnown};
 ghost use Rattle.reg_jobs.specs.CounterWords.{Word, WordAt};
 
+use crate::desks::OpenDesk;
 use crate::entering::tell_counted;
 use crate::front::Front;
-use crate::handling::OpenDesk;
 use crate::place::Place;
 use mio::net::UnixStream;
-use reg_calls::{Begun, Keeper};
+use reg_calls::{Begun, OfficeOfRecords};
 use reg_core::{Fault, Moment, Outcome, Query, Refusal};
-use reg_hub::{Deferred, Stopped};
+use reg_hub::{Deferred, HubFault};
 use reg_ocsp::Draft;
 use reg_signer::Primed;
 use reg_watch::Tally;
@@ -136,13 +136,13 @@ fn look_at<P: Place>(
 }
 
 /// Looks at a line with an OCSP request, if it has one.
-fn look_at_request<K: Keeper>(
+fn look_at_request<O: OfficeOfRecords>(
     alloc: Global,
-    office: &mut K,
+    office: &mut O,
     looked: Looked,
     line: &[u8],
 ) -> Option<Deferred<Looked>>
-    ensures { Leads K.is_clean K.stands (λ identity before after. after ≡ before) office.old office.new }
+    ensures { Leads O.is_clean O.stands (λ identity before after. after ≡ before) office.old office.new }
 {
     let Some(request) = request_of(alloc, line) else {
         return None;
@@ -170,13 +170,13 @@ fn request_of(alloc: Global, line: &[u8]) -> Option<Vec<u8>> {
 }
 
 /// Looks at a line with an OCSP request, for the answer to which something is to be signed by what holds a key.
-fn look_at_answer<K: Keeper>(
+fn look_at_answer<O: OfficeOfRecords>(
     alloc: Global,
-    office: &mut K,
+    office: &mut O,
     looked: Looked,
     request: &[u8],
 ) -> Option<Deferred<Looked>>
-    ensures { Leads K.is_clean K.stands (λ identity before after. after ≡ before) office.old office.new }
+    ensures { Leads O.is_clean O.stands (λ identity before after. after ≡ before) office.old office.new }
 {
     let Ok(begun) = office.begin_ocsp(alloc, looked.moment, request) else {
         return None;
@@ -215,7 +215,7 @@ pub(crate) fn reach_for<F: Front>(
 ///
 /// # Errors
 ///
-/// [`Stopped`] where the clock can't be read, and nothing was done.
+/// [`HubFault`] where the clock can't be read, and nothing was done.
 pub(crate) fn known_of<P: Place, F: Front>(
     alloc: Global,
     office: &mut P::Opened,
@@ -223,7 +223,7 @@ pub(crate) fn known_of<P: Place, F: Front>(
     looked: Looked,
     message: Vec<u8>,
     link: Option<UnixStream>,
-) -> Result<Option<Known>, Stopped>
+) -> Result<Option<Known>, HubFault>
     ensures moves { Leads P.Opened.is_clean P.Opened.stands (λ identity before after. after ≡ before) office.old office.new }
     ensures known { IfOk result (λ found. IfSome found (IsKnown P.gave F.told)) }
     ensures err { OnErr result (office.new ≡ office.old) }
@@ -235,7 +235,7 @@ pub(crate) fn known_of<P: Place, F: Front>(
 }
 
 /// Nothing is known of a signature, at the moment of the clock.
-fn unsigned_now<F: Front>(alloc: Global, front: &F) -> Result<Known, Stopped>
+fn unsigned_now<F: Front>(alloc: Global, front: &F) -> Result<Known, HubFault>
     ensures told { IfOk result (λ known. F.told known.moment) }
     ensures nothing { IfOk result (λ known. known.primed.answer ≡ None) }
 {
@@ -247,7 +247,7 @@ fn unsigned_now<F: Front>(alloc: Global, front: &F) -> Result<Known, Stopped>
                 answer: None,
             },
         }),
-        Err(_) => Err(Stopped),
+        Err(_) => Err(HubFault),
     }
 }
 
@@ -277,8 +277,8 @@ fn recalled<P: Place, F: Front>(
 }
 
 /// Whether the register's clock is past a moment: something was accepted at a later one.
-fn is_past<K: Keeper>(alloc: Global, office: &mut K, now: Moment) -> bool
-    ensures { Leads K.is_clean K.stands (λ identity before after. after ≡ before) office.old office.new }
+fn is_past<O: OfficeOfRecords>(alloc: Global, office: &mut O, now: Moment) -> bool
+    ensures { Leads O.is_clean O.stands (λ identity before after. after ≡ before) office.old office.new }
 {
     let asked = office.ask(alloc, now, &Query::NextCrl);
     is_clock_back(&asked)

@@ -6,7 +6,7 @@ ghost use Rattle.reg_faces.specs.Faces.{Lines};
 ghost use Rattle.reg_calls.specs.Leads.{Leads};
 ghost use Rattle.reg_lines.specs.Script.{ScriptEnds};
 ghost use Rattle.reg_jobs.specs.CounterWords.{Word, WordAt};
-ghost use Rattle.reg_jobs.specs.Counted.{CountsLine, HasFailed};
+ghost use Rattle.reg_jobs.specs.Counted.{CountsLine, SignatureFailed};
 ghost use Rattle.reg_jobs.specs.Exchanges.{Entry, EntryAt, LineRuns, Replied, line_at};
 ghost use Rattle.reg_jobs.specs.Schedules.{SetAt, SetsSteps, set_line};
 
@@ -17,11 +17,11 @@ use crate::place::Place;
 use crate::reasons::{is_refusal, note, note_reply, told_why};
 use crate::visiting::has_failed;
 use crate::words::{CounterWord, read_word};
-use reg_calls::Keeper;
+use reg_calls::OfficeOfRecords;
 use reg_core::{Fault, Moment};
 use reg_endings::{Failure, schedule_of};
 use reg_faces::run_script;
-use reg_hub::Stopped;
+use reg_hub::HubFault;
 use reg_watch::Tally;
 use reg_words::Steps;
 use std::alloc::{AllocError, Global};
@@ -35,7 +35,7 @@ pub(crate) fn tell_counted_now<P: Place, F: Front>(
     tally: &mut Tally,
     line: &[u8],
     noted: &mut Vec<u8>,
-) -> Result<Vec<u8>, Stopped>
+) -> Result<Vec<u8>, HubFault>
     ensures ok { IfOk result (λ text. Leads P.Opened.is_clean P.Opened.stands
         (λ identity before after. Word P.Opened.signs F.told identity before line.now text.items after)
         office.old office.new) }
@@ -53,25 +53,25 @@ pub(crate) fn tell_counted_now<P: Place, F: Front>(
             line,
             noted,
         )),
-        Err(_) => Err(Stopped),
+        Err(_) => Err(HubFault),
     }
 }
 
 /// Answers a line, at the moment of the clock.
-pub(crate) fn tell_clocked<K: Keeper, F: Front>(
+pub(crate) fn tell_clocked<O: OfficeOfRecords, F: Front>(
     alloc: Global,
-    office: &mut K,
+    office: &mut O,
     front: &F,
     line: &[u8],
-) -> Result<Vec<u8>, Stopped>
-    ensures ok { IfOk result (λ text. Leads K.is_clean K.stands
-        (λ identity before after. Entry K.signs F.told identity before line.now text.items after)
+) -> Result<Vec<u8>, HubFault>
+    ensures ok { IfOk result (λ text. Leads O.is_clean O.stands
+        (λ identity before after. Entry O.signs F.told identity before line.now text.items after)
         office.old office.new) }
     ensures err { OnErr result (office.new ≡ office.old) }
 {
     match front.moment() {
         Ok(now) => Ok(tell_at(alloc, office, now, line)),
-        Err(_) => Err(Stopped),
+        Err(_) => Err(HubFault),
     }
 }
 
@@ -89,7 +89,7 @@ pub(crate) fn tell_counted<P: Place, F: Front>(
 ) -> Vec<u8>
     ensures moves { Leads P.Opened.is_clean P.Opened.stands
         (λ identity before after. WordAt P.Opened.signs now identity before line.now result.items after) office.old office.new }
-    ensures counted { CountsLine (HasFailed P.Opened.failures P.Opened.answer_failures office.old office.new) now result.items tally.old tally.new }
+    ensures counted { CountsLine (SignatureFailed P.Opened.failures P.Opened.answer_failures office.old office.new) now result.items tally.old tally.new }
 {
     let failures = P::failures(office);
     let reply = tell_word::<P, F>(alloc, office, front, file, now, line, noted);
@@ -186,8 +186,8 @@ fn set_reply(alloc: Global, set: Result<(), Failure>) -> Vec<u8>
 }
 
 /// Answers a line of a counter, at a moment.
-fn tell_at<K: Keeper>(alloc: Global, office: &mut K, now: Moment, line: &[u8]) -> Vec<u8>
-    ensures { Leads K.is_clean K.stands (λ identity before after. EntryAt K.signs now identity before line.now result.items after)
+fn tell_at<O: OfficeOfRecords>(alloc: Global, office: &mut O, now: Moment, line: &[u8]) -> Vec<u8>
+    ensures { Leads O.is_clean O.stands (λ identity before after. EntryAt O.signs now identity before line.now result.items after)
         office.old office.new }
 {
     let mut reply = Vec::new(alloc);
@@ -196,8 +196,8 @@ fn tell_at<K: Keeper>(alloc: Global, office: &mut K, now: Moment, line: &[u8]) -
 }
 
 /// Answers a line as it is.
-pub(crate) fn tell_alone<K: Keeper>(alloc: Global, office: &mut K, line: &[u8]) -> Vec<u8>
-    ensures { Leads K.is_clean K.stands (λ identity before after. LineRuns K.signs identity before line.now result.items after)
+pub(crate) fn tell_alone<O: OfficeOfRecords>(alloc: Global, office: &mut O, line: &[u8]) -> Vec<u8>
+    ensures { Leads O.is_clean O.stands (λ identity before after. LineRuns O.signs identity before line.now result.items after)
         office.old office.new }
 {
     let mut reader = line;
@@ -207,15 +207,15 @@ pub(crate) fn tell_alone<K: Keeper>(alloc: Global, office: &mut K, line: &[u8]) 
 }
 
 /// Runs a line with its moment before it, as a script.
-fn run_line_at<K: Keeper>(
+fn run_line_at<O: OfficeOfRecords>(
     alloc: Global,
-    office: &mut K,
+    office: &mut O,
     now: Moment,
     line: &[u8],
     reply: &mut Vec<u8>,
 ) -> Result<(), Fault>
-    ensures { (left : List ℕ) × Leads K.is_clean K.stands
-        (λ identity before after. ScriptEnds (Lines K.signs identity) (λ bytes. Some bytes) (λ bytes. Some bytes) before after
+    ensures { (left : List ℕ) × Leads O.is_clean O.stands
+        (λ identity before after. ScriptEnds (Lines O.signs identity) (λ bytes. Some bytes) (λ bytes. Some bytes) before after
         (line_at now line.now) left reply.old.items reply.new.items result)
         office.old office.new }
 {

@@ -11,7 +11,7 @@ use std::os::unix::net::UnixStream;
 /// was laid or met, that a line was given to standard error, and that a copy was laid.
 pub trait Front {
     ghost use Rattle.std.specs.Prelude.{◌≡◌, ℕ, List, OnOk, IfOk, IfErr, IfSome};
-    ghost use Rattle.reg_jobs.specs.Failing.{IsOfStore};
+    ghost use Rattle.reg_jobs.specs.RegisterFailures.{IsOfStore};
 
     /// The clock told this moment.
     ghost told: { ℕ → Type 0 };

@@ -2,27 +2,27 @@
 
 ghost use Rattle.std.specs.Prelude.{◌≡◌, Result, IfErr, false};
 ghost use Rattle.reg_calls.specs.Items.{items_of};
-ghost use Rattle.reg_endings.specs.Checks.{terms_of};
-ghost use Rattle.reg_calls.specs.Steps.{Crls};
+ghost use Rattle.reg_endings.specs.Checks.{terms_of_days};
+ghost use Rattle.reg_calls.specs.CallSteps.{Crls};
 ghost use Rattle.reg_calls.specs.Leads.{Leads};
 ghost use Rattle.reg_faces.specs.Faces.{Lines};
 ghost use Rattle.reg_lines.specs.Strict.{StrictEnds};
 ghost use Rattle.reg_jobs.specs.Ends.{AuditAt, CrlAt, ImportAt, InitAt, KeyIdAt, MakesAt, SaysGiven, ScheduleAt, ScriptAt, StrictImportAt, TellsBroken, TellsSet, TellsLine, TellsVerdict};
 ghost use Rattle.reg_jobs.specs.Visits.{ending_of, ending_of_import};
-ghost use Rattle.reg_tables.specs.Stays.{IsCallFault};
-ghost use Rattle.reg_findings.specs.Lines.{broken_text, sound_text};
+ghost use Rattle.reg_tables.specs.Stays.{IsDatabaseFault};
+ghost use Rattle.reg_findings.specs.FindingLines.{broken_text, sound_text};
 
 use crate::front::Front;
 use crate::place::Place;
 use crate::reasons::{Reason, keep_reason};
 use crate::sealing::Sealing;
 use crate::telling::say;
-use reg_calls::{Calls, Keeper};
+use reg_calls::{OfficeCalls, OfficeOfRecords};
 use reg_core::{Fault, Moment, Policy};
 use reg_der::Issuer;
 use reg_endings::{Failure, key_identifier_of, office_of, schedule_of};
 use reg_faces::{import, import_strictly, run_script};
-use reg_findings::{Audited, Broken, OTHER_SCHEMA, Verdict, broken_line, sound_line};
+use reg_findings::{Audited, BrokenRow, OTHER_SCHEMA, Verdict, broken_line, sound_line};
 use reg_lines::Imported;
 use reg_tables::StoreFault;
 use reg_words::{Answerer, KeyHolder, Steps, Word};
@@ -61,8 +61,8 @@ pub fn init<P: Place, W: Write>(
     new: &NewOffice<'_>,
     writer: &mut W,
 ) -> Result<(), Failure>
-    ensures { InitAt W.contents writer.old writer.new P.Place P.Opened.Keeper.own place.old place.new path.now
-        new.now.name.now new.now.key.now new.now.key_id.now (terms_of new.now.days new.now.crl_life new.now.ocsp_life new.now.cap) result }
+    ensures { InitAt W.contents writer.old writer.new P.Place P.Opened.OfficeOfRecords.own place.old place.new path.now
+        new.now.name.now new.now.key.now new.now.key_id.now (terms_of_days new.now.days new.now.crl_life new.now.ocsp_life new.now.cap) result }
 {
     let (issuer, policy) = office_of(
         alloc,
@@ -99,7 +99,7 @@ fn make_at<P: Place, W: Write>(
     policy: Policy,
     writer: &mut W,
 ) -> Result<(), Failure>
-    ensures { MakesAt W.contents writer.old writer.new P.Place P.Opened.Keeper.own place.old place.new path.now issuer policy
+    ensures { MakesAt W.contents writer.old writer.new P.Place P.Opened.OfficeOfRecords.own place.old place.new path.now issuer policy
         result }
 {
     let register = place.make(path, issuer, policy)?;
@@ -118,7 +118,7 @@ pub fn script<P: Place, F: Front, R: Read, W: Write>(
     writer: &mut W,
 ) -> Result<(), Failure>
     ensures { ScriptAt R.remaining W.contents reader.old reader.new writer.old writer.new
-        P.Place P.Opened.Keeper.own place.old place.new path.now signer.now result }
+        P.Place P.Opened.OfficeOfRecords.own place.old place.new path.now signer.now result }
 {
     let answerer = Answerer::Issuer { certificate: None };
     let office = place.open_to_sign(path, signer, &answerer)?;
@@ -147,7 +147,7 @@ pub fn import_rows<P: Place, F: Front, R: Read, W: Write>(
     writer: &mut W,
 ) -> Result<(), Failure>
     ensures { ImportAt R.remaining W.contents reader.old reader.new writer.old writer.new
-        P.Place P.Opened.Keeper.own place.old place.new is_strict path.now now result }
+        P.Place P.Opened.OfficeOfRecords.own place.old place.new is_strict path.now now result }
 {
     if is_strict {
         return import_to_refusal(alloc, front, place, path, now, reason, reader, writer);
@@ -167,7 +167,7 @@ fn import_to_refusal<P: Place, F: Front, R: Read, W: Write>(
     writer: &mut W,
 ) -> Result<(), Failure>
     ensures { StrictImportAt R.remaining W.contents reader.old reader.new writer.old writer.new
-        P.Place P.Opened.Keeper.own place.old place.new path.now now result }
+        P.Place P.Opened.OfficeOfRecords.own place.old place.new path.now now result }
 {
     let office = place.open(path)?;
     let mut opened = Sealing {
@@ -221,7 +221,7 @@ fn import_all<P: Place, R: Read, W: Write>(
     writer: &mut W,
 ) -> Result<(), Failure>
     ensures { ImportAt R.remaining W.contents reader.old reader.new writer.old writer.new
-        P.Place P.Opened.Keeper.own place.old place.new false path.now now result }
+        P.Place P.Opened.OfficeOfRecords.own place.old place.new false path.now now result }
 {
     let mut office = place.open(path)?;
     let imported = import(alloc, reader, writer, now, &mut office);
@@ -237,7 +237,7 @@ pub fn crl<P: Place, W: Write>(
     number: Option<u64>,
     writer: &mut W,
 ) -> Result<(), Failure>
-    ensures { CrlAt W.contents writer.old writer.new P.Place P.Opened.Keeper.own place.old place.new path.now number result }
+    ensures { CrlAt W.contents writer.old writer.new P.Place P.Opened.OfficeOfRecords.own place.old place.new path.now number result }
 {
     let mut register = place.open(path)?;
     let given = given_crl(alloc, &mut register, number);
@@ -246,12 +246,12 @@ pub fn crl<P: Place, W: Write>(
 }
 
 /// The bytes of a CRL of a register.
-fn given_crl<K: Keeper>(
+fn given_crl<O: OfficeOfRecords>(
     alloc: Global,
-    register: &mut K,
+    register: &mut O,
     number: Option<u64>,
 ) -> Result<Vec<u8>, Fault>
-    ensures { Leads K.is_clean K.stands (λ identity before after. Crls before number (items_of result) after) register.old register.new }
+    ensures { Leads O.is_clean O.stands (λ identity before after. Crls before number (items_of result) after) register.old register.new }
 {
     register.crl_bytes(alloc, number)
 }
@@ -277,7 +277,7 @@ pub fn schedule<P: Place, W: Write>(
     steps: &Steps,
     writer: &mut W,
 ) -> Result<(), Failure>
-    ensures { ScheduleAt W.contents writer.old writer.new P.Place P.Opened.Keeper.own place.old place.new path.now steps.now result }
+    ensures { ScheduleAt W.contents writer.old writer.new P.Place P.Opened.OfficeOfRecords.own place.old place.new path.now steps.now result }
 {
     let schedule = schedule_of(steps)?;
     let mut register = place.open(path)?;
@@ -295,7 +295,7 @@ pub fn key_identifier<P: Place, W: Write>(
     key_id: &Word<'_>,
     writer: &mut W,
 ) -> Result<(), Failure>
-    ensures { KeyIdAt W.contents writer.old writer.new P.Place P.Opened.Keeper.own place.old place.new path.now key_id.now result }
+    ensures { KeyIdAt W.contents writer.old writer.new P.Place P.Opened.OfficeOfRecords.own place.old place.new path.now key_id.now result }
 {
     let octets = key_identifier_of(alloc, key_id)?;
     let mut register = place.open(path)?;
@@ -310,7 +310,7 @@ fn tell_set<W: Write>(
     text: &[u8],
     set: Result<(), StoreFault>,
 ) -> Result<(), Failure>
-    requires { IfErr set IsCallFault }
+    requires { IfErr set IsDatabaseFault }
     ensures { TellsSet text.now W.contents writer.old writer.new set result }
 {
     match set {
@@ -326,7 +326,7 @@ pub fn audit<P: Place, W: Write>(
     path: &str,
     writer: &mut W,
 ) -> Result<(), Failure>
-    ensures { AuditAt W.contents writer.old writer.new P.Place P.Opened.Keeper.own place.now place.now path.now result }
+    ensures { AuditAt W.contents writer.old writer.new P.Place P.Opened.OfficeOfRecords.own place.now place.now path.now result }
 {
     let verdict = place.audit(path)?;
     tell_verdict(alloc, writer, verdict)
@@ -355,7 +355,7 @@ fn tell_sound<W: Write>(alloc: Global, writer: &mut W, found: Audited) -> Result
 }
 
 /// Tells a row that breaks a rule.
-fn tell_broken<W: Write>(alloc: Global, writer: &mut W, broken: Broken) -> Result<(), Failure>
+fn tell_broken<W: Write>(alloc: Global, writer: &mut W, broken: BrokenRow) -> Result<(), Failure>
     ensures { TellsBroken (broken_text broken) W.contents writer.old writer.new result }
 {
     match broken_line(alloc, broken) {

@@ -4,9 +4,9 @@ ghost use Rattle.std.specs.Prelude.{◌≡◌, ◌≤◌, [], IfSome, MatchOptio
 ghost use Rattle.reg_calls.specs.Items.{items_of};
 ghost use Rattle.reg_jobs.specs.Counted.{CountsFinished};
 ghost use Rattle.reg_jobs.specs.Exchanges.{Responded};
-ghost use Rattle.reg_jobs.specs.Leaving.{Finished, FinishedOf, IsSignatureOf, Wrote};
+ghost use Rattle.reg_jobs.specs.Leaving.{FinishesUnsigned, FinishedOf, IsSignatureOf, IsFinishedText};
 ghost use Rattle.reg_signer.specs.Forms.{HasForm};
-ghost use Rattle.reg_watch.specs.Exchanges.{route_in};
+ghost use Rattle.reg_watch.specs.Exchanges.{request_route};
 
 use crate::front::Front;
 use crate::logging::{log_answer, micros_since};
@@ -55,7 +55,7 @@ pub(crate) fn unsigned_of<F: Front>(
 ) -> Unsigned
     ensures draft { result.draft ≡ draft }
     ensures moment { result.moment ≡ moment }
-    ensures route { result.route ≡ route_in request.now }
+    ensures route { result.route ≡ request_route request.now }
 {
     Unsigned {
         draft,
@@ -100,7 +100,7 @@ pub(crate) fn finish_logged<P: Place, F: Front>(
     unsigned: Unsigned,
     link: Option<UnixStream>,
 ) -> Vec<u8>
-    ensures { Finished P.gave unsigned result.items }
+    ensures { FinishesUnsigned P.gave unsigned result.items }
 {
     let signature = signature_of::<P>(alloc, &unsigned.draft, link);
     let text = finish(alloc, &unsigned.draft, unsigned.moment, &signature);
@@ -117,7 +117,7 @@ pub(crate) fn finish_counted<P: Place, F: Front>(
     unsigned: Unsigned,
     link: Option<UnixStream>,
 ) -> Vec<u8>
-    ensures finished { Finished P.gave unsigned result.items }
+    ensures finished { FinishesUnsigned P.gave unsigned result.items }
     ensures counted { CountsFinished P.gave unsigned result.items tally.old tally.new }
 {
     let signature = signature_of::<P>(alloc, &unsigned.draft, link);
@@ -167,7 +167,7 @@ fn signature_of<P: Place>(alloc: Global, draft: &Draft, link: Option<UnixStream>
 /// The text that finishes an answer of a moment, with this signature or without one.
 fn finish(alloc: Global, draft: &Draft, moment: Moment, signature: &Option<Vec<u8>>) -> Vec<u8>
     requires { IfSome signature.now (λ signature. length signature.items ≤ 4096) }
-    ensures { Wrote draft.now moment (option_map (λ signature. signature.items) signature.now) result.items }
+    ensures { IsFinishedText draft.now moment (option_map (λ signature. signature.items) signature.now) result.items }
 {
     let given = draft.response(alloc, slice_of(signature));
     match Vec::with_capacity(alloc, TEXT_ROOM) {

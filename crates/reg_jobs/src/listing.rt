@@ -3,7 +3,7 @@
 ghost use Rattle.std.specs.Prelude.{◌≡◌, ◌++◌, IfErr, IfOk, OnOk, flat_map};
 ghost use Rattle.reg_calls.specs.Items.{items_of};
 ghost use Rattle.reg_calls.specs.Leads.{Leads};
-ghost use Rattle.reg_lists.specs.Pages.{Lists};
+ghost use Rattle.reg_lists.specs.Pages.{GivesWholeList};
 ghost use Rattle.reg_lists.specs.Texts.{opening_text, row_text};
 ghost use Rattle.reg_jobs.specs.Ends.{IsMomentOf, ListAt};
 
@@ -31,7 +31,7 @@ pub fn list<P: Place, F: Front, W: Write>(
     form: Form,
     writer: &mut W,
 ) -> Result<(), Failure>
-    ensures { ListAt W.contents writer.old writer.new P.Place P.Opened.Keeper.own place.old place.new F.told path.now from told form result }
+    ensures { ListAt W.contents writer.old writer.new P.Place P.Opened.OfficeOfRecords.own place.old place.new F.told path.now from told form result }
 {
     let now = moment_of(front, told)?;
     let mut register = place.open(path)?;
@@ -62,7 +62,7 @@ fn given_list<P: Place>(
     from: Cursor,
     form: Form,
 ) -> Result<Vec<u8>, Fault>
-    ensures { Leads P.Opened.is_clean P.Opened.stands (λ identity before after. Lists before now form from (items_of result) after) register.old register.new }
+    ensures { Leads P.Opened.is_clean P.Opened.stands (λ identity before after. GivesWholeList before now form from (items_of result) after) register.old register.new }
 {
     let first = from;
     let mut text = opening(alloc, form, first)?;

@@ -2,7 +2,7 @@
 
 ghost use Rattle.std.specs.Prelude.{◌≡◌, ◌++◌, ◌∷◌, ◌<◌, ◌≤◌, [], IfOk, IfSome, OnOk, decimal, length, take};
 ghost use Rattle.std.specs.List.{flat_map, position};
-ghost use Rattle.reg_jobs.specs.Log.{digit as hexadecimal, is_plain as plain, ends_line, first_line as first_line_of, told, told_byte, exchange_line as exchanged, lost_line as lost, unsigned_end};
+ghost use Rattle.reg_jobs.specs.Log.{digit as hexadecimal, is_plain as plain, ends_line, first_line as first_line_of, told_text, told_byte, exchange_line as exchanged, lost_line as lost, unsigned_end};
 
 use reg_core::{Decimal, Moment};
 use std::alloc::{AllocError, Global};
@@ -78,7 +78,7 @@ fn put_unsigned(line: &mut Vec<u8>, is_unsigned: bool) -> Result<(), AllocError>
 
 /// Puts a space and what a text is told as behind a line.
 fn put_told(line: &mut Vec<u8>, text: &[u8]) -> Result<(), AllocError>
-    ensures { OnOk result (line.new.items ≡ line.old.items ++ (32 ∷ told text.now)) }
+    ensures { OnOk result (line.new.items ≡ line.old.items ++ (32 ∷ told_text text.now)) }
 {
     line.extend_from_slice(b" \"")?;
     put_plainly(line, front_of(first_line(text)))?;

@@ -3,7 +3,7 @@
 use crate::front::Front;
 use crate::log_lines::{exchange_line, lost_line};
 use reg_core::{Decimal, Moment};
-use reg_hub::Lost;
+use reg_hub::PeerFault;
 use std::alloc::{AllocError, Global};
 use std::net::{IpAddr, SocketAddr};
 
@@ -59,7 +59,12 @@ pub(crate) fn log_line<F: Front>(
 }
 
 /// Logs that a connection ended by a fault.
-pub(crate) fn log_lost<F: Front>(alloc: Global, front: &F, peer: Option<SocketAddr>, why: Lost) {
+pub(crate) fn log_lost<F: Front>(
+    alloc: Global,
+    front: &F,
+    peer: Option<SocketAddr>,
+    why: PeerFault,
+) {
     if !front.has_log() {
         return;
     }
@@ -83,12 +88,12 @@ fn put<F: Front>(front: &F, line: Result<Vec<u8>, AllocError>) {
 }
 
 /// The word that tells why a connection ended.
-fn word_of(why: Lost) -> &'static [u8] {
+fn word_of(why: PeerFault) -> &'static [u8] {
     match why {
-        Lost::Broken => b"broken",
-        Lost::Late => b"late",
-        Lost::Crowded => b"crowded",
-        Lost::Memory => b"memory",
+        PeerFault::Broken => b"broken",
+        PeerFault::Late => b"late",
+        PeerFault::Crowded => b"crowded",
+        PeerFault::Memory => b"memory",
     }
 }
 

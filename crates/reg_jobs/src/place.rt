@@ -2,7 +2,7 @@
 
 use crate::deferring::Wanted;
 use mio::net::UnixStream;
-use reg_calls::Keeper;
+use reg_calls::OfficeOfRecords;
 use reg_core::{Fault, Label, Memory, Moment, Policy, Schedule};
 use reg_der::Issuer;
 use reg_endings::Failure;
@@ -24,19 +24,19 @@ pub trait Place {
     ghost use Rattle.reg_core.specs.Records.{no_records};
     ghost use Rattle.reg_calls.specs.Signatories.{Signatory};
     ghost use Rattle.reg_endings.specs.declared.failure.Failure.{Failure as Failing};
-    ghost use Rattle.reg_jobs.specs.Failing.{IsMaking, IsOfStore, IsOpening};
+    ghost use Rattle.reg_jobs.specs.RegisterFailures.{IsMaking, IsOfStore, IsOpening};
     ghost use Rattle.reg_jobs.specs.Identifiers.{Identifies};
     ghost use Rattle.reg_jobs.specs.Reasons.{HasLongest};
     ghost use Rattle.reg_jobs.specs.Schedules.{Reschedules};
-    ghost use Rattle.reg_jobs.specs.Signing.{Signing};
+    ghost use Rattle.reg_jobs.specs.WhoSigns.{Signing};
     ghost use Rattle.reg_crl.specs.Signing.{Identity};
     ghost use Rattle.reg_signer.specs.Forms.{HasForm};
     ghost use Rattle.reg_jobs.specs.Watched.{HasOpen, HasStanding};
     ghost use Rattle.reg_findings.specs.declared.verdict.Verdict.{Verdict as Verdicts};
-    ghost use Rattle.reg_tables.specs.Stays.{IsCallFault};
+    ghost use Rattle.reg_tables.specs.Stays.{IsDatabaseFault};
 
     /// What is opened: an office that keeps the records of a register.
-    type Opened: Keeper + Drop;
+    type Opened: OfficeOfRecords + Drop;
 
     /// Something lies at the path, or may.
     ghost lies: { Self → List ℕ → Type 0 };
@@ -150,7 +150,7 @@ pub trait Place {
         schedule: Schedule,
     ) -> Result<(), StoreFault>
         ensures moves { Leads Self.Opened.is_clean Self.Opened.stands (λ identity. Reschedules schedule result) register.old register.new }
-        ensures faults { IfErr result IsCallFault };
+        ensures faults { IfErr result IsDatabaseFault };
 
     /// Gives the issuer of a register that was opened a key identifier of its own, for the CRLs from the next one on.
     ///
@@ -164,7 +164,7 @@ pub trait Place {
         octets: Label,
     ) -> Result<(), StoreFault>
         ensures moves { Leads Self.Opened.is_clean Self.Opened.stands (λ identity. Identifies octets result) register.old register.new }
-        ensures faults { IfErr result IsCallFault };
+        ensures faults { IfErr result IsDatabaseFault };
 
     /// A page of a list of a register that was opened, from a key on, at a moment. It looks at so many rows at most.
     ///

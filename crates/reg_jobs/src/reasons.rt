@@ -2,7 +2,7 @@
 
 ghost use Rattle.std.specs.Prelude.{◌≡◌, ◌++◌, ◌∷◌, [], IfOk, IfSome};
 ghost use Rattle.reg_calls.specs.Leads.{Leads};
-ghost use Rattle.reg_jobs.specs.Reasons.{IsReasonLine, is_refusal as refuses, last_second, latest_text, order_text, reason_text, why_text};
+ghost use Rattle.reg_jobs.specs.Reasons.{IsReasonLine, is_refusal as refuses, last_second, latest_text, order_text, reason_text, noted_why_text};
 
 use crate::entering::timed_line;
 use crate::place::Place;
@@ -53,9 +53,9 @@ pub(crate) fn told_why(alloc: Global, noted: &[u8]) -> Vec<u8> {
 }
 
 /// The same, where there is memory for it.
-#[tactic(auto, unfolding(crate::specs::Reasons::why_text))]
+#[tactic(auto, unfolding(crate::specs::Reasons::noted_why_text))]
 fn why_reply(alloc: Global, noted: &[u8]) -> Result<Vec<u8>, AllocError>
-    ensures { IfOk result (λ text. text.items ≡ why_text noted.now) }
+    ensures { IfOk result (λ text. text.items ≡ noted_why_text noted.now) }
 {
     let mut text = Vec::from_slice(alloc, b"why ")?;
     if noted.is_empty() {

@@ -2,12 +2,12 @@
 
 ghost use Rattle.std.specs.Prelude.{◌≡◌, IfOk, MatchOption, OnErr};
 
+use crate::desks::NoTicket;
 use crate::entering::{tell_alone, tell_clocked};
 use crate::front::Front;
-use crate::handling::NoTicket;
 use mio::net::UnixStream;
-use reg_calls::Keeper;
-use reg_hub::{Crowd, Deferred, Given, Handler, Lost, Stopped};
+use reg_calls::OfficeOfRecords;
+use reg_hub::{Crowd, Deferred, Given, Handler, HubFault, PeerFault};
 use std::alloc::Global;
 use std::io;
 use std::io::ErrorKind;
@@ -15,20 +15,20 @@ use std::net::SocketAddr;
 
 /// A desk that runs lines, each at a moment of the clock, and has no peers.
 #[derive(Drop)]
-pub(crate) struct ClockedDesk<'a, K: Keeper, F: Front> {
-    pub(crate) office: K,
+pub(crate) struct ClockedDesk<'a, O: OfficeOfRecords, F: Front> {
+    pub(crate) office: O,
     pub(crate) alloc: Global,
     pub(crate) front: &'a F,
 }
 
 /// A desk that runs lines as they are, and has no peers.
 #[derive(Drop)]
-pub(crate) struct LinedDesk<K: Keeper> {
-    pub(crate) office: K,
+pub(crate) struct LinedDesk<O: OfficeOfRecords> {
+    pub(crate) office: O,
     pub(crate) alloc: Global,
 }
 
-impl<'a, K: Keeper, F: Front> Handler for ClockedDesk<'a, K, F> {
+impl<'a, O: OfficeOfRecords, F: Front> Handler for ClockedDesk<'a, O, F> {
     ghost use Rattle.reg_calls.specs.Leads.{Leads};
     ghost use Rattle.reg_jobs.specs.Exchanges.{Entry, NoEntry};
 
@@ -38,15 +38,15 @@ impl<'a, K: Keeper, F: Front> Handler for ClockedDesk<'a, K, F> {
 
     ghost answers = { NoEntry };
 
-    ghost tells = { λ s line text t. Leads K.is_clean K.stands
-        (λ identity before after. Entry K.signs F.told identity before line text after) s.office t.office };
+    ghost tells = { λ s line text t. Leads O.is_clean O.stands
+        (λ identity before after. Entry O.signs F.told identity before line text after) s.office t.office };
 
     ghost defers = { λ s line t. t ≡ s };
 
     ghost finishes = { λ ticket text. Unit {0} };
 
-    fn answer(&mut self, _peer: SocketAddr, _request: &[u8]) -> Result<Given<NoTicket>, Stopped> {
-        Err(Stopped)
+    fn answer(&mut self, _peer: SocketAddr, _request: &[u8]) -> Result<Given<NoTicket>, HubFault> {
+        Err(HubFault)
     }
 
     fn ask(&self, _ticket: &NoTicket) -> io::Result<UnixStream> {
@@ -59,7 +59,7 @@ impl<'a, K: Keeper, F: Front> Handler for ClockedDesk<'a, K, F> {
         Vec::new(self.alloc)
     }
 
-    fn tell(&mut self, line: &[u8], _noted: &mut Vec<u8>) -> Result<Vec<u8>, Stopped> {
+    fn tell(&mut self, line: &[u8], _noted: &mut Vec<u8>) -> Result<Vec<u8>, HubFault> {
         tell_clocked(self.alloc, &mut self.office, self.front, line)
     }
 
@@ -79,21 +79,21 @@ impl<'a, K: Keeper, F: Front> Handler for ClockedDesk<'a, K, F> {
         noted: &mut Vec<u8>,
         _deferred: Deferred<NoTicket>,
         _link: Option<UnixStream>,
-    ) -> Result<Option<Vec<u8>>, Stopped>
+    ) -> Result<Option<Vec<u8>>, HubFault>
         ensures ok { IfOk result (λ told. MatchOption told (self.new ≡ self.old)
-            (λ text. Leads K.is_clean K.stands
-            (λ identity before after. Entry K.signs F.told identity before line.now text.items after) self.old.office self.new.office)) }
+            (λ text. Leads O.is_clean O.stands
+            (λ identity before after. Entry O.signs F.told identity before line.now text.items after) self.old.office self.new.office)) }
         ensures err { OnErr result ((self.new ≡ self.old) × (noted.new ≡ noted.old)) }
     {
-        Err(Stopped)
+        Err(HubFault)
     }
 
-    fn lose(&self, _peer: Option<SocketAddr>, _why: Lost) {}
+    fn lose(&self, _peer: Option<SocketAddr>, _why: PeerFault) {}
 
     fn hold(&self, _crowd: Crowd) {}
 }
 
-impl<K: Keeper> Handler for LinedDesk<K> {
+impl<O: OfficeOfRecords> Handler for LinedDesk<O> {
     ghost use Rattle.reg_calls.specs.Leads.{Leads};
     ghost use Rattle.reg_jobs.specs.Exchanges.{LineRuns, NoEntry};
 
@@ -103,15 +103,15 @@ impl<K: Keeper> Handler for LinedDesk<K> {
 
     ghost answers = { NoEntry };
 
-    ghost tells = { λ s line text t. Leads K.is_clean K.stands
-        (λ identity before after. LineRuns K.signs identity before line text after) s.office t.office };
+    ghost tells = { λ s line text t. Leads O.is_clean O.stands
+        (λ identity before after. LineRuns O.signs identity before line text after) s.office t.office };
 
     ghost defers = { λ s line t. t ≡ s };
 
     ghost finishes = { λ ticket text. Unit {0} };
 
-    fn answer(&mut self, _peer: SocketAddr, _request: &[u8]) -> Result<Given<NoTicket>, Stopped> {
-        Err(Stopped)
+    fn answer(&mut self, _peer: SocketAddr, _request: &[u8]) -> Result<Given<NoTicket>, HubFault> {
+        Err(HubFault)
     }
 
     fn ask(&self, _ticket: &NoTicket) -> io::Result<UnixStream> {
@@ -124,7 +124,7 @@ impl<K: Keeper> Handler for LinedDesk<K> {
         Vec::new(self.alloc)
     }
 
-    fn tell(&mut self, line: &[u8], _noted: &mut Vec<u8>) -> Result<Vec<u8>, Stopped> {
+    fn tell(&mut self, line: &[u8], _noted: &mut Vec<u8>) -> Result<Vec<u8>, HubFault> {
         Ok(tell_alone(self.alloc, &mut self.office, line))
     }
 
@@ -144,16 +144,16 @@ impl<K: Keeper> Handler for LinedDesk<K> {
         noted: &mut Vec<u8>,
         _deferred: Deferred<NoTicket>,
         _link: Option<UnixStream>,
-    ) -> Result<Option<Vec<u8>>, Stopped>
+    ) -> Result<Option<Vec<u8>>, HubFault>
         ensures ok { IfOk result (λ told. MatchOption told (self.new ≡ self.old)
-            (λ text. Leads K.is_clean K.stands
-            (λ identity before after. LineRuns K.signs identity before line.now text.items after) self.old.office self.new.office)) }
+            (λ text. Leads O.is_clean O.stands
+            (λ identity before after. LineRuns O.signs identity before line.now text.items after) self.old.office self.new.office)) }
         ensures err { OnErr result ((self.new ≡ self.old) × (noted.new ≡ noted.old)) }
     {
-        Err(Stopped)
+        Err(HubFault)
     }
 
-    fn lose(&self, _peer: Option<SocketAddr>, _why: Lost) {}
+    fn lose(&self, _peer: Option<SocketAddr>, _why: PeerFault) {}
 
     fn hold(&self, _crowd: Crowd) {}
 }

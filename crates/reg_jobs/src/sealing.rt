@@ -5,15 +5,15 @@ ghost use Rattle.reg_jobs.specs.Sealing.{IsFirstCrl, IsFirstSealed, sealed_line}
 
 use crate::front::Front;
 use crate::reasons::{Refused, refused_by};
-use reg_calls::{Begun, Calls, Keeper};
+use reg_calls::{Begun, OfficeCalls, OfficeOfRecords};
 use reg_core::{Command, Fault, Memory, Moment, Outcome, Query, Reply};
 use std::alloc::Global;
 
 /// An office of whose first CRL it is said on standard error that it is no signature, where a digest seals it, and of whose last command
 /// it is kept which registration it was, if it was one that was refused. All else is as in the office that it has.
 #[derive(Drop)]
-pub(crate) struct Sealing<'a, K: Keeper, F: Front> {
-    pub(crate) office: K,
+pub(crate) struct Sealing<'a, O: OfficeOfRecords, F: Front> {
+    pub(crate) office: O,
     pub(crate) front: &'a F,
     /// Whether a digest seals what is issued.
     pub(crate) is_sealed: bool,
@@ -21,22 +21,22 @@ pub(crate) struct Sealing<'a, K: Keeper, F: Front> {
     pub(crate) refused: Option<Refused>,
 }
 
-impl<'a, K: Keeper, F: Front> Calls for Sealing<'a, K, F> {
+impl<'a, O: OfficeOfRecords, F: Front> OfficeCalls for Sealing<'a, O, F> {
     ghost use Rattle.std.specs.Prelude.{◌≡◌};
     ghost use Rattle.reg_jobs.specs.Sealing.{IsFirstSealed, sealed_line};
 
     /// A command of the office; and where it came to a first CRL that a digest sealed, that was said.
-    ghost runs = { λ s now command outcome t. K.runs s.office now command outcome t.office
+    ghost runs = { λ s now command outcome t. O.runs s.office now command outcome t.office
         × (t.is_sealed ≡ s.is_sealed)
         × (IsFirstSealed s.is_sealed outcome → F.warned sealed_line) };
 
-    ghost asks = { λ s now query outcome t. K.asks s.office now query outcome t.office };
+    ghost asks = { λ s now query outcome t. O.asks s.office now query outcome t.office };
 
-    ghost ocsps = { λ s now request given t. K.ocsps s.office now request given t.office };
+    ghost ocsps = { λ s now request given t. O.ocsps s.office now request given t.office };
 
-    ghost drafts = { λ s now request draft t. K.drafts s.office now request draft t.office };
+    ghost drafts = { λ s now request draft t. O.drafts s.office now request draft t.office };
 
-    ghost crls = { λ s number given t. K.crls s.office number given t.office };
+    ghost crls = { λ s number given t. O.crls s.office number given t.office };
 
     fn run_one(&mut self, alloc: Global, now: Moment, command: &Command) -> Outcome {
         let outcome = self.office.run_one(alloc, now, command);
@@ -64,30 +64,30 @@ impl<'a, K: Keeper, F: Front> Calls for Sealing<'a, K, F> {
     }
 }
 
-impl<'a, K: Keeper, F: Front> Keeper for Sealing<'a, K, F> {
-    ghost is_clean = { λ s. K.is_clean s.office };
+impl<'a, O: OfficeOfRecords, F: Front> OfficeOfRecords for Sealing<'a, O, F> {
+    ghost is_clean = { λ s. O.is_clean s.office };
 
-    ghost stands = { λ identity s records. K.stands identity s.office records };
+    ghost stands = { λ identity s records. O.stands identity s.office records };
 
-    ghost signs = { K.signs };
+    ghost signs = { O.signs };
 
-    ghost failures = { λ s. K.failures s.office };
+    ghost failures = { λ s. O.failures s.office };
 
-    ghost answer_failures = { λ s. K.answer_failures s.office };
+    ghost answer_failures = { λ s. O.answer_failures s.office };
 
-    ghost runs_lead = { λ s now command outcome t ran. K.runs_lead s.office now command outcome t.office ran.0 };
+    ghost runs_lead = { λ s now command outcome t ran. O.runs_lead s.office now command outcome t.office ran.0 };
 
-    ghost runs_count = { λ s now command outcome t ran. K.runs_count s.office now command outcome t.office ran.0 };
+    ghost runs_count = { λ s now command outcome t ran. O.runs_count s.office now command outcome t.office ran.0 };
 
-    ghost asks_lead = { λ s now query outcome t asked. K.asks_lead s.office now query outcome t.office asked };
+    ghost asks_lead = { λ s now query outcome t asked. O.asks_lead s.office now query outcome t.office asked };
 
-    ghost asks_unsigned = { λ s now query outcome t asked. K.asks_unsigned s.office now query outcome t.office asked };
+    ghost asks_unsigned = { λ s now query outcome t asked. O.asks_unsigned s.office now query outcome t.office asked };
 
-    ghost ocsps_lead = { λ s now request given t asked. K.ocsps_lead s.office now request given t.office asked };
+    ghost ocsps_lead = { λ s now request given t asked. O.ocsps_lead s.office now request given t.office asked };
 
-    ghost drafts_lead = { λ s now request draft t drafted. K.drafts_lead s.office now request draft t.office drafted };
+    ghost drafts_lead = { λ s now request draft t drafted. O.drafts_lead s.office now request draft t.office drafted };
 
-    ghost crls_lead = { λ s number given t asked. K.crls_lead s.office number given t.office asked };
+    ghost crls_lead = { λ s number given t asked. O.crls_lead s.office number given t.office asked };
 }
 
 /// Whether a command came to the first CRL of its register, and a digest sealed it.

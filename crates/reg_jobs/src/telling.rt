@@ -3,8 +3,8 @@
 ghost use Rattle.std.specs.Prelude.{◌++◌, ◌∷◌, []};
 ghost use Rattle.reg_causes.specs.Causes.{cause_line};
 ghost use Rattle.reg_endings.specs.Endings.{failure_line};
-ghost use Rattle.reg_jobs.specs.Ends.{Says};
-ghost use Rattle.reg_jobs.specs.Told.{Adds, IsTold, IsWritten, TellsReason};
+ghost use Rattle.reg_jobs.specs.Ends.{SaysText};
+ghost use Rattle.reg_jobs.specs.Told.{Adds, IsToldLine, IsWritten, TellsReason};
 
 use crate::reasons::{Reason, reason_line};
 use reg_causes::Cause;
@@ -31,7 +31,7 @@ pub struct Causes<'a> {
 /// # Errors
 /// `Write` where the writer fails, or takes no byte of what is left.
 pub(crate) fn say<W: Write>(writer: &mut W, text: &[u8]) -> Result<(), Failure>
-    ensures { Says text.now (W.contents writer.old) (W.contents writer.new) result }
+    ensures { SaysText text.now (W.contents writer.old) (W.contents writer.new) result }
 {
     match write_whole(writer, text) {
         Ok(()) => Ok(()),
@@ -41,7 +41,7 @@ pub(crate) fn say<W: Write>(writer: &mut W, text: &[u8]) -> Result<(), Failure>
 
 /// Tells on standard error why a job is not done, in one line. A device that fails is told nothing more.
 pub fn tell<W: Write>(errors: &mut W, failure: &Failure)
-    ensures { IsTold (W.contents errors.old) (W.contents errors.new) (failure_line failure.now) }
+    ensures { IsToldLine (W.contents errors.old) (W.contents errors.new) (failure_line failure.now) }
 {
     let line = failure.line();
     match write_whole(errors, line.as_bytes()) {
@@ -87,7 +87,7 @@ fn tell_reason<W: Write>(alloc: Global, errors: &mut W, reason: Option<Reason>)
 
 /// Tells a cause in one line.
 fn tell_cause<W: Write>(errors: &mut W, cause: Cause)
-    ensures { IsTold (W.contents errors.old) (W.contents errors.new) (cause_line cause) }
+    ensures { IsToldLine (W.contents errors.old) (W.contents errors.new) (cause_line cause) }
 {
     let line = cause.line();
     match write_whole(errors, line.as_bytes()) {

@@ -2,12 +2,12 @@
 
 ghost use Rattle.std.specs.Prelude.{◌≡◌, ◌⊎◌, ◌↔◌, ◌<◌, [], IfOk, IsTrue, OnErr};
 ghost use Rattle.reg_hub.specs.Outcomes.{outcome_of};
-ghost use Rattle.reg_jobs.specs.Leaving.{Finished, FinishesAt, Meets};
+ghost use Rattle.reg_jobs.specs.Leaving.{FinishesUnsigned, FinishesAt, Meets};
 ghost use Rattle.reg_calls.specs.Leads.{Leads};
 ghost use Rattle.reg_heads.specs.Response.{memory_text};
 ghost use Rattle.reg_jobs.specs.Exchanges.{Exchange, ExchangeAt, OpenExchangeAt, Responded};
 ghost use Rattle.reg_jobs.specs.Watched.{IsRecounted, Visit, VisitAt};
-ghost use Rattle.reg_jobs.specs.Counted.{CountsVisit, HasFailed};
+ghost use Rattle.reg_jobs.specs.Counted.{CountsVisit, SignatureFailed};
 ghost use Rattle.reg_watch.specs.declared.tally.Tally.{Tally as Tallies};
 
 use crate::front::Front;
@@ -20,7 +20,7 @@ use reg_core::{Fault, Moment};
 use reg_faces::begin_one;
 use reg_heads::write_memory_fault;
 use reg_http::asks_list;
-use reg_hub::{Given, Stopped};
+use reg_hub::{Given, HubFault};
 use reg_ocsp::Draft;
 use reg_watch::{Heard, Tally, route_of};
 use std::alloc::Global;
@@ -37,16 +37,16 @@ pub(crate) fn begin_now<P: Place, F: Front>(
     front: &F,
     peer: SocketAddr,
     request: &[u8],
-) -> Result<Given<Unsigned>, Stopped>
+) -> Result<Given<Unsigned>, HubFault>
     ensures ok { IfOk result (λ given. Leads P.Opened.is_clean P.Opened.stands
-        (λ identity before after. Meets (Finished P.gave) (λ text. Exchange P.Opened.signs F.told identity before request.now text after)
+        (λ identity before after. Meets (FinishesUnsigned P.gave) (λ text. Exchange P.Opened.signs F.told identity before request.now text after)
         (outcome_of given))
         office.old office.new) }
     ensures err { OnErr result (office.new ≡ office.old) }
 {
     match front.moment() {
         Ok(now) => Ok(begin_logged::<P, F>(alloc, office, front, now, peer, request)),
-        Err(_) => Err(Stopped),
+        Err(_) => Err(HubFault),
     }
 }
 
@@ -59,16 +59,16 @@ pub(crate) fn visit_now<P: Place, F: Front>(
     heard: Heard,
     peer: SocketAddr,
     request: &[u8],
-) -> Result<Given<Unsigned>, Stopped>
+) -> Result<Given<Unsigned>, HubFault>
     ensures ok { IfOk result (λ given. Leads P.Opened.is_clean P.Opened.stands
-        (λ identity before after. Meets (Finished P.gave) (λ text. Visit P.Opened.signs F.told identity before request.now text after)
+        (λ identity before after. Meets (FinishesUnsigned P.gave) (λ text. Visit P.Opened.signs F.told identity before request.now text after)
         (outcome_of given))
         office.old office.new) }
     ensures err { OnErr result ((office.new ≡ office.old) × (tally.new ≡ tally.old)) }
 {
     match front.moment() {
         Ok(now) => Ok(visit_logged::<P, F>(alloc, office, front, tally, heard, now, peer, request)),
-        Err(_) => Err(Stopped),
+        Err(_) => Err(HubFault),
     }
 }
 
@@ -82,7 +82,7 @@ fn begin_logged<P: Place, F: Front>(
     request: &[u8],
 ) -> Given<Unsigned>
     ensures { Leads P.Opened.is_clean P.Opened.stands
-        (λ identity before after. Meets (Finished P.gave) (λ text. ExchangeAt P.Opened.signs now identity before request.now text after)
+        (λ identity before after. Meets (FinishesUnsigned P.gave) (λ text. ExchangeAt P.Opened.signs now identity before request.now text after)
         (outcome_of result))
         office.old office.new }
 {
@@ -114,11 +114,11 @@ fn visit_logged<P: Place, F: Front>(
     request: &[u8],
 ) -> Given<Unsigned>
     ensures moves { Leads P.Opened.is_clean P.Opened.stands
-        (λ identity before after. Meets (Finished P.gave) (λ text. VisitAt P.Opened.signs now identity before request.now text after)
+        (λ identity before after. Meets (FinishesUnsigned P.gave) (λ text. VisitAt P.Opened.signs now identity before request.now text after)
         (outcome_of result))
         office.old office.new }
     ensures counted { (asked : Tallies) × IsRecounted tally.old asked
-        × CountsVisit (HasFailed P.Opened.failures P.Opened.answer_failures office.old office.new) now request.now (outcome_of result) asked tally.new }
+        × CountsVisit (SignatureFailed P.Opened.failures P.Opened.answer_failures office.old office.new) now request.now (outcome_of result) asked tally.new }
 {
     let began = front.micros();
     let failures = P::failures(office);

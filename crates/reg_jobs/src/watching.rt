@@ -4,12 +4,12 @@ ghost use Rattle.std.specs.Prelude.{◌≡◌, ◌≤◌, [], Ok, IfOk, IfSome, 
 ghost use Rattle.reg_calls.specs.Leads.{Leads};
 ghost use Rattle.reg_heads.specs.Response.{Response, shown};
 ghost use Rattle.reg_http.specs.Asked.{path_of as path_in};
-ghost use Rattle.reg_jobs.specs.Watched.{AsksItself, HasCounts, HasDue, HasFound, HasOverdue, HasRequests, IsRecounted, Recounts, TellsItself, Writes, ask_at as ask_told, ask_of as ask_in, by_get, counts_in, due_in, health_response, many_in, metrics_response, only_get as only_get_told, overdue_in, status_of as status_told, told_by};
+ghost use Rattle.reg_jobs.specs.Watched.{AsksItself, HasCountsAt, HasDue, HasFound, HasOverdue, HasRequests, IsRecounted, Recounts, TellsItself, Writes, ask_at as ask_told, ask_of as ask_in, by_get, counts_in, due_in, health_response, many_in, metrics_response, only_get as only_get_told, overdue_in, health_status as status_told, told_by};
 ghost use Rattle.reg_watch.specs.Metrics.{metrics_text};
 
 use crate::place::Place;
 use crate::visiting::memory_response;
-use reg_calls::Keeper;
+use reg_calls::OfficeOfRecords;
 use reg_core::{Counts, Fault, Memory, Moment, Outcome, Overdue, Query, Reply};
 use reg_heads::{Answer, HEAD_ROOM, Request, read_request, status, write_answer};
 use reg_watch::{Found, Health, Heard, Numbers, Requests, Tally, asks_itself, metrics};
@@ -165,7 +165,7 @@ fn found_at<P: Place>(alloc: Global, office: &mut P::Opened, now: Moment) -> Fou
 /// The same, with these counts.
 fn found_with<P: Place>(alloc: Global, office: &mut P::Opened, now: Moment, counts: Counts) -> Found
     ensures { Leads P.Opened.is_clean P.Opened.stands
-        (λ identity before after. (HasCounts before now (Ok counts) → HasFound before now result) × (after ≡ before)) office.old office.new }
+        (λ identity before after. (HasCountsAt before now (Ok counts) → HasFound before now result) × (after ≡ before)) office.old office.new }
 {
     match due_at(alloc, office, now) {
         Ok(due) => found_due::<P>(office, now, counts, due),
@@ -181,7 +181,7 @@ fn found_due<P: Place>(
     due: Option<Moment>,
 ) -> Found
     ensures { Leads P.Opened.is_clean P.Opened.stands
-        (λ identity before after. (HasCounts before now (Ok counts) → HasDue before now (Ok due) → HasFound before now result) × (after ≡ before))
+        (λ identity before after. (HasCountsAt before now (Ok counts) → HasDue before now (Ok due) → HasFound before now result) × (after ≡ before))
         office.old office.new }
 {
     match P::standing(office) {
@@ -195,22 +195,30 @@ fn found_due<P: Place>(
 }
 
 /// How many certificates have each status.
-fn counts_at<K: Keeper>(alloc: Global, office: &mut K, now: Moment) -> Result<Counts, Fault>
-    ensures { Leads K.is_clean K.stands (λ identity before after. HasCounts before now result × (after ≡ before)) office.old office.new }
+fn counts_at<O: OfficeOfRecords>(
+    alloc: Global,
+    office: &mut O,
+    now: Moment,
+) -> Result<Counts, Fault>
+    ensures { Leads O.is_clean O.stands (λ identity before after. HasCountsAt before now result × (after ≡ before)) office.old office.new }
 {
     counts_of(office.ask(alloc, now, &Query::Counts))
 }
 
 /// When the next CRL is due.
-fn due_at<K: Keeper>(alloc: Global, office: &mut K, now: Moment) -> Result<Option<Moment>, Fault>
-    ensures { Leads K.is_clean K.stands (λ identity before after. HasDue before now result × (after ≡ before)) office.old office.new }
+fn due_at<O: OfficeOfRecords>(
+    alloc: Global,
+    office: &mut O,
+    now: Moment,
+) -> Result<Option<Moment>, Fault>
+    ensures { Leads O.is_clean O.stands (λ identity before after. HasDue before now result × (after ≡ before)) office.old office.new }
 {
     due_of(office.ask(alloc, now, &Query::NextCrl))
 }
 
 /// How many requests for revocation are overdue.
-fn overdue_at<K: Keeper>(alloc: Global, office: &mut K, now: Moment) -> Result<u64, Fault>
-    ensures { Leads K.is_clean K.stands (λ identity before after. HasOverdue before now result × (after ≡ before)) office.old office.new }
+fn overdue_at<O: OfficeOfRecords>(alloc: Global, office: &mut O, now: Moment) -> Result<u64, Fault>
+    ensures { Leads O.is_clean O.stands (λ identity before after. HasOverdue before now result × (after ≡ before)) office.old office.new }
 {
     overdue_of(office.ask(alloc, now, &Query::Overdue))
 }

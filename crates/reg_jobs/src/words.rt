@@ -2,7 +2,7 @@
 
 ghost use Rattle.std.specs.Prelude.{◌≡◌, ◌∷◌, IfOk, codes};
 ghost use Rattle.std.specs.Io.BufRead.{strip_last};
-ghost use Rattle.reg_words.specs.Values.{steps_of};
+ghost use Rattle.reg_words.specs.WordValues.{steps_of};
 ghost use Rattle.reg_jobs.specs.CounterWords.{asks_why as asks, fields_in, steps_set, word_in};
 
 use crate::copying::asks_copy;

@@ -8,7 +8,7 @@ use Rattle.reg_core.specs.declared.command.Command.TheVariants.{Subscriber, Orde
 use Rattle.reg_core.specs.declared.command.Reply.{Reply}
 use Rattle.reg_core.specs.declared.refusal.Refusal.{Refusal}
 use Rattle.reg_core.specs.declared.refusal.Fault.{Fault}
-use Rattle.reg_laws.specs.Examples.{Line, commands_of, outcomes_of, outcome_by, records_by, records_after, records_after_all, seen_over, seen_in, no_bytes, new_under, DayUnder}
+use Rattle.reg_laws.specs.Examples.{DayLine, commands_of, outcomes_of, outcome_by, records_by, records_after, records_after_all, seen_over, seen_in, no_bytes, new_under, DayUnder}
 use Rattle.reg_laws.specs.Run.{Happens, Run}
 
 -- what commands come to, as it is computed
@@ -74,7 +74,7 @@ runs_so records (timed ∷ rest) = (
 
 -- a day goes by its lines where its outcomes, and what is seen, compute to them
 pub computed
-    : (policy : Terms) (lines : List Line)
+    : (policy : Terms) (lines : List DayLine)
     → outcomes_over (new_under policy) (commands_of lines) ≡ outcomes_of lines
     → seen_over (new_under policy) lines ≡ seen_in lines
     → DayUnder policy lines

@@ -23,20 +23,20 @@ use Rattle.reg_laws.specs.Run.{Run}
 -- A DAY
 
 -- a line of a day, at its moment
-pub data Line : Type 0 where
+pub data DayLine : Type 0 where
   -- the command is accepted, with this reply
-  tell : ℕ → Command → Reply → Line
+  tell : ℕ → Command → Reply → DayLine
   -- the command is refused
-  refuse : ℕ → Command → Refusal → Line
+  refuse : ℕ → Command → Refusal → DayLine
   -- the query is answered so
-  ask : ℕ → Query → Reply → Line
+  ask : ℕ → Query → Reply → DayLine
   -- the query is refused
-  deny : ℕ → Query → Refusal → Line
+  deny : ℕ → Query → Refusal → DayLine
   -- the CRL with this number, at no moment of its own, has these entries
-  crl_has : ℕ → List Entry → Line
+  crl_has : ℕ → List Entry → DayLine
 
 -- the commands among the lines
-abbrev pub commands_of : List Line → List (ℕ × Command)
+abbrev pub commands_of : List DayLine → List (ℕ × Command)
 commands_of [] = []
 commands_of (tell now command reply ∷ rest) = (now, command) ∷ commands_of rest
 commands_of (refuse now command refusal ∷ rest) = (now, command) ∷ commands_of rest
@@ -45,7 +45,7 @@ commands_of (deny now query refusal ∷ rest) = commands_of rest
 commands_of (crl_has number those ∷ rest) = commands_of rest
 
 -- what they come to
-abbrev pub outcomes_of : List Line → List (Result Reply Fault)
+abbrev pub outcomes_of : List DayLine → List (Result Reply Fault)
 outcomes_of [] = []
 outcomes_of (tell now command reply ∷ rest) = Ok reply ∷ outcomes_of rest
 outcomes_of (refuse now command refusal ∷ rest) = Err (Refused refusal) ∷ outcomes_of rest
@@ -79,7 +79,7 @@ pub data Seen : Type 0 where
   listed : List Entry → Seen
 
 -- what is seen over the records, each line over those that were reached before it
-abbrev pub seen_over : Records → List Line → List Seen
+abbrev pub seen_over : Records → List DayLine → List Seen
 seen_over records [] = []
 seen_over records (tell now command reply ∷ rest) = seen_over (records_after records now command) rest
 seen_over records (refuse now command refusal ∷ rest) = seen_over (records_after records now command) rest
@@ -88,7 +88,7 @@ seen_over records (deny now query refusal ∷ rest) = answered (answer records n
 seen_over records (crl_has number those ∷ rest) = listed (entries records number) ∷ seen_over records rest
 
 -- what the lines say that is seen
-abbrev pub seen_in : List Line → List Seen
+abbrev pub seen_in : List DayLine → List Seen
 seen_in [] = []
 seen_in (tell now command reply ∷ rest) = seen_in rest
 seen_in (refuse now command refusal ∷ rest) = seen_in rest
@@ -105,7 +105,7 @@ abbrev pub new_under : Terms → Records
 new_under policy = no_records (record { name = []; key = [] }) policy
 
 -- a day goes by its lines: from a new register the commands run to these outcomes, and what is asked is answered so
-pub record DayUnder (policy : Terms) (lines : List Line) : Type 0 where
+pub record DayUnder (policy : Terms) (lines : List DayLine) : Type 0 where
   pub run :
       Run no_bytes (new_under policy) (commands_of lines) (outcomes_of lines) (records_after_all (new_under policy) (commands_of lines))
   pub seen : seen_over (new_under policy) lines ≡ seen_in lines
@@ -114,7 +114,7 @@ pub record DayUnder (policy : Terms) (lines : List Line) : Type 0 where
 abbrev pub usual : Terms
 usual = record { schedule = one_step 398; crl_life = 691200; ocsp_life = 345600; cap = 1000000 }
 
-abbrev pub Day : List Line → Type 0
+abbrev pub Day : List DayLine → Type 0
 Day lines = DayUnder usual lines
 
 -- the seconds of 2026-01-01T00:00:00Z and of the days after it
@@ -122,7 +122,7 @@ abbrev pub january : ℕ → ℕ
 january day = 1767225600 + 86400 * (day - 1)
 
 -- a subscriber, an order and a certificate with serial number 5, valid from January 1 to the first second of January 10
-abbrev pub first_day : List Line
+abbrev pub first_day : List DayLine
 first_day =
     tell (january 1) (Subscriber (codes "acme")) (SubscriberIs 1)
     ∷ tell (january 1) (Order 1 398) (OrderIs 1)
@@ -130,7 +130,7 @@ first_day =
     ∷ []
 
 -- the same, and then more
-abbrev pub Then : List Line → Type 0
+abbrev pub Then : List DayLine → Type 0
 Then more = Day (first_day ++ more)
 
 abbrev pub counted : ℕ → ℕ → ℕ → Reply

@@ -13,7 +13,7 @@ use Rattle.reg_core.specs.declared.command.Query.{Query}
 use Rattle.reg_core.specs.declared.command.Query.TheVariants.{Status, Counts, Listing, Overdue, NextCrl}
 use Rattle.reg_lines.specs.Fields.{fields_of}
 use Rattle.reg_lines.specs.Meaning.{Meaning, tells, asks, asks_ocsp, BeginsAt, IsUnreadable, LineMeans, OneMeaning, SpellsCommand, SpellsOcsp, SpellsQuery, SpellsRegister, meaning_of}
-use Rattle.reg_lines.specs.Reading.{alone, asked_by, decline_of, four, hex_of, label_of, listing_of, ocsp_of, one, order_of, register_by, register_of, request_of, revoke_of, revoking_by, said_by, said_of, status_of, subscriber_of, two}
+use Rattle.reg_lines.specs.LineReading.{alone, asked_by, decline_of, four, hex_of, label_field, listing_of, ocsp_of, one, order_of, register_by, register_of, request_of, revoke_of, revoking_by, said_by, said_of, status_of, subscriber_of, two}
 use Rattle.reg_lines.specs.declared.line.Line.{Line}
 use Rattle.reg_lines.proofs.Readings.{hex_of-is, hex_of-some, label_of-is, label_of-some}
 
@@ -76,7 +76,7 @@ subscriber_spelled : (fields : List (List ℕ)) (c : Command) → subscriber_of 
 unfolding subscriber_of
 subscriber_spelled fields c e =
     let (a, is_one, e1) = and_then_some _ (one fields) c e in
-    let (name, is_label, e2) = and_then_some _ (label_of a) c e1 in
+    let (name, is_label, e2) = and_then_some _ (label_field a) c e1 in
     let found = label_of-some a name is_label in
     let made : Subscriber name ≡ c = cc in
     subst (λ v. SpellsCommand v (codes "subscriber" ∷ fields)) made
@@ -113,7 +113,7 @@ unfolding request_of
 request_spelled fields c e =
     let (p, is_two, e1) = and_then_some _ (two fields) c e in
     let (serial, first, e2) = and_then_some _ (serial_of p.0) c e1 in
-    let (named, second, e3) = and_then_some _ (label_of p.1) c e2 in
+    let (named, second, e3) = and_then_some _ (label_field p.1) c e2 in
     let found = label_of-some p.1 named second in
     let made : Request serial named ≡ c = cc in
     subst (λ v. SpellsCommand v (codes "request" ∷ fields)) made

@@ -9,8 +9,8 @@ use Rattle.hex.specs.Hex.{decode_of, is_hex_digit}
 use Rattle.hex.specs.declared.error.FromHexError.{FromHexError}
 use Rattle.hex.proofs.HexLemmas.{decode_of-digits, decode_of-odd, decode_of-ok}
 use Rattle.reg_core.specs.Label.{IsLabel}
-use Rattle.reg_lines.specs.Meaning.{bytes_of, IsHexOf}
-use Rattle.reg_lines.specs.Reading.{hex_of, label_of}
+use Rattle.reg_lines.specs.Meaning.{decoded_bytes, IsHexOf}
+use Rattle.reg_lines.specs.LineReading.{hex_of, label_field}
 
 -- ---- labels
 
@@ -35,12 +35,12 @@ tested_label text e =
       bytes = λ k d below. ltb-true _ 256 (AllPass-from_list_all (λ b. nat_lt b 256) text parts.1 k d below);
     }
 
-pub label_of-is : (text : List ℕ) → IsLabel text → label_of text ≡ Some text
-unfolding label_of
+pub label_of-is : (text : List ℕ) → IsLabel text → label_field text ≡ Some text
+unfolding label_field
 label_of-is text is = rw (label_tested text is) refl
 
-pub label_of-some : (text name : List ℕ) → label_of text ≡ Some name → (text ≡ name) × IsLabel name
-unfolding label_of
+pub label_of-some : (text name : List ℕ) → label_field text ≡ Some name → (text ≡ name) × IsLabel name
+unfolding label_field
 label_of-some text name e = by (is_label text) refl e
   where
     by : (b : Bool) → is_label text ≡ b → cond b (Some text) None ≡ Some name → (text ≡ name) × IsLabel name
@@ -50,11 +50,11 @@ label_of-some text name e = by (is_label text) refl e
     by false is e = cc e
 
 -- what `Label::of` answers is the label that it is
-pub reads_label : (r : Option (List ℕ)) (text : List ℕ) → IsSome r ↔ IsLabel text → IfSome r (λ name. name ≡ text) → r ≡ label_of text
+pub reads_label : (r : Option (List ℕ)) (text : List ℕ) → IsSome r ↔ IsLabel text → IfSome r (λ name. name ≡ text) → r ≡ label_field text
 reads_label (Some name) text some is = ap (λ l. Some l) is ∙ sym (label_of-is text (some.0 refl))
-reads_label None text some is = sym (by (label_of text) refl)
+reads_label None text some is = sym (by (label_field text) refl)
   where
-    by : (o : Option (List ℕ)) → label_of text ≡ o → o ≡ None
+    by : (o : Option (List ℕ)) → label_field text ≡ o → o ≡ None
     by None e = refl
     by (Some name) e =
         let found = label_of-some text name e in
@@ -79,10 +79,10 @@ hex_of-some digits bytes e = by (nat_lt 0 (length digits)) refl e
     by false is e = cc e
 
 -- the bytes of digits that are all right
-pub hex_of-digits : (digits : List ℕ) → 0 < length digits → length digits % 2 ≡ 0 → AllPass is_hex_digit digits → hex_of digits ≡ Some (bytes_of digits)
+pub hex_of-digits : (digits : List ℕ) → 0 < length digits → length digits % 2 ≡ 0 → AllPass is_hex_digit digits → hex_of digits ≡ Some (decoded_bytes digits)
 hex_of-digits digits some even all =
     let found = decode_of-digits digits even all in
-    hex_of-is digits (bytes_of digits) (some, rw found.1 refl)
+    hex_of-is digits (decoded_bytes digits) (some, rw found.1 refl)
 
 no_hex : (digits : List ℕ) → ((bytes : List ℕ) → ¬ IsHexOf digits bytes) → hex_of digits ≡ None
 no_hex digits never = by (hex_of digits) refl
@@ -102,10 +102,10 @@ hex_of-other digits other = no_hex digits (λ bytes is. other (decode_of-ok digi
 
 -- the bytes by what a test of the digits says
 pub hex_of-tested : (digits : List ℕ) (r : Bool) → 0 < length digits → length digits % 2 ≡ 0 → IsTrue r ↔ AllPass is_hex_digit digits
-    → hex_of digits ≡ cond r (Some (bytes_of digits)) None
+    → hex_of digits ≡ cond r (Some (decoded_bytes digits)) None
 hex_of-tested digits true some even tested = hex_of-digits digits some even (tested.0 refl)
 hex_of-tested digits false some even tested = hex_of-other digits (λ all. false≢true (tested.1 all))
 
 -- the bytes that digits were decoded to
-pub bytes_of-decoded : (digits bytes : List ℕ) → decode_of digits ≡ Ok bytes → bytes_of digits ≡ bytes
+pub bytes_of-decoded : (digits bytes : List ℕ) → decode_of digits ≡ Ok bytes → decoded_bytes digits ≡ bytes
 bytes_of-decoded digits bytes e = rw e refl

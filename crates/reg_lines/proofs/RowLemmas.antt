@@ -12,7 +12,7 @@ use Rattle.csv.specs.declared.parser.State.{State}
 use Rattle.csv.specs.declared.parser.State.TheVariants as st
 use Rattle.csv.specs.declared.reader.Reader.{Reader}
 use Rattle.csv.proofs.ReadFacts.{rows-end, rows-more}
-use Rattle.reg_wire.specs.Run.{Answered}
+use Rattle.reg_wire.specs.RunsOfAnswers.{Answered}
 use Rattle.reg_wire.specs.declared.put.WriteFault.{WriteFault}
 use Rattle.reg_wire.proofs.PublicLaws.{answered_push}
 use Rattle.reg_lines.proofs.Pieces.{concat_push}
@@ -22,7 +22,7 @@ use Rattle.reg_lines.specs.Accepted.{IsAccepted}
 use Rattle.reg_lines.specs.Answer.{Answer}
 use Rattle.reg_lines.specs.Import.{ImportEnds, Row, RowReplies, TookAll, RowsEnd, TextRead, TookRow, data_rows, is_header}
 use Rattle.reg_lines.specs.Meaning.{Meaning}
-use Rattle.reg_lines.specs.Reading.{four, four_at}
+use Rattle.reg_lines.specs.LineReading.{four, four_at}
 use Rattle.reg_lines.specs.Strict.{EndsBehind, StrictEnds, StrictRan, ended_part}
 use Rattle.reg_lines.specs.declared.strict.Imported.{Imported}
 use Rattle.reg_lines.specs.declared.strict.Imported.TheVariants as imported

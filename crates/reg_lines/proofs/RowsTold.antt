@@ -10,7 +10,7 @@ use Rattle.std.specs.Result.{result_map_both}
 use Rattle.reg_core.specs.declared.refusal.Fault.{Fault}
 use Rattle.reg_core.specs.declared.refusal.Fault.TheVariants.{Refused, Memory, Store, Signer, Read, Write}
 use Rattle.reg_lines.specs.Import.{Row, TextRead, TookAll, data_rows, is_header}
-use Rattle.reg_lines.specs.Reading.{four}
+use Rattle.reg_lines.specs.LineReading.{four}
 use Rattle.reg_lines.specs.Told.{TellsRows, ToldEnds, row_line, rows_told, told_at}
 use Rattle.reg_lines.proofs.RowLemmas.{data_push, header_first}
 

@@ -6,32 +6,32 @@ use Rattle.hex.specs.declared.error.FromHexError.{FromHexError}
 use Rattle.hex.proofs.HexLemmas.{decode_of-ok}
 use Rattle.reg_wire.specs.declared.put.WriteFault.{WriteFault}
 use Rattle.reg_lines.specs.Answer.{Answer}
-use Rattle.reg_lines.specs.Meaning.{Meaning, tells, asks, asks_ocsp, bytes_of, IsHexOf, LineMeans, meaning_of}
-use Rattle.reg_lines.specs.Steps.{RanLine, RanSaid}
+use Rattle.reg_lines.specs.Meaning.{Meaning, tells, asks, asks_ocsp, decoded_bytes, IsHexOf, LineMeans, meaning_of}
+use Rattle.reg_lines.specs.ScriptSteps.{RanLine, RanSaid}
 use Rattle.reg_lines.specs.declared.line.Line.{Line}
 use Rattle.reg_lines.specs.declared.line.Line.TheVariants as line
 use Rattle.reg_lines.proofs.Readings.{bytes_of-decoded}
 
 -- digits whose bytes some digits write are right themselves
-hex_back : (digits other : List ℕ) → IsHexOf other (bytes_of digits) → IsHexOf digits (bytes_of digits)
+hex_back : (digits other : List ℕ) → IsHexOf other (decoded_bytes digits) → IsHexOf digits (decoded_bytes digits)
 hex_back digits other is = by (decode_of digits) refl
   where
-    by : (r : Result (List ℕ) FromHexError) → decode_of digits ≡ r → IsHexOf digits (bytes_of digits)
+    by : (r : Result (List ℕ) FromHexError) → decode_of digits ≡ r → IsHexOf digits (decoded_bytes digits)
     by (Ok bytes) e =
         let same = bytes_of-decoded digits bytes e in
         let mine = decode_of-ok digits bytes e in
-        let its = decode_of-ok other (bytes_of digits) is.1 in
+        let its = decode_of-ok other (decoded_bytes digits) is.1 in
         let some : 0 < length other = is.0 in
-        let twice : length other ≡ 2 * length (bytes_of digits) = its.2 in
-        let equal : length (bytes_of digits) ≡ length bytes = ap length same in
+        let twice : length other ≡ 2 * length (decoded_bytes digits) = its.2 in
+        let equal : length (decoded_bytes digits) ≡ length bytes = ap length same in
         let own : length digits ≡ 2 * length bytes = mine.2 in
         (omega arith, e ∙ ap (λ l. Ok l) (sym same))
     by (Err why) e =
-        let none : bytes_of digits ≡ [] = rw e refl in
-        let its = decode_of-ok other (bytes_of digits) is.1 in
+        let none : decoded_bytes digits ≡ [] = rw e refl in
+        let its = decode_of-ok other (decoded_bytes digits) is.1 in
         let some : 0 < length other = is.0 in
-        let twice : length other ≡ 2 * length (bytes_of digits) = its.2 in
-        let equal : length (bytes_of digits) ≡ 0 = ap length none in
+        let twice : length other ≡ 2 * length (decoded_bytes digits) = its.2 in
+        let equal : length (decoded_bytes digits) ≡ 0 = ap length none in
         absurd (omega arith)
 
 -- what a line says ran, so the line ran
@@ -42,8 +42,8 @@ said_ran answers s t text (line.Tell now command) out out' result means (reply, 
 said_ran answers s t text (line.Ask now query) out out' result means (reply, wrote, answer, step, told) =
     record { reply = reply; replied = inl (asks now query, answer, means, step, told); wrote = wrote }
 said_ran answers s t text (line.Ocsp now digits) out out' result means (reply, wrote, either) =
-    let right : IsHexOf digits.now (bytes_of digits.now) = hex_back digits.now means.2.0 means.2.2 in
+    let right : IsHexOf digits.now (decoded_bytes digits.now) = hex_back digits.now means.2.0 means.2.2 in
     elim (either right) [
-      | inl (answer, step, told) ↦ record { reply = reply; replied = inl (asks_ocsp now (bytes_of digits.now), answer, means, step, told); wrote = wrote }
-      | inr (told, same) ↦ record { reply = reply; replied = inr (inl (now, bytes_of digits.now, means, told, same)); wrote = wrote }
+      | inl (answer, step, told) ↦ record { reply = reply; replied = inl (asks_ocsp now (decoded_bytes digits.now), answer, means, step, told); wrote = wrote }
+      | inr (told, same) ↦ record { reply = reply; replied = inr (inl (now, decoded_bytes digits.now, means, told, same)); wrote = wrote }
     ]

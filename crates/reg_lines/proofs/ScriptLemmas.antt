@@ -9,13 +9,13 @@ use Rattle.std.proofs.KnownBytes.{Appends-nil, Appends-trans, Consumes-nil, Cons
 use Rattle.std.proofs.lemmas.Bool.{cases_lt, ne_eqb}
 use Rattle.std.proofs.lemmas.List.{map-append}
 use Rattle.std.proofs.lemmas.List.Elements.{All-head, All-nil, All-tail}
-use Rattle.reg_wire.specs.Run.{Answered}
+use Rattle.reg_wire.specs.RunsOfAnswers.{Answered}
 use Rattle.reg_wire.proofs.PublicLaws.{answered_push}
 use Rattle.reg_lines.proofs.Pieces.{concat_push}
 use Rattle.reg_lines.specs.Answer.{Answer, Replies}
 use Rattle.reg_lines.specs.Meaning.{Meaning}
-use Rattle.reg_lines.specs.Script.{AreShort, Finished, HasNoLf, InputFails, IsShort, IsWhole, RanFirst, ScriptEnds, StoppedAtRead, StoppedAtWrite, line_of, longest_line, pieces}
-use Rattle.reg_lines.specs.Steps.{EndOrMore, RunEnds, StepEnds, RanLast, RanWhole, ReadsNoLine, WritesPart}
+use Rattle.reg_lines.specs.Script.{AreShort, Finished, HasNoLf, InputFails, IsShort, IsWholeLine, RanFirst, ScriptEnds, StoppedAtRead, StoppedAtWrite, line_of, longest_line, pieces}
+use Rattle.reg_lines.specs.ScriptSteps.{EndOrMore, RunEnds, StepEnds, RanLast, RanWhole, ReadsNoLine, WritesPart}
 use Rattle.reg_lines.proofs.StepLemmas.{line_free, strip_free}
 
 abbrev no_lf : ℕ → Type 0
@@ -29,7 +29,7 @@ cut_whole [] rest free = refl
 cut_whole (byte ∷ front) rest free =
     rw (ne_eqb byte 10 (All-head no_lf byte front free), cut_whole front rest (All-tail no_lf byte front free)) refl
 
-pub pieces_whole : (piece rest : List ℕ) → IsWhole piece → pieces (piece ++ rest) ≡ piece ∷ pieces rest
+pub pieces_whole : (piece rest : List ℕ) → IsWholeLine piece → pieces (piece ++ rest) ≡ piece ∷ pieces rest
 pieces_whole piece rest (front, is, free) = rw is (cut_whole front rest free)
 
 pub pieces_free : (bytes : List ℕ) → HasNoLf bytes → 0 < length bytes → pieces bytes ≡ bytes ∷ []
@@ -45,9 +45,9 @@ pieces_none = refl
 
 abbrev pub AreWhole : List (List ℕ) → Type 0
 AreWhole [] = Unit {0}
-AreWhole (piece ∷ rest) = IsWhole piece × AreWhole rest
+AreWhole (piece ∷ rest) = IsWholeLine piece × AreWhole rest
 
-whole_push : (done : List (List ℕ)) (piece : List ℕ) → AreWhole done → IsWhole piece → AreWhole (done ++ piece ∷ [])
+whole_push : (done : List (List ℕ)) (piece : List ℕ) → AreWhole done → IsWholeLine piece → AreWhole (done ++ piece ∷ [])
 whole_push [] piece all one = (one, tt)
 whole_push (first ∷ rest) piece all one = (all.0, whole_push rest piece all.1 one)
 
@@ -158,14 +158,14 @@ stopped_read answers s m t input between left out middle out' held count g most 
 
 -- the next line of what is left
 next_of : (left piece rest : List ℕ) (input' : Option (List ℕ)) → left ≡ piece ++ rest
-    → IsWhole piece ⊎ (HasNoLf piece × (0 < length piece) × (rest ≡ []) × IsAtEnd input') → pieces left ≡ piece ∷ pieces rest
+    → IsWholeLine piece ⊎ (HasNoLf piece × (0 < length piece) × (rest ≡ []) × IsAtEnd input') → pieces left ≡ piece ∷ pieces rest
 next_of left piece rest input' cut (inl whole) = ap pieces cut ∙ pieces_whole piece rest whole
 next_of left piece rest input' cut (inr (free, some, none, at_end)) =
     let alone : left ≡ piece = cut ∙ ap (λ l. piece ++ l) none ∙ append-nil piece in
     ap pieces alone ∙ pieces_free piece free some ∙ ap (λ l. piece ∷ l) (sym pieces_none ∙ ap pieces (sym none))
 
-ends_of : (piece rest : List ℕ) (input' : Option (List ℕ)) → IsWhole piece ⊎ (HasNoLf piece × (0 < length piece) × (rest ≡ []) × IsAtEnd input')
-    → IsWhole piece ⊎ ((rest ≡ []) × IsAtEnd input')
+ends_of : (piece rest : List ℕ) (input' : Option (List ℕ)) → IsWholeLine piece ⊎ (HasNoLf piece × (0 < length piece) × (rest ≡ []) × IsAtEnd input')
+    → IsWholeLine piece ⊎ ((rest ≡ []) × IsAtEnd input')
 ends_of piece rest input' (inl whole) = inl whole
 ends_of piece rest input' (inr (free, some, none, at_end)) = inr (none, at_end)
 

@@ -10,8 +10,8 @@ use Rattle.reg_wire.specs.declared.fill.Reached.TheVariants.{Mark, Full, End}
 use Rattle.reg_wire.proofs.PublicLaws.{byte_first, no_byte, cut_at_mark, held_now}
 use Rattle.reg_lines.specs.Answer.{Answer, Replies}
 use Rattle.reg_lines.specs.Meaning.{Meaning}
-use Rattle.reg_lines.specs.Script.{HasNoLf, IsShort, IsWhole, line_of}
-use Rattle.reg_lines.specs.Steps.{RanLast, RanWhole, ReadsNoLine, WritesPart}
+use Rattle.reg_lines.specs.Script.{HasNoLf, IsShort, IsWholeLine, line_of}
+use Rattle.reg_lines.specs.ScriptSteps.{RanLast, RanWhole, ReadsNoLine, WritesPart}
 use Rattle.reg_lines.proofs.Pieces.{turned}
 
 -- ---- lines
@@ -43,13 +43,13 @@ pub strip_free : (piece : List ℕ) → HasNoLf piece → strip_last 10 piece �
 strip_free piece free = rw (ends_free piece free) refl
 
 -- a whole line with its LF is one byte longer than what is before it
-pub whole_short : (piece : List ℕ) → IsWhole piece → length piece ≤ 8193 → IsShort piece
+pub whole_short : (piece : List ℕ) → IsWholeLine piece → length piece ≤ 8193 → IsShort piece
 whole_short piece (front, is, free) fits =
     let size : length piece ≡ length front + 1 = ap length is ∙ length-append front (10 ∷ []) in
     let stripped : length (strip_last 10 piece) ≡ length front = ap (λ l. length (strip_last 10 l)) is ∙ ap length (strip_push front 10) in
     omega arith
 
-pub whole_some : (piece : List ℕ) → IsWhole piece → 0 < length piece
+pub whole_some : (piece : List ℕ) → IsWholeLine piece → 0 < length piece
 whole_some piece (front, is, free) =
     let size : length piece ≡ length front + 1 = ap length is ∙ length-append front (10 ∷ []) in
     omega arith
@@ -57,7 +57,7 @@ whole_some piece (front, is, free) =
 -- ---- at a mark
 
 pub whole_at : (input left : Option (List ℕ)) (before after : List ℕ) (held end now : ℕ)
-    → FillsTo (10 ∷ []) input left before after held (Mark end now) → IsWhole (take end after)
+    → FillsTo (10 ∷ []) input left before after held (Mark end now) → IsWholeLine (take end after)
 whole_at input left before after held end now to = byte_first 10 after end to.rests.1
 
 now_fits : (input left : Option (List ℕ)) (before after : List ℕ) (held end now : ℕ)

@@ -19,14 +19,14 @@ abbrev pub TellsMemory : List ℕ → Type 0
 TellsMemory reply = reply ≡ with_lf (outcome_line (Err Memory))
 
 -- the reply tells this answer; where the memory for a response's digits is not there, it tells of that
-abbrev pub Tells : Answer → List ℕ → Type 0
-Tells (came_to outcome) reply = reply ≡ with_lf (outcome_line outcome)
-Tells (responded (Ok bytes)) reply = (reply ≡ with_lf (codes "ocsp " ++ encode_lower bytes)) ⊎ TellsMemory reply
-Tells (responded (Err memory)) reply = TellsMemory reply
+abbrev pub TellsAnswer : Answer → List ℕ → Type 0
+TellsAnswer (came_to outcome) reply = reply ≡ with_lf (outcome_line outcome)
+TellsAnswer (responded (Ok bytes)) reply = (reply ≡ with_lf (codes "ocsp " ++ encode_lower bytes)) ⊎ TellsMemory reply
+TellsAnswer (responded (Err memory)) reply = TellsMemory reply
 
 -- the office is asked what the line means, and the reply tells its answer
 abbrev pub LineIsAnswered : {S : Type 0} → (S → Meaning → Answer → S → Type 0) → S → List ℕ → List ℕ → S → Type 0
-LineIsAnswered answers s line reply t = (meaning : Meaning) × (answer : Answer) × LineMeans line meaning × answers s meaning answer t × Tells answer reply
+LineIsAnswered answers s line reply t = (meaning : Meaning) × (answer : Answer) × LineMeans line meaning × answers s meaning answer t × TellsAnswer answer reply
 
 -- the line is an OCSP request, whose bytes there is no memory for, and the office is not asked
 abbrev pub IsTooMuch : {S : Type 0} → S → List ℕ → List ℕ → S → Type 0

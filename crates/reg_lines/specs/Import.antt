@@ -15,12 +15,12 @@ use Rattle.reg_core.specs.declared.refusal.Fault.{Fault}
 use Rattle.reg_core.specs.declared.refusal.Fault.TheVariants.{Refused, Memory, Store, Signer, Read, Write}
 use Rattle.reg_core.specs.declared.refusal.Refusal.TheVariants.{Syntax}
 use Rattle.reg_wire.specs.Put.{AppendsFront}
-use Rattle.reg_wire.specs.Run.{Answered}
+use Rattle.reg_wire.specs.RunsOfAnswers.{Answered}
 use Rattle.reg_wire.specs.declared.put.WriteFault.{WriteFault}
 use Rattle.reg_lines.specs.Accepted.{EndsRefused, GoesOn, IsAccepted}
 use Rattle.reg_lines.specs.Answer.{Answer, came_to}
 use Rattle.reg_lines.specs.Meaning.{Meaning, tells, SpellsCommand}
-use Rattle.reg_lines.specs.Reading.{four}
+use Rattle.reg_lines.specs.LineReading.{four}
 use Rattle.reg_lines.specs.Replies.{outcome_line, with_lf}
 
 -- the most bytes of an import
@@ -32,8 +32,8 @@ abbrev pub Row : Type 0
 Row = List (List ℕ)
 
 -- these are all the rows of a text (RFC 4180), as csv reads them: a byte order mark in front is passed over, a line with nothing in it is no row
-abbrev pub AreRows : List ℕ → List Row → Type 0
-AreRows text rows = AreRecords default_config st.StartRecord (strip_bom text) rows
+abbrev pub AreCsvRows : List ℕ → List Row → Type 0
+AreCsvRows text rows = AreRecords default_config st.StartRecord (strip_bom text) rows
 
 -- these are its first rows
 abbrev pub AreFirstRows : List ℕ → List Row → Type 0
@@ -68,7 +68,7 @@ RowReplies answers now s row reply t =
 pub record AllRan {S : Type 0} (answers : S → Meaning → Answer → S → Type 0) (now : ℕ) (s t : S) (out out' : Option (List ℕ)) (text : List ℕ) : Type 0 where
   pub rows : List Row
   pub replies : List (List ℕ)
-  pub all : AreRows text rows
+  pub all : AreCsvRows text rows
   pub answered : Answered (RowReplies answers now) s (data_rows rows) replies t
   pub wrote : Appends out out' (concat replies)
 

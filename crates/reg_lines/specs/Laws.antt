@@ -4,7 +4,7 @@ use Rattle.reg_core.specs.declared.command.Command.{Command}
 use Rattle.reg_core.specs.declared.command.Command.TheVariants.{Register}
 use Rattle.reg_lines.specs.Import.{Row, RowMeans}
 use Rattle.reg_lines.specs.Meaning.{SpellsRegister}
-use Rattle.reg_lines.specs.Reading.{register_of}
+use Rattle.reg_lines.specs.LineReading.{register_of}
 
 -- fields that spell a registration are read as it
 abbrev pub RegistrationsAreRead : Type 0

@@ -4,10 +4,10 @@ pub mod ByCalls
 pub mod Fields
 pub mod Import
 pub mod Laws
+pub mod LineReading
 pub mod Meaning
-pub mod Reading
 pub mod Replies
 pub mod Script
-pub mod Steps
+pub mod ScriptSteps
 pub mod Strict
 pub mod Told

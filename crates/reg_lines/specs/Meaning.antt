@@ -74,11 +74,11 @@ abbrev pub OneMeaning : Type 0
 OneMeaning = (text : List ℕ) (a b : Meaning) → LineMeans text a → LineMeans text b → a ≡ b
 
 -- the bytes that hexadecimal digits write, or none where they write none
-abbrev pub bytes_of : List ℕ → List ℕ
-bytes_of digits = unwrap_or (result_ok (decode_of digits)) []
+abbrev pub decoded_bytes : List ℕ → List ℕ
+decoded_bytes digits = unwrap_or (result_ok (decode_of digits)) []
 
 -- the meaning that a line's reading stands for
 abbrev pub meaning_of : Line → Meaning
 meaning_of (line.Tell now command) = tells now command
 meaning_of (line.Ask now query) = asks now query
-meaning_of (line.Ocsp now digits) = asks_ocsp now (bytes_of digits.now)
+meaning_of (line.Ocsp now digits) = asks_ocsp now (decoded_bytes digits.now)

@@ -12,11 +12,11 @@ use Rattle.reg_core.specs.declared.command.Listing.{Listing}
 use Rattle.reg_core.specs.declared.command.Overdue.{Overdue}
 
 -- the line of a status
-unfoldable pub status_line : Status → List ℕ
-status_line Unknown = codes "unknown"
-status_line Good = codes "good"
-status_line Expired = codes "expired"
-status_line (Revoked at reason) = codes "revoked " ++ moment_text at ++ codes " reason " ++ decimal reason
+unfoldable pub line_of_status : Status → List ℕ
+line_of_status Unknown = codes "unknown"
+line_of_status Good = codes "good"
+line_of_status Expired = codes "expired"
+line_of_status (Revoked at reason) = codes "revoked " ++ moment_text at ++ codes " reason " ++ decimal reason
 
 -- the line of the three counts
 unfoldable pub counts_line : Counts → List ℕ
@@ -52,7 +52,7 @@ reply_line (reply.Request id due) = codes "request " ++ decimal id ++ codes " du
 reply_line reply.Declined = codes "declined"
 reply_line (reply.Revoked late) = if late then codes "revoked late" else codes "revoked"
 reply_line (reply.Crl number entries) = codes "crl " ++ decimal number ++ codes " entries " ++ decimal entries
-reply_line (reply.Status status) = status_line status
+reply_line (reply.Status status) = line_of_status status
 reply_line (reply.Counts counts) = counts_line counts
 reply_line (reply.Listing listing) = listing_line listing
 reply_line (reply.Overdue overdue) = overdue_line overdue

@@ -6,7 +6,7 @@ use Rattle.std.specs.Io.KnownBytes.{Appends, Consumes, IsAtEnd}
 use Rattle.std.specs.List.{All, concat}
 use Rattle.reg_core.specs.declared.refusal.Fault.{Fault}
 use Rattle.reg_core.specs.declared.refusal.Fault.TheVariants.{Refused, Memory, Store, Signer, Read, Write}
-use Rattle.reg_wire.specs.Run.{Answered}
+use Rattle.reg_wire.specs.RunsOfAnswers.{Answered}
 use Rattle.reg_lines.specs.Answer.{Answer, Replies}
 use Rattle.reg_lines.specs.Fields.{in_front}
 use Rattle.reg_lines.specs.Meaning.{Meaning}
@@ -42,8 +42,8 @@ abbrev pub HasNoLf : List ℕ → Type 0
 HasNoLf bytes = All (λ byte. byte ≢ 10) bytes
 
 -- some bytes and then LF
-abbrev pub IsWhole : List ℕ → Type 0
-IsWhole piece = (front : List ℕ) × (piece ≡ front ++ 10 ∷ []) × HasNoLf front
+abbrev pub IsWholeLine : List ℕ → Type 0
+IsWholeLine piece = (front : List ℕ) × (piece ≡ front ++ 10 ∷ []) × HasNoLf front
 
 -- Of the bytes that were taken these lines ran, in turn, and these bytes are left: however the input goes on, the lines that ran
 -- are its first ones, and those of what is left come after them.
@@ -100,7 +100,7 @@ pub record StoppedAtWrite {S : Type 0} (answers : S → Meaning → Answer → S
   pub ran : RanFirst answers s took done replies left middle
   pub few : length done < most_lines
   pub next : pieces left ≡ piece ∷ pieces rest
-  pub ends : IsWhole piece ⊎ ((rest ≡ []) × IsAtEnd input')
+  pub ends : IsWholeLine piece ⊎ ((rest ≡ []) × IsAtEnd input')
   pub short : IsShort piece
   pub answered : Replies answers middle (line_of piece) reply t
   pub partly : part < length reply

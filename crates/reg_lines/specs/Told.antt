@@ -3,8 +3,8 @@ use Rattle.std.specs.Prelude.{◌≡◌, ◌⊎◌, ℕ, Bool, ◌&&◌, List, [
 use Rattle.std.specs.List.{concat}
 use Rattle.reg_core.specs.declared.refusal.Fault.{Fault}
 use Rattle.reg_core.specs.declared.refusal.Fault.TheVariants.{Refused, Memory, Store, Signer, Read, Write}
-use Rattle.reg_lines.specs.Import.{AreRows, Row, TookAll, TookSome, data_rows, is_header}
-use Rattle.reg_lines.specs.Reading.{four, register_by}
+use Rattle.reg_lines.specs.Import.{AreCsvRows, Row, TookAll, TookSome, data_rows, is_header}
+use Rattle.reg_lines.specs.LineReading.{four, register_by}
 
 -- the fields of a row, a space before each (the byte 32), where they spell a registration; else nothing
 abbrev pub fields_told : Option (List ℕ × List ℕ × List ℕ × List ℕ) → List ℕ
@@ -22,7 +22,7 @@ rows_told rows = concat (map (λ row. row_line (four row)) rows)
 
 -- these bytes are the lines of all rows of a text, in turn, but for a header
 abbrev pub TellsRows : List ℕ → List ℕ → Type 0
-TellsRows text lines = (rows : List Row) × AreRows text rows × (lines ≡ rows_told (data_rows rows))
+TellsRows text lines = (rows : List Row) × AreCsvRows text rows × (lines ≡ rows_told (data_rows rows))
 
 -- what a row adds to the lines, as the first one or as another
 abbrev pub told_at : Bool → Row → List ℕ

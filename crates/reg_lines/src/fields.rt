@@ -2,7 +2,7 @@
 
 ghost use Rattle.std.specs.Prelude.{◌≡◌, ◌+◌, ◌<◌, ◌≤◌, [], ◌∷◌, IsTrue, ◌↔◌, MatchOption, option_map, position, ◌==◌};
 ghost use Rattle.reg_lines.specs.Fields.{fields_of};
-ghost use Rattle.reg_lines.specs.Reading.{one, two, four};
+ghost use Rattle.reg_lines.specs.LineReading.{one, two, four};
 
 use std::marker::Model;
 

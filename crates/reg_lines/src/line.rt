@@ -5,8 +5,8 @@ ghost use Rattle.std.specs.List.{AllPass};
 ghost use Rattle.hex.specs.Hex.{is_hex_digit};
 ghost use Rattle.reg_core.specs.Calendar.{moment_of};
 ghost use Rattle.reg_lines.specs.Fields.{fields_of};
-ghost use Rattle.reg_lines.specs.Meaning.{Meaning, IsUnreadable, LineMeans, OneMeaning, meaning_of, bytes_of, tells, asks, asks_ocsp};
-ghost use Rattle.reg_lines.specs.Reading.{label_of, subscriber_of, order_of, register_by, register_of, request_of, decline_of, revoke_of, status_of, listing_of, hex_of, ocsp_of, alone, asked_by, revoking_by, said_by, said_of};
+ghost use Rattle.reg_lines.specs.Meaning.{Meaning, IsUnreadable, LineMeans, OneMeaning, meaning_of, decoded_bytes, tells, asks, asks_ocsp};
+ghost use Rattle.reg_lines.specs.LineReading.{label_field, subscriber_of, order_of, register_by, register_of, request_of, decline_of, revoke_of, status_of, listing_of, hex_of, ocsp_of, alone, asked_by, revoking_by, said_by, said_of};
 
 use crate::fields::{Fields, four, one, two};
 use reg_core::{Command, Label, Moment, Query, Serial, read_number};
@@ -34,7 +34,7 @@ pub fn read_line(line: &[u8]) -> Option<Line<'_>>
 }
 
 /// Reads the fields of a line.
-#[tactic(auto, unfolding(crate::specs::Reading::said_of))]
+#[tactic(auto, unfolding(crate::specs::LineReading::said_of))]
 fn read_fields(mut fields: Fields<'_>) -> Option<Line<'_>>
     ensures { option_map meaning_of result ≡ said_of fields.entry }
 {
@@ -45,7 +45,7 @@ fn read_fields(mut fields: Fields<'_>) -> Option<Line<'_>>
 }
 
 /// Reads what is said at a moment, by a word and the fields after it: a registration's word, or one of those below.
-#[tactic(auto, unfolding(crate::specs::Reading::said_by))]
+#[tactic(auto, unfolding(crate::specs::LineReading::said_by))]
 fn read_said<'a>(now: Moment, word: &[u8], fields: Fields<'a>) -> Option<Line<'a>>
     ensures { option_map meaning_of result ≡ said_by now word.now fields.entry }
 {
@@ -61,7 +61,7 @@ fn read_said<'a>(now: Moment, word: &[u8], fields: Fields<'a>) -> Option<Line<'a
 }
 
 /// Reads what a word says of a revocation or a CRL at a moment; any other asks.
-#[tactic(auto, unfolding(crate::specs::Reading::revoking_by))]
+#[tactic(auto, unfolding(crate::specs::LineReading::revoking_by))]
 fn read_revoking<'a>(now: Moment, word: &[u8], fields: Fields<'a>) -> Option<Line<'a>>
     ensures { option_map meaning_of result ≡ revoking_by now word.now fields.entry }
 {
@@ -79,7 +79,7 @@ fn read_revoking<'a>(now: Moment, word: &[u8], fields: Fields<'a>) -> Option<Lin
 }
 
 /// Reads what a word asks at a moment; any other says nothing.
-#[tactic(auto, unfolding(crate::specs::Reading::asked_by))]
+#[tactic(auto, unfolding(crate::specs::LineReading::asked_by))]
 fn read_asked<'a>(now: Moment, word: &[u8], fields: Fields<'a>) -> Option<Line<'a>>
     ensures { option_map meaning_of result ≡ asked_by now word.now fields.entry }
 {
@@ -117,7 +117,7 @@ fn ask<'a>(now: Moment, query: Option<Query>) -> Option<Line<'a>>
 /// An OCSP request at its moment.
 fn ask_ocsp(now: Moment, digits: Option<&[u8]>) -> Option<Line<'_>>
     ensures { option_map meaning_of result
-        ≡ option_map (λ d. asks_ocsp now (bytes_of d.now)) digits.entry }
+        ≡ option_map (λ d. asks_ocsp now (decoded_bytes d.now)) digits.entry }
 {
     Some(Line::Ocsp(now, digits?))
 }
@@ -138,13 +138,13 @@ fn read_moment(text: &[u8]) -> Option<Moment>
 
 /// Reads a label.
 fn read_label(text: &[u8]) -> Option<Label>
-    ensures { result ≡ label_of text.now }
+    ensures { result ≡ label_field text.now }
 {
     Label::of(text)
 }
 
 /// The field of `subscriber`.
-#[tactic(auto, unfolding(crate::specs::Reading::subscriber_of))]
+#[tactic(auto, unfolding(crate::specs::LineReading::subscriber_of))]
 fn read_subscriber(fields: Fields<'_>) -> Option<Command>
     ensures { result ≡ subscriber_of fields.entry }
 {
@@ -153,7 +153,7 @@ fn read_subscriber(fields: Fields<'_>) -> Option<Command>
 }
 
 /// The fields of `order`.
-#[tactic(auto, unfolding(crate::specs::Reading::order_of))]
+#[tactic(auto, unfolding(crate::specs::LineReading::order_of))]
 fn read_order(fields: Fields<'_>) -> Option<Command>
     ensures { result ≡ order_of fields.entry }
 {
@@ -164,7 +164,7 @@ fn read_order(fields: Fields<'_>) -> Option<Command>
 }
 
 /// The fields of `register`.
-#[tactic(auto, unfolding(crate::specs::Reading::register_of))]
+#[tactic(auto, unfolding(crate::specs::LineReading::register_of))]
 fn read_register(fields: Fields<'_>) -> Option<Command>
     ensures { result ≡ register_of fields.entry }
 {
@@ -173,7 +173,7 @@ fn read_register(fields: Fields<'_>) -> Option<Command>
 }
 
 /// A registration by its four fields: those of a line, or of an imported row.
-#[tactic(auto, unfolding(crate::specs::Reading::register_by))]
+#[tactic(auto, unfolding(crate::specs::LineReading::register_by))]
 pub(crate) fn read_registration(
     order: &[u8],
     serial: &[u8],
@@ -195,7 +195,7 @@ pub(crate) fn read_registration(
 }
 
 /// The fields of `request`.
-#[tactic(auto, unfolding(crate::specs::Reading::request_of))]
+#[tactic(auto, unfolding(crate::specs::LineReading::request_of))]
 fn read_request(fields: Fields<'_>) -> Option<Command>
     ensures { result ≡ request_of fields.entry }
 {
@@ -206,7 +206,7 @@ fn read_request(fields: Fields<'_>) -> Option<Command>
 }
 
 /// The field of `decline`.
-#[tactic(auto, unfolding(crate::specs::Reading::decline_of))]
+#[tactic(auto, unfolding(crate::specs::LineReading::decline_of))]
 fn read_decline(fields: Fields<'_>) -> Option<Command>
     ensures { result ≡ decline_of fields.entry }
 {
@@ -215,7 +215,7 @@ fn read_decline(fields: Fields<'_>) -> Option<Command>
 }
 
 /// The field of `revoke`.
-#[tactic(auto, unfolding(crate::specs::Reading::revoke_of))]
+#[tactic(auto, unfolding(crate::specs::LineReading::revoke_of))]
 fn read_revoke(fields: Fields<'_>) -> Option<Command>
     ensures { result ≡ revoke_of fields.entry }
 {
@@ -224,7 +224,7 @@ fn read_revoke(fields: Fields<'_>) -> Option<Command>
 }
 
 /// The field of `status`.
-#[tactic(auto, unfolding(crate::specs::Reading::status_of))]
+#[tactic(auto, unfolding(crate::specs::LineReading::status_of))]
 fn read_status(fields: Fields<'_>) -> Option<Query>
     ensures { result ≡ status_of fields.entry }
 {
@@ -232,7 +232,7 @@ fn read_status(fields: Fields<'_>) -> Option<Query>
 }
 
 /// The field of `listing`.
-#[tactic(auto, unfolding(crate::specs::Reading::listing_of))]
+#[tactic(auto, unfolding(crate::specs::LineReading::listing_of))]
 fn read_listing(fields: Fields<'_>) -> Option<Query>
     ensures { result ≡ listing_of fields.entry }
 {
@@ -240,9 +240,9 @@ fn read_listing(fields: Fields<'_>) -> Option<Query>
 }
 
 /// The field of `ocsp`.
-#[tactic(auto, unfolding(crate::specs::Reading::ocsp_of))]
+#[tactic(auto, unfolding(crate::specs::LineReading::ocsp_of))]
 fn read_hex(fields: Fields<'_>) -> Option<&[u8]>
-    ensures { option_map (λ d. bytes_of d.now) result ≡ ocsp_of fields.entry }
+    ensures { option_map (λ d. decoded_bytes d.now) result ≡ ocsp_of fields.entry }
 {
     let digits = one(fields)?;
     if is_hex(digits) { Some(digits) } else { None }
@@ -250,7 +250,7 @@ fn read_hex(fields: Fields<'_>) -> Option<&[u8]>
 
 /// Whether a text is of hexadecimal digits, an even number of them and at least two.
 fn is_hex(digits: &[u8]) -> bool
-    ensures { hex_of digits.now ≡ cond result (Some (bytes_of digits.now)) None }
+    ensures { hex_of digits.now ≡ cond result (Some (decoded_bytes digits.now)) None }
 {
     if digits.is_empty() || digits.len() % 2 == 1 {
         return false;

@@ -3,7 +3,7 @@
 ghost use Rattle.std.specs.Prelude.{◌≡◌, ℕ, ◌+◌, ◌≤◌, ◌++◌, [], length};
 ghost use Rattle.std.specs.Fmt.{decimal};
 ghost use Rattle.reg_core.specs.Calendar.{moment_text};
-ghost use Rattle.reg_lines.specs.Replies.{status_line, counts_line, listing_line, overdue_line, next_crl_line, reply_line, outcome_line, with_lf};
+ghost use Rattle.reg_lines.specs.Replies.{line_of_status, counts_line, listing_line, overdue_line, next_crl_line, reply_line, outcome_line, with_lf};
 
 use reg_core::{Counts, Decimal, Listing, Moment, Outcome, Overdue, Reply, Status};
 use std::marker::Model;
@@ -117,9 +117,9 @@ fn reply_text(reply: &Reply) -> ReplyText
 }
 
 /// The line of a status.
-#[tactic(auto, unfolding(crate::specs::Replies::status_line))]
+#[tactic(auto, unfolding(crate::specs::Replies::line_of_status))]
 fn status_text(status: Status) -> ReplyText
-    ensures line { result ≡ status_line status }
+    ensures line { result ≡ line_of_status status }
     ensures short { length result ≤ 83 }
 {
     match status {

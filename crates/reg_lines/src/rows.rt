@@ -5,12 +5,12 @@ ghost use Rattle.std.specs.Result.{result_map_both};
 ghost use Rattle.csv.specs.Records.{fields_of};
 ghost use Rattle.reg_lines.specs.ByCalls.{ByCalls};
 ghost use Rattle.reg_lines.specs.Import.{ImportEnds, IsAtStart, RanRow, ReadsText, RowsEnd, TextRead, TookRow, is_header};
-ghost use Rattle.reg_lines.specs.Reading.{four, four_at, register_of};
+ghost use Rattle.reg_lines.specs.LineReading.{four, four_at, register_of};
 
 use crate::line::read_registration;
 use crate::run::write_reply;
 use csv::{ByteRecord, Reader, ReaderBuilder};
-use reg_calls::Calls;
+use reg_calls::OfficeCalls;
 use reg_core::{Command, Fault, Moment, Refusal};
 use reg_wire::WriteFault;
 use std::alloc::Global;
@@ -30,7 +30,7 @@ const PIECE: usize = 4096;
 /// [`Fault::Read`] at a read that fails and at more than 16,777,216 bytes: nothing ran. [`Fault::Write`] where the output
 /// fails in a reply, whose row ran. [`Fault::Memory`] where memory was refused for the text or for a row: the rows before
 /// it ran, and their replies were written.
-pub fn import<R: Read, W: Write, O: Calls>(
+pub fn import<R: Read, W: Write, O: OfficeCalls>(
     alloc: Global,
     reader: &mut R,
     writer: &mut W,
@@ -77,7 +77,7 @@ pub(crate) fn read_text<R: Read>(alloc: Global, reader: &mut R) -> Result<Vec<u8
 }
 
 /// Runs each row of a text; where it is strict, up to the first reply that is a refusal or a fault. Whether each row ran.
-pub(crate) fn run_rows<W: Write, O: Calls>(
+pub(crate) fn run_rows<W: Write, O: OfficeCalls>(
     alloc: Global,
     writer: &mut W,
     now: Moment,
@@ -96,7 +96,7 @@ pub(crate) fn run_rows<W: Write, O: Calls>(
 }
 
 /// Runs each row that a reader has, which read none yet: one after the other in one record.
-fn run_each<W: Write, O: Calls>(
+fn run_each<W: Write, O: OfficeCalls>(
     alloc: Global,
     writer: &mut W,
     now: Moment,
@@ -126,7 +126,7 @@ fn run_each<W: Write, O: Calls>(
 }
 
 /// Runs a row, if it is not the header, which only the first row can be. Whether the next one is run.
-fn take_row<W: Write, O: Calls>(
+fn take_row<W: Write, O: OfficeCalls>(
     alloc: Global,
     writer: &mut W,
     now: Moment,
@@ -145,7 +145,7 @@ fn take_row<W: Write, O: Calls>(
 }
 
 /// Runs a row and writes its reply. Whether the next one is run.
-fn run_row<W: Write, O: Calls>(
+fn run_row<W: Write, O: OfficeCalls>(
     alloc: Global,
     writer: &mut W,
     now: Moment,
@@ -181,7 +181,7 @@ pub(crate) fn is_header(row: &ByteRecord) -> bool
 }
 
 /// The registration that a row spells.
-#[tactic(auto, unfolding(crate::specs::Reading::register_of))]
+#[tactic(auto, unfolding(crate::specs::LineReading::register_of))]
 fn read_row(row: &ByteRecord) -> Option<Command>
     ensures { result ≡ register_of (fields_of row.now) }
 {

@@ -2,16 +2,16 @@
 
 ghost use Rattle.std.specs.Prelude.{◌≡◌, ℕ, List, ◌++◌, codes, Ok, IfOk};
 ghost use Rattle.hex.specs.Hex.{encode_lower};
-ghost use Rattle.reg_lines.specs.Answer.{Tells, responded};
+ghost use Rattle.reg_lines.specs.Answer.{TellsAnswer, responded};
 ghost use Rattle.reg_lines.specs.ByCalls.{ByCalls};
 ghost use Rattle.reg_lines.specs.Import.{Said};
 ghost use Rattle.reg_lines.specs.Replies.{with_lf, outcome_line};
-ghost use Rattle.reg_lines.specs.Steps.{RanLine, RanOcsp, RanSaid, Wrote};
+ghost use Rattle.reg_lines.specs.ScriptSteps.{RanLine, RanOcsp, RanSaid, Wrote};
 
 use crate::accepted::goes_on;
 use crate::line::{Line, read_line};
 use crate::reply::ReplyText;
-use reg_calls::Calls;
+use reg_calls::OfficeCalls;
 use reg_core::{Fault, Moment, Outcome, Refusal};
 use reg_wire::{WriteFault, write_whole};
 use std::alloc::{AllocError, Global};
@@ -22,7 +22,7 @@ use std::io::Write;
 /// # Errors
 ///
 /// [`WriteFault`] where the output failed: a front of the reply went out.
-pub(crate) fn run_line<W: Write, O: Calls>(
+pub(crate) fn run_line<W: Write, O: OfficeCalls>(
     alloc: Global,
     writer: &mut W,
     office: &mut O,
@@ -37,7 +37,7 @@ pub(crate) fn run_line<W: Write, O: Calls>(
 }
 
 /// Runs what a line says and writes the reply.
-fn run_said<W: Write, O: Calls>(
+fn run_said<W: Write, O: OfficeCalls>(
     alloc: Global,
     writer: &mut W,
     office: &mut O,
@@ -83,7 +83,7 @@ pub(crate) fn write_reply<W: Write>(
 }
 
 /// Answers an OCSP request, by its digits, and writes the reply.
-fn run_ocsp<W: Write, O: Calls>(
+fn run_ocsp<W: Write, O: OfficeCalls>(
     alloc: Global,
     writer: &mut W,
     office: &mut O,
@@ -107,7 +107,7 @@ fn write_response<W: Write>(
     writer: &mut W,
     response: &[u8],
 ) -> Result<(), WriteFault>
-    ensures { (reply : List ℕ) × Wrote (W.contents writer.old) (W.contents writer.new) reply result × Tells (responded (Ok response.now)) reply }
+    ensures { (reply : List ℕ) × Wrote (W.contents writer.old) (W.contents writer.new) reply result × TellsAnswer (responded (Ok response.now)) reply }
 {
     match response_text(alloc, response) {
         Ok(text) => write_whole(writer, &text),

@@ -4,11 +4,11 @@ ghost use Rattle.std.specs.Prelude.{◌≡◌, ℕ, ◌≤◌, ◌<◌, List, []
 ghost use Rattle.std.specs.Io.BufRead.{strip_last};
 ghost use Rattle.std.specs.Io.KnownBytes.{Consumes, IsAtEnd};
 ghost use Rattle.reg_lines.specs.ByCalls.{ByCalls};
-ghost use Rattle.reg_lines.specs.Script.{IsWhole, ScriptEnds, line_of};
-ghost use Rattle.reg_lines.specs.Steps.{EndOrMore, RunEnds, StepEnds};
+ghost use Rattle.reg_lines.specs.Script.{IsWholeLine, ScriptEnds, line_of};
+ghost use Rattle.reg_lines.specs.ScriptSteps.{EndOrMore, RunEnds, StepEnds};
 
 use crate::run::run_line;
-use reg_calls::Calls;
+use reg_calls::OfficeCalls;
 use reg_core::Fault;
 use reg_wire::{Reached, fill_to_mark};
 use std::alloc::Global;
@@ -29,7 +29,7 @@ pub const MOST_LINES: u64 = 1_000_000;
 /// [`Fault::Read`] at a read that fails, at a line of more than 8,192 bytes and at a line after the 1,000,000th: the lines
 /// before it ran, and their replies were written. [`Fault::Write`] where the output fails in a reply, whose line ran.
 /// [`Fault::Memory`] where there is no memory for one line: nothing ran, nothing was read and nothing was written.
-pub fn run_script<R: Read, W: Write, O: Calls>(
+pub fn run_script<R: Read, W: Write, O: OfficeCalls>(
     alloc: Global,
     reader: &mut R,
     writer: &mut W,
@@ -45,7 +45,7 @@ pub fn run_script<R: Read, W: Write, O: Calls>(
 }
 
 /// Runs each line of a script, with room for one line and one byte more.
-fn run_lines<R: Read, W: Write, O: Calls>(
+fn run_lines<R: Read, W: Write, O: OfficeCalls>(
     alloc: Global,
     reader: &mut R,
     writer: &mut W,
@@ -72,7 +72,7 @@ fn run_lines<R: Read, W: Write, O: Calls>(
 
 /// Runs the next line. `Some` tells how many bytes are held after it, at the front of the buffer; `None` that the input is
 /// at its end.
-fn run_next<R: Read, W: Write, O: Calls>(
+fn run_next<R: Read, W: Write, O: OfficeCalls>(
     alloc: Global,
     reader: &mut R,
     writer: &mut W,
@@ -108,7 +108,7 @@ fn run_next<R: Read, W: Write, O: Calls>(
 
 /// A line without its LF, and without one CR before it.
 fn without_end(piece: &[u8]) -> &[u8]
-    requires { IsWhole piece.now }
+    requires { IsWholeLine piece.now }
     ensures { result.now ≡ line_of piece.now }
 {
     without_cr(&piece[..piece.len() - 1])

@@ -5,7 +5,7 @@ ghost use Rattle.reg_lines.specs.ByCalls.{ByCalls};
 ghost use Rattle.reg_lines.specs.Strict.{EndsBehind, StrictEnds, StrictRan, ended_part, is_within};
 
 use crate::rows::{read_text, run_rows};
-use reg_calls::Calls;
+use reg_calls::OfficeCalls;
 use reg_core::{Fault, Moment};
 use std::alloc::Global;
 use std::io::{Read, Write};
@@ -27,7 +27,7 @@ pub enum Imported {
 /// # Errors
 ///
 /// As of [`crate::import`].
-pub fn import_strictly<R: Read, W: Write, O: Calls>(
+pub fn import_strictly<R: Read, W: Write, O: OfficeCalls>(
     alloc: Global,
     reader: &mut R,
     writer: &mut W,
@@ -44,7 +44,7 @@ pub fn import_strictly<R: Read, W: Write, O: Calls>(
 }
 
 /// Runs the rows of a text up to its last line end.
-fn run_ended<W: Write, O: Calls>(
+fn run_ended<W: Write, O: OfficeCalls>(
     alloc: Global,
     writer: &mut W,
     now: Moment,

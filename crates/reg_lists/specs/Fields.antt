@@ -19,8 +19,8 @@ use Rattle.reg_lists.specs.declared.rows.Row.{Row}
 use Rattle.reg_lists.specs.declared.rows.Row.TheVariants.{Certificate, Request, Subscriber, Order, Crl}
 
 -- a field: its name, and what stands there
-abbrev pub told : Field → List ℕ × Cell
-told field = (field.name.now, field.cell)
+abbrev pub told_field : Field → List ℕ × Cell
+told_field field = (field.name.now, field.cell)
 
 -- the word of a status
 abbrev pub status_word : Status → List ℕ
@@ -30,17 +30,17 @@ status_word Expired = codes "expired"
 status_word (Revoked at reason) = codes "revoked"
 
 -- the moment of revocation (RFC 5280 5.1.2.6), and its reasonCode (5.3.1)
-abbrev pub revoked_at : Status → Cell
-revoked_at (Revoked at reason) = At at
-revoked_at Unknown = Empty
-revoked_at Good = Empty
-revoked_at Expired = Empty
+abbrev pub revoked_at_cell : Status → Cell
+revoked_at_cell (Revoked at reason) = At at
+revoked_at_cell Unknown = Empty
+revoked_at_cell Good = Empty
+revoked_at_cell Expired = Empty
 
-abbrev pub reason_of : Status → Cell
-reason_of (Revoked at reason) = Number reason
-reason_of Unknown = Empty
-reason_of Good = Empty
-reason_of Expired = Empty
+abbrev pub reason_cell : Status → Cell
+reason_cell (Revoked at reason) = Number reason
+reason_cell Unknown = Empty
+reason_cell Good = Empty
+reason_cell Expired = Empty
 
 abbrev pub number_or_empty : Option ℕ → Cell
 number_or_empty None = Empty
@@ -55,9 +55,9 @@ abbrev pub first_listing : Option Listing → Cell
 first_listing None = Empty
 first_listing (Some listing) = Number listing.first
 
-abbrev pub last_listing : Option Listing → Cell
-last_listing None = Empty
-last_listing (Some listing) = number_or_empty listing.last
+abbrev pub last_listing_cell : Option Listing → Cell
+last_listing_cell None = Empty
+last_listing_cell (Some listing) = number_or_empty listing.last
 
 -- the word of a ground, as it is asked for
 abbrev pub ground_word : Ground → List ℕ
@@ -83,10 +83,10 @@ certificate_fields line =
     ∷ (codes "notBefore", At line.certificate.not_before)
     ∷ (codes "notAfter", At line.certificate.not_after)
     ∷ (codes "status", Text (status_word line.status))
-    ∷ (codes "revokedAt", revoked_at line.status)
-    ∷ (codes "reason", reason_of line.status)
+    ∷ (codes "revokedAt", revoked_at_cell line.status)
+    ∷ (codes "reason", reason_cell line.status)
     ∷ (codes "firstCrl", first_listing line.listing)
-    ∷ (codes "lastCrl", last_listing line.listing)
+    ∷ (codes "lastCrl", last_listing_cell line.listing)
     ∷ []
 
 abbrev pub request_fields : RequestLine → List (List ℕ × Cell)

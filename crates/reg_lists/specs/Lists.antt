@@ -22,8 +22,8 @@ use Rattle.reg_lists.specs.declared.rows.Row.TheVariants as kind
 -- ---- what is told of each record; none where the records have no order, subscriber or certificate for it, which sound ones do
 
 -- whose order it is
-abbrev pub subscriber_of : Records → ℕ → Option SubscriberRow
-subscriber_of records order = option_and_then (λ order. subscriber_in records.subscribers order.subscriber) (order_in records.orders order)
+abbrev pub subscriber_of_order : Records → ℕ → Option SubscriberRow
+subscriber_of_order records order = option_and_then (λ order. subscriber_in records.subscribers order.subscriber) (order_in records.orders order)
 
 -- the status of a registered certificate at a moment
 abbrev pub status_at : Records → ℕ → CertRow → Status
@@ -39,7 +39,7 @@ certificate_line records now certificate =
       status = status_at records now certificate;
       listing = listing records certificate.serial;
     })
-    (subscriber_of records certificate.order)
+    (subscriber_of_order records certificate.order)
 
 -- what is told of a request
 abbrev pub request_line : Records → RequestRow → Option RequestLine
@@ -47,7 +47,7 @@ request_line records request =
     option_and_then
     (λ certificate. option_map
     (λ subscriber. record { request = request; due = deadline request; certificate = certificate; subscriber = subscriber })
-    (subscriber_of records certificate.order))
+    (subscriber_of_order records certificate.order))
     (certificate_in records.certificates request.serial)
 
 -- what is told of an order

@@ -46,15 +46,15 @@ ArePages records now most (Some from) rows (first ∷ rest) =
     × ((others : List Row) × (rows ≡ first ++ others) × ArePages records now most (page records now most from).next others rest)
 
 -- what is given for a whole list as a text: all its rows from a key on, each once and in order
-abbrev pub IsListed : Records → ℕ → Form → Cursor → Result (List ℕ) Fault → Type 0
-IsListed records now form from (Ok text) = (first_of_all (clock_checks now records.last) ≡ None) × (text ≡ list_text form from (rows_from records now from))
-IsListed records now form from (Err (Refused refusal)) = first_of_all (clock_checks now records.last) ≡ Some refusal
-IsListed records now form from (Err Memory) = Unit {0}
-IsListed records now form from (Err Store) = Unit {0}
-IsListed records now form from (Err Signer) = ⊥
-IsListed records now form from (Err Read) = ⊥
-IsListed records now form from (Err Write) = ⊥
+abbrev pub IsWholeList : Records → ℕ → Form → Cursor → Result (List ℕ) Fault → Type 0
+IsWholeList records now form from (Ok text) = (first_of_all (clock_checks now records.last) ≡ None) × (text ≡ list_text form from (rows_from records now from))
+IsWholeList records now form from (Err (Refused refusal)) = first_of_all (clock_checks now records.last) ≡ Some refusal
+IsWholeList records now form from (Err Memory) = Unit {0}
+IsWholeList records now form from (Err Store) = Unit {0}
+IsWholeList records now form from (Err Signer) = ⊥
+IsWholeList records now form from (Err Read) = ⊥
+IsWholeList records now form from (Err Write) = ⊥
 
 -- the same of records that stay
-abbrev pub Lists : Records → ℕ → Form → Cursor → Result (List ℕ) Fault → Records → Type 0
-Lists before now form from given after = IsListed before now form from given × (after ≡ before)
+abbrev pub GivesWholeList : Records → ℕ → Form → Cursor → Result (List ℕ) Fault → Records → Type 0
+GivesWholeList before now form from given after = IsWholeList before now form from given × (after ≡ before)

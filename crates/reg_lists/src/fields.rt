@@ -1,7 +1,7 @@
 //! The fields of a row: the name of each, and what stands there.
 
 ghost use Rattle.std.specs.Prelude.{◌≡◌, ◌≤◌, IfOk, length, map};
-ghost use Rattle.reg_lists.specs.Fields.{certificate_fields, crl_fields, first_listing, ground_word, last_listing, order_fields, reason_of, request_fields, revoked_at, row_fields, serial_or_empty, status_word, subscriber_fields, told};
+ghost use Rattle.reg_lists.specs.Fields.{certificate_fields, crl_fields, first_listing, ground_word, last_listing_cell, order_fields, reason_cell, request_fields, revoked_at_cell, row_fields, serial_or_empty, status_word, subscriber_fields, told_field};
 
 use crate::rows::{CertificateLine, OrderLine, RequestLine, Row};
 use reg_core::{CrlRow, Ground, Label, Listing, Moment, Serial, Status, SubscriberRow};
@@ -28,7 +28,7 @@ pub(crate) struct Field {
 
 /// The fields of a row.
 pub(crate) fn fields_of(alloc: Global, row: &Row) -> Result<Vec<Field>, AllocError>
-    ensures { IfOk result (λ fields. map told fields.items ≡ row_fields row.now) }
+    ensures { IfOk result (λ fields. map told_field fields.items ≡ row_fields row.now) }
 {
     match row {
         Row::Certificate(line) => of_certificate(alloc, line),
@@ -40,7 +40,7 @@ pub(crate) fn fields_of(alloc: Global, row: &Row) -> Result<Vec<Field>, AllocErr
 }
 
 fn of_certificate(alloc: Global, line: &CertificateLine) -> Result<Vec<Field>, AllocError>
-    ensures { IfOk result (λ fields. map told fields.items ≡ certificate_fields line.now) }
+    ensures { IfOk result (λ fields. map told_field fields.items ≡ certificate_fields line.now) }
 {
     let certificate = &line.certificate;
     Vec::from_slice(
@@ -62,7 +62,7 @@ fn of_certificate(alloc: Global, line: &CertificateLine) -> Result<Vec<Field>, A
 }
 
 fn of_request(alloc: Global, line: &RequestLine) -> Result<Vec<Field>, AllocError>
-    ensures { IfOk result (λ fields. map told fields.items ≡ request_fields line.now) }
+    ensures { IfOk result (λ fields. map told_field fields.items ≡ request_fields line.now) }
 {
     let request = &line.request;
     Vec::from_slice(
@@ -83,7 +83,7 @@ fn of_request(alloc: Global, line: &RequestLine) -> Result<Vec<Field>, AllocErro
 }
 
 fn of_subscriber(alloc: Global, subscriber: &SubscriberRow) -> Result<Vec<Field>, AllocError>
-    ensures { IfOk result (λ fields. map told fields.items ≡ subscriber_fields subscriber.now) }
+    ensures { IfOk result (λ fields. map told_field fields.items ≡ subscriber_fields subscriber.now) }
 {
     Vec::from_slice(
         alloc,
@@ -95,7 +95,7 @@ fn of_subscriber(alloc: Global, subscriber: &SubscriberRow) -> Result<Vec<Field>
 }
 
 fn of_order(alloc: Global, line: &OrderLine) -> Result<Vec<Field>, AllocError>
-    ensures { IfOk result (λ fields. map told fields.items ≡ order_fields line.now) }
+    ensures { IfOk result (λ fields. map told_field fields.items ≡ order_fields line.now) }
 {
     Vec::from_slice(
         alloc,
@@ -110,7 +110,7 @@ fn of_order(alloc: Global, line: &OrderLine) -> Result<Vec<Field>, AllocError>
 }
 
 fn of_crl(alloc: Global, crl: &CrlRow) -> Result<Vec<Field>, AllocError>
-    ensures { IfOk result (λ fields. map told fields.items ≡ crl_fields crl.now) }
+    ensures { IfOk result (λ fields. map told_field fields.items ≡ crl_fields crl.now) }
 {
     Vec::from_slice(
         alloc,
@@ -123,7 +123,7 @@ fn of_crl(alloc: Global, crl: &CrlRow) -> Result<Vec<Field>, AllocError>
 
 /// A field with a name.
 fn named(name: &'static str, cell: Cell) -> Field
-    ensures { told result ≡ (name.now, cell) }
+    ensures { told_field result ≡ (name.now, cell) }
 {
     Field { name, cell }
 }
@@ -151,7 +151,7 @@ fn word_of(status: Status) -> Cell
 
 /// The moment of revocation.
 fn at_of(status: Status) -> Cell
-    ensures { result ≡ revoked_at status }
+    ensures { result ≡ revoked_at_cell status }
 {
     match status {
         Status::Revoked { at, reason: _ } => Cell::At(at),
@@ -161,7 +161,7 @@ fn at_of(status: Status) -> Cell
 
 /// The reasonCode of a revocation (RFC 5280 5.3.1).
 fn reason_in(status: Status) -> Cell
-    ensures { result ≡ reason_of status }
+    ensures { result ≡ reason_cell status }
 {
     match status {
         Status::Revoked { at: _, reason } => Cell::Number(u64::from(reason)),
@@ -181,7 +181,7 @@ fn first_in(listing: Option<Listing>) -> Cell
 
 /// The last CRL that lists it, where that was issued.
 fn last_in(listing: Option<Listing>) -> Cell
-    ensures { result ≡ last_listing listing }
+    ensures { result ≡ last_listing_cell listing }
 {
     match listing {
         Some(

@@ -3,7 +3,7 @@
 
 ghost use Rattle.std.specs.Prelude.{◌≡◌, ◌∷◌, ◌++◌, [], IfOk, OnOk, flat_map, map};
 ghost use Rattle.reg_lists.specs.Cursors.{key_cell};
-ghost use Rattle.reg_lists.specs.Fields.{json_text, plain_text, row_fields, told};
+ghost use Rattle.reg_lists.specs.Fields.{json_text, plain_text, row_fields, told_field};
 ghost use Rattle.reg_lists.specs.Texts.{header_text, member_rest, member_text, next_text, object_text, page_body, record_rest, record_text, row_rest, row_text, rows_json};
 
 use crate::cursor::Cursor;
@@ -75,7 +75,7 @@ fn put_row(alloc: Global, out: &mut Vec<u8>, form: Form, row: &Row) -> Result<()
 /// Puts fields behind a text, with commas between them.
 #[tactic(auto, unfolding(crate::specs::Texts::record_text))]
 fn put_record(out: &mut Vec<u8>, fields: &[Field]) -> Result<(), AllocError>
-    ensures { OnOk result (out.new.items ≡ out.old.items ++ record_text (map told fields.now)) }
+    ensures { OnOk result (out.new.items ≡ out.old.items ++ record_text (map told_field fields.now)) }
 {
     match fields.split_first() {
         Some((first, rest)) => {
@@ -88,7 +88,7 @@ fn put_record(out: &mut Vec<u8>, fields: &[Field]) -> Result<(), AllocError>
 
 /// Puts fields behind a text, with a comma before each.
 fn put_record_rest(out: &mut Vec<u8>, fields: &[Field]) -> Result<(), AllocError>
-    ensures { OnOk result (out.new.items ≡ out.old.items ++ flat_map record_rest (map told fields.now)) }
+    ensures { OnOk result (out.new.items ≡ out.old.items ++ flat_map record_rest (map told_field fields.now)) }
 {
     for field in fields {
         out.push(b',')?;
@@ -114,7 +114,7 @@ fn put_plain(out: &mut Vec<u8>, cell: &Cell) -> Result<(), AllocError>
 /// Puts an object of fields behind a text.
 #[tactic(auto, unfolding(crate::specs::Texts::object_text))]
 fn put_object(out: &mut Vec<u8>, fields: &[Field]) -> Result<(), AllocError>
-    ensures { OnOk result (out.new.items ≡ out.old.items ++ object_text (map told fields.now)) }
+    ensures { OnOk result (out.new.items ≡ out.old.items ++ object_text (map told_field fields.now)) }
 {
     out.push(b'{')?;
     match fields.split_first() {
@@ -130,7 +130,7 @@ fn put_object(out: &mut Vec<u8>, fields: &[Field]) -> Result<(), AllocError>
 
 /// Puts members behind a text, with a comma before each.
 fn put_members_rest(out: &mut Vec<u8>, fields: &[Field]) -> Result<(), AllocError>
-    ensures { OnOk result (out.new.items ≡ out.old.items ++ flat_map member_rest (map told fields.now)) }
+    ensures { OnOk result (out.new.items ≡ out.old.items ++ flat_map member_rest (map told_field fields.now)) }
 {
     for field in fields {
         out.push(b',')?;
@@ -142,7 +142,7 @@ fn put_members_rest(out: &mut Vec<u8>, fields: &[Field]) -> Result<(), AllocErro
 /// Puts a member behind a text: its name and its value.
 #[tactic(auto, unfolding(crate::specs::Texts::member_text))]
 fn put_member(out: &mut Vec<u8>, field: &Field) -> Result<(), AllocError>
-    ensures { OnOk result (out.new.items ≡ out.old.items ++ member_text (told field.now)) }
+    ensures { OnOk result (out.new.items ≡ out.old.items ++ member_text (told_field field.now)) }
 {
     out.push(b'"')?;
     out.extend_from_slice(field.name.as_bytes())?;

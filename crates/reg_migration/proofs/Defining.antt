@@ -22,7 +22,7 @@ use Rattle.reg_writing.specs.Ran.{Ran}
 use Rattle.reg_writing.proofs.Edits.{went, same_value}
 use Rattle.reg_writing.proofs.Placing.{pushed}
 use Rattle.reg_migration.specs.Makes.{DefinesTable, DefinesIndex}
-use Rattle.reg_migration.specs.Rows.{HasRows, HadRows}
+use Rattle.reg_migration.specs.NumberedRows.{HasRows, HadRows}
 
 -- tables that keep their rows still have these
 still_rows : (tables : List Table) (rows old new : Trees) → AllByRecursion (λ t. old t.tree ≡ rows t.tree) tables → KeepsRows tables old new → AllByRecursion (λ t. new t.tree ≡ rows t.tree) tables

@@ -18,7 +18,7 @@ use Rattle.sqlite.specs.State.{State, mode_of, Writes}
 use Rattle.sqlite.specs.Listing.{understood}
 use Rattle.sqlite.proofs.Callers.{runs_as, statement_of}
 use Rattle.reg_laws.proofs.CountFacts.{equal_numbers}
-use Rattle.reg_tables.specs.Reading.{command_of}
+use Rattle.reg_tables.specs.ReadStatements.{command_of}
 use Rattle.reg_tables.specs.Schema.{standing, kept, listed}
 use Rattle.reg_tables.specs.Stays.{Moves}
 use Rattle.reg_writing.specs.Ran.{HasSchema, Ran}
@@ -28,8 +28,8 @@ use Rattle.reg_writing.proofs.Meaning.{deletes}
 use Rattle.reg_writing.proofs.Turning.{IsKeyed}
 use Rattle.reg_writing.proofs.Registers.{unequal_trees}
 use Rattle.reg_migration.specs.Older.{kept_tables}
-use Rattle.reg_migration.specs.Rows.{IsNumbered, HasRows, HadRows, with_rows}
-use Rattle.reg_migration.specs.declared.texts.TheConstants.{CLEAR_STANDING, CLEAR_KEPT, CLEAR_LISTED}
+use Rattle.reg_migration.specs.NumberedRows.{IsNumbered, HasRows, HadRows, with_rows}
+use Rattle.reg_migration.specs.declared.sql.TheConstants.{CLEAR_STANDING, CLEAR_KEPT, CLEAR_LISTED}
 use Rattle.reg_migration.proofs.Defining.{moves_to}
 
 -- no foreign key acts

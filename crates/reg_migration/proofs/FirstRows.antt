@@ -30,17 +30,17 @@ use Rattle.reg_tables.specs.Stays.{Moves}
 use Rattle.reg_tables.proofs.Queries.{passes}
 use Rattle.reg_writing.specs.Ran.{Ran}
 use Rattle.reg_writing.specs.Staged.{IsStaged}
-use Rattle.reg_writing.specs.Steps.{turned}
+use Rattle.reg_writing.specs.RowEffects.{turned}
 use Rattle.reg_writing.proofs.Edits.{Turns, made, cast_int, cast_null}
 use Rattle.reg_writing.proofs.Meaning.{updates, inserts, IsWriting}
 use Rattle.reg_writing.proofs.Registers.{Spares, turns_rows, puts_row, unequal_trees}
 use Rattle.reg_writing.proofs.Turning.{IsKeyed}
 use Rattle.reg_migration.specs.Older.{older_schema, stored_older, IsShownByOlder}
 use Rattle.reg_migration.specs.Refilled.{no_columns, no_counts}
-use Rattle.reg_migration.specs.Rows.{HasRows, HadRows, with_rows, records_alone}
-use Rattle.reg_migration.specs.declared.version.Earlier.{Earlier}
-use Rattle.reg_migration.specs.declared.version.Earlier.TheVariants.{First, Second}
-use Rattle.reg_migration.specs.declared.texts.TheConstants.{SET_VERSION, PUT_COUNTS}
+use Rattle.reg_migration.specs.NumberedRows.{HasRows, HadRows, with_rows, records_alone}
+use Rattle.reg_migration.specs.declared.version.OlderVersion.{OlderVersion}
+use Rattle.reg_migration.specs.declared.version.OlderVersion.TheVariants.{First, Second}
+use Rattle.reg_migration.specs.declared.sql.TheConstants.{SET_VERSION, PUT_COUNTS}
 use Rattle.reg_migration.proofs.Defining.{moves_to}
 use Rattle.reg_migration.proofs.Emptying.{with_other}
 
@@ -85,7 +85,7 @@ acts_by tree olds news false = refl
 pub none_act : (tree : ℕ) (olds news : List Row) → works register_schema Enforced 0 tree olds news ≡ []
 none_act tree olds news = acts_by tree olds news (length news == 0)
 
-pub sets_version : (rows : Trees) (version : Earlier) (days : ℕ) (issuer : Issuer) (policy : Terms) (last : ℕ) (old new : State) (count : ℕ) → Ran SET_VERSION.now [] old new count
+pub sets_version : (rows : Trees) (version : OlderVersion) (days : ℕ) (issuer : Issuer) (policy : Terms) (last : ℕ) (old new : State) (count : ℕ) → Ran SET_VERSION.now [] old new count
     → rows 0 ≡ stored_older version days issuer policy last ∷ [] → HadRows old register_schema rows
     → Moves old new (HasRows register_schema (with_rows 0 (stored_office (pos days) issuer policy last ∷ []) rows))
 unfolding register_schema
@@ -115,7 +115,7 @@ puts_counts rows old new count ran none before =
 -- ---- from the older tables to the program's
 
 -- the tables of the older version have their rows
-pub older_has : (version : Earlier) (db : Database) → db.schema ≡ older_schema version → HasRows (older_schema version) db.trees db
+pub older_has : (version : OlderVersion) (db : Database) → db.schema ≡ older_schema version → HasRows (older_schema version) db.trees db
 older_has First db schema = record { schema = schema; rows = (refl, (refl, (refl, (refl, (refl, (refl, (refl, tt))))))) }
 older_has Second db schema = record { schema = schema; rows = (refl, (refl, (refl, (refl, (refl, (refl, (refl, (refl, (refl, (refl, tt)))))))))) }
 
@@ -135,7 +135,7 @@ greatest_one : (days : ℕ) → days ≡ greatest_of (one_step days)
 greatest_one days = omega arith
 
 -- the records are shown, and nothing is kept beside them
-pub begun_both : (version : Earlier) (days : ℕ) (db after : Database) (records : Records) (older : IsShownByOlder version db records) → records.policy.schedule ≡ one_step days
+pub begun_both : (version : OlderVersion) (days : ℕ) (db after : Database) (records : Records) (older : IsShownByOlder version db records) → records.policy.schedule ≡ one_step days
     → IsStaged (first_rows db.trees older.days records.issuer records.policy records.last) ((0, days) ∷ []) after → AreBoth after records (no_columns records.policy.schedule)
 begun_both version days db after records older one staged =
     let rows : AreRows after.trees records = record {

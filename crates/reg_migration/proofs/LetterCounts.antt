@@ -16,7 +16,7 @@ use Rattle.sqlite_resolve.specs.Compile.{first}
 use Rattle.sqlite_tied.specs.Compute.{everything}
 use Rattle.reg_core.specs.Records.{Records}
 use Rattle.reg_tables.specs.Columns.{Letter, letter_text, Standing, Columns, stored_standing}
-use Rattle.reg_tables.specs.Reading.{IsReading, command_of}
+use Rattle.reg_tables.specs.ReadStatements.{IsReading, command_of}
 use Rattle.reg_tables.specs.Rows.{number, counted_rows}
 use Rattle.reg_tables.specs.Schema.{register_schema}
 use Rattle.reg_tables.specs.Shows.{AreBoth}
@@ -25,7 +25,7 @@ use Rattle.reg_tables.proofs.CountLemmas.{counted, in_one, min_is, blank, blank_
 use Rattle.reg_tables.proofs.Queries.{as_command, no_limit, passes, kept_behind, all_of}
 use Rattle.reg_tables.proofs.Selecting.{select_never}
 use Rattle.reg_migration.specs.Refilled.{with_letter}
-use Rattle.reg_migration.specs.declared.texts.TheConstants.{COUNT_LETTER}
+use Rattle.reg_migration.specs.declared.sql.TheConstants.{COUNT_LETTER}
 
 abbrev counts_of : ℕ → List Term → Query
 counts_of tree terms = record {

@@ -50,7 +50,7 @@ use Rattle.reg_core.specs.declared.rows.RevocationRow.{RevocationRow}
 use Rattle.reg_laws.proofs.Lists.{all_map}
 use Rattle.reg_tables.specs.Columns.{Letter, good, revoked, expired, letter_text, Columns, Standing, stored_standing}
 use Rattle.reg_tables.specs.Kept.{letter_of, standing_of}
-use Rattle.reg_tables.specs.Reading.{command_of}
+use Rattle.reg_tables.specs.ReadStatements.{command_of}
 use Rattle.reg_tables.specs.Rows.{number, serial_value, behind_rowids, counted_rows, stored_certificate, stored_revocation}
 use Rattle.reg_tables.specs.Schema.{register_schema, standing}
 use Rattle.reg_tables.specs.Shows.{IsShownBy, AreBoth}
@@ -64,7 +64,7 @@ use Rattle.reg_writing.proofs.Letters.{found_each}
 use Rattle.reg_writing.proofs.Placing.{counted_put}
 use Rattle.reg_writing.proofs.Spared.{rows_spared, letters_are}
 use Rattle.reg_migration.specs.Refilled.{with_letters}
-use Rattle.reg_migration.specs.declared.texts.TheConstants.{FILL_LETTERS}
+use Rattle.reg_migration.specs.declared.sql.TheConstants.{FILL_LETTERS}
 use Rattle.reg_migration.proofs.Defining.{moves_to}
 use Rattle.reg_migration.proofs.FirstRows.{spares_others, none_act}
 

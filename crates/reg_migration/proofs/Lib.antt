@@ -5,8 +5,8 @@ pub mod LastListings
 pub mod LetterCounts
 pub mod Lettering
 pub mod Listing
+pub mod OneAfterAnother
 pub mod Questions
 pub mod Refills
 pub mod SchemaTexts
-pub mod Steps
 pub mod Whole

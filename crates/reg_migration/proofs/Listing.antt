@@ -24,7 +24,7 @@ use Rattle.reg_writing.proofs.Placing.{counted_put, mapped_push, pushed}
 use Rattle.reg_writing.proofs.Registers.{puts_row, puts_spares}
 use Rattle.reg_writing.proofs.Spared.{rows_spared, listings_are}
 use Rattle.reg_migration.specs.Refilled.{with_listed}
-use Rattle.reg_migration.specs.declared.texts.TheConstants.{PUT_LISTING}
+use Rattle.reg_migration.specs.declared.sql.TheConstants.{PUT_LISTING}
 use Rattle.reg_migration.proofs.Defining.{moves_to}
 
 pub put_listing_means : IsWriting PUT_LISTING.now (inserts 9 (lit Null ∷ col 0 0 ∷ col 0 1 ∷ col 0 2 ∷ col 0 3 ∷ col 0 4 ∷ col 0 5 ∷ []) 7)

@@ -21,13 +21,13 @@ use Rattle.reg_tables.specs.Schema.{register_schema}
 use Rattle.reg_tables.proofs.Selecting.{select_never}
 use Rattle.reg_tables.specs.Rows.{number, behind_rowids, stored_revocation, stored_crl}
 use Rattle.reg_tables.specs.Shows.{IsShownBy}
-use Rattle.reg_tables.specs.Reading.{Answers, IsReading, command_of, shown_revocation, shown_crl}
+use Rattle.reg_tables.specs.ReadStatements.{Answers, IsReading, command_of, shown_revocation, shown_crl}
 use Rattle.reg_tables.proofs.Queries.{selects, as_command, no_limit, Given, keyed_given, all_of, all_kept}
 use Rattle.reg_tables.proofs.Sorting.{ascending_key, ascends, sorted_same}
 use Rattle.reg_tables.proofs.Greatest.{numbered_rises}
 use Rattle.reg_tables.proofs.Staying.{shown_open, fails_remains, rows_same}
 use Rattle.reg_tables.proofs.PageLemmas.{crl_out}
-use Rattle.reg_migration.specs.declared.texts.TheConstants.{REVOCATIONS, CRLS}
+use Rattle.reg_migration.specs.declared.sql.TheConstants.{REVOCATIONS, CRLS}
 
 -- ---- a text that only reads changes nothing
 

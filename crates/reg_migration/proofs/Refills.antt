@@ -17,7 +17,7 @@ use Rattle.reg_laws.proofs.Listed.{past_end_is}
 use Rattle.reg_tables.specs.Columns.{Columns}
 use Rattle.reg_tables.specs.Kept.{not_after_of, standing_of, listed_of, Kept}
 use Rattle.reg_tables.specs.Shows.{AreBoth}
-use Rattle.reg_writing.specs.Steps.{with_counts}
+use Rattle.reg_writing.specs.RowEffects.{with_counts}
 use Rattle.reg_writing.proofs.Letters.{found_each, counts_stand}
 use Rattle.reg_migration.specs.Refilled.{HasLetters, letter_counts, last_in, listed_by, with_listed, HasRelisted}
 

@@ -15,7 +15,7 @@ use Rattle.reg_core.specs.Status.{counts}
 use Rattle.reg_tables.specs.Columns.{Columns}
 use Rattle.reg_tables.specs.Kept.{Kept, ShowsKept, standing_of, listed_of}
 use Rattle.reg_tables.specs.Shows.{HasOfficeDays, Holds}
-use Rattle.reg_writing.specs.AtRest.{IsAtRest}
+use Rattle.reg_writing.specs.AfterStop.{IsAtRest}
 use Rattle.reg_writing.proofs.Resting.{resting, rests_sound}
 use Rattle.reg_migration.specs.Refilled.{HasKept}
 

@@ -1,5 +1,5 @@
-pub mod Rows
+pub mod NumberedRows
 pub mod Older
 pub mod Makes
 pub mod Refilled
-pub mod AtRest
+pub mod AfterStoppedMigration

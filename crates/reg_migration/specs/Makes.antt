@@ -12,7 +12,7 @@ use Rattle.sqlite.specs.Does.{lacks_sequence}
 use Rattle.sqlite.specs.Given.{IsPlain}
 use Rattle.sqlite.specs.Listing.{understood}
 use Rattle.sqlite.specs.State.{text_of}
-use Rattle.reg_tables.specs.Reading.{command_of}
+use Rattle.reg_tables.specs.ReadStatements.{command_of}
 
 -- the one statement of a text
 abbrev pub statement_of : List ℕ → Result Compiled CompileError → List ℕ

@@ -17,24 +17,24 @@ use Rattle.reg_tables.specs.Schema.{record_tables}
 use Rattle.reg_tables.specs.Rows.{number, counted_rows, stored_subscriber, stored_order, stored_certificate, stored_request, stored_revocation, stored_crl}
 use Rattle.reg_tables.specs.Shows.{HaveSerials, Holds}
 pub use Rattle.reg_tables.specs.Schema.{kept_tables}
-use Rattle.reg_migration.specs.Rows.{IsNumbered}
-use Rattle.reg_migration.specs.declared.version.Earlier.{Earlier}
-use Rattle.reg_migration.specs.declared.version.Earlier.TheVariants.{First, Second}
+use Rattle.reg_migration.specs.NumberedRows.{IsNumbered}
+use Rattle.reg_migration.specs.declared.version.OlderVersion.{OlderVersion}
+use Rattle.reg_migration.specs.declared.version.OlderVersion.TheVariants.{First, Second}
 
 -- the number in the row of the office
-abbrev pub number_of : Earlier → ℕ
-number_of First = 1
-number_of Second = 2
+abbrev pub version_number : OlderVersion → ℕ
+version_number First = 1
+version_number Second = 2
 
 -- version 1 has the tables of the records, version 2 also those beside them; neither has an index of its own
-abbrev pub older_schema : Earlier → Schema
+abbrev pub older_schema : OlderVersion → Schema
 older_schema First = record_tables
 older_schema Second = kept_tables
 
 -- office: one, version, name, pubkey, days, crl_life, ocsp_life, cap, last_at; days is the longest validity at any moment
-abbrev pub stored_older : Earlier → ℕ → Issuer → Terms → ℕ → Row
+abbrev pub stored_older : OlderVersion → ℕ → Issuer → Terms → ℕ → Row
 stored_older version days issuer policy last =
-    number 1 ∷ Null ∷ number (number_of version) ∷ Blob issuer.name ∷ Blob issuer.key ∷ number days ∷ number policy.crl_life ∷ number policy.ocsp_life ∷ number policy.cap ∷ number last ∷ []
+    number 1 ∷ Null ∷ number (version_number version) ∷ Blob issuer.name ∷ Blob issuer.key ∷ number days ∷ number policy.crl_life ∷ number policy.ocsp_life ∷ number policy.cap ∷ number last ∷ []
 
 -- each record is one row of its table, and each row is one record, as in a register of the program's version
 pub record AreRecords (trees : Trees) (records : Records) : Type 0 where
@@ -53,12 +53,12 @@ pub record AreRecords (trees : Trees) (records : Records) : Type 0 where
   pub revocation_serials : HaveSerials (λ row. row.serial) records.revocations
 
 -- what version 2 keeps beside the records may be any rows with numbers for their rowids: they are made anew
-abbrev pub HasBeside : Earlier → Trees → Type 0
+abbrev pub HasBeside : OlderVersion → Trees → Type 0
 HasBeside First trees = Unit {0}
 HasBeside Second trees = AllByRecursion IsNumbered (trees 12) × AllByRecursion IsNumbered (trees 14) × AllByRecursion IsNumbered (trees 15)
 
 -- the tables of an older version, and they show the records, whose schedule has one step
-pub record IsShownByOlder (version : Earlier) (db : Database) (records : Records) : Type 0 where
+pub record IsShownByOlder (version : OlderVersion) (db : Database) (records : Records) : Type 0 where
   pub schema : db.schema ≡ older_schema version
   pub days : ℕ
   pub office : db.trees 0 ≡ stored_older version days records.issuer records.policy records.last ∷ []
@@ -68,5 +68,5 @@ pub record IsShownByOlder (version : Earlier) (db : Database) (records : Records
   pub beside : HasBeside version db.trees
 
 -- while the disk is honest and the connection open, its tables of an older version show the records
-abbrev pub ShowsOlder : {S : Type 0} → Earlier → Ghosts S → Held S → Records → Type 0
+abbrev pub ShowsOlder : {S : Type 0} → OlderVersion → Ghosts S → Held S → Records → Type 0
 ShowsOlder version g h records = Holds g h (λ db. IsShownByOlder version db records)

@@ -27,15 +27,15 @@ with_letters letters columns = record columns { letters = letters }
 abbrev pub HasLetters : Columns → Records → Type 0
 HasLetters columns records = IsPermutation (map (standing_of records) records.certificates) columns.letters
 
-abbrev pub is_revoked : Letter → Bool
-is_revoked good = false
-is_revoked revoked = true
-is_revoked expired = false
+abbrev pub is_revoked_letter : Letter → Bool
+is_revoked_letter good = false
+is_revoked_letter revoked = true
+is_revoked_letter expired = false
 
-abbrev pub is_expired : Letter → Bool
-is_expired good = false
-is_expired revoked = false
-is_expired expired = true
+abbrev pub is_expired_letter : Letter → Bool
+is_expired_letter good = false
+is_expired_letter revoked = false
+is_expired_letter expired = true
 
 -- how many rows have a letter
 abbrev pub with_letter : (Letter → Bool) → List Standing → ℕ
@@ -43,7 +43,7 @@ with_letter test rows = length (filter (λ row. test row.letter) rows)
 
 -- how many rows have each letter
 abbrev pub letter_counts : List Standing → Counts
-letter_counts rows = record { good = with_letter is_good_letter rows; revoked = with_letter is_revoked rows; expired = with_letter is_expired rows }
+letter_counts rows = record { good = with_letter is_good_letter rows; revoked = with_letter is_revoked_letter rows; expired = with_letter is_expired_letter rows }
 
 -- the number of the first CRL from a number on whose thisUpdate is past a moment (RFC 5280 3.3)
 abbrev pub last_in : List CrlRow → ℕ → ℕ → Option ℕ

@@ -9,15 +9,15 @@ ghost use Rattle.sqlite.specs.State.{HasCleanDisk, KeepsCommit, IsUnchanged};
 ghost use Rattle.reg_core.specs.Crls.{row_of};
 ghost use Rattle.reg_core.specs.Records.{Records, certificate_in};
 ghost use Rattle.reg_core.specs.Serial.{IsSerial};
-ghost use Rattle.reg_tables.specs.Reading.{Answers, IsReading, shown_certificate, shown_revocation, shown_crl};
+ghost use Rattle.reg_tables.specs.ReadStatements.{Answers, IsReading, shown_certificate, shown_revocation, shown_crl};
 ghost use Rattle.reg_tables.specs.Schema.{register_schema};
 ghost use Rattle.reg_tables.specs.Shows.{IsShownBy};
 ghost use Rattle.reg_tables.specs.Stays.{LeavesNothing, Stepped};
 
-use crate::texts;
+use crate::sql;
 use reg_core::{CertRow, CrlRow, Moment, RevocationRow, Serial};
-use reg_tables::statements::CERT_BY_SERIAL;
-use reg_tables::{CallFault, rows};
+use reg_tables::sql::CERT_BY_SERIAL;
+use reg_tables::{DatabaseFault, rows};
 use sqlite::types::ValueRef;
 use sqlite::{Alter, Row, Transaction, params};
 
@@ -26,7 +26,7 @@ pub(crate) fn ask<S: Alter>(
     tx: &mut Transaction<'_, S>,
     sql: &str,
     params: &[ValueRef<'_>],
-) -> Result<Vec<Row>, CallFault>
+) -> Result<Vec<Row>, DatabaseFault>
     ensures same_reference { tx.new.conn.ghost_name ≡ tx.old.conn.ghost_name }
     ensures rows { HasCleanDisk (state S.Store tx.new.conn.now) → IsReading sql.now → (IsTrue (state S.Store tx.old.conn.now).is_open → (state S.Store tx.old.conn.now).now.schema ≡ register_schema)
         → IfOk result (λ rows. Answers (state S.Store tx.old.conn.now) sql.now (bound params.now) rows.items) }
@@ -38,7 +38,7 @@ pub(crate) fn ask<S: Alter>(
 }
 
 /// A row for each revocation: serial, at, reason, request, first_crl.
-fn revocations_in(rows: &Vec<Row>) -> Result<Vec<RevocationRow>, CallFault>
+fn revocations_in(rows: &Vec<Row>) -> Result<Vec<RevocationRow>, DatabaseFault>
     ensures read { (revocations : List RevocationRow) → AllByRecursion (λ revocation. IsSerial revocation.serial) revocations → rows.now.items ≡ map shown_revocation revocations → IfOk result (λ read. read.items ≡ revocations) }
 {
     let mut revocations = Vec::new(*rows.allocator());
@@ -49,7 +49,7 @@ fn revocations_in(rows: &Vec<Row>) -> Result<Vec<RevocationRow>, CallFault>
 }
 
 /// A row for each CRL: number, this_update.
-fn crls_in(rows: &Vec<Row>) -> Result<Vec<CrlRow>, CallFault>
+fn crls_in(rows: &Vec<Row>) -> Result<Vec<CrlRow>, DatabaseFault>
     ensures read { (crls : List CrlRow) → rows.now.items ≡ map shown_crl crls → IfOk result (λ read. read.items ≡ crls) }
 {
     let mut crls = Vec::new(*rows.allocator());
@@ -62,34 +62,34 @@ fn crls_in(rows: &Vec<Row>) -> Result<Vec<CrlRow>, CallFault>
 /// All revocations, in the order of entry.
 pub(crate) fn revocations<S: Alter>(
     tx: &mut Transaction<'_, S>,
-) -> Result<Vec<RevocationRow>, CallFault>
+) -> Result<Vec<RevocationRow>, DatabaseFault>
     ensures found { HasCleanDisk (state S.Store tx.new.conn.now) → (records : Records) → (IsTrue (state S.Store tx.old.conn.now).is_open → IsShownBy (state S.Store tx.old.conn.now).now records)
         → IfOk result (λ found. found.items ≡ records.revocations) }
     ensures same { HasCleanDisk (state S.Store tx.new.conn.now) → IfOk result (λ _. IsUnchanged (state S.Store tx.old.conn.now) (state S.Store tx.new.conn.now)) }
     ensures stepped { Stepped S.Store tx.old tx.new }
 {
-    let found = ask(tx, texts::REVOCATIONS, &[])?;
+    let found = ask(tx, sql::REVOCATIONS, &[])?;
     revocations_in(&found)
 }
 
 /// All CRLs, without their bytes, in the order of their numbers.
-pub(crate) fn crls<S: Alter>(tx: &mut Transaction<'_, S>) -> Result<Vec<CrlRow>, CallFault>
+pub(crate) fn crls<S: Alter>(tx: &mut Transaction<'_, S>) -> Result<Vec<CrlRow>, DatabaseFault>
     ensures found { HasCleanDisk (state S.Store tx.new.conn.now) → (records : Records) → (IsTrue (state S.Store tx.old.conn.now).is_open → IsShownBy (state S.Store tx.old.conn.now).now records)
         → IfOk result (λ found. found.items ≡ map row_of records.crls) }
     ensures same { HasCleanDisk (state S.Store tx.new.conn.now) → IfOk result (λ _. IsUnchanged (state S.Store tx.old.conn.now) (state S.Store tx.new.conn.now)) }
     ensures stepped { Stepped S.Store tx.old tx.new }
 {
-    let found = ask(tx, texts::CRLS, &[])?;
+    let found = ask(tx, sql::CRLS, &[])?;
     crls_in(&found)
 }
 
 /// The end of the certificate that a row shows. `Store` for no row and for more.
-fn end_in(rows: &[Row]) -> Result<Moment, CallFault>
+fn end_in(rows: &[Row]) -> Result<Moment, DatabaseFault>
     ensures read { IfOk result (λ end. (row : Values) × (rows.now ≡ row ∷ []) × ((certificate : CertRow) → IsSerial certificate.serial → row ≡ shown_certificate certificate → end ≡ certificate.not_after)) }
 {
     match rows {
         [row] => Ok(rows::certificate_in(row)?.not_after),
-        _ => Err(CallFault::Store),
+        _ => Err(DatabaseFault::Store),
     }
 }
 
@@ -97,7 +97,7 @@ fn end_in(rows: &[Row]) -> Result<Moment, CallFault>
 pub(crate) fn end_of<S: Alter>(
     tx: &mut Transaction<'_, S>,
     serial: Serial,
-) -> Result<Moment, CallFault>
+) -> Result<Moment, DatabaseFault>
     ensures found { HasCleanDisk (state S.Store tx.new.conn.now) → (records : Records) → (IsTrue (state S.Store tx.old.conn.now).is_open → IsShownBy (state S.Store tx.old.conn.now).now records)
         → IfOk result (λ end. IsSomeAnd (certificate_in records.certificates serial) (λ certificate. certificate.not_after ≡ end)) }
     ensures same { HasCleanDisk (state S.Store tx.new.conn.now) → IfOk result (λ _. IsUnchanged (state S.Store tx.old.conn.now) (state S.Store tx.new.conn.now)) }

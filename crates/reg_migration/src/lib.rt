@@ -8,8 +8,8 @@ pub mod making;
 mod migrating;
 mod refilling;
 mod relisting;
-pub mod texts;
+pub mod sql;
 mod version;
 
 pub use migrating::migrate;
-pub use version::Earlier;
+pub use version::OlderVersion;

@@ -11,25 +11,25 @@ ghost use Rattle.reg_tables.specs.Kept.{ShowsKept};
 ghost use Rattle.reg_tables.specs.Schema.{register_schema};
 ghost use Rattle.reg_tables.specs.Stays.{IsRegister, Stays, Stepped};
 ghost use Rattle.reg_writing.specs.Ran.{HasSchema};
-ghost use Rattle.reg_migration.specs.AtRest.{IsMigrated};
+ghost use Rattle.reg_migration.specs.AfterStoppedMigration.{IsMigrated};
 ghost use Rattle.reg_migration.specs.Older.{older_schema, IsShownByOlder, ShowsOlder};
 ghost use Rattle.reg_migration.specs.Refilled.{HasKept, HasGreatestDays};
 ghost use Rattle.reg_tables.specs.Shows.{HasOfficeDays};
 
 use crate::beginning::begin;
 use crate::refilling::refill;
-use crate::version::Earlier;
+use crate::version::OlderVersion;
 use reg_core::Moment;
-use reg_tables::CallFault;
+use reg_tables::DatabaseFault;
 use sqlite::{Alter, Connection, Transaction};
 
 /// Makes the tables ones of the program's version, inside a transaction.
 fn make_newer<S: Alter>(
     tx: &mut Transaction<'_, S>,
-    version: Earlier,
+    version: OlderVersion,
     days: u64,
     last: Moment,
-) -> Result<(), CallFault>
+) -> Result<(), DatabaseFault>
     ensures ok { HasCleanDisk (state S.Store tx.new.conn.now) → (records : Records) → SoundRows records → records.policy.schedule ≡ one_step days → records.last ≡ last
         → (IsTrue (state S.Store tx.old.conn.now).is_open → IsShownByOlder version (state S.Store tx.old.conn.now).now records)
         → OnOk result (IsTrue (state S.Store tx.new.conn.now).is_open × HasKept (state S.Store tx.new.conn.now).now records × HasGreatestDays (state S.Store tx.new.conn.now).now records) }
@@ -53,10 +53,10 @@ fn make_newer<S: Alter>(
 /// no register writes. The tables are as they were then.
 pub fn migrate<S: Alter>(
     conn: &mut Connection<S>,
-    version: Earlier,
+    version: OlderVersion,
     days: u64,
     last: Moment,
-) -> Result<(), CallFault>
+) -> Result<(), DatabaseFault>
     requires { conn.old.in_transaction ≡ false }
     ensures ok { (records : Records) → ShowsOlder version S.Store conn.old records → SoundRows records → records.policy.schedule ≡ one_step days → records.last ≡ last
         → OnOk result (ShowsKept S.Store conn.new records) }

@@ -15,9 +15,9 @@ ghost use Rattle.reg_writing.specs.Ran.{Before, HasSchema, Moved};
 ghost use Rattle.reg_migration.specs.Refilled.{last_in, listed_by, with_listed, HasRelisted};
 
 use crate::asking::{crls, end_of, revocations};
-use crate::texts;
+use crate::sql;
 use reg_core::{CrlRow, Moment, RevocationRow};
-use reg_tables::CallFault;
+use reg_tables::DatabaseFault;
 use reg_writing::writing::{sql_moment, sql_number, sql_reason, write};
 use sqlite::types::ValueRef;
 use sqlite::{Alter, Transaction};
@@ -42,7 +42,7 @@ fn last_listing(crls: &[CrlRow], first: u64, not_after: Moment) -> Option<u64>
 }
 
 /// The number as SQL has it, or NULL.
-fn sql_number_or_null(number: Option<u64>) -> Result<ValueRef<'static>, CallFault>
+fn sql_number_or_null(number: Option<u64>) -> Result<ValueRef<'static>, DatabaseFault>
     ensures value { IfOk result (λ value. bound_value (owned value) ≡ number_or_null number) }
 {
     match number {
@@ -57,7 +57,7 @@ fn put_listing<S: Alter>(
     row: RevocationRow,
     crls: &[CrlRow],
     not_after: Moment,
-) -> Result<(), CallFault>
+) -> Result<(), DatabaseFault>
     ensures ok { HasCleanDisk (state S.Store tx.new.conn.now) → (records : Records) → (columns : Columns) → NumberedFrom (λ crl. crl.number) 1 crls.now → NeverFalls (λ crl. crl.this_update) crls.now
         → Before (state S.Store tx.old.conn.now) records columns
         → OnOk result (Moved (state S.Store tx.old.conn.now) (state S.Store tx.new.conn.now) records (with_listed (listed_by crls.now row not_after) columns)) }
@@ -72,7 +72,7 @@ fn put_listing<S: Alter>(
     let not_after = sql_moment(not_after);
     write(
         tx,
-        texts::PUT_LISTING,
+        sql::PUT_LISTING,
         &[ValueRef::Blob(&serial), at, reason, first, not_after, last],
     )?;
     Ok(())
@@ -83,7 +83,7 @@ fn relist_one<S: Alter>(
     tx: &mut Transaction<'_, S>,
     revocation: RevocationRow,
     crls: &[CrlRow],
-) -> Result<(), CallFault>
+) -> Result<(), DatabaseFault>
     ensures ok { HasCleanDisk (state S.Store tx.new.conn.now) → (records : Records) → (columns : Columns) → NumberedFrom (λ crl. crl.number) 1 crls.now → NeverFalls (λ crl. crl.this_update) crls.now
         → Before (state S.Store tx.old.conn.now) records columns
         → OnOk result (IsSomeAnd (certificate_in records.certificates revocation.serial) (λ certificate. Moved (state S.Store tx.old.conn.now) (state S.Store tx.new.conn.now) records (with_listed (listed_by crls.now revocation certificate.not_after) columns))) }
@@ -99,7 +99,7 @@ fn relist_each<S: Alter>(
     tx: &mut Transaction<'_, S>,
     revocations: &[RevocationRow],
     crls: &[CrlRow],
-) -> Result<(), CallFault>
+) -> Result<(), DatabaseFault>
     ensures ok { HasCleanDisk (state S.Store tx.new.conn.now) → (records : Records) → SoundRows records → revocations.now ≡ records.revocations → crls.now ≡ map row_of records.crls
         → (IsTrue (state S.Store tx.old.conn.now).is_open → HasRelisted (state S.Store tx.old.conn.now).now records 0)
         → OnOk result (IsTrue (state S.Store tx.new.conn.now).is_open → HasRelisted (state S.Store tx.new.conn.now).now records (length records.revocations)) }
@@ -113,7 +113,7 @@ fn relist_each<S: Alter>(
 }
 
 /// Lists each revocation.
-pub(crate) fn relist<S: Alter>(tx: &mut Transaction<'_, S>) -> Result<(), CallFault>
+pub(crate) fn relist<S: Alter>(tx: &mut Transaction<'_, S>) -> Result<(), DatabaseFault>
     ensures ok { HasCleanDisk (state S.Store tx.new.conn.now) → (records : Records) → SoundRows records → (IsTrue (state S.Store tx.old.conn.now).is_open → HasRelisted (state S.Store tx.old.conn.now).now records 0)
         → OnOk result (IsTrue (state S.Store tx.new.conn.now).is_open → HasRelisted (state S.Store tx.new.conn.now).now records (length records.revocations)) }
     ensures schema { HasCleanDisk (state S.Store tx.new.conn.now) → HasSchema register_schema (state S.Store tx.old.conn.now) → OnOk result (HasSchema register_schema (state S.Store tx.new.conn.now)) }

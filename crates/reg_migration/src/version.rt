@@ -2,7 +2,7 @@
 
 /// A version of the tables that is older than the program's.
 #[derive(Clone, Copy, PartialEq, Eq)]
-pub enum Earlier {
+pub enum OlderVersion {
     /// Version 1: the tables of the records alone.
     First,
     /// Version 2: letters, counts and last listings are kept beside the records.

@@ -9,7 +9,7 @@ use Rattle.std.proofs.lemmas.List.Sums.{sum_by-append, sum_by-cons}
 use Rattle.reg_core.specs.declared.command.Status.{Status}
 use Rattle.reg_ocsp.specs.declared.asked.CertId.{CertId}
 use Rattle.reg_ocsp.specs.Request.{raw_length, CanBeAnswered}
-use Rattle.reg_ocsp.specs.Response.{Answer, single_response}
+use Rattle.reg_ocsp.specs.Response.{SingleAnswer, single_response}
 use Rattle.reg_ocsp.specs.Views.{id_seen, ids_seen, answer_seen, answers_seen, answered, answered_length}
 
 answered_total : (answers : List (CertId × Status)) → sum_by answered_length answers ≡ sum_by raw_length (ids_seen (answered answers))
@@ -39,7 +39,7 @@ module _ (answers : List (CertId × Status)) (i : ℕ) (answer : CertId × Statu
   pub written_more : (now next : ℕ) → flat_map (single_response now next) (answers_seen (take (i + 1) answers))
       ≡ flat_map (single_response now next) (answers_seen (take i answers)) ++ single_response now next (answer_seen answer)
   written_more now next =
-      let write : Answer → List ℕ = single_response now next in
+      let write : SingleAnswer → List ℕ = single_response now next in
       let front = answers_seen (take i answers) in
       ap (λ (xs : List (CertId × Status)). flat_map write (answers_seen xs)) taken_more
       ∙ ap (flat_map write) (map-append answer_seen (take i answers) (answer ∷ []))

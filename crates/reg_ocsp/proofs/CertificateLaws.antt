@@ -8,13 +8,13 @@ use Rattle.reg_core.specs.Integer.{IsBytes}
 use Rattle.reg_core.specs.Sequence.{◌>>=◌}
 use Rattle.reg_der.specs.Authority.{IsKey}
 use Rattle.reg_der.specs.Der.{tlv}
-use Rattle.reg_der.specs.Reading.{Gives, Takes}
-use Rattle.reg_der.specs.Values.{bits_value}
+use Rattle.reg_der.specs.ValueReading.{Gives, Takes}
+use Rattle.reg_der.specs.WrittenValues.{bits_value}
 use Rattle.reg_der.proofs.PublicLaws.{value_size}
-use Rattle.reg_der.proofs.Values.{bind_then, kept, some_is}
+use Rattle.reg_der.proofs.ValueLemmas.{bind_then, kept, some_is}
 use Rattle.reg_ocsp.specs.declared.certificate.CertifiedKey.{CertifiedKey}
 use Rattle.reg_ocsp.specs.Certificate.{Form, IsCertificateOf, key_info, to_be_signed, certificate, no_unused, as_key, key_info_at, after_subject_at, signed_part_at, certificate_at}
-use Rattle.reg_ocsp.specs.Reading.{expect_at, whole_at, optional_at}
+use Rattle.reg_ocsp.specs.RequestReading.{expect_at, whole_at, optional_at}
 use Rattle.reg_ocsp.specs.Request.{optional}
 use Rattle.reg_ocsp.specs.Views.{key_seen}
 use Rattle.reg_ocsp.proofs.PartLaws.{chosen, expect_takes, expect_again, whole_takes, whole_again, optional_takes, optional_again, IsSmall, begins_value}

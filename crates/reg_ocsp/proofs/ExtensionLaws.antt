@@ -9,11 +9,11 @@ use Rattle.std.proofs.lemmas.Slice.Eq.{bytes_eq-Decides}
 use Rattle.reg_core.specs.Integer.{IsBytes}
 use Rattle.reg_core.specs.Sequence.{◌>>=◌}
 use Rattle.reg_der.specs.Der.{tlv}
-use Rattle.reg_der.specs.Reading.{Takes}
+use Rattle.reg_der.specs.ValueReading.{Takes}
 use Rattle.reg_der.proofs.PublicLaws.{value_size}
-use Rattle.reg_der.proofs.Values.{bind_then, kept, some_is, or_false}
-use Rattle.reg_ocsp.specs.Request.{Extension, IsExtension, AreExtensions, nonce_identifier, first_nonce, optional, boolean, critical, extension, extensions}
-use Rattle.reg_ocsp.specs.Reading.{expect_at, whole_at, optional_at, last_at, all_at, flag_of, written_flag, critical_at, is_refused, fields_at, extension_at, nonce_at, written_nonce, last_nonce_at}
+use Rattle.reg_der.proofs.ValueLemmas.{bind_then, kept, some_is, or_false}
+use Rattle.reg_ocsp.specs.Request.{Extension, IsExtension, AreExtensions, nonce_identifier, first_nonce, optional, boolean, critical, request_extension, extensions}
+use Rattle.reg_ocsp.specs.RequestReading.{expect_at, whole_at, optional_at, last_at, all_at, flag_of, written_flag, critical_at, is_refused, fields_at, extension_at, nonce_at, written_nonce, last_nonce_at}
 use Rattle.reg_ocsp.proofs.PartLaws.{expect_takes, expect_again, whole_takes, whole_again, optional_takes, optional_again, last_takes, last_again, IsSmall, BeginsElse, begins_last}
 use Rattle.reg_ocsp.proofs.ItemLaws.{Reads, TakesItem, items_take, items_again}
 
@@ -146,14 +146,14 @@ fields_take bytes e each read =
       fits = not_refused identifier.0 flag.0 value g.0;
     }))))
 
-pub extension_takes : (bytes : List ℕ) (x : Extension × List ℕ) → IsBytes bytes → extension_at bytes ≡ Some x → TakesItem extension same_extension IsExtension bytes x.0 x.1
+pub extension_takes : (bytes : List ℕ) (x : Extension × List ℕ) → IsBytes bytes → extension_at bytes ≡ Some x → TakesItem request_extension same_extension IsExtension bytes x.0 x.1
 unfolding extension_at
 extension_takes bytes x each e =
     bind_then (expect_at 0x30 bytes) after_outer x e (λ outer read_outer e1.
     bind_then (fields_at outer.0) (after_fields outer.1) x e1 (λ made read_made e2.
     let t0 = expect_takes 0x30 bytes outer each read_outer in
     let t1 = fields_take outer.0 made t0.inner read_made in
-    subst (λ (y : Extension × List ℕ). TakesItem extension same_extension IsExtension bytes y.0 y.1) (some_is (made, outer.1) x e2)
+    subst (λ (y : Extension × List ℕ). TakesItem request_extension same_extension IsExtension bytes y.0 y.1) (some_is (made, outer.1) x e2)
     (record {
       tree = made;
       fits = t1.fits;
@@ -161,7 +161,7 @@ extension_takes bytes x each e =
       same = refl;
     })))
 
-pub extension_again : (e : Extension) (rest : List ℕ) → IsExtension e → length (extension e) ≤ 65536 → extension_at (extension e ++ rest) ≡ Some (e, rest)
+pub extension_again : (e : Extension) (rest : List ℕ) → IsExtension e → length (request_extension e) ≤ 65536 → extension_at (request_extension e ++ rest) ≡ Some (e, rest)
 unfolding extension_at fields_at
 extension_again e rest fits small =
     let last = tlv 0x04 e.value in
@@ -176,7 +176,7 @@ extension_again e rest fits small =
     let e3 = whole_again 0x04 e.value (omega arith) l2 in
     rw (e0, e1, e2, e3, passes e fits) refl
 
-pub extension_reads : Reads extension_at extension same_extension IsExtension
+pub extension_reads : Reads extension_at request_extension same_extension IsExtension
 extension_reads = record {
   takes = extension_takes;
   again = extension_again;
@@ -213,7 +213,7 @@ nonce_takes tag contents nonce each e =
     bind_then (whole_at 0x30 contents) after_list nonce e (λ list read_list e1.
     bind_then (all_at extension_at list) as_nonce nonce e1 (λ es read_es e2.
     let t0 = whole_takes 0x30 contents list each read_list in
-    let t1 = items_take extension_at extension same_extension IsExtension extension_reads (length list) list es t0.inner read_es in
+    let t1 = items_take extension_at request_extension same_extension IsExtension extension_reads (length list) list es t0.inner read_es in
     let same : es ≡ t1.trees = t1.same ∙ map_same t1.trees in
     record {
       tree = Some t1.trees;
@@ -229,7 +229,7 @@ written_nonce_takes tag (Some contents) nonce each e = nonce_takes tag contents 
 -- the octets of Extensions, where they are written
 abbrev pub contents_of : Option (List Extension) → Option (List ℕ)
 contents_of None = None
-contents_of (Some es) = Some (tlv 0x30 (flat_map extension es))
+contents_of (Some es) = Some (tlv 0x30 (flat_map request_extension es))
 
 pub extensions_are : (tag : ℕ) (tree : Option (List Extension)) → extensions tag tree ≡ optional tag (contents_of tree)
 extensions_are tag None = refl
@@ -239,10 +239,10 @@ pub written_nonce_again : (tag : ℕ) (tree : Option (List Extension)) → AreEx
 unfolding nonce_at
 written_nonce_again tag None fits small = refl
 written_nonce_again tag (Some es) fits small =
-    let list = flat_map extension es in
+    let list = flat_map request_extension es in
     let l0 : length list ≤ 65536 = omega (arith, (value_size tag (tlv 0x30 list)).least, (value_size 0x30 list).least) in
     let e0 = whole_again 0x30 list (omega arith) l0 in
-    let e1 = items_again extension_at extension same_extension IsExtension extension_reads es (length list) fits (omega arith) l0 in
+    let e1 = items_again extension_at request_extension same_extension IsExtension extension_reads es (length list) fits (omega arith) l0 in
     rw (e0, e1, map_same es) refl
 
 -- what is written of extensions is few where they are

@@ -4,10 +4,10 @@ use Rattle.std.specs.List.{flat_map, AllByRecursion}
 use Rattle.std.proofs.lemmas.List.{length-append}
 use Rattle.reg_core.specs.Integer.{IsBytes}
 use Rattle.reg_core.specs.Sequence.{◌>>=◌}
-use Rattle.reg_der.specs.Reading.{Takes}
+use Rattle.reg_der.specs.ValueReading.{Takes}
 use Rattle.reg_der.proofs.KeyIdentifiers.{bind_same}
-use Rattle.reg_der.proofs.Values.{bind_then, some_is}
-use Rattle.reg_ocsp.specs.Reading.{items_at, all_at}
+use Rattle.reg_der.proofs.ValueLemmas.{bind_then, some_is}
+use Rattle.reg_ocsp.specs.RequestReading.{items_at, all_at}
 
 -- an item was taken from the front: its tree, which is spelled and seen so
 pub record TakesItem {T V : Type 0} (spell : T → List ℕ) (view : T → V) (Fits : T → Type 0) (bytes : List ℕ) (seen : V) (rest : List ℕ) : Type 0 where

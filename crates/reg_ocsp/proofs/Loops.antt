@@ -6,8 +6,8 @@ use Rattle.std.proofs.lemmas.Bool.{ne_eqb}
 use Rattle.std.proofs.lemmas.List.{append-nil, nil_from_length}
 use Rattle.reg_core.specs.Integer.{IsBytes}
 use Rattle.reg_core.specs.Sequence.{◌>>=◌}
-use Rattle.reg_ocsp.specs.Request.{Extension, IsExtension, Id, asked_by, single, IsSingle, extension, first_nonce, nonce_identifier}
-use Rattle.reg_ocsp.specs.Reading.{whole_at, all_at, extension_at, nonce_at, single_at, ids_at}
+use Rattle.reg_ocsp.specs.Request.{Extension, IsExtension, Id, id_asked, single, IsSingle, request_extension, first_nonce, nonce_identifier}
+use Rattle.reg_ocsp.specs.RequestReading.{whole_at, all_at, extension_at, nonce_at, single_at, ids_at}
 use Rattle.reg_ocsp.proofs.PartLaws.{whole_takes}
 use Rattle.reg_ocsp.proofs.ItemLaws.{all_step, all_fails}
 use Rattle.reg_ocsp.proofs.ExtensionLaws.{same_extension, extension_takes, extension_reads}
@@ -39,7 +39,7 @@ regroup found found2 e None same = refl
 pub nonce_goes_on : (nonce nonce2 : Option (List ℕ)) (rest after list : List ℕ) (e : Extension) → ((es : List Extension) → found_first nonce (e ∷ es) ≡ found_first nonce2 es)
     → 1 ≤ length rest → extension_at rest ≡ Some (e, after) → LooksFor nonce rest list → LooksFor nonce2 after list
 nonce_goes_on nonce nonce2 rest after list e same some read so_far =
-    let step = all_step extension_at extension same_extension IsExtension extension_reads rest e after so_far.each some read in
+    let step = all_step extension_at request_extension same_extension IsExtension extension_reads rest e after so_far.each some read in
     record {
       told = sym (ap (found_in nonce) step ∙ regroup nonce nonce2 e (all_at extension_at after) same) ∙ so_far.told;
       each = (extension_takes rest (e, after) so_far.each read).taken.each;
@@ -100,7 +100,7 @@ push_front front id None = refl
 
 pub ids_go_on : (front : List Id) (rest after list : List ℕ) (id : Id) → 1 ≤ length rest → single_at rest ≡ Some (id, after) → Lists front rest list → Lists (front ++ id ∷ []) after list
 ids_go_on front rest after list id some read so_far =
-    let step = all_step single_at single asked_by IsSingle single_reads rest id after so_far.each some read in
+    let step = all_step single_at single id_asked IsSingle single_reads rest id after so_far.each some read in
     record {
       told = sym (ap (with_front front) step ∙ push_front front id (all_at single_at after)) ∙ so_far.told;
       each = (single_takes rest (id, after) so_far.each read).taken.each;

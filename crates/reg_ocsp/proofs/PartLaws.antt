@@ -6,11 +6,11 @@ use Rattle.std.proofs.lemmas.List.{append-nil, nil_from_length}
 use Rattle.reg_core.specs.Integer.{IsBytes}
 use Rattle.reg_core.specs.Sequence.{◌>>=◌}
 use Rattle.reg_der.specs.Der.{tlv}
-use Rattle.reg_der.specs.Reading.{Parts, value_at, Takes}
+use Rattle.reg_der.specs.ValueReading.{Parts, value_at, Takes}
 use Rattle.reg_der.proofs.PublicLaws.{value_takes, value_again}
-use Rattle.reg_der.proofs.Values.{bind_then, some_is}
+use Rattle.reg_der.proofs.ValueLemmas.{bind_then, some_is}
 use Rattle.reg_ocsp.specs.Request.{optional}
-use Rattle.reg_ocsp.specs.Reading.{expect_at, whole_at, optional_at, last_at}
+use Rattle.reg_ocsp.specs.RequestReading.{expect_at, whole_at, optional_at, last_at}
 
 -- ---- steps
 

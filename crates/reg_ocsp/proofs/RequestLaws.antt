@@ -9,15 +9,15 @@ use Rattle.std.proofs.lemmas.Slice.Eq.{bytes_eq-Decides}
 use Rattle.reg_core.specs.Integer.{IsBytes}
 use Rattle.reg_core.specs.Sequence.{◌>>=◌}
 use Rattle.reg_der.specs.Der.{tlv, length_octets}
-use Rattle.reg_der.specs.Reading.{Takes}
+use Rattle.reg_der.specs.ValueReading.{Takes}
 use Rattle.reg_der.proofs.PublicLaws.{value_size}
-use Rattle.reg_der.proofs.Values.{bind_then, kept, some_is}
-use Rattle.reg_ocsp.specs.Request.{Single, IsSingle, Extension, AreExtensions, Id, asked_by, Form, IsForm, single, version, optional, extensions, to_be_signed, spelling, repeated, nonce_of, first_nonce, IsRequest, OneReading, cert_id, algorithm, raw_length, IsNonce, CanBeAnswered}
+use Rattle.reg_der.proofs.ValueLemmas.{bind_then, kept, some_is}
+use Rattle.reg_ocsp.specs.Request.{Single, IsSingle, Extension, AreExtensions, Id, id_asked, Form, IsForm, single, request_version, optional, extensions, to_be_signed, spelling, repeated, nonce_of, first_nonce, IsOcspRequest, OneReading, cert_id, algorithm, raw_length, IsNonce, CanBeAnswered}
 use Rattle.reg_ocsp.specs.declared.asked.Asked.{Asked}
 use Rattle.reg_ocsp.specs.declared.fault.AskFault.{AskFault}
 use Rattle.reg_ocsp.specs.declared.fault.AskFault.TheVariants.{Malformed, Memory}
 use Rattle.reg_ocsp.specs.Views.{id_seen, ids_seen, GivesUnlessMemory}
-use Rattle.reg_ocsp.specs.Reading.{expect_at, whole_at, optional_at, last_at, all_at, ids_at, single_at, is_version, version_at, last_nonce_at, list_at, signed_at, tbs_at, parts_at, request_at}
+use Rattle.reg_ocsp.specs.RequestReading.{expect_at, whole_at, optional_at, last_at, all_at, ids_at, single_at, is_version, version_at, last_nonce_at, list_at, signed_at, tbs_at, parts_at, request_at}
 use Rattle.reg_ocsp.proofs.PartLaws.{chosen, expect_takes, expect_again, whole_takes, whole_again, optional_takes, optional_again, last_takes, last_again, IsSmall, BeginsElse, begins_value, begins_optional}
 use Rattle.reg_ocsp.proofs.ItemLaws.{TakesAll, items_take, items_again}
 use Rattle.reg_ocsp.proofs.ExtensionLaws.{nonce_in, contents_small, last_nonce_takes, last_nonce_again}
@@ -30,7 +30,7 @@ some_trees [] bytes e some = absurd (omega (arith, ap length e))
 some_trees (s ∷ ss) bytes e some = omega arith
 
 record TakesIds (bytes : List ℕ) (ids : List Id) : Type 0 where
-  all : TakesAll single asked_by IsSingle bytes ids
+  all : TakesAll single id_asked IsSingle bytes ids
   some : 1 ≤ length all.trees
 
 ids_takes : (bytes : List ℕ) (ids : List Id) → IsBytes bytes → ids_at bytes ≡ Some ids → TakesIds bytes ids
@@ -38,19 +38,19 @@ unfolding ids_at
 ids_takes bytes ids each e =
     let g = kept (eqb (length bytes) 0) (all_at single_at bytes) ids e in
     let ne = eqb-false (length bytes) 0 g.0 in
-    let t = items_take single_at single asked_by IsSingle single_reads (length bytes) bytes ids each g.1 in
+    let t = items_take single_at single id_asked IsSingle single_reads (length bytes) bytes ids each g.1 in
     record { all = t; some = some_trees t.trees bytes t.spelled (omega (arith, ne)) }
 
 some_bytes : (ss : List Single) → 1 ≤ length ss → 1 ≤ length (flat_map single ss)
 some_bytes [] some = absurd (omega arith)
 some_bytes (s ∷ ss) some = let first = single_reads.some s in omega (arith, length-append (single s) (flat_map single ss))
 
-ids_again : (ss : List Single) → AllByRecursion IsSingle ss → 1 ≤ length ss → length (flat_map single ss) ≤ 65536 → ids_at (flat_map single ss) ≡ Some (map asked_by ss)
+ids_again : (ss : List Single) → AllByRecursion IsSingle ss → 1 ≤ length ss → length (flat_map single ss) ≤ 65536 → ids_at (flat_map single ss) ≡ Some (map id_asked ss)
 unfolding ids_at
 ids_again ss fits some small =
     let bytes = some_bytes ss some in
     let e0 : eqb (length (flat_map single ss)) 0 ≡ false = ne_eqb (length (flat_map single ss)) 0 (λ same. absurd (omega arith)) in
-    rw e0 (items_again single_at single asked_by IsSingle single_reads ss (length (flat_map single ss)) fits (omega arith) small)
+    rw e0 (items_again single_at single id_asked IsSingle single_reads ss (length (flat_map single ss)) fits (omega arith) small)
 
 -- ---- the version
 
@@ -60,7 +60,7 @@ the_version = refl
 
 record TakesVersion (bytes rest : List ℕ) : Type 0 where
   flag : Bool
-  taken : Takes bytes (version flag) rest
+  taken : Takes bytes (request_version flag) rest
 
 version_written : (bytes rest : List ℕ) (written : Option (List ℕ)) → Takes bytes (optional 0xA0 written) rest → is_version written ≡ true → TakesVersion bytes rest
 version_written bytes rest None taken is = record { flag = false; taken = taken }
@@ -83,7 +83,7 @@ abbrev version_contents : Bool → Option (List ℕ)
 version_contents true = Some (tlv 0x02 (0 ∷ []))
 version_contents false = None
 
-version_is : (flag : Bool) → version flag ≡ optional 0xA0 (version_contents flag)
+version_is : (flag : Bool) → request_version flag ≡ optional 0xA0 (version_contents flag)
 version_is true = refl
 version_is false = refl
 
@@ -96,10 +96,10 @@ version_reads : (flag : Bool) → is_version (version_contents flag) ≡ true
 version_reads true = (bytes_eq-Decides (tlv 0x02 (0 ∷ [])) (0x02 ∷ 0x01 ∷ 0x00 ∷ [])).1 the_version
 version_reads false = refl
 
-version_again : (flag : Bool) (rest : List ℕ) → BeginsElse 0xA0 rest → version_at (version flag ++ rest) ≡ Some rest
+version_again : (flag : Bool) (rest : List ℕ) → BeginsElse 0xA0 rest → version_at (request_version flag ++ rest) ≡ Some rest
 unfolding version_at
 version_again flag rest begins =
-    let again : optional_at 0xA0 (version flag ++ rest) ≡ Some (version_contents flag, rest) =
+    let again : optional_at 0xA0 (request_version flag ++ rest) ≡ Some (version_contents flag, rest) =
     rw (version_is flag) (optional_again 0xA0 (version_contents flag) rest (omega arith) (version_small flag) begins) in
     rw (again, version_reads flag) refl
 
@@ -111,7 +111,7 @@ nonce_is (Some es) = refl
 
 -- the contents of a TBSRequest
 abbrev signed_text : Bool → Option (List ℕ) → List ℕ → Option (List Extension) → List ℕ
-signed_text flag requestor list es = version flag ++ (optional 0xA1 requestor ++ (tlv 0x30 list ++ extensions 0xA2 es))
+signed_text flag requestor list es = request_version flag ++ (optional 0xA1 requestor ++ (tlv 0x30 list ++ extensions 0xA2 es))
 
 record TakesSigned (bytes list : List ℕ) (nonce : Option (List ℕ)) : Type 0 where
   flag : Bool
@@ -138,7 +138,7 @@ after_start rest = optional_at 0xA1 rest >>= after_requestor
 record TakesList (bytes list rest : List ℕ) : Type 0 where
   flag : Bool
   requestor : Option (List ℕ)
-  spelled : bytes ≡ version flag ++ (optional 0xA1 requestor ++ (tlv 0x30 list ++ rest))
+  spelled : bytes ≡ request_version flag ++ (optional 0xA1 requestor ++ (tlv 0x30 list ++ rest))
   inner : IsBytes list
   each : IsBytes rest
 
@@ -153,7 +153,7 @@ list_takes bytes x each e =
     record {
       flag = t0.flag;
       requestor = requestor.0;
-      spelled = t0.taken.parts ∙ ap (λ (r : List ℕ). version t0.flag ++ r) (t1.taken.parts ∙ ap (λ (r : List ℕ). optional 0xA1 requestor.0 ++ r) t2.taken.parts);
+      spelled = t0.taken.parts ∙ ap (λ (r : List ℕ). request_version t0.flag ++ r) (t1.taken.parts ∙ ap (λ (r : List ℕ). optional 0xA1 requestor.0 ++ r) t2.taken.parts);
       inner = t2.inner;
       each = t2.taken.each;
     }))
@@ -166,7 +166,7 @@ signed_takes bytes x each e =
     let t0 = list_takes bytes list each read_list in
     let t1 = last_nonce_takes 0xA2 list.1 first t0.each read_first in
     let whole : bytes ≡ signed_text t0.flag t0.requestor list.0 t1.tree =
-    t0.spelled ∙ ap (λ (r : List ℕ). version t0.flag ++ (optional 0xA1 t0.requestor ++ (tlv 0x30 list.0 ++ r))) t1.spelled in
+    t0.spelled ∙ ap (λ (r : List ℕ). request_version t0.flag ++ (optional 0xA1 t0.requestor ++ (tlv 0x30 list.0 ++ r))) t1.spelled in
     subst (λ (y : List ℕ × Option (List ℕ)). TakesSigned bytes y.0 y.1) (some_is (list.0, repeated first) x e2)
     (record {
       flag = t0.flag;
@@ -185,7 +185,7 @@ signed_again flag requestor list tree fits small =
     let last = extensions 0xA2 tree in
     let after_requestor = tlv 0x30 list ++ last in
     let after_version = optional 0xA1 requestor ++ after_requestor in
-    let len0 = length-append (version flag) after_version in
+    let len0 = length-append (request_version flag) after_version in
     let len1 = length-append (optional 0xA1 requestor) after_requestor in
     let len2 = length-append (tlv 0x30 list) last in
     let l2 : length list ≤ 65536 = omega (arith, (value_size 0x30 list).least) in
@@ -287,7 +287,7 @@ with_nonce repeats ids = Some (ids, repeats)
 abbrev after_parts : List ℕ × Option (List ℕ) → Option (List Id × Option (List ℕ))
 after_parts parts = ids_at parts.0 >>= with_nonce parts.1
 
-pub request_takes : (bytes : List ℕ) (x : List Id × Option (List ℕ)) → IsBytes bytes → request_at bytes ≡ Some x → IsRequest bytes x.0 x.1
+pub request_takes : (bytes : List ℕ) (x : List Id × Option (List ℕ)) → IsBytes bytes → request_at bytes ≡ Some x → IsOcspRequest bytes x.0 x.1
 unfolding request_at
 request_takes bytes x each e =
     bind_then (parts_at bytes) after_parts x e (λ parts read_parts e1.
@@ -297,7 +297,7 @@ request_takes bytes x each e =
     let made : Form = record { version = t0.flag; requestor = t0.requestor; singles = t1.all.trees; extensions = t0.tree; signature = t0.signature } in
     let spelled : bytes ≡ spelling made =
     t0.spelled ∙ ap (λ (list : List ℕ). tlv 0x30 (tlv 0x30 (signed_text t0.flag t0.requestor list t0.tree) ++ optional 0xA0 t0.signature)) t1.all.spelled in
-    subst (λ (y : List Id × Option (List ℕ)). IsRequest bytes y.0 y.1) (some_is (ids, parts.1) x e2)
+    subst (λ (y : List Id × Option (List ℕ)). IsOcspRequest bytes y.0 y.1) (some_is (ids, parts.1) x e2)
     (record {
       each = each;
       short = t0.short;
@@ -315,13 +315,13 @@ list_small f small =
       (value_size 0x30 (signed ++ optional 0xA0 f.signature)).least,
       length-append signed (optional 0xA0 f.signature),
       (value_size 0x30 (signed_text f.version f.requestor list f.extensions)).least,
-      length-append (version f.version) (optional 0xA1 f.requestor ++ (tlv 0x30 list ++ last)),
+      length-append (request_version f.version) (optional 0xA1 f.requestor ++ (tlv 0x30 list ++ last)),
       length-append (optional 0xA1 f.requestor) (tlv 0x30 list ++ last),
       length-append (tlv 0x30 list) last,
       (value_size 0x30 list).least,
     )
 
-spelling_reads : (f : Form) → IsForm f → length (spelling f) ≤ 65536 → request_at (spelling f) ≡ Some (map asked_by f.singles, nonce_of f.extensions)
+spelling_reads : (f : Form) → IsForm f → length (spelling f) ≤ 65536 → request_at (spelling f) ≡ Some (map id_asked f.singles, nonce_of f.extensions)
 unfolding request_at
 spelling_reads f allowed small =
     let list = flat_map single f.singles in
@@ -333,11 +333,11 @@ spelling_reads f allowed small =
 reading_is : (bytes text : List ℕ) (ids asked : List Id) (nonce told : Option (List ℕ)) → bytes ≡ text → ids ≡ asked → nonce ≡ told → request_at text ≡ Some (asked, told) → request_at bytes ≡ Some (ids, nonce)
 reading_is bytes text ids asked repeats told e f g read = rw (e, f, g) read
 
-pub request_reads : (bytes : List ℕ) (ids : List Id) (nonce : Option (List ℕ)) → IsRequest bytes ids nonce → request_at bytes ≡ Some (ids, nonce)
+pub request_reads : (bytes : List ℕ) (ids : List Id) (nonce : Option (List ℕ)) → IsOcspRequest bytes ids nonce → request_at bytes ≡ Some (ids, nonce)
 request_reads bytes ids nonce is =
     let b = is.built in
     let small : length (spelling is.form) ≤ 65536 = let short = is.short in let same = ap length b.spelled in omega arith in
-    reading_is bytes (spelling is.form) ids (map asked_by is.form.singles) nonce (nonce_of is.form.extensions) b.spelled b.asks b.repeats (spelling_reads is.form b.allowed small)
+    reading_is bytes (spelling is.form) ids (map id_asked is.form.singles) nonce (nonce_of is.form.extensions) b.spelled b.asks b.repeats (spelling_reads is.form b.allowed small)
 
 abbrev some_reading : List Id × Option (List ℕ) → Option (List Id × Option (List ℕ))
 some_reading x = Some x
@@ -349,7 +349,7 @@ one_reading bytes ids_a ids_b nonce_a nonce_b a b =
     (ap (λ (x : List Id × Option (List ℕ)). x.0) pair, ap (λ (x : List Id × Option (List ℕ)). x.1) pair)
 
 -- where nothing is read there is no request
-pub no_request : (bytes : List ℕ) → request_at bytes ≡ None → (ids : List Id) (nonce : Option (List ℕ)) → IsRequest bytes ids nonce → ⊥
+pub no_request : (bytes : List ℕ) → request_at bytes ≡ None → (ids : List Id) (nonce : Option (List ℕ)) → IsOcspRequest bytes ids nonce → ⊥
 no_request bytes read ids nonce is =
     let same : some_reading (ids, nonce) ≡ None = sym (request_reads bytes ids nonce is) ∙ read in
     absurd cc
@@ -357,20 +357,20 @@ no_request bytes read ids nonce is =
 -- ---- sizes
 
 -- the whole values of the CertIDs stand in the list, which is longer
-raws_small : (ss : List Single) → sum_by raw_length (map asked_by ss) ≤ length (flat_map single ss)
+raws_small : (ss : List Single) → sum_by raw_length (map id_asked ss) ≤ length (flat_map single ss)
 raws_small [] = omega arith
 raws_small (s ∷ ss) =
     let others = raws_small ss in
     let id = cert_id s.target in
     let written = extensions 0xA0 s.extensions in
-    omega (arith, sum_by-cons raw_length (asked_by s) (map asked_by ss), length-append (single s) (flat_map single ss), (value_size 0x30 (id ++ written)).least, length-append id written)
+    omega (arith, sum_by-cons raw_length (id_asked s) (map id_asked ss), length-append (single s) (flat_map single ss), (value_size 0x30 (id ++ written)).least, length-append id written)
 
-ids_few : (ss : List Single) → length (map asked_by ss) ≤ sum_by raw_length (map asked_by ss)
+ids_few : (ss : List Single) → length (map id_asked ss) ≤ sum_by raw_length (map id_asked ss)
 ids_few [] = omega arith
 ids_few (s ∷ ss) =
     let others = ids_few ss in
     let t = s.target in
-    omega (arith, sum_by-cons raw_length (asked_by s) (map asked_by ss), (value_size 0x30 (algorithm t.identifier t.parameters ++ (tlv 0x04 t.name_hash ++ (tlv 0x04 t.key_hash ++ tlv 0x02 t.serial)))).least)
+    omega (arith, sum_by-cons raw_length (id_asked s) (map id_asked ss), (value_size 0x30 (algorithm t.identifier t.parameters ++ (tlv 0x04 t.name_hash ++ (tlv 0x04 t.key_hash ++ tlv 0x02 t.serial)))).least)
 
 repeated_short : (first : Option (List ℕ)) → IfSome (repeated first) IsNonce
 repeated_short None = tt
@@ -390,21 +390,21 @@ nonce_fits : (nonce : Option (List ℕ)) → IfSome nonce IsNonce → IfSome non
 nonce_fits None is = tt
 nonce_fits (Some value) is = is.short
 
-pub repeats_nonce : (bytes : List ℕ) (ids : List Id) (nonce : Option (List ℕ)) → IsRequest bytes ids nonce → IfSome nonce IsNonce
+pub repeats_nonce : (bytes : List ℕ) (ids : List Id) (nonce : Option (List ℕ)) → IsOcspRequest bytes ids nonce → IfSome nonce IsNonce
 repeats_nonce bytes ids told is = subst (λ (n : Option (List ℕ)). IfSome n IsNonce) (sym is.built.repeats) (nonce_short is.form.extensions)
 
-pub asks_some : (bytes : List ℕ) (ids : List Id) (nonce : Option (List ℕ)) → IsRequest bytes ids nonce → 1 ≤ length ids
+pub asks_some : (bytes : List ℕ) (ids : List Id) (nonce : Option (List ℕ)) → IsOcspRequest bytes ids nonce → 1 ≤ length ids
 asks_some bytes ids told is =
     let one = is.built.allowed.some in
     let same = ap length is.built.asks in
-    omega (arith, length-map is.form.singles asked_by)
+    omega (arith, length-map is.form.singles id_asked)
 
-pub can_be_answered : (bytes : List ℕ) (ids : List Id) (nonce : Option (List ℕ)) → IsRequest bytes ids nonce → CanBeAnswered ids nonce
+pub can_be_answered : (bytes : List ℕ) (ids : List Id) (nonce : Option (List ℕ)) → IsOcspRequest bytes ids nonce → CanBeAnswered ids nonce
 can_be_answered bytes ids nonce is =
     let f = is.form in
     let small : length (spelling f) ≤ 65536 = let short = is.short in let same = ap length is.built.spelled in omega arith in
     let list = list_small f small in
-    let asked = map asked_by f.singles in
+    let asked = map id_asked f.singles in
     let raws = raws_small f.singles in
     let few = ids_few f.singles in
     let made : CanBeAnswered asked (nonce_of f.extensions) = record {
@@ -423,27 +423,27 @@ abbrev asked_seen : Asked → List Id × Option (List ℕ)
 asked_seen a = (ids_seen a.ids.items, option_copied a.nonce)
 
 pub is_found : (bytes : List ℕ) (outcome : Result Asked AskFault) → IsBytes bytes → GivesUnlessMemory asked_seen outcome (request_at bytes)
-    → IfOk outcome (λ a. IsRequest bytes (ids_seen a.ids.items) (option_copied a.nonce))
+    → IfOk outcome (λ a. IsOcspRequest bytes (ids_seen a.ids.items) (option_copied a.nonce))
 is_found bytes (Ok a) each given = request_takes bytes (asked_seen a) each given
 is_found bytes (Err e) each given = tt
 
 pub is_malformed : (bytes : List ℕ) (outcome : Result Asked AskFault) → GivesUnlessMemory asked_seen outcome (request_at bytes)
-    → IsErrOf outcome Malformed → (ids : List Id) (nonce : Option (List ℕ)) → IsRequest bytes ids nonce → ⊥
+    → IsErrOf outcome Malformed → (ids : List Id) (nonce : Option (List ℕ)) → IsOcspRequest bytes ids nonce → ⊥
 is_malformed bytes (Ok a) given is = absurd (cc)
 is_malformed bytes (Err Malformed) given is = no_request bytes given
 is_malformed bytes (Err Memory) given is = absurd (cc)
 
-pub is_answerable : (bytes : List ℕ) (outcome : Result Asked AskFault) → IfOk outcome (λ a. IsRequest bytes (ids_seen a.ids.items) (option_copied a.nonce))
+pub is_answerable : (bytes : List ℕ) (outcome : Result Asked AskFault) → IfOk outcome (λ a. IsOcspRequest bytes (ids_seen a.ids.items) (option_copied a.nonce))
     → IfOk outcome (λ a. CanBeAnswered (ids_seen a.ids.items) (option_copied a.nonce))
 is_answerable bytes (Ok a) is = can_be_answered bytes (ids_seen a.ids.items) (option_copied a.nonce) is
 is_answerable bytes (Err e) is = tt
 
-pub is_some : (bytes : List ℕ) (outcome : Result Asked AskFault) → IfOk outcome (λ a. IsRequest bytes (ids_seen a.ids.items) (option_copied a.nonce))
+pub is_some : (bytes : List ℕ) (outcome : Result Asked AskFault) → IfOk outcome (λ a. IsOcspRequest bytes (ids_seen a.ids.items) (option_copied a.nonce))
     → IfOk outcome (λ a. 1 ≤ length a.ids.items)
 is_some bytes (Ok a) is = omega (arith, asks_some bytes (ids_seen a.ids.items) (option_copied a.nonce) is, length-map a.ids.items id_seen)
 is_some bytes (Err e) is = tt
 
-pub is_repeated : (bytes : List ℕ) (outcome : Result Asked AskFault) → IfOk outcome (λ a. IsRequest bytes (ids_seen a.ids.items) (option_copied a.nonce))
+pub is_repeated : (bytes : List ℕ) (outcome : Result Asked AskFault) → IfOk outcome (λ a. IsOcspRequest bytes (ids_seen a.ids.items) (option_copied a.nonce))
     → IfOk outcome (λ a. IfSome (option_copied a.nonce) IsNonce)
 is_repeated bytes (Ok a) is = repeats_nonce bytes (ids_seen a.ids.items) (option_copied a.nonce) is
 is_repeated bytes (Err e) is = tt

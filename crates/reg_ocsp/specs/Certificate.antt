@@ -4,9 +4,9 @@ use Rattle.reg_core.specs.Integer.{IsBytes}
 use Rattle.reg_core.specs.Sequence.{◌>>=◌}
 use Rattle.reg_der.specs.Authority.{IsKey}
 use Rattle.reg_der.specs.Der.{tlv}
-use Rattle.reg_der.specs.Values.{bits_value}
+use Rattle.reg_der.specs.WrittenValues.{bits_value}
 use Rattle.reg_ocsp.specs.Request.{optional}
-use Rattle.reg_ocsp.specs.Reading.{expect_at, whole_at, optional_at}
+use Rattle.reg_ocsp.specs.RequestReading.{expect_at, whole_at, optional_at}
 
 -- ---- the tree
 

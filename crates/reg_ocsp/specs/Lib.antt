@@ -1,5 +1,5 @@
 pub mod Request
-pub mod Reading
+pub mod RequestReading
 pub mod Response
 pub mod Certificate
 pub mod Drafts

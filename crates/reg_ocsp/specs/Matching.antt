@@ -6,7 +6,7 @@ use Rattle.reg_core.specs.Integer.{integer}
 use Rattle.reg_core.specs.Issuer as core
 use Rattle.reg_core.specs.Serial.{IsSerial}
 use Rattle.reg_der.specs.Authority.{name_of}
-use Rattle.reg_der.specs.Reading.{Parts}
+use Rattle.reg_der.specs.ValueReading.{Parts}
 use Rattle.reg_ocsp.specs.Request.{Id, algorithm}
 
 -- id-sha1, 1.3.14.3.2.26 (RFC 3370 2.1)
@@ -22,12 +22,12 @@ abbrev pub null : Parts
 null = record { tag = 0x05; contents = [] }
 
 -- the whole value of the algorithm of this identifier: its parameters are left out or NULL (RFC 3370 2.1, RFC 5754 2)
-abbrev pub IsAlgorithm : List ℕ → List ℕ → Type 0
-IsAlgorithm identifier value = (value ≡ algorithm identifier None) ⊎ (value ≡ algorithm identifier (Some null))
+abbrev pub IsHashAlgorithm : List ℕ → List ℕ → Type 0
+IsHashAlgorithm identifier value = (value ≡ algorithm identifier None) ⊎ (value ≡ algorithm identifier (Some null))
 
 -- the CertID has this hash of the issuer's name and of its key
 pub record IsHashedBy (identifier : List ℕ) (hash : List ℕ → List ℕ) (issuer : core.Issuer) (id : Id) : Type 0 where
-  pub algorithm : IsAlgorithm identifier id.algorithm
+  pub algorithm : IsHashAlgorithm identifier id.algorithm
   pub name : id.name_hash ≡ hash (name_of issuer)
   pub key : id.key_hash ≡ hash issuer.key
 

@@ -5,7 +5,7 @@ use Rattle.std.specs.List.{flat_map, AllByRecursion}
 use Rattle.std.specs.Str.{bytes_eq}
 use Rattle.reg_core.specs.Integer.{IsBytes, IsShortest}
 use Rattle.reg_der.specs.Der.{tlv}
-use Rattle.reg_der.specs.Reading.{Parts}
+use Rattle.reg_der.specs.ValueReading.{Parts}
 
 -- ---- the trees
 
@@ -56,13 +56,13 @@ critical None = []
 critical (Some flag) = tlv 0x01 (boolean flag)
 
 -- Extension ::= SEQUENCE { extnID OBJECT IDENTIFIER, critical BOOLEAN DEFAULT FALSE, extnValue OCTET STRING }
-abbrev pub extension : Extension → List ℕ
-extension e = tlv 0x30 (tlv 0x06 e.identifier ++ (critical e.critical ++ tlv 0x04 e.value))
+abbrev pub request_extension : Extension → List ℕ
+request_extension e = tlv 0x30 (tlv 0x06 e.identifier ++ (critical e.critical ++ tlv 0x04 e.value))
 
 -- Extensions ::= SEQUENCE OF Extension, under an explicit tag, and left out where there is none to write
 abbrev pub extensions : ℕ → Option (List Extension) → List ℕ
 extensions tag None = []
-extensions tag (Some es) = tlv tag (tlv 0x30 (flat_map extension es))
+extensions tag (Some es) = tlv tag (tlv 0x30 (flat_map request_extension es))
 
 abbrev pub parameters : Option Parts → List ℕ
 parameters None = []
@@ -81,14 +81,14 @@ abbrev pub single : Single → List ℕ
 single s = tlv 0x30 (cert_id s.target ++ extensions 0xA0 s.extensions)
 
 -- `version [0] EXPLICIT Version DEFAULT v1`, where v1 is the INTEGER 0
-abbrev pub version : Bool → List ℕ
-version true = tlv 0xA0 (tlv 0x02 (0 ∷ []))
-version false = []
+abbrev pub request_version : Bool → List ℕ
+request_version true = tlv 0xA0 (tlv 0x02 (0 ∷ []))
+request_version false = []
 
 -- TBSRequest ::= SEQUENCE { version, requestorName [1] EXPLICIT GeneralName OPTIONAL, requestList SEQUENCE OF Request,
 -- requestExtensions [2] EXPLICIT Extensions OPTIONAL }
 abbrev pub to_be_signed : Form → List ℕ
-to_be_signed f = tlv 0x30 (version f.version ++ (optional 0xA1 f.requestor ++ (tlv 0x30 (flat_map single f.singles) ++ extensions 0xA2 f.extensions)))
+to_be_signed f = tlv 0x30 (request_version f.version ++ (optional 0xA1 f.requestor ++ (tlv 0x30 (flat_map single f.singles) ++ extensions 0xA2 f.extensions)))
 
 -- OCSPRequest ::= SEQUENCE { tbsRequest, optionalSignature [0] EXPLICIT Signature OPTIONAL }
 abbrev pub spelling : Form → List ℕ
@@ -138,8 +138,8 @@ pub record Id : Type 0 where
 abbrev pub id_of : Target → Id
 id_of t = record { raw = cert_id t; algorithm = algorithm t.identifier t.parameters; name_hash = t.name_hash; key_hash = t.key_hash; serial = t.serial }
 
-abbrev pub asked_by : Single → Id
-asked_by s = id_of s.target
+abbrev pub id_asked : Single → Id
+id_asked s = id_of s.target
 
 -- the value of the first extension with the nonce's identifier
 abbrev pub first_nonce : List Extension → Option (List ℕ)
@@ -162,11 +162,11 @@ nonce_of (Some es) = repeated (first_nonce es)
 pub record IsRequestOf (bytes : List ℕ) (ids : List Id) (nonce : Option (List ℕ)) (f : Form) : Type 0 where
   pub allowed : IsForm f
   pub spelled : bytes ≡ spelling f
-  pub asks : ids ≡ map asked_by f.singles
+  pub asks : ids ≡ map id_asked f.singles
   pub repeats : nonce ≡ nonce_of f.extensions
 
 -- the bytes, 65,536 at most, are an OCSP request for these CertIDs and with this nonce
-pub record IsRequest (bytes : List ℕ) (ids : List Id) (nonce : Option (List ℕ)) : Type 0 where
+pub record IsOcspRequest (bytes : List ℕ) (ids : List Id) (nonce : Option (List ℕ)) : Type 0 where
   pub each : IsBytes bytes
   pub short : length bytes ≤ 65536
   pub form : Form
@@ -174,7 +174,7 @@ pub record IsRequest (bytes : List ℕ) (ids : List Id) (nonce : Option (List �
 
 -- no bytes have two readings
 abbrev pub OneReading : Type 0
-OneReading = (bytes : List ℕ) (ids_a ids_b : List Id) (nonce_a nonce_b : Option (List ℕ)) → IsRequest bytes ids_a nonce_a → IsRequest bytes ids_b nonce_b → (ids_a ≡ ids_b) × (nonce_a ≡ nonce_b)
+OneReading = (bytes : List ℕ) (ids_a ids_b : List Id) (nonce_a nonce_b : Option (List ℕ)) → IsOcspRequest bytes ids_a nonce_a → IsOcspRequest bytes ids_b nonce_b → (ids_a ≡ ids_b) × (nonce_a ≡ nonce_b)
 
 -- ---- sizes
 

@@ -5,7 +5,7 @@ use Rattle.sha1.specs.Sha1.{sha1}
 use Rattle.reg_core.specs.declared.command.Status.{Status}
 use Rattle.reg_core.specs.declared.command.Status.TheVariants.{Unknown, Good, Expired, Revoked}
 use Rattle.reg_der.specs.Der.{tlv}
-use Rattle.reg_der.specs.Values.{bits_value, general_value}
+use Rattle.reg_der.specs.WrittenValues.{bits_value, general_value}
 use Rattle.reg_ocsp.specs.Request.{nonce_identifier}
 use Rattle.reg_ocsp.specs.declared.response.RefusalStatus.{RefusalStatus}
 use Rattle.reg_ocsp.specs.declared.response.RefusalStatus.TheVariants.{Malformed, Internal, TryLater}
@@ -27,7 +27,7 @@ cert_status Unknown = tlv 0x82 []
 cert_status (Revoked at reason) = tlv 0xA1 (general_value at ++ reason_part reason)
 
 -- a CertID's whole value, and what it is answered
-pub record Answer : Type 0 where
+pub record SingleAnswer : Type 0 where
   pub raw : List ℕ
   pub status : Status
 
@@ -36,11 +36,11 @@ abbrev pub next_update : ℕ → List ℕ
 next_update next = tlv 0xA0 (general_value next)
 
 -- the fields of a SingleResponse: certID, certStatus, thisUpdate GeneralizedTime, nextUpdate
-abbrev pub single_fields : ℕ → ℕ → Answer → List ℕ
+abbrev pub single_fields : ℕ → ℕ → SingleAnswer → List ℕ
 single_fields now next answer = answer.raw ++ cert_status answer.status ++ general_value now ++ next_update next
 
 -- SingleResponse ::= SEQUENCE { certID, certStatus, thisUpdate GeneralizedTime, nextUpdate [0] EXPLICIT GeneralizedTime }
-unfoldable pub single_response : ℕ → ℕ → Answer → List ℕ
+unfoldable pub single_response : ℕ → ℕ → SingleAnswer → List ℕ
 single_response now next answer = tlv 0x30 (single_fields now next answer)
 
 -- ResponderID ::= CHOICE { byKey [2] EXPLICIT KeyHash }: the SHA-1 of the responder's key
@@ -57,13 +57,13 @@ nonce_part None = []
 nonce_part (Some nonce) = tlv 0xA1 (tlv 0x30 (nonce_extension nonce))
 
 -- the fields of a ResponseData: responderID, producedAt GeneralizedTime, responses SEQUENCE OF SingleResponse, responseExtensions
-abbrev pub data_fields : List ℕ → ℕ → ℕ → List Answer → Option (List ℕ) → List ℕ
+abbrev pub data_fields : List ℕ → ℕ → ℕ → List SingleAnswer → Option (List ℕ) → List ℕ
 data_fields key now next answers nonce =
     responder key ++ general_value now ++ tlv 0x30 (flat_map (single_response now next) answers) ++ nonce_part nonce
 
 -- ResponseData ::= SEQUENCE { responderID, producedAt GeneralizedTime, responses SEQUENCE OF SingleResponse,
 -- responseExtensions }, by the key of who answers; each answer holds from now to next
-unfoldable pub response_data : List ℕ → ℕ → ℕ → List Answer → Option (List ℕ) → List ℕ
+unfoldable pub response_data : List ℕ → ℕ → ℕ → List SingleAnswer → Option (List ℕ) → List ℕ
 response_data key now next answers nonce = tlv 0x30 (data_fields key now next answers nonce)
 
 -- `certs [0] EXPLICIT SEQUENCE OF Certificate OPTIONAL`: the one certificate, where one stands there

@@ -7,7 +7,7 @@ use Rattle.reg_ocsp.specs.declared.certificate.CertifiedKey.{CertifiedKey}
 use Rattle.reg_ocsp.specs.declared.extensions.Extension as code
 use Rattle.reg_core.specs.declared.command.Status.{Status}
 use Rattle.reg_ocsp.specs.Request.{Id, Extension}
-use Rattle.reg_ocsp.specs.Response.{Answer}
+use Rattle.reg_ocsp.specs.Response.{SingleAnswer}
 
 -- the slices of a CertID, by their bytes
 abbrev pub id_seen : CertId → Id
@@ -27,10 +27,10 @@ abbrev pub extension_seen : code.Extension → Extension
 extension_seen e = record { identifier = e.identifier.now; critical = e.critical; value = e.value.now }
 
 -- a CertID with what it is answered: its whole value by its bytes
-abbrev pub answer_seen : CertId × Status → Answer
+abbrev pub answer_seen : CertId × Status → SingleAnswer
 answer_seen answer = record { raw = answer.0.raw.now; status = answer.1 }
 
-abbrev pub answers_seen : List (CertId × Status) → List Answer
+abbrev pub answers_seen : List (CertId × Status) → List SingleAnswer
 answers_seen answers = map answer_seen answers
 
 -- the CertIDs that are answered

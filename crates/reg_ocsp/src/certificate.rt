@@ -1,13 +1,13 @@
 //! The public key that stands in a certificate (RFC 5280 4.1).
 
 ghost use Rattle.std.specs.Prelude.{◌≡◌, ◌≤◌, ℕ, List, Some, IfOk, IfSome, IsErrOf, length, option_map};
-ghost use Rattle.reg_der.specs.Reading.{Gives};
+ghost use Rattle.reg_der.specs.ValueReading.{Gives};
 ghost use Rattle.reg_ocsp.specs.Certificate.{IsCertificateOf, after_subject_at, as_key, certificate_at, key_info_at, no_unused, signed_part_at};
 ghost use Rattle.reg_ocsp.specs.Views.{key_seen};
 ghost use Rattle.reg_ocsp.specs.declared.certificate.CertificateFault.TheVariants.{Memory};
 
+use crate::der_values::{expect, optional, whole};
 use crate::tags::{BIT_STRING, INTEGER, SEQUENCE, TAGGED_0};
-use crate::values::{expect, optional, whole};
 use std::alloc::{AllocError, Global};
 use std::marker::Model;
 

@@ -1,13 +1,13 @@
 //! Extensions of a request (RFC 5280 4.1, RFC 6960 4.4.1).
 
 ghost use Rattle.std.specs.Prelude.{◌≡◌, ◌<◌, length, IfSome, option_copied};
-ghost use Rattle.reg_der.specs.Reading.{Gives};
-ghost use Rattle.reg_ocsp.specs.Reading.{critical_at, extension_at, fields_at, flag_of, last_nonce_at, nonce_at, written_flag};
-ghost use Rattle.reg_ocsp.specs.Reading as spec;
+ghost use Rattle.reg_der.specs.ValueReading.{Gives};
+ghost use Rattle.reg_ocsp.specs.RequestReading.{critical_at, extension_at, fields_at, flag_of, last_nonce_at, nonce_at, written_flag};
+ghost use Rattle.reg_ocsp.specs.RequestReading as spec;
 ghost use Rattle.reg_ocsp.specs.Views.{extension_seen};
 
+use crate::der_values::{expect, last, optional, whole};
 use crate::tags::{BOOLEAN, OBJECT_IDENTIFIER, OCTET_STRING, SEQUENCE};
-use crate::values::{expect, last, optional, whole};
 
 /// id-pkix-ocsp-nonce, 1.3.6.1.5.5.7.48.1.2 (RFC 6960 4.4.1).
 pub(crate) const NONCE: [u8; 9] = [0x2B, 0x06, 0x01, 0x05, 0x05, 0x07, 0x30, 0x01, 0x02];
@@ -24,7 +24,7 @@ pub(crate) struct Extension<'a> {
 
 /// The value of the first nonce of the Extensions under the tag that all the bytes are, if there are bytes; all of them
 /// are read.
-#[tactic(auto, unfolding(crate::specs::Reading::last_nonce_at))]
+#[tactic(auto, unfolding(crate::specs::RequestReading::last_nonce_at))]
 pub(crate) fn last_nonce(tag: u8, bytes: &[u8]) -> Option<Option<&[u8]>>
     ensures { Gives (λ x. option_copied x) result (last_nonce_at tag bytes.now) }
 {
@@ -42,7 +42,7 @@ fn written_nonce(extensions: Option<&[u8]>) -> Option<Option<&[u8]>>
 }
 
 /// The value of the first nonce of Extensions that all the bytes are.
-#[tactic(auto, unfolding(crate::specs::Reading::nonce_at))]
+#[tactic(auto, unfolding(crate::specs::RequestReading::nonce_at))]
 fn first_nonce(bytes: &[u8]) -> Option<Option<&[u8]>>
     ensures { Gives (λ x. option_copied x) result (nonce_at bytes.now) }
 {
@@ -59,7 +59,7 @@ fn first_nonce(bytes: &[u8]) -> Option<Option<&[u8]>>
 }
 
 /// The Extension at the front, and what follows.
-#[tactic(auto, unfolding(crate::specs::Reading::extension_at))]
+#[tactic(auto, unfolding(crate::specs::RequestReading::extension_at))]
 fn next_extension(bytes: &[u8]) -> Option<(Extension<'_>, &[u8])>
     ensures exact { Gives (λ x. (extension_seen x.0, x.1.now)) result (extension_at bytes.now) }
     ensures shorter { IfSome result (λ x. length x.1.now < length bytes.now) }
@@ -70,7 +70,7 @@ fn next_extension(bytes: &[u8]) -> Option<(Extension<'_>, &[u8])>
 }
 
 /// The Extension whose fields the bytes are.
-#[tactic(auto, unfolding(crate::specs::Reading::fields_at))]
+#[tactic(auto, unfolding(crate::specs::RequestReading::fields_at))]
 fn extension_of(bytes: &[u8]) -> Option<Extension<'_>>
     ensures { Gives extension_seen result (fields_at bytes.now) }
 {
@@ -96,7 +96,7 @@ fn is_refused(identifier: &[u8], critical: Option<bool>) -> bool
 }
 
 /// `critical`, where it is written, and what follows.
-#[tactic(auto, unfolding(crate::specs::Reading::critical_at))]
+#[tactic(auto, unfolding(crate::specs::RequestReading::critical_at))]
 fn critical(bytes: &[u8]) -> Option<(Option<bool>, &[u8])>
     ensures { Gives (λ x. (x.0, x.1.now)) result (critical_at bytes.now) }
 {

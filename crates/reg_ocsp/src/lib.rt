@@ -3,20 +3,20 @@
 
 mod asked;
 mod certificate;
+mod der_values;
 mod draft;
 mod extensions;
 mod fault;
 pub mod laws;
 mod matching;
-mod reading;
+mod ocsp_request;
 mod response;
 mod tags;
-mod values;
 
 pub use asked::{Asked, CertId};
 pub use certificate::{Certificate, CertificateFault, CertifiedKey, certified_key};
 pub use draft::{Draft, slice_of};
 pub use fault::AskFault;
 pub use matching::matches;
-pub use reading::read_request;
+pub use ocsp_request::read_request;
 pub use response::{RefusalStatus, basic, basic_with, refusal, response_data, response_data_by};

@@ -3,7 +3,7 @@
 ghost use Rattle.std.specs.Prelude.{◌≡◌, ℕ, ◌↔◌, IsTrue, IfSome, IfNone};
 ghost use Rattle.sha1.specs.Sha1.{sha1};
 ghost use Rattle.sha2.specs.Sha256.{sha256};
-ghost use Rattle.reg_ocsp.specs.Matching.{IsAlgorithm, IsHashedBy, IsMatch, NamesIssuer, sha1_identifier, sha256_identifier};
+ghost use Rattle.reg_ocsp.specs.Matching.{IsHashAlgorithm, IsHashedBy, IsMatch, NamesIssuer, sha1_identifier, sha256_identifier};
 ghost use Rattle.reg_ocsp.specs.Views.{id_seen};
 
 use crate::asked::CertId;
@@ -72,7 +72,7 @@ fn is_sha256_of(hash: &[u8], bytes: &[u8]) -> bool
 /// Whether the AlgorithmIdentifier is that of SHA-1.
 #[tactic(auto, unfolding(reg_der::specs::Der::tlv, reg_der::specs::Der::length_octets))]
 fn is_sha1(algorithm: &[u8]) -> bool
-    ensures { IsTrue result ↔ IsAlgorithm sha1_identifier algorithm.now }
+    ensures { IsTrue result ↔ IsHashAlgorithm sha1_identifier algorithm.now }
 {
     algorithm == SHA1_NULL.as_slice() || algorithm == SHA1.as_slice()
 }
@@ -80,7 +80,7 @@ fn is_sha1(algorithm: &[u8]) -> bool
 /// Whether the AlgorithmIdentifier is that of SHA-256.
 #[tactic(auto, unfolding(reg_der::specs::Der::tlv, reg_der::specs::Der::length_octets))]
 fn is_sha256(algorithm: &[u8]) -> bool
-    ensures { IsTrue result ↔ IsAlgorithm sha256_identifier algorithm.now }
+    ensures { IsTrue result ↔ IsHashAlgorithm sha256_identifier algorithm.now }
 {
     algorithm == SHA256_NULL.as_slice() || algorithm == SHA256.as_slice()
 }

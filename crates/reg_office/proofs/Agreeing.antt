@@ -17,7 +17,7 @@ use Rattle.reg_laws.proofs.Listed.{due_entries, revoked_for_good}
 use Rattle.reg_laws.proofs.Lists.{all_weaker}
 use Rattle.reg_ocsp.specs.Matching.{IsMatch}
 use Rattle.reg_ocsp.specs.Request.{Id}
-use Rattle.reg_ocsp.specs.Response.{Answer, cert_status}
+use Rattle.reg_ocsp.specs.Response.{SingleAnswer, cert_status}
 use Rattle.reg_office.specs.Agreement.{Agrees, OcspAgrees}
 use Rattle.reg_calls.specs.Ocsp.{IsAnswer, IsTold}
 
@@ -77,7 +77,7 @@ revoked_by : (entry : Entry) (serial : ℕ) (revocation : RevocationRow)
 revoked_by entry serial revocation told = sym (ap (λ (e : Entry). Revoked e.at e.reason) told)
 
 agrees
-    : (records : Records) (now : ℕ) (id : Id) (answer : Answer)
+    : (records : Records) (now : ℕ) (id : Id) (answer : SingleAnswer)
     → SoundRows records
     → IsAnswer records now id answer
     → Agrees records id answer
@@ -110,7 +110,7 @@ agrees records now id answer sound its = record {
         ∙ revoked_for_good records serial revocation sound found now
 
 all_agree
-    : (records : Records) (now : ℕ) (ids : List Id) (answers : List Answer)
+    : (records : Records) (now : ℕ) (ids : List Id) (answers : List SingleAnswer)
     → SoundRows records
     → AllZip (IsAnswer records now) ids answers
     → AllZip (Agrees records) ids answers

@@ -6,7 +6,7 @@ use Rattle.reg_core.specs.Checks.{clock_checks, first_of_all}
 use Rattle.reg_core.specs.Records.{Records}
 use Rattle.reg_core.specs.declared.refusal.Refusal.{Refusal}
 use Rattle.reg_crl.specs.Signing.{Identity}
-use Rattle.reg_ocsp.specs.Request.{Id, IsRequest}
+use Rattle.reg_ocsp.specs.Request.{Id, IsOcspRequest}
 use Rattle.reg_ocsp.specs.Response.{refusal_response}
 use Rattle.reg_ocsp.specs.declared.response.RefusalStatus.{RefusalStatus}
 use Rattle.reg_ocsp.specs.declared.response.RefusalStatus.TheVariants.{Internal, TryLater}
@@ -32,12 +32,12 @@ module _ (signs : Identity → List ℕ → List ℕ → Type 0) (responder : Re
   refused_begun status (Left draft) answers is = absurd is
 
   -- internalError to a request that was read
-  pub internal_begun : (ids : List Id) (nonce : Option (List ℕ)) (begun : Begun) → IsRequest request ids nonce
+  pub internal_begun : (ids : List Id) (nonce : Option (List ℕ)) (begun : Begun) → IsOcspRequest request ids nonce
       → IsRefusedWhole Internal begun → IsBegun signs responder records now request begun
   internal_begun ids nonce begun is refused = refused_begun Internal begun (λ bytes same. inr (ids, nonce, is, inl same)) refused
 
   -- tryLater to it, at a moment that the clock refuses
-  pub late_begun : (ids : List Id) (nonce : Option (List ℕ)) (begun : Begun) → IsRequest request ids nonce
+  pub late_begun : (ids : List Id) (nonce : Option (List ℕ)) (begun : Begun) → IsOcspRequest request ids nonce
       → IsSome (first_of_all (clock_checks now records.last))
       → IsRefusedWhole TryLater begun → IsBegun signs responder records now request begun
   late_begun ids nonce begun is some refused =
@@ -52,7 +52,7 @@ module _ (signs : Identity → List ℕ → List ℕ → Type 0) (responder : Re
       refused
 
   -- what a request that was read came to, at a moment that the clock takes
-  pub read_begun : (ids : List Id) (nonce : Option (List ℕ)) (begun : Begun) → IsRequest request ids nonce
+  pub read_begun : (ids : List Id) (nonce : Option (List ℕ)) (begun : Begun) → IsOcspRequest request ids nonce
       → first_of_all (clock_checks now records.last) ≡ None
       → IsReadBegun signs responder records now ids nonce begun → IsBegun signs responder records now request begun
   read_begun ids nonce (Whole bytes) is none whole =

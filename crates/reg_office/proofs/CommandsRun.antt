@@ -15,7 +15,7 @@ use Rattle.reg_core.specs.declared.refusal.Fault.TheVariants.{Signer as SignerFa
 use Rattle.reg_crl.specs.Signing.{Identity, signed_by}
 use Rattle.reg_tables.specs.Kept.{ShowsKept}
 use Rattle.reg_tables.specs.Stays.{Changed}
-use Rattle.reg_office.specs.AtRest.{Steps}
+use Rattle.reg_office.specs.AfterStoppedCommand.{Steps}
 use Rattle.reg_office.specs.Commands.{IsCommandRun}
 use Rattle.reg_office.specs.Faults.{IsOfficeFault, IsTableFault}
 use Rattle.reg_office.specs.Happened.{Happened, unsigned}

@@ -14,13 +14,13 @@ use Rattle.reg_core.specs.declared.refusal.Fault.TheVariants.{Signer}
 use Rattle.reg_crl.specs.Signing.{signed_by}
 use Rattle.reg_laws.specs.Run.{Happens}
 use Rattle.reg_calls.specs.Signatories.{Signatory}
-use Rattle.reg_calls.specs.Steps.{Signs, Runs, Ocsps}
+use Rattle.reg_calls.specs.CallSteps.{Signs, Runs, Ocsps}
 use Rattle.reg_calls.specs.Drafts.{Begins, Drafts, IsDraft}
 use Rattle.reg_calls.specs.declared.begun.Begun.{Begun}
 use Rattle.reg_calls.specs.declared.begun.Begun.TheVariants.{Whole, Left}
 use Rattle.reg_ocsp.specs.Drafts.{Drafted}
 use Rattle.reg_tables.specs.Stays.{Changed, LeavesNothing}
-use Rattle.reg_office.specs.AtRest.{Does, LeavesTold}
+use Rattle.reg_office.specs.AfterStoppedCommand.{Does, LeavesTold}
 use Rattle.reg_office.specs.Calls.{StandsFor, LeadsOver}
 use Rattle.reg_office.specs.Beginning.{IsBegun}
 use Rattle.reg_office.specs.Faults.{IsTableFault}

@@ -23,8 +23,8 @@ use Rattle.reg_tables.specs.Kept.{ShowsKept}
 use Rattle.reg_tables.specs.Schema.{no_schema, register_schema}
 use Rattle.reg_tables.specs.Shows.{Shows}
 use Rattle.reg_tables.specs.Stays.{Changed, LeavesNothing}
-use Rattle.reg_writing.specs.AtRest.{IsAtRest}
-use Rattle.reg_office.specs.AtRest.{Does, IsOneMore, LeavesThese, LeavesTold}
+use Rattle.reg_writing.specs.AfterStop.{IsAtRest}
+use Rattle.reg_office.specs.AfterStoppedCommand.{Does, IsOneMore, LeavesThese, LeavesTold}
 use Rattle.reg_office.specs.Stands.{Stands}
 use Rattle.reg_office.proofs.Resting.{clean_first}
 use Rattle.reg_office.proofs.Stopping.{Settles}

@@ -15,8 +15,8 @@ use Rattle.sqlite_catalog.specs.Listing.{IsSound}
 use Rattle.sqlite_schema.specs.declared.schema.Schema.{Schema}
 use Rattle.reg_store.proofs.OpenedAgain.{shows_again}
 use Rattle.reg_tables.specs.Schema.{register_schema}
-use Rattle.reg_writing.specs.AtRest.{AreARegisters, IsAtRest}
-use Rattle.reg_office.specs.AtRest.{IsDone, IsNextDone, IsOneMore, IsPartlyRun, LeavesTold}
+use Rattle.reg_writing.specs.AfterStop.{AreARegisters, IsAtRest}
+use Rattle.reg_office.specs.AfterStoppedCommand.{IsDone, IsNextDone, IsOneMore, IsPartlyRun, LeavesTold}
 use Rattle.reg_office.specs.OpenedAgain.{OpensTold, StandsDone, StandsNext, StandsOneMore, StandsPartlyRun}
 use Rattle.reg_office.specs.Stands.{SoundFor, Stands}
 

@@ -32,7 +32,7 @@ use Rattle.reg_tables.specs.Tables.{rows_of}
 use Rattle.reg_tables.proofs.PageLemmas.{past_have}
 use Rattle.reg_tables.proofs.Few.{mapped}
 use Rattle.reg_office.specs.Faults.{IsStoreFault}
-use Rattle.reg_office.specs.Numbered.{cursor_of, row_at, table_of}
+use Rattle.reg_office.specs.Numbered.{cursor_of, row_at, numbered_table}
 use Rattle.reg_office.specs.declared.pages.Numbered.{Numbered}
 use Rattle.reg_office.specs.declared.pages.Numbered.TheVariants.{OpenRequests, Overdue, Subscribers, Orders}
 
@@ -313,7 +313,7 @@ module _ (records : Records) (sound : SoundRows records) (now after most end : �
         numbered_next key row_for (λ id. find (λ a. key a == id) xs) at xs numbered found after most end is next told,
       )
 
-  pub numbered_page : (list : Numbered) → end ≡ min (rows_of records (table_of list)) (after + most)
+  pub numbered_page : (list : Numbered) → end ≡ min (rows_of records (numbered_table list)) (after + most)
       → rows ≡ filter_map (row_at records now list) (numbers (after + 1) (end - after))
       → next ≡ cond (nat_lt after end && ((end - after) == most)) (Some (cursor_of list end)) None
       → (rows ≡ (page records now most (cursor_of list after)).rows) × (next ≡ (page records now most (cursor_of list after)).next)

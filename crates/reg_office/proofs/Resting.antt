@@ -13,8 +13,8 @@ use Rattle.reg_core.specs.declared.command.Reply.TheVariants.{Crl as CrlIssued}
 use Rattle.reg_core.specs.declared.rows.CrlRow.{CrlRow}
 use Rattle.reg_laws.proofs.Decided.{Accepts, AcceptsCrl}
 use Rattle.reg_crl.specs.Signing.{Identity, signed_by}
-use Rattle.reg_writing.specs.AtRest.{IsAtRest}
-use Rattle.reg_office.specs.AtRest.{IsStepped, IsDone}
+use Rattle.reg_writing.specs.AfterStop.{IsAtRest}
+use Rattle.reg_office.specs.AfterStoppedCommand.{IsStepped, IsDone}
 use Rattle.reg_office.specs.Happened.{unsigned}
 use Rattle.reg_office.specs.Stands.{SoundFor}
 use Rattle.reg_office.proofs.Composing.{IssuesNone, happens_as}

@@ -18,7 +18,7 @@ use Rattle.reg_core.specs.declared.rows.OrderRow.{OrderRow}
 use Rattle.reg_core.specs.declared.rows.RequestRow.{RequestRow}
 use Rattle.reg_core.specs.declared.rows.RevocationRow.{RevocationRow}
 use Rattle.reg_core.specs.declared.rows.SubscriberRow.{SubscriberRow}
-use Rattle.reg_lists.specs.Lists.{certificate_line, certificate_row, ending_row, open_row, order_row, overdue_row, request_line, revoked_row, status_at, subscriber_of}
+use Rattle.reg_lists.specs.Lists.{certificate_line, certificate_row, ending_row, open_row, order_row, overdue_row, request_line, revoked_row, status_at, subscriber_of_order}
 use Rattle.reg_lists.specs.declared.rows.CertificateLine.{CertificateLine}
 use Rattle.reg_lists.specs.declared.rows.OrderLine.{OrderLine}
 use Rattle.reg_lists.specs.declared.rows.RequestLine.{RequestLine}
@@ -56,7 +56,7 @@ module _ (records : Records) where
 
   -- whose order it is
   pub owner_is : {E : Type 0} (id : ℕ) (order : OrderRow) (r : Result SubscriberRow E) → Some order ≡ order_in records.orders id
-      → IfOk r (λ subscriber. Some subscriber ≡ subscriber_in records.subscribers order.subscriber) → IfOk r (λ subscriber. Some subscriber ≡ subscriber_of records id)
+      → IfOk r (λ subscriber. Some subscriber ≡ subscriber_in records.subscribers order.subscriber) → IfOk r (λ subscriber. Some subscriber ≡ subscriber_of_order records id)
   owner_is id order (Ok subscriber) found owner = owner ∙ ap (option_and_then owner_of) found
   owner_is id order (Err why) found owner = tt
 
@@ -88,7 +88,7 @@ module _ (records : Records) where
 
     -- what is told of a certificate
     pub line_is : (line : CertificateLine) (revocation : Option RevocationRow) (subscriber : SubscriberRow) (listed : Option Listing)
-        → line ≡ told_with revocation subscriber listed → Some subscriber ≡ subscriber_of records certificate.order
+        → line ≡ told_with revocation subscriber listed → Some subscriber ≡ subscriber_of_order records certificate.order
         → listed ≡ listing records certificate.serial → revocation ≡ revocation_in records.revocations certificate.serial
         → Some line ≡ certificate_line records now certificate
     line_is line revocation subscriber listed told owner is revoked =
@@ -110,7 +110,7 @@ module _ (records : Records) where
         → row ≡ cond (is_good line.status) (Some (Certificate line)) None
         → row ≡ cond (is_good (status_at records now certificate)) (certificate_row records now certificate) None
     good_is line row is told =
-        let status = line_status (subscriber_of records certificate.order) line is in
+        let status = line_status (subscriber_of_order records certificate.order) line is in
         told ∙ ap (λ s. cond (is_good s) (Some (Certificate line)) None) status
         ∙ ap (λ it. cond (is_good (status_at records now certificate)) it None) (row_is line is)
 
@@ -161,14 +161,14 @@ module _ (records : Records) (request : RequestRow) where
 
   -- what is told of a request
   pub request_is : (line : RequestLine) (certificate : CertRow) → line.request ≡ request → line.due ≡ deadline request → line.certificate ≡ certificate
-      → Some line.subscriber ≡ subscriber_of records certificate.order → Some certificate ≡ certificate_in records.certificates request.serial
+      → Some line.subscriber ≡ subscriber_of_order records certificate.order → Some certificate ≡ certificate_in records.certificates request.serial
       → Some (Request line) ≡ one_of
   request_is line certificate same due held owner found =
       let whole : line ≡ request_with certificate line.subscriber =
       λ i. record { request = same i; due = due i; certificate = held i; subscriber = line.subscriber } in
       let told : Some line ≡ request_line records request =
       ap (λ (it : RequestLine). Some it) whole ∙ ap (option_map (request_with certificate)) owner
-      ∙ ap (option_and_then (λ (it : CertRow). option_map (request_with it) (subscriber_of records it.order))) found in
+      ∙ ap (option_and_then (λ (it : CertRow). option_map (request_with it) (subscriber_of_order records it.order))) found in
       ap (option_map (λ (it : RequestLine). Request it)) told
 
 module _ (records : Records) (now : ℕ) (request : RequestRow) where

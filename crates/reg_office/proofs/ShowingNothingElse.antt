@@ -25,7 +25,7 @@ use Rattle.reg_laws.specs.Run.{Happens, Run}
 use Rattle.reg_laws.proofs.Lists.{all_any, find_back, some_and_here, some_here, some_of}
 use Rattle.reg_ocsp.specs.Matching.{IsMatch}
 use Rattle.reg_ocsp.specs.Request.{Id}
-use Rattle.reg_ocsp.specs.Response.{Answer, cert_status}
+use Rattle.reg_ocsp.specs.Response.{SingleAnswer, cert_status}
 use Rattle.reg_office.specs.Agreement.{Agrees, OcspAgrees}
 use Rattle.reg_office.specs.Shown.{entry_in, SoundRun, AcceptedRevocation, WasRevoked, IsNowhereShown}
 use Rattle.reg_office.specs.Stands.{SoundFor}
@@ -287,7 +287,7 @@ not_told (Revoked at reason) same =
 answer_unrevoked
     : (records : Records) (serial : ℕ)
     → revocation_in records.revocations serial ≡ None
-    → (id : Id) (answer : Answer)
+    → (id : Id) (answer : SingleAnswer)
     → IsMatch records.issuer id serial
     → Agrees records id answer
     → IsFalse (is_revoked answer.status)

@@ -10,7 +10,7 @@ use Rattle.reg_core.specs.declared.refusal.Refusal.{Refusal}
 use Rattle.reg_crl.specs.Signing.{Identity}
 use Rattle.reg_ocsp.specs.Matching.{IsMatch}
 use Rattle.reg_ocsp.specs.Request.{Id}
-use Rattle.reg_ocsp.specs.Response.{Answer}
+use Rattle.reg_ocsp.specs.Response.{SingleAnswer}
 use Rattle.reg_office.specs.Agreement.{Agrees, OcspAgrees}
 use Rattle.reg_calls.specs.Ocsp.{IsOcspReply, IsReadReply, IsResponse, IsTimely}
 use Rattle.reg_calls.specs.Signatories.{Responder, responder_key}
@@ -43,7 +43,7 @@ pub ocsp_tells
     → (IsSo : Status → Type 0)
     → OcspAgrees
     → SoundRows records
-    → ((id : Id) (answer : Answer) → IsMatch records.issuer id serial → Agrees records id answer → IsSo answer.status)
+    → ((id : Id) (answer : SingleAnswer) → IsMatch records.issuer id serial → Agrees records id answer → IsSo answer.status)
     → IsReached records moment
     → (asked reply : List ℕ)
     → IsOcspReply signs responder records moment asked reply

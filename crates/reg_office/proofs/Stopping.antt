@@ -10,8 +10,8 @@ use Rattle.reg_core.specs.declared.command.Command.{Command}
 use Rattle.reg_core.specs.declared.command.Reply.{Reply}
 use Rattle.reg_core.specs.declared.refusal.Fault.{Fault}
 use Rattle.reg_crl.specs.Signing.{Identity}
-use Rattle.reg_writing.specs.AtRest.{AreARegisters}
-use Rattle.reg_office.specs.AtRest.{HaveNoReply, IsNextDone, IsPartlyRun, IsRunOne, AreRunByOne}
+use Rattle.reg_writing.specs.AfterStop.{AreARegisters}
+use Rattle.reg_office.specs.AfterStoppedCommand.{HaveNoReply, IsNextDone, IsPartlyRun, IsRunOne, AreRunByOne}
 use Rattle.reg_office.specs.Stands.{Stands, HasRun}
 use Rattle.reg_office.proofs.Composing.{was_clean}
 use Rattle.reg_store.proofs.Resting.{at_rest, live_at_rest}

@@ -9,14 +9,14 @@ use Rattle.reg_core.specs.declared.rows.CertRow.{CertRow}
 use Rattle.reg_core.specs.declared.rows.RevocationRow.{RevocationRow}
 use Rattle.reg_ocsp.specs.Matching.{IsMatch}
 use Rattle.reg_ocsp.specs.Request.{Id}
-use Rattle.reg_ocsp.specs.Response.{Answer, cert_status}
+use Rattle.reg_ocsp.specs.Response.{SingleAnswer, cert_status}
 use Rattle.reg_calls.specs.Ocsp.{IsOcspData}
 
 -- An answer agrees with the records: a CertID that names the issuer's certificate of a serial number is told revoked
 -- with the recorded time and reason where the serial number is revoked, good where it is registered and not revoked,
 -- unknown where it is not registered; a CertID that names none is told unknown. So each entry of a CRL, of the latest
 -- one too, is told revoked with the same time and reason.
-pub record Agrees (records : Records) (id : Id) (answer : Answer) : Type 0 where
+pub record Agrees (records : Records) (id : Id) (answer : SingleAnswer) : Type 0 where
   pub repeated : answer.raw ≡ id.raw
   pub revoked : (serial : ℕ) (revocation : RevocationRow)
       → IsMatch records.issuer id serial

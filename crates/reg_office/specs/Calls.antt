@@ -5,9 +5,9 @@ use Rattle.sqlite.specs.State.{HasCleanDisk}
 use Rattle.sqlite_trees.specs.declared.store.Store.{Ghosts}
 use Rattle.reg_calls.specs.Leads.{Leads}
 use Rattle.reg_calls.specs.Signatories.{Signatory}
-use Rattle.reg_calls.specs.Steps.{Signs}
+use Rattle.reg_calls.specs.CallSteps.{Signs}
 use Rattle.reg_core.specs.Records.{Records}
-use Rattle.reg_office.specs.AtRest.{LeavesTold}
+use Rattle.reg_office.specs.AfterStoppedCommand.{LeavesTold}
 use Rattle.reg_office.specs.Stands.{Stands}
 
 -- the records stand in a store for those who sign, and a stop leaves them, or one change more

@@ -1,6 +1,6 @@
 pub mod Agreement
 pub mod Answering
-pub mod AtRest
+pub mod AfterStoppedCommand
 pub mod Beginning
 pub mod Commands
 pub mod Faults

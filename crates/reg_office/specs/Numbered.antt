@@ -11,11 +11,11 @@ use Rattle.reg_office.specs.declared.pages.Numbered.{Numbered}
 use Rattle.reg_office.specs.declared.pages.Numbered.TheVariants.{OpenRequests, Overdue, Subscribers, Orders}
 
 -- the table whose rows it has
-abbrev pub table_of : Numbered → Table
-table_of OpenRequests = OfRequests
-table_of Overdue = OfRequests
-table_of Subscribers = OfSubscribers
-table_of Orders = OfOrders
+abbrev pub numbered_table : Numbered → Table
+numbered_table OpenRequests = OfRequests
+numbered_table Overdue = OfRequests
+numbered_table Subscribers = OfSubscribers
+numbered_table Orders = OfOrders
 
 -- the list from a number on
 abbrev pub cursor_of : Numbered → ℕ → Cursor

@@ -14,7 +14,7 @@ use Rattle.reg_laws.specs.Run.{Run}
 use Rattle.reg_store.specs.OpenedAgain.{IsOpenedAgain}
 use Rattle.reg_tables.specs.Kept.{ShowsKept}
 use Rattle.reg_tables.specs.Schema.{register_schema}
-use Rattle.reg_office.specs.AtRest.{AreRunByOne, Does, HaveNoReply}
+use Rattle.reg_office.specs.AfterStoppedCommand.{AreRunByOne, Does, HaveNoReply}
 use Rattle.reg_office.specs.Stands.{Stands, CameTo}
 
 -- the command was accepted over the records, and those after it stand

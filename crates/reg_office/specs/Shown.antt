@@ -25,7 +25,7 @@ use Rattle.reg_core.specs.declared.rows.RequestRow.{RequestRow}
 use Rattle.reg_crl.specs.Signing.{Identity, sealed_until, signed_by}
 use Rattle.reg_laws.specs.Run.{Happens, Run}
 use Rattle.reg_ocsp.specs.Matching.{IsMatch}
-use Rattle.reg_ocsp.specs.Request.{Id, IsRequest}
+use Rattle.reg_ocsp.specs.Request.{Id, IsOcspRequest}
 use Rattle.reg_ocsp.specs.Response.{refusal_response}
 use Rattle.reg_ocsp.specs.declared.response.RefusalStatus.TheVariants.{Malformed, Internal}
 use Rattle.reg_calls.specs.Ocsp.{HasNoReading, IsOcspReply, IsResponse}
@@ -89,7 +89,7 @@ pub record ResponseTells
     : Type 0 where
   pub ids : List Id
   pub nonce : Option (List ℕ)
-  pub read : IsRequest asked ids nonce
+  pub read : IsOcspRequest asked ids nonce
   pub response : IsResponse signs responder records moment ids nonce reply
   pub told :
       AllZip

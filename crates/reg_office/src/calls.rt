@@ -1,17 +1,17 @@
 //! The calls of an office over a store, as the faces make them: each is a step of the records that stand in it.
 
 use crate::office::Office;
-use reg_calls::{Begun, Calls};
+use reg_calls::{Begun, OfficeCalls};
 use reg_core::{Command, Fault, Memory, Moment, Outcome, Query};
 use reg_crl::Signer;
 use sqlite::Alter;
 use std::alloc::Global;
 
-impl<C: Alter, S: Signer> Calls for Office<C, S> {
+impl<C: Alter, S: Signer> OfficeCalls for Office<C, S> {
     ghost use Rattle.std.specs.Prelude.{◌<◌, IsErrOf};
     ghost use Rattle.reg_core.specs.declared.refusal.Fault.TheVariants.{Signer as SignerFailed};
     ghost use Rattle.reg_calls.specs.Drafts.{Drafts};
-    ghost use Rattle.reg_calls.specs.Steps.{Runs, Asks, Ocsps, Crls};
+    ghost use Rattle.reg_calls.specs.CallSteps.{Runs, Asks, Ocsps, Crls};
     ghost use Rattle.reg_office.specs.Answering.{signatory_of};
     ghost use Rattle.reg_office.specs.Calls.{LeadsOver};
 

@@ -8,12 +8,12 @@ ghost use Rattle.reg_core.specs.Records.{Records};
 ghost use Rattle.reg_core.specs.Sound.{SoundRows};
 ghost use Rattle.reg_tables.specs.Kept.{ShowsKept};
 ghost use Rattle.reg_tables.specs.Stays.{Changed};
-ghost use Rattle.reg_office.specs.AtRest.{Steps};
+ghost use Rattle.reg_office.specs.AfterStoppedCommand.{Steps};
 ghost use Rattle.reg_office.specs.Faults.{IsTableFault};
 ghost use Rattle.reg_office.specs.Happened.{Happened, unsigned};
 ghost use Rattle.reg_laws.specs.Import.{register};
 
-use crate::heads::head_at;
+use crate::decision_head::head_at;
 use reg_core::{CertRow, Fault, Moment, Reply, decide_register};
 use reg_store::{Store, Table};
 use sqlite::Alter;

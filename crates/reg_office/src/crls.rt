@@ -10,7 +10,7 @@ ghost use Rattle.reg_core.specs.Sound.{SoundRows};
 ghost use Rattle.reg_core.specs.declared.command.Command.TheVariants.{Crl as IssueCrl};
 ghost use Rattle.reg_tables.specs.Kept.{ShowsKept};
 ghost use Rattle.reg_tables.specs.Stays.{Changed, Looked};
-ghost use Rattle.reg_office.specs.AtRest.{Steps};
+ghost use Rattle.reg_office.specs.AfterStoppedCommand.{Steps};
 ghost use Rattle.reg_office.specs.Faults.{IsMakingFault, IsOfficeFault, IsSigningFault, IsTableFault};
 ghost use Rattle.reg_office.specs.Issuing.{IsNextRow};
 ghost use Rattle.reg_office.specs.Happened.{Happened};
@@ -20,7 +20,7 @@ ghost use Rattle.reg_crl.specs.Signing.{signed_by};
 ghost use Rattle.reg_tables.specs.Shows.{Shows};
 ghost use Rattle.reg_calls.specs.Answered.{IsGiven};
 
-use crate::heads::{head_at, latest_crl};
+use crate::decision_head::{head_at, latest_crl};
 use reg_core::{CrlRow, Entry, Fault, Moment, Refusal, Reply, decide_crl};
 use reg_crl::{SignFault, Signer, crl_tbs, crl_whole};
 use reg_der::Issuer;

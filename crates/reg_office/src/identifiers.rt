@@ -9,8 +9,8 @@ ghost use Rattle.reg_der.specs.Authority.{with_identifier, HasIdentifier};
 ghost use Rattle.reg_der.specs.Issuers.{with_key_identifier};
 ghost use Rattle.reg_tables.specs.Kept.{ShowsKept};
 ghost use Rattle.reg_tables.specs.Shows.{Shows};
-ghost use Rattle.reg_tables.specs.Stays.{Changed, IsCallFault, Looked};
-ghost use Rattle.reg_office.specs.AtRest.{IsIdentified};
+ghost use Rattle.reg_tables.specs.Stays.{Changed, IsDatabaseFault, Looked};
+ghost use Rattle.reg_office.specs.AfterStoppedCommand.{IsIdentified};
 
 use reg_core::{CrlRow, Label};
 use reg_der::Issuer;
@@ -22,7 +22,7 @@ use std::alloc::Global;
 fn next_crl<C: Alter>(store: &mut Store<C>) -> Result<u64, StoreFault>
     ensures found { (records : Records) → Shows C.Store store.old records → HasCleanDisk (state C.Store store.new) → IfOk result (λ number. number ≡ next_number records.crls) }
     ensures looked { Looked C.Store store.old store.new }
-    ensures faults { IfErr result IsCallFault }
+    ensures faults { IfErr result IsDatabaseFault }
 {
     let latest = store.latest_crl()?;
     number_behind(latest).ok_or(StoreFault::Store)
@@ -49,7 +49,7 @@ fn identified<C: Alter>(
     ensures follows { (records : Records) → Shows C.Store store.old records → HasCleanDisk (state C.Store store.new)
         → OnOk result (HasIdentifier records.issuer (next_number records.crls) octets) }
     ensures looked { Looked C.Store store.old store.new }
-    ensures faults { IfErr result IsCallFault }
+    ensures faults { IfErr result IsDatabaseFault }
 {
     let first = next_crl(store)?;
     let issuer = store.issuer()?;
@@ -73,7 +73,7 @@ pub(crate) fn set_key_identifier<C: Alter>(
     ensures follows { (records : Records) → ShowsKept C.Store store.old records → HasCleanDisk (state C.Store store.new)
         → OnOk result (HasIdentifier records.issuer (next_number records.crls) octets) }
     ensures changed { Changed C.Store store.old store.new (IsIdentified C.Store store.old octets) result }
-    ensures faults { IfErr result IsCallFault }
+    ensures faults { IfErr result IsDatabaseFault }
 {
     let issuer = identified(store, alloc, octets)?;
     store.set_issuer(&issuer)

@@ -7,7 +7,7 @@ ghost use Rattle.reg_core.specs.Due.{deadline};
 ghost use Rattle.reg_core.specs.Queries.{listing};
 ghost use Rattle.reg_core.specs.Records.{Records, certificate_in, order_in, request_in, revocation_in, subscriber_in};
 ghost use Rattle.reg_core.specs.Status.{is_good, status_by};
-ghost use Rattle.reg_lists.specs.Lists.{certificate_line, certificate_row, ending_row, open_row, order_row, overdue_row, request_line, revoked_row, status_at, subscriber_of};
+ghost use Rattle.reg_lists.specs.Lists.{certificate_line, certificate_row, ending_row, open_row, order_row, overdue_row, request_line, revoked_row, status_at, subscriber_of_order};
 ghost use Rattle.reg_lists.specs.declared.rows.Row.TheVariants as kind;
 ghost use Rattle.reg_tables.specs.Kept.{ShowsKept};
 ghost use Rattle.reg_tables.specs.Shows.{Shows};
@@ -66,7 +66,7 @@ pub(crate) fn request_at<C: Alter>(store: &mut Store<C>, id: u64) -> Result<Requ
 
 /// Whose order it is that has an id.
 fn subscriber_of<C: Alter>(store: &mut Store<C>, id: u64) -> Result<SubscriberRow, Fault>
-    ensures found { (records : Records) → Shows C.Store store.old records → HasCleanDisk (state C.Store store.new) → IfOk result (λ subscriber. Some subscriber ≡ subscriber_of records id) }
+    ensures found { (records : Records) → Shows C.Store store.old records → HasCleanDisk (state C.Store store.new) → IfOk result (λ subscriber. Some subscriber ≡ subscriber_of_order records id) }
     ensures looked { Looked C.Store store.old store.new }
     ensures faults { IfErr result IsStoreFault }
 {

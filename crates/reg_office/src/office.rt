@@ -10,14 +10,14 @@ ghost use Rattle.reg_core.specs.Records.{Records};
 ghost use Rattle.reg_core.specs.declared.command.Command.TheVariants.{Crl as IssueCrl};
 ghost use Rattle.reg_core.specs.declared.refusal.Fault.TheVariants.{Refused, Signer as SignerFailed};
 ghost use Rattle.reg_core.specs.declared.refusal.Refusal.TheVariants.{ClockEnd};
-ghost use Rattle.reg_changes.specs.AtRest.{IsScheduled};
-ghost use Rattle.reg_tables.specs.Stays.{Changed, IsCallFault, Looked, Stays};
+ghost use Rattle.reg_changes.specs.AfterStoppedChange.{IsScheduled};
+ghost use Rattle.reg_tables.specs.Stays.{Changed, IsDatabaseFault, Looked, Stays};
 ghost use Rattle.reg_ocsp.specs.Response.{refusal_response};
 ghost use Rattle.reg_ocsp.specs.declared.response.RefusalStatus.TheVariants.{Malformed, Internal};
 ghost use Rattle.reg_calls.specs.Ocsp.{HasNoReading, IsOcspReply};
 ghost use Rattle.reg_der.specs.Issuers.{with_key_identifier};
 ghost use Rattle.reg_office.specs.Answering.{answers_by, failures_of};
-ghost use Rattle.reg_office.specs.AtRest.{Does, IsIdentified};
+ghost use Rattle.reg_office.specs.AfterStoppedCommand.{Does, IsIdentified};
 ghost use Rattle.reg_office.specs.Beginning.{IsBegun};
 ghost use Rattle.reg_calls.specs.Answered.{IsAnswered, IsGiven};
 ghost use Rattle.reg_lists.specs.Pages.{IsPagedSoundly};
@@ -262,7 +262,7 @@ impl<C: Alter, S: Signer> Office<C, S> {
         ensures err { OnErr result (Stays (state C.Store self.old.store) (state C.Store self.new.store)) }
         ensures same_signer { self.new.signer ≡ self.old.signer }
         ensures same_responder { self.new.responder ≡ self.old.responder }
-        ensures faults { IfErr result IsCallFault }
+        ensures faults { IfErr result IsDatabaseFault }
     {
         // Only its contract matters here: these are a schedule's steps, as the schedule promises.
         let _steps = schedule.steps();
@@ -281,7 +281,7 @@ impl<C: Alter, S: Signer> Office<C, S> {
         ensures changed { Changed C.Store self.old.store self.new.store (IsIdentified C.Store self.old.store octets) result }
         ensures same_signer { self.new.signer ≡ self.old.signer }
         ensures same_responder { self.new.responder ≡ self.old.responder }
-        ensures faults { IfErr result IsCallFault }
+        ensures faults { IfErr result IsDatabaseFault }
     {
         set_key_identifier(&mut self.store, alloc, octets)
     }

@@ -15,7 +15,7 @@ ghost use Rattle.reg_tables.specs.Kept.{ShowsKept};
 ghost use Rattle.reg_tables.specs.Shows.{Shows};
 ghost use Rattle.reg_tables.specs.Stays.{Looked};
 ghost use Rattle.reg_office.specs.Faults.{IsStoreFault, IsTableFault};
-ghost use Rattle.reg_office.specs.Numbered.{cursor_of, row_at, table_of};
+ghost use Rattle.reg_office.specs.Numbered.{cursor_of, row_at, numbered_table};
 ghost use Rattle.reg_office.specs.declared.pages.Numbered.TheVariants as numbered;
 
 use crate::lines::{
@@ -373,7 +373,7 @@ fn end_of(held: u64, after: u64, most: u64) -> u64
 
 /// The table whose rows a list has.
 fn table_of(list: Numbered) -> Table
-    ensures { result ≡ table_of list }
+    ensures { result ≡ numbered_table list }
 {
     match list {
         Numbered::OpenRequests => Table::Requests,

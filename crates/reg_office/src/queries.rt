@@ -14,7 +14,7 @@ ghost use Rattle.reg_tables.specs.Stays.{Looked};
 ghost use Rattle.reg_calls.specs.Answered.{IsAnswered, IsListed};
 ghost use Rattle.reg_office.specs.Faults.{IsStoreFault, IsTableFault};
 
-use crate::heads::latest_crl;
+use crate::decision_head::latest_crl;
 use reg_core::{
     Fault, Listing, Moment, Query, Refusal, Reply, Serial, Status, clock, due_of, status_of,
 };

@@ -9,13 +9,13 @@ ghost use Rattle.reg_core.specs.Sound.{SoundRows};
 ghost use Rattle.reg_core.specs.declared.command.Command.TheVariants.{Request as RequestIt, Decline as DeclineIt, Revoke as RevokeIt};
 ghost use Rattle.reg_tables.specs.Kept.{ShowsKept};
 ghost use Rattle.reg_tables.specs.Stays.{Changed, Looked};
-ghost use Rattle.reg_office.specs.AtRest.{Steps};
+ghost use Rattle.reg_office.specs.AfterStoppedCommand.{Steps};
 ghost use Rattle.reg_office.specs.Faults.{IsStoreFault, IsTableFault};
 ghost use Rattle.reg_office.specs.Happened.{Happened, unsigned};
 ghost use Rattle.reg_tables.specs.Shows.{Shows};
 ghost use Rattle.reg_office.specs.Cases.{IsCase};
 
-use crate::heads::{head_at, latest_crl};
+use crate::decision_head::{head_at, latest_crl};
 use reg_core::{
     CertRow, Fault, Label, Moment, Reply, RequestRow, RevocationRow, Serial, decide_decline,
     decide_request, decide_revoke,

@@ -8,7 +8,7 @@ ghost use Rattle.sqlite_trees.specs.View.{doubt};
 ghost use Rattle.reg_core.specs.Records.{Records};
 ghost use Rattle.reg_core.specs.declared.command.Reply.{Reply};
 ghost use Rattle.reg_core.specs.declared.refusal.Fault.{Fault};
-ghost use Rattle.reg_office.specs.AtRest.{IsPartlyRun};
+ghost use Rattle.reg_office.specs.AfterStoppedCommand.{IsPartlyRun};
 ghost use Rattle.reg_office.specs.Stands.{Stands, HasRun};
 
 use crate::office::Office;

@@ -9,11 +9,11 @@ ghost use Rattle.reg_core.specs.Sound.{SoundRows};
 ghost use Rattle.reg_core.specs.declared.command.Command.TheVariants.{Subscriber as EnterSubscriber};
 ghost use Rattle.reg_tables.specs.Kept.{ShowsKept};
 ghost use Rattle.reg_tables.specs.Stays.{Changed};
-ghost use Rattle.reg_office.specs.AtRest.{Steps};
+ghost use Rattle.reg_office.specs.AfterStoppedCommand.{Steps};
 ghost use Rattle.reg_office.specs.Faults.{IsTableFault};
 ghost use Rattle.reg_office.specs.Happened.{Happened, unsigned};
 
-use crate::heads::head_at;
+use crate::decision_head::head_at;
 use reg_core::{Fault, Label, Moment, Reply, decide_subscriber};
 use reg_store::{Store, Table};
 use sqlite::Alter;

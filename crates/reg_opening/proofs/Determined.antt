@@ -19,7 +19,7 @@ use Rattle.sqlite_resolve.specs.declared.scope.Bound.{Bound}
 use Rattle.sqlite_resolve.specs.Scope.{Name}
 use Rattle.sqlite.specs.Effect.{Database, Reads}
 use Rattle.reg_core.specs.Schedule.{Ascends}
-use Rattle.reg_tables.specs.Reading.{shown_step}
+use Rattle.reg_tables.specs.ReadStatements.{shown_step}
 use Rattle.reg_tables.specs.Rows.{number}
 use Rattle.reg_tables.proofs.Queries.{selects, as_command, no_limit, passes, shows, Given, given, all_of}
 use Rattle.reg_tables.proofs.Sorting.{ascending_key, ascends, sorted_same}

@@ -32,9 +32,9 @@ use Rattle.reg_writing.proofs.Registers.{puts_row, puts_spares}
 use Rattle.reg_opening.specs.Blank.{IsBlank, BlankBefore}
 use Rattle.reg_migration.specs.Refilled.{no_columns, no_counts}
 use Rattle.reg_opening.specs.Filled.{HasOffice, HasCounts}
-use Rattle.reg_migration.specs.declared.texts.TheConstants.{PUT_COUNTS}
+use Rattle.reg_migration.specs.declared.sql.TheConstants.{PUT_COUNTS}
 use Rattle.reg_migration.proofs.FirstRows.{counts_terms, at_any, put_counts_means}
-use Rattle.reg_opening.specs.declared.texts.TheConstants.{PUT_OFFICE}
+use Rattle.reg_opening.specs.declared.sql.TheConstants.{PUT_OFFICE}
 
 abbrev office_terms : List Term
 office_terms = lit (Int (pos 1)) ∷ lit Null ∷ lit (Int (pos 3)) ∷ col 0 0 ∷ col 0 1 ∷ col 0 2 ∷ col 0 3 ∷ col 0 4 ∷ col 0 5 ∷ lit (Int (pos 0)) ∷ []

@@ -14,7 +14,7 @@ use Rattle.reg_tables.specs.Schema.{no_schema}
 use Rattle.reg_tables.specs.Kept.{ShowsKept}
 use Rattle.reg_tables.specs.Columns.{office_days}
 use Rattle.reg_tables.specs.Shows.{AreBoth, HasOfficeDays}
-use Rattle.reg_writing.specs.AtRest.{IsAtRest}
+use Rattle.reg_writing.specs.AfterStop.{IsAtRest}
 use Rattle.reg_writing.proofs.Resting.{resting, rests_sound}
 use Rattle.reg_opening.specs.Blank.{BlankBefore}
 use Rattle.reg_migration.specs.Refilled.{no_columns}

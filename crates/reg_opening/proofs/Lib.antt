@@ -11,7 +11,7 @@ pub mod TableTexts
 pub mod SameRows
 pub mod Determined
 pub mod NoRegister
-pub mod Steps
+pub mod ScheduleRows
 pub mod Registered
 pub mod OlderRead
 pub mod Newer

@@ -12,15 +12,15 @@ use Rattle.reg_tables.specs.Kept.{ShowsKept}
 use Rattle.reg_tables.specs.Shows.{HasOfficeDays}
 use Rattle.reg_tables.specs.Stays.{Stays}
 use Rattle.reg_tables.proofs.Staying.{stays_holds}
-use Rattle.reg_writing.specs.AtRest.{IsAtRest}
+use Rattle.reg_writing.specs.AfterStop.{IsAtRest}
 use Rattle.reg_writing.proofs.Moving.{was_clean}
-use Rattle.reg_migration.specs.AtRest.{IsMigrated}
+use Rattle.reg_migration.specs.AfterStoppedMigration.{IsMigrated}
 use Rattle.reg_migration.specs.Older.{IsShownByOlder, ShowsOlder}
-use Rattle.reg_migration.specs.declared.version.Earlier.{Earlier}
-use Rattle.reg_migration.proofs.Steps.{ok_by}
+use Rattle.reg_migration.specs.declared.version.OlderVersion.{OlderVersion}
+use Rattle.reg_migration.proofs.OneAfterAnother.{ok_by}
 use Rattle.reg_migration.proofs.Whole.{days_while, kept_while}
 use Rattle.reg_opening.specs.Examined.{IsOlderOf}
-use Rattle.reg_opening.specs.declared.opening.Older.{Older}
+use Rattle.reg_opening.specs.declared.opening.OlderOffice.{OlderOffice}
 
 pub never_some : {A : Type 0} (x : A) → Some x ≡ None → ⊥
 never_some x e = absurd (cc)
@@ -32,10 +32,10 @@ err_then P Q (Err e) leads holds = leads holds
 
 -- the older tables that were found are made newer
 pub newer_kept
-    : {S A E : Type 0} (g : Ghosts S) (old mid new : Held S) (version : Earlier) (records : Records) (older : Older) (r : Result A E)
+    : {S A E : Type 0} (g : Ghosts S) (old mid new : Held S) (version : OlderVersion) (records : Records) (older : OlderOffice) (r : Result A E)
     → doubt (state g old).is_clean ≤ doubt (state g mid).is_clean → doubt (state g mid).is_clean ≤ doubt (state g new).is_clean → Stays (state g old) (state g mid)
     → ShowsOlder version g old records → SoundRows records → (HasCleanDisk (state g mid) → IsOlderOf version records (Some older))
-    → ((version : Earlier) (records : Records) → ShowsOlder version g mid records → SoundRows records → version ≡ older.version → records.policy.schedule ≡ one_step older.days → records.last ≡ older.last → OnOk r (ShowsKept g new records))
+    → ((version : OlderVersion) (records : Records) → ShowsOlder version g mid records → SoundRows records → version ≡ older.version → records.policy.schedule ≡ one_step older.days → records.last ≡ older.last → OnOk r (ShowsKept g new records))
     → OnOk r (ShowsKept g new records)
 newer_kept g old mid new version records older r first second stays shows sound told migrates = ok_by (ShowsKept g new records) r (λ given.
     kept_while g new records (λ clean.
@@ -45,7 +45,7 @@ newer_kept g old mid new version records older r first second stays shows sound 
 
 -- and the office has the greatest days of their schedule
 pub newer_days
-    : {S : Type 0} (g : Ghosts S) (old mid new : Held S) (version : Earlier) (records : Records) (older : Older)
+    : {S : Type 0} (g : Ghosts S) (old mid new : Held S) (version : OlderVersion) (records : Records) (older : OlderOffice)
     → doubt (state g old).is_clean ≤ doubt (state g mid).is_clean → doubt (state g mid).is_clean ≤ doubt (state g new).is_clean → Stays (state g old) (state g mid)
     → ShowsOlder version g old records → SoundRows records → (HasCleanDisk (state g mid) → IsOlderOf version records (Some older))
     → (version ≡ older.version → ShowsOlder version g mid records → records.policy.schedule ≡ one_step older.days → records.last ≡ older.last → HasOfficeDays g new (greatest_of records.policy.schedule))
@@ -57,7 +57,7 @@ newer_days g old mid new version records older first second stays shows sound to
 
 -- and so a stop finds the same records, or the older tables
 pub newer_rests
-    : {S : Type 0} (g : Ghosts S) (old mid : Held S) (version : Earlier) (records : Records) (older : Older) (trees : Trees)
+    : {S : Type 0} (g : Ghosts S) (old mid : Held S) (version : OlderVersion) (records : Records) (older : OlderOffice) (trees : Trees)
     → doubt (state g old).is_clean ≤ doubt (state g mid).is_clean → Stays (state g old) (state g mid)
     → ShowsOlder version g old records → SoundRows records → IsOlderOf version records (Some older)
     → IsMigrated g mid older.version older.days older.last trees → IsAtRest records trees

@@ -6,12 +6,12 @@ use Rattle.sqlite.specs.Effect.{Database, Reads, RefusesToRead}
 use Rattle.sqlite.specs.Listing.{understood, reads_listing, IsSourceOf}
 use Rattle.reg_core.specs.Schedule.{Ascends, one_step}
 use Rattle.reg_tables.specs.Rows.{number}
-use Rattle.reg_tables.specs.declared.statements.TheConstants.{STEPS}
-use Rattle.reg_migration.specs.Older.{number_of}
-use Rattle.reg_migration.specs.declared.version.Earlier.{Earlier}
-use Rattle.reg_opening.specs.declared.texts.TheConstants.{VERSION, OFFICE, OLDER_OFFICE}
-use Rattle.reg_opening.specs.Said.{version_of, schema_of, IsRead, IsRefused, IsOne, KeepsTo, HasVersion, SaysOffice, SaysOlder, SaysOfficeOf, SaysNoOffice, SaysNoOlder, IsNoRegister}
-use Rattle.reg_opening.proofs.Steps.{only_row}
+use Rattle.reg_tables.specs.declared.sql.TheConstants.{STEPS}
+use Rattle.reg_migration.specs.Older.{version_number}
+use Rattle.reg_migration.specs.declared.version.OlderVersion.{OlderVersion}
+use Rattle.reg_opening.specs.declared.sql.TheConstants.{VERSION, OFFICE, OLDER_OFFICE}
+use Rattle.reg_opening.specs.Said.{version_of, schema_of, IsRead, IsRefusedText, IsOne, KeepsTo, HasVersion, SaysOffice, SaysOlder, SaysOfficeOf, SaysNoOffice, SaysNoOlder, IsNoRegister}
+use Rattle.reg_opening.proofs.ScheduleRows.{only_row}
 use Rattle.reg_opening.proofs.Resolved.{ok_one}
 use Rattle.reg_opening.proofs.Understood.{ReadsTable}
 use Rattle.reg_opening.proofs.TableTexts.{version_names, version_is, office_names, office_is, older_names, older_is, steps_names, steps_keys, steps_is}
@@ -33,7 +33,7 @@ module _ (text : List ℕ) (names keys : List (List ℕ)) (db : Database) (means
       let same : again.compiled ≡ read.compiled = ok_one again.compiled read.compiled (sym again.is ∙ read.is) in
       subst (λ (c : Compiled). Reads c.command db [] others) same (reads_of others again)
 
-  not_refused : (rows : List Row) → IsRead db text rows → IsRefused db text → ⊥
+  not_refused : (rows : List Row) → IsRead db text rows → IsRefusedText db text → ⊥
   not_refused rows read (inl h) = absurd (let failed = sym h.1 ∙ read.is in cc)
   not_refused rows read (inr u) =
       let same : u.compiled ≡ read.compiled = ok_one u.compiled read.compiled (sym u.is ∙ read.is) in
@@ -74,9 +74,9 @@ module _ (db : Database) (unviewed : db.schema.views ≡ []) where
   version_again : (n m : ℕ) → HasVersion db n → HasVersion db m → n ≡ m
   version_again n m one two = one_version two.0 n m (one_again VERSION.now version_names [] db (version_is db.schema unviewed) (λ row. column row 0 ≡ number n) one.0 two.0 one.1 two.1 one.2) two.2
 
-  pub no_register : IsNoRegister db → (n : ℕ) → 1 ≤ n → HasVersion db n → (version : Option Earlier) × (n ≡ version_of version) × ((SaysOfficeOf version db → ⊥) ⊎ (db.schema ≢ schema_of version))
+  pub no_register : IsNoRegister db → (n : ℕ) → 1 ≤ n → HasVersion db n → (version : Option OlderVersion) × (n ≡ version_of version) × ((SaysOfficeOf version db → ⊥) ⊎ (db.schema ≢ schema_of version))
   no_register (inl (inl (inl refused))) n low has = absurd (not_refused VERSION.now version_names [] db (version_is db.schema unviewed) has.0 has.1 refused)
   no_register (inl (inl (inr h))) n low has = absurd (h.2 n low (one_again VERSION.now version_names [] db (version_is db.schema unviewed) (λ row. column row 0 ≡ number n) has.0 h.0 has.1 h.1 has.2))
   no_register (inl (inr (inl h))) n low has = (None, version_again n 3 has h.0, inl (no_office h.1))
-  no_register (inl (inr (inr h))) n low has = (Some h.0, version_again n (number_of h.0) has h.1, inl (no_older h.2))
+  no_register (inl (inr (inr h))) n low has = (Some h.0, version_again n (version_number h.0) has h.1, inl (no_older h.2))
   no_register (inr others) n low has = (others.0, version_again n (version_of others.0) has others.1, inr others.2)

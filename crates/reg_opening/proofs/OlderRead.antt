@@ -13,21 +13,21 @@ use Rattle.sqlite.specs.Listing.{understood, reads_listing, IsSourceOf}
 use Rattle.sqlite.proofs.Callers.{one_permutation}
 use Rattle.reg_core.specs.Records.{Records}
 use Rattle.reg_core.specs.Schedule.{one_step}
-use Rattle.reg_tables.specs.Reading.{command_of}
+use Rattle.reg_tables.specs.ReadStatements.{command_of}
 use Rattle.reg_tables.specs.Rows.{number, stored_office}
 use Rattle.reg_tables.specs.Schema.{register_schema}
 use Rattle.reg_tables.specs.Shows.{IsShownBy}
-use Rattle.reg_tables.specs.Stays.{IsCallFault}
+use Rattle.reg_tables.specs.Stays.{IsDatabaseFault}
 use Rattle.reg_tables.specs.declared.fault.StoreFault.{StoreFault}
 use Rattle.reg_tables.specs.declared.fault.StoreFault.TheVariants.{Memory, NotARegister, NewVersion}
 use Rattle.reg_tables.proofs.Queries.{selects, as_command, no_limit, Given, given}
 use Rattle.reg_migration.specs.Older.{older_schema, stored_older, IsShownByOlder}
-use Rattle.reg_migration.specs.declared.version.Earlier.{Earlier}
-use Rattle.reg_migration.specs.declared.version.Earlier.TheVariants.{First, Second}
+use Rattle.reg_migration.specs.declared.version.OlderVersion.{OlderVersion}
+use Rattle.reg_migration.specs.declared.version.OlderVersion.TheVariants.{First, Second}
 use Rattle.reg_opening.specs.Said.{IsNeverRefused, IsRead, IsOne, InRange, AreOlderOffice, version_of, schema_of, IsOfVersion}
-use Rattle.reg_opening.specs.declared.texts.TheConstants.{VERSION, OLDER_OFFICE}
+use Rattle.reg_opening.specs.declared.sql.TheConstants.{VERSION, OLDER_OFFICE}
 use Rattle.reg_opening.proofs.Registered.{refused_call, number_one}
-use Rattle.reg_opening.proofs.Steps.{only_row}
+use Rattle.reg_opening.proofs.ScheduleRows.{only_row}
 use Rattle.reg_opening.proofs.TableTexts.{older_names}
 
 -- ---- what a text reads of the one row of the office
@@ -71,16 +71,16 @@ version_columns = col 1 2 ∷ []
 abbrev version_names : List (List ℕ)
 version_names = codes "version" ∷ []
 
-version_reads : (version : Option Earlier) → ReadsOffice (schema_of version) VERSION.now version_columns version_names
+version_reads : (version : Option OlderVersion) → ReadsOffice (schema_of version) VERSION.now version_columns version_names
 unfolding understood everything register_schema
 version_reads None = record { plain = (refl, refl); unlisted = refl; means = refl; accepted = refl }
 version_reads (Some First) = record { plain = (refl, refl); unlisted = refl; means = refl; accepted = refl }
 version_reads (Some Second) = record { plain = (refl, refl); unlisted = refl; means = refl; accepted = refl }
 
-pub version_never : (version : Option Earlier) → IsNeverRefused (schema_of version) VERSION.now
+pub version_never : (version : Option OlderVersion) → IsNeverRefused (schema_of version) VERSION.now
 version_never version = never_refused (schema_of version) VERSION.now version_columns version_names (version_reads version)
 
-pub version_read : (version : Option Earlier) (db : Database) (rows : List Row) → IsOfVersion version db → IsRead db VERSION.now rows → IsOne (λ row. column row 0 ≡ number (version_of version)) rows
+pub version_read : (version : Option OlderVersion) (db : Database) (rows : List Row) → IsOfVersion version db → IsRead db VERSION.now rows → IsOne (λ row. column row 0 ≡ number (version_of version)) rows
 version_read version db rows of read =
     (column of.row 2 ∷ [], row_read (schema_of version) VERSION.now version_columns version_names (version_reads version) db of.row of.schema of.office rows read, of.says)
 
@@ -88,7 +88,7 @@ version_read version db rows of read =
 pub register_of : (db : Database) (records : Records) → IsShownBy db records → IsOfVersion None db
 register_of db records shown = record { schema = shown.schema; row = stored_office shown.rows.days records.issuer records.policy records.last; office = shown.rows.office; says = refl }
 
-pub older_of : (version : Earlier) (db : Database) (records : Records) → IsShownByOlder version db records → IsOfVersion (Some version) db
+pub older_of : (version : OlderVersion) (db : Database) (records : Records) → IsShownByOlder version db records → IsOfVersion (Some version) db
 older_of version db records shown =
     record { schema = shown.schema; row = stored_older version shown.days records.issuer records.policy records.last; office = shown.office; says = refl }
 
@@ -97,7 +97,7 @@ same_version rows a b one two =
     let row : one.0 ≡ two.0 = only_row rows one.0 two.0 one.1 two.1 in
     number_one a b (sym one.2 ∙ ap (λ r. column r 0) row ∙ two.2)
 
-one_of_version : (a b : Option Earlier) → version_of a ≡ version_of b → a ≡ b
+one_of_version : (a b : Option OlderVersion) → version_of a ≡ version_of b → a ≡ b
 one_of_version None None e = refl
 one_of_version None (Some First) e = absurd (omega arith)
 one_of_version None (Some Second) e = absurd (omega arith)
@@ -108,17 +108,17 @@ one_of_version (Some First) (Some Second) e = absurd (omega arith)
 one_of_version (Some Second) (Some First) e = absurd (omega arith)
 one_of_version (Some Second) (Some Second) e = refl
 
-low_version : (version : Option Earlier) → (1 ≤ version_of version) × (version_of version ≤ 3)
+low_version : (version : Option OlderVersion) → (1 ≤ version_of version) × (version_of version ≤ 3)
 low_version None = (omega arith, omega arith)
 low_version (Some First) = (omega arith, omega arith)
 low_version (Some Second) = (omega arith, omega arith)
 
 -- a version up to the program's is told as it is
-pub judged_version : (rows : List Row) (version : Option Earlier) (r : Result (Option Earlier) StoreFault) → IsOne (λ row. column row 0 ≡ number (version_of version)) rows
+pub judged_version : (rows : List Row) (version : Option OlderVersion) (r : Result (Option OlderVersion) StoreFault) → IsOne (λ row. column row 0 ≡ number (version_of version)) rows
     → IfOk r (λ found. IsOne (λ row. column row 0 ≡ number (version_of found)) rows)
     → (r ≡ Err NewVersion → (n : ℕ) × (3 < n) × IsOne (λ row. column row 0 ≡ number n) rows)
     → (r ≡ Err NotARegister → (n : ℕ) → 1 ≤ n → IsOne (λ row. column row 0 ≡ number n) rows → ⊥)
-    → IfErr r (λ fault. (fault ≡ NotARegister) ⊎ (fault ≡ NewVersion)) → MatchResult r (λ found. found ≡ version) IsCallFault
+    → IfErr r (λ fault. (fault ≡ NotARegister) ⊎ (fault ≡ NewVersion)) → MatchResult r (λ found. found ≡ version) IsDatabaseFault
 judged_version rows version (Ok found) one ok newer none faults = one_of_version found version (same_version rows (version_of found) (version_of version) ok one)
 judged_version rows version (Err f) one ok newer none (inl is) = absurd (none (ap Err is) (version_of version) (low_version version).0 one)
 judged_version rows version (Err f) one ok newer none (inr is) =
@@ -131,15 +131,15 @@ judged_version rows version (Err f) one ok newer none (inr is) =
 abbrev older_columns : List Term
 older_columns = col 1 3 ∷ col 1 4 ∷ col 1 6 ∷ col 1 7 ∷ col 1 8 ∷ col 1 9 ∷ col 1 5 ∷ []
 
-older_reads : (version : Earlier) → ReadsOffice (older_schema version) OLDER_OFFICE.now older_columns older_names
+older_reads : (version : OlderVersion) → ReadsOffice (older_schema version) OLDER_OFFICE.now older_columns older_names
 unfolding understood everything
 older_reads First = record { plain = (refl, refl); unlisted = refl; means = refl; accepted = refl }
 older_reads Second = record { plain = (refl, refl); unlisted = refl; means = refl; accepted = refl }
 
-pub older_never : (version : Earlier) → IsNeverRefused (older_schema version) OLDER_OFFICE.now
+pub older_never : (version : OlderVersion) → IsNeverRefused (older_schema version) OLDER_OFFICE.now
 older_never version = never_refused (older_schema version) OLDER_OFFICE.now older_columns older_names (older_reads version)
 
-module _ (version : Earlier) (db : Database) (records : Records) (shown : IsShownByOlder version db records) (rows : List Row) (read : IsRead db OLDER_OFFICE.now rows) where
+module _ (version : OlderVersion) (db : Database) (records : Records) (shown : IsShownByOlder version db records) (rows : List Row) (read : IsRead db OLDER_OFFICE.now rows) where
   abbrev row : Row
   row = Blob records.issuer.name ∷ Blob records.issuer.key ∷ number records.policy.crl_life ∷ number records.policy.ocsp_life ∷ number records.policy.cap ∷ number records.last ∷ number shown.days ∷ []
 
@@ -184,7 +184,7 @@ module _ (version : Earlier) (db : Database) (records : Records) (shown : IsShow
       (shown.schedule ∙ ap one_step (sym d), sym l)
 
 pub older_judged : {A : Type 0} (rows : List Row) (days last : ℕ) (r : Result A StoreFault) → AreOlderOffice days last rows → (r ≡ Err NotARegister → (days last : ℕ) → AreOlderOffice days last rows → ⊥)
-    → IfErr r (λ fault. (fault ≡ Memory) ⊎ (fault ≡ NotARegister)) → IfErr r IsCallFault
+    → IfErr r (λ fault. (fault ≡ Memory) ⊎ (fault ≡ NotARegister)) → IfErr r IsDatabaseFault
 older_judged rows days last (Ok x) are none faults = tt
 older_judged rows days last (Err f) are none (inl is) = inl is
 older_judged rows days last (Err f) are none (inr is) = absurd (none (ap Err is) days last are)

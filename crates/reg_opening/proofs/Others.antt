@@ -8,30 +8,30 @@ use Rattle.reg_tables.specs.Schema.{register_schema}
 use Rattle.reg_tables.specs.Stays.{IsRegister, Stays}
 use Rattle.reg_writing.specs.Ran.{HasSchema}
 use Rattle.reg_migration.specs.Older.{older_schema}
-use Rattle.reg_migration.specs.declared.version.Earlier.{Earlier}
+use Rattle.reg_migration.specs.declared.version.OlderVersion.{OlderVersion}
 use Rattle.reg_opening.specs.Compared.{says}
 use Rattle.reg_opening.specs.Examined.{SaysFound, IsOlderOf, found_version}
 use Rattle.reg_opening.specs.Said.{version_of, schema_of, HasVersion, HasOthers}
 use Rattle.reg_opening.specs.declared.comparing.Compared.{Compared}
-use Rattle.reg_opening.specs.declared.opening.Older.{Older}
+use Rattle.reg_opening.specs.declared.opening.OlderOffice.{OlderOffice}
 
 says_not : (b : Bool) → b ≡ false → IsTrue b → ⊥
 says_not b other said = absurd (let never : false ≡ true = sym other ∙ said in cc)
 
-has_found : (db : Database) (found : Option Older) → SaysFound db found → HasVersion db (version_of (found_version found))
+has_found : (db : Database) (found : Option OlderOffice) → SaysFound db found → HasVersion db (version_of (found_version found))
 has_found db None it = it.0
 has_found db (Some older) it = it.0
 
-version_found : (version : Earlier) (records : Records) (found : Option Older) → IsOlderOf version records found → found_version found ≡ Some version
+version_found : (version : OlderVersion) (records : Records) (found : Option OlderOffice) → IsOlderOf version records found → found_version found ≡ Some version
 version_found version records None is = absurd is
 version_found version records (Some older) is = ap Some is.0
 
 -- the tables of a database, by what was compared
-module _ (db : Database) (tables : Compared) (is : (version : Option Earlier) → IsTrue (says tables version) ↔ (db.schema ≡ schema_of version)) (found : Option Older) where
+module _ (db : Database) (tables : Compared) (is : (version : Option OlderVersion) → IsTrue (says tables version) ↔ (db.schema ≡ schema_of version)) (found : Option OlderOffice) where
   pub current_there : IsTrue (says tables (found_version found)) → found ≡ None → db.schema ≡ register_schema
   current_there same none = (is (found_version found)).0 same ∙ ap (λ f. schema_of (found_version f)) none
 
-  pub older_there : IsTrue (says tables (found_version found)) → (older : Older) → found ≡ Some older → db.schema ≡ older_schema older.version
+  pub older_there : IsTrue (says tables (found_version found)) → (older : OlderOffice) → found ≡ Some older → db.schema ≡ older_schema older.version
   older_there same older some = (is (found_version found)).0 same ∙ ap (λ f. schema_of (found_version f)) some
 
   module _ (other : says tables (found_version found) ≡ false) where
@@ -44,7 +44,7 @@ module _ (db : Database) (tables : Compared) (is : (version : Option Earlier) �
     pub never_current : found ≡ None → db.schema ≡ register_schema → ⊥
     never_current none schema = differs (schema ∙ ap (λ f. schema_of (found_version f)) (sym none))
 
-    pub never_older : (version : Earlier) (records : Records) → IsOlderOf version records found → db.schema ≡ older_schema version → ⊥
+    pub never_older : (version : OlderVersion) (records : Records) → IsOlderOf version records found → db.schema ≡ older_schema version → ⊥
     never_older version records of schema = differs (schema ∙ ap schema_of (sym (version_found version records found of)))
 
 -- ---- the same schema stands after what changes nothing

@@ -20,13 +20,13 @@ use Rattle.sqlite.specs.Effect.{Database, Reads, RefusesToRead}
 use Rattle.sqlite.specs.Given.{IsPlain}
 use Rattle.sqlite.specs.Listing.{understood, reads_listing, listing_schema, IsSourceOf}
 use Rattle.sqlite.specs.State.{State, HasCause, store_error, Fails, IsUnchanged, IsRolledBack, KeepsCommit, IsStatement, IsNoStatement, IsNotRun, FailsToQuery, FailsToShow, ShowsRows, Shown, IsTooLate}
-use Rattle.reg_tables.specs.Reading.{command_of}
-use Rattle.reg_tables.specs.Stays.{IsCallFault}
+use Rattle.reg_tables.specs.ReadStatements.{command_of}
+use Rattle.reg_tables.specs.Stays.{IsDatabaseFault}
 use Rattle.reg_tables.specs.declared.fault.StoreFault.{StoreFault}
 use Rattle.reg_tables.specs.declared.fault.StoreFault.TheVariants.{NotARegister}
 use Rattle.reg_tables.proofs.Selecting.{select_planned, selected}
 use Rattle.reg_tables.proofs.Staying.{fails_remains}
-use Rattle.reg_opening.specs.Said.{is_call_error, NeverWrites, IsQuery, IsNeverRefused, IsRead, IsRefused}
+use Rattle.reg_opening.specs.Said.{is_call_error, NeverWrites, IsQuery, IsNeverRefused, IsRead, IsRefusedText}
 
 -- ---- a text that is a SELECT, whatever the tables are
 
@@ -117,12 +117,12 @@ module _ (tables : Schema) (text : List ℕ) (query : IsQuery text) (never : IsN
 
 -- ---- and why it fails over any
 
-not_call : IsCallFault NotARegister → ⊥
+not_call : IsDatabaseFault NotARegister → ⊥
 not_call (inl memory) = absurd (cc)
 not_call (inr store) = absurd (cc)
 
-pub other_error : (e : Error) (fault : StoreFault) → fault ≡ NotARegister → (IsTrue (is_call_error e) → IsCallFault fault) → is_call_error e ≡ false
-other_error e fault is call = elim (cases_Bool (is_call_error e)) [ inl is_call ↦ absurd (not_call (subst IsCallFault is (call (subst IsTrue (sym is_call) refl)))) | inr other ↦ other ]
+pub other_error : (e : Error) (fault : StoreFault) → fault ≡ NotARegister → (IsTrue (is_call_error e) → IsDatabaseFault fault) → is_call_error e ≡ false
+other_error e fault is call = elim (cases_Bool (is_call_error e)) [ inl is_call ↦ absurd (not_call (subst IsDatabaseFault is (call (subst IsTrue (sym is_call) refl)))) | inr other ↦ other ]
 
 interrupted_is_call : (e : Error) → e ≡ SqliteFailure code.OperationInterrupted → is_call_error e ≡ false → ⊥
 interrupted_is_call e is other = let call = rw is at other in absurd (cc)
@@ -155,7 +155,7 @@ module _ (text : List ℕ) (query : IsQuery text) (old new : State) (e : Error) 
   failed_otherwise : Fails old new ⊥ e → ⊥
   failed_otherwise h = let call = failed_is_call old new e h in absurd (let no = other in cc)
 
-  not_understood : IsNoStatement old text [] e → IsRefused old.now text
+  not_understood : IsNoStatement old text [] e → IsRefusedText old.now text
   not_understood (inl h) = inl (h.0, h.1)
   not_understood (inr h) =
       let is = query old.now.schema h.0 h.1 in
@@ -167,19 +167,19 @@ module _ (text : List ℕ) (query : IsQuery text) (old new : State) (e : Error) 
         ]
       ]
 
-  not_run_is_refused : IsNotRun old new text [] e → IsRefused old.now text
+  not_run_is_refused : IsNotRun old new text [] e → IsRefusedText old.now text
   unfolding IsNotRun
   not_run_is_refused (inl h) = not_understood h.0
   not_run_is_refused (inr h) = absurd (failed_otherwise h)
 
-  show_is_refused : (c : Compiled) (it : IsStatement old text [] c) → FailsToShow old new text c (timed [] c.formats it.now) e c.returning → IsRefused old.now text
+  show_is_refused : (c : Compiled) (it : IsStatement old text [] c) → FailsToShow old new text c (timed [] c.formats it.now) e c.returning → IsRefusedText old.now text
   show_is_refused c it h =
       let is = query old.now.schema c it.is in
       let fails = subst (FailsToShow old new text c (timed [] c.formats it.now) e) is.returning h in
       let refuses : RefusesToRead old.step_limit c.command fails.0 [] e = subst (λ f. RefusesToRead old.step_limit c.command fails.0 (timed [] f it.now) e) is.formats fails.2 in
       inr (record { compiled = c; is = it.is; source = fails.0; from = fails.1; error = e; refuses = unlimited old.step_limit c.command fails.0 e other refuses })
 
-  pub fails_is_refused : FailsToQuery text [] old new e ⊎ IsTooLate text [] old new e → IsRefused old.now text
+  pub fails_is_refused : FailsToQuery text [] old new e ⊎ IsTooLate text [] old new e → IsRefusedText old.now text
   unfolding FailsToQuery
   fails_is_refused (inl (inl h)) = not_run_is_refused h
   fails_is_refused (inl (inr h)) = show_is_refused h.0 h.1 h.2

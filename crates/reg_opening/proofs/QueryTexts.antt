@@ -2,8 +2,8 @@
 use Rattle.std.proofs.Common.{refl, arith}
 use Rattle.sqlite_resolve.specs.Compile.{first}
 use Rattle.sqlite_tied.specs.Compute.{everything}
-use Rattle.reg_tables.specs.declared.statements.TheConstants.{STEPS}
-use Rattle.reg_opening.specs.declared.texts.TheConstants.{VERSION, OFFICE, OLDER_OFFICE}
+use Rattle.reg_tables.specs.declared.sql.TheConstants.{STEPS}
+use Rattle.reg_opening.specs.declared.sql.TheConstants.{VERSION, OFFICE, OLDER_OFFICE}
 use Rattle.reg_opening.specs.Said.{IsQuery}
 use Rattle.reg_opening.proofs.Queried.{query_text}
 

@@ -13,19 +13,19 @@ use Rattle.sqlite.specs.Effect.{Database, Reads, RefusesToRead}
 use Rattle.sqlite.specs.Listing.{understood, reads_listing, IsSourceOf}
 use Rattle.sqlite.proofs.Callers.{one_permutation}
 use Rattle.reg_core.specs.Records.{Records}
-use Rattle.reg_tables.specs.Reading.{IsReading, command_of, shown_step}
+use Rattle.reg_tables.specs.ReadStatements.{IsReading, command_of, shown_step}
 use Rattle.reg_tables.proofs.Selecting.{select_never}
 use Rattle.reg_tables.specs.Rows.{number, stored_office}
 use Rattle.reg_tables.specs.Schema.{register_schema}
 use Rattle.reg_tables.specs.Shows.{IsShownBy}
-use Rattle.reg_tables.specs.declared.statements.TheConstants.{STEPS}
+use Rattle.reg_tables.specs.declared.sql.TheConstants.{STEPS}
 use Rattle.reg_tables.proofs.Queries.{selects, as_command, no_limit, Given, keyed_given}
 use Rattle.reg_tables.proofs.ScheduleLemmas.{reading_steps, steps_are}
-use Rattle.reg_tables.specs.Stays.{IsCallFault}
+use Rattle.reg_tables.specs.Stays.{IsDatabaseFault}
 use Rattle.reg_tables.specs.declared.fault.StoreFault.{StoreFault}
 use Rattle.reg_tables.specs.declared.fault.StoreFault.TheVariants.{Memory, NotARegister}
-use Rattle.reg_opening.specs.declared.texts.TheConstants.{OFFICE}
-use Rattle.reg_opening.specs.Said.{is_call_error, IsNeverRefused, IsRead, IsOne, AreSteps, KeepsTo, AreOffice, InRange}
+use Rattle.reg_opening.specs.declared.sql.TheConstants.{OFFICE}
+use Rattle.reg_opening.specs.Said.{is_call_error, IsNeverRefused, IsRead, IsOne, AreSteps, KeepsTo, AreOfficeRows, InRange}
 
 -- ---- a query on one table is refused for no reason of its own
 
@@ -146,7 +146,7 @@ pub number_one : (a b : ℕ) → number a ≡ number b → a ≡ b
 number_one a b e = cc
 
 -- an office within its ranges is not refused
-pub office_shown : {A : Type 0} (rows steps : List Row) (r : Result A StoreFault) → AreOffice rows steps → (r ≡ Err NotARegister → AreOffice rows steps → ⊥) → IfErr r (λ fault. (fault ≡ Memory) ⊎ (fault ≡ NotARegister)) → IfErr r IsCallFault
+pub office_shown : {A : Type 0} (rows steps : List Row) (r : Result A StoreFault) → AreOfficeRows rows steps → (r ≡ Err NotARegister → AreOfficeRows rows steps → ⊥) → IfErr r (λ fault. (fault ≡ Memory) ⊎ (fault ≡ NotARegister)) → IfErr r IsDatabaseFault
 office_shown rows steps (Ok x) are none faults = tt
 office_shown rows steps (Err f) are none (inl is) = inl is
 office_shown rows steps (Err f) are none (inr is) = absurd (none (ap Err is) are)

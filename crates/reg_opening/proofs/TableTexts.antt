@@ -4,8 +4,8 @@ use Rattle.sqlite_schema.specs.declared.schema.Schema.{Schema}
 use Rattle.sqlite_resolve.specs.declared.compiled.Compiled.{Compiled}
 use Rattle.sqlite_tied.specs.Compute.{everything}
 use Rattle.sqlite.specs.Listing.{understood, reads_listing, listing_schema}
-use Rattle.reg_tables.specs.declared.statements.TheConstants.{STEPS}
-use Rattle.reg_opening.specs.declared.texts.TheConstants.{VERSION, OFFICE, OLDER_OFFICE}
+use Rattle.reg_tables.specs.declared.sql.TheConstants.{STEPS}
+use Rattle.reg_opening.specs.declared.sql.TheConstants.{VERSION, OFFICE, OLDER_OFFICE}
 use Rattle.reg_opening.proofs.Understood.{ReadsTable, understood_is}
 
 abbrev pub version_names : List (List ℕ)

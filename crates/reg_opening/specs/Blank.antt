@@ -6,7 +6,7 @@ use Rattle.sqlite_catalog.specs.Change.{created}
 use Rattle.sqlite.specs.Effect.{Database}
 use Rattle.sqlite.specs.State.{State}
 use Rattle.reg_tables.specs.Schema.{no_schema, office, subscriber, orders, cert}
-use Rattle.reg_migration.specs.Rows.{HasRows, HadRows}
+use Rattle.reg_migration.specs.NumberedRows.{HasRows, HadRows}
 
 -- no table has a row
 abbrev pub no_rows : Trees

@@ -3,4 +3,4 @@ pub mod Filled
 pub mod Said
 pub mod Compared
 pub mod Examined
-pub mod AtRest
+pub mod AfterStoppedOpening

@@ -18,13 +18,13 @@ use Rattle.reg_core.specs.Policy.{Terms, IsPolicy}
 use Rattle.reg_core.specs.Records.{Records}
 use Rattle.reg_core.specs.Schedule.{one_step}
 use Rattle.reg_der.specs.Authority.{IsIssuer}
-use Rattle.reg_tables.specs.Reading.{command_of}
+use Rattle.reg_tables.specs.ReadStatements.{command_of}
 use Rattle.reg_tables.specs.Rows.{number}
 use Rattle.reg_tables.specs.Schema.{register_schema}
-use Rattle.reg_tables.specs.declared.statements.TheConstants.{STEPS}
-use Rattle.reg_migration.specs.Older.{number_of, older_schema}
-use Rattle.reg_migration.specs.declared.version.Earlier.{Earlier}
-use Rattle.reg_opening.specs.declared.texts.TheConstants.{VERSION, OFFICE, OLDER_OFFICE}
+use Rattle.reg_tables.specs.declared.sql.TheConstants.{STEPS}
+use Rattle.reg_migration.specs.Older.{version_number, older_schema}
+use Rattle.reg_migration.specs.declared.version.OlderVersion.{OlderVersion}
+use Rattle.reg_opening.specs.declared.sql.TheConstants.{VERSION, OFFICE, OLDER_OFFICE}
 
 -- a failure of memory, of the disk, or of the limit on steps that the caller has set
 abbrev pub is_call_error : Error → Bool
@@ -65,17 +65,17 @@ abbrev pub IsOne : (Row → Type 0) → List Row → Type 0
 IsOne P rows = (row : Row) × (rows ≡ row ∷ []) × P row
 
 -- the number of the program's version, or of an older one
-abbrev pub version_of : Option Earlier → ℕ
+abbrev pub version_of : Option OlderVersion → ℕ
 version_of None = 3
-version_of (Some version) = number_of version
+version_of (Some version) = version_number version
 
 -- the tables of that version
-abbrev pub schema_of : Option Earlier → Schema
+abbrev pub schema_of : Option OlderVersion → Schema
 schema_of None = register_schema
 schema_of (Some version) = older_schema version
 
 -- the tables are of a version, which the one row of the office says too
-pub record IsOfVersion (version : Option Earlier) (db : Database) : Type 0 where
+pub record IsOfVersion (version : Option OlderVersion) (db : Database) : Type 0 where
   pub schema : db.schema ≡ schema_of version
   pub row : Row
   pub office : db.trees 0 ≡ row ∷ []
@@ -113,12 +113,12 @@ abbrev pub KeepsTo : List (ℕ × ℕ) → Row → Type 0
 KeepsTo schedule row = (issuer : Issuer) × (policy : Terms) × (last : ℕ) × (policy.schedule ≡ schedule) × IsOfficeRow issuer policy last row
 
 -- the one row of the office and the steps of its schedule, each value within its range
-abbrev pub AreOffice : List Row → List Row → Type 0
-AreOffice rows steps = (schedule : List (ℕ × ℕ)) × HaveMoments schedule × AreSteps steps schedule × IsOne (KeepsTo schedule) rows
+abbrev pub AreOfficeRows : List Row → List Row → Type 0
+AreOfficeRows rows steps = (schedule : List (ℕ × ℕ)) × HaveMoments schedule × AreSteps steps schedule × IsOne (KeepsTo schedule) rows
 
 -- the tables say an office, each value within its range
 abbrev pub SaysOffice : Database → Type 0
-SaysOffice db = (rows : List Row) × (steps : List Row) × IsRead db OFFICE.now rows × IsRead db STEPS.now steps × AreOffice rows steps
+SaysOffice db = (rows : List Row) × (steps : List Row) × IsRead db OFFICE.now rows × IsRead db STEPS.now steps × AreOfficeRows rows steps
 
 -- the one row of an older office, each value within its range: its days and its last accepted moment, and a schedule of the one step
 abbrev pub AreOlderOffice : ℕ → ℕ → List Row → Type 0
@@ -134,10 +134,10 @@ SaysOlder db = (days : ℕ) × (last : ℕ) × ReadsOlder db days last
 
 -- the tables are those of an older version, and say it and its office
 abbrev pub IsOlder : Database → Type 0
-IsOlder db = (version : Earlier) × (db.schema ≡ older_schema version) × HasVersion db (number_of version) × SaysOlder db
+IsOlder db = (version : OlderVersion) × (db.schema ≡ older_schema version) × HasVersion db (version_number version) × SaysOlder db
 
 -- a text that is understood is refused over the rows that are there, and by no limit on steps
-pub record IsUnreadable (db : Database) (text : List ℕ) : Type 0 where
+pub record IsRefusedOverRows (db : Database) (text : List ℕ) : Type 0 where
   pub compiled : Compiled
   pub is : understood db.schema text ≡ Ok compiled
   pub source : Database
@@ -146,44 +146,44 @@ pub record IsUnreadable (db : Database) (text : List ℕ) : Type 0 where
   pub refuses : RefusesToRead None compiled.command source [] error
 
 -- the tables have no answer to a text: it is not understood over them, or it is refused
-abbrev pub IsRefused : Database → List ℕ → Type 0
-IsRefused db text = ((error : CompileError) × (understood db.schema text ≡ Err error)) ⊎ IsUnreadable db text
+abbrev pub IsRefusedText : Database → List ℕ → Type 0
+IsRefusedText db text = ((error : CompileError) × (understood db.schema text ≡ Err error)) ⊎ IsRefusedOverRows db text
 
 -- the tables say no version: they have no answer to its text, or it is not one row of a number from 1 on
 abbrev pub SaysNoVersion : Database → Type 0
-SaysNoVersion db = IsRefused db VERSION.now ⊎ ((rows : List Row) × IsRead db VERSION.now rows × ((n : ℕ) → 1 ≤ n → ¬ IsOne (λ row. column row 0 ≡ number n) rows))
+SaysNoVersion db = IsRefusedText db VERSION.now ⊎ ((rows : List Row) × IsRead db VERSION.now rows × ((n : ℕ) → 1 ≤ n → ¬ IsOne (λ row. column row 0 ≡ number n) rows))
 
 -- the tables say no office: they have no answer to its texts, or a value is out of its range
 abbrev pub SaysNoOffice : Database → Type 0
 SaysNoOffice db =
-    (IsRefused db OFFICE.now ⊎ IsRefused db STEPS.now)
-    ⊎ ((rows : List Row) × (steps : List Row) × IsRead db OFFICE.now rows × IsRead db STEPS.now steps × (¬ AreOffice rows steps))
+    (IsRefusedText db OFFICE.now ⊎ IsRefusedText db STEPS.now)
+    ⊎ ((rows : List Row) × (steps : List Row) × IsRead db OFFICE.now rows × IsRead db STEPS.now steps × (¬ AreOfficeRows rows steps))
 
 -- the tables say no older office: they have no answer to its text, or a value is out of its range
 abbrev pub SaysNoOlder : Database → Type 0
-SaysNoOlder db = IsRefused db OLDER_OFFICE.now ⊎ ((rows : List Row) × IsRead db OLDER_OFFICE.now rows × ((days last : ℕ) → ¬ AreOlderOffice days last rows))
+SaysNoOlder db = IsRefusedText db OLDER_OFFICE.now ⊎ ((rows : List Row) × IsRead db OLDER_OFFICE.now rows × ((days last : ℕ) → ¬ AreOlderOffice days last rows))
 
 -- the tables say no register of any version: they say no version, or version 3 and no office, or an older version and no older office
 abbrev pub SaysNoRegister : Database → Type 0
-SaysNoRegister db = SaysNoVersion db ⊎ ((HasVersion db 3 × SaysNoOffice db) ⊎ ((version : Earlier) × HasVersion db (number_of version) × SaysNoOlder db))
+SaysNoRegister db = SaysNoVersion db ⊎ ((HasVersion db 3 × SaysNoOffice db) ⊎ ((version : OlderVersion) × HasVersion db (version_number version) × SaysNoOlder db))
 
 -- the tables say a version up to the program's, and they, or what stands beside them, are others than it has
 abbrev pub HasOthers : Database → Type 0
-HasOthers db = (version : Option Earlier) × HasVersion db (version_of version) × (db.schema ≢ schema_of version)
+HasOthers db = (version : Option OlderVersion) × HasVersion db (version_of version) × (db.schema ≢ schema_of version)
 
 -- no register of any version stands there: the tables say none, or are others than those of the version that they say
 abbrev pub IsNoRegister : Database → Type 0
 IsNoRegister db = SaysNoRegister db ⊎ HasOthers db
 
 -- the tables say the office of a version, each value within its range
-abbrev pub SaysOfficeOf : Option Earlier → Database → Type 0
+abbrev pub SaysOfficeOf : Option OlderVersion → Database → Type 0
 SaysOfficeOf None db = SaysOffice db
 SaysOfficeOf (Some version) db = SaysOlder db
 
 -- over tables with no view: no version from 1 on stands there but one up to the program's, with no office of its, or whose tables are others
 abbrev pub HoldsNoRegister : Database → Type 0
 HoldsNoRegister db =
-    db.schema.views ≡ [] → (n : ℕ) → 1 ≤ n → HasVersion db n → (version : Option Earlier) × (n ≡ version_of version) × ((¬ SaysOfficeOf version db) ⊎ (db.schema ≢ schema_of version))
+    db.schema.views ≡ [] → (n : ℕ) → 1 ≤ n → HasVersion db n → (version : Option OlderVersion) × (n ≡ version_of version) × ((¬ SaysOfficeOf version db) ⊎ (db.schema ≢ schema_of version))
 
 -- what a register's issuer, moments and last accepted moment always are
 pub record InRange (records : Records) : Type 0 where

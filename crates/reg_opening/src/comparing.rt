@@ -5,7 +5,7 @@ ghost use Rattle.sqlite.specs.Held.{state};
 ghost use Rattle.reg_opening.specs.Said.{schema_of};
 ghost use Rattle.reg_opening.specs.Compared.{says};
 
-use reg_migration::Earlier;
+use reg_migration::OlderVersion;
 use reg_schema::{Version, is_of};
 use sqlite::{Alter, Connection};
 use sqlite_schema::schema::Schema;
@@ -20,7 +20,7 @@ pub(crate) struct Compared {
 
 /// Compares a schema with that of each version.
 fn compare(schema: &Schema) -> Compared
-    ensures { (version : Option Earlier) → IsTrue (says result version) ↔ (schema.now ≡ schema_of version) }
+    ensures { (version : Option OlderVersion) → IsTrue (says result version) ↔ (schema.now ≡ schema_of version) }
 {
     Compared {
         first: is_of(schema, Version::First),
@@ -30,20 +30,20 @@ fn compare(schema: &Schema) -> Compared
 }
 
 /// Whether the tables are those of this version, which is the program's where it is none.
-pub(crate) fn is_same(tables: Compared, version: Option<Earlier>) -> bool
+pub(crate) fn is_same(tables: Compared, version: Option<OlderVersion>) -> bool
     ensures { result ≡ says tables version }
 {
     match version {
         None => tables.third,
-        Some(Earlier::First) => tables.first,
-        Some(Earlier::Second) => tables.second,
+        Some(OlderVersion::First) => tables.first,
+        Some(OlderVersion::Second) => tables.second,
     }
 }
 
 /// Whose tables stand there. No transaction is under way, so they are those that were committed last.
 pub(crate) fn look<S: Alter>(conn: &Connection<S>) -> Compared
     requires { conn.now.in_transaction ≡ false }
-    ensures tables { (version : Option Earlier) → IsTrue (says result version) ↔ ((state S.Store conn.now).now.schema ≡ schema_of version) }
+    ensures tables { (version : Option OlderVersion) → IsTrue (says result version) ↔ ((state S.Store conn.now).now.schema ≡ schema_of version) }
     ensures settled { IsTrue (state S.Store conn.now).is_open → (state S.Store conn.now).now ≡ (state S.Store conn.now).committed }
 {
     prove!(conn.is_autocommit());

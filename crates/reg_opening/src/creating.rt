@@ -9,8 +9,8 @@ ghost use Rattle.reg_core.specs.Schedule.{greatest_of};
 ghost use Rattle.reg_tables.specs.Kept.{ShowsKept};
 ghost use Rattle.reg_tables.specs.Schema.{no_schema};
 ghost use Rattle.reg_tables.specs.Shows.{AreBoth, HasOfficeDays};
-ghost use Rattle.reg_tables.specs.Stays.{IsCallFault, Stays, Stepped};
-ghost use Rattle.reg_opening.specs.AtRest.{IsCreated};
+ghost use Rattle.reg_tables.specs.Stays.{IsDatabaseFault, Stays, Stepped};
+ghost use Rattle.reg_opening.specs.AfterStoppedOpening.{IsCreated};
 ghost use Rattle.reg_opening.specs.Blank.{BlankBefore};
 ghost use Rattle.reg_migration.specs.Refilled.{no_columns};
 
@@ -18,7 +18,7 @@ use crate::filling::fill;
 use crate::making::make;
 use reg_core::Policy;
 use reg_der::Issuer;
-use reg_tables::{CallFault, StoreFault};
+use reg_tables::{DatabaseFault, StoreFault};
 use sqlite::{Alter, Connection, Transaction};
 
 /// Whether the database has no table, no index and no view.
@@ -34,7 +34,7 @@ fn make_register<S: Alter>(
     tx: &mut Transaction<'_, S>,
     issuer: &Issuer,
     policy: &Policy,
-) -> Result<(), CallFault>
+) -> Result<(), DatabaseFault>
     ensures ok { HasCleanDisk (state S.Store tx.new.conn.now) → BlankBefore (state S.Store tx.old.conn.now) no_schema
         → OnOk result (IsTrue (state S.Store tx.new.conn.now).is_open × AreBoth (state S.Store tx.new.conn.now).now (no_records issuer.now policy.now) (no_columns policy.now.schedule)) }
     ensures database { HasCleanDisk (state S.Store tx.new.conn.now) → BlankBefore (state S.Store tx.old.conn.now) no_schema
@@ -64,7 +64,7 @@ pub fn create<S: Alter>(
     ensures err { OnErr result (Stays (state S.Store conn.old) (state S.Store conn.new)) }
     ensures survives { Survives (state S.Store conn.old) (state S.Store conn.new) (IsCreated conn.old issuer.now policy.now) }
     ensures idle { conn.new.in_transaction ≡ false }
-    ensures faults { IfErr result (λ fault. (fault ≡ StoreFault.NotEmpty) ⊎ IsCallFault fault) }
+    ensures faults { IfErr result (λ fault. (fault ≡ StoreFault.NotEmpty) ⊎ IsDatabaseFault fault) }
 {
     if !is_empty(conn) {
         return Err(StoreFault::NotEmpty);

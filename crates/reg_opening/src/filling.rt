@@ -14,12 +14,12 @@ ghost use Rattle.reg_opening.specs.Blank.{BlankBefore};
 ghost use Rattle.reg_migration.specs.Refilled.{no_columns};
 ghost use Rattle.reg_opening.specs.Filled.{HasOffice, HasCounts};
 
-use crate::texts;
+use crate::sql;
 use reg_core::Policy;
 use reg_der::Issuer;
-use reg_migration::texts::PUT_COUNTS;
-use reg_tables::CallFault;
-use reg_writing::put_steps;
+use reg_migration::sql::PUT_COUNTS;
+use reg_tables::DatabaseFault;
+use reg_writing::put_schedule_steps;
 use reg_writing::writing::{sql_number, write};
 use sqlite::types::ValueRef;
 use sqlite::{Alter, Transaction};
@@ -29,7 +29,7 @@ fn put_office<S: Alter>(
     tx: &mut Transaction<'_, S>,
     issuer: &Issuer,
     policy: &Policy,
-) -> Result<(), CallFault>
+) -> Result<(), DatabaseFault>
     ensures ok { HasCleanDisk (state S.Store tx.new.conn.now) → BlankBefore (state S.Store tx.old.conn.now) register_schema
         → OnOk result (Moves (state S.Store tx.old.conn.now) (state S.Store tx.new.conn.now) (HasOffice issuer.now policy.now)) }
     ensures stepped { Stepped S.Store tx.old tx.new }
@@ -42,14 +42,14 @@ fn put_office<S: Alter>(
     let key = ValueRef::Blob(issuer.key());
     write(
         tx,
-        texts::PUT_OFFICE,
+        sql::PUT_OFFICE,
         &[name, key, days, crl_life, ocsp_life, cap],
     )?;
     Ok(())
 }
 
 /// Writes the counts' row.
-fn put_counts<S: Alter>(tx: &mut Transaction<'_, S>) -> Result<(), CallFault>
+fn put_counts<S: Alter>(tx: &mut Transaction<'_, S>) -> Result<(), DatabaseFault>
     ensures ok { HasCleanDisk (state S.Store tx.new.conn.now) → (issuer : core.Issuer) → (policy : Terms) → (IsTrue (state S.Store tx.old.conn.now).is_open → HasOffice issuer policy (state S.Store tx.old.conn.now).now)
         → OnOk result (Moves (state S.Store tx.old.conn.now) (state S.Store tx.new.conn.now) (HasCounts issuer policy)) }
     ensures database { HasCleanDisk (state S.Store tx.new.conn.now) → (issuer : core.Issuer) → (policy : Terms) → (IsTrue (state S.Store tx.old.conn.now).is_open → HasOffice issuer policy (state S.Store tx.old.conn.now).now)
@@ -66,7 +66,7 @@ pub(crate) fn fill<S: Alter>(
     tx: &mut Transaction<'_, S>,
     issuer: &Issuer,
     policy: &Policy,
-) -> Result<(), CallFault>
+) -> Result<(), DatabaseFault>
     ensures ok { HasCleanDisk (state S.Store tx.new.conn.now) → BlankBefore (state S.Store tx.old.conn.now) register_schema
         → OnOk result (IsTrue (state S.Store tx.new.conn.now).is_open × AreBoth (state S.Store tx.new.conn.now).now (no_records issuer.now policy.now) (no_columns policy.now.schedule)) }
     ensures database { HasCleanDisk (state S.Store tx.new.conn.now) → BlankBefore (state S.Store tx.old.conn.now) register_schema
@@ -77,5 +77,5 @@ pub(crate) fn fill<S: Alter>(
     put_office(tx, issuer, policy)?;
     put_counts(tx)?;
     let schedule = policy.schedule();
-    put_steps(tx, schedule.steps())
+    put_schedule_steps(tx, schedule.steps())
 }

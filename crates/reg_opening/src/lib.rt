@@ -4,12 +4,12 @@
 mod comparing;
 mod creating;
 mod filling;
-mod judging;
 mod making;
+mod office_rows;
 mod opening;
 mod peeking;
-pub mod texts;
-mod values;
+pub mod sql;
+mod sql_values;
 
 pub use creating::create;
-pub use opening::{Older, examine, open};
+pub use opening::{OlderOffice, examine, open};

@@ -8,11 +8,11 @@ ghost use Rattle.reg_tables.specs.Stays.{Moves, Stepped};
 ghost use Rattle.reg_opening.specs.Blank.{IsBlank, BlankBefore, entry_tables};
 
 use reg_migration::making::{define, make_kept_tables, make_schedule_and_indexes};
-use reg_tables::{CallFault, schema};
+use reg_tables::{DatabaseFault, schema};
 use sqlite::{Alter, Transaction};
 
 /// Makes the tables of the office, of subscribers, orders and certificates.
-fn make_entry_tables<S: Alter>(tx: &mut Transaction<'_, S>) -> Result<(), CallFault>
+fn make_entry_tables<S: Alter>(tx: &mut Transaction<'_, S>) -> Result<(), DatabaseFault>
     ensures ok { HasCleanDisk (state S.Store tx.new.conn.now) → BlankBefore (state S.Store tx.old.conn.now) no_schema
         → OnOk result (Moves (state S.Store tx.old.conn.now) (state S.Store tx.new.conn.now) (IsBlank entry_tables)) }
     ensures stepped { Stepped S.Store tx.old tx.new }
@@ -24,7 +24,7 @@ fn make_entry_tables<S: Alter>(tx: &mut Transaction<'_, S>) -> Result<(), CallFa
 }
 
 /// Makes the tables of requests, revocations and CRLs.
-fn make_revocation_tables<S: Alter>(tx: &mut Transaction<'_, S>) -> Result<(), CallFault>
+fn make_revocation_tables<S: Alter>(tx: &mut Transaction<'_, S>) -> Result<(), DatabaseFault>
     ensures ok { HasCleanDisk (state S.Store tx.new.conn.now) → BlankBefore (state S.Store tx.old.conn.now) entry_tables
         → OnOk result (Moves (state S.Store tx.old.conn.now) (state S.Store tx.new.conn.now) (IsBlank record_tables)) }
     ensures stepped { Stepped S.Store tx.old tx.new }
@@ -35,7 +35,7 @@ fn make_revocation_tables<S: Alter>(tx: &mut Transaction<'_, S>) -> Result<(), C
 }
 
 /// Makes all tables and indexes, in a database that has none.
-pub(crate) fn make<S: Alter>(tx: &mut Transaction<'_, S>) -> Result<(), CallFault>
+pub(crate) fn make<S: Alter>(tx: &mut Transaction<'_, S>) -> Result<(), DatabaseFault>
     ensures ok { HasCleanDisk (state S.Store tx.new.conn.now) → BlankBefore (state S.Store tx.old.conn.now) no_schema
         → OnOk result (Moves (state S.Store tx.old.conn.now) (state S.Store tx.new.conn.now) (IsBlank register_schema)) }
     ensures stepped { Stepped S.Store tx.old tx.new }

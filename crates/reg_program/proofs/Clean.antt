@@ -11,7 +11,7 @@ use Rattle.reg_core.specs.Policy.{IsPolicy, Terms}
 use Rattle.reg_core.specs.Records.{no_records}
 use Rattle.reg_crl.specs.Signing.{Identity}
 use Rattle.reg_jobs.specs.Sample.{sample_issuer, sample_records, usual_policy}
-use Rattle.reg_office.specs.AtRest.{LeavesTold}
+use Rattle.reg_office.specs.AfterStoppedCommand.{LeavesTold}
 use Rattle.reg_office.specs.Stands.{Stands}
 use Rattle.reg_program.proofs.Opened.{made_stands}
 use Rattle.reg_tables.specs.Kept.{ShowsKept}

@@ -9,7 +9,7 @@ use Rattle.sqlite_trees.specs.declared.store.Store.{Ghosts}
 use Rattle.reg_core.specs.Records.{Records}
 use Rattle.reg_core.specs.Sound.{SoundRows}
 use Rattle.reg_migration.specs.Older.{ShowsOlder}
-use Rattle.reg_migration.specs.declared.version.Earlier.{Earlier}
+use Rattle.reg_migration.specs.declared.version.OlderVersion.{OlderVersion}
 use Rattle.reg_office.proofs.Composing.{after_look}
 use Rattle.reg_tables.proofs.Staying.{kept_shows}
 use Rattle.reg_tables.specs.Kept.{ShowsKept}
@@ -43,7 +43,7 @@ module _ {C : Type 0} (g : Ghosts C) (connection opened after held : Held C) (is
 
   -- what the connection showed, the store shows
   pub shown : (records : Records) → (ShowsKept g connection records → ShowsKept g opened records)
-      → ((version : Earlier) → ShowsOlder version g connection records → SoundRows records → ShowsKept g opened records)
+      → ((version : OlderVersion) → ShowsOlder version g connection records → SoundRows records → ShowsKept g opened records)
       → Showed g connection records → Shows g opened records
   shown records kept migrated (inl now) = kept_shows g opened records (kept now)
   shown records kept migrated (inr (version, older, sound)) = kept_shows g opened records (migrated version older sound)

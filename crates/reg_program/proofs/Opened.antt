@@ -12,11 +12,11 @@ use Rattle.reg_core.specs.Policy.{IsPolicy, Terms}
 use Rattle.reg_core.specs.Records.{Records, no_records}
 use Rattle.reg_core.specs.Sound.{SoundRows}
 use Rattle.reg_migration.specs.Older.{ShowsOlder}
-use Rattle.reg_migration.specs.declared.version.Earlier.{Earlier}
+use Rattle.reg_migration.specs.declared.version.OlderVersion.{OlderVersion}
 use Rattle.reg_crl.specs.Signing.{Identity}
 use Rattle.reg_endings.specs.declared.failure.Failure.{Failure}
 use Rattle.reg_office.proofs.Following.{created_sound_for}
-use Rattle.reg_office.specs.AtRest.{LeavesThese, LeavesTold}
+use Rattle.reg_office.specs.AfterStoppedCommand.{LeavesThese, LeavesTold}
 use Rattle.reg_office.specs.Calls.{StandsFor}
 use Rattle.reg_office.specs.Stands.{Stands}
 use Rattle.reg_tables.specs.Kept.{ShowsKept}
@@ -26,7 +26,7 @@ use Rattle.reg_office.specs.declared.responder.Responder.{Responder as Held_by}
 use Rattle.reg_program.specs.Files.{IsConnection, IsOpenedFor, IsOpenedFrom, IsMadeFrom, Showed}
 use Rattle.reg_words.specs.declared.job.Answerer.{Answerer}
 use Rattle.reg_calls.specs.Signatories.{Signatory}
-use Rattle.reg_jobs.specs.Signing.{EmbedsOwn, Follows, IsAnswering, IsSigning, OfCrls, Signing, answerer_told, crls_told}
+use Rattle.reg_jobs.specs.WhoSigns.{EmbedsOwn, Follows, IsAnswering, IsSigning, OfCrls, Signing, answerer_of, crls_told}
 
 -- the records of one that was made
 pub made_stands : {C : Type 0} (g : Ghosts C) (signs : Identity → List ℕ → List ℕ → Type 0) (identity : Identity) (store register : Held C)
@@ -94,7 +94,7 @@ module _ {D : Type 0} {g : disk.Ghosts D} {O L : Type 0} (store : O → Held (Fi
   -- one that was opened
   pub settled_opened : (who : O → Signatory) (signing : OfCrls)
       → IfOk found (λ office. (records : Records) → ShowsKept over_files connection records → ShowsKept over_files (store office) records)
-      → IfOk found (λ office. (version : Earlier) (records : Records) → ShowsOlder version over_files connection records → SoundRows records → ShowsKept over_files (store office) records)
+      → IfOk found (λ office. (version : OlderVersion) (records : Records) → ShowsOlder version over_files connection records → SoundRows records → ShowsKept over_files (store office) records)
       → IfOk found (λ office. doubt (file_state connection).is_clean ≤ doubt (file_state (store office)).is_clean)
       → IfOk found (Tells who signing)
       → IfOk found (FollowsLatest who)
@@ -106,7 +106,7 @@ module _ {D : Type 0} {g : disk.Ghosts D} {O L : Type 0} (store : O → Held (Fi
     where
       go : (r : Result O L)
           → IfOk r (λ office. (records : Records) → ShowsKept over_files connection records → ShowsKept over_files (store office) records)
-          → IfOk r (λ office. (version : Earlier) (records : Records) → ShowsOlder version over_files connection records → SoundRows records → ShowsKept over_files (store office) records)
+          → IfOk r (λ office. (version : OlderVersion) (records : Records) → ShowsOlder version over_files connection records → SoundRows records → ShowsKept over_files (store office) records)
           → IfOk r (λ office. doubt (file_state connection).is_clean ≤ doubt (file_state (store office)).is_clean)
           → IfOk r (Tells who signing)
           → IfOk r (FollowsLatest who)
@@ -159,7 +159,7 @@ module _ {D : Type 0} {g : disk.Ghosts D} {O L : Type 0} (store : O → Held (Fi
 module _ {D : Type 0} {g : disk.Ghosts D} {O : Type 0} (store : O → Held (FileStore D g)) (who : O → Signatory) (signing : Signing) where
   pub opened_for : (crls : OfCrls) (result : Result O Failure) → crls_told signing ≡ crls
       → IfOk result (λ office. IsOpenedFrom crls (store office) (who office))
-      → IfOk result (λ office. IsAnswering (answerer_told signing) (who office))
+      → IfOk result (λ office. IsAnswering (answerer_of signing) (who office))
       → IfOk result (λ office. IsOpenedFor signing (store office) (who office))
   opened_for crls (Ok office) is opened answers = record {
     opened = subst (λ (c : OfCrls). IsOpenedFrom c (store office) (who office)) (sym is) opened;

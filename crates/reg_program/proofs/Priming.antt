@@ -4,7 +4,7 @@ use Rattle.sqlite.specs.Held.{Held, state}
 use Rattle.sqlite.specs.State.{HasCleanDisk}
 use Rattle.sqlite_trees.specs.declared.store.Store.{Ghosts}
 use Rattle.reg_calls.specs.Signatories.{Signatory}
-use Rattle.reg_calls.specs.Steps.{Signs}
+use Rattle.reg_calls.specs.CallSteps.{Signs}
 use Rattle.reg_office.specs.Calls.{LeadsOver, StandsFor}
 use Rattle.reg_signer.specs.Primed.{IsPrimed}
 use Rattle.reg_signer.specs.declared.primed.Primed.{Primed}

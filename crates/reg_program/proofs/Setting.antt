@@ -7,11 +7,11 @@ use Rattle.sqlite_trees.specs.declared.store.Store.{Ghosts}
 use Rattle.reg_office.proofs.Composing.{was_clean}
 use Rattle.reg_core.specs.Records.{Records}
 use Rattle.reg_calls.specs.Signatories.{Signatory}
-use Rattle.reg_calls.specs.Steps.{Signs}
+use Rattle.reg_calls.specs.CallSteps.{Signs}
 use Rattle.reg_office.proofs.Leaving.{leaves_more, leaves_settled}
 use Rattle.reg_office.proofs.Standing.{stands_on}
 use Rattle.reg_office.proofs.Stopping.{Settles}
-use Rattle.reg_office.specs.AtRest.{IsOneMore, LeavesTold}
+use Rattle.reg_office.specs.AfterStoppedCommand.{IsOneMore, LeavesTold}
 use Rattle.reg_office.specs.Calls.{LeadsOver, StandsFor}
 use Rattle.reg_office.specs.Stands.{Stands}
 use Rattle.reg_tables.specs.Stays.{Changed, IsRegister, Stays}

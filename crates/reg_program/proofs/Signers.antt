@@ -4,7 +4,7 @@ use Rattle.std.specs.Prelude.{option_map}
 use Rattle.reg_crl.specs.Signing.{Identity, sha1_algorithm}
 use Rattle.reg_der.specs.Der.{tlv, length_octets}
 use Rattle.reg_words.specs.declared.job.KeyHolder.{KeyHolder}
-use Rattle.reg_jobs.specs.Signing.{IsSigning, identity_told}
+use Rattle.reg_jobs.specs.WhoSigns.{IsSigning, identity_told}
 use Rattle.reg_signer.specs.Algorithms.{identifier_of}
 use Rattle.reg_signer.specs.declared.algorithm.Algorithm.{Algorithm}
 use Rattle.reg_signer.specs.declared.algorithm.Algorithm.TheVariants.{EcdsaSha256, EcdsaSha384, RsaSha256, Ed25519}

@@ -14,12 +14,12 @@ use Rattle.reg_crl.specs.Signing.{Identity, sealed_until}
 use Rattle.reg_office.specs.Stands.{Stands}
 use Rattle.reg_tables.specs.Columns.{Columns}
 use Rattle.reg_tables.specs.Shows.{AreBoth}
-use Rattle.reg_auditing.specs.Complete.{ShowsSound}
+use Rattle.reg_table_audit.specs.Complete.{ShowsSound}
 use Rattle.reg_verdict.specs.Presumed.{IsPresumed}
 use Rattle.reg_verdict.specs.Verdicts.{CountedBy, IsSound}
 use Rattle.reg_findings.specs.declared.verdict.Verdict.{Verdict}
 use Rattle.reg_program.specs.Files.{IsAudited, IsOpenedFrom}
-use Rattle.reg_jobs.specs.Signing.{OfCrls}
+use Rattle.reg_jobs.specs.WhoSigns.{OfCrls}
 
 -- an audit of a file that said that all is sound, with a disk that returned what was written, and where what is presumed of the
 -- connection and of the file holds

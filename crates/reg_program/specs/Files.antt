@@ -12,25 +12,25 @@ use Rattle.sqlite_trees.specs.View.{doubt}
 use Rattle.reg_core.specs.Records.{Records}
 use Rattle.reg_core.specs.Sound.{Sound, SoundRows}
 use Rattle.reg_migration.specs.Older.{ShowsOlder}
-use Rattle.reg_migration.specs.declared.version.Earlier.{Earlier}
+use Rattle.reg_migration.specs.declared.version.OlderVersion.{OlderVersion}
 use Rattle.reg_tables.specs.Columns.{Columns}
 use Rattle.reg_tables.specs.Kept.{Kept, ShowsKept}
 use Rattle.reg_tables.specs.Schema.{no_schema}
 use Rattle.reg_tables.specs.Shows.{ShowsBoth}
 use Rattle.reg_tables.specs.Stays.{IsRegister, Stays}
-use Rattle.reg_auditing.specs.Complete.{ShowsSound}
-use Rattle.reg_auditing.specs.Stored.{IsSomeCrl}
-use Rattle.reg_auditing.specs.Values.{HasAllowedDays}
+use Rattle.reg_table_audit.specs.Complete.{ShowsSound}
+use Rattle.reg_table_audit.specs.Stored.{IsSomeCrl}
+use Rattle.reg_table_audit.specs.ReadableValues.{HasAllowedDays}
 use Rattle.reg_verdict.specs.Presumed.{IsPresumed}
 use Rattle.reg_verdict.specs.Verdicts.{CountedBy, DeniedBy, IsSound, TellsOf}
 use Rattle.reg_findings.specs.declared.verdict.Verdict.{Verdict}
 use Rattle.reg_calls.specs.Signatories.{Signatory}
-use Rattle.reg_office.specs.AtRest.{LeavesThese}
-use Rattle.reg_jobs.specs.Signing.{EmbedsOwn, Follows, IsAnswering, IsSigning, OfCrls, Signing, answerer_told, crls_told}
+use Rattle.reg_office.specs.AfterStoppedCommand.{LeavesThese}
+use Rattle.reg_jobs.specs.WhoSigns.{EmbedsOwn, Follows, IsAnswering, IsSigning, OfCrls, Signing, answerer_of, crls_told}
 
 -- tables showed the records of a register, of this program's version or of an older one
 abbrev pub Showed : {C : Type 0} → Ghosts C → Held C → Records → Type 0
-Showed g held records = ShowsKept g held records ⊎ ((version : Earlier) × ShowsOlder version g held records × SoundRows records)
+Showed g held records = ShowsKept g held records ⊎ ((version : OlderVersion) × ShowsOlder version g held records × SoundRows records)
 
 module _ {D : Type 0} {g : disk.Ghosts D} where
   -- a connection that is new and in no transaction, to a database that is whole where the disk returned what was written
@@ -46,7 +46,7 @@ module _ {D : Type 0} {g : disk.Ghosts D} where
     pub connection : Held (FileStore D g)
     pub connects : IsConnection connection
     pub kept : (records : Records) → ShowsKept over_files connection records → ShowsKept over_files register records
-    pub migrated : (version : Earlier) (records : Records) → ShowsOlder version over_files connection records → SoundRows records → ShowsKept over_files register records
+    pub migrated : (version : OlderVersion) (records : Records) → ShowsOlder version over_files connection records → SoundRows records → ShowsKept over_files register records
     pub clean : doubt (file_state connection).is_clean ≤ doubt (file_state register).is_clean
     pub told : (records : Records) → Showed over_files connection records → HasCleanDisk (file_state register)
         → IsSigning signing records.issuer.key who.crls
@@ -59,7 +59,7 @@ module _ {D : Type 0} {g : disk.Ghosts D} where
   -- the same for all that it was opened for: OCSP requests are answered in it as it was told
   pub record IsOpenedFor (signing : Signing) (register : Held (FileStore D g)) (who : Signatory) : Type 0 where
     pub opened : IsOpenedFrom (crls_told signing) register who
-    pub answers : IsAnswering (answerer_told signing) who
+    pub answers : IsAnswering (answerer_of signing) who
 
   -- what a register holds was made by a connection to a database with no table, index or view
   pub record IsMadeFrom (register : Held (FileStore D g)) : Type 0 where

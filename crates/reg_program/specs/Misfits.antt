@@ -2,19 +2,19 @@
 use Rattle.std.specs.Prelude.{◌≡◌, ℕ, List, Option, Some}
 use Rattle.reg_causes.specs.declared.cause.Cause.{Cause}
 use Rattle.reg_causes.specs.declared.cause.Cause.TheVariants as cause
-use Rattle.reg_jobs.specs.Signing.{MayFollow}
+use Rattle.reg_jobs.specs.WhoSigns.{MayFollow}
 use Rattle.reg_signer.specs.Algorithms.{identifier_of}
 use Rattle.reg_signer.specs.Signed.{IsCrlUnder}
 use Rattle.reg_signer.specs.declared.algorithm.Algorithm.{Algorithm}
 
 -- an algorithm of a key that is known here (RFC 5280 4.1.1.2)
-abbrev pub IsKnown : List ℕ → Type 0
-IsKnown algorithm = (known : Algorithm) × (identifier_of known ≡ algorithm)
+abbrev pub IsKnownAlgorithm : List ℕ → Type 0
+IsKnownAlgorithm algorithm = (known : Algorithm) × (identifier_of known ≡ algorithm)
 
 -- how the algorithm of a CRL differs from another that does not follow it: it is known here, or it is not
 abbrev pub Differs : List ℕ → List ℕ → Cause → Type 0
-Differs found algorithm cause.OtherAlgorithm = (¬ MayFollow algorithm found) × IsKnown found
-Differs found algorithm cause.UnknownAlgorithm = (¬ MayFollow algorithm found) × (¬ IsKnown found)
+Differs found algorithm cause.OtherAlgorithm = (¬ MayFollow algorithm found) × IsKnownAlgorithm found
+Differs found algorithm cause.UnknownAlgorithm = (¬ MayFollow algorithm found) × (¬ IsKnownAlgorithm found)
 Differs found algorithm cause.OtherKey = ⊥
 Differs found algorithm cause.Days = ⊥
 Differs found algorithm cause.CrlLife = ⊥

@@ -5,8 +5,8 @@ use Rattle.sqlite_disk.specs.declared.Disk as disk
 use Rattle.sqlite_store.specs.declared.store.FileStore.{FileStore}
 use Rattle.reg_core.specs.Records.{Records}
 use Rattle.reg_calls.specs.Signatories.{Signatory}
-use Rattle.reg_calls.specs.Steps.{Signs}
-use Rattle.reg_jobs.specs.Signing.{OfCrls}
+use Rattle.reg_calls.specs.CallSteps.{Signs}
+use Rattle.reg_jobs.specs.WhoSigns.{OfCrls}
 use Rattle.reg_office.specs.Calls.{StandsFor}
 use Rattle.reg_office.specs.OpenedAgain.{OpensTold}
 use Rattle.reg_office.specs.Stands.{SoundFor}

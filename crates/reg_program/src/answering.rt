@@ -2,8 +2,8 @@
 
 ghost use Rattle.std.specs.Prelude.{◌≡◌, ◌⊎◌, IsTrue, IfOk, IfErr};
 ghost use Rattle.reg_crl.specs.Signing.{Identity};
-ghost use Rattle.reg_jobs.specs.Failing.{IsOpening};
-ghost use Rattle.reg_jobs.specs.Signing.{EmbedsOwn, IsAnswering, IsDelegate};
+ghost use Rattle.reg_jobs.specs.RegisterFailures.{IsOpening};
+ghost use Rattle.reg_jobs.specs.WhoSigns.{EmbedsOwn, IsAnswering, IsDelegate};
 ghost use Rattle.reg_office.specs.Answering.{answers_by, failures_of, signatory_of};
 ghost use Rattle.reg_words.specs.declared.job.Answerer.TheVariants.{Issuer};
 

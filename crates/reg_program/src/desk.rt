@@ -3,13 +3,13 @@
 use crate::input::Input;
 use crate::machine::Machine;
 use crate::performing::perform_untold;
-use crate::progress::{Counted, tell_opening};
+use crate::progress::{CountedOutput, tell_opening};
 use crate::system::open_log;
 use reg_causes::{Cause, of_io};
 use reg_core::Fault;
 use reg_endings::Failure;
 use reg_jobs::{Causes, Place, explain, tell};
-use reg_words::{Order, Usage, no_text, read_words};
+use reg_words::{Invocation, Usage, no_text, read_words};
 use std::cell::Cell;
 use std::io::{ErrorKind, IsTerminal};
 use std::process::ExitCode;
@@ -44,20 +44,20 @@ fn words_of(rt: &HostRuntime) -> Result<Vec<String>, Usage> {
 /// Does what the words order.
 fn run(rt: &HostRuntime, words: &[String]) -> io::Result<u8> {
     match read_words(rt.alloc(), words) {
-        Ok(order) => {
-            if let Some(cause) = unlogged(rt, &order) {
-                return Ok(tell_fault(rt, &order, Fault::Write, cause));
+        Ok(invocation) => {
+            if let Some(cause) = unlogged(rt, &invocation) {
+                return Ok(tell_fault(rt, &invocation, Fault::Write, cause));
             }
-            tell_opening(rt, &order.job);
-            Ok(do_order(rt, &order))
+            tell_opening(rt, &invocation.job);
+            Ok(do_invocation(rt, &invocation))
         }
         Err(usage) => tell_usage(rt, &usage),
     }
 }
 
 /// Why the file of the log that an order names can't be written, if it can't.
-fn unlogged(rt: &HostRuntime, order: &Order<'_>) -> Option<Option<Cause>> {
-    let path = log_path(order)?;
+fn unlogged(rt: &HostRuntime, invocation: &Invocation<'_>) -> Option<Option<Cause>> {
+    let path = log_path(invocation)?;
     match open_log(rt, path) {
         Ok(_) => None,
         Err(error) => Some(of_io(error.kind())),
@@ -65,21 +65,26 @@ fn unlogged(rt: &HostRuntime, order: &Order<'_>) -> Option<Option<Cause>> {
 }
 
 /// The path of the file of the log that an order names.
-fn log_path<'o>(order: &'o Order<'_>) -> Option<&'o str> {
-    match &order.log_file {
+fn log_path<'o>(invocation: &'o Invocation<'_>) -> Option<&'o str> {
+    match &invocation.log_file {
         Some(path) => Some(path.as_str()),
         None => None,
     }
 }
 
 /// Tells a fault for which nothing is done, as that the log can't be written that was asked for, and gives the exit status.
-fn tell_fault(rt: &HostRuntime, order: &Order<'_>, fault: Fault, cause: Option<Cause>) -> u8 {
+fn tell_fault(
+    rt: &HostRuntime,
+    invocation: &Invocation<'_>,
+    fault: Fault,
+    cause: Option<Cause>,
+) -> u8 {
     let mut errors = rt.stderr();
     tell(&mut errors, &Failure::Fault(fault));
     explain(
         rt.alloc(),
         &mut errors,
-        order.is_explained,
+        invocation.is_explained,
         FAULT,
         cause,
         None,
@@ -87,50 +92,55 @@ fn tell_fault(rt: &HostRuntime, order: &Order<'_>, fault: Fault, cause: Option<C
     FAULT
 }
 
-/// Does the job of an order over standard input, or the file of its rows, and standard output.
-fn do_order(rt: &HostRuntime, order: &Order<'_>) -> u8 {
-    match Input::of(rt, &order.job) {
-        Ok(mut input) => do_reading(rt, order, &mut input),
-        Err(error) => tell_fault(rt, order, Fault::Read, of_io(error.kind())),
+/// Does the job of an invocation over standard input, or the file of its rows, and standard output.
+fn do_invocation(rt: &HostRuntime, invocation: &Invocation<'_>) -> u8 {
+    match Input::of(rt, &invocation.job) {
+        Ok(mut input) => do_reading(rt, invocation, &mut input),
+        Err(error) => tell_fault(rt, invocation, Fault::Read, of_io(error.kind())),
     }
 }
 
 /// The same over what it reads.
-fn do_reading(rt: &HostRuntime, order: &Order<'_>, input: &mut Input) -> u8 {
+fn do_reading(rt: &HostRuntime, invocation: &Invocation<'_>, input: &mut Input) -> u8 {
     let noted = Cell::new(None);
     let reason = Cell::new(None);
     let causes = Causes {
         noted: &noted,
         reason: &reason,
-        is_told: order.is_explained,
+        is_told: invocation.is_explained,
     };
-    do_noting(rt, order, &causes, input)
+    do_noting(rt, invocation, &causes, input)
 }
 
 /// The same, where causes are noted, over the machine's files.
-fn do_noting(rt: &HostRuntime, order: &Order<'_>, causes: &Causes<'_>, input: &mut Input) -> u8 {
-    let mut place = machine_for(rt, order, causes.noted);
-    do_at(rt, order, causes, &mut place, input)
+fn do_noting(
+    rt: &HostRuntime,
+    invocation: &Invocation<'_>,
+    causes: &Causes<'_>,
+    input: &mut Input,
+) -> u8 {
+    let mut place = machine_for(rt, invocation, causes.noted);
+    do_at(rt, invocation, causes, &mut place, input)
 }
 
 /// The same over any place. What is said of the machine's files is told apart from what is said of its front, since both at one call are
 /// more than one check can do.
 fn do_at<P: Place>(
     rt: &HostRuntime,
-    order: &Order<'_>,
+    invocation: &Invocation<'_>,
     causes: &Causes<'_>,
     place: &mut P,
     input: &mut Input,
 ) -> u8 {
-    let front = machine_for(rt, order, causes.noted);
-    let mut output = Counted::of(rt, &order.job, causes.noted);
+    let front = machine_for(rt, invocation, causes.noted);
+    let mut output = CountedOutput::of(rt, &invocation.job, causes.noted);
     let mut errors = rt.stderr();
     perform_untold(
         rt,
         causes,
         &front,
         place,
-        &order.job,
+        &invocation.job,
         input,
         &mut output,
         &mut errors,
@@ -140,12 +150,12 @@ fn do_at<P: Place>(
 /// The machine for an order, which notes causes here.
 fn machine_for<'n>(
     rt: &HostRuntime,
-    order: &'n Order<'_>,
+    invocation: &'n Invocation<'_>,
     noted: &'n Cell<Option<Cause>>,
 ) -> Machine<'n> {
     Machine::of(*rt, noted)
-        .with_log(order.has_log)
-        .with_log_file(log_path(order))
+        .with_log(invocation.has_log)
+        .with_log_file(log_path(invocation))
         .with_watch(rt.stderr().is_terminal())
 }
 
@@ -157,7 +167,7 @@ fn unread(rt: &HostRuntime, error: &io::Error) -> Usage {
     }
 }
 
-/// Tells help or the version, or why there is no order.
+/// Tells help or the version, or why there is no invocation.
 fn tell_usage(rt: &HostRuntime, usage: &Usage) -> io::Result<u8> {
     match usage {
         Usage::Help(text) | Usage::Version(text) => print!(rt; "{text}")?,

@@ -9,12 +9,12 @@ ghost use Rattle.sqlite_trees.specs.View.{doubt};
 ghost use Rattle.reg_core.specs.Records.{Records, no_records};
 ghost use Rattle.reg_core.specs.Sound.{SoundRows};
 ghost use Rattle.reg_migration.specs.Older.{ShowsOlder};
-ghost use Rattle.reg_migration.specs.declared.version.Earlier.{Earlier};
-ghost use Rattle.reg_jobs.specs.Failing.{IsMaking, IsOfStore, IsOpening};
+ghost use Rattle.reg_migration.specs.declared.version.OlderVersion.{OlderVersion};
+ghost use Rattle.reg_jobs.specs.RegisterFailures.{IsMaking, IsOfStore, IsOpening};
 ghost use Rattle.reg_files.specs.Overlaid.{image};
 ghost use Rattle.reg_files.specs.Reading.{IsUnread};
 ghost use Rattle.reg_program.specs.Files.{IsAudited, IsAuditOf, IsOpenedFor, IsOpenedFrom, IsMadeFrom, Says, Showed};
-ghost use Rattle.reg_jobs.specs.Signing.{EmbedsOwn, Follows, IsSigning, crls_told};
+ghost use Rattle.reg_jobs.specs.WhoSigns.{EmbedsOwn, Follows, IsSigning, crls_told};
 ghost use Rattle.reg_calls.specs.Leads.{Leads};
 ghost use Rattle.reg_calls.specs.Signatories.{Signatory};
 ghost use Rattle.reg_lists.specs.Pages.{Pages};
@@ -23,27 +23,27 @@ ghost use Rattle.reg_jobs.specs.Schedules.{Reschedules};
 ghost use Rattle.reg_jobs.specs.Reasons.{HasLongest};
 ghost use Rattle.reg_jobs.specs.Watched.{HasOpen, HasStanding};
 ghost use Rattle.reg_office.specs.Answering.{answers_by, failures_of, signatory_of};
-ghost use Rattle.reg_office.specs.AtRest.{LeavesThese, LeavesTold};
+ghost use Rattle.reg_office.specs.AfterStoppedCommand.{LeavesThese, LeavesTold};
 ghost use Rattle.reg_office.specs.Calls.{StandsFor};
 ghost use Rattle.reg_office.specs.Stands.{Stands};
 ghost use Rattle.reg_tables.specs.Kept.{ShowsKept};
 ghost use Rattle.reg_tables.specs.Schema.{no_schema};
 ghost use Rattle.reg_tables.specs.Shows.{Shows};
-ghost use Rattle.reg_tables.specs.Stays.{IsCallFault, Looked};
+ghost use Rattle.reg_tables.specs.Stays.{IsDatabaseFault, Looked};
 
 use crate::answering::{failures_in, responder_told};
+use crate::audit_progress::AuditProgress;
 use crate::machine::Machine;
 use crate::signing::{FileSigner, signer_for};
-use crate::watching::Teller;
 use mio::net::UnixStream;
-use reg_calls::Keeper;
+use reg_calls::OfficeOfRecords;
 use reg_core::{Fault, Label, Memory, Moment, Policy, Schedule};
 use reg_crl::Signer;
 use reg_der::Issuer;
 use reg_endings::Failure;
 use reg_files::{
-    Overlay, ReadFile, Source, Sources, Unlaid, Unopened, Unread, claim_file, copy_closed, look_at,
-    open_file, open_sources, read_at, remove_file,
+    ClaimFault, FileFault, Overlay, ReadFile, Source, Sources, Unread, claim_file, copy_closed,
+    look_at, open_file, open_sources, read_at, remove_file,
 };
 use reg_findings::Verdict;
 use reg_jobs::{Place, Wanted};
@@ -116,8 +116,8 @@ impl<'a> Place for Machine<'a> {
     {
         match claim_file(&self.rt, path) {
             Ok(()) => Ok(true),
-            Err(Unlaid::Memory) => Err(Memory),
-            Err(Unlaid::Taken(cause)) => {
+            Err(ClaimFault::Memory) => Err(Memory),
+            Err(ClaimFault::Taken(cause)) => {
                 self.note(cause);
                 Ok(false)
             }
@@ -151,8 +151,8 @@ impl<'a> Place for Machine<'a> {
         register: &mut FileOffice,
         schedule: Schedule,
     ) -> Result<(), StoreFault>
-        ensures moves { Leads ⟦<FileOffice as Keeper>⟧.is_clean ⟦<FileOffice as Keeper>⟧.stands (λ identity. Reschedules schedule result) register.old register.new }
-        ensures faults { IfErr result IsCallFault }
+        ensures moves { Leads ⟦<FileOffice as OfficeOfRecords>⟧.is_clean ⟦<FileOffice as OfficeOfRecords>⟧.stands (λ identity. Reschedules schedule result) register.old register.new }
+        ensures faults { IfErr result IsDatabaseFault }
     {
         reschedule(alloc, register, schedule)
     }
@@ -173,7 +173,7 @@ impl<'a> Place for Machine<'a> {
         from: Cursor,
         most: u64,
     ) -> Result<Page, Fault>
-        ensures { Leads ⟦<FileOffice as Keeper>⟧.is_clean ⟦<FileOffice as Keeper>⟧.stands (λ identity before after. Pages before now most from result after) register.old register.new }
+        ensures { Leads ⟦<FileOffice as OfficeOfRecords>⟧.is_clean ⟦<FileOffice as OfficeOfRecords>⟧.stands (λ identity before after. Pages before now most from result after) register.old register.new }
     {
         page_over(alloc, register, now, from, most)
     }
@@ -187,14 +187,14 @@ impl<'a> Place for Machine<'a> {
     }
 
     fn standing(register: &mut FileOffice) -> Result<Standing, Fault>
-        ensures moves { Leads ⟦<FileOffice as Keeper>⟧.is_clean ⟦<FileOffice as Keeper>⟧.stands (λ identity before after. HasStanding before result × (after ≡ before)) register.old register.new }
+        ensures moves { Leads ⟦<FileOffice as OfficeOfRecords>⟧.is_clean ⟦<FileOffice as OfficeOfRecords>⟧.stands (λ identity before after. HasStanding before result × (after ≡ before)) register.old register.new }
         ensures faults { IfErr result IsOfStore }
     {
         standing_of(register)
     }
 
     fn open_count(register: &mut FileOffice, now: Moment) -> Result<u64, Fault>
-        ensures moves { Leads ⟦<FileOffice as Keeper>⟧.is_clean ⟦<FileOffice as Keeper>⟧.stands (λ identity before after. HasOpen before now result × (after ≡ before)) register.old register.new }
+        ensures moves { Leads ⟦<FileOffice as OfficeOfRecords>⟧.is_clean ⟦<FileOffice as OfficeOfRecords>⟧.stands (λ identity before after. HasOpen before now result × (after ≡ before)) register.old register.new }
         ensures faults { IfErr result IsOfStore }
     {
         open_count_of(register, now)
@@ -202,22 +202,22 @@ impl<'a> Place for Machine<'a> {
 
     fn longest(
         register: &mut FileOffice,
-        order: u64,
+        invocation: u64,
         not_before: Moment,
     ) -> Result<Option<u64>, Fault>
-        ensures { Leads ⟦<FileOffice as Keeper>⟧.is_clean ⟦<FileOffice as Keeper>⟧.stands (λ identity before after. HasLongest before order not_before result × (after ≡ before)) register.old register.new }
+        ensures { Leads ⟦<FileOffice as OfficeOfRecords>⟧.is_clean ⟦<FileOffice as OfficeOfRecords>⟧.stands (λ identity before after. HasLongest before invocation not_before result × (after ≡ before)) register.old register.new }
     {
-        longest_of(register, order, not_before)
+        longest_of(register, invocation, not_before)
     }
 
     fn crl_message(register: &mut FileOffice, alloc: Global, now: Moment) -> Option<Vec<u8>>
-        ensures { Leads ⟦<FileOffice as Keeper>⟧.is_clean ⟦<FileOffice as Keeper>⟧.stands (λ identity before after. after ≡ before) register.old register.new }
+        ensures { Leads ⟦<FileOffice as OfficeOfRecords>⟧.is_clean ⟦<FileOffice as OfficeOfRecords>⟧.stands (λ identity before after. after ≡ before) register.old register.new }
     {
         message_in(register, alloc, now)
     }
 
     fn prime(register: &mut FileOffice, wanted: Wanted, primed: Option<Primed>)
-        ensures { Leads ⟦<FileOffice as Keeper>⟧.is_clean ⟦<FileOffice as Keeper>⟧.stands (λ identity before after. after ≡ before) register.old register.new }
+        ensures { Leads ⟦<FileOffice as OfficeOfRecords>⟧.is_clean ⟦<FileOffice as OfficeOfRecords>⟧.stands (λ identity before after. after ≡ before) register.old register.new }
     {
         prime_in(register, wanted, primed);
     }
@@ -273,7 +273,7 @@ fn unread(machine: &Machine<'_>, why: Unread) -> Failure
 }
 
 /// How it is told that files are not opened. The cause is noted.
-fn unopened(machine: &Machine<'_>, why: &Unopened) -> Failure
+fn unopened(machine: &Machine<'_>, why: &FileFault) -> Failure
     requires { (why.now.fault ≡ Fault.Memory) ⊎ (why.now.fault ≡ Fault.Store) }
     ensures { IsOpening result }
 {
@@ -304,7 +304,7 @@ fn make_register(
     policy: Policy,
 ) -> Result<FileOffice, Failure>
     ensures ok { IfOk result (λ register. IsMadeFrom register.store) }
-    ensures stands { IfOk result (λ register. (who : Signatory) × ⟦<FileOffice as Keeper>⟧.stands who register (no_records issuer policy)) }
+    ensures stands { IfOk result (λ register. (who : Signatory) × ⟦<FileOffice as OfficeOfRecords>⟧.stands who register (no_records issuer policy)) }
     ensures err { IfErr result IsMaking }
 {
     let connection = open_noted(machine, path)?;
@@ -366,7 +366,7 @@ fn reschedule<C: Alter, S: Signer>(
     ensures moves { Leads (λ office. HasCleanDisk (state C.Store office.store))
         (λ who office records. StandsFor C.Store S.signs (office.store, signatory_of S.identity (S.identity office.signer) office.responder) who records)
         (λ identity. Reschedules schedule result) office.old office.new }
-    ensures faults { IfErr result IsCallFault }
+    ensures faults { IfErr result IsDatabaseFault }
 {
     office.set_schedule(alloc, schedule)
 }
@@ -380,7 +380,7 @@ fn identify<C: Alter, S: Signer>(
     ensures moves { Leads (λ office. HasCleanDisk (state C.Store office.store))
         (λ who office records. StandsFor C.Store S.signs (office.store, signatory_of S.identity (S.identity office.signer) office.responder) who records)
         (λ identity. Identifies octets result) office.old office.new }
-    ensures faults { IfErr result IsCallFault }
+    ensures faults { IfErr result IsDatabaseFault }
 {
     office.set_key_identifier(alloc, octets)
 }
@@ -451,26 +451,26 @@ fn open_count_in<C: Alter>(store: &mut Store<C>, now: Moment) -> Result<u64, Fau
 /// The longest validity in days that an order of an office and its policy allow from a moment on.
 fn longest_of<C: Alter, S: Signer>(
     office: &mut Office<C, S>,
-    order: u64,
+    invocation: u64,
     not_before: Moment,
 ) -> Result<Option<u64>, Fault>
     ensures { Leads (λ office. HasCleanDisk (state C.Store office.store))
         (λ who office records. StandsFor C.Store S.signs (office.store, signatory_of S.identity (S.identity office.signer) office.responder) who records)
-        (λ identity before after. HasLongest before order not_before result × (after ≡ before)) office.old office.new }
+        (λ identity before after. HasLongest before invocation not_before result × (after ≡ before)) office.old office.new }
 {
-    longest_in(&mut office.store, order, not_before)
+    longest_in(&mut office.store, invocation, not_before)
 }
 
 /// The same of a store.
 fn longest_in<C: Alter>(
     store: &mut Store<C>,
-    order: u64,
+    invocation: u64,
     not_before: Moment,
 ) -> Result<Option<u64>, Fault>
-    ensures found { (records : Records) → Shows C.Store store.old records → HasCleanDisk (state C.Store store.new) → HasLongest records order not_before result }
+    ensures found { (records : Records) → Shows C.Store store.old records → HasCleanDisk (state C.Store store.new) → HasLongest records invocation not_before result }
     ensures looked { Looked C.Store store.old store.new }
 {
-    let row = store.order(order)?;
+    let row = store.order(invocation)?;
     let policy = store.policy()?;
     match row {
         Some(row) => Ok(Some(row.days.min(policy.schedule().longest(not_before)))),
@@ -567,8 +567,8 @@ fn audit_over<D: Disk + Drop>(
     ensures ok { IfOk result (λ verdict. Says connection.old connection.new verdict) }
     ensures err { IfErr result IsOpening }
 {
-    let mut teller = Teller::of(machine);
-    let told = judge(machine.rt.alloc(), connection, &mut teller);
+    let mut progress = AuditProgress::of(machine);
+    let told = judge(machine.rt.alloc(), connection, &mut progress);
     match told {
         Ok(verdict) => Ok(verdict),
         Err(fault) => Err(Failure::from(fault)),
@@ -607,7 +607,7 @@ fn office_over<C: Alter>(
 ) -> Result<Office<C, FileSigner>, (Failure, Connection<C>)>
     requires { connection.in_transaction ≡ false }
     ensures kept { IfOk result (λ office. (records : Records) → ShowsKept C.Store connection records → ShowsKept C.Store office.store records) }
-    ensures migrated { IfOk result (λ office. (version : Earlier) → (records : Records) → ShowsOlder version C.Store connection records → SoundRows records
+    ensures migrated { IfOk result (λ office. (version : OlderVersion) → (records : Records) → ShowsOlder version C.Store connection records → SoundRows records
         → ShowsKept C.Store office.store records) }
     ensures clean { IfOk result (λ office. doubt (state C.Store connection).is_clean ≤ doubt (state C.Store office.store).is_clean) }
     ensures told { IfOk result (λ office. (records : Records) → Showed C.Store connection records → HasCleanDisk (state C.Store office.store)

@@ -2,7 +2,7 @@
 
 ghost use Rattle.std.specs.Prelude.{◌≡◌, IfErr, IfOk};
 ghost use Rattle.reg_files.specs.Reading.{IsUnread};
-ghost use Rattle.reg_jobs.specs.Failing.{IsOfStore};
+ghost use Rattle.reg_jobs.specs.RegisterFailures.{IsOfStore};
 ghost use Rattle.reg_program.specs.Clocks.{StoodAt, Tells, TellsAt};
 
 use crate::counter::lay_socket;

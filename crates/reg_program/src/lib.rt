@@ -2,6 +2,7 @@
 #![tactic(auto)]
 
 mod answering;
+mod audit_progress;
 mod counter;
 mod desk;
 mod files;
@@ -14,7 +15,6 @@ mod performing;
 mod progress;
 mod signing;
 mod system;
-mod watching;
 
 pub use desk::run_desk;
 pub use files::FileOffice;

@@ -4,7 +4,7 @@ ghost use Rattle.std.specs.Prelude.{◌≡◌};
 
 use reg_causes::Cause;
 use reg_core::Fault;
-use reg_files::Unopened;
+use reg_files::FileFault;
 use std::cell::Cell;
 
 /// The machine: its files, its clock, its ports and its sockets, by a system. The cause of the call that failed last is noted.
@@ -70,7 +70,7 @@ impl<'a, S> Machine<'a, S> {
     }
 
     /// Notes why a file is not opened, and gives the fault.
-    pub(crate) fn noted(&self, why: &Unopened) -> Fault
+    pub(crate) fn noted(&self, why: &FileFault) -> Fault
         ensures { result ≡ why.now.fault }
     {
         self.noted.set(why.cause);

@@ -6,11 +6,11 @@ ghost use Rattle.reg_faces.specs.Faces.{Lines};
 ghost use Rattle.reg_lines.specs.Script.{ScriptEnds};
 ghost use Rattle.reg_jobs.specs.Ends.{ScriptInMemory};
 ghost use Rattle.sqlite.specs.Steps.{over_memory};
-ghost use Rattle.reg_office.specs.AtRest.{LeavesTold};
+ghost use Rattle.reg_office.specs.AfterStoppedCommand.{LeavesTold};
 ghost use Rattle.reg_office.specs.Stands.{Stands};
 ghost use Rattle.reg_office.specs.declared.responder.Responder.TheVariants.{Issuer as ByIssuer};
 ghost use Rattle.reg_jobs.specs.Digest.{digest_alone, digests};
-ghost use Rattle.reg_jobs.specs.Failing.{IsMaking};
+ghost use Rattle.reg_jobs.specs.RegisterFailures.{IsMaking};
 ghost use Rattle.reg_jobs.specs.Sample.{sample_records};
 ghost use Rattle.reg_signer.specs.Both.{digest};
 

@@ -1,11 +1,11 @@
 //! A job is done, and told.
 
 ghost use Rattle.std.specs.Prelude.{◌≡◌, Result};
-ghost use Rattle.reg_endings.specs.Checks.{terms_of};
-ghost use Rattle.reg_endings.specs.Endings.{status};
+ghost use Rattle.reg_endings.specs.Checks.{terms_of_days};
+ghost use Rattle.reg_endings.specs.Endings.{exit_status};
 ghost use Rattle.reg_endings.specs.declared.failure.Failure.{Failure as Failing};
 ghost use Rattle.reg_jobs.specs.Ends.{Ends, ImportAt, InitAt, LinesAt, ListAt, OpenAt, ServeAt};
-ghost use Rattle.reg_jobs.specs.Told.{Explains, Tells};
+ghost use Rattle.reg_jobs.specs.Told.{Explains, TellsEnding};
 
 use crate::memory::script_in_memory;
 use reg_causes::{Cause, of_terms};
@@ -36,8 +36,8 @@ pub fn perform<P: Place, F: Front, R: Read, W: Write, E: Write>(
 ) -> u8
     ensures { (ending : Result (Unit {0}) Failing)
         × Ends R.remaining W.contents reader.old reader.new writer.old writer.new
-        P.Place P.Opened.Keeper.own place.old place.new F.Front job.now ending
-        × (result ≡ status ending) × Explains causes.now.is_told ending (E.contents errors.old) (E.contents errors.new) }
+        P.Place P.Opened.OfficeOfRecords.own place.old place.new F.Front job.now ending
+        × (result ≡ exit_status ending) × Explains causes.now.is_told ending (E.contents errors.old) (E.contents errors.new) }
 {
     let status = perform_at(rt, causes, front, place, job, reader, writer, errors);
     explain(
@@ -79,8 +79,8 @@ fn perform_at<P: Place, F: Front, R: Read, W: Write, E: Write>(
 ) -> u8
     ensures { (ending : Result (Unit {0}) Failing)
         × Ends R.remaining W.contents reader.old reader.new writer.old writer.new
-        P.Place P.Opened.Keeper.own place.old place.new F.Front job.now ending
-        × (result ≡ status ending) × Tells ending (E.contents errors.old) (E.contents errors.new) }
+        P.Place P.Opened.OfficeOfRecords.own place.old place.new F.Front job.now ending
+        × (result ≡ exit_status ending) × TellsEnding ending (E.contents errors.old) (E.contents errors.new) }
 {
     let ending = run(rt, causes.reason, front, place, job, reader, writer);
     match &ending {
@@ -121,7 +121,7 @@ fn run<P: Place, F: Front, R: Read, W: Write>(
     writer: &mut W,
 ) -> Result<(), Failure>
     ensures { Ends R.remaining W.contents reader.old reader.new writer.old writer.new
-        P.Place P.Opened.Keeper.own place.old place.new F.Front job.now result }
+        P.Place P.Opened.OfficeOfRecords.own place.old place.new F.Front job.now result }
 {
     let alloc = rt.alloc();
     match job {
@@ -168,8 +168,8 @@ fn make<P: Place, W: Write>(
     new: &NewRegister<'_>,
     writer: &mut W,
 ) -> Result<(), Failure>
-    ensures { InitAt W.contents writer.old writer.new P.Place P.Opened.Keeper.own place.old place.new new.now.file new.now.name
-        new.now.key new.now.key_id (terms_of new.now.days new.now.crl_life new.now.ocsp_life new.now.cap) result }
+    ensures { InitAt W.contents writer.old writer.new P.Place P.Opened.OfficeOfRecords.own place.old place.new new.now.file new.now.name
+        new.now.key new.now.key_id (terms_of_days new.now.days new.now.crl_life new.now.ocsp_life new.now.cap) result }
 {
     let office = NewOffice {
         name: &new.name,
@@ -194,7 +194,7 @@ fn run_lined<P: Place, F: Front, R: Read, W: Write>(
     writer: &mut W,
 ) -> Result<(), Failure>
     ensures { LinesAt R.remaining W.contents reader.old reader.new writer.old writer.new
-        P.Place P.Opened.Keeper.own place.old place.new F.Front lined.now.file lined.now.signer lined.now.way result }
+        P.Place P.Opened.OfficeOfRecords.own place.old place.new F.Front lined.now.file lined.now.signer lined.now.way result }
 {
     let path = lined.file.as_str();
     script_by_lines(
@@ -221,7 +221,7 @@ fn register<P: Place, F: Front, R: Read, W: Write>(
     writer: &mut W,
 ) -> Result<(), Failure>
     ensures { ImportAt R.remaining W.contents reader.old reader.new writer.old writer.new
-        P.Place P.Opened.Keeper.own place.old place.new rows.now.is_strict rows.now.file rows.now.moment result }
+        P.Place P.Opened.OfficeOfRecords.own place.old place.new rows.now.is_strict rows.now.file rows.now.moment result }
 {
     let path = rows.file.as_str();
     import_rows(
@@ -245,7 +245,7 @@ fn answer<P: Place, F: Front, W: Write>(
     serving: &Serving<'_>,
     writer: &mut W,
 ) -> Result<(), Failure>
-    ensures { ServeAt W.contents writer.old writer.new P.Place P.Opened.Keeper.own place.old place.new F.Front serving.now.file
+    ensures { ServeAt W.contents writer.old writer.new P.Place P.Opened.OfficeOfRecords.own place.old place.new F.Front serving.now.file
         serving.now.signer serving.now.answerer serving.now.port serving.now.requests result }
 {
     serve(
@@ -269,7 +269,7 @@ fn keep_open<P: Place, F: Front, W: Write>(
     kept: &KeptOpen<'_>,
     writer: &mut W,
 ) -> Result<(), Failure>
-    ensures { OpenAt W.contents writer.old writer.new P.Place P.Opened.Keeper.own place.old place.new F.Front kept.now.file
+    ensures { OpenAt W.contents writer.old writer.new P.Place P.Opened.OfficeOfRecords.own place.old place.new F.Front kept.now.file
         kept.now.signer kept.now.answerer kept.now.port kept.now.counter result }
 {
     hold_open(
@@ -293,7 +293,7 @@ fn write_list<P: Place, F: Front, W: Write>(
     wanted: &ListToWrite<'_>,
     writer: &mut W,
 ) -> Result<(), Failure>
-    ensures { ListAt W.contents writer.old writer.new P.Place P.Opened.Keeper.own place.old place.new F.told wanted.now.file
+    ensures { ListAt W.contents writer.old writer.new P.Place P.Opened.OfficeOfRecords.own place.old place.new F.told wanted.now.file
         wanted.now.from wanted.now.moment wanted.now.form result }
 {
     let path = wanted.file.as_str();

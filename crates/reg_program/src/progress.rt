@@ -16,7 +16,7 @@ const MEGABYTE: u64 = 1_000_000;
 /// Standard output, to which a script or an import writes a line for each line or row that is done; once a second it tells how many
 /// were. The cause of a write that fails is noted.
 #[derive(Drop)]
-pub(crate) struct Counted<'a> {
+pub(crate) struct CountedOutput<'a> {
     rt: &'a HostRuntime,
     output: Stdout,
     noted: &'a Cell<Option<Cause>>,
@@ -27,18 +27,18 @@ pub(crate) struct Counted<'a> {
     told: u64,
 }
 
-impl<'a> Counted<'a> {
+impl<'a> CountedOutput<'a> {
     /// Standard output for a job. What it writes is counted where standard error is a terminal, and standard output is none: who reads
     /// the replies there sees them.
     pub(crate) fn of(
         rt: &'a HostRuntime,
         job: &Job<'_>,
         noted: &'a Cell<Option<Cause>>,
-    ) -> Counted<'a> {
+    ) -> CountedOutput<'a> {
         let output = rt.stdout();
         let is_told = is_long(job) && rt.stderr().is_terminal() && !output.is_terminal();
         let now = seconds(rt);
-        Counted {
+        CountedOutput {
             rt,
             output,
             noted,
@@ -65,7 +65,7 @@ impl<'a> Counted<'a> {
     }
 }
 
-impl<'a> Write for Counted<'a> {
+impl<'a> Write for CountedOutput<'a> {
     fn write(&mut self, buf: &[u8]) -> io::Result<usize> {
         let count = match self.output.write(buf) {
             Ok(count) => count,

@@ -6,15 +6,15 @@ ghost use Rattle.sqlite.specs.State.{HasCleanDisk};
 ghost use Rattle.reg_core.specs.Crls.{latest};
 ghost use Rattle.reg_core.specs.Records.{Records};
 ghost use Rattle.reg_core.specs.Sound.{SoundRows};
-ghost use Rattle.reg_jobs.specs.Failing.{IsOpening};
+ghost use Rattle.reg_jobs.specs.RegisterFailures.{IsOpening};
 ghost use Rattle.reg_crl.specs.Signing.{Identity};
-ghost use Rattle.reg_jobs.specs.Signing.{EmbedsOwn, Follows, IsSigning, MayFollow, identity_told};
+ghost use Rattle.reg_jobs.specs.WhoSigns.{EmbedsOwn, Follows, IsSigning, MayFollow, identity_told};
 ghost use Rattle.reg_office.specs.Answering.{answers_by};
 ghost use Rattle.reg_signer.specs.Forms.{identity_of};
 ghost use Rattle.reg_signer.specs.Signed.{IsCrlUnder};
-ghost use Rattle.reg_program.specs.Misfits.{Differs, IsKnown, IsMisfit, IsMisfitAfter};
+ghost use Rattle.reg_program.specs.Misfits.{Differs, IsKnownAlgorithm, IsMisfit, IsMisfitAfter};
 ghost use Rattle.reg_tables.specs.Shows.{Shows};
-ghost use Rattle.reg_tables.specs.Stays.{IsCallFault, Looked};
+ghost use Rattle.reg_tables.specs.Stays.{IsDatabaseFault, Looked};
 
 use crate::answering::embeds_own;
 use crate::machine::Machine;
@@ -24,7 +24,7 @@ use reg_crl::{DigestSeal, Signer};
 use reg_endings::Failure;
 use reg_office::Responder;
 use reg_signer::{
-    Algorithm, BadSigner, DeviceSigner, KeyOrDigest, RestingDevice, SocketDevice, crl_algorithm,
+    Algorithm, DeviceSigner, KeyFault, KeyOrDigest, RestingDevice, SocketDevice, crl_algorithm,
 };
 use reg_store::{Store, StoreFault};
 use reg_words::{KeyHolder, Word};
@@ -176,7 +176,7 @@ pub(crate) fn key_signer(
     let device = RestingDevice::new(SocketDevice::new(*rt, path, key), *rt);
     match DeviceSigner::new(device, algorithm) {
         Ok(signer) => Ok(KeyOrDigest::key(signer)),
-        Err(BadSigner) => Err(Failure::BadSigner),
+        Err(KeyFault) => Err(Failure::BadSigner),
     }
 }
 
@@ -185,7 +185,7 @@ fn latest_crl<C: Alter>(store: &mut Store<C>) -> Result<Option<Vec<u8>>, StoreFa
     ensures found { (records : Records) → Shows C.Store store.old records → SoundRows records → HasCleanDisk (state C.Store store.new)
         → IfOk result (λ crl. option_map (λ bytes. bytes.items) crl ≡ option_map (λ crl. crl.bytes) (latest records.crls)) }
     ensures looked { Looked C.Store store.old store.new }
-    ensures faults { IfErr result IsCallFault }
+    ensures faults { IfErr result IsDatabaseFault }
 {
     match store.latest_crl()? {
         Some(row) => store.crl(row.number),
@@ -244,7 +244,7 @@ fn may_follow(algorithm: &[u8], earlier: &[u8]) -> bool
 
 /// Whether an algorithm of a key is known here.
 fn is_known(algorithm: &[u8]) -> bool
-    ensures { IsTrue result ↔ IsKnown algorithm.now }
+    ensures { IsTrue result ↔ IsKnownAlgorithm algorithm.now }
 {
     match Algorithm::identified(algorithm) {
         Some(_) => true,

@@ -7,7 +7,7 @@ use Rattle.reg_schema.specs.Forms.{checks_by, column_by, keys_by, orders_by, ref
 use Rattle.reg_schema.specs.declared.tables.TableForm.{TableForm}
 use Rattle.reg_schema.specs.declared.versions.Version.{Version}
 use Rattle.reg_schema.specs.declared.versions.Version.TheVariants.{First, Second, Third}
-use Rattle.reg_schema.specs.Whole.{all_indexes, all_tables, version_schema}
+use Rattle.reg_schema.specs.Whole.{all_indexes, tables_of_version, version_schema}
 
 -- a table whose parts are those of a form
 pub table_is : (table : Table) (form : TableForm)
@@ -33,7 +33,7 @@ table_is table form a b c d = λ i. record {
 
 -- a schema by its lists
 abbrev by_lists : Version → Schema
-by_lists version = record { tables = all_tables version; indexes = all_indexes version; views = [] }
+by_lists version = record { tables = tables_of_version version; indexes = all_indexes version; views = [] }
 
 -- that of a register of each version
 whole : (version : Version) → by_lists version ≡ version_schema version
@@ -43,13 +43,13 @@ whole Second = refl
 whole Third = refl
 
 -- a schema whose parts are those
-pub schema_is : (schema : Schema) (version : Version) → schema.tables ≡ all_tables version → schema.indexes ≡ all_indexes version → schema.views ≡ [] → schema ≡ version_schema version
+pub schema_is : (schema : Schema) (version : Version) → schema.tables ≡ tables_of_version version → schema.indexes ≡ all_indexes version → schema.views ≡ [] → schema ≡ version_schema version
 schema_is schema version tables indexes views =
     let parts : schema ≡ by_lists version = λ i. record { tables = tables i; indexes = indexes i; views = views i } in
     parts ∙ whole version
 
 -- and the parts of that schema
-pub parts_are : (schema : Schema) (version : Version) → schema ≡ version_schema version → (schema.tables ≡ all_tables version) × (schema.indexes ≡ all_indexes version) × (schema.views ≡ [])
+pub parts_are : (schema : Schema) (version : Version) → schema ≡ version_schema version → (schema.tables ≡ tables_of_version version) × (schema.indexes ≡ all_indexes version) × (schema.views ≡ [])
 parts_are schema version is =
     let same : schema ≡ by_lists version = is ∙ sym (whole version) in
     (ap (λ (s : Schema). s.tables) same, ap (λ (s : Schema). s.indexes) same, ap (λ (s : Schema). s.views) same)

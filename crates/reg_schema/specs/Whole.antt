@@ -18,8 +18,8 @@ beside_tables Third = standing ∷ kept ∷ listed ∷ longest ∷ []
 abbrev pub revocation_tables : Version → List Table
 revocation_tables version = request ∷ revocation ∷ crl ∷ beside_tables version
 
-abbrev pub all_tables : Version → List Table
-all_tables version = office ∷ subscriber ∷ orders ∷ cert ∷ revocation_tables version
+abbrev pub tables_of_version : Version → List Table
+tables_of_version version = office ∷ subscriber ∷ orders ∷ cert ∷ revocation_tables version
 
 -- an index of a tree, on a table, over the columns at these places
 abbrev pub index_on : List ℕ → ℕ → ℕ → List ℕ → Bool → Index

@@ -1,13 +1,13 @@
 //! Whether a schema is that of a register, of the program's version or of an older one.
 #![tactic(auto)]
 
-mod beside;
 mod checks;
 mod columns;
 mod indexes;
+mod kept_tables;
 mod keys;
 mod named;
-mod recorded;
+mod record_tables;
 mod references;
 mod schemas;
 mod tables;

@@ -2,14 +2,14 @@
 
 ghost use Rattle.std.specs.Prelude.{◌≡◌, ◌↔◌, IsTrue, [], ◌∷◌};
 ghost use Rattle.reg_tables.specs.Schema.{standing, kept, listed, longest, register_schema};
-ghost use Rattle.reg_schema.specs.Whole.{all_indexes, all_tables, beside_indexes, beside_tables, revocation_indexes, revocation_tables, version_schema, crl_at_index, key_of_listed_1_index, key_of_standing_1_index, standing_due_index};
+ghost use Rattle.reg_schema.specs.Whole.{all_indexes, tables_of_version, beside_indexes, beside_tables, revocation_indexes, revocation_tables, version_schema, crl_at_index, key_of_listed_1_index, key_of_standing_1_index, standing_due_index};
 
-use crate::beside::{is_kept, is_listed, is_longest, is_standing};
+use crate::kept_tables::{is_kept, is_listed, is_longest, is_standing};
 use crate::named::{
     is_crl_at, is_key_of_cert_1, is_key_of_cert_2, is_key_of_listed_1, is_key_of_revocation_1,
     is_key_of_revocation_2, is_key_of_standing_1, is_key_of_subscriber_1, is_standing_due,
 };
-use crate::recorded::{
+use crate::record_tables::{
     is_cert, is_crl, is_office, is_orders, is_request, is_revocation, is_subscriber,
 };
 use crate::versions::Version;
@@ -65,7 +65,7 @@ fn are_revocations(tables: &[Table], version: Version) -> bool
 
 /// Whether tables are all those of a register, in the order in which they are made.
 fn are_tables(tables: &[Table], version: Version) -> bool
-    ensures { IsTrue result ↔ (tables.now ≡ all_tables version) }
+    ensures { IsTrue result ↔ (tables.now ≡ tables_of_version version) }
 {
     match tables {
         [office, subscriber, orders, cert, rest @ ..] => {

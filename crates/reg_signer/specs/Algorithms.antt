@@ -5,19 +5,19 @@ use Rattle.reg_signer.specs.declared.algorithm.Algorithm.{Algorithm}
 use Rattle.reg_signer.specs.declared.algorithm.Algorithm.TheVariants.{EcdsaSha256, EcdsaSha384, RsaSha256, Ed25519}
 
 -- the name of an algorithm
-abbrev pub name_of : Algorithm → List ℕ
-name_of EcdsaSha256 = codes "ecdsa-sha256"
-name_of EcdsaSha384 = codes "ecdsa-sha384"
-name_of RsaSha256 = codes "rsa-sha256"
-name_of Ed25519 = codes "ed25519"
+abbrev pub algorithm_name : Algorithm → List ℕ
+algorithm_name EcdsaSha256 = codes "ecdsa-sha256"
+algorithm_name EcdsaSha384 = codes "ecdsa-sha384"
+algorithm_name RsaSha256 = codes "rsa-sha256"
+algorithm_name Ed25519 = codes "ed25519"
 
 -- the algorithm of a name
 abbrev pub algorithm_named : List ℕ → Option Algorithm
 algorithm_named name =
-    if bytes_eq name (name_of EcdsaSha256) then Some EcdsaSha256
-    else if bytes_eq name (name_of EcdsaSha384) then Some EcdsaSha384
-    else if bytes_eq name (name_of RsaSha256) then Some RsaSha256
-    else if bytes_eq name (name_of Ed25519) then Some Ed25519
+    if bytes_eq name (algorithm_name EcdsaSha256) then Some EcdsaSha256
+    else if bytes_eq name (algorithm_name EcdsaSha384) then Some EcdsaSha384
+    else if bytes_eq name (algorithm_name RsaSha256) then Some RsaSha256
+    else if bytes_eq name (algorithm_name Ed25519) then Some Ed25519
     else None
 
 -- ecdsa-with-SHA256, 1.2.840.10045.4.3.2 (RFC 5758 3.2)
@@ -37,15 +37,15 @@ abbrev pub id_ed25519 : List ℕ
 id_ed25519 = tlv 6 (43 ∷ 101 ∷ 112 ∷ [])
 
 -- NULL
-abbrev pub null : List ℕ
-null = tlv 5 []
+abbrev pub null_value : List ℕ
+null_value = tlv 5 []
 
 -- The AlgorithmIdentifier of an algorithm (RFC 5280 4.1.1.2): no parameters with ECDSA (RFC 5758 3.2) and Ed25519 (RFC 8410 3),
 -- the parameters NULL with RSA (RFC 4055 5)
 abbrev pub identifier_of : Algorithm → List ℕ
 identifier_of EcdsaSha256 = tlv 48 ecdsa_with_sha256
 identifier_of EcdsaSha384 = tlv 48 ecdsa_with_sha384
-identifier_of RsaSha256 = tlv 48 (sha256_with_rsa_encryption ++ null)
+identifier_of RsaSha256 = tlv 48 (sha256_with_rsa_encryption ++ null_value)
 identifier_of Ed25519 = tlv 48 id_ed25519
 
 -- id-ecPublicKey, 1.2.840.10045.2.1 (RFC 5480 2.1.1)
@@ -69,5 +69,5 @@ rsa_encryption = tlv 6 (42 ∷ 134 ∷ 72 ∷ 134 ∷ 247 ∷ 13 ∷ 1 ∷ 1 ∷
 abbrev pub key_identifier_of : Algorithm → List ℕ
 key_identifier_of EcdsaSha256 = tlv 48 (id_ec_public_key ++ secp256r1)
 key_identifier_of EcdsaSha384 = tlv 48 (id_ec_public_key ++ secp384r1)
-key_identifier_of RsaSha256 = tlv 48 (rsa_encryption ++ null)
+key_identifier_of RsaSha256 = tlv 48 (rsa_encryption ++ null_value)
 key_identifier_of Ed25519 = tlv 48 id_ed25519

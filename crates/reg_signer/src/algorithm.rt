@@ -2,7 +2,7 @@
 
 ghost use Rattle.std.specs.Prelude.{◌≡◌, ◌≢◌, ◌↔◌, IsTrue, MatchOption};
 ghost use Rattle.reg_crl.specs.Signing.{IsAlgorithm};
-ghost use Rattle.reg_signer.specs.Algorithms.{algorithm_named, identifier_of, name_of};
+ghost use Rattle.reg_signer.specs.Algorithms.{algorithm_named, identifier_of, algorithm_name};
 ghost use Rattle.reg_signer.specs.declared.algorithm.Algorithm.{Algorithm};
 
 /// ecdsa-with-SHA256, 1.2.840.10045.4.3.2.
@@ -39,8 +39,8 @@ pub enum Algorithm {
 impl Algorithm {
     /// Reads a name, as [`Algorithm::name`] gives it. `None` for any other text.
     pub fn read(name: &str) -> Option<Algorithm>
-        ensures named { MatchOption result ((algorithm : Algorithm) → name_of algorithm ≢ name.now)
-            (λ algorithm. name_of algorithm ≡ name.now) }
+        ensures named { MatchOption result ((algorithm : Algorithm) → algorithm_name algorithm ≢ name.now)
+            (λ algorithm. algorithm_name algorithm ≡ name.now) }
         ensures exact { result ≡ algorithm_named name.now }
     {
         match name {
@@ -79,7 +79,7 @@ impl Algorithm {
 
     /// Its name: `ecdsa-sha256`, `ecdsa-sha384`, `rsa-sha256` or `ed25519`.
     pub fn name(self) -> &'static str
-        ensures { result.now ≡ name_of self }
+        ensures { result.now ≡ algorithm_name self }
     {
         match self {
             Algorithm::EcdsaSha256 => "ecdsa-sha256",

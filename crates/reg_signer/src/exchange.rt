@@ -11,7 +11,7 @@ use std::alloc::Global;
 use std::io::{Read, Write};
 
 /// A connection for one message and its answer.
-pub trait Connection: Read + Write {
+pub trait DeviceConnection: Read + Write {
     ghost use Rattle.std.specs.Prelude.{OnOk};
 
     // The peer was told that no more is written: the connection before and after it.
@@ -30,7 +30,7 @@ pub trait Connector {
     ghost use Rattle.std.specs.Prelude.{ℕ, List, IfOk, OnErr};
 
     /// What it makes.
-    type Link: Connection + Drop;
+    type Link: DeviceConnection + Drop;
 
     // This connection was made to what listens at the path.
     ghost connected: { List ℕ → Self.Link → Type 0 };
@@ -85,11 +85,11 @@ impl<C: Connector> Device for SocketDevice<C> {
 
     // A connection to what listens at this path took the message whole, and gave the answer until its end.
     ghost asked = { λ path message answer. (link : C.Link) × C.connected path link
-        × GivesBack C.Link.Read.remaining C.Link.Write.contents C.Link.Connection.finished link message answer };
+        × GivesBack C.Link.Read.remaining C.Link.Write.contents C.Link.DeviceConnection.finished link message answer };
 
     // Some connection to what listens at some path took the message whole, and gave the answer until its end; or one that never waits did.
     ghost answers = { λ key message answer. ((path : List ℕ) × (link : C.Link) × C.connected path link
-        × GivesBack C.Link.Read.remaining C.Link.Write.contents C.Link.Connection.finished link message answer)
+        × GivesBack C.Link.Read.remaining C.Link.Write.contents C.Link.DeviceConnection.finished link message answer)
         ⊎ ∥ C.gave message answer ∥₁ };
 
     ghost gave = { C.gave };
@@ -113,21 +113,21 @@ impl<C: Connector> Device for SocketDevice<C> {
 
 /// One exchange over a connection: the whole message goes out, the peer is told that no more comes, and its answer is read
 /// to the end.
-fn converse<L: Connection>(
+fn converse<L: DeviceConnection>(
     link: &mut L,
     message: &[u8],
     room: &mut [u8],
 ) -> Result<usize, DeviceFault>
     ensures short { IfOk result (λ count. count < length room.new) }
     ensures answered { IfOk result (λ count.
-        GivesBack L.Read.remaining L.Write.contents L.Connection.finished link.old message.now (take count room.new)) }
+        GivesBack L.Read.remaining L.Write.contents L.DeviceConnection.finished link.old message.now (take count room.new)) }
 {
     send(link, message)?;
     receive(link, room)
 }
 
 /// Writes the whole message, and tells the peer that no more comes.
-pub(crate) fn send<L: Connection>(link: &mut L, message: &[u8]) -> Result<(), DeviceFault>
+pub(crate) fn send<L: DeviceConnection>(link: &mut L, message: &[u8]) -> Result<(), DeviceFault>
     ensures { OnOk result ((asked : L) × Appends (L.contents link.old) (L.contents asked) message.now × L.finished asked link.new) }
 {
     match write_whole(link, message) {

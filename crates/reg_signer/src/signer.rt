@@ -16,7 +16,7 @@ pub(crate) const LONGEST_ANSWER: usize = 4_096;
 
 /// The device's key is none of the algorithm.
 #[derive(Clone, Copy, Debug, PartialEq, Eq)]
-pub struct BadSigner;
+pub struct KeyFault;
 
 /// Signs with the key of a device under one algorithm, and counts how often the device gave no signature.
 ///
@@ -36,8 +36,8 @@ impl<D: Device + Drop> DeviceSigner<D> {
     /// The signer over a device that has not failed yet.
     ///
     /// # Errors
-    /// [`BadSigner`] where the device's public key is none of the algorithm by its form.
-    pub fn new(device: D, algorithm: Algorithm) -> Result<DeviceSigner<D>, BadSigner>
+    /// [`KeyFault`] where the device's public key is none of the algorithm by its form.
+    pub fn new(device: D, algorithm: Algorithm) -> Result<DeviceSigner<D>, KeyFault>
         ensures device { IfOk result (λ signer. signer.device ≡ device) }
         ensures algorithm { IfOk result (λ signer. signer.algorithm ≡ algorithm) }
         ensures failures { IfOk result (λ signer. signer.failures ≡ 0) }
@@ -46,7 +46,7 @@ impl<D: Device + Drop> DeviceSigner<D> {
         ensures err { OnErr result (¬ (IsKeyOf algorithm (D.public_key device))) }
     {
         if !algorithm.is_key(device.public_key()) {
-            return Err(BadSigner);
+            return Err(KeyFault);
         }
         Ok(DeviceSigner {
             device,

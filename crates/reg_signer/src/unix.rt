@@ -1,7 +1,7 @@
 //! The machine's Unix sockets.
 
 use crate::device::DeviceFault;
-use crate::exchange::{Connection, Connector, send};
+use crate::exchange::{Connector, DeviceConnection, send};
 use crate::timing::{TimedStream, left_now, read_in_time, write_in_time};
 use mio::net::UnixStream as UnwaitingStream;
 use std::io::{ErrorKind, Read, Write};
@@ -49,7 +49,7 @@ impl Write for UnixLink {
     }
 }
 
-impl Connection for UnixLink {
+impl DeviceConnection for UnixLink {
     ghost finished = { λ link after. Unit {0} };
 
     fn finish(&mut self) -> Result<(), DeviceFault>
@@ -82,7 +82,7 @@ impl Connector for HostRuntime {
     }
 }
 
-impl Connection for UnwaitingStream {
+impl DeviceConnection for UnwaitingStream {
     ghost finished = { λ link after. Unit {0} };
 
     fn finish(&mut self) -> Result<(), DeviceFault>

@@ -10,16 +10,16 @@ use Rattle.reg_core.specs.Records.{Records}
 use Rattle.reg_tables.specs.Kept.{ShowsKept}
 use Rattle.reg_tables.specs.Shows.{IsShownBy, Shows}
 use Rattle.reg_tables.proofs.Staying.{kept_shows}
-use Rattle.reg_writing.specs.AtRest.{AreARegisters, IsAtRest}
+use Rattle.reg_writing.specs.AfterStop.{AreARegisters, IsAtRest}
 use Rattle.reg_writing.proofs.Resting.{resting, rests_sound}
-use Rattle.reg_migration.specs.Older.{number_of}
-use Rattle.reg_migration.specs.declared.version.Earlier.{Earlier}
-use Rattle.reg_migration.specs.declared.version.Earlier.TheVariants.{First, Second}
-use Rattle.reg_opening.specs.AtRest.{IsOpened}
+use Rattle.reg_migration.specs.Older.{version_number}
+use Rattle.reg_migration.specs.declared.version.OlderVersion.{OlderVersion}
+use Rattle.reg_migration.specs.declared.version.OlderVersion.TheVariants.{First, Second}
+use Rattle.reg_opening.specs.AfterStoppedOpening.{IsOpened}
 use Rattle.reg_opening.specs.Said.{IsOlder}
 use Rattle.reg_opening.proofs.OlderRead.{register_of, version_read}
 use Rattle.reg_opening.proofs.Registered.{number_one}
-use Rattle.reg_opening.proofs.Steps.{only_row}
+use Rattle.reg_opening.proofs.ScheduleRows.{only_row}
 
 -- the rows are those that were committed last
 abbrev pub IsUntouched : {S : Type 0} → Ghosts S → Held S → Trees → Type 0
@@ -48,7 +48,7 @@ live_at_rest g held records trees clean up kept live is = at_rest g held records
 
 -- ---- tables of the program's version say no older one
 
-never_three : (version : Earlier) → 3 ≡ number_of version → ⊥
+never_three : (version : OlderVersion) → 3 ≡ version_number version → ⊥
 never_three First e = absurd (omega arith)
 never_three Second e = absurd (omega arith)
 
@@ -56,7 +56,7 @@ never_older : (db : Database) (records : Records) → IsShownBy db records → I
 never_older db records shown (version, schema, has, says) =
     let three = version_read None db has.0 (register_of db records shown) has.1 in
     let row : three.0 ≡ has.2.0 = only_row has.0 three.0 has.2.0 three.1 has.2.1 in
-    never_three version (number_one 3 (number_of version) (sym three.2 ∙ ap (λ r. column r 0) row ∙ has.2.2))
+    never_three version (number_one 3 (version_number version) (sym three.2 ∙ ap (λ r. column r 0) row ∙ has.2.2))
 
 -- ---- what an opening may leave
 

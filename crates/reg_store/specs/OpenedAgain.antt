@@ -11,11 +11,11 @@ use Rattle.reg_core.specs.Sound.{SoundRows}
 use Rattle.reg_tables.specs.Kept.{ShowsKept}
 use Rattle.reg_tables.specs.Schema.{no_schema}
 use Rattle.reg_tables.specs.Shows.{Shows}
-use Rattle.reg_changes.specs.AtRest.{IsNamed, IsScheduled}
+use Rattle.reg_changes.specs.AfterStoppedChange.{IsNamed, IsScheduled}
 use Rattle.reg_der.specs.Issuers.{with_issuer}
 use Rattle.reg_migration.specs.Older.{ShowsOlder}
-use Rattle.reg_migration.specs.declared.version.Earlier.{Earlier}
-use Rattle.reg_opening.specs.AtRest.{IsCreated, IsOpened}
+use Rattle.reg_migration.specs.declared.version.OlderVersion.{OlderVersion}
+use Rattle.reg_opening.specs.AfterStoppedOpening.{IsCreated, IsOpened}
 
 -- the machine stopped, and the database was opened again from what it left: the disk had been honest till then, and the new connection, which
 -- obeys the schema that it found, shows what a stop at that moment may leave
@@ -40,7 +40,7 @@ OpensWithTheSame {S = S} g =
     → IsTrue (state g old).is_open → IsLive (state g old) → Survives (state g old) (state g new) (IsOpened g old) → IsOpenedAgain g new again
     → ((records : Records) → Shows g old records → (state g again).now ≡ (state g old).committed)
     × ((records : Records) → ShowsKept g old records → ShowsKept g again records)
-    × ((version : Earlier) (records : Records) → ShowsOlder version g old records → SoundRows records → ∥ ShowsOlder version g again records ⊎ ShowsKept g again records ∥₁)
+    × ((version : OlderVersion) (records : Records) → ShowsOlder version g old records → SoundRows records → ∥ ShowsOlder version g again records ⊎ ShowsKept g again records ∥₁)
 
 -- a schedule that is set: after a stop, the register that is opened shows the records with the schedule before the call, or with the one that was set
 abbrev pub OpensWithASchedule : {S : Type 0} → Ghosts S → Type 0

@@ -2,11 +2,11 @@
 #![tactic(auto)]
 
 mod changes;
+mod create_and_open;
 pub mod laws;
 mod lookups;
-mod opening;
 mod store;
 
-pub use opening::Unopened;
+pub use create_and_open::Unopened;
 pub use reg_tables::{StoreFault, Table};
 pub use store::Store;

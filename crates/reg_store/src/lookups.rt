@@ -12,7 +12,7 @@ ghost use Rattle.reg_core.specs.Status as status;
 ghost use Rattle.reg_lists.specs.Lists.{key_of, past};
 ghost use Rattle.reg_tables.specs.Kept.{ShowsKept};
 ghost use Rattle.reg_tables.specs.Shows.{Shows};
-ghost use Rattle.reg_tables.specs.Stays.{IsCallFault, Looked};
+ghost use Rattle.reg_tables.specs.Stays.{IsDatabaseFault, Looked};
 ghost use Rattle.reg_tables.specs.Tables.{rows_of};
 
 use crate::store::Store;
@@ -28,11 +28,11 @@ impl<S: Alter> Store<S> {
     /// The last accepted moment.
     ///
     /// # Errors
-    /// `Memory`; `Store` where the database fails, or where its row is one that no register writes.
+    /// As [`reg_tables::last`].
     pub fn last(&mut self) -> Result<Moment, StoreFault>
         ensures found { (records : Records) → Shows S.Store self.old records → HasCleanDisk (state S.Store self.new) → IfOk result (λ last. last ≡ records.last) }
         ensures looked { Looked S.Store self.old self.new }
-        ensures faults { IfErr result IsCallFault }
+        ensures faults { IfErr result IsDatabaseFault }
     {
         Ok(reg_tables::last(&mut self.connection)?)
     }
@@ -40,11 +40,11 @@ impl<S: Alter> Store<S> {
     /// The issuer.
     ///
     /// # Errors
-    /// `Memory`; `Store` where the database fails, or where its row is one that no register writes.
+    /// As [`reg_tables::issuer`].
     pub fn issuer(&mut self) -> Result<Issuer, StoreFault>
         ensures found { (records : Records) → Shows S.Store self.old records → HasCleanDisk (state S.Store self.new) → IfOk result (λ issuer. issuer ≡ records.issuer) }
         ensures looked { Looked S.Store self.old self.new }
-        ensures faults { IfErr result IsCallFault }
+        ensures faults { IfErr result IsDatabaseFault }
     {
         Ok(reg_tables::issuer(&mut self.connection)?)
     }
@@ -52,11 +52,11 @@ impl<S: Alter> Store<S> {
     /// The policy.
     ///
     /// # Errors
-    /// `Memory`; `Store` where the database fails, or where its rows are ones that no register writes.
+    /// As [`reg_tables::policy`].
     pub fn policy(&mut self) -> Result<Policy, StoreFault>
         ensures found { (records : Records) → Shows S.Store self.old records → HasCleanDisk (state S.Store self.new) → IfOk result (λ policy. policy ≡ records.policy) }
         ensures looked { Looked S.Store self.old self.new }
-        ensures faults { IfErr result IsCallFault }
+        ensures faults { IfErr result IsDatabaseFault }
     {
         Ok(reg_tables::policy(&mut self.connection)?)
     }
@@ -65,13 +65,13 @@ impl<S: Alter> Store<S> {
     /// answer lives.
     ///
     /// # Errors
-    /// `Memory`; `Store` where the database fails, or where its row is one that no register writes.
+    /// As [`reg_tables::responding`].
     pub fn responding(&mut self) -> Result<(Moment, Issuer, u64), StoreFault>
         ensures found { (records : Records) → Shows S.Store self.old records → HasCleanDisk (state S.Store self.new)
             → IfOk result (λ it. (it.0 ≡ records.last) × (it.1 ≡ records.issuer) × (it.2 ≡ records.policy.ocsp_life)) }
         ensures short { IfOk result (λ it. it.2 ≤ 863999) }
         ensures looked { Looked S.Store self.old self.new }
-        ensures faults { IfErr result IsCallFault }
+        ensures faults { IfErr result IsDatabaseFault }
     {
         Ok(reg_tables::responding(&mut self.connection)?)
     }
@@ -79,11 +79,11 @@ impl<S: Alter> Store<S> {
     /// How many rows a table has, which is the last id, or for CRLs the latest number. It finds the last row alone.
     ///
     /// # Errors
-    /// `Memory`; `Store` where the database fails, or where its row is one that no register writes.
+    /// As [`reg_tables::held`].
     pub fn held(&mut self, table: Table) -> Result<u64, StoreFault>
         ensures found { (records : Records) → Shows S.Store self.old records → HasCleanDisk (state S.Store self.new) → IfOk result (λ rows. rows ≡ rows_of records table) }
         ensures looked { Looked S.Store self.old self.new }
-        ensures faults { IfErr result IsCallFault }
+        ensures faults { IfErr result IsDatabaseFault }
     {
         Ok(reg_tables::held(&mut self.connection, table)?)
     }
@@ -91,11 +91,11 @@ impl<S: Alter> Store<S> {
     /// The subscriber with an id.
     ///
     /// # Errors
-    /// `Memory`; `Store` where the database fails, or where its row is one that no register writes.
+    /// As [`reg_tables::subscriber`].
     pub fn subscriber(&mut self, id: u64) -> Result<Option<SubscriberRow>, StoreFault>
         ensures found { (records : Records) → Shows S.Store self.old records → HasCleanDisk (state S.Store self.new) → IfOk result (λ row. row ≡ subscriber_in records.subscribers id) }
         ensures looked { Looked S.Store self.old self.new }
-        ensures faults { IfErr result IsCallFault }
+        ensures faults { IfErr result IsDatabaseFault }
     {
         Ok(reg_tables::subscriber(&mut self.connection, id)?)
     }
@@ -103,11 +103,11 @@ impl<S: Alter> Store<S> {
     /// The subscriber with a name.
     ///
     /// # Errors
-    /// `Memory`; `Store` where the database fails, or where its row is one that no register writes.
+    /// As [`reg_tables::subscriber_by_name`].
     pub fn subscriber_by_name(&mut self, name: &Label) -> Result<Option<SubscriberRow>, StoreFault>
         ensures found { (records : Records) → Shows S.Store self.old records → HasCleanDisk (state S.Store self.new) → IfOk result (λ row. row ≡ subscriber_named records.subscribers name.now) }
         ensures looked { Looked S.Store self.old self.new }
-        ensures faults { IfErr result IsCallFault }
+        ensures faults { IfErr result IsDatabaseFault }
     {
         Ok(reg_tables::subscriber_by_name(&mut self.connection, name)?)
     }
@@ -115,11 +115,11 @@ impl<S: Alter> Store<S> {
     /// The order with an id.
     ///
     /// # Errors
-    /// `Memory`; `Store` where the database fails, or where its row is one that no register writes.
+    /// As [`reg_tables::order`].
     pub fn order(&mut self, id: u64) -> Result<Option<OrderRow>, StoreFault>
         ensures found { (records : Records) → Shows S.Store self.old records → HasCleanDisk (state S.Store self.new) → IfOk result (λ row. row ≡ order_in records.orders id) }
         ensures looked { Looked S.Store self.old self.new }
-        ensures faults { IfErr result IsCallFault }
+        ensures faults { IfErr result IsDatabaseFault }
     {
         Ok(reg_tables::order(&mut self.connection, id)?)
     }
@@ -127,11 +127,11 @@ impl<S: Alter> Store<S> {
     /// The certificate with a serial number.
     ///
     /// # Errors
-    /// `Memory`; `Store` where the database fails, or where its row is one that no register writes.
+    /// As [`reg_tables::cert`].
     pub fn cert(&mut self, serial: Serial) -> Result<Option<CertRow>, StoreFault>
         ensures found { (records : Records) → Shows S.Store self.old records → HasCleanDisk (state S.Store self.new) → IfOk result (λ row. row ≡ certificate_in records.certificates serial) }
         ensures looked { Looked S.Store self.old self.new }
-        ensures faults { IfErr result IsCallFault }
+        ensures faults { IfErr result IsDatabaseFault }
     {
         Ok(reg_tables::cert(&mut self.connection, serial)?)
     }
@@ -139,11 +139,11 @@ impl<S: Alter> Store<S> {
     /// The certificate that fills an order.
     ///
     /// # Errors
-    /// `Memory`; `Store` where the database fails, where its row is one that no register writes, or for a number above 2^63 - 1.
+    /// As [`reg_tables::cert_of_order`].
     pub fn cert_of_order(&mut self, order: u64) -> Result<Option<CertRow>, StoreFault>
         ensures found { (records : Records) → Shows S.Store self.old records → HasCleanDisk (state S.Store self.new) → IfOk result (λ row. row ≡ certificate_of_order records.certificates order) }
         ensures looked { Looked S.Store self.old self.new }
-        ensures faults { IfErr result IsCallFault }
+        ensures faults { IfErr result IsDatabaseFault }
     {
         Ok(reg_tables::cert_of_order(&mut self.connection, order)?)
     }
@@ -151,11 +151,11 @@ impl<S: Alter> Store<S> {
     /// The request with an id.
     ///
     /// # Errors
-    /// `Memory`; `Store` where the database fails, or where its row is one that no register writes.
+    /// As [`reg_tables::request`].
     pub fn request(&mut self, id: u64) -> Result<Option<RequestRow>, StoreFault>
         ensures found { (records : Records) → Shows S.Store self.old records → HasCleanDisk (state S.Store self.new) → IfOk result (λ row. row ≡ request_in records.requests id) }
         ensures looked { Looked S.Store self.old self.new }
-        ensures faults { IfErr result IsCallFault }
+        ensures faults { IfErr result IsDatabaseFault }
     {
         Ok(reg_tables::request(&mut self.connection, id)?)
     }
@@ -163,11 +163,11 @@ impl<S: Alter> Store<S> {
     /// The revocation of a serial number.
     ///
     /// # Errors
-    /// `Memory`; `Store` where the database fails, or where its row is one that no register writes.
+    /// As [`reg_tables::revocation`].
     pub fn revocation(&mut self, serial: Serial) -> Result<Option<RevocationRow>, StoreFault>
         ensures found { (records : Records) → Shows S.Store self.old records → HasCleanDisk (state S.Store self.new) → IfOk result (λ row. row ≡ revocation_in records.revocations serial) }
         ensures looked { Looked S.Store self.old self.new }
-        ensures faults { IfErr result IsCallFault }
+        ensures faults { IfErr result IsDatabaseFault }
     {
         Ok(reg_tables::revocation(&mut self.connection, serial)?)
     }
@@ -175,11 +175,11 @@ impl<S: Alter> Store<S> {
     /// The moment of the earliest revocation that no CRL can have listed yet. It walks the revocations.
     ///
     /// # Errors
-    /// `Memory`; `Store` where the database fails, or where its row is one that no register writes.
+    /// As [`reg_tables::earliest_unlisted`].
     pub fn earliest_unlisted(&mut self) -> Result<Option<Moment>, StoreFault>
         ensures found { (records : Records) → Shows S.Store self.old records → HasCleanDisk (state S.Store self.new) → IfOk result (λ at. at ≡ earliest (unlisted records)) }
         ensures looked { Looked S.Store self.old self.new }
-        ensures faults { IfErr result IsCallFault }
+        ensures faults { IfErr result IsDatabaseFault }
     {
         Ok(reg_tables::earliest_unlisted(&mut self.connection)?)
     }
@@ -187,11 +187,11 @@ impl<S: Alter> Store<S> {
     /// The latest CRL, without its bytes, which are not read.
     ///
     /// # Errors
-    /// `Memory`; `Store` where the database fails, or where its row is one that no register writes.
+    /// As [`reg_tables::latest_crl`].
     pub fn latest_crl(&mut self) -> Result<Option<CrlRow>, StoreFault>
         ensures found { (records : Records) → Shows S.Store self.old records → HasCleanDisk (state S.Store self.new) → IfOk result (λ row. row ≡ option_map row_of (latest records.crls)) }
         ensures looked { Looked S.Store self.old self.new }
-        ensures faults { IfErr result IsCallFault }
+        ensures faults { IfErr result IsDatabaseFault }
     {
         Ok(reg_tables::latest_crl(&mut self.connection)?)
     }
@@ -199,12 +199,12 @@ impl<S: Alter> Store<S> {
     /// The DER of a CRL, by its number.
     ///
     /// # Errors
-    /// `Memory`; `Store` where the database fails, or where its row is one that no register writes.
+    /// As [`reg_tables::crl`].
     pub fn crl(&mut self, number: u64) -> Result<Option<Vec<u8>>, StoreFault>
         ensures found { (records : Records) → Shows S.Store self.old records → HasCleanDisk (state S.Store self.new)
             → IfOk result (λ der. option_map (λ bytes. bytes.items) der ≡ option_map (λ crl. crl.bytes) (crl_in records.crls number)) }
         ensures looked { Looked S.Store self.old self.new }
-        ensures faults { IfErr result IsCallFault }
+        ensures faults { IfErr result IsDatabaseFault }
     {
         Ok(reg_tables::crl(&mut self.connection, number)?)
     }
@@ -212,12 +212,11 @@ impl<S: Alter> Store<S> {
     /// How many requests are overdue at a moment, and the least id of them. It walks the requests that are not declined.
     ///
     /// # Errors
-    /// `Memory`; `Store` where the database fails, or where its rows are ones that no register writes, such as a request
-    /// without its certificate.
+    /// As [`reg_tables::open_past_due`].
     pub fn open_past_due(&mut self, now: Moment) -> Result<Option<Overdue>, StoreFault>
         ensures found { (records : Records) → Shows S.Store self.old records → HasCleanDisk (state S.Store self.new) → IfOk result (λ report. report ≡ overdue_report (overdue records now)) }
         ensures looked { Looked S.Store self.old self.new }
-        ensures faults { IfErr result IsCallFault }
+        ensures faults { IfErr result IsDatabaseFault }
     {
         Ok(reg_tables::open_past_due(&mut self.connection, now)?)
     }
@@ -230,7 +229,7 @@ impl<S: Alter> Store<S> {
     pub fn open_count(&mut self, now: Moment) -> Result<u64, StoreFault>
         ensures found { (records : Records) → Shows S.Store self.old records → HasCleanDisk (state S.Store self.new) → IfOk result (λ count. count ≡ length (filter (is_open records now) records.requests)) }
         ensures looked { Looked S.Store self.old self.new }
-        ensures faults { IfErr result IsCallFault }
+        ensures faults { IfErr result IsDatabaseFault }
     {
         Ok(reg_tables::open_count(&mut self.connection, now)?)
     }
@@ -239,14 +238,13 @@ impl<S: Alter> Store<S> {
     /// It walks what is listed.
     ///
     /// # Errors
-    /// `Memory`; `Store` where the database fails, where its rows are ones that no register writes or more than 1,000,000,
-    /// or for a number above 2^63 - 1.
+    /// As [`reg_tables::entries`].
     pub fn entries(&mut self, number: u64) -> Result<Vec<Entry>, StoreFault>
         ensures found { (records : Records) → ShowsKept S.Store self.old records → HasCleanDisk (state S.Store self.new) → IfOk result (λ found. found.items ≡ entries records number) }
         ensures ascending { IfOk result (λ found. EntriesAscend found.items) }
         ensures at_most { IfOk result (λ found. length found.items ≤ 1000000) }
         ensures looked { Looked S.Store self.old self.new }
-        ensures faults { IfErr result IsCallFault }
+        ensures faults { IfErr result IsDatabaseFault }
     {
         Ok(reg_tables::entries(&mut self.connection, number)?)
     }
@@ -255,11 +253,11 @@ impl<S: Alter> Store<S> {
     /// does. `None` for a serial number that is not revoked, registered or not.
     ///
     /// # Errors
-    /// `Memory`; `Store` where the database fails, or where its row is one that no register writes.
+    /// As [`reg_tables::listing`].
     pub fn listing(&mut self, serial: Serial) -> Result<Option<Listing>, StoreFault>
         ensures found { (records : Records) → ShowsKept S.Store self.old records → HasCleanDisk (state S.Store self.new) → IfOk result (λ found. found ≡ listing records serial) }
         ensures looked { Looked S.Store self.old self.new }
-        ensures faults { IfErr result IsCallFault }
+        ensures faults { IfErr result IsDatabaseFault }
     {
         Ok(reg_tables::listing(&mut self.connection, serial)?)
     }
@@ -267,11 +265,11 @@ impl<S: Alter> Store<S> {
     /// How many registered certificates are good, revoked and expired at a moment, from the last accepted one on.
     ///
     /// # Errors
-    /// `Memory`; `Store` where the database fails, or where its rows are ones that no register writes.
+    /// As [`reg_tables::counts`].
     pub fn counts(&mut self, now: Moment) -> Result<Counts, StoreFault>
         ensures found { (records : Records) → ShowsKept S.Store self.old records → SoundRows records → records.last ≤ now → HasCleanDisk (state S.Store self.new) → IfOk result (λ found. found ≡ status.counts records now) }
         ensures looked { Looked S.Store self.old self.new }
-        ensures faults { IfErr result IsCallFault }
+        ensures faults { IfErr result IsDatabaseFault }
     {
         Ok(reg_tables::counts(&mut self.connection, now)?)
     }
@@ -280,8 +278,7 @@ impl<S: Alter> Store<S> {
     /// are wanted, if there are.
     ///
     /// # Errors
-    /// `Memory`; `Store` where the database fails, where its rows are ones that no register writes, or where more than 2^63 - 1
-    /// are wanted.
+    /// As [`reg_tables::certs_after`].
     pub fn certs_after(
         &mut self,
         after: Option<Serial>,
@@ -290,7 +287,7 @@ impl<S: Alter> Store<S> {
         ensures found { (records : Records) → Shows S.Store self.old records → SoundRows records → HasCleanDisk (state S.Store self.new)
             → IfOk result (λ found. found.items ≡ take most (past (λ row. row.serial) (key_of after) records.certificates)) }
         ensures looked { Looked S.Store self.old self.new }
-        ensures faults { IfErr result IsCallFault }
+        ensures faults { IfErr result IsDatabaseFault }
     {
         Ok(reg_tables::certs_after(&mut self.connection, after, most)?)
     }
@@ -308,7 +305,7 @@ impl<S: Alter> Store<S> {
         ensures found { (records : Records) → Shows S.Store self.old records → SoundRows records → HasCleanDisk (state S.Store self.new)
             → IfOk result (λ found. found.items ≡ take most (past (λ row. row.serial) (key_of after) records.revocations)) }
         ensures looked { Looked S.Store self.old self.new }
-        ensures faults { IfErr result IsCallFault }
+        ensures faults { IfErr result IsDatabaseFault }
     {
         Ok(reg_tables::revocations_after(&mut self.connection, after, most)?)
     }
@@ -316,13 +313,12 @@ impl<S: Alter> Store<S> {
     /// The CRLs past a number, without their bytes, in ascending order of their numbers: as many as are wanted, if there are.
     ///
     /// # Errors
-    /// `Memory`; `Store` where the database fails, where its rows are ones that no register writes, or for a number above
-    /// 2^63 - 1.
+    /// As [`reg_tables::crls_after`].
     pub fn crls_after(&mut self, after: u64, most: u64) -> Result<Vec<CrlRow>, StoreFault>
         ensures found { (records : Records) → Shows S.Store self.old records → HasCleanDisk (state S.Store self.new)
             → IfOk result (λ found. found.items ≡ map row_of (take most (past (λ crl. crl.number) after records.crls))) }
         ensures looked { Looked S.Store self.old self.new }
-        ensures faults { IfErr result IsCallFault }
+        ensures faults { IfErr result IsDatabaseFault }
     {
         Ok(reg_tables::crls_after(&mut self.connection, after, most)?)
     }

@@ -17,8 +17,8 @@ use Rattle.reg_tables.specs.Schema.{register_schema}
 use Rattle.reg_tables.specs.Rows.{number, serial_value, stored_certificate}
 use Rattle.reg_tables.specs.Shows.{IsShownBy}
 use Rattle.reg_tables.specs.Failing.{IsAsked}
-use Rattle.reg_tables.specs.Reading.{IsReading, command_of, shown_certificate}
-use Rattle.reg_tables.specs.declared.statements.TheConstants.{CERT_BY_SERIAL, CERT_BY_ORDER}
+use Rattle.reg_tables.specs.ReadStatements.{IsReading, command_of, shown_certificate}
+use Rattle.reg_tables.specs.declared.sql.TheConstants.{CERT_BY_SERIAL, CERT_BY_ORDER}
 use Rattle.reg_tables.proofs.Compares.{and_true, eq_number, eq_serial}
 use Rattle.reg_tables.proofs.Queries.{column_is, selects, as_command, no_limit, Given, counted_given, find_none, find_one, Found}
 use Rattle.reg_tables.proofs.Selecting.{select_never}

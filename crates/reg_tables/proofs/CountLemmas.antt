@@ -32,8 +32,8 @@ use Rattle.reg_tables.specs.Rows.{number, counted_rows}
 use Rattle.reg_tables.specs.Columns.{Letter, good, revoked, expired, is_good_letter, ends_before, letter_text, Standing, Columns, stored_standing, stored_counts}
 use Rattle.reg_tables.specs.Shows.{AreBoth}
 use Rattle.reg_tables.specs.Failing.{IsAsked}
-use Rattle.reg_tables.specs.Reading.{IsReading, command_of}
-use Rattle.reg_tables.specs.declared.statements.TheConstants.{COUNTS, ENDED_BEFORE}
+use Rattle.reg_tables.specs.ReadStatements.{IsReading, command_of}
+use Rattle.reg_tables.specs.declared.sql.TheConstants.{COUNTS, ENDED_BEFORE}
 use Rattle.reg_tables.proofs.Compares.{and_true, compares, lt_number, eq_text}
 use Rattle.reg_tables.proofs.Queries.{selects, no_limit, as_command, passes, picked, kept_behind, all_of, Given, keyed_given, find_one}
 use Rattle.reg_tables.proofs.Selecting.{select_never}

@@ -38,9 +38,9 @@ use Rattle.reg_tables.specs.Columns.{Listed, Columns, stored_listed, number_or_n
 use Rattle.reg_tables.specs.Shows.{AreBoth}
 use Rattle.reg_tables.specs.Kept.{Kept, listed_of}
 use Rattle.reg_tables.specs.Failing.{IsAsked}
-use Rattle.reg_tables.specs.Reading.{IsReading, command_of, shown_entry}
-use Rattle.reg_tables.specs.Values.{AreMomentAndReason}
-use Rattle.reg_tables.specs.declared.statements.TheConstants.{ENTRIES}
+use Rattle.reg_tables.specs.ReadStatements.{IsReading, command_of, shown_entry}
+use Rattle.reg_tables.specs.RecordValues.{AreMomentAndReason}
+use Rattle.reg_tables.specs.declared.sql.TheConstants.{ENTRIES}
 use Rattle.reg_tables.proofs.AscendLemmas.{serial_of, ascending_same, ascending_sorted}
 use Rattle.reg_tables.proofs.Compares.{and_true, compares, le_number, number_order, is_ge-nat_cmp, serial_order}
 use Rattle.reg_tables.proofs.FailingLemmas.{asked_by}

@@ -28,12 +28,12 @@ use Rattle.reg_tables.specs.Schema.{register_schema}
 use Rattle.reg_der.specs.Authority.{IsKept, IsKey}
 use Rattle.reg_der.specs.declared.issuer.IssuerFault.{IssuerFault}
 use Rattle.reg_der.specs.declared.issuer.IssuerFault.TheVariants as of_issuer
-use Rattle.reg_tables.specs.Faults.{call_fault_of, issuer_fault_of}
-use Rattle.reg_tables.specs.declared.fault.CallFault.{CallFault}
-use Rattle.reg_tables.specs.declared.fault.CallFault.TheVariants as call
-use Rattle.reg_tables.specs.declared.fault.CallFault.TheVariants.{Store}
+use Rattle.reg_tables.specs.Faults.{database_fault_of, issuer_fault_of}
+use Rattle.reg_tables.specs.declared.fault.DatabaseFault.{DatabaseFault}
+use Rattle.reg_tables.specs.declared.fault.DatabaseFault.TheVariants as call
+use Rattle.reg_tables.specs.declared.fault.DatabaseFault.TheVariants.{Store}
 use Rattle.reg_tables.specs.Failing.{HasFailed, ShowsWritten, Blamed, IsTaken, IsAsked}
-use Rattle.reg_tables.specs.Reading.{Answers, IsReading, command_of}
+use Rattle.reg_tables.specs.ReadStatements.{Answers, IsReading, command_of}
 use Rattle.reg_tables.specs.Shows.{Shows, IsShownBy, AreBoth}
 use Rattle.reg_tables.specs.Stays.{IsRegister, Looked}
 use Rattle.reg_tables.proofs.Queries.{selects, as_command}
@@ -41,7 +41,7 @@ use Rattle.reg_tables.proofs.Staying.{kept_shows, shows_register, shown_then, bo
 
 -- ---- why a query fails
 
-module _ (text : List ℕ) (params : Row) (reading : IsReading text) (asked : IsAsked text params) (old new : State) (e : Error) (register : IsTrue old.is_open → old.now.schema ≡ register_schema) (store : call_fault_of e ≡ Store) where
+module _ (text : List ℕ) (params : Row) (reading : IsReading text) (asked : IsAsked text params) (old new : State) (e : Error) (register : IsTrue old.is_open → old.now.schema ≡ register_schema) (store : database_fault_of e ≡ Store) where
   taken_is : IsTrue old.is_open → IsTaken (understood old.now.schema text) text params
   taken_is up = subst (λ s. IsTaken (understood s text) text params) (sym (register up)) asked.taken
 
@@ -63,7 +63,7 @@ module _ (text : List ℕ) (params : Row) (reading : IsReading text) (asked : Is
 
   by_cause : (cause : StoreError) → e ≡ store_error cause → HasCause old new ⊥ cause → HasFailed old new
   unfolding HasFailed
-  by_cause OutOfMemory is why = absurd (let no = sym (ap call_fault_of is) ∙ store in cc)
+  by_cause OutOfMemory is why = absurd (let no = sym (ap database_fault_of is) ∙ store in cc)
   by_cause Io is why = inl why
   by_cause Corrupt is why = inl why
   by_cause Full is why = inl why
@@ -195,7 +195,7 @@ never_told P Q R (Ok x) read never = tt
 never_told P Q R (Err e) read never = absurd (never e read)
 
 -- of a failure of the store alone
-pub never_store : {T : Type 0} (H : Type 0) (P : T → Type 0) (Q : CallFault → Type 0) (r : Result T CallFault) → MatchResult r P Q → ((e : CallFault) → Q e → e ≡ Store → ⊥) → IfErr r (λ e. e ≡ Store → H)
+pub never_store : {T : Type 0} (H : Type 0) (P : T → Type 0) (Q : DatabaseFault → Type 0) (r : Result T DatabaseFault) → MatchResult r P Q → ((e : DatabaseFault) → Q e → e ≡ Store → ⊥) → IfErr r (λ e. e ≡ Store → H)
 never_store H P Q (Ok x) read never = tt
 never_store H P Q (Err e) read never = λ store. absurd (never e read store)
 

@@ -17,8 +17,8 @@ use Rattle.reg_tables.specs.Rows.{number, behind_rowids, stored_subscriber, stor
 use Rattle.reg_tables.specs.Shows.{IsShownBy}
 use Rattle.reg_tables.specs.Tables.{IsNumberShown}
 use Rattle.reg_tables.specs.Failing.{IsAsked}
-use Rattle.reg_tables.specs.Reading.{IsReading, command_of}
-use Rattle.reg_tables.specs.declared.statements.TheConstants.{LAST_SUBSCRIBER, LAST_ORDER, LAST_CERT, LAST_REQUEST, LATEST_CRL}
+use Rattle.reg_tables.specs.ReadStatements.{IsReading, command_of}
+use Rattle.reg_tables.specs.declared.sql.TheConstants.{LAST_SUBSCRIBER, LAST_ORDER, LAST_CERT, LAST_REQUEST, LATEST_CRL}
 use Rattle.reg_tables.proofs.Queries.{selects, as_command, Given, keyed_given, all_of}
 use Rattle.reg_tables.proofs.Selecting.{select_never}
 use Rattle.reg_tables.proofs.Sorting.{descending_key}

@@ -25,8 +25,8 @@ use Rattle.reg_tables.specs.Columns.{Listed, Columns, stored_listed, number_or_n
 use Rattle.reg_tables.specs.Shows.{AreBoth}
 use Rattle.reg_tables.specs.Kept.{Kept, listed_of}
 use Rattle.reg_tables.specs.Failing.{IsAsked}
-use Rattle.reg_tables.specs.Reading.{IsReading, command_of}
-use Rattle.reg_tables.specs.declared.statements.TheConstants.{LISTED_BY_SERIAL}
+use Rattle.reg_tables.specs.ReadStatements.{IsReading, command_of}
+use Rattle.reg_tables.specs.declared.sql.TheConstants.{LISTED_BY_SERIAL}
 use Rattle.reg_tables.proofs.Compares.{and_true, eq_serial}
 use Rattle.reg_tables.proofs.Queries.{column_is, selects, as_command, no_limit, Given, counted_given, all_of, find_none, find_one}
 use Rattle.reg_tables.proofs.Selecting.{select_never}

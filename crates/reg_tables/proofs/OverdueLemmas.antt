@@ -28,8 +28,8 @@ use Rattle.reg_tables.specs.Schema.{register_schema}
 use Rattle.reg_tables.specs.Rows.{number, stored_request}
 use Rattle.reg_tables.specs.Shows.{IsShownBy}
 use Rattle.reg_tables.specs.Failing.{IsAsked}
-use Rattle.reg_tables.specs.Reading.{IsReading, command_of, shown_request}
-use Rattle.reg_tables.specs.declared.statements.TheConstants.{UNDECLINED}
+use Rattle.reg_tables.specs.ReadStatements.{IsReading, command_of, shown_request}
+use Rattle.reg_tables.specs.declared.sql.TheConstants.{UNDECLINED}
 use Rattle.reg_tables.proofs.Compares.{and_true, eq_number}
 use Rattle.reg_tables.proofs.Queries.{selects, as_command, no_limit, Given, keyed_given, kept_have}
 use Rattle.reg_tables.proofs.Selecting.{select_never}

@@ -33,8 +33,8 @@ use Rattle.reg_tables.specs.Schema.{register_schema}
 use Rattle.reg_tables.specs.Rows.{number, serial_value, stored_certificate, stored_crl, stored_revocation}
 use Rattle.reg_tables.specs.Shows.{IsShownBy}
 use Rattle.reg_tables.specs.Failing.{IsAsked}
-use Rattle.reg_tables.specs.Reading.{IsReading, command_of, shown_certificate, shown_crl, shown_revocation}
-use Rattle.reg_tables.specs.declared.statements.TheConstants.{CERTS_AFTER, CRLS_AFTER, REVOCATIONS_AFTER}
+use Rattle.reg_tables.specs.ReadStatements.{IsReading, command_of, shown_certificate, shown_crl, shown_revocation}
+use Rattle.reg_tables.specs.declared.sql.TheConstants.{CERTS_AFTER, CRLS_AFTER, REVOCATIONS_AFTER}
 use Rattle.reg_tables.proofs.Compares.{and_true, gt_number, gt_serial, serial_order}
 use Rattle.reg_tables.proofs.FailingLemmas.{asked_by}
 use Rattle.reg_tables.proofs.Few.{numbers_differ}

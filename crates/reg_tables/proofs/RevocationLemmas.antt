@@ -17,8 +17,8 @@ use Rattle.reg_tables.specs.Schema.{register_schema}
 use Rattle.reg_tables.specs.Rows.{serial_value, stored_revocation}
 use Rattle.reg_tables.specs.Shows.{IsShownBy}
 use Rattle.reg_tables.specs.Failing.{IsAsked}
-use Rattle.reg_tables.specs.Reading.{IsReading, command_of, shown_revocation}
-use Rattle.reg_tables.specs.declared.statements.TheConstants.{REVOCATION_BY_SERIAL}
+use Rattle.reg_tables.specs.ReadStatements.{IsReading, command_of, shown_revocation}
+use Rattle.reg_tables.specs.declared.sql.TheConstants.{REVOCATION_BY_SERIAL}
 use Rattle.reg_tables.proofs.Compares.{and_true, eq_serial}
 use Rattle.reg_tables.proofs.Queries.{column_is, selects, as_command, no_limit, Given, counted_given, find_none, find_one, Found}
 use Rattle.reg_tables.proofs.Selecting.{select_never}

@@ -17,8 +17,8 @@ use Rattle.reg_tables.specs.Schema.{register_schema}
 use Rattle.reg_tables.specs.Rows.{number, stored_step}
 use Rattle.reg_tables.specs.Shows.{IsShownBy}
 use Rattle.reg_tables.specs.Failing.{IsAsked}
-use Rattle.reg_tables.specs.Reading.{IsReading, command_of, shown_step}
-use Rattle.reg_tables.specs.declared.statements.TheConstants.{STEPS}
+use Rattle.reg_tables.specs.ReadStatements.{IsReading, command_of, shown_step}
+use Rattle.reg_tables.specs.declared.sql.TheConstants.{STEPS}
 use Rattle.reg_tables.proofs.Queries.{selects, as_command, no_limit, Given, keyed_given, all_of}
 use Rattle.reg_tables.proofs.Selecting.{select_never}
 use Rattle.reg_tables.proofs.FailingLemmas.{asked_by}

@@ -11,7 +11,7 @@ use Rattle.sqlite_resolve.specs.declared.error.CompileError.{CompileError}
 use Rattle.sqlite_resolve.specs.Lowering.{Checked, and_then}
 use Rattle.sqlite_resolve.specs.Compile as compile
 use Rattle.sqlite.specs.Listing.{understood, reads_listing, listing_schema, if_select, is_select}
-use Rattle.reg_tables.specs.Reading.{NeverReturns}
+use Rattle.reg_tables.specs.ReadStatements.{NeverReturns}
 
 planned_by : (p : Parsed) (k : Checked Command) (c : Compiled) → and_then (and_then (and_then k (λ c. Ok (c, None))) (λ found. Ok ([], found))) (λ plan. Ok (compile.with_command p plan)) ≡ Ok c
     → (c.returning ≡ None) × (c.formats ≡ []) × (c.names ≡ p.names) × (c.tail ≡ p.tail)

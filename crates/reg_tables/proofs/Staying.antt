@@ -18,7 +18,7 @@ use Rattle.sqlite.specs.State.{State, HasCleanDisk, Survives, CommitsShowing, Is
 use Rattle.sqlite.proofs.Callers.{reads_as}
 use Rattle.sqlite.proofs.StateLemmas.{survives_then, survives_weaker}
 use Rattle.reg_tables.specs.Schema.{register_schema}
-use Rattle.reg_tables.specs.Reading.{Answers, IsReading, NeverReturns, command_of}
+use Rattle.reg_tables.specs.ReadStatements.{Answers, IsReading, NeverReturns, command_of}
 use Rattle.reg_core.specs.Records.{Records}
 use Rattle.reg_tables.specs.Columns.{Columns}
 use Rattle.reg_tables.specs.Shows.{Holds, Shows, ShowsBoth, IsShownBy, AreBoth}

@@ -18,8 +18,8 @@ use Rattle.reg_tables.specs.Schema.{register_schema}
 use Rattle.reg_tables.specs.Rows.{number, stored_subscriber}
 use Rattle.reg_tables.specs.Shows.{IsShownBy}
 use Rattle.reg_tables.specs.Failing.{IsAsked}
-use Rattle.reg_tables.specs.Reading.{IsReading, command_of, shown_subscriber}
-use Rattle.reg_tables.specs.declared.statements.TheConstants.{SUBSCRIBER_BY_ID, SUBSCRIBER_BY_NAME}
+use Rattle.reg_tables.specs.ReadStatements.{IsReading, command_of, shown_subscriber}
+use Rattle.reg_tables.specs.declared.sql.TheConstants.{SUBSCRIBER_BY_ID, SUBSCRIBER_BY_NAME}
 use Rattle.reg_tables.proofs.Compares.{and_true, eq_number, eq_text}
 use Rattle.reg_tables.proofs.Queries.{column_is, selects, as_command, no_limit, Given, keyed_given, all_of, find_none, find_one, Found}
 use Rattle.reg_tables.proofs.Selecting.{select_never}

@@ -25,8 +25,8 @@ use Rattle.reg_tables.specs.Schema.{register_schema}
 use Rattle.reg_tables.specs.Rows.{number, stored_revocation}
 use Rattle.reg_tables.specs.Shows.{IsShownBy}
 use Rattle.reg_tables.specs.Failing.{IsAsked}
-use Rattle.reg_tables.specs.Reading.{IsReading, command_of}
-use Rattle.reg_tables.specs.declared.statements.TheConstants.{EARLIEST_ABOVE}
+use Rattle.reg_tables.specs.ReadStatements.{IsReading, command_of}
+use Rattle.reg_tables.specs.declared.sql.TheConstants.{EARLIEST_ABOVE}
 use Rattle.reg_tables.proofs.Compares.{and_true, gt_number}
 use Rattle.reg_tables.proofs.Queries.{selects, as_command, Given, counted_given, all_of, kept_have}
 use Rattle.reg_tables.proofs.Selecting.{select_never}

@@ -10,7 +10,7 @@ use Rattle.reg_core.specs.declared.rows.RevocationRow.{RevocationRow}
 use Rattle.reg_laws.proofs.Kept.{revocations_within}
 use Rattle.reg_laws.proofs.Lists.{all_join, all_weaker}
 use Rattle.reg_tables.specs.Tables.{rows_of}
-use Rattle.reg_tables.specs.Values.{AreMomentAndReason, HasValues}
+use Rattle.reg_tables.specs.RecordValues.{AreMomentAndReason, HasValues}
 use Rattle.reg_tables.specs.declared.sizes.Table.{Table}
 use Rattle.reg_tables.specs.declared.sizes.Table.TheVariants.{Subscribers, Orders, Certs, Requests, Crls}
 

@@ -17,9 +17,9 @@ use Rattle.reg_core.specs.Records.{Records}
 use Rattle.reg_core.specs.Sound.{SoundRows}
 use Rattle.reg_der.specs.Authority.{IsIssuer}
 use Rattle.reg_tables.specs.Kept.{ShowsKept}
-use Rattle.reg_tables.specs.Reading.{command_of}
+use Rattle.reg_tables.specs.ReadStatements.{command_of}
 use Rattle.reg_tables.specs.Schema.{register_schema}
-use Rattle.reg_tables.specs.Values.{HasValues}
+use Rattle.reg_tables.specs.RecordValues.{HasValues}
 
 -- the database failed: its disk in the call, or the connection was shut, or the steps of a query are limited
 unfoldable pub HasFailed : State → State → Type 0

@@ -6,24 +6,24 @@ use Rattle.reg_core.specs.declared.refusal.Fault.{Fault}
 use Rattle.reg_core.specs.declared.refusal.Fault.TheVariants.{Memory as LackedMemory, Store as StoreFailed}
 use Rattle.reg_der.specs.declared.issuer.IssuerFault.{IssuerFault}
 use Rattle.reg_der.specs.declared.issuer.IssuerFault.TheVariants as issuer
-use Rattle.reg_tables.specs.declared.fault.CallFault.{CallFault}
-use Rattle.reg_tables.specs.declared.fault.CallFault.TheVariants as call
+use Rattle.reg_tables.specs.declared.fault.DatabaseFault.{DatabaseFault}
+use Rattle.reg_tables.specs.declared.fault.DatabaseFault.TheVariants as call
 use Rattle.reg_tables.specs.declared.fault.StoreFault.{StoreFault}
 use Rattle.reg_tables.specs.declared.fault.StoreFault.TheVariants.{Memory, Store, NotEmpty, NotARegister, NewVersion}
 
 -- the database lacked memory, or it failed otherwise
-abbrev pub call_fault_of : Error → CallFault
-call_fault_of (SqliteFailure OutOfMemory) = call.Memory
-call_fault_of _ = call.Store
+abbrev pub database_fault_of : Error → DatabaseFault
+database_fault_of (SqliteFailure OutOfMemory) = call.Memory
+database_fault_of _ = call.Store
 
 -- memory was lacking, or the bytes of a row are no issuer's
-abbrev pub issuer_fault_of : IssuerFault → CallFault
+abbrev pub issuer_fault_of : IssuerFault → DatabaseFault
 issuer_fault_of issuer.Memory = call.Memory
 issuer_fault_of issuer.BadName = call.Store
 issuer_fault_of issuer.BadKey = call.Store
 
 -- the fault of a call on an open register is one of the store's
-abbrev pub store_fault_of : CallFault → StoreFault
+abbrev pub store_fault_of : DatabaseFault → StoreFault
 store_fault_of call.Memory = Memory
 store_fault_of call.Store = Store
 

@@ -1,11 +1,11 @@
 pub mod Schema
 pub mod Rows
 pub mod Columns
-pub mod Values
+pub mod RecordValues
 pub mod Shows
 pub mod Faults
 pub mod Kept
 pub mod Stays
-pub mod Reading
+pub mod ReadStatements
 pub mod Tables
 pub mod Failing

@@ -55,5 +55,5 @@ pub record Moves (old new : State) (P : Database → Type 0) : Type 0 where
   pub tables : P new.now
 
 -- the faults of the store that a call on an open register has
-abbrev pub IsCallFault : StoreFault → Type 0
-IsCallFault fault = (fault ≡ Memory) ⊎ (fault ≡ Store)
+abbrev pub IsDatabaseFault : StoreFault → Type 0
+IsDatabaseFault fault = (fault ≡ Memory) ⊎ (fault ≡ Store)

@@ -3,7 +3,7 @@ use Rattle.std.specs.Prelude.{◌≡◌, ◌≤◌, ℕ, List, [], ◌∷◌, le
 use Rattle.sqlite_value.specs.Order.{Row, column}
 use Rattle.sqlite.specs.State.{State}
 use Rattle.reg_core.specs.Records.{Records}
-use Rattle.reg_tables.specs.Reading.{Answers}
+use Rattle.reg_tables.specs.ReadStatements.{Answers}
 use Rattle.reg_tables.specs.Rows.{number}
 use Rattle.reg_tables.specs.declared.sizes.Table.{Table}
 use Rattle.reg_tables.specs.declared.sizes.Table.TheVariants.{Subscribers, Orders, Certs, Requests, Crls}

@@ -8,11 +8,11 @@ ghost use Rattle.reg_tables.specs.Failing.{Blamed};
 ghost use Rattle.reg_tables.specs.Shows.{Shows};
 ghost use Rattle.reg_tables.specs.Stays.{Looked};
 
-use crate::fault::CallFault;
-use crate::reading::{at_most_one, read};
+use crate::fault::DatabaseFault;
+use crate::read_statements::{at_most_one, read};
 use crate::rows;
-use crate::statements::{CERT_BY_ORDER, CERT_BY_SERIAL};
-use crate::values::sql_number;
+use crate::sql::{CERT_BY_ORDER, CERT_BY_SERIAL};
+use crate::sql_values::sql_number;
 use reg_core::{CertRow, Serial};
 use sqlite::{Alter, Connection, params};
 
@@ -24,9 +24,9 @@ use sqlite::{Alter, Connection, params};
 pub fn cert<S: Alter>(
     conn: &mut Connection<S>,
     serial: Serial,
-) -> Result<Option<CertRow>, CallFault>
+) -> Result<Option<CertRow>, DatabaseFault>
     ensures found { (records : Records) → Shows S.Store conn.old records → HasCleanDisk (state S.Store conn.new) → IfOk result (λ row. row ≡ certificate_in records.certificates serial) }
-    ensures fails { Blamed S.Store CallFault.Store conn.old conn.new result }
+    ensures fails { Blamed S.Store DatabaseFault.Store conn.old conn.new result }
     ensures looked { Looked S.Store conn.old conn.new }
 {
     let found = read(conn, CERT_BY_SERIAL, params![serial.bytes20().as_slice()])?;
@@ -44,9 +44,9 @@ pub fn cert<S: Alter>(
 pub fn cert_of_order<S: Alter>(
     conn: &mut Connection<S>,
     order: u64,
-) -> Result<Option<CertRow>, CallFault>
+) -> Result<Option<CertRow>, DatabaseFault>
     ensures found { (records : Records) → Shows S.Store conn.old records → HasCleanDisk (state S.Store conn.new) → IfOk result (λ row. row ≡ certificate_of_order records.certificates order) }
-    ensures fails { order < 2 ^ 63 → Blamed S.Store CallFault.Store conn.old conn.new result }
+    ensures fails { order < 2 ^ 63 → Blamed S.Store DatabaseFault.Store conn.old conn.new result }
     ensures looked { Looked S.Store conn.old conn.new }
 {
     let value = sql_number(order)?;

@@ -12,10 +12,10 @@ ghost use Rattle.reg_tables.specs.Kept.{ShowsKept};
 ghost use Rattle.reg_tables.specs.Shows.{ShowsBoth};
 ghost use Rattle.reg_tables.specs.Stays.{Looked};
 
-use crate::fault::CallFault;
-use crate::reading::{only, read};
-use crate::statements::{COUNTS, ENDED_BEFORE};
-use crate::values::{number_at, sql_number};
+use crate::fault::DatabaseFault;
+use crate::read_statements::{only, read};
+use crate::sql::{COUNTS, ENDED_BEFORE};
+use crate::sql_values::{number_at, sql_number};
 use reg_core::{Counts, Moment};
 use sqlite::{Alter, Connection, params};
 
@@ -24,9 +24,9 @@ use sqlite::{Alter, Connection, params};
 /// # Errors
 /// `Memory`; `Store` where the database fails, or where there is not one row of three numbers.
 #[tactic(auto, using(crate::proofs::CountLemmas::reading_counts))]
-pub fn kept_counts<S: Alter>(conn: &mut Connection<S>) -> Result<Counts, CallFault>
+pub fn kept_counts<S: Alter>(conn: &mut Connection<S>) -> Result<Counts, DatabaseFault>
     ensures found { (records : Records) → (kept : Columns) → ShowsBoth S.Store conn.old records kept → HasCleanDisk (state S.Store conn.new) → IfOk result (λ counts. counts ≡ kept.counts) }
-    ensures fails { Blamed S.Store CallFault.Store conn.old conn.new result }
+    ensures fails { Blamed S.Store DatabaseFault.Store conn.old conn.new result }
     ensures looked { Looked S.Store conn.old conn.new }
 {
     let found = read(conn, COUNTS, &[])?;
@@ -40,10 +40,10 @@ pub fn kept_counts<S: Alter>(conn: &mut Connection<S>) -> Result<Counts, CallFau
 
 /// How many certificates are kept as good and end before a moment.
 #[tactic(auto, using(crate::proofs::CountLemmas::reading_ended))]
-fn ended_before<S: Alter>(conn: &mut Connection<S>, now: Moment) -> Result<u64, CallFault>
+fn ended_before<S: Alter>(conn: &mut Connection<S>, now: Moment) -> Result<u64, DatabaseFault>
     ensures found { (records : Records) → (kept : Columns) → ShowsBoth S.Store conn.old records kept → HasCleanDisk (state S.Store conn.new)
         → IfOk result (λ ended. IsTrue (state S.Store conn.old).is_open × (length kept.letters ≤ 1000000 → ended ≡ length (filter (ends_before now) kept.letters))) }
-    ensures fails { Blamed S.Store CallFault.Store conn.old conn.new result }
+    ensures fails { Blamed S.Store DatabaseFault.Store conn.old conn.new result }
     ensures looked { Looked S.Store conn.old conn.new }
 {
     let value = sql_number(now.secs())?;
@@ -57,16 +57,16 @@ fn ended_before<S: Alter>(conn: &mut Connection<S>, now: Moment) -> Result<u64, 
 /// # Errors
 /// `Memory`; `Store` where the database fails, or where its rows are ones that no register writes.
 #[tactic(auto, using(crate::proofs::Staying::looked_then))]
-pub fn counts<S: Alter>(conn: &mut Connection<S>, now: Moment) -> Result<Counts, CallFault>
+pub fn counts<S: Alter>(conn: &mut Connection<S>, now: Moment) -> Result<Counts, DatabaseFault>
     ensures found { (records : Records) → ShowsKept S.Store conn.old records → SoundRows records → records.last ≤ now → HasCleanDisk (state S.Store conn.new) → IfOk result (λ found. found ≡ status.counts records now) }
-    ensures fails { Blamed S.Store CallFault.Store conn.old conn.new result }
+    ensures fails { Blamed S.Store DatabaseFault.Store conn.old conn.new result }
     ensures looked { Looked S.Store conn.old conn.new }
 {
     let kept = kept_counts(conn)?;
     let ended = ended_before(conn, now)?;
     Ok(Counts {
-        good: kept.good.checked_sub(ended).ok_or(CallFault::Store)?,
+        good: kept.good.checked_sub(ended).ok_or(DatabaseFault::Store)?,
         revoked: kept.revoked,
-        expired: kept.expired.checked_add(ended).ok_or(CallFault::Store)?,
+        expired: kept.expired.checked_add(ended).ok_or(DatabaseFault::Store)?,
     })
 }

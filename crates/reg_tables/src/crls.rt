@@ -9,12 +9,12 @@ ghost use Rattle.reg_tables.specs.Failing.{Blamed};
 ghost use Rattle.reg_tables.specs.Shows.{Shows};
 ghost use Rattle.reg_tables.specs.Stays.{Looked};
 
-use crate::fault::CallFault;
-use crate::reading::{at_most_one, read};
+use crate::fault::DatabaseFault;
+use crate::read_statements::{at_most_one, read};
 use crate::rows;
 use crate::sizes::{Table, none_past};
-use crate::statements::{CRL_BYTES, LATEST_CRL};
-use crate::values::sql_key;
+use crate::sql::{CRL_BYTES, LATEST_CRL};
+use crate::sql_values::sql_key;
 use reg_core::CrlRow;
 use sqlite::{Alter, Connection, params};
 
@@ -23,9 +23,9 @@ use sqlite::{Alter, Connection, params};
 /// # Errors
 /// `Memory`; `Store` where the database fails, or where its row is one that no register writes.
 #[tactic(auto, using(crate::proofs::HeldLemmas::reading_crl))]
-pub fn latest_crl<S: Alter>(conn: &mut Connection<S>) -> Result<Option<CrlRow>, CallFault>
+pub fn latest_crl<S: Alter>(conn: &mut Connection<S>) -> Result<Option<CrlRow>, DatabaseFault>
     ensures found { (records : Records) → Shows S.Store conn.old records → HasCleanDisk (state S.Store conn.new) → IfOk result (λ row. row ≡ option_map row_of (latest records.crls)) }
-    ensures fails { Blamed S.Store CallFault.Store conn.old conn.new result }
+    ensures fails { Blamed S.Store DatabaseFault.Store conn.old conn.new result }
     ensures looked { Looked S.Store conn.old conn.new }
 {
     let found = read(conn, LATEST_CRL, &[])?;
@@ -40,10 +40,13 @@ pub fn latest_crl<S: Alter>(conn: &mut Connection<S>) -> Result<Option<CrlRow>, 
 /// # Errors
 /// `Memory`; `Store` where the database fails, or where its row is one that no register writes.
 #[tactic(auto, using(crate::proofs::CrlLemmas::reading_bytes))]
-pub fn crl<S: Alter>(conn: &mut Connection<S>, number: u64) -> Result<Option<Vec<u8>>, CallFault>
+pub fn crl<S: Alter>(
+    conn: &mut Connection<S>,
+    number: u64,
+) -> Result<Option<Vec<u8>>, DatabaseFault>
     ensures found { (records : Records) → Shows S.Store conn.old records → HasCleanDisk (state S.Store conn.new)
         → IfOk result (λ der. option_map (λ bytes. bytes.items) der ≡ option_map (λ crl. crl.bytes) (crl_in records.crls number)) }
-    ensures fails { Blamed S.Store CallFault.Store conn.old conn.new result }
+    ensures fails { Blamed S.Store DatabaseFault.Store conn.old conn.new result }
     ensures looked { Looked S.Store conn.old conn.new }
 {
     let Some(value) = sql_key(number) else {

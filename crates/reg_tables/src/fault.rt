@@ -9,7 +9,7 @@ use std::alloc::{AllocError, AllocFailed};
 
 /// Why a call on an open register fails.
 #[derive(Clone, Copy, PartialEq, Eq)]
-pub enum CallFault {
+pub enum DatabaseFault {
     /// Memory could not be had.
     Memory,
     /// The database failed, or a row is one that no register writes.
@@ -31,74 +31,74 @@ pub enum StoreFault {
     NewVersion,
 }
 
-impl From<Error> for CallFault {
-    ghost use Rattle.reg_tables.specs.Faults.{call_fault_of};
+impl From<Error> for DatabaseFault {
+    ghost use Rattle.reg_tables.specs.Faults.{database_fault_of};
 
-    ghost from_gives = { λ error fault. fault ≡ call_fault_of error };
+    ghost from_gives = { λ error fault. fault ≡ database_fault_of error };
 
-    fn from(error: Error) -> CallFault {
+    fn from(error: Error) -> DatabaseFault {
         match error {
-            Error::SqliteFailure(ErrorCode::OutOfMemory) => CallFault::Memory,
-            _ => CallFault::Store,
+            Error::SqliteFailure(ErrorCode::OutOfMemory) => DatabaseFault::Memory,
+            _ => DatabaseFault::Store,
         }
     }
 }
 
-impl From<AllocError> for CallFault {
-    ghost use Rattle.reg_tables.specs.declared.fault.CallFault.TheVariants.{Memory};
+impl From<AllocError> for DatabaseFault {
+    ghost use Rattle.reg_tables.specs.declared.fault.DatabaseFault.TheVariants.{Memory};
 
     ghost from_gives = { λ _ fault. fault ≡ Memory };
 
-    fn from(_error: AllocError) -> CallFault {
-        CallFault::Memory
+    fn from(_error: AllocError) -> DatabaseFault {
+        DatabaseFault::Memory
     }
 }
 
-impl<T: Drop> From<AllocFailed<T>> for CallFault {
-    ghost use Rattle.reg_tables.specs.declared.fault.CallFault.TheVariants.{Memory};
+impl<T: Drop> From<AllocFailed<T>> for DatabaseFault {
+    ghost use Rattle.reg_tables.specs.declared.fault.DatabaseFault.TheVariants.{Memory};
 
     ghost from_gives = { λ _ fault. fault ≡ Memory };
 
-    fn from(_error: AllocFailed<T>) -> CallFault {
-        CallFault::Memory
+    fn from(_error: AllocFailed<T>) -> DatabaseFault {
+        DatabaseFault::Memory
     }
 }
 
-impl From<IssuerFault> for CallFault {
+impl From<IssuerFault> for DatabaseFault {
     ghost use Rattle.reg_tables.specs.Faults.{issuer_fault_of};
 
     ghost from_gives = { λ reason fault. fault ≡ issuer_fault_of reason };
 
-    fn from(reason: IssuerFault) -> CallFault {
+    fn from(reason: IssuerFault) -> DatabaseFault {
         match reason {
-            IssuerFault::Memory => CallFault::Memory,
-            IssuerFault::BadName | IssuerFault::BadKey => CallFault::Store,
+            IssuerFault::Memory => DatabaseFault::Memory,
+            IssuerFault::BadName | IssuerFault::BadKey => DatabaseFault::Store,
         }
     }
 }
 
-impl From<CallFault> for StoreFault {
+impl From<DatabaseFault> for StoreFault {
     ghost use Rattle.reg_tables.specs.Faults.{store_fault_of};
-    ghost use Rattle.reg_tables.specs.Stays.{IsCallFault};
+    ghost use Rattle.reg_tables.specs.Stays.{IsDatabaseFault};
 
-    ghost from_gives = { λ call fault. (fault ≡ store_fault_of call) × IsCallFault fault };
+    ghost from_gives = { λ call fault. (fault ≡ store_fault_of call) × IsDatabaseFault fault };
 
-    fn from(call: CallFault) -> StoreFault {
+    fn from(call: DatabaseFault) -> StoreFault {
         match call {
-            CallFault::Memory => StoreFault::Memory,
-            CallFault::Store => StoreFault::Store,
+            DatabaseFault::Memory => StoreFault::Memory,
+            DatabaseFault::Store => StoreFault::Store,
         }
     }
 }
 
 impl From<Error> for StoreFault {
-    ghost use Rattle.reg_tables.specs.Faults.{call_fault_of, store_fault_of};
-    ghost use Rattle.reg_tables.specs.Stays.{IsCallFault};
+    ghost use Rattle.reg_tables.specs.Faults.{database_fault_of, store_fault_of};
+    ghost use Rattle.reg_tables.specs.Stays.{IsDatabaseFault};
 
-    ghost from_gives = { λ error fault. (fault ≡ store_fault_of (call_fault_of error)) × IsCallFault fault };
+    ghost from_gives = { λ error fault. (fault ≡ store_fault_of (database_fault_of error)) × IsDatabaseFault fault };
 
     fn from(error: Error) -> StoreFault {
-        StoreFault::from(CallFault::from(error))
+        StoreFault::from(DatabaseFault::from(error))
     }
 }
 

@@ -10,11 +10,11 @@ ghost use Rattle.reg_tables.specs.Failing.{Blamed};
 ghost use Rattle.reg_tables.specs.Kept.{ShowsKept};
 ghost use Rattle.reg_tables.specs.Stays.{Looked};
 
-use crate::fault::CallFault;
-use crate::reading::{at_most_one, read};
+use crate::fault::DatabaseFault;
+use crate::read_statements::{at_most_one, read};
 use crate::rows::entries_in;
-use crate::statements::{ENTRIES, LISTED_BY_SERIAL};
-use crate::values::{number_at, number_or_null_at, sql_number};
+use crate::sql::{ENTRIES, LISTED_BY_SERIAL};
+use crate::sql_values::{number_at, number_or_null_at, sql_number};
 use reg_core::{Entry, Listing, Serial};
 use sqlite::{Alter, Connection, params};
 
@@ -35,21 +35,21 @@ fn ascends(entries: &[Entry]) -> bool
 /// `Memory`; `Store` where the database fails, where its rows are ones that no register writes or more than 1,000,000,
 /// or for a number above 2^63 - 1.
 #[tactic(auto, using(crate::proofs::EntryLemmas::reading_entries))]
-pub fn entries<S: Alter>(conn: &mut Connection<S>, number: u64) -> Result<Vec<Entry>, CallFault>
+pub fn entries<S: Alter>(conn: &mut Connection<S>, number: u64) -> Result<Vec<Entry>, DatabaseFault>
     ensures found { (records : Records) → ShowsKept S.Store conn.old records → HasCleanDisk (state S.Store conn.new) → IfOk result (λ found. found.items ≡ entries records number) }
     ensures ascending { IfOk result (λ found. EntriesAscend found.items) }
     ensures at_most { IfOk result (λ found. length found.items ≤ 1000000) }
-    ensures fails { number < 2 ^ 63 → Blamed S.Store CallFault.Store conn.old conn.new result }
+    ensures fails { number < 2 ^ 63 → Blamed S.Store DatabaseFault.Store conn.old conn.new result }
     ensures looked { Looked S.Store conn.old conn.new }
 {
     let value = sql_number(number)?;
     let found = read(conn, ENTRIES, params![&value])?;
     let entries = entries_in(&found)?;
     if entries.len() > MOST_ENTRIES {
-        return Err(CallFault::Store);
+        return Err(DatabaseFault::Store);
     }
     if !ascends(&entries) {
-        return Err(CallFault::Store);
+        return Err(DatabaseFault::Store);
     }
     Ok(entries)
 }
@@ -63,9 +63,9 @@ pub fn entries<S: Alter>(conn: &mut Connection<S>, number: u64) -> Result<Vec<En
 pub fn listing<S: Alter>(
     conn: &mut Connection<S>,
     serial: Serial,
-) -> Result<Option<Listing>, CallFault>
+) -> Result<Option<Listing>, DatabaseFault>
     ensures found { (records : Records) → ShowsKept S.Store conn.old records → HasCleanDisk (state S.Store conn.new) → IfOk result (λ found. found ≡ listing records serial) }
-    ensures fails { Blamed S.Store CallFault.Store conn.old conn.new result }
+    ensures fails { Blamed S.Store DatabaseFault.Store conn.old conn.new result }
     ensures looked { Looked S.Store conn.old conn.new }
 {
     let found = read(conn, LISTED_BY_SERIAL, params![serial.bytes20().as_slice()])?;

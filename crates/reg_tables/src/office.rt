@@ -8,11 +8,11 @@ ghost use Rattle.reg_tables.specs.Failing.{Blamed};
 ghost use Rattle.reg_tables.specs.Shows.{Shows};
 ghost use Rattle.reg_tables.specs.Stays.{Looked};
 
-use crate::fault::CallFault;
-use crate::reading::{only, read};
+use crate::fault::DatabaseFault;
+use crate::read_statements::{only, read};
 use crate::rows::steps_in;
-use crate::statements::{ISSUER, LAST, RESPONDING, STEPS, TERMS};
-use crate::values::{bytes_at, clock_moment_at, life_at, number_at};
+use crate::sql::{ISSUER, LAST, RESPONDING, STEPS, TERMS};
+use crate::sql_values::{bytes_at, clock_moment_at, life_at, number_at};
 use reg_core::{Moment, Policy, Schedule};
 use reg_der::Issuer;
 use sqlite::{Alter, Connection};
@@ -22,9 +22,9 @@ use sqlite::{Alter, Connection};
 /// # Errors
 /// `Memory`; `Store` where the database fails, or where its row is one that no register writes.
 #[tactic(auto, using(crate::proofs::OfficeLemmas::reading_last))]
-pub fn last<S: Alter>(conn: &mut Connection<S>) -> Result<Moment, CallFault>
+pub fn last<S: Alter>(conn: &mut Connection<S>) -> Result<Moment, DatabaseFault>
     ensures found { (records : Records) → Shows S.Store conn.old records → HasCleanDisk (state S.Store conn.new) → IfOk result (λ last. last ≡ records.last) }
-    ensures fails { Blamed S.Store CallFault.Store conn.old conn.new result }
+    ensures fails { Blamed S.Store DatabaseFault.Store conn.old conn.new result }
     ensures looked { Looked S.Store conn.old conn.new }
 {
     let found = read(conn, LAST, &[])?;
@@ -36,9 +36,9 @@ pub fn last<S: Alter>(conn: &mut Connection<S>) -> Result<Moment, CallFault>
 /// # Errors
 /// `Memory`; `Store` where the database fails, or where its row is one that no register writes.
 #[tactic(auto, using(crate::proofs::OfficeLemmas::reading_issuer))]
-pub fn issuer<S: Alter>(conn: &mut Connection<S>) -> Result<Issuer, CallFault>
+pub fn issuer<S: Alter>(conn: &mut Connection<S>) -> Result<Issuer, DatabaseFault>
     ensures found { (records : Records) → Shows S.Store conn.old records → HasCleanDisk (state S.Store conn.new) → IfOk result (λ issuer. issuer ≡ records.issuer) }
-    ensures fails { Blamed S.Store CallFault.Store conn.old conn.new result }
+    ensures fails { Blamed S.Store DatabaseFault.Store conn.old conn.new result }
     ensures looked { Looked S.Store conn.old conn.new }
 {
     let found = read(conn, ISSUER, &[])?;
@@ -52,11 +52,13 @@ pub fn issuer<S: Alter>(conn: &mut Connection<S>) -> Result<Issuer, CallFault>
 /// # Errors
 /// `Memory`; `Store` where the database fails, or where its row is one that no register writes.
 #[tactic(auto, using(crate::proofs::OfficeLemmas::reading_responding))]
-pub fn responding<S: Alter>(conn: &mut Connection<S>) -> Result<(Moment, Issuer, u64), CallFault>
+pub fn responding<S: Alter>(
+    conn: &mut Connection<S>,
+) -> Result<(Moment, Issuer, u64), DatabaseFault>
     ensures found { (records : Records) → Shows S.Store conn.old records → HasCleanDisk (state S.Store conn.new)
         → IfOk result (λ it. (it.0 ≡ records.last) × (it.1 ≡ records.issuer) × (it.2 ≡ records.policy.ocsp_life)) }
     ensures short { IfOk result (λ it. it.2 ≤ 863999) }
-    ensures fails { Blamed S.Store CallFault.Store conn.old conn.new result }
+    ensures fails { Blamed S.Store DatabaseFault.Store conn.old conn.new result }
     ensures looked { Looked S.Store conn.old conn.new }
 {
     let found = read(conn, RESPONDING, &[])?;
@@ -69,10 +71,10 @@ pub fn responding<S: Alter>(conn: &mut Connection<S>) -> Result<(Moment, Issuer,
 
 /// The lives of CRLs and of OCSP answers, and the cap.
 #[tactic(auto, using(crate::proofs::OfficeLemmas::reading_terms))]
-fn terms<S: Alter>(conn: &mut Connection<S>) -> Result<(u64, u64, u64), CallFault>
+fn terms<S: Alter>(conn: &mut Connection<S>) -> Result<(u64, u64, u64), DatabaseFault>
     ensures found { (records : Records) → Shows S.Store conn.old records → HasCleanDisk (state S.Store conn.new)
         → IfOk result (λ terms. (terms.0 ≡ records.policy.crl_life) × (terms.1 ≡ records.policy.ocsp_life) × (terms.2 ≡ records.policy.cap)) }
-    ensures fails { Blamed S.Store CallFault.Store conn.old conn.new result }
+    ensures fails { Blamed S.Store DatabaseFault.Store conn.old conn.new result }
     ensures looked { Looked S.Store conn.old conn.new }
 {
     let found = read(conn, TERMS, &[])?;
@@ -82,14 +84,14 @@ fn terms<S: Alter>(conn: &mut Connection<S>) -> Result<(u64, u64, u64), CallFaul
 
 /// The schedule of longest validities.
 #[tactic(auto, using(crate::proofs::ScheduleLemmas::reading_steps))]
-fn schedule<S: Alter>(conn: &mut Connection<S>) -> Result<Schedule, CallFault>
+fn schedule<S: Alter>(conn: &mut Connection<S>) -> Result<Schedule, DatabaseFault>
     ensures found { (records : Records) → Shows S.Store conn.old records → HasCleanDisk (state S.Store conn.new) → IfOk result (λ schedule. schedule ≡ records.policy.schedule) }
-    ensures fails { Blamed S.Store CallFault.Store conn.old conn.new result }
+    ensures fails { Blamed S.Store DatabaseFault.Store conn.old conn.new result }
     ensures looked { Looked S.Store conn.old conn.new }
 {
     let found = read(conn, STEPS, &[])?;
     let steps = steps_in(&found)?;
-    Schedule::new(&steps).ok_or(CallFault::Store)
+    Schedule::new(&steps).ok_or(DatabaseFault::Store)
 }
 
 /// The policy.
@@ -97,12 +99,12 @@ fn schedule<S: Alter>(conn: &mut Connection<S>) -> Result<Schedule, CallFault>
 /// # Errors
 /// `Memory`; `Store` where the database fails, or where its rows are ones that no register writes.
 #[tactic(auto, using(crate::proofs::Staying::looked_then))]
-pub fn policy<S: Alter>(conn: &mut Connection<S>) -> Result<Policy, CallFault>
+pub fn policy<S: Alter>(conn: &mut Connection<S>) -> Result<Policy, DatabaseFault>
     ensures found { (records : Records) → Shows S.Store conn.old records → HasCleanDisk (state S.Store conn.new) → IfOk result (λ policy. policy ≡ records.policy) }
-    ensures fails { Blamed S.Store CallFault.Store conn.old conn.new result }
+    ensures fails { Blamed S.Store DatabaseFault.Store conn.old conn.new result }
     ensures looked { Looked S.Store conn.old conn.new }
 {
     let (crl_life, ocsp_life, cap) = terms(conn)?;
     let schedule = schedule(conn)?;
-    Policy::with(schedule, crl_life, ocsp_life, cap).ok_or(CallFault::Store)
+    Policy::with(schedule, crl_life, ocsp_life, cap).ok_or(DatabaseFault::Store)
 }

@@ -11,19 +11,19 @@ ghost use Rattle.reg_tables.specs.Shows.{Shows};
 ghost use Rattle.reg_tables.specs.Stays.{Looked};
 
 use crate::certificates::cert;
-use crate::fault::CallFault;
-use crate::reading::read;
+use crate::fault::DatabaseFault;
+use crate::read_statements::read;
 use crate::revocations::revocation;
 use crate::rows::requests_in;
-use crate::statements::UNDECLINED;
+use crate::sql::UNDECLINED;
 use reg_core::{Moment, Overdue, RequestRow, Serial, Status, status_of};
 use sqlite::{Alter, Connection};
 
 /// The requests that are not declined, in the order of entry.
 #[tactic(auto, using(crate::proofs::OverdueLemmas::reading_undeclined))]
-fn undeclined<S: Alter>(conn: &mut Connection<S>) -> Result<Vec<RequestRow>, CallFault>
+fn undeclined<S: Alter>(conn: &mut Connection<S>) -> Result<Vec<RequestRow>, DatabaseFault>
     ensures found { (records : Records) → Shows S.Store conn.old records → HasCleanDisk (state S.Store conn.new) → IfOk result (λ found. found.items ≡ filter (λ row. not row.declined) records.requests) }
-    ensures fails { Blamed S.Store CallFault.Store conn.old conn.new result }
+    ensures fails { Blamed S.Store DatabaseFault.Store conn.old conn.new result }
     ensures looked { Looked S.Store conn.old conn.new }
 {
     let found = read(conn, UNDECLINED, &[])?;
@@ -36,22 +36,22 @@ fn is_good_at<S: Alter>(
     conn: &mut Connection<S>,
     serial: Serial,
     now: Moment,
-) -> Result<bool, CallFault>
+) -> Result<bool, DatabaseFault>
     ensures found { (records : Records) → Shows S.Store conn.old records → HasCleanDisk (state S.Store conn.new) → IfOk result (λ good. good ≡ is_good (status records serial now)) }
     ensures fails { (records : Records) → ShowsWritten S.Store conn.old records → IsSome (certificate_in records.certificates serial)
-        → FailsWith CallFault.Store (state S.Store conn.old) (state S.Store conn.new) result }
+        → FailsWith DatabaseFault.Store (state S.Store conn.old) (state S.Store conn.new) result }
     ensures looked { Looked S.Store conn.old conn.new }
 {
     let certificate = cert(conn, serial)?;
     let revoked = revocation(conn, serial)?;
     if certificate.is_none() {
-        return Err(CallFault::Store);
+        return Err(DatabaseFault::Store);
     }
     Ok(matches!(status_of(now, certificate, revoked), Status::Good))
 }
 
 /// The report with one request more, whose id is above those in it.
-fn one_more(report: Option<Overdue>, id: u64) -> Result<Option<Overdue>, CallFault>
+fn one_more(report: Option<Overdue>, id: u64) -> Result<Option<Overdue>, DatabaseFault>
     ensures more { (requests : List RequestRow) → (request : RequestRow) → report ≡ overdue_report requests → request.id ≡ id → IfOk result (λ more. more ≡ overdue_report (requests ++ request ∷ [])) }
     ensures many { (requests : List RequestRow) → report ≡ overdue_report requests → OnErr result (2 ^ 64 ≤ length requests + 1) }
 {
@@ -61,7 +61,7 @@ fn one_more(report: Option<Overdue>, id: u64) -> Result<Option<Overdue>, CallFau
             first: id,
         })),
         Some(report) => Ok(Some(Overdue {
-            count: report.count.checked_add(1).ok_or(CallFault::Store)?,
+            count: report.count.checked_add(1).ok_or(DatabaseFault::Store)?,
             first: report.first,
         })),
     }
@@ -73,10 +73,10 @@ fn is_late<S: Alter>(
     conn: &mut Connection<S>,
     request: RequestRow,
     now: Moment,
-) -> Result<bool, CallFault>
+) -> Result<bool, DatabaseFault>
     ensures found { (records : Records) → Shows S.Store conn.old records → HasCleanDisk (state S.Store conn.new) → IfOk result (λ late. late ≡ (is_good (status records request.serial now) && nat_lt (deadline request) now)) }
     ensures fails { (records : Records) → ShowsWritten S.Store conn.old records → IsSome (certificate_in records.certificates request.serial)
-        → FailsWith CallFault.Store (state S.Store conn.old) (state S.Store conn.new) result }
+        → FailsWith DatabaseFault.Store (state S.Store conn.old) (state S.Store conn.new) result }
     ensures looked { Looked S.Store conn.old conn.new }
 {
     let deadline = request.received.secs() + request.ground.limit_secs();
@@ -94,9 +94,9 @@ fn is_late<S: Alter>(
 pub fn open_past_due<S: Alter>(
     conn: &mut Connection<S>,
     now: Moment,
-) -> Result<Option<Overdue>, CallFault>
+) -> Result<Option<Overdue>, DatabaseFault>
     ensures found { (records : Records) → Shows S.Store conn.old records → HasCleanDisk (state S.Store conn.new) → IfOk result (λ report. report ≡ overdue_report (overdue records now)) }
-    ensures fails { Blamed S.Store CallFault.Store conn.old conn.new result }
+    ensures fails { Blamed S.Store DatabaseFault.Store conn.old conn.new result }
     ensures looked { Looked S.Store conn.old conn.new }
 {
     let requests = undeclined(conn)?;
@@ -115,9 +115,9 @@ pub fn open_past_due<S: Alter>(
 /// # Errors
 /// As [`open_past_due`].
 #[tactic(auto, using(crate::proofs::Staying::looked_then))]
-pub fn open_count<S: Alter>(conn: &mut Connection<S>, now: Moment) -> Result<u64, CallFault>
+pub fn open_count<S: Alter>(conn: &mut Connection<S>, now: Moment) -> Result<u64, DatabaseFault>
     ensures found { (records : Records) → Shows S.Store conn.old records → HasCleanDisk (state S.Store conn.new) → IfOk result (λ count. count ≡ length (filter (is_open records now) records.requests)) }
-    ensures fails { Blamed S.Store CallFault.Store conn.old conn.new result }
+    ensures fails { Blamed S.Store DatabaseFault.Store conn.old conn.new result }
     ensures looked { Looked S.Store conn.old conn.new }
 {
     let requests = undeclined(conn)?;

@@ -12,11 +12,11 @@ ghost use Rattle.reg_tables.specs.Failing.{Blamed};
 ghost use Rattle.reg_tables.specs.Shows.{Shows};
 ghost use Rattle.reg_tables.specs.Stays.{Looked};
 
-use crate::fault::CallFault;
-use crate::reading::read;
+use crate::fault::DatabaseFault;
+use crate::read_statements::read;
 use crate::rows::{certificates_in, crls_in, revocations_in};
-use crate::statements::{CERTS_AFTER, CRLS_AFTER, REVOCATIONS_AFTER};
-use crate::values::sql_number;
+use crate::sql::{CERTS_AFTER, CRLS_AFTER, REVOCATIONS_AFTER};
+use crate::sql_values::sql_number;
 use reg_core::{CertRow, CrlRow, RevocationRow, Serial};
 use sqlite::{Alter, Connection, params};
 
@@ -43,10 +43,10 @@ pub fn certs_after<S: Alter>(
     conn: &mut Connection<S>,
     after: Option<Serial>,
     most: u64,
-) -> Result<Vec<CertRow>, CallFault>
+) -> Result<Vec<CertRow>, DatabaseFault>
     ensures found { (records : Records) → Shows S.Store conn.old records → SoundRows records → HasCleanDisk (state S.Store conn.new)
         → IfOk result (λ found. found.items ≡ take most (past (λ row. row.serial) (key_of after) records.certificates)) }
-    ensures fails { most < 2 ^ 63 → Blamed S.Store CallFault.Store conn.old conn.new result }
+    ensures fails { most < 2 ^ 63 → Blamed S.Store DatabaseFault.Store conn.old conn.new result }
     ensures looked { Looked S.Store conn.old conn.new }
 {
     let limit = sql_number(most)?;
@@ -65,10 +65,10 @@ pub fn revocations_after<S: Alter>(
     conn: &mut Connection<S>,
     after: Option<Serial>,
     most: u64,
-) -> Result<Vec<RevocationRow>, CallFault>
+) -> Result<Vec<RevocationRow>, DatabaseFault>
     ensures found { (records : Records) → Shows S.Store conn.old records → SoundRows records → HasCleanDisk (state S.Store conn.new)
         → IfOk result (λ found. found.items ≡ take most (past (λ row. row.serial) (key_of after) records.revocations)) }
-    ensures fails { most < 2 ^ 63 → Blamed S.Store CallFault.Store conn.old conn.new result }
+    ensures fails { most < 2 ^ 63 → Blamed S.Store DatabaseFault.Store conn.old conn.new result }
     ensures looked { Looked S.Store conn.old conn.new }
 {
     let limit = sql_number(most)?;
@@ -86,10 +86,10 @@ pub fn crls_after<S: Alter>(
     conn: &mut Connection<S>,
     after: u64,
     most: u64,
-) -> Result<Vec<CrlRow>, CallFault>
+) -> Result<Vec<CrlRow>, DatabaseFault>
     ensures found { (records : Records) → Shows S.Store conn.old records → HasCleanDisk (state S.Store conn.new)
         → IfOk result (λ found. found.items ≡ map row_of (take most (past (λ crl. crl.number) after records.crls))) }
-    ensures fails { after < 2 ^ 63 → most < 2 ^ 63 → Blamed S.Store CallFault.Store conn.old conn.new result }
+    ensures fails { after < 2 ^ 63 → most < 2 ^ 63 → Blamed S.Store DatabaseFault.Store conn.old conn.new result }
     ensures looked { Looked S.Store conn.old conn.new }
 {
     let limit = sql_number(most)?;

@@ -8,12 +8,12 @@ ghost use Rattle.reg_tables.specs.Failing.{Blamed};
 ghost use Rattle.reg_tables.specs.Shows.{Shows};
 ghost use Rattle.reg_tables.specs.Stays.{Looked};
 
-use crate::fault::CallFault;
-use crate::reading::{at_most_one, read};
+use crate::fault::DatabaseFault;
+use crate::read_statements::{at_most_one, read};
 use crate::rows;
 use crate::sizes::{Table, none_past};
-use crate::statements::REQUEST_BY_ID;
-use crate::values::sql_key;
+use crate::sql::REQUEST_BY_ID;
+use crate::sql_values::sql_key;
 use reg_core::RequestRow;
 use sqlite::{Alter, Connection, params};
 
@@ -22,9 +22,12 @@ use sqlite::{Alter, Connection, params};
 /// # Errors
 /// `Memory`; `Store` where the database fails, or where its row is one that no register writes.
 #[tactic(auto, using(crate::proofs::RequestLemmas::reading_by_id))]
-pub fn request<S: Alter>(conn: &mut Connection<S>, id: u64) -> Result<Option<RequestRow>, CallFault>
+pub fn request<S: Alter>(
+    conn: &mut Connection<S>,
+    id: u64,
+) -> Result<Option<RequestRow>, DatabaseFault>
     ensures found { (records : Records) → Shows S.Store conn.old records → HasCleanDisk (state S.Store conn.new) → IfOk result (λ row. row ≡ request_in records.requests id) }
-    ensures fails { Blamed S.Store CallFault.Store conn.old conn.new result }
+    ensures fails { Blamed S.Store DatabaseFault.Store conn.old conn.new result }
     ensures looked { Looked S.Store conn.old conn.new }
 {
     let Some(value) = sql_key(id) else {

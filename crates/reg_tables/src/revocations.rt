@@ -9,12 +9,12 @@ ghost use Rattle.reg_tables.specs.Failing.{Blamed};
 ghost use Rattle.reg_tables.specs.Shows.{Shows};
 ghost use Rattle.reg_tables.specs.Stays.{Looked};
 
-use crate::fault::CallFault;
-use crate::reading::{at_most_one, read};
+use crate::fault::DatabaseFault;
+use crate::read_statements::{at_most_one, read};
 use crate::rows;
 use crate::sizes::{Table, held};
-use crate::statements::{EARLIEST_ABOVE, REVOCATION_BY_SERIAL};
-use crate::values::{clock_moment_at, sql_number};
+use crate::sql::{EARLIEST_ABOVE, REVOCATION_BY_SERIAL};
+use crate::sql_values::{clock_moment_at, sql_number};
 use reg_core::{Moment, RevocationRow, Serial};
 use sqlite::{Alter, Connection, params};
 
@@ -26,9 +26,9 @@ use sqlite::{Alter, Connection, params};
 pub fn revocation<S: Alter>(
     conn: &mut Connection<S>,
     serial: Serial,
-) -> Result<Option<RevocationRow>, CallFault>
+) -> Result<Option<RevocationRow>, DatabaseFault>
     ensures found { (records : Records) → Shows S.Store conn.old records → HasCleanDisk (state S.Store conn.new) → IfOk result (λ row. row ≡ revocation_in records.revocations serial) }
-    ensures fails { Blamed S.Store CallFault.Store conn.old conn.new result }
+    ensures fails { Blamed S.Store DatabaseFault.Store conn.old conn.new result }
     ensures looked { Looked S.Store conn.old conn.new }
 {
     let found = read(
@@ -47,10 +47,10 @@ pub fn revocation<S: Alter>(
 fn earliest_above<S: Alter>(
     conn: &mut Connection<S>,
     number: u64,
-) -> Result<Option<Moment>, CallFault>
+) -> Result<Option<Moment>, DatabaseFault>
     ensures found { (records : Records) → Shows S.Store conn.old records → HasCleanDisk (state S.Store conn.new)
         → IfOk result (λ at. IsTrue (state S.Store conn.old).is_open × (at ≡ earliest (filter (λ row. nat_lt number row.first) records.revocations))) }
-    ensures fails { number < 2 ^ 63 → Blamed S.Store CallFault.Store conn.old conn.new result }
+    ensures fails { number < 2 ^ 63 → Blamed S.Store DatabaseFault.Store conn.old conn.new result }
     ensures looked { Looked S.Store conn.old conn.new }
 {
     let value = sql_number(number)?;
@@ -66,9 +66,11 @@ fn earliest_above<S: Alter>(
 /// # Errors
 /// `Memory`; `Store` where the database fails, or where its row is one that no register writes.
 #[tactic(auto, using(crate::proofs::Staying::looked_then))]
-pub fn earliest_unlisted<S: Alter>(conn: &mut Connection<S>) -> Result<Option<Moment>, CallFault>
+pub fn earliest_unlisted<S: Alter>(
+    conn: &mut Connection<S>,
+) -> Result<Option<Moment>, DatabaseFault>
     ensures found { (records : Records) → Shows S.Store conn.old records → HasCleanDisk (state S.Store conn.new) → IfOk result (λ at. at ≡ earliest (unlisted records)) }
-    ensures fails { Blamed S.Store CallFault.Store conn.old conn.new result }
+    ensures fails { Blamed S.Store DatabaseFault.Store conn.old conn.new result }
     ensures looked { Looked S.Store conn.old conn.new }
 {
     let latest = held(conn, Table::Crls)?;

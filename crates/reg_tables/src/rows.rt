@@ -1,16 +1,16 @@
 //! Rows of the tables as rows of the register, with the columns in the order in which the statements name them. A row of values
-//! that a register writes is read as what it is; [`CallFault::Store`] is told where it has others.
+//! that a register writes is read as what it is; [`DatabaseFault::Store`] is told where it has others.
 
 ghost use Rattle.std.specs.Prelude.{◌≡◌, ◌<◌, ◌≤◌, ℕ, List, map, IsOkAnd, MatchResult};
 ghost use Rattle.std.specs.List.{AllByRecursion};
 ghost use Rattle.reg_core.specs.Calendar.{IsMoment, clock_end};
 ghost use Rattle.reg_core.specs.Label.{IsLabel};
 ghost use Rattle.reg_core.specs.Serial.{IsSerial};
-ghost use Rattle.reg_tables.specs.Reading.{shown_subscriber, shown_order, shown_certificate, shown_request, shown_revocation, shown_crl, shown_entry, shown_step};
-ghost use Rattle.reg_tables.specs.Values.{IsValidity, AreMomentAndReason};
+ghost use Rattle.reg_tables.specs.ReadStatements.{shown_subscriber, shown_order, shown_certificate, shown_request, shown_revocation, shown_crl, shown_entry, shown_step};
+ghost use Rattle.reg_tables.specs.RecordValues.{IsValidity, AreMomentAndReason};
 
-use crate::fault::CallFault;
-use crate::values::{
+use crate::fault::DatabaseFault;
+use crate::sql_values::{
     cause_at, clock_moment_at, flag_at, label_at, moment_at, number_at, reason_at, serial_at,
 };
 use reg_core::{
@@ -19,7 +19,7 @@ use reg_core::{
 use sqlite::Row;
 
 /// id, name.
-pub(crate) fn subscriber_in(row: &Row) -> Result<SubscriberRow, CallFault>
+pub(crate) fn subscriber_in(row: &Row) -> Result<SubscriberRow, DatabaseFault>
     ensures read { (subscriber : SubscriberRow) → row.now ≡ shown_subscriber subscriber → MatchResult result (λ read. read ≡ subscriber) (λ _. ¬ IsLabel subscriber.name) }
 {
     Ok(SubscriberRow {
@@ -29,7 +29,7 @@ pub(crate) fn subscriber_in(row: &Row) -> Result<SubscriberRow, CallFault>
 }
 
 /// id, subscriber, days.
-pub(crate) fn order_in(row: &Row) -> Result<OrderRow, CallFault>
+pub(crate) fn order_in(row: &Row) -> Result<OrderRow, DatabaseFault>
     ensures read { (order : OrderRow) → row.now ≡ shown_order order → IsOkAnd result (λ read. read ≡ order) }
 {
     Ok(OrderRow {
@@ -40,7 +40,7 @@ pub(crate) fn order_in(row: &Row) -> Result<OrderRow, CallFault>
 }
 
 /// serial, order_id, not_before, not_after.
-pub fn certificate_in(row: &Row) -> Result<CertRow, CallFault>
+pub fn certificate_in(row: &Row) -> Result<CertRow, DatabaseFault>
     ensures read { (certificate : CertRow) → IsSerial certificate.serial → row.now ≡ shown_certificate certificate → MatchResult result (λ read. read ≡ certificate) (λ _. ¬ IsValidity certificate.not_before certificate.not_after) }
 {
     Ok(CertRow {
@@ -52,7 +52,7 @@ pub fn certificate_in(row: &Row) -> Result<CertRow, CallFault>
 }
 
 /// id, serial, ground, received, declined.
-pub(crate) fn request_in(row: &Row) -> Result<RequestRow, CallFault>
+pub(crate) fn request_in(row: &Row) -> Result<RequestRow, DatabaseFault>
     ensures read { (request : RequestRow) → IsSerial request.serial → row.now ≡ shown_request request → MatchResult result (λ read. read ≡ request) (λ _. clock_end ≤ request.received) }
 {
     Ok(RequestRow {
@@ -65,7 +65,7 @@ pub(crate) fn request_in(row: &Row) -> Result<RequestRow, CallFault>
 }
 
 /// serial, at, reason, request, first_crl.
-pub fn revocation_in(row: &Row) -> Result<RevocationRow, CallFault>
+pub fn revocation_in(row: &Row) -> Result<RevocationRow, DatabaseFault>
     ensures read { (revocation : RevocationRow) → IsSerial revocation.serial → row.now ≡ shown_revocation revocation → MatchResult result (λ read. read ≡ revocation) (λ _. ¬ AreMomentAndReason revocation.at revocation.reason) }
 {
     Ok(RevocationRow {
@@ -78,7 +78,7 @@ pub fn revocation_in(row: &Row) -> Result<RevocationRow, CallFault>
 }
 
 /// number, this_update.
-pub fn crl_in(row: &Row) -> Result<CrlRow, CallFault>
+pub fn crl_in(row: &Row) -> Result<CrlRow, DatabaseFault>
     ensures read { (crl : CrlRow) → row.now ≡ shown_crl crl → MatchResult result (λ read. read ≡ crl) (λ _. clock_end ≤ crl.this_update) }
 {
     Ok(CrlRow {
@@ -88,7 +88,7 @@ pub fn crl_in(row: &Row) -> Result<CrlRow, CallFault>
 }
 
 /// serial, at, reason.
-pub(crate) fn entry_in(row: &Row) -> Result<Entry, CallFault>
+pub(crate) fn entry_in(row: &Row) -> Result<Entry, DatabaseFault>
     ensures read { (entry : Entry) → IsSerial entry.serial → row.now ≡ shown_entry entry → MatchResult result (λ read. read ≡ entry) (λ _. ¬ AreMomentAndReason entry.at entry.reason) }
 {
     Ok(Entry {
@@ -99,8 +99,8 @@ pub(crate) fn entry_in(row: &Row) -> Result<Entry, CallFault>
 }
 
 /// from_at, days, a row for each step.
-pub(crate) fn steps_in(rows: &Vec<Row>) -> Result<Vec<(Moment, u64)>, CallFault>
-    ensures read { (steps : List (ℕ × ℕ)) → rows.now.items ≡ map shown_step steps → MatchResult result (λ read. read.items ≡ steps) (λ fault. fault ≡ CallFault.Store → ¬ AllByRecursion (λ step. IsMoment step.0) steps) }
+pub(crate) fn steps_in(rows: &Vec<Row>) -> Result<Vec<(Moment, u64)>, DatabaseFault>
+    ensures read { (steps : List (ℕ × ℕ)) → rows.now.items ≡ map shown_step steps → MatchResult result (λ read. read.items ≡ steps) (λ fault. fault ≡ DatabaseFault.Store → ¬ AllByRecursion (λ step. IsMoment step.0) steps) }
 {
     let mut steps = Vec::new(*rows.allocator());
     for row in rows {
@@ -110,8 +110,8 @@ pub(crate) fn steps_in(rows: &Vec<Row>) -> Result<Vec<(Moment, u64)>, CallFault>
 }
 
 /// serial, at, reason, a row for each entry.
-pub(crate) fn entries_in(rows: &Vec<Row>) -> Result<Vec<Entry>, CallFault>
-    ensures read { (entries : List Entry) → AllByRecursion (λ entry. IsSerial entry.serial) entries → rows.now.items ≡ map shown_entry entries → MatchResult result (λ read. read.items ≡ entries) (λ fault. fault ≡ CallFault.Store → ¬ AllByRecursion (λ entry. AreMomentAndReason entry.at entry.reason) entries) }
+pub(crate) fn entries_in(rows: &Vec<Row>) -> Result<Vec<Entry>, DatabaseFault>
+    ensures read { (entries : List Entry) → AllByRecursion (λ entry. IsSerial entry.serial) entries → rows.now.items ≡ map shown_entry entries → MatchResult result (λ read. read.items ≡ entries) (λ fault. fault ≡ DatabaseFault.Store → ¬ AllByRecursion (λ entry. AreMomentAndReason entry.at entry.reason) entries) }
 {
     let mut entries = Vec::new(*rows.allocator());
     for row in rows {
@@ -121,8 +121,8 @@ pub(crate) fn entries_in(rows: &Vec<Row>) -> Result<Vec<Entry>, CallFault>
 }
 
 /// id, serial, ground, received, declined, a row for each request.
-pub(crate) fn requests_in(rows: &Vec<Row>) -> Result<Vec<RequestRow>, CallFault>
-    ensures read { (requests : List RequestRow) → AllByRecursion (λ request. IsSerial request.serial) requests → rows.now.items ≡ map shown_request requests → MatchResult result (λ read. read.items ≡ requests) (λ fault. fault ≡ CallFault.Store → ¬ AllByRecursion (λ request. request.received < clock_end) requests) }
+pub(crate) fn requests_in(rows: &Vec<Row>) -> Result<Vec<RequestRow>, DatabaseFault>
+    ensures read { (requests : List RequestRow) → AllByRecursion (λ request. IsSerial request.serial) requests → rows.now.items ≡ map shown_request requests → MatchResult result (λ read. read.items ≡ requests) (λ fault. fault ≡ DatabaseFault.Store → ¬ AllByRecursion (λ request. request.received < clock_end) requests) }
 {
     let mut requests = Vec::new(*rows.allocator());
     for row in rows {
@@ -132,8 +132,8 @@ pub(crate) fn requests_in(rows: &Vec<Row>) -> Result<Vec<RequestRow>, CallFault>
 }
 
 /// serial, order_id, not_before, not_after, a row for each certificate.
-pub(crate) fn certificates_in(rows: &Vec<Row>) -> Result<Vec<CertRow>, CallFault>
-    ensures read { (certificates : List CertRow) → AllByRecursion (λ row. IsSerial row.serial) certificates → rows.now.items ≡ map shown_certificate certificates → MatchResult result (λ read. read.items ≡ certificates) (λ fault. fault ≡ CallFault.Store → ¬ AllByRecursion (λ row. IsValidity row.not_before row.not_after) certificates) }
+pub(crate) fn certificates_in(rows: &Vec<Row>) -> Result<Vec<CertRow>, DatabaseFault>
+    ensures read { (certificates : List CertRow) → AllByRecursion (λ row. IsSerial row.serial) certificates → rows.now.items ≡ map shown_certificate certificates → MatchResult result (λ read. read.items ≡ certificates) (λ fault. fault ≡ DatabaseFault.Store → ¬ AllByRecursion (λ row. IsValidity row.not_before row.not_after) certificates) }
 {
     let mut certificates = Vec::new(*rows.allocator());
     for row in rows {
@@ -143,8 +143,8 @@ pub(crate) fn certificates_in(rows: &Vec<Row>) -> Result<Vec<CertRow>, CallFault
 }
 
 /// serial, at, reason, request, first_crl, a row for each revocation.
-pub(crate) fn revocations_in(rows: &Vec<Row>) -> Result<Vec<RevocationRow>, CallFault>
-    ensures read { (revocations : List RevocationRow) → AllByRecursion (λ row. IsSerial row.serial) revocations → rows.now.items ≡ map shown_revocation revocations → MatchResult result (λ read. read.items ≡ revocations) (λ fault. fault ≡ CallFault.Store → ¬ AllByRecursion (λ row. AreMomentAndReason row.at row.reason) revocations) }
+pub(crate) fn revocations_in(rows: &Vec<Row>) -> Result<Vec<RevocationRow>, DatabaseFault>
+    ensures read { (revocations : List RevocationRow) → AllByRecursion (λ row. IsSerial row.serial) revocations → rows.now.items ≡ map shown_revocation revocations → MatchResult result (λ read. read.items ≡ revocations) (λ fault. fault ≡ DatabaseFault.Store → ¬ AllByRecursion (λ row. AreMomentAndReason row.at row.reason) revocations) }
 {
     let mut revocations = Vec::new(*rows.allocator());
     for row in rows {
@@ -154,8 +154,8 @@ pub(crate) fn revocations_in(rows: &Vec<Row>) -> Result<Vec<RevocationRow>, Call
 }
 
 /// number, this_update, a row for each CRL.
-pub(crate) fn crls_in(rows: &Vec<Row>) -> Result<Vec<CrlRow>, CallFault>
-    ensures read { (crls : List CrlRow) → rows.now.items ≡ map shown_crl crls → MatchResult result (λ read. read.items ≡ crls) (λ fault. fault ≡ CallFault.Store → ¬ AllByRecursion (λ crl. crl.this_update < clock_end) crls) }
+pub(crate) fn crls_in(rows: &Vec<Row>) -> Result<Vec<CrlRow>, DatabaseFault>
+    ensures read { (crls : List CrlRow) → rows.now.items ≡ map shown_crl crls → MatchResult result (λ read. read.items ≡ crls) (λ fault. fault ≡ DatabaseFault.Store → ¬ AllByRecursion (λ crl. crl.this_update < clock_end) crls) }
 {
     let mut crls = Vec::new(*rows.allocator());
     for row in rows {

@@ -7,15 +7,15 @@ ghost use Rattle.sqlite.specs.State.{HasCleanDisk};
 ghost use Rattle.sqlite_trees.specs.View.{doubt};
 ghost use Rattle.reg_core.specs.Records.{Records};
 ghost use Rattle.reg_tables.specs.Failing.{Blamed, FailsWith, IsAsked};
-ghost use Rattle.reg_tables.specs.Reading.{Answers, IsReading};
+ghost use Rattle.reg_tables.specs.ReadStatements.{Answers, IsReading};
 ghost use Rattle.reg_tables.specs.Shows.{Shows};
 ghost use Rattle.reg_tables.specs.Stays.{IsRegister, LeavesNothing, Looked, Stays};
 ghost use Rattle.reg_tables.specs.Tables.{HasNumber, IsNumberShown, rows_of};
 
-use crate::fault::CallFault;
-use crate::reading::{at_most_one, read};
-use crate::statements::{LAST_CERT, LAST_ORDER, LAST_REQUEST, LAST_SUBSCRIBER, LATEST_CRL};
-use crate::values::number_at;
+use crate::fault::DatabaseFault;
+use crate::read_statements::{at_most_one, read};
+use crate::sql::{LAST_CERT, LAST_ORDER, LAST_REQUEST, LAST_SUBSCRIBER, LATEST_CRL};
+use crate::sql_values::number_at;
 use sqlite::{Alter, Connection};
 
 /// The tables of the records that have a cap.
@@ -29,11 +29,11 @@ pub enum Table {
 }
 
 /// The number in the one row that a query answers, or 0 where it answers none.
-fn number_shown<S: Alter>(conn: &mut Connection<S>, sql: &str) -> Result<u64, CallFault>
+fn number_shown<S: Alter>(conn: &mut Connection<S>, sql: &str) -> Result<u64, DatabaseFault>
     ensures read { IsReading sql.now → IsRegister (state S.Store conn.old) → HasCleanDisk (state S.Store conn.new)
         → IfOk result (λ n. (rows : List Row) × Answers (state S.Store conn.old) sql.now [] rows × ((m : ℕ) → IsNumberShown m rows → n ≡ m)) }
     ensures fails { IsReading sql.now → IsAsked sql.now [] → IsRegister (state S.Store conn.old) → HasNumber (state S.Store conn.old) sql.now
-        → FailsWith CallFault.Store (state S.Store conn.old) (state S.Store conn.new) result }
+        → FailsWith DatabaseFault.Store (state S.Store conn.old) (state S.Store conn.new) result }
     ensures looked { IsReading sql.now → Looked S.Store conn.old conn.new }
     ensures clean { doubt (state S.Store conn.old).is_clean ≤ doubt (state S.Store conn.new).is_clean }
 {
@@ -49,10 +49,10 @@ fn number_shown<S: Alter>(conn: &mut Connection<S>, sql: &str) -> Result<u64, Ca
 /// # Errors
 /// `Memory`; `Store` where the database fails, or where its row is one that no register writes.
 #[tactic(auto, using(crate::proofs::HeldLemmas::reading_subscriber, crate::proofs::HeldLemmas::reading_order, crate::proofs::HeldLemmas::reading_cert, crate::proofs::HeldLemmas::reading_request, crate::proofs::HeldLemmas::reading_crl))]
-pub fn held<S: Alter>(conn: &mut Connection<S>, table: Table) -> Result<u64, CallFault>
+pub fn held<S: Alter>(conn: &mut Connection<S>, table: Table) -> Result<u64, DatabaseFault>
     ensures found { (records : Records) → Shows S.Store conn.old records → HasCleanDisk (state S.Store conn.new) → IfOk result (λ rows. rows ≡ rows_of records table) }
     ensures live { IsRegister (state S.Store conn.old) → HasCleanDisk (state S.Store conn.new) → OnOk result (IsTrue (state S.Store conn.old).is_open) }
-    ensures fails { Blamed S.Store CallFault.Store conn.old conn.new result }
+    ensures fails { Blamed S.Store DatabaseFault.Store conn.old conn.new result }
     ensures looked { Looked S.Store conn.old conn.new }
 {
     match table {
@@ -70,16 +70,16 @@ pub(crate) fn none_past<S: Alter, T>(
     conn: &mut Connection<S>,
     table: Table,
     number: u64,
-) -> Result<Option<T>, CallFault>
+) -> Result<Option<T>, DatabaseFault>
     ensures none { IfOk result (λ found. found ≡ None) }
     ensures past { (records : Records) → Shows S.Store conn.old records → HasCleanDisk (state S.Store conn.new) → OnOk result (IsTrue (state S.Store conn.old).is_open × (rows_of records table < number)) }
-    ensures fails { 2 ^ 63 ≤ number → Blamed S.Store CallFault.Store conn.old conn.new result }
+    ensures fails { 2 ^ 63 ≤ number → Blamed S.Store DatabaseFault.Store conn.old conn.new result }
     ensures looked { Looked S.Store conn.old conn.new }
 {
     let rows = held(conn, table)?;
     if rows < number {
         Ok(None)
     } else {
-        Err(CallFault::Store)
+        Err(DatabaseFault::Store)
     }
 }

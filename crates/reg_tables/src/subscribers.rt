@@ -8,12 +8,12 @@ ghost use Rattle.reg_tables.specs.Failing.{Blamed};
 ghost use Rattle.reg_tables.specs.Shows.{Shows};
 ghost use Rattle.reg_tables.specs.Stays.{Looked};
 
-use crate::fault::CallFault;
-use crate::reading::{at_most_one, read};
+use crate::fault::DatabaseFault;
+use crate::read_statements::{at_most_one, read};
 use crate::rows;
 use crate::sizes::{Table, none_past};
-use crate::statements::{SUBSCRIBER_BY_ID, SUBSCRIBER_BY_NAME};
-use crate::values::sql_key;
+use crate::sql::{SUBSCRIBER_BY_ID, SUBSCRIBER_BY_NAME};
+use crate::sql_values::sql_key;
 use reg_core::{Label, SubscriberRow};
 use sqlite::types::ValueRef;
 use sqlite::{Alter, Connection, params};
@@ -26,9 +26,9 @@ use sqlite::{Alter, Connection, params};
 pub fn subscriber<S: Alter>(
     conn: &mut Connection<S>,
     id: u64,
-) -> Result<Option<SubscriberRow>, CallFault>
+) -> Result<Option<SubscriberRow>, DatabaseFault>
     ensures found { (records : Records) → Shows S.Store conn.old records → HasCleanDisk (state S.Store conn.new) → IfOk result (λ row. row ≡ subscriber_in records.subscribers id) }
-    ensures fails { Blamed S.Store CallFault.Store conn.old conn.new result }
+    ensures fails { Blamed S.Store DatabaseFault.Store conn.old conn.new result }
     ensures looked { Looked S.Store conn.old conn.new }
 {
     let Some(value) = sql_key(id) else {
@@ -49,9 +49,9 @@ pub fn subscriber<S: Alter>(
 pub fn subscriber_by_name<S: Alter>(
     conn: &mut Connection<S>,
     name: &Label,
-) -> Result<Option<SubscriberRow>, CallFault>
+) -> Result<Option<SubscriberRow>, DatabaseFault>
     ensures found { (records : Records) → Shows S.Store conn.old records → HasCleanDisk (state S.Store conn.new) → IfOk result (λ row. row ≡ subscriber_named records.subscribers name.now) }
-    ensures fails { Blamed S.Store CallFault.Store conn.old conn.new result }
+    ensures fails { Blamed S.Store DatabaseFault.Store conn.old conn.new result }
     ensures looked { Looked S.Store conn.old conn.new }
 {
     let found = read(conn, SUBSCRIBER_BY_NAME, &[ValueRef::Text(name.as_bytes())])?;

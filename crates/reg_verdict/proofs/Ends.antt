@@ -12,16 +12,16 @@ use Rattle.reg_tables.specs.declared.fault.StoreFault.TheVariants as fault
 use Rattle.reg_findings.specs.declared.verdict.Audited.{Audited}
 use Rattle.reg_findings.specs.declared.verdict.Verdict.{Verdict}
 use Rattle.reg_findings.specs.declared.verdict.Verdict.TheVariants as verdict
-use Rattle.reg_auditing.specs.declared.stop.AuditStop.{AuditStop}
-use Rattle.reg_auditing.specs.declared.stop.AuditStop.TheVariants as stop
+use Rattle.reg_table_audit.specs.declared.fault.AuditFault.{AuditFault}
+use Rattle.reg_table_audit.specs.declared.fault.AuditFault.TheVariants as stop
 use Rattle.reg_opening.specs.Examined.{SaysFound}
 use Rattle.reg_opening.specs.Said.{HasVersion, SaysNoRegister}
-use Rattle.reg_opening.specs.declared.opening.Older.{Older}
+use Rattle.reg_opening.specs.declared.opening.OlderOffice.{OlderOffice}
 use Rattle.reg_verdict.specs.Judged.{IsJudged}
 use Rattle.reg_verdict.specs.Verdicts.{TellsOf, verdict_of}
 
 -- a fault of who looks at the version
-abbrev fails_by : StoreFault → Result (Option Older) StoreFault
+abbrev fails_by : StoreFault → Result (Option OlderOffice) StoreFault
 fails_by why = Err why
 
 module _ {S : Type 0} (g : Ghosts S) (old new : Held S) (same : Stays (state g old) (state g new)) (idle : new.in_transaction ≡ false) where
@@ -79,29 +79,29 @@ module _ {S : Type 0} (g : Ghosts S) (old new : Held S) (same : Stays (state g o
   }
 
 -- an older version that was found is told
-pub says_older : (db : Database) (found : Option Older) → is_some found ≡ true → SaysFound db found → TellsOf verdict.Older db
+pub says_older : (db : Database) (found : Option OlderOffice) → is_some found ≡ true → SaysFound db found → TellsOf verdict.Older db
 says_older db None some says = absurd (let bad : ⊥ = cc in bad)
 says_older db (Some older) some says = (older, says)
 
 -- rows that were looked at are those of the program's version, in a register's tables
-told_of : (db : Database) (audited : Result Audited AuditStop) → SaysFound db None × (db.schema ≡ register_schema) → IfOk (verdict_of audited) (λ answer. TellsOf answer db)
+told_of : (db : Database) (audited : Result Audited AuditFault) → SaysFound db None × (db.schema ≡ register_schema) → IfOk (verdict_of audited) (λ answer. TellsOf answer db)
 told_of db (Ok found) says = says
 told_of db (Err (stop.Broken broken)) says = says
 told_of db (Err stop.Memory) says = tt
 told_of db (Err stop.Store) says = tt
 
-pub tells_said : (db : Database) (audited : Result Audited AuditStop) (result : Result Verdict StoreFault) → result ≡ verdict_of audited
+pub tells_said : (db : Database) (audited : Result Audited AuditFault) (result : Result Verdict StoreFault) → result ≡ verdict_of audited
     → SaysFound db None × (db.schema ≡ register_schema) → IfOk result (λ answer. TellsOf answer db)
 tells_said db audited result is says = subst (λ (r : Result Verdict StoreFault). IfOk r (λ answer. TellsOf answer db)) (sym is) (told_of db audited says)
 
 -- who looks at rows has no fault of the version
-pub never_newer : {P : Type 0} (audited : Result Audited AuditStop) → verdict_of audited ≡ Err fault.NewVersion → P
+pub never_newer : {P : Type 0} (audited : Result Audited AuditFault) → verdict_of audited ≡ Err fault.NewVersion → P
 never_newer (Ok found) e = absurd (let bad : ⊥ = cc in bad)
 never_newer (Err (stop.Broken broken)) e = absurd (let bad : ⊥ = cc in bad)
 never_newer (Err stop.Memory) e = absurd (let bad : ⊥ = cc in bad)
 never_newer (Err stop.Store) e = absurd (let bad : ⊥ = cc in bad)
 
-pub never_none : {P : Type 0} (audited : Result Audited AuditStop) → verdict_of audited ≡ Err fault.NotARegister → P
+pub never_none : {P : Type 0} (audited : Result Audited AuditFault) → verdict_of audited ≡ Err fault.NotARegister → P
 never_none (Ok found) e = absurd (let bad : ⊥ = cc in bad)
 never_none (Err (stop.Broken broken)) e = absurd (let bad : ⊥ = cc in bad)
 never_none (Err stop.Memory) e = absurd (let bad : ⊥ = cc in bad)

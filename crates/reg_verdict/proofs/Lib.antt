@@ -1,3 +1,3 @@
 pub mod Ordered
-pub mod Said
+pub mod VerdictLemmas
 pub mod Ends

@@ -13,7 +13,7 @@ use Rattle.sqlite_catalog.specs.Listing.{IsSound}
 use Rattle.sqlite_catalog.proofs.LayoutLemmas.{laid_out, objects_rise}
 use Rattle.sqlite.specs.Held.{Held, state}
 use Rattle.reg_tables.specs.Schema.{register_schema, table_trees}
-use Rattle.reg_auditing.specs.Complete.{AreTables}
+use Rattle.reg_table_audit.specs.Complete.{AreTables}
 use Rattle.reg_verdict.specs.Presumed.{IsOverRegister, IsPresumed}
 
 rises_at : (s : Shape) (trees : Trees) (tree : ℕ) → s ≡ shape.Table → IsShaped s (trees tree) → IsTable (trees tree)

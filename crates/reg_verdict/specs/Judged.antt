@@ -12,9 +12,9 @@ use Rattle.reg_tables.specs.Stays.{IsRegister, Stays}
 use Rattle.reg_tables.specs.declared.fault.StoreFault.{StoreFault}
 use Rattle.reg_tables.specs.declared.fault.StoreFault.TheVariants.{NewVersion, NotARegister, NotEmpty}
 use Rattle.reg_opening.specs.Said.{HasVersion, SaysNoRegister}
-use Rattle.reg_auditing.specs.Complete.{ShowsSound}
-use Rattle.reg_auditing.specs.Stored.{IsSomeCrl}
-use Rattle.reg_auditing.specs.Values.{HasAllowedDays}
+use Rattle.reg_table_audit.specs.Complete.{ShowsSound}
+use Rattle.reg_table_audit.specs.Stored.{IsSomeCrl}
+use Rattle.reg_table_audit.specs.ReadableValues.{HasAllowedDays}
 use Rattle.reg_findings.specs.declared.verdict.Verdict.{Verdict}
 use Rattle.reg_verdict.specs.Presumed.{IsPresumed}
 use Rattle.reg_verdict.specs.Verdicts.{CountedBy, DeniedBy, IsSound, TellsOf}

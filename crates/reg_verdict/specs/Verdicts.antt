@@ -7,17 +7,17 @@ use Rattle.reg_tables.specs.Schema.{register_schema}
 use Rattle.reg_tables.specs.declared.fault.StoreFault.{StoreFault}
 use Rattle.reg_tables.specs.declared.fault.StoreFault.TheVariants as fault
 use Rattle.reg_opening.specs.Examined.{SaysFound}
-use Rattle.reg_opening.specs.declared.opening.Older.{Older as OlderOffice}
+use Rattle.reg_opening.specs.declared.opening.OlderOffice.{OlderOffice}
 use Rattle.reg_findings.specs.declared.verdict.Audited.{Audited}
-use Rattle.reg_auditing.specs.Numbers.{AreNumbersOf}
-use Rattle.reg_auditing.specs.Stops.{Denies}
-use Rattle.reg_auditing.specs.declared.stop.AuditStop.{AuditStop}
-use Rattle.reg_auditing.specs.declared.stop.AuditStop.TheVariants as stop
+use Rattle.reg_table_audit.specs.Numbers.{AreNumbersOf}
+use Rattle.reg_table_audit.specs.Faults.{Denies}
+use Rattle.reg_table_audit.specs.declared.fault.AuditFault.{AuditFault}
+use Rattle.reg_table_audit.specs.declared.fault.AuditFault.TheVariants as stop
 use Rattle.reg_findings.specs.declared.verdict.Verdict.{Verdict}
 use Rattle.reg_findings.specs.declared.verdict.Verdict.TheVariants.{Sound, Broken, Older, OtherSchema}
 
 -- rows that were found well, or one that was not; else why there is no verdict
-abbrev pub verdict_of : Result Audited AuditStop → Result Verdict StoreFault
+abbrev pub verdict_of : Result Audited AuditFault → Result Verdict StoreFault
 verdict_of (Ok found) = Ok (Sound found)
 verdict_of (Err (stop.Broken broken)) = Ok (Broken broken)
 verdict_of (Err stop.Memory) = Err fault.Memory

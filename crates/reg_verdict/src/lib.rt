@@ -1,6 +1,6 @@
 //! What an audit says of an open database.
 #![tactic(auto)]
 
-mod judging;
+mod verdict;
 
-pub use judging::judge;
+pub use verdict::judge;

@@ -53,8 +53,8 @@ route_at path =
     else Other
 
 -- the route that a request names
-abbrev pub route_in : List ℕ → Route
-route_in request = route_at (path_in request)
+abbrev pub request_route : List ℕ → Route
+request_route request = route_at (path_in request)
 
 -- whether a route is one at which an open register tells of itself
 abbrev pub is_own : Route → Bool
@@ -82,16 +82,16 @@ abbrev pub code_in : List ℕ → Code
 code_in text = cond (nat_lt (length text) 12) Nothing (code_at (take 3 (drop 9 text)))
 
 -- the bytes of the head of a response that carries an OCSP response of five bytes, and these: no longer one refuses (RFC 6960 4.2.1)
-abbrev pub is_refusal : List ℕ → Bool
-is_refusal text = length text == 140
+abbrev pub is_ocsp_refusal : List ℕ → Bool
+is_ocsp_refusal text = length text == 140
 
 -- it is internalError: its last byte is that status (RFC 6960 4.2.1)
 abbrev pub is_internal : List ℕ → Bool
-is_internal text = is_refusal text && ends_with nat_eq text (2 ∷ [])
+is_internal text = is_ocsp_refusal text && ends_with nat_eq text (2 ∷ [])
 
 -- what became of the signature that an OCSP response is to have, where nothing failed
 abbrev pub came_by : List ℕ → Came
-came_by text = cond (is_refusal text) Unasked Signed
+came_by text = cond (is_ocsp_refusal text) Unasked Signed
 
 -- whether a route is one of OCSP
 abbrev pub is_ocsp : Route → Bool

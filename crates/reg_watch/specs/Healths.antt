@@ -27,13 +27,13 @@ has_no_crl (Ok numbers) = is_none numbers.due
 has_no_crl (Err fault) = false
 
 -- a moment that is past
-abbrev pub past : ℕ → Option ℕ → Option ℕ
-past now (Some at) = cond (nat_lt at now) (Some at) None
-past now None = None
+abbrev pub if_past : ℕ → Option ℕ → Option ℕ
+if_past now (Some at) = cond (nat_lt at now) (Some at) None
+if_past now None = None
 
 -- since when the next CRL is due, where that is past
 abbrev pub crl_since : ℕ → Result Numbers Fault → Option ℕ
-crl_since now (Ok numbers) = past now numbers.due
+crl_since now (Ok numbers) = if_past now numbers.due
 crl_since now (Err fault) = None
 
 -- since when the store fails: as was counted, or now, where it tells nothing
@@ -76,11 +76,11 @@ unfoldable pub signers_text : Option ℕ → Option ℕ → List ℕ
 signers_text crl ocsp = codes ",\"crl_signer\":" ++ since_text crl ++ codes ",\"ocsp_signer\":" ++ since_text ocsp
 
 -- the member that tells whether all is well, and the name of the last
-unfoldable pub status_text : Bool → List ℕ
-status_text is_well = cond is_well (codes ",\"status\":\"ok\",\"store\":") (codes ",\"status\":\"failing\",\"store\":")
+unfoldable pub health_member : Bool → List ℕ
+health_member is_well = cond is_well (codes ",\"status\":\"ok\",\"store\":") (codes ",\"status\":\"failing\",\"store\":")
 
 -- the text: `{"clock":null,"crl":null,"crl_signer":null,"ocsp_signer":null,"status":"ok","store":null}`, where all is well
 unfoldable pub health_text : Health → List ℕ
 health_text health =
     codes "{\"clock\":" ++ since_text health.clock ++ crl_text health.has_no_crl health.crl ++ signers_text health.crl_signer health.ocsp_signer
-    ++ status_text (is_well health) ++ since_text health.store ++ 125 ∷ []
+    ++ health_member (is_well health) ++ since_text health.store ++ 125 ∷ []

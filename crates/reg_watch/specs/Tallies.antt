@@ -84,8 +84,8 @@ signed now before =
     record { came = one_more before.came; failed = before.failed; last = Some now; last_failed = before.last_failed; failing_since = None }
 
 -- a signature did not come at a moment: since then, or since one before it that no other came after
-abbrev pub unsigned : ℕ → Signing → Signing
-unsigned now before = record {
+abbrev pub with_failed_signature : ℕ → Signing → Signing
+with_failed_signature now before = record {
   came = before.came;
   failed = one_more before.failed;
   last = before.last;
@@ -97,7 +97,7 @@ unsigned now before = record {
 abbrev pub signing_after : Came → ℕ → Signing → Signing
 signing_after Unasked now before = before
 signing_after Signed now before = signed now before
-signing_after Unsigned now before = unsigned now before
+signing_after Unsigned now before = with_failed_signature now before
 
 -- since when the store fails, after an exchange at a moment: up to a command that is entered
 abbrev pub store_after : Stored → ℕ → Option ℕ → Option ℕ

@@ -2,7 +2,7 @@
 
 ghost use Rattle.std.specs.Prelude.{◌≡◌, ◌<◌, IfSome, length};
 ghost use Rattle.std.specs.List.{position};
-ghost use Rattle.reg_watch.specs.Exchanges.{is_space, ends_path as ends_a_path, front_to, path_in as path_told, route_at as route_named, route_in, code_at as code_named, code_in, is_refusal as refuses, is_internal as fails_within, is_own, is_ocsp as asks_ocsp, is_requests as asks_revocation, is_okay as okay, is_fault as fault, came_by as came_told, ocsp_came, ocsp_stored, fault_stored, answer_stored, crl_came as crl_told, line_ocsp_came as line_ocsp_told, is_entered as enters, line_stored as line_kept};
+ghost use Rattle.reg_watch.specs.Exchanges.{is_space, ends_path as ends_a_path, front_to, path_in as path_told, route_at as route_named, request_route, code_at as code_named, code_in, is_ocsp_refusal as refuses, is_internal as fails_within, is_own, is_ocsp as asks_ocsp, is_requests as asks_revocation, is_okay as okay, is_fault as fault, came_by as came_told, ocsp_came, ocsp_stored, fault_stored, answer_stored, crl_came as crl_told, line_ocsp_came as line_ocsp_told, is_entered as enters, line_stored as line_kept};
 
 /// The routes of an open register, as answers are counted by them.
 #[derive(Clone, Copy, PartialEq, Eq)]
@@ -91,7 +91,7 @@ const STORE_FAULT: &[u8] = b"{\"error\":\"F2 store\"}";
 
 /// Whether a request names one of the two routes at which an open desk tells of itself.
 pub fn asks_itself(request: &[u8]) -> bool
-    ensures { result ≡ is_own (route_in request.now) }
+    ensures { result ≡ is_own (request_route request.now) }
 {
     match route_of(request) {
         Route::Health => true,
@@ -102,7 +102,7 @@ pub fn asks_itself(request: &[u8]) -> bool
 
 /// The route that the first line of a request names.
 pub fn route_of(request: &[u8]) -> Route
-    ensures { result ≡ route_in request.now }
+    ensures { result ≡ request_route request.now }
 {
     route_at(path_in(request))
 }

@@ -2,7 +2,7 @@
 
 ghost use Rattle.std.specs.Prelude.{◌≡◌, ◌++◌, IfOk, OnOk};
 ghost use Rattle.reg_watch.specs.Tallies.{or_now};
-ghost use Rattle.reg_watch.specs.Healths.{clock_of as clock_told, crl_since as crl_told, crl_text as crl_said, has_no_crl as lacks_crl, health_of, health_text, is_none as is_without, is_well as all_well, past as past_told, quoted, signers_text, since_text, status_text, store_of as store_told};
+ghost use Rattle.reg_watch.specs.Healths.{clock_of as clock_told, crl_since as crl_told, crl_text as crl_said, has_no_crl as lacks_crl, health_of, health_text, is_none as is_without, is_well as all_well, if_past as past_told, quoted, signers_text, since_text, health_member, store_of as store_told};
 
 use crate::numbers::Found;
 use crate::tally::Tally;
@@ -200,9 +200,9 @@ fn put_member(text: &mut Vec<u8>, name: &[u8], since: Option<Moment>) -> Result<
 }
 
 /// Puts the word that tells whether all is well behind a text, and the name of the last member.
-#[tactic(auto, unfolding(crate::specs::Healths::status_text))]
+#[tactic(auto, unfolding(crate::specs::Healths::health_member))]
 fn put_status(text: &mut Vec<u8>, is_well: bool) -> Result<(), AllocError>
-    ensures { OnOk result (text.new.items ≡ text.old.items ++ status_text is_well) }
+    ensures { OnOk result (text.new.items ≡ text.old.items ++ health_member is_well) }
 {
     if is_well {
         return text.extend_from_slice(b",\"status\":\"ok\",\"store\":");

@@ -1,7 +1,7 @@
 //! What became of signatures.
 
 ghost use Rattle.std.specs.Prelude.{◌≡◌, ◌+◌, ◌-◌, ◌^◌, min};
-ghost use Rattle.reg_watch.specs.Tallies.{nothing_signed, one_more as more, or_now as else_now, signed as was_signed, unsigned as was_unsigned, signing_after, store_after as kept_after};
+ghost use Rattle.reg_watch.specs.Tallies.{nothing_signed, one_more as more, or_now as else_now, signed as was_signed, with_failed_signature as was_unsigned, signing_after, store_after as kept_after};
 
 use crate::exchange::{Came, Stored};
 use reg_core::Moment;

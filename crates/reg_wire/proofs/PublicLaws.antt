@@ -2,7 +2,7 @@
 use Rattle.reg_wire.specs.Fill.{HoldsWhatCame, PartsAtMark}
 use Rattle.reg_wire.specs.Mark.{OneFirstMark, FirstMarkGoesOn, FirstMarkInFront, NoMarkInFront, FirstMarkOfByte, NoMarkOfByte}
 use Rattle.reg_wire.specs.Put.{FrontOfFirst, FrontOfSecond}
-use Rattle.reg_wire.specs.Run.{RunsGoOn, RunsStepOn}
+use Rattle.reg_wire.specs.RunsOfAnswers.{RunsGoOn, RunsStepOn}
 use Rattle.reg_wire.proofs.Marks as marks
 use Rattle.reg_wire.proofs.Parts as parts
 use Rattle.reg_wire.proofs.Runs as runs

@@ -1,6 +1,6 @@
 -- Lemmas on runs of an office.
 use Rattle.std.proofs.Common.{◌≡◌, List, [], ◌∷◌, ◌++◌, length, refl, sym, ap, subst, suc}
-use Rattle.reg_wire.specs.Run.{Answered, Says}
+use Rattle.reg_wire.specs.RunsOfAnswers.{Answered, ShowsStep}
 
 -- a run, and another from where it ended
 pub answered_append : {S Q A : Type 0} (answers : S → Q → A → S → Type 0) (s m t : S) (qs : List Q) (as' : List A) (ps : List Q) (bs : List A)
@@ -45,7 +45,7 @@ answered_weaker answers says weaker s t (q ∷ qs) (a ∷ as') run =
 
 -- a run of a value that shows records is a run of the records
 pub said_run : {S R Q A : Type 0} (shows : S → R → Type 0) (step : R → Q → A → R → Type 0) (s t : S) (qs : List Q) (as' : List A) (before : R)
-    → Answered (Says shows step) s qs as' t → shows s before → (after : R) × Answered step before qs as' after × shows t after
+    → Answered (ShowsStep shows step) s qs as' t → shows s before → (after : R) × Answered step before qs as' after × shows t after
 said_run shows step s t [] [] before run shown = (before, refl, subst (λ v. shows v before) (sym run) shown)
 said_run shows step s t [] (a ∷ as') before run shown = absurd run
 said_run shows step s t (q ∷ qs) [] before run shown = absurd run

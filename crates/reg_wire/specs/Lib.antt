@@ -1,4 +1,4 @@
 pub mod Fill
 pub mod Mark
 pub mod Put
-pub mod Run
+pub mod RunsOfAnswers

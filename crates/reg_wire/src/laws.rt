@@ -4,7 +4,7 @@
 ghost use Rattle.reg_wire.specs.Fill.{HoldsWhatCame, PartsAtMark};
 ghost use Rattle.reg_wire.specs.Mark.{OneFirstMark, FirstMarkGoesOn, FirstMarkInFront, NoMarkInFront, FirstMarkOfByte, NoMarkOfByte};
 ghost use Rattle.reg_wire.specs.Put.{FrontOfFirst, FrontOfSecond};
-ghost use Rattle.reg_wire.specs.Run.{RunsGoOn, RunsStepOn};
+ghost use Rattle.reg_wire.specs.RunsOfAnswers.{RunsGoOn, RunsStepOn};
 
 /// Bytes have one first mark. It stays the first where the bytes go on, and where they end anywhere behind it.
 pub fn one_first_mark()

@@ -11,8 +11,8 @@ use Rattle.clap.specs.Words.{found_of, rows_of, subcommand_name_of, subcommand_r
 use Rattle.clap.specs.declared.parser.matches.ArgMatches.{ArgMatches}
 use Rattle.clap.specs.declared.parser.matches.ArgMatches.TheViews.{out-ArgMatches, out-SubCommand}
 use Rattle.reg_words.specs.Desk.{desk_app}
-use Rattle.reg_words.specs.Jobs.{IsAccepted, IsNoOrder, IsOrderIn, IsOrderOf, IsUsageOf, Tells, job_found}
-use Rattle.reg_words.specs.declared.job.Order.{Order}
+use Rattle.reg_words.specs.Jobs.{ClapAccepts, IsNoInvocation, IsInvocationIn, IsInvocationOf, IsUsageOf, TellsUsage, job_found}
+use Rattle.reg_words.specs.declared.job.Invocation.{Invocation}
 use Rattle.reg_words.specs.declared.job.Usage.{Usage}
 use Rattle.reg_words.specs.declared.job.Usage.TheVariants.{Help, Version, Bad, Memory}
 
@@ -26,7 +26,7 @@ unfolding clap_on_literals
 simple_and_free = refl
 
 -- what is answered for an error of clap
-pub tells_usage : (words : List Text) (kind : ErrorKind) (usage : Usage) → Tells kind usage
+pub tells_usage : (words : List Text) (kind : ErrorKind) (usage : Usage) → TellsUsage kind usage
     → (kind ≡ OutOfMemory) ⊎ IsAmong kind (fault_of desk_app words) → IsUsageOf words usage
 tells_usage words kind (Help text) help (inl none) = cc (sym help ∙ none)
 tells_usage words kind (Help text) help (inr among) = subst (λ k. IsAmong k (fault_of desk_app words)) help among
@@ -37,7 +37,7 @@ tells_usage words kind (Bad text) other (inr among) = inl (kind, other.0, other.
 tells_usage words kind Memory none how = tt
 
 -- and where clap took the words
-pub tells_no_order : (found : Option (Text × List Row)) (usage : Usage) → Tells ValueValidation usage → job_found found ≡ None → IsNoOrder found usage
+pub tells_no_order : (found : Option (Text × List Row)) (usage : Usage) → TellsUsage ValueValidation usage → job_found found ≡ None → IsNoInvocation found usage
 tells_no_order found (Help text) help none = cc help
 tells_no_order found (Version text) version none = cc version
 tells_no_order found (Bad text) other none = none
@@ -73,7 +73,7 @@ behind found m name rows =
     found (subcommand_rows_of m) (name ∙ by_name m) rows
 
 -- what clap's clauses say of a command line that is the program's
-pub accepted : (app : App) (words : List Text) → app ≡ desk_app → (is_simple_and_free app ≡ true → fault_of app words ≡ []) → IsAccepted words
+pub accepted : (app : App) (words : List Text) → app ≡ desk_app → (is_simple_and_free app ≡ true → fault_of app words ≡ []) → ClapAccepts words
 accepted app words is clean = subst (λ a. fault_of a words ≡ []) is (clean (ap is_simple_and_free is ∙ simple_and_free))
 
 pub refused : (app : App) (words : List Text) (error : Error) → app ≡ desk_app → (is_simple_and_free app ≡ true → HasKind (fault_of app words) error)
@@ -90,16 +90,16 @@ rows_behind : (app : App) (words : List Text) (m : ArgMatches) → app ≡ desk_
 rows_behind app words m is has = (has (ap is_simple is ∙ simple)).1 ∙ ap (λ a. subcommand_of a words) is
 
 -- so what was read of it is what the words say
-pub orders : (app : App) (words : List Text) (m : ArgMatches) (order : Order) → app ≡ desk_app → (is_simple_and_free app ≡ true → fault_of app words ≡ [])
-    → HasMatchesOf app words m → IsOrderIn (rows_of (found_of m)) (subcommand_rows_of m) order → IsOrderOf words order
-orders app words m order is clean has read =
-    let whole : IsOrderIn (matches_of desk_app words) (subcommand_of desk_app words) order =
-    subst (λ before. IsOrderIn before (subcommand_of desk_app words) order) (rows_before app words m is has)
-    (subst (λ found. IsOrderIn (rows_of (found_of m)) found order) (rows_behind app words m is has) read) in
+pub invocations : (app : App) (words : List Text) (m : ArgMatches) (invocation : Invocation) → app ≡ desk_app → (is_simple_and_free app ≡ true → fault_of app words ≡ [])
+    → HasMatchesOf app words m → IsInvocationIn (rows_of (found_of m)) (subcommand_rows_of m) invocation → IsInvocationOf words invocation
+invocations app words m invocation is clean has read =
+    let whole : IsInvocationIn (matches_of desk_app words) (subcommand_of desk_app words) invocation =
+    subst (λ before. IsInvocationIn before (subcommand_of desk_app words) invocation) (rows_before app words m is has)
+    (subst (λ found. IsInvocationIn (rows_of (found_of m)) found invocation) (rows_behind app words m is has) read) in
     ((accepted app words is clean, whole.0), whole.1, whole.2, whole.3)
 
 pub no_order : (app : App) (words : List Text) (m : ArgMatches) (usage : Usage) → app ≡ desk_app → (is_simple_and_free app ≡ true → fault_of app words ≡ [])
-    → HasMatchesOf app words m → IsNoOrder (subcommand_rows_of m) usage → IsUsageOf words usage
+    → HasMatchesOf app words m → IsNoInvocation (subcommand_rows_of m) usage → IsUsageOf words usage
 no_order app words m (Help text) is clean has never = absurd never
 no_order app words m (Version text) is clean has never = absurd never
 no_order app words m (Bad text) is clean has none = inr (accepted app words is clean, sym (ap job_found (rows_behind app words m is has)) ∙ none)

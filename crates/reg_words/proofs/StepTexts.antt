@@ -5,7 +5,7 @@ use Rattle.std.specs.List.{after_first, position_or_len}
 use Rattle.std.proofs.lemmas.List.{take_rest}
 use Rattle.std.proofs.lemmas.Bool.{ltb-false}
 use Rattle.reg_core.specs.Number.{number_of}
-use Rattle.reg_words.specs.Values.{step_of, step_told, steps_of}
+use Rattle.reg_words.specs.WordValues.{step_of, step_told, steps_of}
 
 abbrev pub texts_of : List (Bor (List ℕ)) → List (List ℕ)
 texts_of texts = map (λ text. text.now) texts

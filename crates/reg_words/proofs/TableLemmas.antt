@@ -7,7 +7,7 @@ use Rattle.clap.specs.declared.builder.command.Command.{Command}
 use Rattle.clap.specs.declared.builder.command.Command.TheViews.{out-Command as fields_of}
 use Rattle.reg_words.specs.Desk.{with_commands, with_rules}
 use Rattle.reg_words.specs.Table.{AreLocal, app_told, rule_told, with_made}
-use Rattle.reg_words.specs.declared.table.Entry.{Entry}
+use Rattle.reg_words.specs.declared.table.CommandEntry.{CommandEntry}
 use Rattle.reg_words.specs.declared.table.Part.{Part}
 
 -- one more word or option
@@ -24,7 +24,7 @@ pub all_parts : (app whole : App) (parts : List Part) (at : ℕ) → length part
 all_parts app whole parts at past so = sym (ap (λ l. with_rules app (map rule_told l)) (drop_of_length-le parts past)) ∙ so
 
 -- one more command
-pub one_entry : (app more whole : App) (entries : List Entry) (at : ℕ) (d : Entry) → at < length entries
+pub one_entry : (app more whole : App) (entries : List CommandEntry) (at : ℕ) (d : CommandEntry) → at < length entries
     → more ≡ with_subcommand app (app_told (get_or entries at d)).top → with_commands app (map app_told (drop at entries)) ≡ whole
     → with_commands more (map app_told (drop (at + 1) entries)) ≡ whole
 one_entry app more whole entries at d within is so =
@@ -33,7 +33,7 @@ one_entry app more whole entries at d within is so =
     ∙ ap (λ l. with_commands app (map app_told l)) (sym (drop-cons entries at d within)) ∙ so
 
 -- none is left
-pub all_entries : (app whole : App) (entries : List Entry) (at : ℕ) → length entries ≤ at → with_commands app (map app_told (drop at entries)) ≡ whole → app ≡ whole
+pub all_entries : (app whole : App) (entries : List CommandEntry) (at : ℕ) → length entries ≤ at → with_commands app (map app_told (drop at entries)) ≡ whole → app ≡ whole
 all_entries app whole entries at past so = sym (ap (λ l. with_commands app (map app_told l)) (drop_of_length-le entries past)) ∙ so
 
 -- what clap says of an argument that is added, where none is global

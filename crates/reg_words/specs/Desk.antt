@@ -17,8 +17,8 @@ abbrev pub needs : Text → Rule
 needs id = record (new_rule id) { long = Some id; required = true; value_names = 1 }
 
 -- an option `--id VALUE` that may be left out
-abbrev pub takes : Text → Rule
-takes id = record (new_rule id) { long = Some id; value_names = 1 }
+abbrev pub takes_value : Text → Rule
+takes_value id = record (new_rule id) { long = Some id; value_names = 1 }
 
 -- an option `--id` that is given or left out, and takes no value
 abbrev pub flag : Text → Rule
@@ -36,13 +36,13 @@ with_rules app (rule ∷ rest) = with_rules (with_rule app rule) rest
 -- `init FILE --name HEX --key HEX [--key-id HEX] [--days N] [--crl-life N] [--ocsp-life N] [--cap N] [--why]`
 abbrev pub init_app : App
 init_app = with_rules (new_app (codes "init"))
-    (must (codes "file") ∷ needs (codes "name") ∷ needs (codes "key") ∷ takes (codes "key-id") ∷ takes (codes "days")
-    ∷ takes (codes "crl-life") ∷ takes (codes "ocsp-life") ∷ takes (codes "cap") ∷ flag (codes "why") ∷ [])
+    (must (codes "file") ∷ needs (codes "name") ∷ needs (codes "key") ∷ takes_value (codes "key-id") ∷ takes_value (codes "days")
+    ∷ takes_value (codes "crl-life") ∷ takes_value (codes "ocsp-life") ∷ takes_value (codes "cap") ∷ flag (codes "why") ∷ [])
 
 -- `script [FILE] [--signer SOCKET --algorithm NAME] [--clock] [--strict] [--why]`
 abbrev pub script_app : App
 script_app = with_rules (new_app (codes "script"))
-    (may (codes "file") ∷ takes (codes "signer") ∷ takes (codes "algorithm") ∷ flag (codes "clock") ∷ flag (codes "strict") ∷ flag (codes "why") ∷ [])
+    (may (codes "file") ∷ takes_value (codes "signer") ∷ takes_value (codes "algorithm") ∷ flag (codes "clock") ∷ flag (codes "strict") ∷ flag (codes "why") ∷ [])
 
 -- `import FILE --now MOMENT [--strict] [--why]`
 abbrev pub import_app : App
@@ -50,28 +50,28 @@ import_app = with_rules (new_app (codes "import")) (must (codes "file") ∷ need
 
 -- `crl FILE [--number N] [--why]`
 abbrev pub crl_app : App
-crl_app = with_rules (new_app (codes "crl")) (must (codes "file") ∷ takes (codes "number") ∷ flag (codes "why") ∷ [])
+crl_app = with_rules (new_app (codes "crl")) (must (codes "file") ∷ takes_value (codes "number") ∷ flag (codes "why") ∷ [])
 
 -- `serve FILE --port N --requests N [--signer SOCKET --algorithm NAME]
 -- [--responder CERT --responder-signer SOCKET --responder-algorithm NAME | --embed CERT] [--log] [--log-file PATH] [--why]`
 abbrev pub serve_app : App
 serve_app = with_rules (new_app (codes "serve"))
-    (must (codes "file") ∷ needs (codes "port") ∷ needs (codes "requests") ∷ takes (codes "signer") ∷ takes (codes "algorithm")
-    ∷ takes (codes "responder") ∷ takes (codes "responder-signer") ∷ takes (codes "responder-algorithm") ∷ takes (codes "embed")
-    ∷ flag (codes "log") ∷ takes (codes "log-file") ∷ flag (codes "why") ∷ [])
+    (must (codes "file") ∷ needs (codes "port") ∷ needs (codes "requests") ∷ takes_value (codes "signer") ∷ takes_value (codes "algorithm")
+    ∷ takes_value (codes "responder") ∷ takes_value (codes "responder-signer") ∷ takes_value (codes "responder-algorithm") ∷ takes_value (codes "embed")
+    ∷ flag (codes "log") ∷ takes_value (codes "log-file") ∷ flag (codes "why") ∷ [])
 
 -- `open FILE --port N --counter SOCKET [--signer SOCKET --algorithm NAME] [--unsigned]
 -- [--responder CERT --responder-signer SOCKET --responder-algorithm NAME | --embed CERT] [--log] [--log-file PATH] [--why]`;
 -- whether `--signer` or `--unsigned` must be given says `Jobs.holder_chosen`
 abbrev pub open_app : App
 open_app = with_rules (new_app (codes "open"))
-    (must (codes "file") ∷ needs (codes "port") ∷ needs (codes "counter") ∷ takes (codes "signer") ∷ takes (codes "algorithm") ∷ flag (codes "unsigned")
-    ∷ takes (codes "responder") ∷ takes (codes "responder-signer") ∷ takes (codes "responder-algorithm") ∷ takes (codes "embed")
-    ∷ flag (codes "log") ∷ takes (codes "log-file") ∷ flag (codes "why") ∷ [])
+    (must (codes "file") ∷ needs (codes "port") ∷ needs (codes "counter") ∷ takes_value (codes "signer") ∷ takes_value (codes "algorithm") ∷ flag (codes "unsigned")
+    ∷ takes_value (codes "responder") ∷ takes_value (codes "responder-signer") ∷ takes_value (codes "responder-algorithm") ∷ takes_value (codes "embed")
+    ∷ flag (codes "log") ∷ takes_value (codes "log-file") ∷ flag (codes "why") ∷ [])
 
 -- `at SOCKET [--import FILE] [--why]`
 abbrev pub at_app : App
-at_app = with_rules (new_app (codes "at")) (must (codes "counter") ∷ takes (codes "import") ∷ flag (codes "why") ∷ [])
+at_app = with_rules (new_app (codes "at")) (must (codes "counter") ∷ takes_value (codes "import") ∷ flag (codes "why") ∷ [])
 
 -- `schedule FILE MOMENT=DAYS .. [--why]`
 abbrev pub schedule_app : App
@@ -84,7 +84,7 @@ key_id_app = with_rules (new_app (codes "key-id")) (must (codes "file") ∷ must
 -- `list FILE LIST [--before MOMENT] [--now MOMENT] [--json] [--why]`
 abbrev pub list_app : App
 list_app = with_rules (new_app (codes "list"))
-    (must (codes "file") ∷ must (codes "list") ∷ takes (codes "before") ∷ takes (codes "now") ∷ flag (codes "json") ∷ flag (codes "why") ∷ [])
+    (must (codes "file") ∷ must (codes "list") ∷ takes_value (codes "before") ∷ takes_value (codes "now") ∷ flag (codes "json") ∷ flag (codes "why") ∷ [])
 
 -- `copy FILE PATH [--why]`
 abbrev pub copy_app : App

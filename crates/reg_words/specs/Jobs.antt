@@ -11,14 +11,14 @@ use Rattle.reg_lists.specs.Cursors.{cursor_named}
 use Rattle.reg_lists.specs.declared.texts.Form.{Form}
 use Rattle.reg_lists.specs.declared.texts.Form.TheVariants.{Csv, Json}
 use Rattle.reg_words.specs.Desk.{desk_app}
-use Rattle.reg_words.specs.Values.{steps_of, within}
+use Rattle.reg_words.specs.WordValues.{steps_of, within}
 use Rattle.reg_signer.specs.Algorithms.{algorithm_named}
 use Rattle.reg_words.specs.declared.job.Answerer.{Answerer}
 use Rattle.reg_words.specs.declared.job.Answerer.TheVariants.{Issuer, Delegate}
 use Rattle.reg_words.specs.declared.job.Job.{Job}
 use Rattle.reg_words.specs.declared.job.Job.TheVariants.{Init, Script, Lines, Import, Crl, Serve, Open, At, Schedule, KeyId, Listing, Copy, Audit}
 use Rattle.reg_words.specs.declared.job.KeyHolder.{KeyHolder}
-use Rattle.reg_words.specs.declared.job.Order.{Order}
+use Rattle.reg_words.specs.declared.job.Invocation.{Invocation}
 use Rattle.reg_words.specs.declared.commands.Terms.{Terms}
 use Rattle.reg_words.specs.declared.job.Usage.{Usage}
 use Rattle.reg_words.specs.declared.job.Way.{Way}
@@ -248,8 +248,8 @@ abbrev pub job_of : List Text → Option Job
 job_of words = job_found (subcommand_of desk_app words)
 
 -- whether words ask for the cause of a fault, by `--why` before the command or behind it
-abbrev pub asks_why : List Text → Bool
-asks_why words = is_given (codes "why") (matches_of desk_app words) || is_given_behind (codes "why") (subcommand_of desk_app words)
+abbrev pub asks_cause : List Text → Bool
+asks_cause words = is_given (codes "why") (matches_of desk_app words) || is_given_behind (codes "why") (subcommand_of desk_app words)
 
 -- whether words ask for a log, by `--log` behind the command
 abbrev pub asks_log : List Text → Bool
@@ -260,30 +260,30 @@ abbrev pub log_file_of : List Text → Option Text
 log_file_of words = told_behind (codes "log-file") (subcommand_of desk_app words)
 
 -- clap accepts the words
-abbrev pub IsAccepted : List Text → Type 0
-IsAccepted words = fault_of desk_app words ≡ []
+abbrev pub ClapAccepts : List Text → Type 0
+ClapAccepts words = fault_of desk_app words ≡ []
 
 -- clap accepts the words, and they say the job
 abbrev pub IsJobOf : List Text → Job → Type 0
-IsJobOf words job = IsAccepted words × (job_of words ≡ Some job)
+IsJobOf words job = ClapAccepts words × (job_of words ≡ Some job)
 
 -- clap accepts the words, and they say the job and what is told beside it
-abbrev pub IsOrderOf : List Text → Order → Type 0
-IsOrderOf words order = IsJobOf words order.job × (order.is_explained ≡ asks_why words) × (order.has_log ≡ asks_log words)
-    × (order.log_file ≡ log_file_of words)
+abbrev pub IsInvocationOf : List Text → Invocation → Type 0
+IsInvocationOf words invocation = IsJobOf words invocation.job × (invocation.is_explained ≡ asks_cause words) × (invocation.has_log ≡ asks_log words)
+    × (invocation.log_file ≡ log_file_of words)
 
 -- the same, of what was found before the command and behind it
-abbrev pub IsOrderIn : List Row → Option (Text × List Row) → Order → Type 0
-IsOrderIn before found order = (job_found found ≡ Some order.job)
-    × (order.is_explained ≡ (is_given (codes "why") before || is_given_behind (codes "why") found)) × (order.has_log ≡ is_given_behind (codes "log") found)
-    × (order.log_file ≡ told_behind (codes "log-file") found)
+abbrev pub IsInvocationIn : List Row → Option (Text × List Row) → Invocation → Type 0
+IsInvocationIn before found invocation = (job_found found ≡ Some invocation.job)
+    × (invocation.is_explained ≡ (is_given (codes "why") before || is_given_behind (codes "why") found)) × (invocation.has_log ≡ is_given_behind (codes "log") found)
+    × (invocation.log_file ≡ told_behind (codes "log-file") found)
 
 -- what is answered for an error of a kind: help for help, the version for the version, and bad words for the rest, unless memory runs out
-abbrev pub Tells : ErrorKind → Usage → Type 0
-Tells kind (Help text) = kind ≡ DisplayHelp
-Tells kind (Version text) = kind ≡ DisplayVersion
-Tells kind (Bad text) = (kind ≢ DisplayHelp) × (kind ≢ DisplayVersion) × (kind ≢ OutOfMemory)
-Tells kind Memory = Unit {0}
+abbrev pub TellsUsage : ErrorKind → Usage → Type 0
+TellsUsage kind (Help text) = kind ≡ DisplayHelp
+TellsUsage kind (Version text) = kind ≡ DisplayVersion
+TellsUsage kind (Bad text) = (kind ≢ DisplayHelp) × (kind ≢ DisplayVersion) × (kind ≢ OutOfMemory)
+TellsUsage kind Memory = Unit {0}
 
 -- help or the version, where clap answers it; bad words, where clap finds another fault or a value is out of its form or range;
 -- memory may run out at any words
@@ -292,12 +292,12 @@ IsUsageOf words (Help text) = IsAmong DisplayHelp (fault_of desk_app words)
 IsUsageOf words (Version text) = IsAmong DisplayVersion (fault_of desk_app words)
 IsUsageOf words (Bad text) =
     ((kind : ErrorKind) × (kind ≢ DisplayHelp) × (kind ≢ DisplayVersion) × IsAmong kind (fault_of desk_app words))
-    ⊎ (IsAccepted words × (job_of words ≡ None))
+    ⊎ (ClapAccepts words × (job_of words ≡ None))
 IsUsageOf words Memory = Unit {0}
 
--- what is answered where clap takes the words and they say no order
-abbrev pub IsNoOrder : Option (Text × List Row) → Usage → Type 0
-IsNoOrder found (Help text) = ⊥
-IsNoOrder found (Version text) = ⊥
-IsNoOrder found (Bad text) = job_found found ≡ None
-IsNoOrder found Memory = Unit {0}
+-- what is answered where clap takes the words and they say no invocation
+abbrev pub IsNoInvocation : Option (Text × List Row) → Usage → Type 0
+IsNoInvocation found (Help text) = ⊥
+IsNoInvocation found (Version text) = ⊥
+IsNoInvocation found (Bad text) = job_found found ≡ None
+IsNoInvocation found Memory = Unit {0}

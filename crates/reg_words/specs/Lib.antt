@@ -2,4 +2,4 @@ pub mod Desk
 pub mod Jobs
 pub mod Statuses
 pub mod Table
-pub mod Values
+pub mod WordValues

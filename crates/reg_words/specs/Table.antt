@@ -3,8 +3,8 @@ use Rattle.std.specs.Prelude.{◌≡◌, false, List, [], ◌∷◌, map}
 use Rattle.clap.specs.Words.{App, Rule, app_of, new_app, with_subcommand}
 use Rattle.clap.specs.declared.builder.command.Command.{Command}
 use Rattle.clap.specs.declared.builder.command.Command.TheViews.{out-Command as fields_of}
-use Rattle.reg_words.specs.Desk.{must, may, needs, takes, flag, some, with_rules}
-use Rattle.reg_words.specs.declared.table.Entry.{Entry}
+use Rattle.reg_words.specs.Desk.{must, may, needs, takes_value, flag, some, with_rules}
+use Rattle.reg_words.specs.declared.table.CommandEntry.{CommandEntry}
 use Rattle.reg_words.specs.declared.table.Part.{Part}
 use Rattle.reg_words.specs.declared.table.Part.TheVariants.{Must, May, Rest, Needs, Takes, Flag}
 
@@ -14,11 +14,11 @@ rule_told (Must id name help) = must id.now
 rule_told (May id name help) = may id.now
 rule_told (Rest id name help) = some id.now
 rule_told (Needs id name help) = needs id.now
-rule_told (Takes id name help) = takes id.now
+rule_told (Takes id name help) = takes_value id.now
 rule_told (Flag id help) = flag id.now
 
 -- a command
-abbrev pub app_told : Entry → App
+abbrev pub app_told : CommandEntry → App
 app_told entry = with_rules (new_app entry.name.now) (map rule_told entry.parts.now)
 
 -- the command line with commands that were made, each behind those before it

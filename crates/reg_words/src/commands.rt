@@ -4,12 +4,12 @@ ghost use Rattle.std.specs.Prelude.{◌≡◌, codes, IfOk};
 ghost use Rattle.clap.specs.Words.{found_of, rows_of};
 ghost use Rattle.reg_words.specs.Jobs.{job_in, serving_job_in, keeping_job_in, init_of, terms_of, script_by, script_of, import_of, crl_of, number_in, serve_of, open_of, at_of, schedule_of, key_id_of, form_in, list_of, copy_of, audit_of};
 
-use crate::job::{
-    Job, KeptOpen, KeyHolder, LinedScript, ListToWrite, NewRegister, RowsToImport, Serving, Way,
-};
-use crate::values::{
+use crate::given_values::{
     answerer, chosen_holder, is_set, key_holder, moment, moment_if_given, number_if_given,
     number_or, number_within, steps, text_of, way_of, word_of,
+};
+use crate::job::{
+    Job, KeptOpen, KeyHolder, LinedScript, ListToWrite, NewRegister, RowsToImport, Serving, Way,
 };
 use crate::word::Word;
 use crate::wrong::{LAST_PORT, MOST_REQUESTS};

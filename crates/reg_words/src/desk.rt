@@ -3,10 +3,10 @@
 ghost use Rattle.std.specs.Prelude.{◌≡◌, IfOk, OnOk, false, map};
 ghost use Rattle.clap.specs.Words.{App, app_of, rule_of, with_subcommand};
 ghost use Rattle.clap.specs.declared.builder.command.Command.TheViews.{out-Command as fields_of};
-ghost use Rattle.reg_words.specs.Desk.{must, may, needs, takes, flag, some, bare_app, begun_app, desk_app, keeping_apps, running_apps, with_commands, with_rules};
+ghost use Rattle.reg_words.specs.Desk.{must, may, needs, takes_value, flag, some, bare_app, begun_app, desk_app, keeping_apps, running_apps, with_commands, with_rules};
 ghost use Rattle.reg_words.specs.Table.{AreLocal, app_told, rule_told, with_made};
 
-use crate::table::{BEFORE, Entry, KEEPING, Part, RUNNING};
+use crate::table::{BEFORE, CommandEntry, KEEPING, Part, RUNNING};
 use clap::{Arg, ArgAction, Command};
 use std::alloc::{AllocError, Global};
 
@@ -24,14 +24,14 @@ pub(crate) fn desk<'a>(alloc: Global) -> Result<Command<'a>, AllocError>
 }
 
 /// The commands of the table that make, run and serve a register.
-fn running() -> &'static [Entry]
+fn running() -> &'static [CommandEntry]
     ensures { map app_told result.now ≡ running_apps }
 {
     RUNNING
 }
 
 /// Those that set, list, copy and audit what it has.
-fn keeping() -> &'static [Entry]
+fn keeping() -> &'static [CommandEntry]
     ensures { map app_told result.now ≡ keeping_apps }
 {
     KEEPING
@@ -41,7 +41,7 @@ fn keeping() -> &'static [Entry]
 fn add_commands<'a>(
     alloc: Global,
     commands: &mut Vec<Command<'a>>,
-    entries: &[Entry],
+    entries: &[CommandEntry],
 ) -> Result<(), AllocError>
     ensures app { OnOk result ((app : App)
         → with_made app commands.new.items ≡ with_commands (with_made app commands.old.items) (map app_told entries.now)) }
@@ -57,7 +57,7 @@ fn add_commands<'a>(
 fn add_command<'a>(
     alloc: Global,
     commands: &mut Vec<Command<'a>>,
-    entry: &Entry,
+    entry: &CommandEntry,
 ) -> Result<(), AllocError>
     ensures app { OnOk result ((app : App)
         → with_made app commands.new.items ≡ with_subcommand (with_made app commands.old.items) (app_told entry.now).top) }
@@ -91,7 +91,7 @@ fn bare<'a>(alloc: Global) -> Command<'a>
 }
 
 /// A command of the table.
-fn command<'a>(alloc: Global, entry: &Entry) -> Result<Command<'a>, AllocError>
+fn command<'a>(alloc: Global, entry: &CommandEntry) -> Result<Command<'a>, AllocError>
     ensures app { IfOk result (λ made. app_of made ≡ app_told entry.now) }
     ensures local { IfOk result (λ made. (fields_of made).has_globals ≡ false) }
 {
@@ -167,7 +167,7 @@ fn option_wanted<'a>(alloc: Global, id: &'a str, name: &'a str, help: &'a str) -
 
 /// An option that may be left out.
 fn option<'a>(alloc: Global, id: &'a str, name: &'a str, help: &'a str) -> Arg<'a>
-    ensures rule { rule_of result ≡ takes id.entry.now }
+    ensures rule { rule_of result ≡ takes_value id.entry.now }
     ensures local { result.global ≡ false }
 {
     word(alloc, id, name, help).long(id)

@@ -182,7 +182,7 @@ pub enum Job<'a> {
 
 /// A job, and what is told beside it.
 #[derive(Drop)]
-pub struct Order<'a> {
+pub struct Invocation<'a> {
     /// The job.
     pub job: Job<'a>,
     /// The cause of a fault is told, where it is known.
@@ -193,7 +193,7 @@ pub struct Order<'a> {
     pub log_file: Option<Word<'a>>,
 }
 
-/// Why there is no order.
+/// Why there is no invocation.
 #[derive(Drop)]
 pub enum Usage {
     /// Help was asked for: its text, for standard output.

@@ -3,17 +3,17 @@
 
 mod commands;
 mod desk;
+mod given_values;
 mod job;
-mod reading;
+mod reading_words;
 mod table;
-mod values;
 mod word;
 mod wrong;
 
+pub use given_values::read_step;
 pub use job::{
-    Answerer, Job, KeptOpen, KeyHolder, LinedScript, ListToWrite, NewRegister, Order, RowsToImport,
-    Serving, Usage, Way,
+    Answerer, Invocation, Job, KeptOpen, KeyHolder, LinedScript, ListToWrite, NewRegister,
+    RowsToImport, Serving, Usage, Way,
 };
-pub use reading::{no_text, read_words};
-pub use values::read_step;
+pub use reading_words::{no_text, read_words};
 pub use word::{Steps, Word};

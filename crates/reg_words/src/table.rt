@@ -20,7 +20,7 @@ pub(crate) enum Part {
 
 /// A command: its name, what it does, an example of it, and its words and options.
 #[derive(Clone, Copy)]
-pub(crate) struct Entry {
+pub(crate) struct CommandEntry {
     pub(crate) name: &'static str,
     pub(crate) about: &'static str,
     pub(crate) example: &'static str,
@@ -134,8 +134,8 @@ pub(crate) const BEFORE: &[Part] = &[Part::Flag("why", CAUSE_ANYWHERE)];
 
 /// The commands that make, run and serve a register, in the order in which help lists them. One small function alone names them, since a long
 /// constant costs the prover seconds in each step; so the commands stand in two.
-pub(crate) const RUNNING: &[Entry] = &[
-    Entry {
+pub(crate) const RUNNING: &[CommandEntry] = &[
+    CommandEntry {
         name: "init",
         about: "Make a new register in a file.",
         example: "Example:\n  desk init ca.db --name 300C310A300806035504030C0154 --key 0102",
@@ -151,7 +151,7 @@ pub(crate) const RUNNING: &[Entry] = &[
             Part::Flag("why", CAUSE),
         ],
     },
-    Entry {
+    CommandEntry {
         name: "script",
         about: "Run the lines of standard input, and write one reply line for each.",
         example: "Examples:\n  echo '2026-01-01T00:00:00Z counts' | desk script ca.db\n  echo counts | desk script ca.db --clock --strict",
@@ -164,7 +164,7 @@ pub(crate) const RUNNING: &[Entry] = &[
             Part::Flag("why", CAUSE_OR_REASON),
         ],
     },
-    Entry {
+    CommandEntry {
         name: "import",
         about: "Register the certificates of a CSV file on standard input: order,serial,notBefore,notAfter.",
         example: "Example:\n  desk import ca.db --now 2026-01-01T00:00:00Z < certificates.csv",
@@ -175,7 +175,7 @@ pub(crate) const RUNNING: &[Entry] = &[
             Part::Flag("why", CAUSE_OR_REASON),
         ],
     },
-    Entry {
+    CommandEntry {
         name: "crl",
         about: "Write an issued CRL to standard output, in DER.",
         example: "Example:\n  desk crl ca.db > latest.crl",
@@ -185,7 +185,7 @@ pub(crate) const RUNNING: &[Entry] = &[
             Part::Flag("why", CAUSE),
         ],
     },
-    Entry {
+    CommandEntry {
         name: "serve",
         about: "Answer OCSP, CRLs and status over HTTP on 127.0.0.1, by the machine's clock.",
         example: "Example:\n  desk serve ca.db --port 8080 --requests 1000",
@@ -204,7 +204,7 @@ pub(crate) const RUNNING: &[Entry] = &[
             Part::Flag("why", CAUSE),
         ],
     },
-    Entry {
+    CommandEntry {
         name: "open",
         about: "Keep a register open until it is ended: HTTP on 127.0.0.1, and commands at a counter, by the machine's clock.",
         example: "Example:\n  desk open ca.db --port 8080 --counter ca.counter --signer ca.sign --algorithm ecdsa-sha256",
@@ -224,7 +224,7 @@ pub(crate) const RUNNING: &[Entry] = &[
             Part::Flag("why", CAUSE),
         ],
     },
-    Entry {
+    CommandEntry {
         name: "at",
         about: "Tell the lines of standard input to an open desk, and write one reply line for each; a line has no moment.",
         example: "Examples:\n  echo counts | desk at ca.counter\n  desk at ca.counter --import certificates.csv\n\nExit status 3 where a reply is a refusal or a fault, or the last line has no end: that one is not told.",
@@ -237,8 +237,8 @@ pub(crate) const RUNNING: &[Entry] = &[
 ];
 
 /// The commands that set, list, copy and audit what a register has; help lists them behind the others.
-pub(crate) const KEEPING: &[Entry] = &[
-    Entry {
+pub(crate) const KEEPING: &[CommandEntry] = &[
+    CommandEntry {
         name: "schedule",
         about: "Set how many days a certificate may be valid, by the moment from which it is valid.",
         example: "Example:\n  desk schedule ca.db 1970-01-01T00:00:00Z=398 2026-03-15T00:00:00Z=200",
@@ -248,7 +248,7 @@ pub(crate) const KEEPING: &[Entry] = &[
             Part::Flag("why", CAUSE),
         ],
     },
-    Entry {
+    CommandEntry {
         name: "key-id",
         about: "Set the key identifier of the CA certificate, which CRLs have from the next one on.",
         example: "Example:\n  desk key-id ca.db 0A1B2C3D4E5F",
@@ -258,7 +258,7 @@ pub(crate) const KEEPING: &[Entry] = &[
             Part::Flag("why", CAUSE),
         ],
     },
-    Entry {
+    CommandEntry {
         name: "list",
         about: "Write a list of the register to standard output, in the order of keys.",
         example: "Examples:\n  desk list ca.db revoked\n  desk list ca.db ending --before 2026-02-01T00:00:00Z --json",
@@ -271,7 +271,7 @@ pub(crate) const KEEPING: &[Entry] = &[
             Part::Flag("why", CAUSE),
         ],
     },
-    Entry {
+    CommandEntry {
         name: "copy",
         about: "Copy a register that no program has open into one new file, with what its -wal has.",
         example: "Example:\n  desk copy ca.db /var/backups/ca/ca.db\n\nOne that is open is copied by the line `copy PATH` at its counter: echo copy /var/backups/ca/ca.db | desk at ca.counter",
@@ -281,7 +281,7 @@ pub(crate) const KEEPING: &[Entry] = &[
             Part::Flag("why", CAUSE),
         ],
     },
-    Entry {
+    CommandEntry {
         name: "audit",
         about: "Read all rows of a register, and tell whether they are those of sound records; nothing is changed.",
         example: "Example:\n  desk audit ca.db\n\nExit status 1 where a row is not sound, which is named by its table and its place there, from 1 on.",

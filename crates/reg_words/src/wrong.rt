@@ -1,6 +1,6 @@
 //! What is said of a value that is out of its form or range.
 
-use crate::values::{answerer, key_holder, moment, number_within, read_step, text_of};
+use crate::given_values::{answerer, key_holder, moment, number_within, read_step, text_of};
 use clap::ArgMatches;
 use std::alloc::Global;
 

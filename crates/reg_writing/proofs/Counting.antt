@@ -14,8 +14,8 @@ use Rattle.reg_tables.specs.Shows.{AreBoth}
 use Rattle.reg_tables.specs.Stays.{Moves}
 use Rattle.reg_tables.proofs.Queries.{passes}
 use Rattle.reg_writing.specs.Ran.{Ran}
-use Rattle.reg_writing.specs.Steps.{turned, with_counts}
-use Rattle.reg_writing.specs.declared.texts.TheConstants.{SET_COUNTS}
+use Rattle.reg_writing.specs.RowEffects.{turned, with_counts}
+use Rattle.reg_writing.specs.declared.sql.TheConstants.{SET_COUNTS}
 use Rattle.reg_writing.proofs.Meaning.{set_counts_means}
 use Rattle.reg_writing.proofs.Turning.{IsKeyed}
 use Rattle.reg_writing.proofs.Edits.{made, Turns, cast_int, cast_null}

@@ -15,7 +15,7 @@ use Rattle.sqlite.specs.Listing.{understood}
 use Rattle.sqlite.specs.Rows.{Part, Task}
 use Rattle.sqlite.specs.State.{State, mode_of, Writes}
 use Rattle.sqlite.proofs.Callers.{runs_as, statement_of}
-use Rattle.reg_tables.specs.Reading.{command_of}
+use Rattle.reg_tables.specs.ReadStatements.{command_of}
 use Rattle.reg_writing.specs.Ran.{Ran}
 use Rattle.reg_writing.proofs.Edits.{went, same_value}
 

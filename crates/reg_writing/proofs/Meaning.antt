@@ -9,9 +9,9 @@ use Rattle.sqlite.specs.Given.{IsPlain}
 use Rattle.sqlite.specs.Listing.{understood}
 use Rattle.sqlite_tied.specs.Compute.{everything}
 use Rattle.reg_tables.specs.Schema.{register_schema}
-use Rattle.reg_tables.specs.Reading.{command_of}
+use Rattle.reg_tables.specs.ReadStatements.{command_of}
 use Rattle.reg_tables.proofs.Queries.{selects, no_limit}
-use Rattle.reg_writing.specs.declared.texts.TheConstants.{SET_COUNTS, PUT_STEP}
+use Rattle.reg_writing.specs.declared.sql.TheConstants.{SET_COUNTS, PUT_STEP}
 
 -- an UPDATE of a table: which rows, and what it makes of their columns
 abbrev pub updates : ℕ → ℕ → List Term → List Term → Command

@@ -10,7 +10,7 @@ use Rattle.sqlite.specs.State.{State, Runs}
 use Rattle.sqlite.proofs.Callers.{runs_as, statement_of}
 use Rattle.reg_tables.specs.Schema.{register_schema}
 use Rattle.reg_writing.specs.Ran.{Ran}
-use Rattle.reg_writing.specs.declared.texts.TheConstants.{SET_COUNTS, PUT_STEP}
+use Rattle.reg_writing.specs.declared.sql.TheConstants.{SET_COUNTS, PUT_STEP}
 use Rattle.reg_writing.proofs.Meaning.{IsWriting, updates, inserts, set_counts_means, put_step_means}
 
 -- whatever the text, if its command is one that writes

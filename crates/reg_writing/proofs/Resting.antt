@@ -13,7 +13,7 @@ use Rattle.reg_tables.specs.Columns.{Columns}
 use Rattle.reg_tables.specs.Schema.{register_schema}
 use Rattle.reg_tables.specs.Shows.{AreBoth}
 use Rattle.reg_tables.specs.Stays.{LeavesNothing}
-use Rattle.reg_writing.specs.AtRest.{AreARegisters}
+use Rattle.reg_writing.specs.AfterStop.{AreARegisters}
 
 -- what a database shows its rows show
 pub resting : (db : Database) (trees : Trees) (records : Records) (columns : Columns) → trees ≡ db.trees → AreBoth db records columns → AreBoth (record { schema = register_schema; trees = trees }) records columns

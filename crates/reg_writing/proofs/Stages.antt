@@ -13,7 +13,7 @@ use Rattle.reg_tables.specs.Schema.{register_schema, longest}
 use Rattle.reg_tables.specs.Rows.{number, stored_step}
 use Rattle.reg_writing.specs.Ran.{Ran}
 use Rattle.reg_writing.specs.Staged.{IsStaged, AreBefore}
-use Rattle.reg_writing.specs.declared.texts.TheConstants.{PUT_STEP}
+use Rattle.reg_writing.specs.declared.sql.TheConstants.{PUT_STEP}
 use Rattle.reg_writing.proofs.Meaning.{put_step_means}
 use Rattle.reg_writing.proofs.Placing.{put_behind}
 use Rattle.reg_writing.proofs.Edits.{cast_int, cast_null}

@@ -1,4 +1,4 @@
-pub mod AtRest
+pub mod AfterStop
 pub mod Ran
+pub mod RowEffects
 pub mod Staged
-pub mod Steps

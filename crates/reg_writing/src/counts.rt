@@ -9,16 +9,19 @@ ghost use Rattle.reg_tables.specs.Columns.{Columns};
 ghost use Rattle.reg_tables.specs.Schema.{register_schema};
 ghost use Rattle.reg_tables.specs.Stays.{Stepped};
 ghost use Rattle.reg_writing.specs.Ran.{Before, HasSchema, Moved};
-ghost use Rattle.reg_writing.specs.Steps.{with_counts};
+ghost use Rattle.reg_writing.specs.RowEffects.{with_counts};
 
-use crate::texts;
+use crate::sql;
 use crate::writing::{sql_number, write};
 use reg_core::Counts;
-use reg_tables::CallFault;
+use reg_tables::DatabaseFault;
 use sqlite::{Alter, Transaction};
 
 /// Sets the counts.
-pub fn set_counts<S: Alter>(tx: &mut Transaction<'_, S>, counts: Counts) -> Result<(), CallFault>
+pub fn set_counts<S: Alter>(
+    tx: &mut Transaction<'_, S>,
+    counts: Counts,
+) -> Result<(), DatabaseFault>
     ensures ok { HasCleanDisk (state S.Store tx.new.conn.now) → (records : Records) → (columns : Columns) → Before (state S.Store tx.old.conn.now) records columns
         → OnOk result (Moved (state S.Store tx.old.conn.now) (state S.Store tx.new.conn.now) records (with_counts counts columns)) }
     ensures database { HasCleanDisk (state S.Store tx.new.conn.now) → (records : Records) → (columns : Columns) → Before (state S.Store tx.old.conn.now) records columns
@@ -30,6 +33,6 @@ pub fn set_counts<S: Alter>(tx: &mut Transaction<'_, S>, counts: Counts) -> Resu
     let good = sql_number(counts.good)?;
     let revoked = sql_number(counts.revoked)?;
     let expired = sql_number(counts.expired)?;
-    write(tx, texts::SET_COUNTS, &[good, revoked, expired])?;
+    write(tx, sql::SET_COUNTS, &[good, revoked, expired])?;
     Ok(())
 }

@@ -3,8 +3,8 @@
 
 mod counts;
 mod scheduling;
-mod texts;
+mod sql;
 pub mod writing;
 
 pub use counts::set_counts;
-pub use scheduling::put_steps;
+pub use scheduling::put_schedule_steps;

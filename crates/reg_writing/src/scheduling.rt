@@ -11,14 +11,18 @@ ghost use Rattle.reg_tables.specs.Stays.{Stepped};
 ghost use Rattle.reg_writing.specs.Ran.{HasSchema};
 ghost use Rattle.reg_writing.specs.Staged.{IsStaged, AreBefore};
 
-use crate::texts;
+use crate::sql;
 use crate::writing::{sql_moment, sql_number, write};
 use reg_core::Moment;
-use reg_tables::CallFault;
+use reg_tables::DatabaseFault;
 use sqlite::{Alter, Transaction};
 
 /// Puts a step in, behind those that are before it.
-fn put_step<S: Alter>(tx: &mut Transaction<'_, S>, from: Moment, days: u64) -> Result<(), CallFault>
+fn put_schedule_step<S: Alter>(
+    tx: &mut Transaction<'_, S>,
+    from: Moment,
+    days: u64,
+) -> Result<(), DatabaseFault>
     ensures ok { HasCleanDisk (state S.Store tx.new.conn.now) → (base : Trees) → (steps : List (ℕ × ℕ)) → AreBefore from steps
         → (IsTrue (state S.Store tx.old.conn.now).is_open → IsStaged base steps (state S.Store tx.old.conn.now).now)
         → OnOk result (IsStaged base (steps ++ (from, days) ∷ []) (state S.Store tx.new.conn.now).now) }
@@ -31,7 +35,7 @@ fn put_step<S: Alter>(tx: &mut Transaction<'_, S>, from: Moment, days: u64) -> R
 {
     let from = sql_moment(from);
     let days = sql_number(days)?;
-    write(tx, texts::PUT_STEP, &[from, days])?;
+    write(tx, sql::PUT_STEP, &[from, days])?;
     Ok(())
 }
 
@@ -39,10 +43,10 @@ fn put_step<S: Alter>(tx: &mut Transaction<'_, S>, from: Moment, days: u64) -> R
 ///
 /// # Errors
 /// `Memory`; `Store` where the database fails.
-pub fn put_steps<S: Alter>(
+pub fn put_schedule_steps<S: Alter>(
     tx: &mut Transaction<'_, S>,
     steps: &[(Moment, u64)],
-) -> Result<(), CallFault>
+) -> Result<(), DatabaseFault>
     ensures ok { HasCleanDisk (state S.Store tx.new.conn.now) → (base : Trees) → Ascends steps.now
         → (IsTrue (state S.Store tx.old.conn.now).is_open → IsStaged base [] (state S.Store tx.old.conn.now).now)
         → OnOk result (IsTrue (state S.Store tx.new.conn.now).is_open → IsStaged base steps.now (state S.Store tx.new.conn.now).now) }
@@ -54,7 +58,7 @@ pub fn put_steps<S: Alter>(
     ensures stepped { Stepped S.Store tx.old tx.new }
 {
     for step in steps {
-        put_step(tx, step.0, step.1)?;
+        put_schedule_step(tx, step.0, step.1)?;
     }
     Ok(())
 }

@@ -9,7 +9,7 @@ ghost use Rattle.reg_tables.specs.Stays.{Stepped};
 ghost use Rattle.reg_writing.specs.Ran.{Ran};
 
 use reg_core::{Ground, Moment};
-use reg_tables::CallFault;
+use reg_tables::DatabaseFault;
 use sqlite::types::ValueRef;
 use sqlite::{Alter, Transaction};
 
@@ -17,14 +17,14 @@ use sqlite::{Alter, Transaction};
 ///
 /// # Errors
 /// `Store` above 2^63 - 1, which SQL doesn't have.
-pub fn sql_number(n: u64) -> Result<ValueRef<'static>, CallFault>
+pub fn sql_number(n: u64) -> Result<ValueRef<'static>, DatabaseFault>
     ensures value { IfOk result (λ value. value ≡ ValueRef.Int (pos n)) }
     ensures had { OnOk result (n < 2 ^ 63) }
-    ensures refused { IfErr result (λ fault. (fault ≡ CallFault.Store) × (2 ^ 63 ≤ n)) }
+    ensures refused { IfErr result (λ fault. (fault ≡ DatabaseFault.Store) × (2 ^ 63 ≤ n)) }
 {
     match i64::try_from(n) {
         Ok(n) => Ok(ValueRef::Int(n)),
-        Err(_) => Err(CallFault::Store),
+        Err(_) => Err(DatabaseFault::Store),
     }
 }
 
@@ -76,7 +76,7 @@ pub fn write<S: Alter>(
     tx: &mut Transaction<'_, S>,
     sql: &str,
     params: &[ValueRef<'_>],
-) -> Result<usize, CallFault>
+) -> Result<usize, DatabaseFault>
     ensures ran { HasCleanDisk (state S.Store tx.new.conn.now) → IfOk result (Ran sql.now (bound params.now) (state S.Store tx.old.conn.now) (state S.Store tx.new.conn.now)) }
     ensures stepped { Stepped S.Store tx.old tx.new }
 {

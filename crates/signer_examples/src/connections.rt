@@ -1,6 +1,6 @@
 //! Connections that take and give in pieces, and fail at a call.
 
-use reg_signer::{Connection, Connector, DeviceFault, TimedStream};
+use reg_signer::{Connector, DeviceConnection, DeviceFault, TimedStream};
 use std::cell::{Cell, RefCell};
 use std::io;
 use std::io::{ErrorKind, Read, Write};
@@ -93,7 +93,7 @@ impl Write for Talk {
     }
 }
 
-impl Connection for Talk {
+impl DeviceConnection for Talk {
     ghost finished = { λ link after. Unit {0} };
 
     fn finish(&mut self) -> Result<(), DeviceFault>

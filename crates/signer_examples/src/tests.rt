@@ -7,7 +7,7 @@ use crate::devices::{Given, Lasting, Scripted, Standing};
 use crate::vectors::{ED25519_KEY, ED25519_SIGNATURE, RSA_KEY, VECTORS, Vector, bytes_of};
 use reg_crl::{SignFault, Signer};
 use reg_signer::{
-    Algorithm, BadSigner, Device, DeviceFault, DeviceSigner, RestingDevice, SocketDevice,
+    Algorithm, Device, DeviceFault, DeviceSigner, KeyFault, RestingDevice, SocketDevice,
     read_in_time, time_left, write_in_time,
 };
 use std::alloc::Global;
@@ -273,7 +273,7 @@ fn a_signer_wants_a_key_of_its_algorithm(rt: HostRuntime) -> Result<(), Fail> {
                 gives: Vec::new(rt.alloc()),
                 calls: 0,
             };
-            let refused = matches!(&DeviceSigner::new(device, other.algorithm), Err(BadSigner));
+            let refused = matches!(&DeviceSigner::new(device, other.algorithm), Err(KeyFault));
             assert!(rt;
                 refused == (vector.algorithm != other.algorithm),
                 "at {vector:?} {other:?}"

@@ -1,7 +1,7 @@
 //! A hub of the tests: who answers, what the clock says, and who comes.
 
 use mio::net::{TcpListener, UnixListener, UnixStream as UnwaitingStream};
-use reg_hub::{Crowd, Deferred, Given, Handler, Hub, Lost, Stopped};
+use reg_hub::{Crowd, Deferred, Given, Handler, Hub, HubFault, PeerFault};
 use std::alloc::{AllocError, Global};
 use std::cell::Cell;
 use std::fmt::Debug;
@@ -49,7 +49,7 @@ struct Echo {
     asked: Vec<u8>,
     /// The peer that was answered last, and what ended by a fault last.
     last: Option<SocketAddr>,
-    lost: Cell<Option<(Option<SocketAddr>, Lost)>>,
+    lost: Cell<Option<(Option<SocketAddr>, PeerFault)>>,
 }
 
 impl Handler for Echo {
@@ -67,7 +67,7 @@ impl Handler for Echo {
 
     ghost finishes = { λ _ _. Unit {0} };
 
-    fn answer(&mut self, peer: SocketAddr, request: &[u8]) -> Result<Given<Vec<u8>>, Stopped> {
+    fn answer(&mut self, peer: SocketAddr, request: &[u8]) -> Result<Given<Vec<u8>>, HubFault> {
         self.last = Some(peer);
         match self.answered(request) {
             Ok(text) => Ok(given_of(request, text)),
@@ -93,7 +93,7 @@ impl Handler for Echo {
         text
     }
 
-    fn tell(&mut self, line: &[u8], _noted: &mut Vec<u8>) -> Result<Vec<u8>, Stopped> {
+    fn tell(&mut self, line: &[u8], _noted: &mut Vec<u8>) -> Result<Vec<u8>, HubFault> {
         self.lines = self.lines.saturating_add(1);
         match self.told(line) {
             Ok(text) => Ok(text),
@@ -129,7 +129,7 @@ impl Handler for Echo {
         noted: &mut Vec<u8>,
         _deferred: Deferred<Vec<u8>>,
         link: Option<UnwaitingStream>,
-    ) -> Result<Option<Vec<u8>>, Stopped>
+    ) -> Result<Option<Vec<u8>>, HubFault>
         ensures ok { IfOk result (λ told. MatchOption told (Unit {0}) (λ text. Unit {0})) }
         ensures err { OnErr result ((self.new ≡ self.old) × (noted.new ≡ noted.old)) }
     {
@@ -145,7 +145,7 @@ impl Handler for Echo {
         Ok(Some(text))
     }
 
-    fn lose(&self, peer: Option<SocketAddr>, why: Lost) {
+    fn lose(&self, peer: Option<SocketAddr>, why: PeerFault) {
         self.lost.set(Some((peer, why)));
     }
 
@@ -265,7 +265,7 @@ pub(super) fn office_of(
 impl Office {
     /// How many requests were answered, and how many peers are there.
     pub(super) fn seen(&self) -> (u64, usize) {
-        (self.made, self.hub.callers())
+        (self.made, self.hub.http_peers())
     }
 
     /// How many lines were answered.
@@ -279,7 +279,7 @@ impl Office {
     }
 
     /// What ended by a fault last, and whether that was the peer that was answered last.
-    pub(super) fn lost(&self) -> (bool, Option<Lost>) {
+    pub(super) fn lost(&self) -> (bool, Option<PeerFault>) {
         match self.echo.lost.get() {
             Some((peer, why)) => (peer == self.echo.last, Some(why)),
             None => (false, None),

@@ -6,7 +6,7 @@ use crate::tests::steps::Step::{
     self, Asks, Comes, Gets, Large, Sees, SeesLost, SeesRequest, Sends, Signs, Turns,
 };
 use crate::tests::steps::play;
-use reg_hub::Lost;
+use reg_hub::PeerFault;
 use std::test::Fail;
 
 static HALF: [Step; 10] = [
@@ -18,7 +18,7 @@ static HALF: [Step; 10] = [
     Turns(31_249, 3),
     Sees(1, 0),
     SeesRequest(b"GET /half"),
-    SeesLost(true, Some(Lost::Late)),
+    SeesLost(true, Some(PeerFault::Late)),
     Gets(0, b""),
 ];
 
@@ -36,7 +36,7 @@ static UNREAD: [Step; 8] = [
     Sees(1, 1),
     Turns(50_249, 3),
     Sees(1, 0),
-    SeesLost(true, Some(Lost::Late)),
+    SeesLost(true, Some(PeerFault::Late)),
 ];
 
 // The millisecond at which it ends.
@@ -163,7 +163,7 @@ static WAITING: [Step; 13] = [
     Comes(LARGE),
     Turns(0, 3),
     Sees(3, 1),
-    SeesLost(false, Some(Lost::Crowded)),
+    SeesLost(false, Some(PeerFault::Crowded)),
 ];
 
 // Which answers are held, and the reason that is told.

@@ -1,7 +1,7 @@
 //! Examples as steps.
 
 use crate::tests::office::{Office, office_of, same, same_bytes};
-use reg_hub::Lost;
+use reg_hub::PeerFault;
 use std::test::Fail;
 
 /// What happens at a hub, or what is to be seen of it. Peers and counters go by their places, in the order in which they came.
@@ -35,7 +35,7 @@ pub(super) enum Step {
     /// The last request was this.
     SeesRequest(&'static [u8]),
     /// Whether the connection that ended by a fault last was that of the peer that was answered last, and by which, if there was one.
-    SeesLost(bool, Option<Lost>),
+    SeesLost(bool, Option<PeerFault>),
 }
 
 /// Goes through the steps of an example, at a hub with so many places and this counter.
@@ -79,7 +79,7 @@ fn look(office: &mut Office, at: usize, step: &Step) -> Result<(), Fail> {
             )
         }
         Step::TakesReplies(wanted) => same(at, &office.hear_all(*wanted)?, wanted),
-        Step::Sees(made, callers) => same(at, &office.seen(), &(*made, *callers)),
+        Step::Sees(made, http_peers) => same(at, &office.seen(), &(*made, *http_peers)),
         Step::SeesLines(lines) => same(at, &office.lines(), lines),
         Step::SeesRequest(bytes) => same_bytes(at, office.request(), bytes),
         Step::SeesLost(is_last, why) => same(at, &office.lost(), &(*is_last, *why)),

@@ -3,9 +3,9 @@ use Rattle.sqlite.specs.Held.{state}
 use Rattle.sqlite.proofs.StateLemmas.{survives_then}
 use Rattle.reg_core.specs.Changes.{changed_by}
 use Rattle.reg_tables.proofs.Staying.{kept_shows, both_shows, shows_register, stays_both}
-use Rattle.reg_writing.specs.AtRest.{AreRowsOf}
-use Rattle.reg_changes.specs.AtRest.{IsChanged, IsEntered}
-use Rattle.reg_changes.specs.Beside.{after, end_by}
+use Rattle.reg_writing.specs.AfterStop.{AreRowsOf}
+use Rattle.reg_changes.specs.AfterStoppedChange.{IsChanged, IsEntered}
+use Rattle.reg_changes.specs.ChangeEffects.{columns_after, end_in_change}
 use Rattle.reg_writing.proofs.Days.{stays_days}
 use Rattle.reg_changes.proofs.Days.{keeps_days_then}
 use Rattle.reg_changes.proofs.Law.{kept_change}
@@ -22,9 +22,9 @@ returns-clause-ok g c records kept sound up fits =
     let columns = kept.0 in
     let shows = kept_shows s old records kept in
     let still = stays_both s old mid records columns c.end_for.ensures.looked.survives.clean (c.end_for.ensures.looked.same (shows_register s old records shows)) kept.1 in
-    ok_kept_by s c.commit.new.conn (changed_by records now change) (after now change c.in_ok-not_after.not_after columns) (after now change (end_by records now change) columns)
+    ok_kept_by s c.commit.new.conn (changed_by records now change) (columns_after now change c.in_ok-not_after.not_after columns) (columns_after now change (end_in_change records now change) columns)
     c.commit.result (c.commit.ensures.ok records columns still sound fits)
-    (λ clean. ap (λ n. after now change n columns) (c.in_ok-not_after.ensures.found records shows (was_clean (state s mid) (state s c.commit.new.conn) c.commit.ensures.survives.clean clean)))
+    (λ clean. ap (λ n. columns_after now change n columns) (c.in_ok-not_after.ensures.found records shows (was_clean (state s mid) (state s c.commit.new.conn) c.commit.ensures.survives.clean clean)))
     (kept_change records columns now sound up kept.2 change fits)
 
 pub returns-clause-days : goal.returns-clause-days
@@ -58,10 +58,10 @@ returns-clause-survives g c =
     let columns = kept.0 in
     let shows = kept_shows s old records kept in
     let still = stays_both s old mid records columns c.end_for.ensures.looked.survives.clean (c.end_for.ensures.looked.same (shows_register s old records shows)) kept.1 in
-    let ends : c.in_ok-not_after.not_after ≡ end_by records now change = c.in_ok-not_after.ensures.found records shows (was_clean (state s mid) (state s new) c.commit.ensures.survives.clean clean) in
+    let ends : c.in_ok-not_after.not_after ≡ end_in_change records now change = c.in_ok-not_after.ensures.found records shows (was_clean (state s mid) (state s new) c.commit.ensures.survives.clean clean) in
     let rows = entered records columns still sound fits in (
-      after now change (end_by records now change) columns,
-      subst (λ n. AreRowsOf (changed_by records now change) (after now change n columns) trees) ends rows.0,
+      columns_after now change (end_in_change records now change) columns,
+      subst (λ n. AreRowsOf (changed_by records now change) (columns_after now change n columns) trees) ends rows.0,
       kept_change records columns now sound up kept.2 change fits,
       rows.1,
     )) c.end_for.ensures.looked.survives c.commit.ensures.survives

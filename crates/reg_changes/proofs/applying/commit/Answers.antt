@@ -8,9 +8,9 @@ use Rattle.reg_tables.specs.Columns.{office_days}
 use Rattle.reg_tables.specs.Rows.{number}
 use Rattle.reg_tables.specs.Shows.{ShowsBoth, HasOfficeDays}
 use Rattle.reg_tables.proofs.Staying.{stays_both, shows_register, both_shows}
-use Rattle.reg_changes.specs.AtRest.{IsEntered}
-use Rattle.reg_changes.specs.Beside.{after}
-use Rattle.reg_changes.specs.Steps.{swept}
+use Rattle.reg_changes.specs.AfterStoppedChange.{IsEntered}
+use Rattle.reg_changes.specs.ChangeEffects.{columns_after}
+use Rattle.reg_changes.specs.ColumnEffects.{swept}
 use Rattle.reg_writing.proofs.Committing.{clean_before, shows_back}
 use Rattle.reg_writing.proofs.Days.{stays_days}
 use Rattle.reg_changes.proofs.Days.{AreBothOf, shows_days, same_days, beside_days}
@@ -26,7 +26,7 @@ returns-clause-ok g c records columns both sound fits =
     let entered = c.enter.new.tx.conn.now in
     let ended = c.commit.new.self.0 in
     let later = changed_by records c.args.now c.args.change.now in
-    let beside = after c.args.now c.args.change.now c.args.not_after columns in
+    let beside = columns_after c.args.now c.args.change.now c.args.not_after columns in
     let register = shows_register s c.args.conn.now records (both_shows s c.args.conn.now records columns both) in
     let still = stays_both s c.args.conn.now was records columns c.kept_counts.ensures.looked.survives.clean (c.kept_counts.ensures.looked.same register) both in
     let done : ShowsBoth s ended later beside =
@@ -59,7 +59,7 @@ returns-clause-days g c records columns both sound fits days has =
     let counted = c.in_ok-counts.ensures.found records columns both (clean_before s was begun entered c.transaction-tx.ensures.begun c.enter.ensures.stepped.survives.clean clean) in
     let moved = c.in_ok-enter.ensures.ok clean records columns counted sound fits (λ open_begun. (before open_begun).0) in
     let first = before moved.was_open in
-    same_days (state s begun).now (state s entered).now records (changed_by records now change) columns (after now change not_after columns) days first.0 moved.tables (beside_days change not_after (swept now columns)) first.1)
+    same_days (state s begun).now (state s entered).now records (changed_by records now change) columns (columns_after now change not_after columns) days first.0 moved.tables (beside_days change not_after (swept now columns)) first.1)
     (λ clean. (c.in_ok-commit.ensures.ok clean).1) in
     let same : ended ≡ c.conn-2-1.given.0 = search rules in
     subst (λ h. HasOfficeDays s h days) same done
@@ -106,7 +106,7 @@ returns-clause-survives g c =
     let counted = c.in_ok-counts.ensures.found records columns both first in
     let before = begun_before s was begun c.transaction-tx.ensures.begun records columns still first in
     let moved = c.in_ok-enter.ensures.ok mid records columns counted sound fits before in (
-      resting (state s entered).now trees (changed_by records c.args.now c.args.change.now) (after c.args.now c.args.change.now c.args.not_after columns) is moved.tables,
+      resting (state s entered).now trees (changed_by records c.args.now c.args.change.now) (columns_after c.args.now c.args.change.now c.args.not_after columns) is moved.tables,
       rests_sound (state s entered).now trees is moved.tables.shown.schema (c.in_ok-enter.ensures.database mid records columns counted sound fits before),
     )) in
     let same : ended ≡ c.conn-2-1.given.0 = search rules in
@@ -131,7 +131,7 @@ returns-in_err-commit-clause-survives g c =
     let counted = c.in_ok-counts.ensures.found records columns both first in
     let before = begun_before s was begun c.transaction-tx.ensures.begun records columns still first in
     let moved = c.in_ok-enter.ensures.ok mid records columns counted sound fits before in (
-      resting (state s entered).now trees (changed_by records c.args.now c.args.change.now) (after c.args.now c.args.change.now c.args.not_after columns) is moved.tables,
+      resting (state s entered).now trees (changed_by records c.args.now c.args.change.now) (columns_after c.args.now c.args.change.now c.args.not_after columns) is moved.tables,
       rests_sound (state s entered).now trees is moved.tables.shown.schema (c.in_ok-enter.ensures.database mid records columns counted sound fits before),
     )) in
     let same : ended ≡ c.conn-2-1.given.0 = search rules in

@@ -2,7 +2,7 @@ use Rattle.sqlite.specs.Held.{state}
 use Rattle.sqlite.specs.State.{HasCleanDisk}
 use Rattle.reg_core.specs.Changes.{touched}
 use Rattle.reg_tables.specs.Shows.{AreBoth}
-use Rattle.reg_writing.specs.Steps.{with_counts}
+use Rattle.reg_writing.specs.RowEffects.{with_counts}
 use Rattle.reg_writing.proofs.Moving.{ok_then_on, was_clean}
 use Rattle.reg_changes.proofs.entering.close.Goals as goal
 

@@ -2,10 +2,10 @@ use Rattle.std.proofs.Common.{◌≡◌, OnOk, ap, subst, ◌∙◌}
 use Rattle.sqlite.specs.Held.{state}
 use Rattle.sqlite.specs.State.{HasCleanDisk}
 use Rattle.reg_core.specs.Changes.{touched, changed_by}
-use Rattle.reg_changes.specs.Beside.{TurnsOne, lost, added, beside, after}
+use Rattle.reg_changes.specs.ChangeEffects.{TurnsOne, lost, added, kept_rows_after, columns_after}
 use Rattle.reg_writing.specs.Ran.{Moved}
-use Rattle.reg_writing.specs.Steps.{with_counts}
-use Rattle.reg_changes.specs.Steps.{swept, ended_by, shifted}
+use Rattle.reg_writing.specs.RowEffects.{with_counts}
+use Rattle.reg_changes.specs.ColumnEffects.{swept, ended_by, shifted}
 use Rattle.reg_changes.proofs.Making.{moment_set}
 use Rattle.reg_writing.proofs.Moving.{moved_here, moves_on, ok_if, ok_then_on, was_clean}
 use Rattle.reg_changes.proofs.entering.enter.Goals as goal
@@ -21,7 +21,7 @@ returns-clause-ok g c clean records columns same sound fits before =
     let now = c.args.now in
     let change = c.args.change.now in
     let later = changed_by records records.last change in
-    let around = beside change c.args.not_after (swept now columns) in
+    let around = kept_rows_after change c.args.not_after (swept now columns) in
     let first = c.in_ok-ended.ensures.ok clean1 records columns before in
     let second = c.in_ok-put.ensures.ok clean2 records (swept now columns) now sound fits (moved_here s0 s1 _ first.0) in
     let next : c.in_ok-next.next ≡ shifted columns.counts (ended_by now columns) (lost change) (added change) =
@@ -30,7 +30,7 @@ returns-clause-ok g c clean records columns same sound fits before =
     let closed = subst (λ counts. OnOk c.close.result (Moved s2 s3 (touched later now) (with_counts counts around))) next
     (c.close.ensures.ok clean later around (λ up. second.tables)) in
     ok_then_on s0 s2 s3 _ _ c.close.result (moves_on s0 s1 s2 _ _ first.0 second)
-    (subst (λ those. OnOk c.close.result (Moved s2 s3 those (after now change c.args.not_after columns))) (moment_set records now change) closed)
+    (subst (λ those. OnOk c.close.result (Moved s2 s3 those (columns_after now change c.args.not_after columns))) (moment_set records now change) closed)
 
 pub returns-clause-one : goal.returns-clause-one
 returns-clause-one g c clean records columns before =
@@ -55,4 +55,4 @@ returns-clause-database g c clean records columns same sound fits before =
     let change = c.args.change.now in
     let first = c.in_ok-ended.ensures.ok clean1 records columns before in
     let second = c.in_ok-put.ensures.ok clean2 records (swept now columns) now sound fits (moved_here s0 s1 _ first.0) in
-    c.close.ensures.database clean (changed_by records records.last change) (beside change c.args.not_after (swept now columns)) (λ up. second.tables)
+    c.close.ensures.database clean (changed_by records records.last change) (kept_rows_after change c.args.not_after (swept now columns)) (λ up. second.tables)

@@ -4,7 +4,7 @@ use Rattle.reg_laws.proofs.Contents.{next_is}
 use Rattle.reg_core.specs.Changes.{changed_by}
 use Rattle.reg_core.specs.declared.change.Change.{Change}
 use Rattle.reg_core.specs.declared.change.Change.TheVariants.{Subscriber, Order, Certificate, Request, Decline, Revocation, Crl}
-use Rattle.reg_changes.specs.Beside.{beside}
+use Rattle.reg_changes.specs.ChangeEffects.{kept_rows_after}
 use Rattle.reg_writing.specs.Ran.{Moved}
 use Rattle.reg_changes.proofs.Making.{makes, turns, first_ok, second_ok}
 use Rattle.reg_writing.proofs.Moving.{ok_if}
@@ -13,7 +13,7 @@ use Rattle.reg_changes.proofs.entering.put.Goals as goal
 pub returns-in-Touch-clause-ok : goal.returns-in-Touch-clause-ok
 returns-in-Touch-clause-ok g c clean records columns now sound fits earlier =
     let s0 = state g.S.Store c.args.tx.now.conn.now in
-    subst (λ (change : Change). Moved s0 s0 (changed_by records records.last change) (beside change c.args.not_after columns)) (sym c.in-Touch.is) earlier
+    subst (λ (change : Change). Moved s0 s0 (changed_by records records.last change) (kept_rows_after change c.args.not_after columns)) (sym c.in-Touch.is) earlier
 
 pub returns-in-Subscriber-clause-ok : goal.returns-in-Subscriber-clause-ok
 returns-in-Subscriber-clause-ok g c clean records columns now sound fits earlier =

@@ -2,7 +2,7 @@ use Rattle.std.proofs.Common.{sym, ◌∙◌}
 use Rattle.sqlite.specs.Held.{state}
 use Rattle.sqlite.specs.State.{HasCleanDisk}
 use Rattle.reg_core.specs.Changes.{with_revocation}
-use Rattle.reg_changes.specs.Steps.{with_unlisted}
+use Rattle.reg_changes.specs.ColumnEffects.{with_unlisted}
 use Rattle.reg_writing.proofs.Moving.{moves_on, was_clean}
 use Rattle.reg_changes.proofs.entering.revoke.Goals as goal
 

@@ -6,7 +6,7 @@ use Rattle.sqlite.specs.State.{HasCleanDisk, Survives}
 use Rattle.reg_tables.specs.Columns.{office_days}
 use Rattle.reg_tables.specs.Rows.{number}
 use Rattle.reg_tables.specs.Shows.{ShowsBoth, HasOfficeDays}
-use Rattle.reg_changes.specs.AtRest.{IsNamed}
+use Rattle.reg_changes.specs.AfterStoppedChange.{IsNamed}
 use Rattle.reg_der.specs.Issuers.{with_issuer}
 use Rattle.reg_writing.proofs.Committing.{clean_before, shows_back}
 use Rattle.reg_writing.proofs.Moving.{begun_before, commits, commits_by, was_clean}

@@ -2,7 +2,7 @@ use Rattle.std.proofs.Common.{[], ◌∷◌, subst}
 use Rattle.sqlite_value.specs.declared.value.Value.TheVariants.{Blob}
 use Rattle.sqlite.specs.Held.{state}
 use Rattle.reg_writing.specs.Ran.{Ran}
-use Rattle.reg_changes.specs.declared.texts.TheConstants.{SET_NAME}
+use Rattle.reg_changes.specs.declared.sql.TheConstants.{SET_NAME}
 use Rattle.reg_changes.proofs.Sweeping.{sets_name}
 use Rattle.reg_changes.proofs.Obeying.{name_obeys}
 use Rattle.reg_changes.proofs.naming.set_name.Goals as goal

@@ -7,7 +7,7 @@ use Rattle.reg_core.specs.Changes.{with_schedule}
 use Rattle.reg_tables.specs.Columns.{office_days}
 use Rattle.reg_tables.specs.Rows.{number}
 use Rattle.reg_tables.specs.Shows.{Shows, ShowsBoth, IsShownBy, AreBoth, HasOfficeDays}
-use Rattle.reg_changes.specs.AtRest.{IsScheduled}
+use Rattle.reg_changes.specs.AfterStoppedChange.{IsScheduled}
 use Rattle.reg_writing.proofs.Committing.{clean_before}
 use Rattle.reg_writing.proofs.Moving.{begun_before, commits_by, was_clean}
 use Rattle.reg_writing.proofs.Resting.{resting, rests_sound, survives_commit}

@@ -1,5 +1,5 @@
 use Rattle.std.proofs.Common.{arith, ap, length}
-use Rattle.reg_der.proofs.Values.{length-tlv_at_least}
+use Rattle.reg_der.proofs.ValueLemmas.{length-tlv_at_least}
 use Rattle.reg_der.proofs.identifiers.front.Goals as goal
 
 pub returns-clause-shorter : goal.returns-clause-shorter

@@ -1,5 +1,5 @@
 use Rattle.std.proofs.Common.{arith}
-use Rattle.reg_der.proofs.Values.{none_is, found_is}
+use Rattle.reg_der.proofs.ValueLemmas.{none_is, found_is}
 use Rattle.reg_der.proofs.reading.take.Goals as goal
 
 pub returns-in_err-tag-clause-none : goal.returns-in_err-tag-clause-none

@@ -2,26 +2,26 @@ use Rattle.reg_lines.specs.ByCalls.{ByCalls}
 use Rattle.reg_faces.specs.Faces.{Lines, CountsFailure}
 use Rattle.reg_faces.proofs.Calling.{calls_lead}
 use Rattle.reg_faces.proofs.Failures.{calls_count, script_follows}
-use Rattle.reg_faces.proofs.Lines.{script_moves}
+use Rattle.reg_faces.proofs.ScriptsAndImports.{script_moves}
 use Rattle.reg_faces.proofs.faces.run_script.Goals as goal
 
 pub returns-clause-ends : goal.returns-clause-ends
 returns-clause-ends g c =
     script_moves
-    g.K.Keeper.is_clean
-    g.K.Keeper.stands
-    (ByCalls g.K.Calls.runs g.K.Calls.asks g.K.Calls.ocsps)
-    (Lines g.K.Keeper.signs)
+    g.O.OfficeOfRecords.is_clean
+    g.O.OfficeOfRecords.stands
+    (ByCalls g.O.OfficeCalls.runs g.O.OfficeCalls.asks g.O.OfficeCalls.ocsps)
+    (Lines g.O.OfficeOfRecords.signs)
     (calls_lead
-    g.K.Keeper.is_clean
-    g.K.Keeper.stands
-    g.K.Keeper.signs
-    g.K.Calls.runs
-    g.K.Calls.asks
-    g.K.Calls.ocsps
-    g.met.K.Keeper.runs_lead
-    g.met.K.Keeper.asks_lead
-    g.met.K.Keeper.ocsps_lead)
+    g.O.OfficeOfRecords.is_clean
+    g.O.OfficeOfRecords.stands
+    g.O.OfficeOfRecords.signs
+    g.O.OfficeCalls.runs
+    g.O.OfficeCalls.asks
+    g.O.OfficeCalls.ocsps
+    g.met.O.OfficeOfRecords.runs_lead
+    g.met.O.OfficeOfRecords.asks_lead
+    g.met.O.OfficeOfRecords.ocsps_lead)
     g.R.Read.remaining
     g.W.Write.contents
     _
@@ -36,15 +36,15 @@ returns-clause-ends g c =
 pub returns-clause-device : goal.returns-clause-device
 returns-clause-device g c =
     script_follows
-    (ByCalls g.K.Calls.runs g.K.Calls.asks g.K.Calls.ocsps)
-    (λ s meaning given t. CountsFailure (g.K.Keeper.failures s) given (g.K.Keeper.failures t))
+    (ByCalls g.O.OfficeCalls.runs g.O.OfficeCalls.asks g.O.OfficeCalls.ocsps)
+    (λ s meaning given t. CountsFailure (g.O.OfficeOfRecords.failures s) given (g.O.OfficeOfRecords.failures t))
     (calls_count
-    g.K.Keeper.failures
-    g.K.Calls.runs
-    g.K.Calls.asks
-    g.K.Calls.ocsps
-    g.met.K.Keeper.runs_count
-    g.met.K.Keeper.asks_unsigned)
+    g.O.OfficeOfRecords.failures
+    g.O.OfficeCalls.runs
+    g.O.OfficeCalls.asks
+    g.O.OfficeCalls.ocsps
+    g.met.O.OfficeOfRecords.runs_count
+    g.met.O.OfficeOfRecords.asks_unsigned)
     g.R.Read.remaining
     g.W.Write.contents
     _

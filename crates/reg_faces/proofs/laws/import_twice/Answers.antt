@@ -17,9 +17,9 @@ pub returns : goal.returns
 returns g c = λ identity records between after now text out out' again again' rows.
     comes_twice
     AnyBytes
-    (Lines g.K.Keeper.signs identity)
+    (Lines g.O.OfficeOfRecords.signs identity)
     (λ s moment command outcome t happened.
-    happens_by (signed_by g.K.Keeper.signs identity.crls) AnyBytes s moment (λ bytes signed. tt) command outcome t happened)
+    happens_by (signed_by g.O.OfficeOfRecords.signs identity.crls) AnyBytes s moment (λ bytes signed. tt) command outcome t happened)
     records
     between
     after

@@ -3,4 +3,4 @@ use Rattle.reg_jobs.proofs.jobs.import_kept.Goals as goal
 
 pub returns : goal.returns
 returns g c =
-    then_still g.P.Opened.Keeper.is_clean g.P.Opened.Keeper.stands _ _ _ _ c.import_strictly-imported.ensures c.keep_reason.ensures
+    then_still g.P.Opened.OfficeOfRecords.is_clean g.P.Opened.OfficeOfRecords.stands _ _ _ _ c.import_strictly-imported.ensures c.keep_reason.ensures

@@ -7,4 +7,4 @@ use Rattle.reg_jobs.proofs.listing.given_list.Given as goal
 -- so many rows were given, and are the text so far
 abbrev pub invariant-loop : goal.invariant-loop
 invariant-loop g l = (done : List Row) × IsText l.form l.fn.from done l.text.items
-    × Leads g.P.Opened.Keeper.is_clean g.P.Opened.Keeper.stands (IsGoing l.now l.fn.from done l.next) l.initial.register l.register
+    × Leads g.P.Opened.OfficeOfRecords.is_clean g.P.Opened.OfficeOfRecords.stands (IsGoing l.now l.fn.from done l.next) l.initial.register l.register

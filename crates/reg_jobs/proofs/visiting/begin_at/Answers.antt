@@ -4,4 +4,4 @@ use Rattle.reg_jobs.proofs.visiting.begin_at.Goals as goal
 
 pub returns-in-Err : goal.returns-in-Err
 returns-in-Err g c =
-    roomless_moves g.P.Opened.Keeper.is_clean g.P.Opened.Keeper.stands g.P.Opened.Keeper.signs c.args.now _ _ c.args.request.now _ refl c.new.ensures.items
+    roomless_moves g.P.Opened.OfficeOfRecords.is_clean g.P.Opened.OfficeOfRecords.stands g.P.Opened.OfficeOfRecords.signs c.args.now _ _ c.args.request.now _ refl c.new.ensures.items

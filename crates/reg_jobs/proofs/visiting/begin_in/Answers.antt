@@ -6,17 +6,17 @@ use Rattle.reg_jobs.proofs.visiting.begin_in.Goals as goal
 
 pub returns-in-Ok-Some : goal.returns-in-Ok-Some
 returns-in-Ok-Some g c =
-    left_moves g.P.Opened.Keeper.signs g.P.Place.gave g.met.P.Place.gave_signs g.P.Opened.Keeper.is_clean g.P.Opened.Keeper.stands c.args.now _ _
+    left_moves g.P.Opened.OfficeOfRecords.signs g.P.Place.gave g.met.P.Place.gave_signs g.P.Opened.OfficeOfRecords.is_clean g.P.Opened.OfficeOfRecords.stands c.args.now _ _
     c.args.request.now _ _ _ _ (rw c.in-Ok-Some.field-0-is at c.in-Ok-Some.ensures.ends)
 
 pub returns-in-Ok-None : goal.returns-in-Ok-None
 returns-in-Ok-None g c =
-    exchange_over g.P.Opened.Keeper.is_clean g.P.Opened.Keeper.stands g.P.Opened.Keeper.signs c.args.now (λ (v : Vec ℕ Global). v.items)
+    exchange_over g.P.Opened.OfficeOfRecords.is_clean g.P.Opened.OfficeOfRecords.stands g.P.Opened.OfficeOfRecords.signs c.args.now (λ (v : Vec ℕ Global). v.items)
     c.args.text c.begin_one-begun.new.writer _ _ c.args.request.now _ _ (Ok tt) c.requires (rw c.in-Ok-None.field-0-is at c.in-Ok-None.ensures.ends) tt
     c.response_of.ensures
 
 pub returns-in-Err : goal.returns-in-Err
 returns-in-Err g c =
-    exchange_over g.P.Opened.Keeper.is_clean g.P.Opened.Keeper.stands g.P.Opened.Keeper.signs c.args.now (λ (v : Vec ℕ Global). v.items) _ _ _ _
+    exchange_over g.P.Opened.OfficeOfRecords.is_clean g.P.Opened.OfficeOfRecords.stands g.P.Opened.OfficeOfRecords.signs c.args.now (λ (v : Vec ℕ Global). v.items) _ _ _ _
     c.args.request.now _ _ (Err c.in-Err.fault) c.requires c.in-Err.ensures.ends c.in-Err.ensures.silent
     c.response_of-in-Err.ensures

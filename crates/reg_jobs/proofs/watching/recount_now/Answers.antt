@@ -5,7 +5,7 @@ use Rattle.reg_jobs.proofs.watching.recount_now.Goals as goal
 
 pub returns-in-Ok-clause-moves : goal.returns-in-Ok-clause-moves
 returns-in-Ok-clause-moves g c =
-    looks_as g.P.Opened.Keeper.is_clean g.P.Opened.Keeper.stands
+    looks_as g.P.Opened.OfficeOfRecords.is_clean g.P.Opened.OfficeOfRecords.stands
     (λ records. HasRequests records c.args.now (Ok c.in-Ok.requests))
     (λ records. Recounts records c.args.now c.args.tally.now c.note_requests.new.self)
     (λ records counted. inr (c.in-Ok.requests, counted, c.note_requests.ensures))
@@ -15,7 +15,7 @@ returns-in-Ok-clause-moves g c =
 
 pub returns-in-Err-clause-moves : goal.returns-in-Err-clause-moves
 returns-in-Err-clause-moves g c =
-    looks_as g.P.Opened.Keeper.is_clean g.P.Opened.Keeper.stands
+    looks_as g.P.Opened.OfficeOfRecords.is_clean g.P.Opened.OfficeOfRecords.stands
     (λ records. HasRequests records c.args.now c.requests_at.result)
     (λ records. Recounts records c.args.now c.args.tally.now c.args.tally.now)
     (λ records seen. inl refl)

@@ -5,7 +5,7 @@ use Rattle.reg_jobs.proofs.watching.requests_with.Goals as goal
 
 pub returns-in-Ok : goal.returns-in-Ok
 returns-in-Ok g c =
-    looks_as g.P.Opened.Keeper.is_clean g.P.Opened.Keeper.stands
+    looks_as g.P.Opened.OfficeOfRecords.is_clean g.P.Opened.OfficeOfRecords.stands
     (λ records. HasOpen records c.args.now (Ok c.in-Ok.waiting))
     (λ records. HasOverdue records c.args.now (Ok c.args.overdue)
     → HasRequests records c.args.now (Ok (record { at = c.args.now; waiting = c.in-Ok.waiting; overdue = c.args.overdue })))
@@ -16,7 +16,7 @@ returns-in-Ok g c =
 
 pub returns-in-Err : goal.returns-in-Err
 returns-in-Err g c =
-    looks_as g.P.Opened.Keeper.is_clean g.P.Opened.Keeper.stands
+    looks_as g.P.Opened.OfficeOfRecords.is_clean g.P.Opened.OfficeOfRecords.stands
     (λ records. HasOpen records c.args.now (Err c.in-Err.fault))
     (λ records. HasOverdue records c.args.now (Ok c.args.overdue) → HasRequests records c.args.now (Err c.in-Err.fault))
     (λ records waiting overdue. tt)

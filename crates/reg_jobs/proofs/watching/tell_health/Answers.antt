@@ -6,7 +6,7 @@ use Rattle.reg_jobs.proofs.watching.tell_health.Goals as goal
 
 pub returns : goal.returns
 returns g c =
-    looks_as g.P.Opened.Keeper.is_clean g.P.Opened.Keeper.stands
+    looks_as g.P.Opened.OfficeOfRecords.is_clean g.P.Opened.OfficeOfRecords.stands
     (λ records. HasFound records c.args.now c.found_at-found.result)
     (λ records. TellsItself c.args.now records Health c.written.result.items)
     (λ records found. (

@@ -7,7 +7,7 @@ use Rattle.reg_jobs.proofs.watching.tell_itself.Goals as goal
 pub returns-in-OnlyGet-clause-moves : goal.returns-in-OnlyGet-clause-moves
 returns-in-OnlyGet-clause-moves g c =
     rw c.in-OnlyGet.is
-    (looks_not g.P.Opened.Keeper.is_clean g.P.Opened.Keeper.stands
+    (looks_not g.P.Opened.OfficeOfRecords.is_clean g.P.Opened.OfficeOfRecords.stands
     (λ records. TellsItself c.args.now records OnlyGet c.written.result.items)
     (λ records. (only_get, refl, c.written.ensures only_get c.only_get.ensures))
     _

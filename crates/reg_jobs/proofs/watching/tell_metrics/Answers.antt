@@ -7,7 +7,7 @@ use Rattle.reg_jobs.proofs.watching.tell_metrics.Goals as goal
 
 pub returns-clause-moves : goal.returns-clause-moves
 returns-clause-moves g c =
-    looks_as g.P.Opened.Keeper.is_clean g.P.Opened.Keeper.stands
+    looks_as g.P.Opened.OfficeOfRecords.is_clean g.P.Opened.OfficeOfRecords.stands
     (λ records. Recounts records c.args.now c.args.tally.now c.recount.new.tally × HasFound records c.args.now c.found_at-found.result)
     (λ records. TellsItself c.args.now records Metrics c.written.result.items)
     (λ records both.
@@ -18,4 +18,4 @@ returns-clause-moves g c =
     ))
     _
     _
-    (looks_then g.P.Opened.Keeper.is_clean g.P.Opened.Keeper.stands _ _ _ _ _ c.recount.ensures.moves c.found_at-found.ensures)
+    (looks_then g.P.Opened.OfficeOfRecords.is_clean g.P.Opened.OfficeOfRecords.stands _ _ _ _ _ c.recount.ensures.moves c.found_at-found.ensures)

@@ -12,7 +12,7 @@ invariant-loop-index g l = record {
   untrimmed : reader_trim l.rows ≡ trim.None;
   ready : Ready l.rows;
   config : reader_config l.rows ≡ default_config;
-  going : (text : List ℕ) → ReadsText l.initial.rows text → Going (ByCalls g.O.Calls.runs g.O.Calls.asks g.O.Calls.ocsps) l.is_strict l.now l.initial.office l.office
+  going : (text : List ℕ) → ReadsText l.initial.rows text → Going (ByCalls g.O.OfficeCalls.runs g.O.OfficeCalls.asks g.O.OfficeCalls.ocsps) l.is_strict l.now l.initial.office l.office
       (g.W.Write.contents l.initial.writer) (g.W.Write.contents l.writer)
       text (source_of (λ (s : Bor (List ℕ)). Some s.now) l.rows) (reader_state l.rows) l.index;
 }

@@ -1,5 +1,5 @@
 use Rattle.std.proofs.Common.{List, ℕ, Ok, Err, refl, inl, inr, subst, sym, ◌∙◌}
-use Rattle.reg_lines.specs.Answer.{responded, Tells}
+use Rattle.reg_lines.specs.Answer.{responded, TellsAnswer}
 use Rattle.reg_lines.specs.ByCalls.{ByCalls}
 use Rattle.reg_lines.specs.Meaning.{asks_ocsp}
 use Rattle.reg_lines.proofs.Readings.{bytes_of-decoded}
@@ -17,8 +17,8 @@ returns-in-Ok-ocsp g c =
       λ _.
           inl (
             responded (Ok c.in-Ok-ocsp.response.items),
-            subst (λ (b : List ℕ). (ByCalls g.O.Calls.runs g.O.Calls.asks g.O.Calls.ocsps) c.args.office.now (asks_ocsp c.args.now b) (responded (Ok c.in-Ok-ocsp.response.items)) c.ocsp.new.self) same c.in-Ok-ocsp.ensures,
-            subst (λ (b : List ℕ). Tells (responded (Ok b)) reply) c.deref-in-Ok-ocsp.ensures.value tells,
+            subst (λ (b : List ℕ). (ByCalls g.O.OfficeCalls.runs g.O.OfficeCalls.asks g.O.OfficeCalls.ocsps) c.args.office.now (asks_ocsp c.args.now b) (responded (Ok c.in-Ok-ocsp.response.items)) c.ocsp.new.self) same c.in-Ok-ocsp.ensures,
+            subst (λ (b : List ℕ). TellsAnswer (responded (Ok b)) reply) c.deref-in-Ok-ocsp.ensures.value tells,
           ),
     )
 
@@ -30,7 +30,7 @@ returns g c =
       λ _.
           inl (
             responded (Err _),
-            subst (λ (b : List ℕ). (ByCalls g.O.Calls.runs g.O.Calls.asks g.O.Calls.ocsps) c.args.office.now (asks_ocsp c.args.now b) (responded (Err _)) c.ocsp.new.self) same c.in-Err.ensures,
+            subst (λ (b : List ℕ). (ByCalls g.O.OfficeCalls.runs g.O.OfficeCalls.asks g.O.OfficeCalls.ocsps) c.args.office.now (asks_ocsp c.args.now b) (responded (Err _)) c.ocsp.new.self) same c.in-Err.ensures,
             refl,
           ),
     )

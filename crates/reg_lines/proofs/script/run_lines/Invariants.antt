@@ -7,7 +7,7 @@ use Rattle.reg_lines.proofs.script.run_lines.Given as goal
 abbrev pub invariant-loop : goal.invariant-loop
 invariant-loop g l = record {
   room : l.held < 8193;
-  going : Going (ByCalls g.O.Calls.runs g.O.Calls.asks g.O.Calls.ocsps) l.initial.office l.office
+  going : Going (ByCalls g.O.OfficeCalls.runs g.O.OfficeCalls.asks g.O.OfficeCalls.ocsps) l.initial.office l.office
       (g.R.Read.remaining l.initial.reader) (g.R.Read.remaining l.reader) (g.W.Write.contents l.initial.writer) (g.W.Write.contents l.writer)
       (take l.held l.buffer) l.counter;
 }

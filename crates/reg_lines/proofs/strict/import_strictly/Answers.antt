@@ -4,9 +4,9 @@ use Rattle.reg_lines.proofs.strict.import_strictly.Goals as goal
 
 pub returns-in-Ok : goal.returns-in-Ok
 returns-in-Ok g c =
-    strict_of_rows (ByCalls g.O.Calls.runs g.O.Calls.asks g.O.Calls.ocsps) g.R.Read.remaining g.W.Write.contents c.args.now _ _ _ _ _ _
+    strict_of_rows (ByCalls g.O.OfficeCalls.runs g.O.OfficeCalls.asks g.O.OfficeCalls.ocsps) g.R.Read.remaining g.W.Write.contents c.args.now _ _ _ _ _ _
     c.in-Ok.text.items c.run_ended.result c.in-Ok.ensures (rw c.deref.ensures.value at c.run_ended.ensures)
 
 pub returns-in-Err : goal.returns-in-Err
 returns-in-Err g c =
-    strict_of_read (ByCalls g.O.Calls.runs g.O.Calls.asks g.O.Calls.ocsps) g.R.Read.remaining g.W.Write.contents c.args.now _ _ _ _ c.in-Err.fault c.in-Err.ensures
+    strict_of_read (ByCalls g.O.OfficeCalls.runs g.O.OfficeCalls.asks g.O.OfficeCalls.ocsps) g.R.Read.remaining g.W.Write.contents c.args.now _ _ _ _ c.in-Err.fault c.in-Err.ensures

@@ -4,7 +4,7 @@ use Rattle.reg_lines.proofs.strict.run_ended.Goals as goal
 
 pub returns-in-Ok-true : goal.returns-in-Ok-true
 returns-in-Ok-true g c =
-    strict_ran (ByCalls g.O.Calls.runs g.O.Calls.asks g.O.Calls.ocsps) c.args.now _ _ _ _ c.args.text.now c.ends_behind.result
+    strict_ran (ByCalls g.O.OfficeCalls.runs g.O.OfficeCalls.asks g.O.OfficeCalls.ocsps) c.args.now _ _ _ _ c.args.text.now c.ends_behind.result
     (rw (c.in-Ok-true.field-0-test, c.ended_part-ended.ensures) at c.in-Ok-true.ensures) (rw c.ended_part-ended.ensures at c.ends_behind.ensures)
 
 pub returns-in-Ok-false : goal.returns-in-Ok-false
@@ -12,4 +12,4 @@ returns-in-Ok-false g c = rw (c.in-Ok-false.field-0-test, c.ended_part-ended.ens
 
 pub returns-in-Err : goal.returns-in-Err
 returns-in-Err g c =
-    strict_failed (ByCalls g.O.Calls.runs g.O.Calls.asks g.O.Calls.ocsps) c.args.now _ _ _ _ c.args.text.now _ c.in-Err.fault c.ended_part-ended.ensures c.in-Err.ensures
+    strict_failed (ByCalls g.O.OfficeCalls.runs g.O.OfficeCalls.asks g.O.OfficeCalls.ocsps) c.args.now _ _ _ _ c.args.text.now _ c.in-Err.fault c.ended_part-ended.ensures c.in-Err.ensures

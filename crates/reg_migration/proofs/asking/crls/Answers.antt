@@ -1,7 +1,7 @@
 use Rattle.std.proofs.Common.{map}
 use Rattle.sqlite.specs.Held.{state}
 use Rattle.reg_core.specs.Crls.{row_of}
-use Rattle.reg_migration.proofs.Steps.{if_ok}
+use Rattle.reg_migration.proofs.OneAfterAnother.{if_ok}
 use Rattle.reg_migration.proofs.Questions.{reading_crls, crls_are}
 use Rattle.reg_migration.proofs.asking.crls.Goals as goal
 

@@ -1,5 +1,5 @@
 use Rattle.reg_core.specs.declared.rows.CrlRow.{CrlRow}
-use Rattle.reg_tables.specs.Reading.{shown_crl}
+use Rattle.reg_tables.specs.ReadStatements.{shown_crl}
 use Rattle.reg_tables.proofs.Queries.{all_of}
 use Rattle.reg_tables.proofs.Taking.{more_read}
 use Rattle.reg_migration.proofs.asking.crls_in.Goals as goal

@@ -5,7 +5,7 @@ use Rattle.reg_core.specs.declared.rows.CertRow.{CertRow}
 use Rattle.reg_laws.proofs.Lists.{some_and_here}
 use Rattle.reg_tables.proofs.Staying.{ok_then}
 use Rattle.reg_tables.proofs.CertificateLemmas.{reading_by_serial, by_serial_one}
-use Rattle.reg_migration.proofs.Steps.{if_ok}
+use Rattle.reg_migration.proofs.OneAfterAnother.{if_ok}
 use Rattle.reg_migration.proofs.asking.end_of.Goals as goal
 
 pub returns-clause-same : goal.returns-clause-same

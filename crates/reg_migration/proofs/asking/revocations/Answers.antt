@@ -1,5 +1,5 @@
 use Rattle.sqlite.specs.Held.{state}
-use Rattle.reg_migration.proofs.Steps.{if_ok}
+use Rattle.reg_migration.proofs.OneAfterAnother.{if_ok}
 use Rattle.reg_migration.proofs.Questions.{reading_revocations, revocations_are}
 use Rattle.reg_migration.proofs.asking.revocations.Goals as goal
 

@@ -1,6 +1,6 @@
 use Rattle.reg_core.specs.Serial.{IsSerial}
 use Rattle.reg_core.specs.declared.rows.RevocationRow.{RevocationRow}
-use Rattle.reg_tables.specs.Reading.{shown_revocation}
+use Rattle.reg_tables.specs.ReadStatements.{shown_revocation}
 use Rattle.reg_tables.proofs.Taking.{more_read}
 use Rattle.reg_migration.proofs.asking.revocations_in.Goals as goal
 

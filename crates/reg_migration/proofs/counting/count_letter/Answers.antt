@@ -1,7 +1,7 @@
 use Rattle.std.proofs.Common.{◌∙◌}
 use Rattle.sqlite.specs.Held.{state}
 use Rattle.reg_migration.specs.Refilled.{with_letter}
-use Rattle.reg_migration.proofs.Steps.{if_ok}
+use Rattle.reg_migration.proofs.OneAfterAnother.{if_ok}
 use Rattle.reg_migration.proofs.LetterCounts.{reading_letter, letters_shown}
 use Rattle.reg_migration.proofs.counting.count_letter.Goals as goal
 

@@ -4,7 +4,7 @@ use Rattle.sqlite.specs.Held.{state}
 use Rattle.sqlite.specs.State.{HasCleanDisk}
 use Rattle.reg_writing.proofs.Moving.{moves_on, was_clean}
 use Rattle.reg_migration.specs.Older.{kept_tables}
-use Rattle.reg_migration.specs.Rows.{IsNumbered, HasRows, with_rows, records_alone}
+use Rattle.reg_migration.specs.NumberedRows.{IsNumbered, HasRows, with_rows, records_alone}
 use Rattle.reg_migration.proofs.Defining.{has_same, moves_weaker}
 use Rattle.reg_migration.proofs.Emptying.{clears_standing, clears_kept, clears_listed, keeps_standing, keeps_kept, keeps_listed}
 use Rattle.reg_migration.proofs.making.clear_kept_tables.Goals as goal

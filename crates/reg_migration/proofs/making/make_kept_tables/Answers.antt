@@ -7,10 +7,10 @@ use Rattle.reg_tables.specs.Stays.{Moves}
 use Rattle.reg_writing.specs.Ran.{HasSchema}
 use Rattle.reg_writing.proofs.Moving.{moves_on, ok_then_on, was_clean}
 use Rattle.reg_migration.specs.Older.{kept_tables}
-use Rattle.reg_migration.specs.Rows.{HasRows, HadRows, records_alone}
+use Rattle.reg_migration.specs.NumberedRows.{HasRows, HadRows, records_alone}
 use Rattle.reg_migration.proofs.Defining.{has_same}
 use Rattle.reg_migration.proofs.SchemaTexts.{standing_defined, kept_defined, listed_defined}
-use Rattle.reg_migration.proofs.Steps.{ok_on}
+use Rattle.reg_migration.proofs.OneAfterAnother.{ok_on}
 use Rattle.reg_migration.proofs.making.make_kept_tables.Goals as goal
 
 pub returns-clause-ok : goal.returns-clause-ok

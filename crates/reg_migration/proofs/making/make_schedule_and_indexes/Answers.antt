@@ -7,9 +7,9 @@ use Rattle.reg_tables.specs.Stays.{Moves}
 use Rattle.reg_writing.specs.Ran.{HasSchema}
 use Rattle.reg_writing.proofs.Moving.{moves_on, ok_then_on, was_clean}
 use Rattle.reg_migration.specs.Older.{kept_tables}
-use Rattle.reg_migration.specs.Rows.{HasRows, HadRows, records_alone, with_rows}
+use Rattle.reg_migration.specs.NumberedRows.{HasRows, HadRows, records_alone, with_rows}
 use Rattle.reg_migration.proofs.SchemaTexts.{longest_defined, crl_at_defined, standing_due_defined}
-use Rattle.reg_migration.proofs.Steps.{ok_on}
+use Rattle.reg_migration.proofs.OneAfterAnother.{ok_on}
 use Rattle.reg_migration.proofs.making.make_schedule_and_indexes.Goals as goal
 
 pub returns-clause-ok : goal.returns-clause-ok

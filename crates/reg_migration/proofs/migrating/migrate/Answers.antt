@@ -9,7 +9,7 @@ use Rattle.reg_tables.specs.Shows.{HasOfficeDays, Holds}
 use Rattle.reg_writing.proofs.Committing.{clean_before}
 use Rattle.reg_writing.proofs.Moving.{commits_by, was_clean}
 use Rattle.reg_writing.proofs.Resting.{survives_commit}
-use Rattle.reg_migration.specs.AtRest.{IsMigrated}
+use Rattle.reg_migration.specs.AfterStoppedMigration.{IsMigrated}
 use Rattle.reg_migration.specs.Older.{older_schema, IsShownByOlder}
 use Rattle.reg_migration.specs.Refilled.{HasKept, HasGreatestDays}
 use Rattle.reg_migration.proofs.Whole.{kept_whole, kept_rests}

@@ -4,7 +4,7 @@ use Rattle.sqlite.specs.Held.{state}
 use Rattle.reg_tables.specs.Rows.{number}
 use Rattle.reg_writing.specs.Ran.{Ran}
 use Rattle.reg_writing.proofs.Params.{moment_is}
-use Rattle.reg_migration.specs.declared.texts.TheConstants.{FILL_LETTERS}
+use Rattle.reg_migration.specs.declared.sql.TheConstants.{FILL_LETTERS}
 use Rattle.reg_migration.proofs.Lettering.{fills_letters}
 use Rattle.reg_tables.specs.Schema.{register_schema}
 use Rattle.reg_writing.proofs.Keeping.{inserts_keep}

@@ -4,11 +4,11 @@ use Rattle.sqlite_value.specs.declared.value.Value.TheVariants.{Int}
 use Rattle.sqlite.specs.Held.{state}
 use Rattle.sqlite.specs.State.{HasCleanDisk}
 use Rattle.reg_tables.specs.Kept.{Kept, listed_of}
-use Rattle.reg_writing.specs.Steps.{with_counts}
+use Rattle.reg_writing.specs.RowEffects.{with_counts}
 use Rattle.reg_writing.proofs.Moving.{was_clean}
 use Rattle.reg_migration.specs.Refilled.{no_columns, with_letters, HasRelisted, HasKept, HasGreatestDays}
 use Rattle.reg_migration.proofs.Refills.{few_letters, kept_counted}
-use Rattle.reg_migration.proofs.Steps.{ok_by, unchanged_before}
+use Rattle.reg_migration.proofs.OneAfterAnother.{ok_by, unchanged_before}
 use Rattle.reg_tables.specs.Schema.{register_schema}
 use Rattle.sqlite.specs.Effect.{Database}
 use Rattle.reg_migration.proofs.refilling.refill.Goals as goal

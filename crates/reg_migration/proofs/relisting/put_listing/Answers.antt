@@ -5,7 +5,7 @@ use Rattle.reg_tables.specs.Columns.{number_or_null}
 use Rattle.reg_writing.specs.Ran.{Ran}
 use Rattle.reg_writing.proofs.Params.{number_is, moment_is}
 use Rattle.reg_migration.specs.Refilled.{listed_by}
-use Rattle.reg_migration.specs.declared.texts.TheConstants.{PUT_LISTING}
+use Rattle.reg_migration.specs.declared.sql.TheConstants.{PUT_LISTING}
 use Rattle.reg_migration.proofs.Listing.{puts_listing}
 use Rattle.reg_tables.specs.Schema.{register_schema}
 use Rattle.reg_writing.proofs.Keeping.{inserts_keep}

@@ -4,7 +4,7 @@ use Rattle.sqlite.specs.Held.{state}
 use Rattle.sqlite.specs.State.{HasCleanDisk}
 use Rattle.reg_writing.proofs.Moving.{was_clean}
 use Rattle.reg_migration.specs.Refilled.{HasRelisted}
-use Rattle.reg_migration.proofs.Steps.{unchanged_before, ok_by}
+use Rattle.reg_migration.proofs.OneAfterAnother.{unchanged_before, ok_by}
 use Rattle.reg_tables.specs.Schema.{register_schema}
 use Rattle.reg_migration.proofs.relisting.relist.Goals as goal
 

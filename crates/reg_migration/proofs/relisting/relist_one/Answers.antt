@@ -8,7 +8,7 @@ use Rattle.reg_tables.specs.Shows.{AreBoth}
 use Rattle.reg_writing.specs.Ran.{Before, Moved}
 use Rattle.reg_writing.proofs.Moving.{was_clean}
 use Rattle.reg_migration.specs.Refilled.{listed_by, with_listed}
-use Rattle.reg_migration.proofs.Steps.{unchanged_before, unchanged_moves, ok_by}
+use Rattle.reg_migration.proofs.OneAfterAnother.{unchanged_before, unchanged_moves, ok_by}
 use Rattle.reg_tables.specs.Schema.{register_schema}
 use Rattle.sqlite.specs.Effect.{Database}
 use Rattle.reg_migration.proofs.relisting.relist_one.Goals as goal

@@ -5,7 +5,7 @@ use Rattle.reg_core.specs.Issuer.{Issuer}
 use Rattle.reg_der.specs.Issuers.{with_issuer}
 use Rattle.reg_tables.specs.Kept.{ShowsKept}
 use Rattle.reg_tables.proofs.Staying.{kept_shows}
-use Rattle.reg_writing.specs.AtRest.{IsAtRest}
+use Rattle.reg_writing.specs.AfterStop.{IsAtRest}
 use Rattle.reg_office.proofs.Changing.{looked_failed, changed_failed, changed_made, changed_more}
 use Rattle.reg_office.proofs.Composing.{after_looked, was_clean}
 use Rattle.reg_office.proofs.identifiers.set_key_identifier.Goals as goal

@@ -5,7 +5,7 @@ use Rattle.sqlite.specs.State.{HasCleanDisk}
 use Rattle.reg_lists.proofs.Numbers.{numbers}
 use Rattle.reg_tables.proofs.Staying.{kept_shows, looked_shows, looked_then}
 use Rattle.reg_tables.specs.Tables.{rows_of}
-use Rattle.reg_office.specs.Numbered.{row_at, table_of}
+use Rattle.reg_office.specs.Numbered.{row_at, numbered_table}
 use Rattle.reg_office.proofs.Paging.{ended_at, id_more, no_ids, numbered_page}
 use Rattle.reg_office.proofs.pages.page_by_ids.Goals as goal
 
@@ -34,7 +34,7 @@ returns-clause-page g c records kept sound clean =
     let s = g.C.Store in
     let clean_1 : HasCleanDisk (state s c.held.new.self) = omega (arith, c.loop-before.invariant.since) in
     let held = c.in_ok-held.ensures.found records (kept_shows s c.args.store.now records kept) clean_1 in
-    let end : c.end_of-end.result ≡ min (rows_of records (table_of c.args.list)) (c.args.after + c.args.most) =
+    let end : c.end_of-end.result ≡ min (rows_of records (numbered_table c.args.list)) (c.args.after + c.args.most) =
     c.end_of-end.ensures ∙ ap (λ rows. min rows (c.args.after + c.args.most)) (held ∙ ap (rows_of records) c.table_of.ensures) in
     let reached = ended_at c.args.after c.loop-before.before c.end_of-end.result c.loop-before.auto.before-end c.loop-before-test.false c.loop-before.invariant.stays in
     let rows = c.loop-before.invariant.rows records kept clean ∙ ap (λ n. filter_map (row_at records c.args.now c.args.list) (numbers (c.args.after + 1) n)) reached in

@@ -9,7 +9,7 @@ use Rattle.reg_tables.specs.Schema.{no_schema}
 use Rattle.reg_tables.specs.Shows.{HasOfficeDays}
 use Rattle.reg_writing.proofs.Moving.{was_clean}
 use Rattle.reg_writing.proofs.Resting.{survives_commit}
-use Rattle.reg_opening.specs.AtRest.{IsCreated}
+use Rattle.reg_opening.specs.AfterStoppedOpening.{IsCreated}
 use Rattle.reg_opening.proofs.FirstShown.{begun_blank, created_shows, created_days, created_rests}
 use Rattle.reg_opening.proofs.creating.create.Goals as goal
 

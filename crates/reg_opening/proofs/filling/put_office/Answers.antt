@@ -6,7 +6,7 @@ use Rattle.reg_core.specs.Schedule.{IsSchedule, greatest_of}
 use Rattle.reg_tables.specs.Rows.{number}
 use Rattle.reg_writing.specs.Ran.{Ran}
 use Rattle.reg_writing.proofs.Params.{number_is}
-use Rattle.reg_opening.specs.declared.texts.TheConstants.{PUT_OFFICE}
+use Rattle.reg_opening.specs.declared.sql.TheConstants.{PUT_OFFICE}
 use Rattle.reg_opening.proofs.FirstRows.{puts_office}
 use Rattle.reg_opening.proofs.filling.put_office.Goals as goal
 

@@ -3,9 +3,9 @@ use Rattle.sqlite.specs.Held.{state}
 use Rattle.sqlite.specs.State.{HasCleanDisk}
 use Rattle.reg_tables.specs.Schema.{register_schema}
 use Rattle.reg_writing.proofs.Moving.{moves_on, was_clean}
-use Rattle.reg_migration.specs.Rows.{records_alone}
+use Rattle.reg_migration.specs.NumberedRows.{records_alone}
 use Rattle.reg_migration.proofs.Defining.{has_same, moves_weaker}
-use Rattle.reg_migration.proofs.Steps.{ok_on}
+use Rattle.reg_migration.proofs.OneAfterAnother.{ok_on}
 use Rattle.reg_opening.specs.Blank.{IsBlank, no_rows}
 use Rattle.reg_opening.proofs.making.make.Goals as goal
 

@@ -3,7 +3,7 @@ use Rattle.sqlite.specs.Held.{state}
 use Rattle.sqlite.specs.State.{HasCleanDisk}
 use Rattle.reg_writing.proofs.Moving.{was_clean}
 use Rattle.reg_writing.proofs.Params.{ok_then}
-use Rattle.reg_migration.proofs.Steps.{ok_on}
+use Rattle.reg_migration.proofs.OneAfterAnother.{ok_on}
 use Rattle.reg_opening.specs.Said.{HasVersion, SaysNoRegister}
 use Rattle.reg_opening.specs.Examined.{SaysFound}
 use Rattle.reg_opening.proofs.opening.examine.Goals as goal

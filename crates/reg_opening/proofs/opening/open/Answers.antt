@@ -2,17 +2,17 @@ use Rattle.std.proofs.Common.{inl, inr, Result, Ok, rules, sym, subst, ◌∙◌
 use Rattle.sqlite.specs.Held.{state}
 use Rattle.sqlite.specs.State.{HasCleanDisk}
 use Rattle.sqlite.proofs.StateLemmas.{survives_then}
-use Rattle.reg_tables.specs.declared.fault.CallFault.{CallFault}
+use Rattle.reg_tables.specs.declared.fault.DatabaseFault.{DatabaseFault}
 use Rattle.reg_tables.specs.Stays.{IsRegister}
 use Rattle.reg_tables.proofs.Staying.{kept_shows}
 use Rattle.reg_core.specs.Schedule.{greatest_of}
 use Rattle.reg_writing.proofs.Days.{stays_days}
 use Rattle.reg_writing.proofs.Moving.{was_clean}
 use Rattle.reg_writing.proofs.Resting.{leaves_less}
-use Rattle.reg_migration.specs.AtRest.{IsMigrated}
+use Rattle.reg_migration.specs.AfterStoppedMigration.{IsMigrated}
 use Rattle.reg_migration.specs.Older.{older_schema, ShowsOlder}
 use Rattle.reg_migration.proofs.Whole.{any_kept, any_days}
-use Rattle.reg_opening.specs.AtRest.{IsOpened}
+use Rattle.reg_opening.specs.AfterStoppedOpening.{IsOpened}
 use Rattle.reg_opening.specs.Examined.{SaysFound, IsOlderOf}
 use Rattle.reg_opening.proofs.Newer.{never_some, newer_kept, newer_days, newer_rests}
 use Rattle.reg_opening.proofs.NoRegister.{no_register}
@@ -95,7 +95,7 @@ pub returns-in_ok-migrate-in-Some-clause-migrated : goal.returns-in_ok-migrate-i
 returns-in_ok-migrate-in-Some-clause-migrated g c version records shows sound =
     let s = g.S.Store in
     let mid = c.examine.new.conn in
-    let done : Result (Unit {0}) CallFault = Ok tt in
+    let done : Result (Unit {0}) DatabaseFault = Ok tt in
     newer_kept s c.args.conn.now mid c.migrate.new.conn version records c.in-Some.older done c.examine.ensures.survives.clean c.migrate.ensures.survives.clean c.examine.ensures.same shows sound
     (λ clean. subst (IsOlderOf version records) c.in-Some.is (c.in_ok-found.ensures.older clean version records shows))
     (λ v those shown whole e one last. c.in_ok-migrate-in-Some.ensures.ok those (subst (λ w. ShowsOlder w s mid those) e shown) whole one last)

@@ -7,9 +7,9 @@ use Rattle.reg_tables.specs.Shows.{IsShownBy}
 use Rattle.reg_tables.specs.Stays.{Stepped}
 use Rattle.reg_tables.proofs.Staying.{stepped_then}
 use Rattle.reg_writing.proofs.Moving.{was_clean}
-use Rattle.reg_opening.specs.Said.{SaysOffice, IsRead, IsRefused}
-use Rattle.reg_tables.specs.declared.statements.TheConstants.{STEPS}
-use Rattle.reg_migration.proofs.Steps.{ok_on}
+use Rattle.reg_opening.specs.Said.{SaysOffice, IsRead, IsRefusedText}
+use Rattle.reg_tables.specs.declared.sql.TheConstants.{STEPS}
+use Rattle.reg_migration.proofs.OneAfterAnother.{ok_on}
 use Rattle.reg_opening.proofs.QueryTexts.{office_query, steps_query}
 use Rattle.reg_opening.proofs.Registered.{office_never, steps_never, office_read, steps_read, office_shown}
 use Rattle.reg_opening.proofs.opening.test_office.Goals as goal
@@ -61,7 +61,7 @@ returns-in_err-steps-clause-none g c clean is =
     let s2 = state g.S.Store c.peek-2.new.tx.conn.now in
     let clean1 : HasCleanDisk s1 = was_clean s1 s2 c.peek-2.ensures.survives.clean clean in
     let same = c.in_ok-office.ensures.same clean1 office_query in
-    inl (inr (subst (λ (d : Database). IsRefused d STEPS.now) same.0.now_is (c.peek-2.ensures.none clean steps_query (search (rules, is)))))
+    inl (inr (subst (λ (d : Database). IsRefusedText d STEPS.now) same.0.now_is (c.peek-2.ensures.none clean steps_query (search (rules, is)))))
 
 pub returns-clause-none : goal.returns-clause-none
 returns-clause-none g c clean is =

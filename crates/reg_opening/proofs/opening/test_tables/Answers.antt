@@ -3,7 +3,7 @@ use Rattle.sqlite.specs.Effect.{Database}
 use Rattle.sqlite.specs.Held.{state}
 use Rattle.sqlite.specs.State.{HasCleanDisk}
 use Rattle.reg_writing.proofs.Moving.{was_clean}
-use Rattle.reg_migration.specs.Older.{number_of, IsShownByOlder}
+use Rattle.reg_migration.specs.Older.{version_number, IsShownByOlder}
 use Rattle.reg_opening.specs.Said.{version_of, HasVersion, SaysNoOffice, SaysNoOlder}
 use Rattle.reg_opening.proofs.Newer.{never_some, same_some}
 use Rattle.reg_opening.proofs.OlderRead.{register_of, older_of}
@@ -46,7 +46,7 @@ returns-in_err-days-in-Some-clause-none g c clean is =
     let s2 = state g.S.Store c.test_older.new.tx.conn.now in
     let was : HasCleanDisk s1 = was_clean s1 s2 c.test_older.ensures.stepped.survives.clean clean in
     let same = c.in_ok-older.ensures.same was in
-    let version : HasVersion s0.now (number_of c.in-Some.version) = subst (λ v. HasVersion s0.now (version_of v)) c.in-Some.is (c.in_ok-older.ensures.ok was) in
+    let version : HasVersion s0.now (version_number c.in-Some.version) = subst (λ v. HasVersion s0.now (version_of v)) c.in-Some.is (c.in_ok-older.ensures.ok was) in
     inr (inr (c.in-Some.version, version, subst (λ (d : Database). SaysNoOlder d) same.0.now_is (c.test_older.ensures.none clean (search (rules, is)))))
 
 pub returns-in_err-days-in-Some-clause-shown : goal.returns-in_err-days-in-Some-clause-shown

@@ -2,7 +2,7 @@ use Rattle.std.proofs.Common.{subst, sym}
 use Rattle.reg_core.specs.Records.{no_records}
 use Rattle.reg_jobs.proofs.Fates.{unmade}
 use Rattle.reg_office.proofs.Leaving.{leaves_made}
-use Rattle.reg_office.specs.AtRest.{LeavesTold}
+use Rattle.reg_office.specs.AfterStoppedCommand.{LeavesTold}
 use Rattle.reg_program.proofs.Opened.{made_stands}
 use Rattle.reg_program.proofs.files.made_over.Goals as goal
 

@@ -1,5 +1,5 @@
 use Rattle.reg_program.proofs.Opened.{settled_made, settled_not, settled_stands}
-use Rattle.reg_jobs.specs.Failing.{IsMaking}
+use Rattle.reg_jobs.specs.RegisterFailures.{IsMaking}
 use Rattle.reg_program.proofs.files.make_register.Goals as goal
 
 pub returns-clause-ok : goal.returns-clause-ok

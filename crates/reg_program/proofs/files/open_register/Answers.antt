@@ -1,7 +1,7 @@
 use Rattle.std.proofs.Common.{◌≡◌}
 use Rattle.std.specs.Prelude.{option_map}
 use Rattle.reg_program.proofs.Opened.{settled_ok, settled_opened, settled_not}
-use Rattle.reg_jobs.specs.Failing.{IsOpening}
+use Rattle.reg_jobs.specs.RegisterFailures.{IsOpening}
 use Rattle.reg_program.proofs.files.open_register.Goals as goal
 
 pub returns-clause-ok : goal.returns-clause-ok

@@ -1,5 +1,5 @@
 use Rattle.std.proofs.Common.{List, ℕ, subst}
-use Rattle.reg_jobs.specs.Signing.{MayFollow}
+use Rattle.reg_jobs.specs.WhoSigns.{MayFollow}
 use Rattle.reg_program.proofs.signing.signer_after.Goals as goal
 
 pub returns-in-None-clause-follows : goal.returns-in-None-clause-follows

@@ -8,7 +8,7 @@ use Rattle.sqlite.specs.Held.{state}
 use Rattle.sqlite.specs.State.{HasCleanDisk}
 use Rattle.reg_writing.proofs.Moving.{was_clean}
 use Rattle.reg_migration.specs.Older.{IsShownByOlder, ShowsOlder}
-use Rattle.reg_opening.specs.AtRest.{IsOpened}
+use Rattle.reg_opening.specs.AfterStoppedOpening.{IsOpened}
 use Rattle.reg_tables.proofs.Staying.{kept_shows}
 use Rattle.reg_tables.specs.Kept.{ShowsKept}
 use Rattle.reg_tables.specs.Shows.{Shows}

@@ -5,11 +5,11 @@ use Rattle.reg_tables.specs.Rows.{number}
 use Rattle.reg_tables.proofs.Staying.{shows_register, shown_then}
 use Rattle.reg_tables.proofs.CertificateLemmas.{reading_by_order, by_order_none, by_order_one, asked_by_order, by_order_few, by_order_has}
 use Rattle.reg_tables.specs.Failing.{HasFailed}
-use Rattle.reg_tables.specs.declared.fault.CallFault.TheVariants.{Store}
+use Rattle.reg_tables.specs.declared.fault.DatabaseFault.TheVariants.{Store}
 use Rattle.reg_tables.proofs.FailingLemmas.{written_register, written_shown}
 use Rattle.reg_core.specs.Serial.{IsSerial}
 use Rattle.reg_tables.proofs.Few.{all_both}
-use Rattle.reg_tables.specs.Values.{IsValidity}
+use Rattle.reg_tables.specs.RecordValues.{IsValidity}
 use Rattle.reg_tables.proofs.certificates.cert_of_order.Goals as goal
 
 pub returns-in-None-clause-found : goal.returns-in-None-clause-found

@@ -6,7 +6,7 @@ use Rattle.reg_core.specs.declared.command.Counts.{Counts}
 use Rattle.reg_tables.proofs.Staying.{looked_both, both_then}
 use Rattle.reg_tables.proofs.CountLaws.{letters_as_many, good_then, revoked_then, expired_then, letters_few, ended_within, sums_few}
 use Rattle.reg_tables.specs.Failing.{HasFailed}
-use Rattle.reg_tables.specs.declared.fault.CallFault.TheVariants.{Store}
+use Rattle.reg_tables.specs.declared.fault.DatabaseFault.TheVariants.{Store}
 use Rattle.reg_tables.proofs.FailingLemmas.{failed_then, looked_written}
 use Rattle.reg_tables.proofs.counting.counts.Goals as goal
 

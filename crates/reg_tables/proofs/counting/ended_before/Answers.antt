@@ -7,7 +7,7 @@ use Rattle.reg_tables.specs.Columns.{ends_before}
 use Rattle.reg_tables.proofs.Staying.{both_shows, shows_register, both_then}
 use Rattle.reg_tables.proofs.CountLemmas.{reading_ended, ended_shown, asked_ended}
 use Rattle.reg_tables.specs.Failing.{HasFailed}
-use Rattle.reg_tables.specs.declared.fault.CallFault.TheVariants.{Store}
+use Rattle.reg_tables.specs.declared.fault.DatabaseFault.TheVariants.{Store}
 use Rattle.reg_tables.proofs.FailingLemmas.{written_register, written_both}
 use Rattle.reg_tables.proofs.CountLaws.{letters_few}
 use Rattle.reg_tables.proofs.counting.ended_before.Goals as goal

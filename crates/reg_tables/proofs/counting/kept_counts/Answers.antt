@@ -4,7 +4,7 @@ use Rattle.sqlite_value.specs.Order.{Row, column}
 use Rattle.reg_tables.proofs.Staying.{both_shows, shows_register, both_then}
 use Rattle.reg_tables.proofs.CountLemmas.{reading_counts, counts_one, asked_counts, counts_rows}
 use Rattle.reg_tables.specs.Failing.{HasFailed}
-use Rattle.reg_tables.specs.declared.fault.CallFault.TheVariants.{Store}
+use Rattle.reg_tables.specs.declared.fault.DatabaseFault.TheVariants.{Store}
 use Rattle.reg_tables.proofs.FailingLemmas.{written_register, written_both}
 use Rattle.reg_tables.proofs.counting.kept_counts.Goals as goal
 

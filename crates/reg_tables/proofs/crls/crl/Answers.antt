@@ -8,12 +8,12 @@ use Rattle.reg_tables.proofs.Greatest.{none_past}
 use Rattle.reg_tables.proofs.Staying.{shows_register, shown_then, past_maps}
 use Rattle.reg_tables.proofs.CrlLemmas.{reading_bytes, bytes_none, bytes_one, same_blob, asked_bytes, bytes_few}
 use Rattle.reg_tables.specs.Failing.{HasFailed}
-use Rattle.reg_tables.specs.declared.fault.CallFault.TheVariants.{Store}
+use Rattle.reg_tables.specs.declared.fault.DatabaseFault.TheVariants.{Store}
 use Rattle.reg_tables.proofs.FailingLemmas.{none_made, written_register, written_shown}
 use Rattle.sqlite_value.specs.declared.value.Value.TheVariants.{Blob}
 use Rattle.sqlite.specs.declared.error.Error.TheVariants.{SqliteFailure}
 use Rattle.sqlite.specs.declared.error.ErrorCode.TheVariants.{OutOfMemory}
-use Rattle.reg_tables.specs.Faults.{call_fault_of}
+use Rattle.reg_tables.specs.Faults.{database_fault_of}
 use Rattle.reg_tables.proofs.crls.crl.Goals as goal
 
 pub returns-in_default-clause-found : goal.returns-in_default-clause-found
@@ -61,7 +61,7 @@ returns-in_err-at_most_one-clause-fails g c records written clean =
     absurd (omega arith)
 
 -- want of memory is no failure of the store
-no_store : call_fault_of (SqliteFailure OutOfMemory) ≡ Store → ⊥
+no_store : database_fault_of (SqliteFailure OutOfMemory) ≡ Store → ⊥
 no_store clash = cc
 
 pub returns-in_err-get-in-Some-2-clause-fails : goal.returns-in_err-get-in-Some-2-clause-fails
@@ -72,6 +72,6 @@ returns-in_err-get-in-Some-2-clause-fails g c records written clean =
     let one = bytes_one (state g.S.Store c.args.conn.now).now records shown c.args.number c.in_ok-found.found.items (rw (c.params-to_sql.ensures, value) at answer.reads) c.in-Some-2.row.now (sym c.deref.ensures.value ∙ (rw c.in-Some-2.is at c.in_ok-at_most_one.ensures.found)) in
     let blob : column c.in-Some-2.row.now 0 ≡ Blob one.it.bytes = ap (λ (r : Row). column r 0) one.shown in
     let size : length c.in-Some-2.row.now ≡ 1 = ap length one.shown in
-    let told : call_fault_of c.in_err-get-in-Some-2.field-0.0 ≡ Store → HasFailed (state g.S.Store c.args.conn.now) (state g.S.Store c.read.new.conn) =
-    λ store. absurd (c.in_err-get-in-Some-2.ensures.kind (λ memory. no_store (sym (ap call_fault_of memory) ∙ store)) (omega arith) (one.it.bytes, blob)) in
+    let told : database_fault_of c.in_err-get-in-Some-2.field-0.0 ≡ Store → HasFailed (state g.S.Store c.args.conn.now) (state g.S.Store c.read.new.conn) =
+    λ store. absurd (c.in_err-get-in-Some-2.ensures.kind (λ memory. no_store (sym (ap database_fault_of memory) ∙ store)) (omega arith) (one.it.bytes, blob)) in
     search rules

@@ -5,7 +5,7 @@ use Rattle.reg_tables.proofs.Staying.{shows_register, shown_then}
 use Rattle.reg_tables.proofs.HeldLemmas.{reading_crl, asked_crl}
 use Rattle.reg_tables.proofs.CrlLemmas.{latest_none, latest_one, latest_few, latest_has}
 use Rattle.reg_tables.specs.Failing.{HasFailed}
-use Rattle.reg_tables.specs.declared.fault.CallFault.TheVariants.{Store}
+use Rattle.reg_tables.specs.declared.fault.DatabaseFault.TheVariants.{Store}
 use Rattle.reg_tables.proofs.FailingLemmas.{written_register, written_shown}
 use Rattle.reg_tables.proofs.Written.{updated_early}
 use Rattle.reg_tables.proofs.crls.latest_crl.Goals as goal

@@ -4,7 +4,7 @@ use Rattle.reg_core.specs.Crls.{EntriesAscend}
 use Rattle.reg_tables.proofs.Staying.{kept_shows, shows_register, both_then}
 use Rattle.reg_tables.proofs.EntryLemmas.{reading_entries, found_entries, entries_lists, entries_are, asked_entries, entries_have, entries_within, entries_rise, entries_sorted}
 use Rattle.reg_tables.specs.Failing.{HasFailed}
-use Rattle.reg_tables.specs.declared.fault.CallFault.TheVariants.{Store}
+use Rattle.reg_tables.specs.declared.fault.DatabaseFault.TheVariants.{Store}
 use Rattle.reg_tables.proofs.FailingLemmas.{written_register, written_both}
 use Rattle.reg_tables.proofs.Written.{revocations_have, revocations_few}
 use Rattle.reg_tables.proofs.listed.entries.Goals as goal

@@ -5,7 +5,7 @@ use Rattle.reg_core.specs.declared.command.Listing.{Listing}
 use Rattle.reg_tables.proofs.Staying.{kept_shows, shows_register, both_then}
 use Rattle.reg_tables.proofs.ListingLemmas.{reading_listed, listed_none, listed_one, asked_listed, listed_few}
 use Rattle.reg_tables.specs.Failing.{HasFailed}
-use Rattle.reg_tables.specs.declared.fault.CallFault.TheVariants.{Store}
+use Rattle.reg_tables.specs.declared.fault.DatabaseFault.TheVariants.{Store}
 use Rattle.reg_tables.proofs.FailingLemmas.{written_register, written_both}
 use Rattle.reg_tables.proofs.listed.listing.Goals as goal
 

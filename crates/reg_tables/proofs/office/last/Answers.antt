@@ -5,7 +5,7 @@ use Rattle.reg_tables.proofs.Judging.{if_ok}
 use Rattle.reg_tables.proofs.Staying.{shows_register, shown_then}
 use Rattle.reg_tables.proofs.OfficeLemmas.{reading_last, last_one, asked_last, last_rows}
 use Rattle.reg_tables.specs.Failing.{HasFailed}
-use Rattle.reg_tables.specs.declared.fault.CallFault.TheVariants.{Store}
+use Rattle.reg_tables.specs.declared.fault.DatabaseFault.TheVariants.{Store}
 use Rattle.reg_tables.proofs.FailingLemmas.{written_register, written_shown, never_told}
 use Rattle.reg_tables.proofs.office.last.Goals as goal
 

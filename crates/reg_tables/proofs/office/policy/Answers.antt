@@ -4,7 +4,7 @@ use Rattle.sqlite.specs.State.{HasCleanDisk}
 use Rattle.reg_tables.proofs.Staying.{looked_shows, some_then}
 use Rattle.reg_core.specs.Policy.{IsPolicy}
 use Rattle.reg_tables.specs.Failing.{HasFailed}
-use Rattle.reg_tables.specs.declared.fault.CallFault.TheVariants.{Store}
+use Rattle.reg_tables.specs.declared.fault.DatabaseFault.TheVariants.{Store}
 use Rattle.reg_tables.proofs.FailingLemmas.{failed_then, looked_written, written_shows, made_of}
 use Rattle.reg_tables.proofs.office.policy.Goals as goal
 

@@ -4,7 +4,7 @@ use Rattle.sqlite_value.specs.Order.{Row, column}
 use Rattle.reg_tables.proofs.Staying.{shows_register, shown_then}
 use Rattle.reg_tables.proofs.OfficeLemmas.{reading_responding, responding_one, asked_responding, responding_rows}
 use Rattle.reg_tables.specs.Failing.{HasFailed}
-use Rattle.reg_tables.specs.declared.fault.CallFault.TheVariants.{Store}
+use Rattle.reg_tables.specs.declared.fault.DatabaseFault.TheVariants.{Store}
 use Rattle.reg_tables.proofs.FailingLemmas.{written_register, written_shown, no_issuer_fault}
 use Rattle.reg_der.specs.Authority.{IsKept, IsKey}
 use Rattle.reg_tables.specs.Faults.{issuer_fault_of}

@@ -3,7 +3,7 @@ use Rattle.sqlite.specs.Held.{state}
 use Rattle.reg_tables.proofs.Staying.{shows_register, shown_then, some_then}
 use Rattle.reg_tables.proofs.ScheduleLemmas.{reading_steps, steps_are, asked_steps}
 use Rattle.reg_tables.specs.Failing.{HasFailed}
-use Rattle.reg_tables.specs.declared.fault.CallFault.TheVariants.{Store}
+use Rattle.reg_tables.specs.declared.fault.DatabaseFault.TheVariants.{Store}
 use Rattle.reg_tables.proofs.FailingLemmas.{written_register, written_shown, made_of}
 use Rattle.reg_core.specs.Schedule.{IsSchedule}
 use Rattle.reg_tables.proofs.office.schedule.Goals as goal

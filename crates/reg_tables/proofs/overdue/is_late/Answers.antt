@@ -1,7 +1,7 @@
 use Rattle.std.proofs.Common.{◌≡◌, rules}
 use Rattle.sqlite.specs.Held.{state}
 use Rattle.reg_tables.specs.Failing.{HasFailed}
-use Rattle.reg_tables.specs.declared.fault.CallFault.TheVariants.{Store}
+use Rattle.reg_tables.specs.declared.fault.DatabaseFault.TheVariants.{Store}
 use Rattle.reg_tables.proofs.overdue.is_late.Goals as goal
 
 pub returns-in_err-is_good-clause-fails : goal.returns-in_err-is_good-clause-fails

@@ -9,7 +9,7 @@ use Rattle.reg_core.specs.Records.{certificate_in}
 use Rattle.reg_core.specs.declared.rows.RequestRow.{RequestRow}
 use Rattle.reg_laws.proofs.Accepted.{certificates_exist}
 use Rattle.reg_tables.specs.Failing.{HasFailed}
-use Rattle.reg_tables.specs.declared.fault.CallFault.TheVariants.{Store}
+use Rattle.reg_tables.specs.declared.fault.DatabaseFault.TheVariants.{Store}
 use Rattle.reg_tables.proofs.Queries.{kept_have}
 use Rattle.reg_tables.proofs.FailingLemmas.{failed_then, looked_written, written_shows}
 use Rattle.reg_tables.proofs.Staying.{looked_shows, looked_then}

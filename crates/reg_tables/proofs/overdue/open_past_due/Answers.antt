@@ -7,7 +7,7 @@ use Rattle.reg_core.specs.Due.{overdue_report}
 use Rattle.reg_tables.proofs.Staying.{looked_shows, looked_then}
 use Rattle.reg_tables.proofs.OverdueLemmas.{late, undeclined, with_late, without_late, overdue_are, front_within}
 use Rattle.reg_tables.specs.Failing.{HasFailed}
-use Rattle.reg_tables.specs.declared.fault.CallFault.TheVariants.{Store}
+use Rattle.reg_tables.specs.declared.fault.DatabaseFault.TheVariants.{Store}
 use Rattle.std.specs.Prelude.{IsSome}
 use Rattle.std.proofs.lemmas.List.Elements.{All-from_recursion}
 use Rattle.reg_core.specs.Records.{certificate_in}

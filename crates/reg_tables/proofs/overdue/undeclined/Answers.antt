@@ -5,7 +5,7 @@ use Rattle.reg_tables.proofs.Staying.{shows_register, shown_then}
 use Rattle.reg_tables.proofs.OverdueLemmas.{reading_undeclined, undeclined, undeclined_are, undeclined_serials, asked_undeclined}
 use Rattle.std.proofs.Common.{◌≡◌, rules, ◌<◌}
 use Rattle.reg_tables.specs.Failing.{HasFailed}
-use Rattle.reg_tables.specs.declared.fault.CallFault.TheVariants.{Store}
+use Rattle.reg_tables.specs.declared.fault.DatabaseFault.TheVariants.{Store}
 use Rattle.reg_tables.proofs.FailingLemmas.{written_register, written_shown, never_store}
 use Rattle.reg_core.specs.Calendar.{clock_end}
 use Rattle.reg_core.specs.declared.rows.RequestRow.{RequestRow}

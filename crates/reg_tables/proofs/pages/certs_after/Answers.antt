@@ -8,8 +8,8 @@ use Rattle.reg_tables.proofs.Staying.{shows_register, shown_then}
 use Rattle.reg_tables.proofs.FailingLemmas.{never_store, written_register, written_shown}
 use Rattle.reg_tables.proofs.Written.{revocations_have}
 use Rattle.reg_tables.specs.Failing.{HasFailed}
-use Rattle.reg_tables.specs.Values.{AreMomentAndReason, IsValidity}
-use Rattle.reg_tables.specs.declared.fault.CallFault.TheVariants.{Store}
+use Rattle.reg_tables.specs.RecordValues.{AreMomentAndReason, IsValidity}
+use Rattle.reg_tables.specs.declared.fault.DatabaseFault.TheVariants.{Store}
 use Rattle.reg_tables.proofs.pages.certs_after.Goals as goal
 
 pub returns-clause-found : goal.returns-clause-found

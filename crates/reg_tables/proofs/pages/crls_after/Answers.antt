@@ -13,7 +13,7 @@ use Rattle.reg_tables.proofs.Staying.{shows_register, shown_then}
 use Rattle.reg_tables.proofs.FailingLemmas.{never_store, written_register, written_shown}
 use Rattle.reg_tables.proofs.Written.{updated_early}
 use Rattle.reg_tables.specs.Failing.{HasFailed}
-use Rattle.reg_tables.specs.declared.fault.CallFault.TheVariants.{Store}
+use Rattle.reg_tables.specs.declared.fault.DatabaseFault.TheVariants.{Store}
 use Rattle.reg_tables.proofs.pages.crls_after.Goals as goal
 
 pub returns-clause-found : goal.returns-clause-found

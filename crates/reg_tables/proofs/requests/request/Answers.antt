@@ -6,7 +6,7 @@ use Rattle.reg_tables.proofs.Greatest.{none_past}
 use Rattle.reg_tables.proofs.Staying.{shows_register, shown_then, past_then}
 use Rattle.reg_tables.proofs.RequestLemmas.{reading_by_id, by_id_none, by_id_one, asked_by_id, by_id_few, by_id_has}
 use Rattle.reg_tables.specs.Failing.{HasFailed}
-use Rattle.reg_tables.specs.declared.fault.CallFault.TheVariants.{Store}
+use Rattle.reg_tables.specs.declared.fault.DatabaseFault.TheVariants.{Store}
 use Rattle.reg_tables.proofs.FailingLemmas.{none_made, written_register, written_shown}
 use Rattle.reg_core.specs.Calendar.{clock_end}
 use Rattle.reg_core.specs.Serial.{IsSerial}

@@ -4,7 +4,7 @@ use Rattle.sqlite_value.specs.Order.{Row, column}
 use Rattle.reg_tables.proofs.Staying.{shows_register, shown_then}
 use Rattle.reg_tables.proofs.UnlistedLemmas.{reading_above, above_none, above_one, asked_above, above_few, above_has}
 use Rattle.reg_tables.specs.Failing.{HasFailed}
-use Rattle.reg_tables.specs.declared.fault.CallFault.TheVariants.{Store}
+use Rattle.reg_tables.specs.declared.fault.DatabaseFault.TheVariants.{Store}
 use Rattle.reg_tables.proofs.FailingLemmas.{written_register, written_shown}
 use Rattle.reg_core.specs.Calendar.{clock_end}
 use Rattle.reg_tables.proofs.Written.{revoked_early}

@@ -10,7 +10,7 @@ use Rattle.reg_tables.proofs.UnlistedLemmas.{unlisted_is}
 use Rattle.reg_tables.specs.declared.sizes.Table.TheVariants.{Crls}
 use Rattle.reg_tables.proofs.Written.{rows_few}
 use Rattle.reg_tables.specs.Failing.{HasFailed}
-use Rattle.reg_tables.specs.declared.fault.CallFault.TheVariants.{Store}
+use Rattle.reg_tables.specs.declared.fault.DatabaseFault.TheVariants.{Store}
 use Rattle.reg_tables.proofs.FailingLemmas.{blamed_then, written_shows}
 use Rattle.reg_tables.proofs.revocations.earliest_unlisted.Goals as goal
 

@@ -4,11 +4,11 @@ use Rattle.reg_core.specs.declared.rows.RevocationRow.{RevocationRow}
 use Rattle.reg_tables.proofs.Staying.{shows_register, shown_then}
 use Rattle.reg_tables.proofs.RevocationLemmas.{reading_by_serial, by_serial_none, by_serial_one, asked_by_serial, by_serial_few, by_serial_has}
 use Rattle.reg_tables.specs.Failing.{HasFailed}
-use Rattle.reg_tables.specs.declared.fault.CallFault.TheVariants.{Store}
+use Rattle.reg_tables.specs.declared.fault.DatabaseFault.TheVariants.{Store}
 use Rattle.reg_tables.proofs.FailingLemmas.{written_register, written_shown}
 use Rattle.reg_core.specs.Serial.{IsSerial}
 use Rattle.reg_tables.proofs.Few.{all_both}
-use Rattle.reg_tables.specs.Values.{AreMomentAndReason}
+use Rattle.reg_tables.specs.RecordValues.{AreMomentAndReason}
 use Rattle.reg_tables.proofs.Written.{revocations_have}
 use Rattle.reg_tables.proofs.revocations.revocation.Goals as goal
 

@@ -1,7 +1,7 @@
 use Rattle.reg_core.specs.Serial.{IsSerial}
 use Rattle.reg_core.specs.declared.rows.CertRow.{CertRow}
-use Rattle.reg_tables.specs.Reading.{shown_certificate}
-use Rattle.reg_tables.specs.Values.{IsValidity}
+use Rattle.reg_tables.specs.ReadStatements.{shown_certificate}
+use Rattle.reg_tables.specs.RecordValues.{IsValidity}
 use Rattle.reg_tables.proofs.Judging.{err_tells}
 use Rattle.reg_tables.proofs.Taking.{more_read, none_read}
 use Rattle.reg_tables.proofs.rows.certificates_in.Goals as goal

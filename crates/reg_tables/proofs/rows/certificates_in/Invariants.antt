@@ -2,7 +2,7 @@ use Rattle.std.proofs.Common.{◌≡◌, List, map, take}
 use Rattle.std.specs.List.{AllByRecursion}
 use Rattle.reg_core.specs.Serial.{IsSerial}
 use Rattle.reg_core.specs.declared.rows.CertRow.{CertRow}
-use Rattle.reg_tables.specs.Reading.{shown_certificate}
+use Rattle.reg_tables.specs.ReadStatements.{shown_certificate}
 use Rattle.reg_tables.proofs.rows.certificates_in.Given as goal
 
 abbrev pub invariant-loop-row : goal.invariant-loop-row

@@ -1,7 +1,7 @@
 use Rattle.std.proofs.Common.{◌<◌, arith}
 use Rattle.reg_core.specs.Calendar.{clock_end}
 use Rattle.reg_core.specs.declared.rows.CrlRow.{CrlRow}
-use Rattle.reg_tables.specs.Reading.{shown_crl}
+use Rattle.reg_tables.specs.ReadStatements.{shown_crl}
 use Rattle.reg_tables.proofs.Judging.{err_tells}
 use Rattle.reg_tables.proofs.Queries.{all_of}
 use Rattle.reg_tables.proofs.Taking.{more_read, none_read}

@@ -1,7 +1,7 @@
 use Rattle.reg_core.specs.Serial.{IsSerial}
 use Rattle.reg_core.specs.declared.rows.Entry.{Entry}
-use Rattle.reg_tables.specs.Reading.{shown_entry}
-use Rattle.reg_tables.specs.Values.{AreMomentAndReason}
+use Rattle.reg_tables.specs.ReadStatements.{shown_entry}
+use Rattle.reg_tables.specs.RecordValues.{AreMomentAndReason}
 use Rattle.reg_tables.proofs.Judging.{err_tells}
 use Rattle.reg_tables.proofs.Taking.{more_read, none_read}
 use Rattle.reg_tables.proofs.rows.entries_in.Goals as goal

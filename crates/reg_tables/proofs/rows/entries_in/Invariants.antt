@@ -2,7 +2,7 @@ use Rattle.std.proofs.Common.{◌≡◌, List, map, take}
 use Rattle.std.specs.List.{AllByRecursion}
 use Rattle.reg_core.specs.Serial.{IsSerial}
 use Rattle.reg_core.specs.declared.rows.Entry.{Entry}
-use Rattle.reg_tables.specs.Reading.{shown_entry}
+use Rattle.reg_tables.specs.ReadStatements.{shown_entry}
 use Rattle.reg_tables.proofs.rows.entries_in.Given as goal
 
 abbrev pub invariant-loop-row : goal.invariant-loop-row

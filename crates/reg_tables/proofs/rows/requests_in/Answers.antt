@@ -2,7 +2,7 @@ use Rattle.std.proofs.Common.{◌<◌, arith}
 use Rattle.reg_core.specs.Calendar.{clock_end}
 use Rattle.reg_core.specs.Serial.{IsSerial}
 use Rattle.reg_core.specs.declared.rows.RequestRow.{RequestRow}
-use Rattle.reg_tables.specs.Reading.{shown_request}
+use Rattle.reg_tables.specs.ReadStatements.{shown_request}
 use Rattle.reg_tables.proofs.Judging.{err_tells}
 use Rattle.reg_tables.proofs.Taking.{more_read, none_read}
 use Rattle.reg_tables.proofs.rows.requests_in.Goals as goal

@@ -1,7 +1,7 @@
 use Rattle.std.proofs.Common.{ℕ, ap, arith}
 use Rattle.reg_core.specs.Calendar.{IsMoment}
 use Rattle.sqlite_value.specs.Order.{Row, column}
-use Rattle.reg_tables.specs.Reading.{shown_step}
+use Rattle.reg_tables.specs.ReadStatements.{shown_step}
 use Rattle.reg_tables.proofs.Queries.{all_of}
 use Rattle.reg_tables.proofs.Judging.{err_tells}
 use Rattle.reg_tables.proofs.Taking.{more_read, none_read}

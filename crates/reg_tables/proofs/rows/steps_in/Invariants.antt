@@ -1,5 +1,5 @@
 use Rattle.std.proofs.Common.{◌≡◌, ℕ, List, map, take}
-use Rattle.reg_tables.specs.Reading.{shown_step}
+use Rattle.reg_tables.specs.ReadStatements.{shown_step}
 use Rattle.reg_tables.proofs.rows.steps_in.Given as goal
 
 abbrev pub invariant-loop-row : goal.invariant-loop-row

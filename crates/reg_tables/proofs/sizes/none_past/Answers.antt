@@ -1,7 +1,7 @@
 use Rattle.std.proofs.Common.{◌≡◌, arith, rules}
 use Rattle.sqlite.specs.Held.{state}
 use Rattle.reg_tables.specs.Failing.{HasFailed}
-use Rattle.reg_tables.specs.declared.fault.CallFault.TheVariants.{Store}
+use Rattle.reg_tables.specs.declared.fault.DatabaseFault.TheVariants.{Store}
 use Rattle.reg_tables.proofs.FailingLemmas.{written_shows}
 use Rattle.reg_tables.proofs.Written.{rows_few}
 use Rattle.reg_tables.proofs.sizes.none_past.Goals as goal

@@ -1,7 +1,7 @@
 use Rattle.std.proofs.Common.{sym, ◌∙◌, ◌≡◌, length, ap, arith, rules}
 use Rattle.sqlite.specs.Held.{state}
 use Rattle.reg_tables.specs.Failing.{HasFailed}
-use Rattle.reg_tables.specs.declared.fault.CallFault.TheVariants.{Store}
+use Rattle.reg_tables.specs.declared.fault.DatabaseFault.TheVariants.{Store}
 use Rattle.reg_tables.proofs.sizes.number_shown.Goals as goal
 
 pub returns-in-None-clause-read : goal.returns-in-None-clause-read

@@ -4,7 +4,7 @@ use Rattle.reg_core.specs.declared.rows.SubscriberRow.{SubscriberRow}
 use Rattle.reg_tables.proofs.Staying.{shows_register, shown_then}
 use Rattle.reg_tables.proofs.SubscriberLemmas.{reading_by_name, by_name_none, by_name_one, asked_by_name, by_name_few, by_name_has}
 use Rattle.reg_tables.specs.Failing.{HasFailed}
-use Rattle.reg_tables.specs.declared.fault.CallFault.TheVariants.{Store}
+use Rattle.reg_tables.specs.declared.fault.DatabaseFault.TheVariants.{Store}
 use Rattle.reg_tables.proofs.FailingLemmas.{written_register, written_shown}
 use Rattle.reg_core.specs.Label.{IsLabel}
 use Rattle.reg_tables.proofs.subscribers.subscriber_by_name.Goals as goal

@@ -1,7 +1,7 @@
 use Rattle.std.proofs.Common.{[], ◌∷◌, subst}
 use Rattle.sqlite.specs.Held.{state}
 use Rattle.reg_writing.specs.Ran.{Ran}
-use Rattle.reg_writing.specs.declared.texts.TheConstants.{SET_COUNTS}
+use Rattle.reg_writing.specs.declared.sql.TheConstants.{SET_COUNTS}
 use Rattle.reg_tables.specs.Schema.{register_schema}
 use Rattle.reg_writing.proofs.Keeping.{updates_keep}
 use Rattle.reg_writing.proofs.Meaning.{set_counts_means}

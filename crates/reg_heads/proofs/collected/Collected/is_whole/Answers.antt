@@ -1,7 +1,7 @@
 use Rattle.std.proofs.Common.{◌≤◌, ◌<◌, arith, length}
 use Rattle.std.proofs.Math.Logic.{∥∥₁_map}
 use Rattle.std.proofs.lemmas.Bool.{leb-true, leb-false}
-use Rattle.reg_heads.specs.Bytes.{bytes_of}
+use Rattle.reg_heads.specs.Bytes.{collected_bytes}
 use Rattle.reg_heads.proofs.CollectLemmas.{known_of_told, whole_of_refused, whole_of_needs, unfinished_of_unmarked, unfinished_of_needs}
 use Rattle.reg_heads.proofs.collected.Collected.is_whole.Goals as goal
 
@@ -12,18 +12,18 @@ invariant_of-self c = record {
 
 pub returns-in-Unmarked-clause-unfinished : goal.returns-in-Unmarked-clause-unfinished
 returns-in-Unmarked-clause-unfinished c is =
-    ∥∥₁_map (rw (c.as_slice.ensures.value, c.in-Unmarked.is) at c.told-self.ensures) (λ told. unfinished_of_unmarked (bytes_of c.args.self.now) c.in-Unmarked.field-0 told)
+    ∥∥₁_map (rw (c.as_slice.ensures.value, c.in-Unmarked.is) at c.told-self.ensures) (λ told. unfinished_of_unmarked (collected_bytes c.args.self.now) c.in-Unmarked.field-0 told)
 
 pub returns-in-Refused-clause-whole : goal.returns-in-Refused-clause-whole
 returns-in-Refused-clause-whole c is =
-    ∥∥₁_map (rw (c.as_slice.ensures.value, c.in-Refused.is) at c.told-self.ensures) (λ told. whole_of_refused (bytes_of c.args.self.now) c.in-Refused.field-0 told.1)
+    ∥∥₁_map (rw (c.as_slice.ensures.value, c.in-Refused.is) at c.told-self.ensures) (λ told. whole_of_refused (collected_bytes c.args.self.now) c.in-Refused.field-0 told.1)
 
 pub returns-in-Asked-clause-whole : goal.returns-in-Asked-clause-whole
 returns-in-Asked-clause-whole c is =
     let there : c.in-Asked.needed ≤ length c.args.self.now.bytes.items = omega (arith, leb-true c.in-Asked.needed c.len.result is, c.len.ensures) in
-    ∥∥₁_map (rw (c.as_slice.ensures.value, c.in-Asked.is) at c.told-self.ensures) (λ needs. whole_of_needs (bytes_of c.args.self.now) c.in-Asked.needed needs there)
+    ∥∥₁_map (rw (c.as_slice.ensures.value, c.in-Asked.is) at c.told-self.ensures) (λ needs. whole_of_needs (collected_bytes c.args.self.now) c.in-Asked.needed needs there)
 
 pub returns-in-Asked-clause-unfinished : goal.returns-in-Asked-clause-unfinished
 returns-in-Asked-clause-unfinished c is =
     let short : length c.args.self.now.bytes.items < c.in-Asked.needed = omega (arith, leb-false c.in-Asked.needed c.len.result is, c.len.ensures) in
-    ∥∥₁_map (rw (c.as_slice.ensures.value, c.in-Asked.is) at c.told-self.ensures) (λ needs. unfinished_of_needs (bytes_of c.args.self.now) c.in-Asked.needed needs short)
+    ∥∥₁_map (rw (c.as_slice.ensures.value, c.in-Asked.is) at c.told-self.ensures) (λ needs. unfinished_of_needs (collected_bytes c.args.self.now) c.in-Asked.needed needs short)

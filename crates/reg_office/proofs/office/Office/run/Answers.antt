@@ -6,7 +6,7 @@ use Rattle.reg_core.specs.declared.command.Command.{Command}
 use Rattle.reg_core.specs.declared.command.Reply.{Reply}
 use Rattle.reg_core.specs.declared.refusal.Fault.{Fault}
 use Rattle.reg_crl.specs.Signing.{Identity}
-use Rattle.reg_office.specs.AtRest.{IsPartlyRun, IsRunOne}
+use Rattle.reg_office.specs.AfterStoppedCommand.{IsPartlyRun, IsRunOne}
 use Rattle.reg_office.specs.Stands.{CameTo, HasRun}
 use Rattle.reg_office.proofs.Composing.{was_clean}
 use Rattle.reg_office.proofs.Standing.{ran_more, ran_none}

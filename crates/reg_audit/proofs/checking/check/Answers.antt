@@ -1,6 +1,0 @@
-use Rattle.reg_audit.proofs.Results.{if_err}
-use Rattle.reg_audit.proofs.checking.check.Goals as goal
-
-pub returns-clause-broken : goal.returns-clause-broken
-returns-clause-broken c records are columns beside =
-    if_err c.check_beside.result (c.check_beside.ensures.broken c.in_ok-found.ensures.found records are (c.in_ok-found.ensures.ok records are) columns beside) (λ stop never is both. never is both.1)

@@ -1,4 +1,0 @@
-pub mod Stops
-pub mod Read
-pub mod Beside
-pub mod Crls

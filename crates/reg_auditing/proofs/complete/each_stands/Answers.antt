@@ -1,9 +1,0 @@
-use Rattle.std.proofs.Common.{rules}
-use Rattle.reg_auditing.specs.Cells.{Stands}
-use Rattle.reg_auditing.proofs.Signed.{all_more}
-use Rattle.reg_auditing.proofs.complete.each_stands.Goals as goal
-
-pub loop-row-preserved : goal.loop-row-preserved
-loop-row-preserved g c =
-    let here : Stands g.T.OfRow.is_keyed g.T.OfRow.shown c.row-item.result = search rules in
-    all_more (Stands g.T.OfRow.is_keyed g.T.OfRow.shown) c.args.rows.now c.loop-row.row-index c.row-item.result c.loop-row-test.true c.row-item.is c.loop-row.invariant here

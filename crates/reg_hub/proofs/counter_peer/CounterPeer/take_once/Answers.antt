@@ -1,0 +1,5 @@
+use Rattle.reg_hub.proofs.Gatherings.{gathers_taken}
+use Rattle.reg_hub.proofs.counter_peer.CounterPeer.take_once.Goals as goal
+
+pub returns-clause-gathers : goal.returns-clause-gathers
+returns-clause-gathers g c = gathers_taken _ _ _ _ c.gather-taken.result _ c.is_end-self.ensures c.gather-taken.ensures.takes

@@ -1,0 +1,12 @@
+use Rattle.std.proofs.Common.{◌≤◌, length, take}
+use Rattle.reg_jobs.proofs.LineByLine.{Going}
+use Rattle.reg_jobs.proofs.lines_job.tell_lines.Given as goal
+
+-- the lines so far were told, and no more than the buffer is held behind them
+abbrev pub invariant-loop : goal.invariant-loop
+invariant-loop g l = record {
+  room : l.held ≤ length l.buffer;
+  going : Going g.H.Handler.tells l.is_strict l.initial.handler l.handler
+      (g.R.Read.remaining l.initial.reader) (g.R.Read.remaining l.reader) (g.W.Write.contents l.initial.writer) (g.W.Write.contents l.writer)
+      (take l.held l.buffer);
+}

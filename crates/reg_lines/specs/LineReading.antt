@@ -1,0 +1,162 @@
+-- The same grammar as a function: what is read from fields, one after the other.
+use Rattle.std.specs.Prelude.{ℕ, ◌&&◌, List, [], ◌∷◌, length, codes, bytes_eq, nat_le, nat_lt, if◌then◌else◌, cond, Option, Some, None, option_map, option_and_then}
+use Rattle.std.specs.List.{list_all}
+use Rattle.std.specs.Result.{result_ok}
+use Rattle.hex.specs.Hex.{decode_of}
+use Rattle.reg_core.specs.Calendar.{moment_of}
+use Rattle.reg_core.specs.Number.{number_of}
+use Rattle.reg_core.specs.Sequence.{◌>>=◌}
+use Rattle.reg_core.specs.Serial.{serial_of}
+use Rattle.reg_core.specs.declared.command.Command.{Command}
+use Rattle.reg_core.specs.declared.command.Command.TheVariants.{Subscriber, Order, Register, Request, Decline, Revoke, Crl}
+use Rattle.reg_core.specs.declared.command.Query.{Query}
+use Rattle.reg_core.specs.declared.command.Query.TheVariants.{Status, Counts, Listing, Overdue, NextCrl}
+use Rattle.reg_lines.specs.Meaning.{Meaning, tells, asks, asks_ocsp}
+
+-- a text of 1 to 64 bytes
+unfoldable pub label_field : List ℕ → Option (List ℕ)
+label_field text = cond (nat_le 1 (length text) && nat_le (length text) 64 && list_all (λ b. nat_lt b 256) text) (Some text) None
+
+-- exactly one field
+abbrev pub one : List (List ℕ) → Option (List ℕ)
+one [] = None
+one (a ∷ []) = Some a
+one (a ∷ b ∷ rest) = None
+
+-- exactly two fields
+abbrev pub two : List (List ℕ) → Option (List ℕ × List ℕ)
+two [] = None
+two (a ∷ []) = None
+two (a ∷ b ∷ []) = Some (a, b)
+two (a ∷ b ∷ c ∷ rest) = None
+
+-- exactly four
+abbrev pub four : List (List ℕ) → Option (List ℕ × List ℕ × List ℕ × List ℕ)
+four [] = None
+four (a ∷ []) = None
+four (a ∷ b ∷ []) = None
+four (a ∷ b ∷ c ∷ []) = None
+four (a ∷ b ∷ c ∷ d ∷ []) = Some (a, b, c, d)
+four (a ∷ b ∷ c ∷ d ∷ e ∷ rest) = None
+
+-- the first four fields, one by one, unless there is a fifth
+abbrev pub four_at : Option (List ℕ) → Option (List ℕ) → Option (List ℕ) → Option (List ℕ) → Bool → Option (List ℕ × List ℕ × List ℕ × List ℕ)
+four_at first second third fourth fifth = if fifth then None else (do
+  a ← first
+  b ← second
+  c ← third
+  d ← fourth
+  Some (a, b, c, d))
+
+-- a value, where no field is left
+abbrev pub alone : {A : Type 0} → A → List (List ℕ) → Option A
+alone value [] = Some value
+alone value (a ∷ rest) = None
+
+-- what each word says, by the fields after it: `subscriber NAME`
+unfoldable pub subscriber_of : List (List ℕ) → Option Command
+subscriber_of fields = do
+  field ← one fields
+  name ← label_field field
+  Some (Subscriber name)
+
+-- `order SUBSCRIBER DAYS`
+unfoldable pub order_of : List (List ℕ) → Option Command
+order_of fields = do
+  both ← two fields
+  subscriber ← number_of both.0
+  days ← number_of both.1
+  Some (Order subscriber days)
+
+-- the four fields of `register ORDER SERIAL NOTBEFORE NOTAFTER`
+unfoldable pub register_by : List ℕ × List ℕ × List ℕ × List ℕ → Option Command
+register_by all = do
+  order ← number_of all.0
+  serial ← serial_of all.1
+  not_before ← moment_of all.2
+  not_after ← moment_of all.3
+  Some (Register order serial not_before not_after)
+
+-- the same, where there are four
+unfoldable pub register_of : List (List ℕ) → Option Command
+register_of fields = option_and_then register_by (four fields)
+
+-- `request SERIAL GROUND`
+unfoldable pub request_of : List (List ℕ) → Option Command
+request_of fields = do
+  both ← two fields
+  serial ← serial_of both.0
+  named ← label_field both.1
+  Some (Request serial named)
+
+-- `decline REQUEST`
+unfoldable pub decline_of : List (List ℕ) → Option Command
+decline_of fields = do
+  field ← one fields
+  request ← number_of field
+  Some (Decline request)
+
+-- `revoke REQUEST`
+unfoldable pub revoke_of : List (List ℕ) → Option Command
+revoke_of fields = do
+  field ← one fields
+  request ← number_of field
+  Some (Revoke request)
+
+-- `status SERIAL`
+unfoldable pub status_of : List (List ℕ) → Option Query
+status_of fields = do
+  field ← one fields
+  serial ← serial_of field
+  Some (Status serial)
+
+-- `listing SERIAL`
+unfoldable pub listing_of : List (List ℕ) → Option Query
+listing_of fields = do
+  field ← one fields
+  serial ← serial_of field
+  Some (Listing serial)
+
+-- the bytes of a field of hexadecimal digits, at least one
+unfoldable pub hex_of : List ℕ → Option (List ℕ)
+hex_of digits = cond (nat_lt 0 (length digits)) (result_ok (decode_of digits)) None
+
+-- `ocsp HEX`
+unfoldable pub ocsp_of : List (List ℕ) → Option (List ℕ)
+ocsp_of fields = option_and_then hex_of (one fields)
+
+-- what a word asks, with the fields after it, at a moment; any other word says nothing
+unfoldable pub asked_by : ℕ → List ℕ → List (List ℕ) → Option Meaning
+asked_by now word fields =
+    if bytes_eq word (codes "status") then option_map (asks now) (status_of fields)
+    else if bytes_eq word (codes "counts") then option_map (asks now) (alone Counts fields)
+    else if bytes_eq word (codes "listing") then option_map (asks now) (listing_of fields)
+    else if bytes_eq word (codes "overdue") then option_map (asks now) (alone Overdue fields)
+    else if bytes_eq word (codes "next-crl") then option_map (asks now) (alone NextCrl fields)
+    else if bytes_eq word (codes "ocsp") then option_map (asks_ocsp now) (ocsp_of fields)
+    else None
+
+-- what a word says of a revocation or a CRL; any other asks
+unfoldable pub revoking_by : ℕ → List ℕ → List (List ℕ) → Option Meaning
+revoking_by now word fields =
+    if bytes_eq word (codes "request") then option_map (tells now) (request_of fields)
+    else if bytes_eq word (codes "decline") then option_map (tells now) (decline_of fields)
+    else if bytes_eq word (codes "revoke") then option_map (tells now) (revoke_of fields)
+    else if bytes_eq word (codes "crl") then option_map (tells now) (alone Crl fields)
+    else asked_by now word fields
+
+-- what a word and the fields after it say, at a moment: a registration's word, or one of those above
+unfoldable pub said_by : ℕ → List ℕ → List (List ℕ) → Option Meaning
+said_by now word fields =
+    if bytes_eq word (codes "subscriber") then option_map (tells now) (subscriber_of fields)
+    else if bytes_eq word (codes "order") then option_map (tells now) (order_of fields)
+    else if bytes_eq word (codes "register") then option_map (tells now) (register_of fields)
+    else revoking_by now word fields
+
+-- what fields say: a moment, a word, and the fields of what is told or asked
+unfoldable pub said_of : List (List ℕ) → Option Meaning
+said_of [] = None
+said_of (a ∷ []) = None
+said_of (a ∷ word ∷ fields) = do
+  now ← moment_of a
+  said_by now word fields

@@ -1,0 +1,182 @@
+-- Reading a request, as functions on lists. What they mean is `IsOcspRequest`.
+use Rattle.std.specs.Prelude.{ℕ, zero, suc, Bool, true, false, not, ◌&&◌, ◌||◌, ◌==◌, nat_lt, nat_le, if◌then◌else◌, List, [], ◌∷◌, length, Option, Some, None, unwrap_or}
+use Rattle.std.specs.Str.{bytes_eq}
+use Rattle.reg_der.specs.Der.{tlv}
+use Rattle.reg_core.specs.Sequence.{◌>>=◌}
+use Rattle.reg_der.specs.ValueReading.{Parts, value_at}
+use Rattle.reg_ocsp.specs.Request.{Extension, Id, nonce_identifier, first_nonce, repeated}
+
+-- ---- values of a known tag
+
+-- the contents of a value with the tag, and what follows
+unfoldable pub expect_at : ℕ → List ℕ → Option (List ℕ × List ℕ)
+expect_at tag bytes = value_at bytes >>= λ x. if x.0.tag == tag then Some (x.0.contents, x.1) else None
+
+-- the contents of a value with the tag that nothing follows
+unfoldable pub whole_at : ℕ → List ℕ → Option (List ℕ)
+whole_at tag bytes = expect_at tag bytes >>= λ x. if length x.1 == 0 then Some x.0 else None
+
+-- the contents of a value with the tag, if the first byte is this tag, and what follows
+unfoldable pub optional_at : ℕ → List ℕ → Option (Option (List ℕ) × List ℕ)
+optional_at tag [] = Some (None, [])
+optional_at tag (first ∷ rest) =
+    if first == tag then (expect_at tag (first ∷ rest) >>= λ x. Some (Some x.0, x.1)) else Some (None, first ∷ rest)
+
+-- nothing, or the contents of a value with the tag that nothing follows
+unfoldable pub last_at : ℕ → List ℕ → Option (Option (List ℕ))
+last_at tag [] = Some None
+last_at tag (first ∷ rest) = whole_at tag (first ∷ rest) >>= λ x. Some (Some x)
+
+-- ---- items to the end
+
+-- as many items as there are, with fuel: each takes a byte at least
+abbrev pub items_at : {X : Type 0} → (List ℕ → Option (X × List ℕ)) → ℕ → List ℕ → Option (List X)
+items_at item fuel [] = Some []
+items_at item zero (first ∷ rest) = None
+items_at item (suc fuel) (first ∷ rest) = item (first ∷ rest) >>= λ x. items_at item fuel x.1 >>= λ xs. Some (x.0 ∷ xs)
+
+abbrev pub all_at : {X : Type 0} → (List ℕ → Option (X × List ℕ)) → List ℕ → Option (List X)
+all_at item bytes = items_at item (length bytes) bytes
+
+-- ---- extensions
+
+-- the contents of a BOOLEAN
+abbrev pub flag_of : List ℕ → Option Bool
+flag_of [] = None
+flag_of (octet ∷ []) = if octet == 0xFF then Some true else (if octet == 0x00 then Some false else None)
+flag_of (octet ∷ second ∷ rest) = None
+
+abbrev pub written_flag : Option (List ℕ) → Option (Option Bool)
+written_flag None = Some None
+written_flag (Some contents) = flag_of contents >>= λ flag. Some (Some flag)
+
+-- `critical` where it is written, and what follows
+unfoldable pub critical_at : List ℕ → Option (Option Bool × List ℕ)
+critical_at bytes = optional_at 0x01 bytes >>= λ x. written_flag x.0 >>= λ flag. Some (flag, x.1)
+
+-- no identifier, or critical and unknown
+abbrev pub is_refused : List ℕ → Option Bool → Bool
+is_refused identifier critical = (length identifier == 0) || (unwrap_or critical false && not (bytes_eq identifier nonce_identifier))
+
+-- the Extension with these contents
+unfoldable pub fields_at : List ℕ → Option Extension
+fields_at bytes = do
+  identifier ← expect_at 0x06 bytes
+  critical ← critical_at identifier.1
+  value ← whole_at 0x04 critical.1
+  if is_refused identifier.0 critical.0 then None
+      else Some (record { identifier = identifier.0; critical = critical.0; value = value })
+
+unfoldable pub extension_at : List ℕ → Option (Extension × List ℕ)
+extension_at bytes = do
+  outer ← expect_at 0x30 bytes
+  extension ← fields_at outer.0
+  Some (extension, outer.1)
+
+-- the value of the first nonce of Extensions that nothing follows
+unfoldable pub nonce_at : List ℕ → Option (Option (List ℕ))
+nonce_at bytes = do
+  list ← whole_at 0x30 bytes
+  es ← all_at extension_at list
+  Some (first_nonce es)
+
+abbrev pub written_nonce : Option (List ℕ) → Option (Option (List ℕ))
+written_nonce None = Some None
+written_nonce (Some contents) = nonce_at contents
+
+-- the same of Extensions under a tag to the end of the bytes, if there are bytes
+unfoldable pub last_nonce_at : ℕ → List ℕ → Option (Option (List ℕ))
+last_nonce_at tag bytes = last_at tag bytes >>= written_nonce
+
+-- ---- requests
+
+-- the read ended with its last byte, or there was no byte
+abbrev pub read_all : List ℕ → Option (Parts × List ℕ) → Bool
+read_all bytes None = length bytes == 0
+read_all bytes (Some x) = length x.1 == 0
+
+-- the whole value of an AlgorithmIdentifier, and what follows
+unfoldable pub algorithm_at : List ℕ → Option (List ℕ × List ℕ)
+algorithm_at bytes = do
+  outer ← expect_at 0x30 bytes
+  identifier ← expect_at 0x06 outer.0
+  if (length identifier.0 == 0) || not (read_all identifier.1 (value_at identifier.1)) then None
+      else Some (tlv 0x30 outer.0, outer.1)
+
+-- the octets of an INTEGER are the fewest
+abbrev pub is_shortest : List ℕ → Bool
+is_shortest [] = false
+is_shortest (first ∷ []) = true
+is_shortest (first ∷ second ∷ rest) = not ((first == 0) && nat_lt second 128) && not ((first == 255) && nat_le 128 second)
+
+-- the octets of an INTEGER in the fewest, which nothing follows
+unfoldable pub serial_at : List ℕ → Option (List ℕ)
+serial_at bytes = whole_at 0x02 bytes >>= λ serial. if is_shortest serial then Some serial else None
+
+-- the hashes of the issuer's name and key, and the serial number
+unfoldable pub names_at : List ℕ → Option (List ℕ × List ℕ × List ℕ)
+names_at bytes = do
+  name ← expect_at 0x04 bytes
+  key ← expect_at 0x04 name.1
+  serial ← serial_at key.1
+  Some (name.0, key.0, serial)
+
+unfoldable pub target_at : List ℕ → Option (Id × List ℕ)
+target_at bytes = do
+  outer ← expect_at 0x30 bytes
+  algorithm ← algorithm_at outer.0
+  names ← names_at algorithm.1
+  Some (record { raw = tlv 0x30 outer.0; algorithm = algorithm.0; name_hash = names.0; key_hash = names.1; serial = names.2 }, outer.1)
+
+unfoldable pub single_at : List ℕ → Option (Id × List ℕ)
+single_at bytes = do
+  outer ← expect_at 0x30 bytes
+  target ← target_at outer.0
+  ignored ← last_nonce_at 0xA0 target.1
+  Some (target.0, outer.1)
+
+-- one request at least
+unfoldable pub ids_at : List ℕ → Option (List Id)
+ids_at bytes = if length bytes == 0 then None else all_at single_at bytes
+
+-- ---- the whole
+
+abbrev pub is_version : Option (List ℕ) → Bool
+is_version None = true
+is_version (Some contents) = bytes_eq contents (0x02 ∷ 0x01 ∷ 0x00 ∷ [])
+
+-- what follows the version
+unfoldable pub version_at : List ℕ → Option (List ℕ)
+version_at bytes = optional_at 0xA0 bytes >>= λ x. if is_version x.0 then Some x.1 else None
+
+-- the list of requests in the contents of a TBSRequest, and what follows
+unfoldable pub list_at : List ℕ → Option (List ℕ × List ℕ)
+list_at bytes = do
+  after ← version_at bytes
+  requestor ← optional_at 0xA1 after
+  expect_at 0x30 requestor.1
+
+-- the list of requests, and the nonce to repeat
+unfoldable pub signed_at : List ℕ → Option (List ℕ × Option (List ℕ))
+signed_at bytes = do
+  list ← list_at bytes
+  nonce ← last_nonce_at 0xA2 list.1
+  Some (list.0, repeated nonce)
+
+-- the contents of the TBSRequest in a whole request
+unfoldable pub tbs_at : List ℕ → Option (List ℕ)
+tbs_at bytes = do
+  outer ← whole_at 0x30 bytes
+  signed ← expect_at 0x30 outer
+  signature ← last_at 0xA0 signed.1
+  Some signed.0
+
+-- the list of requests and the nonce to repeat in a whole request
+unfoldable pub parts_at : List ℕ → Option (List ℕ × Option (List ℕ))
+parts_at bytes = if nat_lt 65536 (length bytes) then None else (tbs_at bytes >>= signed_at)
+
+unfoldable pub request_at : List ℕ → Option (List Id × Option (List ℕ))
+request_at bytes = do
+  parts ← parts_at bytes
+  ids ← ids_at parts.0
+  Some (ids, parts.1)

@@ -1,0 +1,228 @@
+//! An OCSP request read from the outside inwards (RFC 6960 4.1.1).
+
+ghost use Rattle.std.specs.Prelude.{◌≡◌, ℕ, List, Option, ◌≤◌, ◌<◌, length, IfOk, IfSome, IsErrOf, option_copied};
+ghost use Rattle.reg_der.specs.ValueReading.{Gives, value_at};
+ghost use Rattle.reg_ocsp.specs.Request.{CanBeAnswered, Id, IsNonce, IsOcspRequest};
+ghost use Rattle.reg_ocsp.specs.RequestReading.{algorithm_at, ids_at, list_at, names_at, parts_at, read_all, request_at, serial_at, signed_at, single_at, target_at, tbs_at, version_at};
+ghost use Rattle.reg_ocsp.specs.RequestReading as spec;
+ghost use Rattle.reg_ocsp.specs.Request as grammar;
+ghost use Rattle.reg_ocsp.specs.Views.{ids_seen, id_seen, GivesUnlessMemory};
+
+use crate::asked::{Asked, CertId};
+use crate::der_values::{expect, last, optional, whole};
+use crate::extensions::last_nonce;
+use crate::fault::AskFault;
+use crate::tags::{
+    INTEGER, OBJECT_IDENTIFIER, OCTET_STRING, SEQUENCE, TAGGED_0, TAGGED_1, TAGGED_2,
+};
+use reg_der::take;
+use std::alloc::Global;
+
+/// The most bytes that a request may have.
+const LONGEST_REQUEST: usize = 65_536;
+
+/// The INTEGER 0, which stands for version 1 (RFC 6960 4.1.1).
+const VERSION_1: [u8; 3] = [0x02, 0x01, 0x00];
+
+/// The longest nonce that the answer repeats, in bytes.
+const LONGEST_NONCE: usize = 131;
+
+/// What an OCSP request asks.
+///
+/// `Malformed` exactly for bytes that are no request: all 65,536 bytes at most are one OCSPRequest in DER, with one
+/// CertID at least and no critical extension but the nonce. A version 0 and a `critical` FALSE may be written, and the
+/// contents of the requestor's name and of the signature aren't looked at. No bytes have two readings
+/// (`laws::one_reading`).
+pub fn read_request(alloc: Global, bytes: &[u8]) -> Result<Asked<'_>, AskFault>
+    ensures found { IfOk result (λ a. IsOcspRequest bytes.now (ids_seen a.ids.items) (option_copied a.nonce)) }
+    ensures malformed { IsErrOf result AskFault.Malformed → (ids : List Id) (nonce : Option (List ℕ)) → IsOcspRequest bytes.now ids nonce → ⊥ }
+    ensures answerable { IfOk result (λ a. CanBeAnswered (ids_seen a.ids.items) (option_copied a.nonce)) }
+    ensures some { IfOk result (λ a. 1 ≤ length a.ids.items) }
+    ensures nonce { IfOk result (λ a. IfSome (option_copied a.nonce) IsNonce) }
+{
+    request(alloc, bytes)
+}
+
+#[tactic(auto, unfolding(crate::specs::RequestReading::request_at))]
+fn request(alloc: Global, bytes: &[u8]) -> Result<Asked<'_>, AskFault>
+    ensures { GivesUnlessMemory (λ a. (ids_seen a.ids.items, option_copied a.nonce)) result (request_at bytes.now) }
+{
+    let Some((list, nonce)) = parts(bytes) else {
+        return Err(AskFault::Malformed);
+    };
+    let ids = ids(alloc, list)?;
+    Ok(Asked { ids, nonce })
+}
+
+/// The contents of the list of requests, and the nonce that is to be repeated.
+#[tactic(auto, unfolding(crate::specs::RequestReading::parts_at))]
+fn parts(bytes: &[u8]) -> Option<(&[u8], Option<&[u8]>)>
+    ensures { Gives (λ x. (x.0.now, option_copied x.1)) result (parts_at bytes.now) }
+{
+    if bytes.len() > LONGEST_REQUEST {
+        return None;
+    }
+    signed_parts(to_be_signed(bytes)?)
+}
+
+/// The contents of the TBSRequest of a whole request.
+#[tactic(auto, unfolding(crate::specs::RequestReading::tbs_at))]
+fn to_be_signed(bytes: &[u8]) -> Option<&[u8]>
+    ensures { Gives (λ x. x.now) result (tbs_at bytes.now) }
+{
+    let (signed, rest) = expect(SEQUENCE, whole(SEQUENCE, bytes)?)?;
+    last(TAGGED_0, rest)?;
+    Some(signed.contents)
+}
+
+/// The same of the contents of a TBSRequest.
+#[tactic(auto, unfolding(crate::specs::RequestReading::signed_at))]
+fn signed_parts(bytes: &[u8]) -> Option<(&[u8], Option<&[u8]>)>
+    ensures { Gives (λ x. (x.0.now, option_copied x.1)) result (signed_at bytes.now) }
+{
+    let (list, rest) = list(bytes)?;
+    let nonce = last_nonce(TAGGED_2, rest)?;
+    Some((list, repeated(nonce)))
+}
+
+/// The contents of the list of requests in the contents of a TBSRequest, and what follows.
+#[tactic(auto, unfolding(crate::specs::RequestReading::list_at))]
+fn list(bytes: &[u8]) -> Option<(&[u8], &[u8])>
+    ensures { Gives (λ x. (x.0.now, x.1.now)) result (list_at bytes.now) }
+{
+    let (_, rest) = optional(TAGGED_1, after_version(bytes)?)?;
+    let (list, rest) = expect(SEQUENCE, rest)?;
+    Some((list.contents, rest))
+}
+
+/// What follows the version, which may be left out and is 0 where it is written.
+#[tactic(auto, unfolding(crate::specs::RequestReading::version_at))]
+fn after_version(bytes: &[u8]) -> Option<&[u8]>
+    ensures { Gives (λ x. x.now) result (version_at bytes.now) }
+{
+    let (version, rest) = optional(TAGGED_0, bytes)?;
+    match version {
+        Some(contents) if contents != VERSION_1.as_slice() => None,
+        _ => Some(rest),
+    }
+}
+
+/// The nonce, if it has 1 to 131 bytes.
+fn repeated(nonce: Option<&[u8]>) -> Option<&[u8]>
+    ensures { option_copied result ≡ grammar.repeated (option_copied nonce.entry) }
+{
+    nonce.filter(|value| !value.is_empty() && value.len() <= LONGEST_NONCE)
+}
+
+/// The CertIDs of a list of requests, one at least.
+#[tactic(auto, unfolding(crate::specs::RequestReading::ids_at))]
+fn ids(alloc: Global, bytes: &[u8]) -> Result<Vec<CertId<'_>>, AskFault>
+    ensures { GivesUnlessMemory (λ ids. ids_seen ids.items) result (ids_at bytes.now) }
+{
+    if bytes.is_empty() {
+        return Err(AskFault::Malformed);
+    }
+    let mut ids = Vec::new(alloc);
+    let mut rest = bytes;
+    while !rest.is_empty() {
+        let Some((id, after)) = single(rest) else {
+            return Err(AskFault::Malformed);
+        };
+        ids.push(id)?;
+        rest = after;
+    }
+    Ok(ids)
+}
+
+/// The CertID of the Request at the front, and what follows.
+#[tactic(auto, unfolding(crate::specs::RequestReading::single_at))]
+fn single(bytes: &[u8]) -> Option<(CertId<'_>, &[u8])>
+    ensures exact { Gives (λ x. (id_seen x.0, x.1.now)) result (single_at bytes.now) }
+    ensures shorter { IfSome result (λ x. length x.1.now < length bytes.now) }
+{
+    let (outer, rest) = expect(SEQUENCE, bytes)?;
+    let (id, extensions) = cert_id(outer.contents)?;
+    last_nonce(TAGGED_0, extensions)?;
+    Some((id, rest))
+}
+
+/// The CertID at the front, and what follows.
+#[tactic(auto, unfolding(crate::specs::RequestReading::target_at))]
+fn cert_id(bytes: &[u8]) -> Option<(CertId<'_>, &[u8])>
+    ensures { Gives (λ x. (id_seen x.0, x.1.now)) result (target_at bytes.now) }
+{
+    let (outer, rest) = expect(SEQUENCE, bytes)?;
+    let (algorithm, after_algorithm) = algorithm(outer.contents)?;
+    let (name_hash, key_hash, serial) = names(after_algorithm)?;
+    let id = CertId {
+        raw: outer.raw,
+        algorithm,
+        name_hash,
+        key_hash,
+        serial,
+    };
+    Some((id, rest))
+}
+
+/// The hashes of the issuer's name and of its key, and the contents octets of the serial number.
+#[tactic(auto, unfolding(crate::specs::RequestReading::names_at))]
+fn names(bytes: &[u8]) -> Option<(&[u8], &[u8], &[u8])>
+    ensures { Gives (λ x. (x.0.now, x.1.now, x.2.now)) result (names_at bytes.now) }
+{
+    let (name_hash, after_name) = expect(OCTET_STRING, bytes)?;
+    let (key_hash, after_key) = expect(OCTET_STRING, after_name)?;
+    let serial = serial(after_key)?;
+    Some((name_hash.contents, key_hash.contents, serial))
+}
+
+/// The contents octets of a serial number that all the bytes are.
+#[tactic(auto, unfolding(crate::specs::RequestReading::serial_at))]
+fn serial(bytes: &[u8]) -> Option<&[u8]>
+    ensures { Gives (λ x. x.now) result (serial_at bytes.now) }
+{
+    let octets = whole(INTEGER, bytes)?;
+    if is_shortest(octets) {
+        Some(octets)
+    } else {
+        None
+    }
+}
+
+/// The whole value of the AlgorithmIdentifier at the front, and what follows.
+#[tactic(auto, unfolding(crate::specs::RequestReading::algorithm_at))]
+fn algorithm(bytes: &[u8]) -> Option<(&[u8], &[u8])>
+    ensures { Gives (λ x. (x.0.now, x.1.now)) result (algorithm_at bytes.now) }
+{
+    let (outer, rest) = expect(SEQUENCE, bytes)?;
+    let (identifier, parameters) = expect(OBJECT_IDENTIFIER, outer.contents)?;
+    if identifier.contents.is_empty() || !is_at_most_one(parameters) {
+        return None;
+    }
+    Some((outer.raw, rest))
+}
+
+/// Whether the bytes are one value or nothing.
+fn is_at_most_one(bytes: &[u8]) -> bool
+    ensures { result ≡ read_all bytes.now (value_at bytes.now) }
+{
+    match take(bytes) {
+        None => bytes.is_empty(),
+        Some((_, rest)) => rest.is_empty(),
+    }
+}
+
+/// Whether the contents octets of an INTEGER are the fewest: the first nine bits are neither all zero nor all one
+/// (X.690 8.3.2).
+fn is_shortest(octets: &[u8]) -> bool
+    ensures { result ≡ spec.is_shortest octets.now }
+{
+    match octets {
+        [] => false,
+        [_] => true,
+        [first, second, ..] => {
+            let all_zero = *first == 0 && *second < 128;
+            let all_one = *first == 255 && *second >= 128;
+            !all_zero && !all_one
+        }
+    }
+}

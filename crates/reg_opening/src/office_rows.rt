@@ -1,0 +1,191 @@
+//! Whether rows are those of a register's office.
+
+ghost use Rattle.std.specs.Prelude.{◌≡◌, ◌≢◌, ◌⊎◌, ◌<◌, ◌≤◌, ℕ, List, OnOk, IfOk, IfErr, Err, MatchOption};
+ghost use Rattle.sqlite_value.specs.declared.value.Value.TheVariants.{Blob};
+ghost use Rattle.sqlite_value.specs.Order.{column};
+ghost use Rattle.reg_core.specs.Calendar.{IsMoment, clock_end};
+ghost use Rattle.reg_core.specs.Issuer as core;
+ghost use Rattle.reg_core.specs.Policy.{Terms, IsPolicy};
+ghost use Rattle.reg_core.specs.Schedule.{IsSchedule, one_step};
+ghost use Rattle.reg_der.specs.Authority.{IsIssuer};
+ghost use Rattle.reg_tables.specs.Rows.{number};
+ghost use Rattle.reg_opening.specs.Said.{version_of, IsOne, AreSteps, HaveMoments, KeepsTo, AreOfficeRows, AreOlderOffice};
+
+use crate::sql_values::{bytes_at, number_at, only};
+use reg_core::{Moment, Policy, Schedule};
+use reg_der::{Issuer, IssuerFault};
+use reg_migration::OlderVersion;
+use reg_tables::StoreFault;
+use sqlite::Row;
+use std::alloc::Global;
+
+/// The version, which is the one column of the one row.
+fn version_in(rows: &[Row]) -> Option<u64>
+    ensures { MatchOption result ((n : ℕ) → ¬ IsOne (λ row. column row 0 ≡ number n) rows.now) (λ n. IsOne (λ row. column row 0 ≡ number n) rows.now) }
+{
+    number_at(only(rows)?, 0)
+}
+
+/// The version of the tables where it is older than the program's, and none where it is the program's.
+pub(crate) fn judge_version(rows: &[Row]) -> Result<Option<OlderVersion>, StoreFault>
+    ensures ok { IfOk result (λ found. IsOne (λ row. column row 0 ≡ number (version_of found)) rows.now) }
+    ensures newer { result ≡ Err StoreFault.NewVersion → (n : ℕ) × (3 < n) × IsOne (λ row. column row 0 ≡ number n) rows.now }
+    ensures none { result ≡ Err StoreFault.NotARegister → (n : ℕ) → 1 ≤ n → ¬ IsOne (λ row. column row 0 ≡ number n) rows.now }
+    ensures faults { IfErr result (λ fault. (fault ≡ StoreFault.NotARegister) ⊎ (fault ≡ StoreFault.NewVersion)) }
+{
+    match version_in(rows) {
+        None => Err(StoreFault::NotARegister),
+        Some(0) => Err(StoreFault::NotARegister),
+        Some(1) => Ok(Some(OlderVersion::First)),
+        Some(2) => Ok(Some(OlderVersion::Second)),
+        Some(3) => Ok(None),
+        Some(_) => Err(StoreFault::NewVersion),
+    }
+}
+
+/// A step of the schedule: a moment, and the days of validity from it on.
+fn step_in(row: &Row) -> Option<(Moment, u64)>
+    ensures { MatchOption result ((n : ℕ) → (days : ℕ) → IsMoment n → column row.now 0 ≡ number n → column row.now 1 ≢ number days) (λ step. (column row.now 0 ≡ number step.0) × (column row.now 1 ≡ number step.1) × IsMoment step.0) }
+{
+    let moment = Moment::of_secs(number_at(row, 0)?)?;
+    Some((moment, number_at(row, 1)?))
+}
+
+/// The steps of the schedule.
+fn steps_in(rows: &Vec<Row>) -> Result<Vec<(Moment, u64)>, StoreFault>
+    ensures ok { IfOk result (λ steps. AreSteps rows.now.items steps.items × HaveMoments steps.items) }
+    ensures none { result ≡ Err StoreFault.NotARegister → (steps : List (ℕ × ℕ)) → HaveMoments steps → ¬ AreSteps rows.now.items steps }
+    ensures faults { IfErr result (λ fault. (fault ≡ StoreFault.Memory) ⊎ (fault ≡ StoreFault.NotARegister)) }
+{
+    let mut steps = Vec::new(*rows.allocator());
+    for row in rows {
+        match step_in(row) {
+            Some(step) => steps.push(step)?,
+            None => return Err(StoreFault::NotARegister),
+        }
+    }
+    Ok(steps)
+}
+
+/// The schedule.
+fn schedule_in(rows: &Vec<Row>) -> Result<Schedule, StoreFault>
+    ensures ok { IfOk result (λ schedule. AreSteps rows.now.items schedule × HaveMoments schedule) }
+    ensures none { result ≡ Err StoreFault.NotARegister → (steps : List (ℕ × ℕ)) → IsSchedule steps → HaveMoments steps → ¬ AreSteps rows.now.items steps }
+    ensures faults { IfErr result (λ fault. (fault ≡ StoreFault.Memory) ⊎ (fault ≡ StoreFault.NotARegister)) }
+{
+    let steps = steps_in(rows)?;
+    match Schedule::new(&steps) {
+        Some(schedule) => Ok(schedule),
+        None => Err(StoreFault::NotARegister),
+    }
+}
+
+/// The policy, of this schedule.
+fn policy_in(row: &Row, schedule: Schedule) -> Option<Policy>
+    ensures { MatchOption result ((policy : Terms) → IsPolicy policy → policy.schedule ≡ schedule → column row.now 2 ≡ number policy.crl_life → column row.now 3 ≡ number policy.ocsp_life → column row.now 4 ≢ number policy.cap)
+        (λ policy. IsPolicy policy × (policy.schedule ≡ schedule) × (column row.now 2 ≡ number policy.crl_life) × (column row.now 3 ≡ number policy.ocsp_life) × (column row.now 4 ≡ number policy.cap)) }
+{
+    let crl_life = number_at(row, 2)?;
+    let ocsp_life = number_at(row, 3)?;
+    let cap = number_at(row, 4)?;
+    Policy::with(schedule, crl_life, ocsp_life, cap)
+}
+
+/// The last accepted moment, one that the register's clock lets pass.
+fn last_in(row: &Row) -> Option<Moment>
+    ensures { MatchOption result ((last : ℕ) → last < clock_end → column row.now 5 ≢ number last) (λ last. (last < clock_end) × (column row.now 5 ≡ number last)) }
+{
+    let moment = Moment::of_secs(number_at(row, 5)?)?;
+    if moment < Moment::CLOCK_END {
+        Some(moment)
+    } else {
+        None
+    }
+}
+
+/// Whether a name and a key are an issuer's.
+fn judge_issuer(alloc: Global, row: &Row) -> Result<(), StoreFault>
+    ensures ok { OnOk result ((issuer : core.Issuer) × IsIssuer issuer × (column row.now 0 ≡ Blob issuer.name) × (column row.now 1 ≡ Blob issuer.key)) }
+    ensures none { result ≡ Err StoreFault.NotARegister → (issuer : core.Issuer) → IsIssuer issuer → column row.now 0 ≡ Blob issuer.name → column row.now 1 ≢ Blob issuer.key }
+    ensures faults { IfErr result (λ fault. (fault ≡ StoreFault.Memory) ⊎ (fault ≡ StoreFault.NotARegister)) }
+{
+    match bytes_at(row, 0) {
+        None => Err(StoreFault::NotARegister),
+        Some(name) => match bytes_at(row, 1) {
+            None => Err(StoreFault::NotARegister),
+            Some(key) => match Issuer::of_kept(alloc, name, key) {
+                Ok(_) => Ok(()),
+                Err(IssuerFault::Memory) => Err(StoreFault::Memory),
+                Err(IssuerFault::BadName) => Err(StoreFault::NotARegister),
+                Err(IssuerFault::BadKey) => Err(StoreFault::NotARegister),
+            },
+        },
+    }
+}
+
+/// Whether a row is that of an office with this schedule.
+fn judge_row(alloc: Global, row: &Row, schedule: Schedule) -> Result<(), StoreFault>
+    ensures ok { OnOk result (KeepsTo schedule row.now) }
+    ensures none { result ≡ Err StoreFault.NotARegister → ¬ KeepsTo schedule row.now }
+    ensures faults { IfErr result (λ fault. (fault ≡ StoreFault.Memory) ⊎ (fault ≡ StoreFault.NotARegister)) }
+{
+    match policy_in(row, schedule) {
+        None => Err(StoreFault::NotARegister),
+        Some(_) => match last_in(row) {
+            None => Err(StoreFault::NotARegister),
+            Some(_) => judge_issuer(alloc, row),
+        },
+    }
+}
+
+/// Whether the rows are those of an office and of its schedule.
+pub(crate) fn judge_office(rows: &Vec<Row>, steps: &Vec<Row>) -> Result<(), StoreFault>
+    ensures ok { OnOk result (AreOfficeRows rows.now.items steps.now.items) }
+    ensures none { result ≡ Err StoreFault.NotARegister → ¬ AreOfficeRows rows.now.items steps.now.items }
+    ensures faults { IfErr result (λ fault. (fault ≡ StoreFault.Memory) ⊎ (fault ≡ StoreFault.NotARegister)) }
+{
+    let schedule = schedule_in(steps)?;
+    match only(rows) {
+        None => Err(StoreFault::NotARegister),
+        Some(row) => judge_row(*rows.allocator(), row, schedule),
+    }
+}
+
+/// The days of an older office, and the schedule of that one step.
+fn days_in(row: &Row) -> Option<(u64, Schedule)>
+    ensures { MatchOption result ((days : ℕ) → IsSchedule (one_step days) → column row.now 6 ≢ number days) (λ found. (column row.now 6 ≡ number found.0) × (found.1 ≡ one_step found.0)) }
+{
+    let days = number_at(row, 6)?;
+    let schedule = Schedule::new(&[(Moment::EPOCH, days)])?;
+    Some((days, schedule))
+}
+
+/// The days and the last accepted moment of the row of an older office.
+fn older_in(alloc: Global, row: &Row) -> Result<(u64, Moment), StoreFault>
+    ensures ok { IfOk result (λ found. (column row.now 6 ≡ number found.0) × (column row.now 5 ≡ number found.1) × KeepsTo (one_step found.0) row.now) }
+    ensures none { result ≡ Err StoreFault.NotARegister → (days : ℕ) → (last : ℕ) → column row.now 6 ≡ number days → column row.now 5 ≡ number last → ¬ KeepsTo (one_step days) row.now }
+    ensures faults { IfErr result (λ fault. (fault ≡ StoreFault.Memory) ⊎ (fault ≡ StoreFault.NotARegister)) }
+{
+    match days_in(row) {
+        None => Err(StoreFault::NotARegister),
+        Some((days, schedule)) => match last_in(row) {
+            None => Err(StoreFault::NotARegister),
+            Some(last) => match judge_row(alloc, row, schedule) {
+                Ok(()) => Ok((days, last)),
+                Err(fault) => Err(fault),
+            },
+        },
+    }
+}
+
+/// The days and the last accepted moment, where the rows are those of an older office.
+pub(crate) fn judge_older(rows: &Vec<Row>) -> Result<(u64, Moment), StoreFault>
+    ensures ok { IfOk result (λ found. AreOlderOffice found.0 found.1 rows.now.items) }
+    ensures none { result ≡ Err StoreFault.NotARegister → (days : ℕ) → (last : ℕ) → ¬ AreOlderOffice days last rows.now.items }
+    ensures faults { IfErr result (λ fault. (fault ≡ StoreFault.Memory) ⊎ (fault ≡ StoreFault.NotARegister)) }
+{
+    match only(rows) {
+        None => Err(StoreFault::NotARegister),
+        Some(row) => older_in(*rows.allocator(), row),
+    }
+}

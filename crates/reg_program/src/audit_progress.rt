@@ -1,0 +1,66 @@
+//! How far an audit is, told on standard error.
+
+use crate::machine::Machine;
+use reg_table_audit::Watch;
+use std::time::Clock;
+
+/// Who watches an audit: at most once a second it tells how many rows were read and how many CRLs compared, where that is to
+/// be told.
+#[derive(Drop)]
+pub(crate) struct AuditProgress {
+    rt: HostRuntime,
+    is_told: bool,
+    rows: usize,
+    crls: usize,
+    /// The seconds of the clock when it told last, or began.
+    told: u64,
+}
+
+impl AuditProgress {
+    /// Who watches an audit on a machine.
+    pub(crate) fn of(machine: &Machine<'_>) -> AuditProgress {
+        AuditProgress {
+            rt: machine.rt,
+            is_told: machine.is_watched,
+            rows: 0,
+            crls: 0,
+            told: seconds(&machine.rt),
+        }
+    }
+
+    /// Tells how far the audit is, where a second has gone by.
+    fn tell(&mut self) {
+        if !self.is_told {
+            return;
+        }
+        let now = seconds(&self.rt);
+        if now == self.told {
+            return;
+        }
+        self.told = now;
+        let rows = self.rows;
+        let crls = self.crls;
+        // What can't be told is left out.
+        drop(eprintln!(self.rt; "{rows} rows read, {crls} CRLs compared"));
+    }
+}
+
+impl Watch for AuditProgress {
+    fn rows_read(&mut self, count: usize) {
+        self.rows = self.rows.saturating_add(count);
+        self.tell();
+    }
+
+    fn crl_compared(&mut self) {
+        self.crls = self.crls.saturating_add(1);
+        self.tell();
+    }
+}
+
+/// The seconds of the machine's clock since an arbitrary start; 0 where it can't be read.
+fn seconds(rt: &HostRuntime) -> u64 {
+    match rt.monotonic() {
+        Ok(time) => time.as_secs(),
+        Err(_) => 0,
+    }
+}

@@ -1,0 +1,4 @@
+pub mod Faults
+pub mod Read
+pub mod KeptAsRead
+pub mod Crls

@@ -1,0 +1,56 @@
+//! Why an audit comes to no good end.
+
+ghost use Rattle.std.specs.Prelude.{◌≡◌, ◌⊎◌};
+
+use reg_findings::BrokenRow;
+use reg_row_audit::CheckFault;
+use reg_tables::DatabaseFault;
+use std::alloc::AllocFailed;
+
+/// Why an audit comes to no good end.
+#[derive(Clone, Copy, PartialEq, Eq)]
+pub enum AuditFault {
+    /// Memory could not be had.
+    Memory,
+    /// The database failed.
+    Store,
+    /// A row breaks a rule.
+    Broken(BrokenRow),
+}
+
+impl From<DatabaseFault> for AuditFault {
+    ghost use Rattle.reg_table_audit.specs.Faults.{fault_of_call};
+    ghost use Rattle.reg_table_audit.specs.declared.fault.AuditFault.TheVariants.{Memory, Store};
+
+    ghost from_gives = { λ fault stop. (stop ≡ fault_of_call fault) × ((stop ≡ Memory) ⊎ (stop ≡ Store)) };
+
+    fn from(fault: DatabaseFault) -> AuditFault {
+        match fault {
+            DatabaseFault::Memory => AuditFault::Memory,
+            DatabaseFault::Store => AuditFault::Store,
+        }
+    }
+}
+
+impl From<CheckFault> for AuditFault {
+    ghost use Rattle.reg_table_audit.specs.Faults.{fault_of_check};
+
+    ghost from_gives = { λ found stop. stop ≡ fault_of_check found };
+
+    fn from(found: CheckFault) -> AuditFault {
+        match found {
+            CheckFault::Memory => AuditFault::Memory,
+            CheckFault::Broken(broken) => AuditFault::Broken(broken),
+        }
+    }
+}
+
+impl<T: Drop> From<AllocFailed<T>> for AuditFault {
+    ghost use Rattle.reg_table_audit.specs.declared.fault.AuditFault.TheVariants.{Memory};
+
+    ghost from_gives = { λ _ stop. stop ≡ Memory };
+
+    fn from(_error: AllocFailed<T>) -> AuditFault {
+        AuditFault::Memory
+    }
+}

@@ -1,0 +1,28 @@
+-- Runs of an office: it is asked one thing after the other, and answers each.
+use Rattle.std.specs.Prelude.{◌≡◌, List, [], ◌∷◌, ◌++◌}
+
+-- Asked these things in turn from s on, the office gives these answers, one for each, and is t afterwards.
+-- `answers s q a t` is one step: asked q at s, the office answers a and is t.
+abbrev pub Answered : {S Q A : Type 0} → (S → Q → A → S → Type 0) → S → List Q → List A → S → Type 0
+Answered answers s [] [] t = t ≡ s
+Answered {S = S} answers s (q ∷ asked) (a ∷ given) t = (m : S) × answers s q a m × Answered answers m asked given t
+Answered answers s [] (a ∷ given) t = ⊥
+Answered answers s (q ∷ asked) [] t = ⊥
+
+-- A step of a value that shows records, as a step of the records: whatever records s shows, t shows those that one step makes of them.
+abbrev pub ShowsStep : {S R Q A : Type 0} → (S → R → Type 0) → (R → Q → A → R → Type 0) → S → Q → A → S → Type 0
+ShowsStep {R = R} shows step s q a t = (before : R) → shows s before → (after : R) × step before q a after × shows t after
+
+-- ---- laws
+
+-- a run, and another from where it ended, are a run
+abbrev pub RunsGoOn : {S Q A : Type 0} → (S → Q → A → S → Type 0) → Type 0
+RunsGoOn {S = S} {Q = Q} {A = A} answers =
+    (s m t : S) (asked : List Q) (given : List A) (more : List Q) (others : List A)
+    → Answered answers s asked given m → Answered answers m more others t → Answered answers s (asked ++ more) (given ++ others) t
+
+-- and so are a run and one step more
+abbrev pub RunsStepOn : {S Q A : Type 0} → (S → Q → A → S → Type 0) → Type 0
+RunsStepOn {S = S} {Q = Q} {A = A} answers =
+    (s m t : S) (asked : List Q) (given : List A) (q : Q) (a : A)
+    → Answered answers s asked given m → answers m q a t → Answered answers s (asked ++ q ∷ []) (given ++ a ∷ []) t
