@@ -1,5 +1,5 @@
 -- The same grammar as a function: what is read from fields, one after the other.
-use Rattle.std.specs.Prelude.{ℕ, ◌&&◌, List, [], ◌∷◌, length, codes, bytes_eq, nat_le, nat_lt, if◌then◌else◌, cond, Option, Some, None, option_map, option_and_then}
+use Rattle.std.specs.Prelude.{ℕ, Bool, ◌&&◌, List, [], ◌∷◌, length, codes, bytes_eq, nat_le, nat_lt, if◌then◌else◌, cond, Option, Some, None, option_map, option_and_then}
 use Rattle.std.specs.List.{list_all}
 use Rattle.std.specs.Result.{result_ok}
 use Rattle.hex.specs.Hex.{decode_of}
