@@ -16,7 +16,7 @@ PAGE = TOP / "docs/MODEL.md"
 HEADING = "## The chain"
 STEP = re.compile(r"^\| \d+ \| (reg_\w+) ((?:`[\w.]+`(?:, )?)+) \| (.*) \| (\d+) \| (\d+) \|$", re.MULTILINE)
 MORE = re.compile(r"^\| ([^|]*) \| ((?:reg_\w+ `\w+\.\w+`(?:, )?)+) \| (\d+) \|$", re.MULTILINE)
-# What `perform` says of a script over a file; and what its relations are at the machine's files: reg_program `files.rt`, reg_office `keeping.rt`, reg_signer `both.rt`.
+# What `perform` says of a script over a file; and what its relations are at the machine's files: reg_program `place.rt`, reg_office `records.rt`, reg_signer `both.rt`.
 ROOTS = [
     *(("reg_jobs", *it) for it in (("Ends", "ScriptAt"), ("Told", "Explains"))),
     ("reg_endings", "Endings", "status"),

@@ -1,4 +1,4 @@
-//! The steps of the changes, inside a transaction: each is one statement.
+//! The statements of the changes, inside a transaction.
 
 ghost use Rattle.std.specs.Prelude.{◌≡◌, ◌+◌, true, length, IfOk, OnOk};
 ghost use Rattle.sqlite.specs.Effect.{IsDatabase};

@@ -7,4 +7,4 @@ use Rattle.reg_files.specs.declared.reading.Unread.TheVariants as unread
 -- no database was begun in them, memory was wanting, or the store failed
 abbrev pub IsUnread : Unread → Type 0
 IsUnread unread.Nothing = Unit {0}
-IsUnread (unread.Unopened why) = (why.fault ≡ Memory) ⊎ (why.fault ≡ Store)
+IsUnread (unread.Fault why) = (why.fault ≡ Memory) ⊎ (why.fault ≡ Store)

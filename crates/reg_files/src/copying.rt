@@ -52,7 +52,7 @@ fn copy_held(rt: &HostRuntime, path: &str, holder: Holder, to: &str) -> Result<u
 {
     match sources_at(rt, path, holder) {
         Ok(sources) => copy_sources(rt, sources, to),
-        Err(why) => Err(Unread::Unopened(why)),
+        Err(why) => Err(Unread::Fault(why)),
     }
 }
 
@@ -82,7 +82,7 @@ fn copy_pages<D: Disk + Drop>(
 {
     match lay_pages(rt, &mut pager, to) {
         Ok(bytes) => Ok(bytes),
-        Err(why) => Err(Unread::Unopened(why)),
+        Err(why) => Err(Unread::Fault(why)),
     }
 }
 
@@ -116,8 +116,8 @@ fn size_in<D: Disk>(files: &mut Files<D>) -> Result<PageSize, Unread>
 {
     match probe_page_size(files) {
         Ok(Some(size)) => Ok(size),
-        Ok(None) => Err(Unread::Unopened(damaged())),
-        Err(error) => Err(Unread::Unopened(of_call(error.kind()))),
+        Ok(None) => Err(Unread::Fault(damaged())),
+        Err(error) => Err(Unread::Fault(of_call(error.kind()))),
     }
 }
 
@@ -135,11 +135,11 @@ fn recovered_by<D: Disk + Drop>(
 {
     let mut pager = match Pager::new(alloc, files, size, options) {
         Ok(pager) => pager,
-        Err(_) => return Err(Unread::Unopened(no_memory())),
+        Err(_) => return Err(Unread::Fault(no_memory())),
     };
     match pager.recover() {
         Ok(()) => Ok(pager),
-        Err(error) => Err(Unread::Unopened(unlooked(&error))),
+        Err(error) => Err(Unread::Fault(unlooked(&error))),
     }
 }
 

@@ -30,7 +30,7 @@ pub enum Unread {
     /// There is no database yet: who opened them to write would make one.
     Nothing,
     /// They are not opened.
-    Unopened(FileFault),
+    Fault(FileFault),
 }
 
 /// The files of a database, which are only read, and how it is to be opened.
@@ -96,7 +96,7 @@ pub fn look_at(rt: &HostRuntime, path: &str) -> Result<(), Unread>
 {
     match read_at(rt, path) {
         Ok(sources) => look_into(rt.alloc(), sources),
-        Err(why) => Err(Unread::Unopened(why)),
+        Err(why) => Err(Unread::Fault(why)),
     }
 }
 
@@ -151,7 +151,7 @@ pub fn open_begun<D: Disk + Drop>(
     is_begun(alloc, &mut files)?;
     match Connection::open_files_with(alloc, files, options, false) {
         Ok(connection) => Ok(connection),
-        Err((error, _)) => Err(Unread::Unopened(no_database(&error))),
+        Err((error, _)) => Err(Unread::Fault(no_database(&error))),
     }
 }
 
@@ -167,8 +167,8 @@ pub(crate) fn is_begun<D: Disk>(alloc: Global, files: &mut Files<D>) -> Result<(
     match look(alloc, files) {
         Ok(Found::Begun) => Ok(()),
         Ok(Found::Nothing) => Err(Unread::Nothing),
-        Ok(Found::Other) => Err(Unread::Unopened(damaged())),
-        Err(why) => Err(Unread::Unopened(why)),
+        Ok(Found::Other) => Err(Unread::Fault(damaged())),
+        Err(why) => Err(Unread::Fault(why)),
     }
 }
 

@@ -19,7 +19,7 @@ use sqlite::Alter;
 use std::alloc::Global;
 
 /// The number of the next CRL.
-fn next_crl<C: Alter>(store: &mut Store<C>) -> Result<u64, StoreFault>
+fn next_crl_number<C: Alter>(store: &mut Store<C>) -> Result<u64, StoreFault>
     ensures found { (records : Records) → Shows C.Store store.old records → HasCleanDisk (state C.Store store.new) → IfOk result (λ number. number ≡ next_number records.crls) }
     ensures looked { Looked C.Store store.old store.new }
     ensures faults { IfErr result IsDatabaseFault }
@@ -51,7 +51,7 @@ fn identified<C: Alter>(
     ensures looked { Looked C.Store store.old store.new }
     ensures faults { IfErr result IsDatabaseFault }
 {
-    let first = next_crl(store)?;
+    let first = next_crl_number(store)?;
     let issuer = store.issuer()?;
     match issuer.with_key_identifier(alloc, first, octets) {
         Ok(issuer) => Ok(issuer),

@@ -1,4 +1,4 @@
-//! The office over a store, as an office of records.
+//! The office over a store, as an office that keeps records.
 
 use crate::office::Office;
 use reg_calls::OfficeOfRecords;

@@ -28,10 +28,10 @@ abbrev pub listed_in : Listed → column.Listed
 listed_in row = record { serial = row.serial; at = row.at; reason = row.reason; first = row.first; not_after = row.not_after; last = row.last }
 
 -- the rows are those of these columns
-pub record AreColumnsOf (beside : KeptRows) (columns : column.Columns) : Type 0 where
-  pub letters : map standing_in beside.letters.now ≡ columns.letters
-  pub counts : beside.counts ≡ columns.counts
-  pub listed : map listed_in beside.listed.now ≡ columns.listed
+pub record AreColumnsOf (kept : KeptRows) (columns : column.Columns) : Type 0 where
+  pub letters : map standing_in kept.letters.now ≡ columns.letters
+  pub counts : kept.counts ≡ columns.counts
+  pub listed : map listed_in kept.listed.now ≡ columns.listed
 
 -- the letter of a status; a registered certificate's is never unknown
 abbrev pub letter_by : Status → Letter

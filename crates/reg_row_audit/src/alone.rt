@@ -13,7 +13,7 @@ use reg_findings::{Defect, RegisterTable};
 /// Each name is one that a command takes.
 pub(crate) fn names_are_good(subscribers: &[SubscriberRow]) -> Result<(), CheckFault>
     ensures ok { OnOk result (AllByRecursion (λ row. IsName row.name) subscribers.now) }
-    ensures broken { IfErr result (λ stop. IsBroken stop → ¬ AllByRecursion (λ row. IsName row.name) subscribers.now) }
+    ensures broken { IfErr result (λ fault. IsBroken fault → ¬ AllByRecursion (λ row. IsName row.name) subscribers.now) }
 {
     for (place, subscriber) in subscribers.iter().enumerate() {
         if !subscriber.name.is_name() {
@@ -26,7 +26,7 @@ pub(crate) fn names_are_good(subscribers: &[SubscriberRow]) -> Result<(), CheckF
 /// Each order's days are some that a schedule can allow.
 pub(crate) fn days_are_allowed(orders: &[OrderRow]) -> Result<(), CheckFault>
     ensures ok { OnOk result (AllByRecursion (λ row. IsDays row.days) orders.now) }
-    ensures broken { IfErr result (λ stop. IsBroken stop → ¬ AllByRecursion (λ row. IsDays row.days) orders.now) }
+    ensures broken { IfErr result (λ fault. IsBroken fault → ¬ AllByRecursion (λ row. IsDays row.days) orders.now) }
 {
     for (place, order) in orders.iter().enumerate() {
         if !Schedule::can_allow(order.days) {
@@ -39,7 +39,7 @@ pub(crate) fn days_are_allowed(orders: &[OrderRow]) -> Result<(), CheckFault>
 /// Each validity runs forward (RFC 5280 4.1.2.5).
 pub(crate) fn run_forward(certificates: &[CertRow]) -> Result<(), CheckFault>
     ensures ok { OnOk result (AllByRecursion (λ row. row.not_before ≤ row.not_after) certificates.now) }
-    ensures broken { IfErr result (λ stop. IsBroken stop → ¬ AllByRecursion (λ row. row.not_before ≤ row.not_after) certificates.now) }
+    ensures broken { IfErr result (λ fault. IsBroken fault → ¬ AllByRecursion (λ row. row.not_before ≤ row.not_after) certificates.now) }
 {
     for (place, certificate) in certificates.iter().enumerate() {
         if certificate.not_before > certificate.not_after {

@@ -55,7 +55,7 @@ impl Numbered for CrlRow {
 /// The rows have the numbers from one on.
 pub(crate) fn in_order<T: Numbered>(table: RegisterTable, rows: &[T]) -> Result<(), CheckFault>
     ensures ok { OnOk result (NumberedFrom T.number 1 rows.now) }
-    ensures broken { IfErr result (λ stop. IsBroken stop → ¬ NumberedFrom T.number 1 rows.now) }
+    ensures broken { IfErr result (λ fault. IsBroken fault → ¬ NumberedFrom T.number 1 rows.now) }
 {
     for (place, row) in rows.iter().enumerate() {
         if row.number() != place as u64 + 1 {
@@ -107,7 +107,7 @@ pub(crate) fn moments_never_fall<T: Dated>(
     why: Defect,
 ) -> Result<(), CheckFault>
     ensures ok { OnOk result (NeverFalls T.moment rows.now) }
-    ensures broken { IfErr result (λ stop. IsBroken stop → ¬ NeverFalls T.moment rows.now) }
+    ensures broken { IfErr result (λ fault. IsBroken fault → ¬ NeverFalls T.moment rows.now) }
 {
     let mut latest = Moment::EPOCH;
     for (place, row) in rows.iter().enumerate() {
@@ -123,7 +123,7 @@ pub(crate) fn moments_never_fall<T: Dated>(
 /// The numbers of the first CRLs do not fall from one revocation to a later one.
 pub(crate) fn firsts_never_fall(revocations: &[RevocationRow]) -> Result<(), CheckFault>
     ensures ok { OnOk result (NeverFalls (λ row. row.first) revocations.now) }
-    ensures broken { IfErr result (λ stop. IsBroken stop → ¬ NeverFalls (λ row. row.first) revocations.now) }
+    ensures broken { IfErr result (λ fault. IsBroken fault → ¬ NeverFalls (λ row. row.first) revocations.now) }
 {
     let mut latest = 0;
     for (place, revocation) in revocations.iter().enumerate() {
@@ -138,7 +138,7 @@ pub(crate) fn firsts_never_fall(revocations: &[RevocationRow]) -> Result<(), Che
 /// No thisUpdate is after the last accepted moment.
 pub(crate) fn updates_by_last(crls: &[CrlRow], last: Moment) -> Result<(), CheckFault>
     ensures ok { OnOk result (AllByRecursion (λ crl. crl.this_update ≤ last) crls.now) }
-    ensures broken { IfErr result (λ stop. IsBroken stop → ¬ AllByRecursion (λ crl. crl.this_update ≤ last) crls.now) }
+    ensures broken { IfErr result (λ fault. IsBroken fault → ¬ AllByRecursion (λ crl. crl.this_update ≤ last) crls.now) }
 {
     for (place, crl) in crls.iter().enumerate() {
         if crl.this_update > last {
@@ -151,7 +151,7 @@ pub(crate) fn updates_by_last(crls: &[CrlRow], last: Moment) -> Result<(), Check
 /// No request was received after the last accepted moment.
 pub(crate) fn received_by_last(requests: &[RequestRow], last: Moment) -> Result<(), CheckFault>
     ensures ok { OnOk result (AllByRecursion (λ row. row.received ≤ last) requests.now) }
-    ensures broken { IfErr result (λ stop. IsBroken stop → ¬ AllByRecursion (λ row. row.received ≤ last) requests.now) }
+    ensures broken { IfErr result (λ fault. IsBroken fault → ¬ AllByRecursion (λ row. row.received ≤ last) requests.now) }
 {
     for (place, request) in requests.iter().enumerate() {
         if request.received > last {

@@ -16,7 +16,7 @@ use reg_findings::RegisterTable;
 use std::alloc::Global;
 
 /// Whether what is kept beside the records follows from them.
-fn check_beside(
+fn check_kept(
     alloc: Global,
     rows: &Rows<'_>,
     found: &Found,
@@ -24,7 +24,7 @@ fn check_beside(
 ) -> Result<(), CheckFault>
     ensures ok { IsIndexOf rows.now found.now → (records : Records) → AreOf rows.now records → SoundRows records → (columns : Columns) → AreColumnsOf beside.now columns → OnOk result (Kept columns records) }
     ensures broken { IsIndexOf rows.now found.now → (records : Records) → AreOf rows.now records → SoundRows records → (columns : Columns) → AreColumnsOf beside.now columns
-        → IfErr result (λ stop. IsBroken stop → ¬ Kept columns records) }
+        → IfErr result (λ fault. IsBroken fault → ¬ Kept columns records) }
 {
     let letters = standings(alloc, rows.certificates, &found.revocations, rows.last)?;
     check_counts(&letters, beside.counts)?;
@@ -44,8 +44,8 @@ pub fn check(alloc: Global, rows: &Rows<'_>, beside: &KeptRows<'_>) -> Result<()
     ensures sound { (records : Records) → AreOf rows.now records → OnOk result (SoundRows records) }
     ensures kept { (records : Records) → AreOf rows.now records → (columns : Columns) → AreColumnsOf beside.now columns → OnOk result (Kept columns records) }
     ensures broken { (records : Records) → AreOf rows.now records → (columns : Columns) → AreColumnsOf beside.now columns
-        → IfErr result (λ stop. IsBroken stop → ¬ (SoundRows records × Kept columns records)) }
+        → IfErr result (λ fault. IsBroken fault → ¬ (SoundRows records × Kept columns records)) }
 {
     let found = check_rows(alloc, rows)?;
-    check_beside(alloc, rows, &found, beside)
+    check_kept(alloc, rows, &found, beside)
 }

@@ -60,7 +60,7 @@ fn is_on(row: &Listed, number: u64) -> bool
 /// The entries of what a CRL lists.
 fn listed_by(alloc: Global, listed: &[Listed], number: u64) -> Result<Vec<Entry>, CheckFault>
     ensures made { IfOk result (λ entries. entries.items ≡ map listed_entry (filter (lists_row number) listed.now)) }
-    ensures memory { IfErr result (λ stop. ¬ IsBroken stop) }
+    ensures memory { IfErr result (λ fault. ¬ IsBroken fault) }
 {
     let mut entries = Vec::new(alloc);
     for row in listed {
@@ -87,7 +87,7 @@ fn entries_of(alloc: Global, listed: &[Listed], number: u64) -> Result<Vec<Entry
     ensures same { IfOk result (λ entries. IsPermutation (map listed_entry (filter (lists_row number) listed.now)) entries.items) }
     ensures ascend { IfOk result (λ entries. EntriesAscend entries.items) }
     ensures few { IfOk result (λ entries. length entries.items ≤ 1000000) }
-    ensures broken { KeysDiffer (λ row. row.serial) listed.now → length listed.now ≤ 1000000 → IfErr result (λ stop. ¬ IsBroken stop) }
+    ensures broken { KeysDiffer (λ row. row.serial) listed.now → length listed.now ≤ 1000000 → IfErr result (λ fault. ¬ IsBroken fault) }
 {
     let mut entries = listed_by(alloc, listed, number)?;
     entries.sort_unstable_by_key(|entry| entry.serial);
@@ -115,7 +115,7 @@ fn check_bytes(
     requires algorithm { length algorithm.now ≤ 1024 }
     ensures ok { OnOk result (IsCrlOf algorithm.now (record { issuer = issuer.now; number = crl.now.number; this_update = crl.now.this_update; next_update = next_update; entries = entries.now }) bytes.now) }
     ensures broken { IsAlgorithm algorithm.now
-        → IfErr result (λ stop. IsBroken stop → ¬ IsCrlOf algorithm.now (record { issuer = issuer.now; number = crl.now.number; this_update = crl.now.this_update; next_update = next_update; entries = entries.now }) bytes.now) }
+        → IfErr result (λ fault. IsBroken fault → ¬ IsCrlOf algorithm.now (record { issuer = issuer.now; number = crl.now.number; this_update = crl.now.this_update; next_update = next_update; entries = entries.now }) bytes.now) }
 {
     let tbs = crl_tbs(
         alloc,
@@ -156,7 +156,7 @@ pub fn check_crl(
     requires next { IsMoment (crl.now.this_update + crl_life) }
     ensures ok { (records : Records) → Lists issuer.now crl_life listed.now records → OnOk result (IsCrlOf algorithm.now (cert_list records crl.now.number crl.now.this_update) bytes.now) }
     ensures broken { (records : Records) → Lists issuer.now crl_life listed.now records → IsAlgorithm algorithm.now → KeysDiffer (λ row. row.serial) listed.now → length listed.now ≤ 1000000
-        → IfErr result (λ stop. IsBroken stop → ¬ IsCrlOf algorithm.now (cert_list records crl.now.number crl.now.this_update) bytes.now) }
+        → IfErr result (λ fault. IsBroken fault → ¬ IsCrlOf algorithm.now (cert_list records crl.now.number crl.now.this_update) bytes.now) }
 {
     let entries = entries_of(alloc, listed, crl.number)?;
     let next_update = crl.this_update.plus(crl_life);

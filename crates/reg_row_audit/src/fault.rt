@@ -1,4 +1,4 @@
-//! What an audit finds.
+//! Why a check of rows comes to no good end.
 
 ghost use Rattle.std.specs.Prelude.{◌≡◌, ◌≤◌, length, OnOk, IfErr};
 ghost use Rattle.reg_row_audit.specs.Faults.{IsBroken};
@@ -19,7 +19,7 @@ pub enum CheckFault {
 impl From<Memory> for CheckFault {
     ghost use Rattle.reg_row_audit.specs.declared.fault.CheckFault.TheVariants.{Memory as Lacked};
 
-    ghost from_gives = { λ _ stop. stop ≡ Lacked };
+    ghost from_gives = { λ _ fault. fault ≡ Lacked };
 
     fn from(_lacking: Memory) -> CheckFault {
         CheckFault::Memory
@@ -29,7 +29,7 @@ impl From<Memory> for CheckFault {
 impl From<AllocError> for CheckFault {
     ghost use Rattle.reg_row_audit.specs.declared.fault.CheckFault.TheVariants.{Memory};
 
-    ghost from_gives = { λ _ stop. stop ≡ Memory };
+    ghost from_gives = { λ _ fault. fault ≡ Memory };
 
     fn from(_error: AllocError) -> CheckFault {
         CheckFault::Memory
@@ -39,7 +39,7 @@ impl From<AllocError> for CheckFault {
 impl<T: Drop> From<AllocFailed<T>> for CheckFault {
     ghost use Rattle.reg_row_audit.specs.declared.fault.CheckFault.TheVariants.{Memory};
 
-    ghost from_gives = { λ _ stop. stop ≡ Memory };
+    ghost from_gives = { λ _ fault. fault ≡ Memory };
 
     fn from(_error: AllocFailed<T>) -> CheckFault {
         CheckFault::Memory
@@ -57,7 +57,7 @@ pub(crate) fn broken_at(table: RegisterTable, place: usize, why: Defect) -> Chec
 /// The table has no more rows than the cap.
 pub(crate) fn within_cap(table: RegisterTable, rows: usize, cap: u64) -> Result<(), CheckFault>
     ensures ok { OnOk result (rows ≤ cap) }
-    ensures broken { IfErr result (λ stop. IsBroken stop → ¬ (rows ≤ cap)) }
+    ensures broken { IfErr result (λ fault. IsBroken fault → ¬ (rows ≤ cap)) }
 {
     if rows as u64 <= cap {
         Ok(())

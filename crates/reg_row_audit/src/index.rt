@@ -19,7 +19,7 @@ pub(crate) fn certificates_by_serial(
 ) -> Result<BTreeMap<Serial, CertRow>, CheckFault>
     ensures differ { OnOk result (KeysDiffer (λ row. row.serial) certificates.now) }
     ensures found { IfOk result (λ found. (key : ℕ) → get nat_cmp found key ≡ find (λ row. row.serial == key) certificates.now) }
-    ensures broken { IfErr result (λ stop. IsBroken stop → ¬ KeysDiffer (λ row. row.serial) certificates.now) }
+    ensures broken { IfErr result (λ fault. IsBroken fault → ¬ KeysDiffer (λ row. row.serial) certificates.now) }
 {
     let mut found = BTreeMap::new(alloc);
     for (place, row) in certificates.iter().enumerate() {
@@ -37,7 +37,7 @@ pub(crate) fn certificates_by_order(
 ) -> Result<BTreeMap<u64, CertRow>, CheckFault>
     ensures differ { OnOk result (KeysDiffer (λ row. row.order) certificates.now) }
     ensures found { IfOk result (λ found. (key : ℕ) → get nat_cmp found key ≡ find (λ row. row.order == key) certificates.now) }
-    ensures broken { IfErr result (λ stop. IsBroken stop → ¬ KeysDiffer (λ row. row.order) certificates.now) }
+    ensures broken { IfErr result (λ fault. IsBroken fault → ¬ KeysDiffer (λ row. row.order) certificates.now) }
 {
     let mut found = BTreeMap::new(alloc);
     for (place, row) in certificates.iter().enumerate() {
@@ -55,7 +55,7 @@ pub(crate) fn revocations_by_serial(
 ) -> Result<BTreeMap<Serial, RevocationRow>, CheckFault>
     ensures differ { OnOk result (KeysDiffer (λ row. row.serial) revocations.now) }
     ensures found { IfOk result (λ found. (key : ℕ) → get nat_cmp found key ≡ find (λ row. row.serial == key) revocations.now) }
-    ensures broken { IfErr result (λ stop. IsBroken stop → ¬ KeysDiffer (λ row. row.serial) revocations.now) }
+    ensures broken { IfErr result (λ fault. IsBroken fault → ¬ KeysDiffer (λ row. row.serial) revocations.now) }
 {
     let mut found = BTreeMap::new(alloc);
     for (place, row) in revocations.iter().enumerate() {
@@ -73,7 +73,7 @@ pub(crate) fn revocations_by_request(
 ) -> Result<BTreeMap<u64, RevocationRow>, CheckFault>
     ensures differ { OnOk result (KeysDiffer (λ row. row.request) revocations.now) }
     ensures found { IfOk result (λ found. (key : ℕ) → get nat_cmp found key ≡ find (λ row. row.request == key) revocations.now) }
-    ensures broken { IfErr result (λ stop. IsBroken stop → ¬ KeysDiffer (λ row. row.request) revocations.now) }
+    ensures broken { IfErr result (λ fault. IsBroken fault → ¬ KeysDiffer (λ row. row.request) revocations.now) }
 {
     let mut found = BTreeMap::new(alloc);
     for (place, row) in revocations.iter().enumerate() {
@@ -87,7 +87,7 @@ pub(crate) fn revocations_by_request(
 /// No two subscribers have the same name.
 pub(crate) fn names_differ(alloc: Global, subscribers: &[SubscriberRow]) -> Result<(), CheckFault>
     ensures ok { OnOk result (KeysDiffer (λ row. row.name) subscribers.now) }
-    ensures broken { IfErr result (λ stop. IsBroken stop → ¬ KeysDiffer (λ row. row.name) subscribers.now) }
+    ensures broken { IfErr result (λ fault. IsBroken fault → ¬ KeysDiffer (λ row. row.name) subscribers.now) }
 {
     let mut names = BTreeSet::new(alloc);
     for (place, subscriber) in subscribers.iter().enumerate() {

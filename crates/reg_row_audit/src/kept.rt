@@ -115,7 +115,7 @@ pub(crate) fn standings(
     last: Moment,
 ) -> Result<Vec<Standing>, CheckFault>
     ensures made { IfOk result (λ made. made.items ≡ map (standing_by last (λ key. get nat_cmp revocations.now key)) certificates.now) }
-    ensures memory { IfErr result (λ stop. ¬ IsBroken stop) }
+    ensures memory { IfErr result (λ fault. ¬ IsBroken fault) }
 {
     let mut made = Vec::new(alloc);
     for certificate in certificates {
@@ -167,7 +167,7 @@ pub(crate) fn listings(
 ) -> Result<Vec<Listed>, CheckFault>
     ensures made { NumberedFrom (λ crl. crl.number) 1 crls.now → NeverFalls (λ crl. crl.this_update) crls.now
         → IfOk result (λ made. made.items ≡ map (listed_with crls.now (λ key. get nat_cmp certificates.now key)) revocations.now) }
-    ensures memory { IfErr result (λ stop. ¬ IsBroken stop) }
+    ensures memory { IfErr result (λ fault. ¬ IsBroken fault) }
 {
     let mut made = Vec::new(alloc);
     for revocation in revocations {
@@ -200,7 +200,7 @@ fn count_of(rows: &[Standing], letter: Letter) -> u64
 /// The counts are those of the letters.
 pub(crate) fn check_counts(rows: &[Standing], counts: Counts) -> Result<(), CheckFault>
     ensures ok { OnOk result (counts ≡ found_counts rows.now) }
-    ensures broken { IfErr result (λ stop. IsBroken stop → ¬ (counts ≡ found_counts rows.now)) }
+    ensures broken { IfErr result (λ fault. IsBroken fault → ¬ (counts ≡ found_counts rows.now)) }
 {
     let good = count_of(rows, Letter::Good);
     let revoked = count_of(rows, Letter::Revoked);
@@ -250,7 +250,7 @@ pub(crate) fn same_rows<T: OfSerial>(
     wanted: Vec<T>,
 ) -> Result<(), CheckFault>
     ensures ok { OnOk result (IsPermutation wanted.items rows.now) }
-    ensures broken { KeysDiffer T.serial wanted.items → IfErr result (λ stop. IsBroken stop → ¬ IsPermutation wanted.items rows.now) }
+    ensures broken { KeysDiffer T.serial wanted.items → IfErr result (λ fault. IsBroken fault → ¬ IsPermutation wanted.items rows.now) }
 {
     let mut wanted = wanted;
     wanted.sort_unstable_by_key(|row| row.serial());

@@ -32,7 +32,7 @@ pub(crate) fn subscribers_exist(
     subscribers: &[SubscriberRow],
 ) -> Result<(), CheckFault>
     ensures ok { NumberedFrom (λ row. row.id) 1 subscribers.now → OnOk result (AllByRecursion (λ row. IsSome (subscriber_in subscribers.now row.subscriber)) orders.now) }
-    ensures broken { NumberedFrom (λ row. row.id) 1 subscribers.now → IfErr result (λ stop. IsBroken stop → ¬ AllByRecursion (λ row. IsSome (subscriber_in subscribers.now row.subscriber)) orders.now) }
+    ensures broken { NumberedFrom (λ row. row.id) 1 subscribers.now → IfErr result (λ fault. IsBroken fault → ¬ AllByRecursion (λ row. IsSome (subscriber_in subscribers.now row.subscriber)) orders.now) }
 {
     for (place, order) in orders.iter().enumerate() {
         if !is_one_of(order.subscriber, subscribers.len()) {
@@ -74,7 +74,7 @@ pub(crate) fn are_as_ordered(
     orders: &[OrderRow],
 ) -> Result<(), CheckFault>
     ensures ok { NumberedFrom (λ row. row.id) 1 orders.now → OnOk result (AllByRecursion (λ row. IsAsOrdered row (order_in orders.now row.order)) certificates.now) }
-    ensures broken { NumberedFrom (λ row. row.id) 1 orders.now → IfErr result (λ stop. IsBroken stop → ¬ AllByRecursion (λ row. IsAsOrdered row (order_in orders.now row.order)) certificates.now) }
+    ensures broken { NumberedFrom (λ row. row.id) 1 orders.now → IfErr result (λ fault. IsBroken fault → ¬ AllByRecursion (λ row. IsAsOrdered row (order_in orders.now row.order)) certificates.now) }
 {
     for (place, certificate) in certificates.iter().enumerate() {
         let order = row_with(orders, certificate.order);
@@ -104,7 +104,7 @@ pub(crate) fn are_in_time(
     certificates: &BTreeMap<Serial, CertRow>,
 ) -> Result<(), CheckFault>
     ensures ok { OnOk result (AllByRecursion (λ row. IsInTime row (get nat_cmp certificates.now row.serial)) requests.now) }
-    ensures broken { IfErr result (λ stop. IsBroken stop → ¬ AllByRecursion (λ row. IsInTime row (get nat_cmp certificates.now row.serial)) requests.now) }
+    ensures broken { IfErr result (λ fault. IsBroken fault → ¬ AllByRecursion (λ row. IsInTime row (get nat_cmp certificates.now row.serial)) requests.now) }
 {
     for (place, request) in requests.iter().enumerate() {
         let certificate = certificates.get(&request.serial).copied();
@@ -131,7 +131,7 @@ pub(crate) fn none_after(
     revocations: &BTreeMap<Serial, RevocationRow>,
 ) -> Result<(), CheckFault>
     ensures ok { OnOk result (AllByRecursion (λ row. IsBefore row (get nat_cmp revocations.now row.serial)) requests.now) }
-    ensures broken { IfErr result (λ stop. IsBroken stop → ¬ AllByRecursion (λ row. IsBefore row (get nat_cmp revocations.now row.serial)) requests.now) }
+    ensures broken { IfErr result (λ fault. IsBroken fault → ¬ AllByRecursion (λ row. IsBefore row (get nat_cmp revocations.now row.serial)) requests.now) }
 {
     for (place, request) in requests.iter().enumerate() {
         let revocation = revocations.get(&request.serial).copied();
@@ -227,7 +227,7 @@ pub(crate) fn revocations_fit(
     ensures ok { NumberedFrom (λ row. row.id) 1 requests.now
         → OnOk result (AllByRecursion (λ row. FitsIn last (get nat_cmp certificates.now row.serial) (request_in requests.now row.request) crls.now row) revocations.now) }
     ensures broken { NumberedFrom (λ row. row.id) 1 requests.now
-        → IfErr result (λ stop. IsBroken stop → ¬ AllByRecursion (λ row. FitsIn last (get nat_cmp certificates.now row.serial) (request_in requests.now row.request) crls.now row) revocations.now) }
+        → IfErr result (λ fault. IsBroken fault → ¬ AllByRecursion (λ row. FitsIn last (get nat_cmp certificates.now row.serial) (request_in requests.now row.request) crls.now row) revocations.now) }
 {
     for (place, revocation) in revocations.iter().enumerate() {
         let certificate = certificates.get(&revocation.serial).copied();

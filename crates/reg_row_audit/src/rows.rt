@@ -47,7 +47,7 @@ pub struct Rows<'a> {
 /// Ids are 1, 2, 3 and so on, names are good and differ, and no more than the cap.
 fn check_subscribers(alloc: Global, rows: &[SubscriberRow], cap: u64) -> Result<(), CheckFault>
     ensures ok { OnOk result (SoundSubscribers cap rows.now) }
-    ensures broken { IfErr result (λ stop. IsBroken stop → ¬ SoundSubscribers cap rows.now) }
+    ensures broken { IfErr result (λ fault. IsBroken fault → ¬ SoundSubscribers cap rows.now) }
 {
     within_cap(RegisterTable::Subscriber, rows.len(), cap)?;
     in_order(RegisterTable::Subscriber, rows)?;
@@ -62,7 +62,7 @@ fn check_orders(
     cap: u64,
 ) -> Result<(), CheckFault>
     ensures ok { NumberedFrom (λ row. row.id) 1 subscribers.now → OnOk result (SoundOrders cap subscribers.now rows.now) }
-    ensures broken { NumberedFrom (λ row. row.id) 1 subscribers.now → IfErr result (λ stop. IsBroken stop → ¬ SoundOrders cap subscribers.now rows.now) }
+    ensures broken { NumberedFrom (λ row. row.id) 1 subscribers.now → IfErr result (λ fault. IsBroken fault → ¬ SoundOrders cap subscribers.now rows.now) }
 {
     within_cap(RegisterTable::Orders, rows.len(), cap)?;
     in_order(RegisterTable::Orders, rows)?;
@@ -80,7 +80,7 @@ fn check_certificates(
 ) -> Result<BTreeMap<Serial, CertRow>, CheckFault>
     ensures ok { NumberedFrom (λ row. row.id) 1 orders.now → OnOk result (SoundCertificates cap orders.now rows.now) }
     ensures found { IfOk result (λ found. (key : ℕ) → get nat_cmp found key ≡ find (λ row. row.serial == key) rows.now) }
-    ensures broken { NumberedFrom (λ row. row.id) 1 orders.now → IfErr result (λ stop. IsBroken stop → ¬ SoundCertificates cap orders.now rows.now) }
+    ensures broken { NumberedFrom (λ row. row.id) 1 orders.now → IfErr result (λ fault. IsBroken fault → ¬ SoundCertificates cap orders.now rows.now) }
 {
     within_cap(RegisterTable::Cert, rows.len(), cap)?;
     run_forward(rows)?;
@@ -98,7 +98,7 @@ fn check_requests(
     cap: u64,
 ) -> Result<(), CheckFault>
     ensures ok { (registered : List CertRow) → ((key : ℕ) → get nat_cmp certificates.now key ≡ find (λ row. row.serial == key) registered) → OnOk result (SoundRequests cap last registered rows.now) }
-    ensures broken { (registered : List CertRow) → ((key : ℕ) → get nat_cmp certificates.now key ≡ find (λ row. row.serial == key) registered) → IfErr result (λ stop. IsBroken stop → ¬ SoundRequests cap last registered rows.now) }
+    ensures broken { (registered : List CertRow) → ((key : ℕ) → get nat_cmp certificates.now key ≡ find (λ row. row.serial == key) registered) → IfErr result (λ fault. IsBroken fault → ¬ SoundRequests cap last registered rows.now) }
 {
     within_cap(RegisterTable::Request, rows.len(), cap)?;
     in_order(RegisterTable::Request, rows)?;
@@ -111,7 +111,7 @@ fn check_requests(
 /// no more than the cap.
 fn check_crls(rows: &[CrlRow], last: Moment, cap: u64) -> Result<(), CheckFault>
     ensures ok { OnOk result (AreCrls cap last rows.now) }
-    ensures broken { IfErr result (λ stop. IsBroken stop → ¬ AreCrls cap last rows.now) }
+    ensures broken { IfErr result (λ fault. IsBroken fault → ¬ AreCrls cap last rows.now) }
 {
     within_cap(RegisterTable::Crl, rows.len(), cap)?;
     in_order(RegisterTable::Crl, rows)?;
@@ -128,7 +128,7 @@ fn check_revocations(
 ) -> Result<BTreeMap<Serial, RevocationRow>, CheckFault>
     ensures ok { NumberedFrom (λ row. row.id) 1 rows.now.requests.now → OnOk result (AreRevocations (λ key. get nat_cmp certificates.now key) rows.now) }
     ensures found { IfOk result (λ found. (key : ℕ) → get nat_cmp found key ≡ find (λ row. row.serial == key) rows.now.revocations.now) }
-    ensures broken { NumberedFrom (λ row. row.id) 1 rows.now.requests.now → IfErr result (λ stop. IsBroken stop → ¬ AreRevocations (λ key. get nat_cmp certificates.now key) rows.now) }
+    ensures broken { NumberedFrom (λ row. row.id) 1 rows.now.requests.now → IfErr result (λ fault. IsBroken fault → ¬ AreRevocations (λ key. get nat_cmp certificates.now key) rows.now) }
 {
     revocations_fit(
         rows.revocations,
@@ -148,7 +148,7 @@ fn check_revocations(
 /// The clock lets the last accepted moment pass.
 fn check_last(last: Moment) -> Result<(), CheckFault>
     ensures ok { OnOk result (last < clock_end) }
-    ensures broken { IfErr result (λ stop. IsBroken stop → ¬ (last < clock_end)) }
+    ensures broken { IfErr result (λ fault. IsBroken fault → ¬ (last < clock_end)) }
 {
     if last < Moment::CLOCK_END {
         Ok(())
@@ -167,7 +167,7 @@ fn is_issued_at(crls: &[CrlRow], moment: Moment) -> bool
 /// Before anybody is entered, CRLs alone set the last accepted moment.
 fn check_last_set(rows: &Rows<'_>) -> Result<(), CheckFault>
     ensures ok { OnOk result (IsLastSet rows.now) }
-    ensures broken { IfErr result (λ stop. IsBroken stop → ¬ IsLastSet rows.now) }
+    ensures broken { IfErr result (λ fault. IsBroken fault → ¬ IsLastSet rows.now) }
 {
     let is_begun = !rows.subscribers.is_empty() || rows.last == Moment::EPOCH;
     if is_begun || is_issued_at(rows.crls, rows.last) {
@@ -191,7 +191,7 @@ pub(crate) struct Found {
 pub(crate) fn check_rows(alloc: Global, rows: &Rows<'_>) -> Result<Found, CheckFault>
     ensures ok { (records : Records) → AreOf rows.now records → OnOk result (SoundRows records) }
     ensures found { IfOk result (IsIndexOf rows.now) }
-    ensures broken { (records : Records) → AreOf rows.now records → IfErr result (λ stop. IsBroken stop → ¬ SoundRows records) }
+    ensures broken { (records : Records) → AreOf rows.now records → IfErr result (λ fault. IsBroken fault → ¬ SoundRows records) }
 {
     check_last(rows.last)?;
     check_last_set(rows)?;

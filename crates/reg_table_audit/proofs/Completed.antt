@@ -65,7 +65,7 @@ pub holds_both : {S : Type 0} (g : Ghosts S) (h : Held S) (db : Database) (recor
 holds_both g h db records columns these both = record { saved = these.saved; tables = λ clean up. subst (λ now. AreBoth now records columns) (sym (these.tables clean up)) both }
 
 -- an audit that tells no row as broken denies nothing
-pub not_broken_denied : (records : Records) (columns : Columns) (stop : AuditFault) → (EndsAtBrokenRow stop → ⊥) → IsDenied stop records columns
+pub not_broken_denied : (records : Records) (columns : Columns) (fault : AuditFault) → (EndsAtBrokenRow fault → ⊥) → IsDenied fault records columns
 not_broken_denied records columns Memory never = tt
 not_broken_denied records columns Store never = tt
 not_broken_denied records columns (Broken row) never = absurd (never tt)

@@ -124,7 +124,7 @@ updates_before records sound =
 
 module _ (records : Records) (columns : Columns) where
   -- where the rows are no sound records
-  pub rows_denied : (stop : AuditFault) → (EndsAtBrokenRow stop → ¬ (HasValues records × SoundRows records × Kept columns records)) → IsDenied stop records columns
+  pub rows_denied : (fault : AuditFault) → (EndsAtBrokenRow fault → ¬ (HasValues records × SoundRows records × Kept columns records)) → IsDenied fault records columns
   rows_denied Memory never = tt
   rows_denied Store never = tt
   rows_denied (Broken row) never = record {
@@ -133,8 +133,8 @@ module _ (records : Records) (columns : Columns) where
   }
 
   -- where the bytes of a CRL are others
-  pub bytes_denied : (stop : AuditFault) → (HasValues records → SoundRows records → Kept columns records → ¬ IsBrokenRow stop) → (HasValues records → SoundRows records → Kept columns records → EndsAtBrokenRow stop → ¬ CrlsSigned IsSomeCrl records)
-      → IsDenied stop records columns
+  pub bytes_denied : (fault : AuditFault) → (HasValues records → SoundRows records → Kept columns records → ¬ IsBrokenRow fault) → (HasValues records → SoundRows records → Kept columns records → EndsAtBrokenRow fault → ¬ CrlsSigned IsSomeCrl records)
+      → IsDenied fault records columns
   bytes_denied Memory never others = tt
   bytes_denied Store never others = tt
   bytes_denied (Broken row) never others = record {
@@ -143,7 +143,7 @@ module _ (records : Records) (columns : Columns) where
   }
 
   -- where the office was made with other days
-  pub days_denied : (stop : AuditFault) → (EndsAtBrokenRow stop → ¬ HasAllowedDays columns) → IsDenied stop records columns
+  pub days_denied : (fault : AuditFault) → (EndsAtBrokenRow fault → ¬ HasAllowedDays columns) → IsDenied fault records columns
   days_denied Memory never = tt
   days_denied Store never = tt
   days_denied (Broken row) never = record {

@@ -19,7 +19,7 @@ ghost use Rattle.reg_table_audit.specs.ReadableValues.{HasAllowedDays};
 use crate::complete::{BESIDE, check_complete};
 use crate::days::check_days;
 use crate::fault::AuditFault;
-use crate::read_rows::judge;
+use crate::read_rows::check_read;
 use crate::sql::What;
 use crate::stored::check_crls;
 use crate::watch::{Unwatched, Watch};
@@ -74,11 +74,11 @@ pub fn audit<S: Alter, W: Watch>(
     ensures counted { (records : Records) → (columns : Columns) → ShowsBoth S.Store conn.old records columns → HasCleanDisk (state S.Store conn.new)
         → IfOk result (AreNumbersOf records) }
     ensures broken { (records : Records) → (columns : Columns) → ShowsBoth S.Store conn.old records columns → HasCleanDisk (state S.Store conn.new)
-        → IfErr result (λ stop. IsDenied stop records columns) }
+        → IfErr result (λ fault. IsDenied fault records columns) }
     ensures looked { Looked S.Store conn.old conn.new }
 {
     let all = read_each(alloc, conn, &WHOLE, watch)?;
-    let audited = judge(alloc, &all)?;
+    let audited = check_read(alloc, &all)?;
     check_crls(alloc, conn, &all, watch)?;
     let more = read_each(alloc, conn, &BESIDE, &mut Unwatched)?;
     check_complete(alloc, &all, &more)?;

@@ -64,7 +64,7 @@ fn out_of_order(table: RegisterTable, place: usize) -> AuditFault {
 /// The numbers in the first column are 1, 2, 3 and so on.
 fn check_counted(table: RegisterTable, rows: &[Row]) -> Result<(), AuditFault>
     ensures counted { OnOk result (CountedFrom 1 rows.now) }
-    ensures broken { CountedFrom 1 rows.now → IfErr result (λ stop. ¬ EndsAtBrokenRow stop) }
+    ensures broken { CountedFrom 1 rows.now → IfErr result (λ fault. ¬ EndsAtBrokenRow fault) }
 {
     for (place, row) in rows.iter().enumerate() {
         if !is_number(row, 0, place as u64 + 1) {
@@ -87,7 +87,7 @@ fn stands<T: OfRow>(row: &Row) -> bool
 /// Each row is that of some record.
 fn each_stands<T: OfRow>(rows: &[Row]) -> Result<(), AuditFault>
     ensures stand { OnOk result (AllByRecursion (IsOfSomeRecord T.is_keyed T.shown) rows.now) }
-    ensures broken { IfErr result (λ stop. ¬ EndsAtBrokenRow stop) }
+    ensures broken { IfErr result (λ fault. ¬ EndsAtBrokenRow fault) }
 {
     for row in rows {
         if !stands::<T>(row) {
@@ -100,7 +100,7 @@ fn each_stands<T: OfRow>(rows: &[Row]) -> Result<(), AuditFault>
 /// The rows of subscriber are those of subscribers.
 fn check_subscribers(rows: &[Row]) -> Result<(), AuditFault>
     ensures hold { (db : Database) → AreTables db → IsReadFrom db Subscribers rows.now → OnOk result (HoldSubscribers db.trees) }
-    ensures broken { (records : Records) → (columns : Columns) → IsReadOf records columns Subscribers rows.now → IfErr result (λ stop. ¬ EndsAtBrokenRow stop) }
+    ensures broken { (records : Records) → (columns : Columns) → IsReadOf records columns Subscribers rows.now → IfErr result (λ fault. ¬ EndsAtBrokenRow fault) }
 {
     check_counted(RegisterTable::Subscriber, rows)?;
     each_stands::<SubscriberRow>(rows)
@@ -109,7 +109,7 @@ fn check_subscribers(rows: &[Row]) -> Result<(), AuditFault>
 /// The rows of orders are those of orders.
 fn check_orders(rows: &[Row]) -> Result<(), AuditFault>
     ensures hold { (db : Database) → AreTables db → IsReadFrom db Orders rows.now → OnOk result (HoldOrders db.trees) }
-    ensures broken { (records : Records) → (columns : Columns) → IsReadOf records columns Orders rows.now → IfErr result (λ stop. ¬ EndsAtBrokenRow stop) }
+    ensures broken { (records : Records) → (columns : Columns) → IsReadOf records columns Orders rows.now → IfErr result (λ fault. ¬ EndsAtBrokenRow fault) }
 {
     check_counted(RegisterTable::Orders, rows)?;
     each_stands::<OrderRow>(rows)
@@ -118,7 +118,7 @@ fn check_orders(rows: &[Row]) -> Result<(), AuditFault>
 /// The rows of cert are those of certificates.
 fn check_certificates(rows: &[Row], rowids: &[Row]) -> Result<(), AuditFault>
     ensures hold { (db : Database) → AreTables db → IsReadFrom db Certificates rows.now → IsReadFrom db CertificateRowids rowids.now → OnOk result (HoldCertificates db.trees) }
-    ensures broken { (records : Records) → (columns : Columns) → IsReadOf records columns CertificateRowids rowids.now → IfErr result (λ stop. ¬ EndsAtBrokenRow stop) }
+    ensures broken { (records : Records) → (columns : Columns) → IsReadOf records columns CertificateRowids rowids.now → IfErr result (λ fault. ¬ EndsAtBrokenRow fault) }
 {
     check_counted(RegisterTable::Cert, rowids)?;
     each_stands::<CertRow>(rows)
@@ -127,7 +127,7 @@ fn check_certificates(rows: &[Row], rowids: &[Row]) -> Result<(), AuditFault>
 /// The rows of request are those of requests.
 fn check_requests(rows: &[Row]) -> Result<(), AuditFault>
     ensures hold { (db : Database) → AreTables db → IsReadFrom db Requests rows.now → OnOk result (HoldRequests db.trees) }
-    ensures broken { (records : Records) → (columns : Columns) → IsReadOf records columns Requests rows.now → IfErr result (λ stop. ¬ EndsAtBrokenRow stop) }
+    ensures broken { (records : Records) → (columns : Columns) → IsReadOf records columns Requests rows.now → IfErr result (λ fault. ¬ EndsAtBrokenRow fault) }
 {
     check_counted(RegisterTable::Request, rows)?;
     each_stands::<RequestRow>(rows)
@@ -136,7 +136,7 @@ fn check_requests(rows: &[Row]) -> Result<(), AuditFault>
 /// The rows of revocation are those of revocations.
 fn check_revocations(rows: &[Row], rowids: &[Row]) -> Result<(), AuditFault>
     ensures hold { (db : Database) → AreTables db → IsReadFrom db Revocations rows.now → IsReadFrom db RevocationRowids rowids.now → OnOk result (HoldRevocations db.trees) }
-    ensures broken { (records : Records) → (columns : Columns) → IsReadOf records columns RevocationRowids rowids.now → IfErr result (λ stop. ¬ EndsAtBrokenRow stop) }
+    ensures broken { (records : Records) → (columns : Columns) → IsReadOf records columns RevocationRowids rowids.now → IfErr result (λ fault. ¬ EndsAtBrokenRow fault) }
 {
     check_counted(RegisterTable::Revocation, rowids)?;
     each_stands::<RevocationRow>(rows)
@@ -145,7 +145,7 @@ fn check_revocations(rows: &[Row], rowids: &[Row]) -> Result<(), AuditFault>
 /// The rows of crl are those of CRLs, whatever their bytes are.
 fn check_crls(rows: &[Row]) -> Result<(), AuditFault>
     ensures hold { (db : Database) → AreTables db → IsReadFrom db Crls rows.now → OnOk result (HoldCrls db.trees) }
-    ensures broken { (records : Records) → (columns : Columns) → IsReadOf records columns Crls rows.now → IfErr result (λ stop. ¬ EndsAtBrokenRow stop) }
+    ensures broken { (records : Records) → (columns : Columns) → IsReadOf records columns Crls rows.now → IfErr result (λ fault. ¬ EndsAtBrokenRow fault) }
 {
     check_counted(RegisterTable::Crl, rows)?;
     each_stands::<CrlRow>(rows)
@@ -154,7 +154,7 @@ fn check_crls(rows: &[Row]) -> Result<(), AuditFault>
 /// The rows of standing are those of state letters.
 fn check_letters(rows: &[Row], rowids: &[Row]) -> Result<(), AuditFault>
     ensures hold { (db : Database) → AreTables db → IsReadFrom db Standings rows.now → IsReadFrom db StandingRowids rowids.now → OnOk result (HoldLetters db.trees) }
-    ensures broken { (records : Records) → (columns : Columns) → IsReadOf records columns StandingRowids rowids.now → IfErr result (λ stop. ¬ EndsAtBrokenRow stop) }
+    ensures broken { (records : Records) → (columns : Columns) → IsReadOf records columns StandingRowids rowids.now → IfErr result (λ fault. ¬ EndsAtBrokenRow fault) }
 {
     check_counted(RegisterTable::Standing, rowids)?;
     each_stands::<Standing>(rows)
@@ -163,7 +163,7 @@ fn check_letters(rows: &[Row], rowids: &[Row]) -> Result<(), AuditFault>
 /// The one row of kept is that of counts.
 fn check_counts(rows: &[Row], rowids: &[Row]) -> Result<(), AuditFault>
     ensures hold { (db : Database) → AreTables db → IsReadFrom db OfCounts rows.now → IsReadFrom db CountsRowid rowids.now → OnOk result (AreCounts (db.trees 14)) }
-    ensures broken { IfErr result (λ stop. ¬ EndsAtBrokenRow stop) }
+    ensures broken { IfErr result (λ fault. ¬ EndsAtBrokenRow fault) }
 {
     let [rowid] = rowids else {
         return Err(AuditFault::Store);
@@ -177,7 +177,7 @@ fn check_counts(rows: &[Row], rowids: &[Row]) -> Result<(), AuditFault>
 /// The rows of listed are those of what CRLs list.
 fn check_listings(rows: &[Row], rowids: &[Row]) -> Result<(), AuditFault>
     ensures hold { (db : Database) → AreTables db → IsReadFrom db Listings rows.now → IsReadFrom db ListingRowids rowids.now → OnOk result (HoldListings db.trees) }
-    ensures broken { (records : Records) → (columns : Columns) → IsReadOf records columns ListingRowids rowids.now → IfErr result (λ stop. ¬ EndsAtBrokenRow stop) }
+    ensures broken { (records : Records) → (columns : Columns) → IsReadOf records columns ListingRowids rowids.now → IfErr result (λ fault. ¬ EndsAtBrokenRow fault) }
 {
     check_counted(RegisterTable::Listed, rowids)?;
     each_stands::<Listed>(rows)
@@ -220,7 +220,7 @@ fn step_in(row: &Row) -> Option<(Moment, u64)>
 /// The steps of the schedule.
 fn steps_in(alloc: Global, rows: &[Row]) -> Result<Vec<(Moment, u64)>, AuditFault>
     ensures told { IfOk result (λ steps. AllZip (λ (step : ℕ × ℕ) (row : Cells). HasCells 0 row (shown_step step)) steps.items rows.now) }
-    ensures broken { IfErr result (λ stop. ¬ EndsAtBrokenRow stop) }
+    ensures broken { IfErr result (λ fault. ¬ EndsAtBrokenRow fault) }
 {
     let mut steps = Vec::new(alloc);
     for row in rows {
@@ -235,7 +235,7 @@ fn steps_in(alloc: Global, rows: &[Row]) -> Result<Vec<(Moment, u64)>, AuditFaul
 /// The schedule and the numbers are those of a policy.
 fn check_policy(steps: &[(Moment, u64)], terms: Terms) -> Result<(), AuditFault>
     ensures hold { OnOk result (IsPolicy (record { schedule = steps.now; crl_life = terms.crl_life; ocsp_life = terms.ocsp_life; cap = terms.cap })) }
-    ensures broken { IfErr result (λ stop. ¬ EndsAtBrokenRow stop) }
+    ensures broken { IfErr result (λ fault. ¬ EndsAtBrokenRow fault) }
 {
     match Schedule::new(steps) {
         Some(schedule) => {
@@ -251,7 +251,7 @@ fn check_policy(steps: &[(Moment, u64)], terms: Terms) -> Result<(), AuditFault>
 /// The office and the schedule are those of a policy.
 fn check_office(alloc: Global, office: &[Row], steps: &[Row]) -> Result<(), AuditFault>
     ensures hold { (db : Database) → AreTables db → IsReadFrom db OfTerms office.now → IsReadFrom db Steps steps.now → OnOk result (AreOffice db.trees) }
-    ensures broken { IfErr result (λ stop. ¬ EndsAtBrokenRow stop) }
+    ensures broken { IfErr result (λ fault. ¬ EndsAtBrokenRow fault) }
 {
     let steps = steps_in(alloc, steps)?;
     match terms_in(office) {
@@ -269,7 +269,7 @@ pub(crate) fn check_complete(
 ) -> Result<(), AuditFault>
     ensures shown { (db : Database) → AreTables db → AreReadFrom db whole all.now (λ rows. rows.items) → AreReadFrom db read_besides more.now (λ rows. rows.items) → OnOk result (ShowSome db) }
     ensures broken { (records : Records) → (columns : Columns) → AreRead records columns whole all.now (λ rows. rows.items) → AreRead records columns read_besides more.now (λ rows. rows.items)
-        → IfErr result (λ stop. ¬ EndsAtBrokenRow stop) }
+        → IfErr result (λ fault. ¬ EndsAtBrokenRow fault) }
 {
     check_office(alloc, rows_at(more, 5), rows_at(more, 6))?;
     check_subscribers(rows_at(all, 1))?;

@@ -33,7 +33,7 @@ fn are_allowed(row: &Row) -> bool
 pub(crate) fn check_days(more: &[Vec<Row>]) -> Result<(), AuditFault>
     ensures allowed { (records : Records) → (columns : Columns) → AreRead records columns read_besides more.now (λ rows. rows.items) → OnOk result (HasAllowedDays columns) }
     ensures broken { (records : Records) → (columns : Columns) → AreRead records columns read_besides more.now (λ rows. rows.items)
-        → IfErr result (λ stop. EndsAtBrokenRow stop → ¬ HasAllowedDays columns) }
+        → IfErr result (λ fault. EndsAtBrokenRow fault → ¬ HasAllowedDays columns) }
 {
     let [office] = rows_at(more, 5) else {
         return Err(AuditFault::Store);

@@ -22,7 +22,7 @@ impl From<DatabaseFault> for AuditFault {
     ghost use Rattle.reg_table_audit.specs.Faults.{fault_of_call};
     ghost use Rattle.reg_table_audit.specs.declared.fault.AuditFault.TheVariants.{Memory, Store};
 
-    ghost from_gives = { λ fault stop. (stop ≡ fault_of_call fault) × ((stop ≡ Memory) ⊎ (stop ≡ Store)) };
+    ghost from_gives = { λ call fault. (fault ≡ fault_of_call call) × ((fault ≡ Memory) ⊎ (fault ≡ Store)) };
 
     fn from(fault: DatabaseFault) -> AuditFault {
         match fault {
@@ -35,7 +35,7 @@ impl From<DatabaseFault> for AuditFault {
 impl From<CheckFault> for AuditFault {
     ghost use Rattle.reg_table_audit.specs.Faults.{fault_of_check};
 
-    ghost from_gives = { λ found stop. stop ≡ fault_of_check found };
+    ghost from_gives = { λ found fault. fault ≡ fault_of_check found };
 
     fn from(found: CheckFault) -> AuditFault {
         match found {
@@ -48,7 +48,7 @@ impl From<CheckFault> for AuditFault {
 impl<T: Drop> From<AllocFailed<T>> for AuditFault {
     ghost use Rattle.reg_table_audit.specs.declared.fault.AuditFault.TheVariants.{Memory};
 
-    ghost from_gives = { λ _ stop. stop ≡ Memory };
+    ghost from_gives = { λ _ fault. fault ≡ Memory };
 
     fn from(_error: AllocFailed<T>) -> AuditFault {
         AuditFault::Memory

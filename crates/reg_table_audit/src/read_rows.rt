@@ -36,11 +36,11 @@ pub(crate) fn rows_at(all: &[Vec<Row>], place: usize) -> &[Row]
 }
 
 /// Whether the rows are those of a register, in the order of [`crate::auditing::WHOLE`].
-pub(crate) fn judge(alloc: Global, all: &[Vec<Row>]) -> Result<Audited, AuditFault>
+pub(crate) fn check_read(alloc: Global, all: &[Vec<Row>]) -> Result<Audited, AuditFault>
     ensures sound { (records : Records) → (columns : Columns) → AreRead records columns whole all.now (λ rows. rows.items) → IfOk result (λ _. SoundRows records × Kept columns records) }
     ensures counted { (records : Records) → (columns : Columns) → AreRead records columns whole all.now (λ rows. rows.items) → IfOk result (AreNumbersOf records) }
     ensures broken { (records : Records) → (columns : Columns) → AreRead records columns whole all.now (λ rows. rows.items)
-        → IfErr result (λ stop. EndsAtBrokenRow stop → ¬ (HasValues records × SoundRows records × Kept columns records)) }
+        → IfErr result (λ fault. EndsAtBrokenRow fault → ¬ (HasValues records × SoundRows records × Kept columns records)) }
 {
     let office = office(rows_at(all, 0))?;
     let subscribers = subscribers(alloc, rows_at(all, 1))?;

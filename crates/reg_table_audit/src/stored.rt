@@ -99,8 +99,8 @@ fn check_bytes(
     requires { crl_life ≤ 863999 }
     ensures bytes { (records : Records) → Lists issuer.now crl_life listed.now records → OnOk result (IsSomeCrl (cert_list records crl.now.number crl.now.this_update) bytes.now) }
     ensures others { (records : Records) → Lists issuer.now crl_life listed.now records → CanList listed.now → crl.now.this_update < clock_end
-        → IfErr result (λ stop. EndsAtBrokenRow stop → ¬ IsSomeCrl (cert_list records crl.now.number crl.now.this_update) bytes.now) }
-    ensures rows { IfErr result (λ stop. ¬ IsBrokenRow stop) }
+        → IfErr result (λ fault. EndsAtBrokenRow fault → ¬ IsSomeCrl (cert_list records crl.now.number crl.now.this_update) bytes.now) }
+    ensures rows { IfErr result (λ fault. ¬ IsBrokenRow fault) }
 {
     if bytes.len() > MOST_CRL {
         return Err(other_bytes(crl.number));
@@ -133,8 +133,8 @@ fn check_stored<S: Alter>(
     requires { crl_life ≤ 863999 }
     ensures bytes { (records : Records) → Shows S.Store conn.old records → Lists issuer.now crl_life listed.now records → HasCleanDisk (state S.Store conn.new) → OnOk result (IsStored records crl.now) }
     ensures others { (records : Records) → Shows S.Store conn.old records → Lists issuer.now crl_life listed.now records → CanList listed.now → crl.now.this_update < clock_end
-        → HasCleanDisk (state S.Store conn.new) → IfErr result (λ stop. EndsAtBrokenRow stop → ¬ IsStored records crl.now) }
-    ensures rows { IfErr result (λ stop. ¬ IsBrokenRow stop) }
+        → HasCleanDisk (state S.Store conn.new) → IfErr result (λ fault. EndsAtBrokenRow fault → ¬ IsStored records crl.now) }
+    ensures rows { IfErr result (λ fault. ¬ IsBrokenRow fault) }
     ensures looked { Looked S.Store conn.old conn.new }
 {
     match reg_tables::crl(conn, crl.number)? {
@@ -156,8 +156,8 @@ fn check_each<S: Alter, W: Watch>(
     requires { crl_life ≤ 863999 }
     ensures bytes { (records : Records) → Shows S.Store conn.old records → Lists issuer.now crl_life listed.now records → HasCleanDisk (state S.Store conn.new) → OnOk result (AllByRecursion (IsStored records) crls.now) }
     ensures others { (records : Records) → Shows S.Store conn.old records → Lists issuer.now crl_life listed.now records → CanList listed.now → AllByRecursion (λ crl. crl.this_update < clock_end) crls.now
-        → HasCleanDisk (state S.Store conn.new) → IfErr result (λ stop. EndsAtBrokenRow stop → ¬ AllByRecursion (IsStored records) crls.now) }
-    ensures rows { IfErr result (λ stop. ¬ IsBrokenRow stop) }
+        → HasCleanDisk (state S.Store conn.new) → IfErr result (λ fault. EndsAtBrokenRow fault → ¬ AllByRecursion (IsStored records) crls.now) }
+    ensures rows { IfErr result (λ fault. ¬ IsBrokenRow fault) }
     ensures looked { Looked S.Store conn.old conn.new }
 {
     for crl in crls {
@@ -189,8 +189,8 @@ pub(crate) fn check_crls<S: Alter, W: Watch>(
     ensures bytes { (records : Records) → (columns : Columns) → ShowsBoth S.Store conn.old records columns → AreRead records columns whole all.now (λ rows. rows.items) → Kept columns records → HasCleanDisk (state S.Store conn.new)
         → OnOk result (CrlsSigned IsSomeCrl records) }
     ensures others { (records : Records) → (columns : Columns) → ShowsBoth S.Store conn.old records columns → AreRead records columns whole all.now (λ rows. rows.items) → HasValues records → SoundRows records → Kept columns records
-        → HasCleanDisk (state S.Store conn.new) → IfErr result (λ stop. EndsAtBrokenRow stop → ¬ CrlsSigned IsSomeCrl records) }
-    ensures rows { (records : Records) → (columns : Columns) → AreRead records columns whole all.now (λ rows. rows.items) → HasValues records → SoundRows records → Kept columns records → IfErr result (λ stop. ¬ IsBrokenRow stop) }
+        → HasCleanDisk (state S.Store conn.new) → IfErr result (λ fault. EndsAtBrokenRow fault → ¬ CrlsSigned IsSomeCrl records) }
+    ensures rows { (records : Records) → (columns : Columns) → AreRead records columns whole all.now (λ rows. rows.items) → HasValues records → SoundRows records → Kept columns records → IfErr result (λ fault. ¬ IsBrokenRow fault) }
     ensures looked { Looked S.Store conn.old conn.new }
 {
     let crls = crls(alloc, rows_at(all, 6))?;

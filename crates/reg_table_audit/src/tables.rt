@@ -22,7 +22,7 @@ use std::alloc::Global;
 pub(crate) fn office(rows: &[Row]) -> Result<OfficeRow, AuditFault>
     ensures read { (records : Records) → (columns : Columns) → IsReadOf records columns OfOffice rows.now
         → IfOk result (λ found. (found.cap ≡ records.policy.cap) × (found.last ≡ records.last)) }
-    ensures has { (records : Records) → (columns : Columns) → IsReadOf records columns OfOffice rows.now → AreReadable records columns → IfErr result (λ stop. ¬ EndsAtBrokenRow stop) }
+    ensures has { (records : Records) → (columns : Columns) → IsReadOf records columns OfOffice rows.now → AreReadable records columns → IfErr result (λ fault. ¬ EndsAtBrokenRow fault) }
 {
     only(RegisterTable::Office, rows)
 }
@@ -30,7 +30,7 @@ pub(crate) fn office(rows: &[Row]) -> Result<OfficeRow, AuditFault>
 /// The subscribers, in the order of entry.
 pub(crate) fn subscribers(alloc: Global, rows: &[Row]) -> Result<Vec<SubscriberRow>, AuditFault>
     ensures read { (records : Records) → (columns : Columns) → IsReadOf records columns Subscribers rows.now → IfOk result (λ found. found.items ≡ records.subscribers) }
-    ensures has { (records : Records) → (columns : Columns) → IsReadOf records columns Subscribers rows.now → AreReadable records columns → IfErr result (λ stop. ¬ EndsAtBrokenRow stop) }
+    ensures has { (records : Records) → (columns : Columns) → IsReadOf records columns Subscribers rows.now → AreReadable records columns → IfErr result (λ fault. ¬ EndsAtBrokenRow fault) }
 {
     typed(alloc, RegisterTable::Subscriber, rows)
 }
@@ -38,7 +38,7 @@ pub(crate) fn subscribers(alloc: Global, rows: &[Row]) -> Result<Vec<SubscriberR
 /// The orders, in the order of entry.
 pub(crate) fn orders(alloc: Global, rows: &[Row]) -> Result<Vec<OrderRow>, AuditFault>
     ensures read { (records : Records) → (columns : Columns) → IsReadOf records columns Orders rows.now → IfOk result (λ found. found.items ≡ records.orders) }
-    ensures has { (records : Records) → (columns : Columns) → IsReadOf records columns Orders rows.now → AreReadable records columns → IfErr result (λ stop. ¬ EndsAtBrokenRow stop) }
+    ensures has { (records : Records) → (columns : Columns) → IsReadOf records columns Orders rows.now → AreReadable records columns → IfErr result (λ fault. ¬ EndsAtBrokenRow fault) }
 {
     typed(alloc, RegisterTable::Orders, rows)
 }
@@ -46,7 +46,7 @@ pub(crate) fn orders(alloc: Global, rows: &[Row]) -> Result<Vec<OrderRow>, Audit
 /// The certificates, in the order of entry.
 pub(crate) fn certificates(alloc: Global, rows: &[Row]) -> Result<Vec<CertRow>, AuditFault>
     ensures read { (records : Records) → (columns : Columns) → IsReadOf records columns Certificates rows.now → IfOk result (λ found. found.items ≡ records.certificates) }
-    ensures has { (records : Records) → (columns : Columns) → IsReadOf records columns Certificates rows.now → AreReadable records columns → IfErr result (λ stop. ¬ EndsAtBrokenRow stop) }
+    ensures has { (records : Records) → (columns : Columns) → IsReadOf records columns Certificates rows.now → AreReadable records columns → IfErr result (λ fault. ¬ EndsAtBrokenRow fault) }
 {
     typed(alloc, RegisterTable::Cert, rows)
 }
@@ -54,7 +54,7 @@ pub(crate) fn certificates(alloc: Global, rows: &[Row]) -> Result<Vec<CertRow>, 
 /// The requests, in the order of entry.
 pub(crate) fn requests(alloc: Global, rows: &[Row]) -> Result<Vec<RequestRow>, AuditFault>
     ensures read { (records : Records) → (columns : Columns) → IsReadOf records columns Requests rows.now → IfOk result (λ found. found.items ≡ records.requests) }
-    ensures has { (records : Records) → (columns : Columns) → IsReadOf records columns Requests rows.now → AreReadable records columns → IfErr result (λ stop. ¬ EndsAtBrokenRow stop) }
+    ensures has { (records : Records) → (columns : Columns) → IsReadOf records columns Requests rows.now → AreReadable records columns → IfErr result (λ fault. ¬ EndsAtBrokenRow fault) }
 {
     typed(alloc, RegisterTable::Request, rows)
 }
@@ -62,7 +62,7 @@ pub(crate) fn requests(alloc: Global, rows: &[Row]) -> Result<Vec<RequestRow>, A
 /// The revocations, in the order of entry.
 pub(crate) fn revocations(alloc: Global, rows: &[Row]) -> Result<Vec<RevocationRow>, AuditFault>
     ensures read { (records : Records) → (columns : Columns) → IsReadOf records columns Revocations rows.now → IfOk result (λ found. found.items ≡ records.revocations) }
-    ensures has { (records : Records) → (columns : Columns) → IsReadOf records columns Revocations rows.now → AreReadable records columns → IfErr result (λ stop. ¬ EndsAtBrokenRow stop) }
+    ensures has { (records : Records) → (columns : Columns) → IsReadOf records columns Revocations rows.now → AreReadable records columns → IfErr result (λ fault. ¬ EndsAtBrokenRow fault) }
 {
     typed(alloc, RegisterTable::Revocation, rows)
 }
@@ -70,7 +70,7 @@ pub(crate) fn revocations(alloc: Global, rows: &[Row]) -> Result<Vec<RevocationR
 /// The CRLs without their bytes, in the order of their numbers.
 pub(crate) fn crls(alloc: Global, rows: &[Row]) -> Result<Vec<CrlRow>, AuditFault>
     ensures read { (records : Records) → (columns : Columns) → IsReadOf records columns Crls rows.now → IfOk result (λ found. found.items ≡ map row_of records.crls) }
-    ensures has { (records : Records) → (columns : Columns) → IsReadOf records columns Crls rows.now → AreReadable records columns → IfErr result (λ stop. ¬ EndsAtBrokenRow stop) }
+    ensures has { (records : Records) → (columns : Columns) → IsReadOf records columns Crls rows.now → AreReadable records columns → IfErr result (λ fault. ¬ EndsAtBrokenRow fault) }
 {
     typed(alloc, RegisterTable::Crl, rows)
 }
@@ -78,7 +78,7 @@ pub(crate) fn crls(alloc: Global, rows: &[Row]) -> Result<Vec<CrlRow>, AuditFaul
 /// The state letters.
 pub(crate) fn letters(alloc: Global, rows: &[Row]) -> Result<Vec<Standing>, AuditFault>
     ensures read { (records : Records) → (columns : Columns) → IsReadOf records columns Standings rows.now → IfOk result (λ found. map standing_in found.items ≡ columns.letters) }
-    ensures has { (records : Records) → (columns : Columns) → IsReadOf records columns Standings rows.now → AreReadable records columns → IfErr result (λ stop. ¬ EndsAtBrokenRow stop) }
+    ensures has { (records : Records) → (columns : Columns) → IsReadOf records columns Standings rows.now → AreReadable records columns → IfErr result (λ fault. ¬ EndsAtBrokenRow fault) }
 {
     typed(alloc, RegisterTable::Standing, rows)
 }
@@ -86,7 +86,7 @@ pub(crate) fn letters(alloc: Global, rows: &[Row]) -> Result<Vec<Standing>, Audi
 /// The counts of the state letters.
 pub(crate) fn counts(rows: &[Row]) -> Result<Counts, AuditFault>
     ensures read { (records : Records) → (columns : Columns) → IsReadOf records columns OfCounts rows.now → IfOk result (λ found. found ≡ columns.counts) }
-    ensures has { (records : Records) → (columns : Columns) → IsReadOf records columns OfCounts rows.now → AreReadable records columns → IfErr result (λ stop. ¬ EndsAtBrokenRow stop) }
+    ensures has { (records : Records) → (columns : Columns) → IsReadOf records columns OfCounts rows.now → AreReadable records columns → IfErr result (λ fault. ¬ EndsAtBrokenRow fault) }
 {
     only(RegisterTable::Kept, rows)
 }
@@ -94,7 +94,7 @@ pub(crate) fn counts(rows: &[Row]) -> Result<Counts, AuditFault>
 /// What CRLs list of each revocation.
 pub(crate) fn listings(alloc: Global, rows: &[Row]) -> Result<Vec<Listed>, AuditFault>
     ensures read { (records : Records) → (columns : Columns) → IsReadOf records columns Listings rows.now → IfOk result (λ found. map listed_in found.items ≡ columns.listed) }
-    ensures has { (records : Records) → (columns : Columns) → IsReadOf records columns Listings rows.now → AreReadable records columns → IfErr result (λ stop. ¬ EndsAtBrokenRow stop) }
+    ensures has { (records : Records) → (columns : Columns) → IsReadOf records columns Listings rows.now → AreReadable records columns → IfErr result (λ fault. ¬ EndsAtBrokenRow fault) }
 {
     typed(alloc, RegisterTable::Listed, rows)
 }

@@ -262,7 +262,7 @@ pub(crate) fn typed<T: OfRow>(
     rows: &[Row],
 ) -> Result<Vec<T>, AuditFault>
     ensures read { (shown : List T) → AllByRecursion T.is_keyed shown → rows.now ≡ map T.shown shown → IfOk result (λ read. read.items ≡ shown) }
-    ensures has { (shown : List T) → AllByRecursion T.is_keyed shown → AllByRecursion T.has_values shown → rows.now ≡ map T.shown shown → IfErr result (λ stop. ¬ EndsAtBrokenRow stop) }
+    ensures has { (shown : List T) → AllByRecursion T.is_keyed shown → AllByRecursion T.has_values shown → rows.now ≡ map T.shown shown → IfErr result (λ fault. ¬ EndsAtBrokenRow fault) }
 {
     let mut found = Vec::new(alloc);
     for row in rows {
@@ -277,7 +277,7 @@ pub(crate) fn typed<T: OfRow>(
 /// What the one row of a table shows.
 pub(crate) fn only<T: OfRow>(table: RegisterTable, rows: &[Row]) -> Result<T, AuditFault>
     ensures read { (it : T) → T.is_keyed it → rows.now ≡ T.shown it ∷ [] → IfOk result (λ read. read ≡ it) }
-    ensures has { (it : T) → T.is_keyed it → T.has_values it → rows.now ≡ T.shown it ∷ [] → IfErr result (λ stop. ¬ EndsAtBrokenRow stop) }
+    ensures has { (it : T) → T.is_keyed it → T.has_values it → rows.now ≡ T.shown it ∷ [] → IfErr result (λ fault. ¬ EndsAtBrokenRow fault) }
 {
     match rows {
         [row] => T::in_row(row).ok_or(no_value(table, 0)),

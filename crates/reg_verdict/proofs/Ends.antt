@@ -13,7 +13,7 @@ use Rattle.reg_findings.specs.declared.verdict.Audited.{Audited}
 use Rattle.reg_findings.specs.declared.verdict.Verdict.{Verdict}
 use Rattle.reg_findings.specs.declared.verdict.Verdict.TheVariants as verdict
 use Rattle.reg_table_audit.specs.declared.fault.AuditFault.{AuditFault}
-use Rattle.reg_table_audit.specs.declared.fault.AuditFault.TheVariants as stop
+use Rattle.reg_table_audit.specs.declared.fault.AuditFault.TheVariants as audit_fault
 use Rattle.reg_opening.specs.Examined.{SaysFound}
 use Rattle.reg_opening.specs.Said.{HasVersion, SaysNoRegister}
 use Rattle.reg_opening.specs.declared.opening.OlderOffice.{OlderOffice}
@@ -86,9 +86,9 @@ says_older db (Some older) some says = (older, says)
 -- rows that were looked at are those of the program's version, in a register's tables
 told_of : (db : Database) (audited : Result Audited AuditFault) → SaysFound db None × (db.schema ≡ register_schema) → IfOk (verdict_of audited) (λ answer. TellsOf answer db)
 told_of db (Ok found) says = says
-told_of db (Err (stop.Broken broken)) says = says
-told_of db (Err stop.Memory) says = tt
-told_of db (Err stop.Store) says = tt
+told_of db (Err (audit_fault.Broken broken)) says = says
+told_of db (Err audit_fault.Memory) says = tt
+told_of db (Err audit_fault.Store) says = tt
 
 pub tells_said : (db : Database) (audited : Result Audited AuditFault) (result : Result Verdict StoreFault) → result ≡ verdict_of audited
     → SaysFound db None × (db.schema ≡ register_schema) → IfOk result (λ answer. TellsOf answer db)
@@ -97,12 +97,12 @@ tells_said db audited result is says = subst (λ (r : Result Verdict StoreFault)
 -- who looks at rows has no fault of the version
 pub never_newer : {P : Type 0} (audited : Result Audited AuditFault) → verdict_of audited ≡ Err fault.NewVersion → P
 never_newer (Ok found) e = absurd (let bad : ⊥ = cc in bad)
-never_newer (Err (stop.Broken broken)) e = absurd (let bad : ⊥ = cc in bad)
-never_newer (Err stop.Memory) e = absurd (let bad : ⊥ = cc in bad)
-never_newer (Err stop.Store) e = absurd (let bad : ⊥ = cc in bad)
+never_newer (Err (audit_fault.Broken broken)) e = absurd (let bad : ⊥ = cc in bad)
+never_newer (Err audit_fault.Memory) e = absurd (let bad : ⊥ = cc in bad)
+never_newer (Err audit_fault.Store) e = absurd (let bad : ⊥ = cc in bad)
 
 pub never_none : {P : Type 0} (audited : Result Audited AuditFault) → verdict_of audited ≡ Err fault.NotARegister → P
 never_none (Ok found) e = absurd (let bad : ⊥ = cc in bad)
-never_none (Err (stop.Broken broken)) e = absurd (let bad : ⊥ = cc in bad)
-never_none (Err stop.Memory) e = absurd (let bad : ⊥ = cc in bad)
-never_none (Err stop.Store) e = absurd (let bad : ⊥ = cc in bad)
+never_none (Err (audit_fault.Broken broken)) e = absurd (let bad : ⊥ = cc in bad)
+never_none (Err audit_fault.Memory) e = absurd (let bad : ⊥ = cc in bad)
+never_none (Err audit_fault.Store) e = absurd (let bad : ⊥ = cc in bad)

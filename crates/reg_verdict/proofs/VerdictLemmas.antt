@@ -10,7 +10,7 @@ use Rattle.reg_tables.specs.Stays.{IsRegister}
 use Rattle.reg_tables.specs.declared.fault.StoreFault.{StoreFault}
 use Rattle.reg_findings.specs.declared.verdict.Audited.{Audited}
 use Rattle.reg_table_audit.specs.declared.fault.AuditFault.{AuditFault}
-use Rattle.reg_table_audit.specs.declared.fault.AuditFault.TheVariants as stop
+use Rattle.reg_table_audit.specs.declared.fault.AuditFault.TheVariants as audit_fault
 use Rattle.reg_table_audit.specs.Numbers.{AreNumbersOf}
 use Rattle.reg_table_audit.specs.Faults.{IsDenied}
 use Rattle.reg_opening.specs.Examined.{SaysFound}
@@ -21,9 +21,9 @@ use Rattle.reg_findings.specs.declared.verdict.Verdict.{Verdict}
 module _ (P : Type 0) where
   well_said : (audited : Result Audited AuditFault) → IfOk audited (λ _. P) → IfOk (verdict_of audited) (λ verdict. IsSound verdict → P)
   well_said (Ok found) holds = λ sound. holds
-  well_said (Err (stop.Broken broken)) holds = λ sound. absurd sound
-  well_said (Err stop.Memory) holds = tt
-  well_said (Err stop.Store) holds = tt
+  well_said (Err (audit_fault.Broken broken)) holds = λ sound. absurd sound
+  well_said (Err audit_fault.Memory) holds = tt
+  well_said (Err audit_fault.Store) holds = tt
 
   -- what holds where rows were found well holds where all is said to be sound
   pub sound_said : (audited : Result Audited AuditFault) (result : Result Verdict StoreFault) → result ≡ verdict_of audited → IfOk audited (λ _. P)
@@ -38,9 +38,9 @@ module _ (P : Type 0) where
 module _ (records : Records) (columns : Columns) where
   well_denied : (audited : Result Audited AuditFault) → IfErr audited (λ reason. IsDenied reason records columns) → IfOk (verdict_of audited) (λ verdict. DeniedBy verdict records columns)
   well_denied (Ok found) denied = tt
-  well_denied (Err (stop.Broken broken)) denied = denied
-  well_denied (Err stop.Memory) denied = tt
-  well_denied (Err stop.Store) denied = tt
+  well_denied (Err (audit_fault.Broken broken)) denied = denied
+  well_denied (Err audit_fault.Memory) denied = tt
+  well_denied (Err audit_fault.Store) denied = tt
 
   -- what a row that was found denies, it denies where it is told
   pub denied_said : (audited : Result Audited AuditFault) (result : Result Verdict StoreFault) → result ≡ verdict_of audited → IfErr audited (λ reason. IsDenied reason records columns) → IfOk result (λ verdict. DeniedBy verdict records columns)
@@ -48,9 +48,9 @@ module _ (records : Records) (columns : Columns) where
 
 well_counted : (records : Records) (audited : Result Audited AuditFault) → IfOk audited (AreNumbersOf records) → IfOk (verdict_of audited) (λ verdict. CountedBy verdict records)
 well_counted records (Ok found) counted = counted
-well_counted records (Err (stop.Broken broken)) counted = tt
-well_counted records (Err stop.Memory) counted = tt
-well_counted records (Err stop.Store) counted = tt
+well_counted records (Err (audit_fault.Broken broken)) counted = tt
+well_counted records (Err audit_fault.Memory) counted = tt
+well_counted records (Err audit_fault.Store) counted = tt
 
 -- the numbers that were found are told
 pub counted_said : (records : Records) (audited : Result Audited AuditFault) (result : Result Verdict StoreFault) → result ≡ verdict_of audited → IfOk audited (AreNumbersOf records)

@@ -12,16 +12,16 @@ use Rattle.reg_findings.specs.declared.verdict.Audited.{Audited}
 use Rattle.reg_table_audit.specs.Numbers.{AreNumbersOf}
 use Rattle.reg_table_audit.specs.Faults.{Denies}
 use Rattle.reg_table_audit.specs.declared.fault.AuditFault.{AuditFault}
-use Rattle.reg_table_audit.specs.declared.fault.AuditFault.TheVariants as stop
+use Rattle.reg_table_audit.specs.declared.fault.AuditFault.TheVariants as audit_fault
 use Rattle.reg_findings.specs.declared.verdict.Verdict.{Verdict}
 use Rattle.reg_findings.specs.declared.verdict.Verdict.TheVariants.{Sound, Broken, Older, OtherSchema}
 
 -- rows that were found well, or one that was not; else why there is no verdict
 abbrev pub verdict_of : Result Audited AuditFault → Result Verdict StoreFault
 verdict_of (Ok found) = Ok (Sound found)
-verdict_of (Err (stop.Broken broken)) = Ok (Broken broken)
-verdict_of (Err stop.Memory) = Err fault.Memory
-verdict_of (Err stop.Store) = Err fault.Store
+verdict_of (Err (audit_fault.Broken broken)) = Ok (Broken broken)
+verdict_of (Err audit_fault.Memory) = Err fault.Memory
+verdict_of (Err audit_fault.Store) = Err fault.Store
 
 -- all rows were looked at, and found to be those of sound records
 abbrev pub IsSound : Verdict → Type 0

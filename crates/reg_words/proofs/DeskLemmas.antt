@@ -36,13 +36,6 @@ tells_usage words kind (Bad text) other (inl none) = absurd (other.2 none)
 tells_usage words kind (Bad text) other (inr among) = inl (kind, other.0, other.1, among)
 tells_usage words kind Memory none how = tt
 
--- and where clap took the words
-pub tells_no_order : (found : Option (Text × List Row)) (usage : Usage) → TellsUsage ValueValidation usage → job_found found ≡ None → IsNoInvocation found usage
-tells_no_order found (Help text) help none = cc help
-tells_no_order found (Version text) version none = cc version
-tells_no_order found (Bad text) other none = none
-tells_no_order found Memory free none = tt
-
 -- a name and rows, told apart, are those of the subcommand
 both_told : {X : Type 0} (name : X → Text) (rows : X → List Row) (found : Option X) (told : Option (Text × List Row))
     → option_map name found ≡ option_map (λ p. p.0) told → option_map rows found ≡ option_map (λ p. p.1) told
@@ -98,9 +91,9 @@ invocations app words m invocation is clean has read =
     (subst (λ found. IsInvocationIn (rows_of (found_of m)) found invocation) (rows_behind app words m is has) read) in
     ((accepted app words is clean, whole.0), whole.1, whole.2, whole.3)
 
-pub no_order : (app : App) (words : List Text) (m : ArgMatches) (usage : Usage) → app ≡ desk_app → (is_simple_and_free app ≡ true → fault_of app words ≡ [])
+pub no_invocation : (app : App) (words : List Text) (m : ArgMatches) (usage : Usage) → app ≡ desk_app → (is_simple_and_free app ≡ true → fault_of app words ≡ [])
     → HasMatchesOf app words m → IsNoInvocation (subcommand_rows_of m) usage → IsUsageOf words usage
-no_order app words m (Help text) is clean has never = absurd never
-no_order app words m (Version text) is clean has never = absurd never
-no_order app words m (Bad text) is clean has none = inr (accepted app words is clean, sym (ap job_found (rows_behind app words m is has)) ∙ none)
-no_order app words m Memory is clean has free = tt
+no_invocation app words m (Help text) is clean has never = absurd never
+no_invocation app words m (Version text) is clean has never = absurd never
+no_invocation app words m (Bad text) is clean has none = inr (accepted app words is clean, sym (ap job_found (rows_behind app words m is has)) ∙ none)
+no_invocation app words m Memory is clean has free = tt

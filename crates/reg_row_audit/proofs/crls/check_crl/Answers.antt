@@ -21,4 +21,4 @@ returns-clause-broken c records lists form differ few =
     let next = c.plus-next_update.ensures ∙ ap (λ life. c.args.crl.now.this_update + life) lists.by_life in
     let same : record { issuer = c.args.issuer.now; number = c.args.crl.now.number; this_update = c.args.crl.now.this_update; next_update = c.plus-next_update.result; entries = c.deref.result.now } ≡ cert_list records c.args.crl.now.number c.args.crl.now.this_update =
     λ i. record { issuer = lists.by_issuer i; number = c.args.crl.now.number; this_update = c.args.crl.now.this_update; next_update = next i; entries = (c.deref.ensures.value ∙ are) i } in
-    if_err c.check_bytes.result (c.check_bytes.ensures.broken form) (λ stop no is whole. no is (subst (λ list. IsCrlOf c.args.algorithm.now list c.args.bytes.now) (Rattle.std.proofs.Common.sym same) whole))
+    if_err c.check_bytes.result (c.check_bytes.ensures.broken form) (λ fault no is whole. no is (subst (λ list. IsCrlOf c.args.algorithm.now list c.args.bytes.now) (Rattle.std.proofs.Common.sym same) whole))

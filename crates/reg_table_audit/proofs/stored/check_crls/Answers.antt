@@ -61,7 +61,7 @@ returns-clause-others g c records columns shows are values sound kept clean =
     let lists = lists_are records columns terms.0 terms.1 rows.crls_numbered listed kept in
     let early = subst (AllByRecursion (λ (crl : CrlRow). crl.this_update < clock_end)) (sym crls) (updates_before records sound) in
     if_err c.check_each.result (c.check_each.ensures.others records there lists (can_list records columns rows.policy sound kept listed) early clean)
-    (λ stop no is signed. no is (subst (AllByRecursion (IsStored records)) (sym crls) (all_stored records rows.crls_numbered signed)))
+    (λ fault no is signed. no is (subst (AllByRecursion (IsStored records)) (sym crls) (all_stored records rows.crls_numbered signed)))
 
 pub returns-in_err-crls-clause-others : goal.returns-in_err-crls-clause-others
 returns-in_err-crls-clause-others g c records columns shows are values sound kept clean =

@@ -1,5 +1,5 @@
 use Rattle.std.proofs.Common.{map}
-use Rattle.reg_words.proofs.DeskLemmas.{no_order, invocations, refused, tells_usage}
+use Rattle.reg_words.proofs.DeskLemmas.{no_invocation, invocations, refused, tells_usage}
 use Rattle.std.proofs.lemmas.Result.{IfOk-weaker, IfErr-weaker}
 use Rattle.reg_words.proofs.reading_words.read_by.Goals as goal
 
@@ -11,7 +11,7 @@ returns-in-Ok-clause-invocation g c =
 pub returns-in-Ok-clause-usage : goal.returns-in-Ok-clause-usage
 returns-in-Ok-clause-usage g c =
     let words = map g.S.AsStr.text c.args.words.now in
-    IfErr-weaker c.read_invocation.result _ _ (λ usage read. no_order _ words _ usage c.requires c.in-Ok.ensures.kinds c.in-Ok.ensures.ok.2 read) c.read_invocation.ensures.usage
+    IfErr-weaker c.read_invocation.result _ _ (λ usage read. no_invocation _ words _ usage c.requires c.in-Ok.ensures.kinds c.in-Ok.ensures.ok.2 read) c.read_invocation.ensures.usage
 
 pub returns-in-Err-clause-usage : goal.returns-in-Err-clause-usage
 returns-in-Err-clause-usage g c =

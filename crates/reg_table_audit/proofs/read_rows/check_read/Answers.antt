@@ -10,7 +10,7 @@ use Rattle.reg_table_audit.specs.Faults.{EndsAtBrokenRow}
 use Rattle.reg_table_audit.specs.ReadableValues.{HasValues}
 use Rattle.reg_table_audit.specs.declared.sql.What.TheVariants.{Office}
 use Rattle.reg_table_audit.proofs.Having.{each_has}
-use Rattle.reg_table_audit.proofs.read_rows.judge.Goals as goal
+use Rattle.reg_table_audit.proofs.read_rows.check_read.Goals as goal
 
 -- what follows from one premise, and what from two
 both : {A B P Q : Type 0} → (A → P) → (A → B → Q) → A → B → P × Q

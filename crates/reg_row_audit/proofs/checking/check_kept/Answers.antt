@@ -9,7 +9,7 @@ use Rattle.reg_row_audit.specs.Faults.{IsBroken}
 use Rattle.reg_row_audit.proofs.Fits.{crls_read}
 use Rattle.reg_row_audit.proofs.Following.{counts_made, letters_follow, letters_back, letters_differ, listed_follow, listed_back, listed_differ}
 use Rattle.reg_row_audit.proofs.Results.{on_ok, if_err}
-use Rattle.reg_row_audit.proofs.checking.check_beside.Goals as goal
+use Rattle.reg_row_audit.proofs.checking.check_kept.Goals as goal
 
 pub returns-in_err-check_counts-clause-broken : goal.returns-in_err-check_counts-clause-broken
 returns-in_err-check_counts-clause-broken c index records are sound columns held =
@@ -51,4 +51,4 @@ returns-clause-broken c index records are sound columns held =
     let made = c.in_ok-listed.ensures.made crls.numbered crls.updates_never_fall in
     let differ = subst (Rattle.reg_core.specs.Sound.KeysDiffer (λ (row : Rattle.reg_row_audit.specs.declared.kept.Listed.Listed). row.serial)) (sym made) (listed_differ c.args.rows.now records are sound certificates index.certificates) in
     if_err c.same_rows-2.result (c.same_rows-2.ensures.broken differ)
-    (λ stop no is kept. no is (subst (λ l. IsPermutation l c.args.beside.now.listed.now) (sym made) (listed_back c.args.rows.now records are sound certificates index.certificates c.args.beside.now.listed.now columns.listed held.listed kept.listed)))
+    (λ fault no is kept. no is (subst (λ l. IsPermutation l c.args.beside.now.listed.now) (sym made) (listed_back c.args.rows.now records are sound certificates index.certificates c.args.beside.now.listed.now columns.listed held.listed kept.listed)))

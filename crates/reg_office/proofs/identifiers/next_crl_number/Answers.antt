@@ -1,7 +1,7 @@
 use Rattle.std.proofs.Common.{ap, ◌∙◌}
 use Rattle.reg_core.specs.Crls.{number_after}
 use Rattle.reg_tables.proofs.Staying.{some_then}
-use Rattle.reg_office.proofs.identifiers.next_crl.Goals as goal
+use Rattle.reg_office.proofs.identifiers.next_crl_number.Goals as goal
 
 pub returns-clause-found : goal.returns-clause-found
 returns-clause-found g c records shows clean =
