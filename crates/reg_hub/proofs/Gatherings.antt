@@ -5,7 +5,7 @@ use Rattle.std.specs.Io.KnownBytes.{Consumes}
 use Rattle.std.proofs.KnownBytes.{Consumes-nil, Consumes-trans}
 use Rattle.std.proofs.lemmas.List.{append-nil, append_assoc}
 use Rattle.reg_hub.specs.Held.{TakesIn, SendsOn}
-use Rattle.reg_hub.specs.CounterLines.{Advances, Gathers, ends_by}
+use Rattle.reg_hub.specs.CounterLines.{Advances, Gathers}
 use Rattle.reg_hub.specs.Unsent.{unsent_of}
 use Rattle.reg_hub.specs.declared.taking.Taken.{Taken}
 use Rattle.reg_hub.specs.declared.taking.Taken.TheVariants as taken
@@ -27,10 +27,11 @@ gathers_all a b x y came ended consumed held = record {
 }
 
 -- what one read gave
-pub gathers_taken : (a b : Option (List ℕ)) (x y : List ℕ) (t : Taken) (ended : Bool) → ended ≡ ends_by t → TakesIn a b x y t → Gathers a b x y ended
+pub gathers_taken : (a b : Option (List ℕ)) (x y : List ℕ) (t : Taken) (ended : Bool) → (t ≡ taken.Lost → ended ≡ true) → TakesIn a b x y t
+    → Gathers a b x y ended
 gathers_taken a b x y taken.Lost ended is took =
     let (kept, lost, parted, after) = took.held in
-    record { kept = kept; lost = lost; consumed = subst (Consumes a b) parted took.consumed; held = after; whole = inr is }
+    record { kept = kept; lost = lost; consumed = subst (Consumes a b) parted took.consumed; held = after; whole = inr (is refl) }
 gathers_taken a b x y taken.Whole ended is took = gathers_all a b x y took.came ended took.consumed took.held
 gathers_taken a b x y taken.Waits ended is took = gathers_all a b x y took.came ended took.consumed took.held
 gathers_taken a b x y taken.More ended is took = gathers_all a b x y took.came ended took.consumed took.held

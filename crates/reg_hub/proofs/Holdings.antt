@@ -2,14 +2,17 @@
 use Rattle.std.proofs.Common.{◌≡◌, ℕ, Bool, ◌+◌, ◌-◌, ◌≤◌, List, [], ◌∷◌, ◌++◌, length, take, drop, refl, sym, subst, ap, ◌∙◌, arith, take-append-drop}
 use Rattle.std.specs.Prelude.{Option, None, Some, MatchOption}
 use Rattle.std.specs.Io.KnownBytes.{Appends, Consumes}
-use Rattle.std.proofs.KnownBytes.{Appends-nil, Appends-trans, Consumes-nil, Consumes-trans}
+use Rattle.std.proofs.KnownBytes.{Appends-trans, Consumes-trans}
 use Rattle.std.proofs.lemmas.List.{append-nil, append_assoc, drop-drop, take-take, take_all}
 use Rattle.reg_wire.specs.Mark.{EndsWith, FirstMark, HasNoMark}
 use Rattle.reg_wire.proofs.PublicLaws.{no_mark_in_front}
+use Rattle.reg_hub.proofs.Gatherings.{gathers_taken, goes_on}
 use Rattle.reg_heads.specs.Bytes.{collected_bytes}
-use Rattle.reg_hub.specs.Stages.{TakesMore, Sends}
+use Rattle.reg_hub.specs.CounterLines.{Gathers}
+use Rattle.reg_hub.specs.Stages.{HoldsAnswer, HoldsRest, IsDropped, Sends, TakesMore}
 use Rattle.reg_hub.specs.Held.{AddsTo, TakesIn, SendsOn}
 use Rattle.reg_hub.specs.Unsent.{unsent_of}
+use Rattle.reg_hub.specs.declared.http_peer.Stage.{Stage}
 use Rattle.reg_hub.specs.declared.http_peer.Stage.TheVariants as stage
 use Rattle.reg_hub.specs.declared.taking.Taken.{Taken}
 use Rattle.reg_hub.specs.declared.taking.Taken.TheVariants as taken
@@ -32,10 +35,6 @@ adds_then x y z first came taken.More before after = after ∙ ap (λ (l : List 
 adds_then x y z first came taken.Ended before after = after ∙ ap (λ (l : List ℕ). l ++ came) before ∙ append_assoc x first came
 adds_then x y z first came taken.Broken before after = after ∙ ap (λ (l : List ℕ). l ++ came) before ∙ append_assoc x first came
 
--- nothing was taken in
-pub takes_none : (input : Option (List ℕ)) (held : List ℕ) → TakesIn input input held held taken.More
-takes_none input held = record { came = []; consumed = Consumes-nil input; held = sym (append-nil held) }
-
 -- some were taken in, and then others
 pub takes_then : (a b c : Option (List ℕ)) (x y z : List ℕ) (t : Taken) → TakesIn a b x y taken.More → TakesIn b c y z t → TakesIn a c x z t
 takes_then a b c x y z t first rest = record {
@@ -43,19 +42,6 @@ takes_then a b c x y z t first rest = record {
   consumed = Consumes-trans a b c first.came rest.came first.consumed rest.consumed;
   held = adds_then x y z first.came rest.came t first.held rest.held;
 }
-
--- what is held is a front of what came
-pub kept_of : (x came z : List ℕ) (t : Taken) → AddsTo x came z t → (kept : List ℕ) × (lost : List ℕ) × (came ≡ kept ++ lost) × (z ≡ x ++ kept)
-kept_of x came z taken.Lost adds = adds
-kept_of x came z taken.Whole adds = (came, [], sym (append-nil came), adds)
-kept_of x came z taken.Waits adds = (came, [], sym (append-nil came), adds)
-kept_of x came z taken.More adds = (came, [], sym (append-nil came), adds)
-kept_of x came z taken.Ended adds = (came, [], sym (append-nil came), adds)
-kept_of x came z taken.Broken adds = (came, [], sym (append-nil came), adds)
-
--- nothing was sent
-pub sends_none : (old : Option (List ℕ)) (text : List ℕ) → SendsOn old old text text sent.More
-sends_none old text = record { went = []; appended = Appends-nil old; parted = refl; all = tt }
 
 -- some was sent, and then more
 pub sends_then : (a b c : Option (List ℕ)) (x y z : List ℕ) (t : Sent) → SendsOn a b x y sent.More → SendsOn b c y z t → SendsOn a c x z t
@@ -85,23 +71,40 @@ found_or_none bytes mark None none =
     subst P (take_all (length bytes) bytes (omega arith)) (no_mark_in_front mark bytes (length bytes) none)
 found_or_none bytes mark (Some end) found = found.1
 
--- a list of no length
-pub empty_is : (xs : List ℕ) → length xs ≡ 0 → xs ≡ []
-empty_is [] none = refl
-empty_is (x ∷ xs) none = absurd (omega (arith, none))
+-- some were dropped, and then others
+pub dropped_then : (a b c : Option (List ℕ)) → IsDropped a b → IsDropped b c → IsDropped a c
+dropped_then a b c first rest = (first.0 ++ rest.0, Consumes-trans a b c first.0 rest.0 first.1 rest.1)
 
--- a taking in, of a peer that asks
-pub takes_asking : {S : Type 0} (T : Type 0) (remaining : S → Option (List ℕ)) (s t : S) (c c' : Collected) (taken : Taken)
-    → TakesIn (remaining s) (remaining t) (collected_bytes c) (collected_bytes c') taken → TakesMore {T = T} remaining s t (stage.Asking c) (stage.Asking c')
-takes_asking T remaining s t c c' taken took bytes is =
-    let k = kept_of (collected_bytes c) took.came (collected_bytes c') taken took.held in (
-      k.0,
-      k.1,
-      subst (Consumes (remaining s) (remaining t)) k.2 took.consumed,
-      ap (λ (l : List ℕ). l ++ k.0) is ∙ sym k.3,
-    )
+-- a taking in, of a peer that asks and of whose request more is waited for
+pub takes_asking : {S : Type 0} (T : Type 0) (remaining : S → Option (List ℕ)) (s t : S) (c c' : Collected) (rests : Taken) (ended ended' : Bool)
+    → TakesIn (remaining s) (remaining t) (collected_bytes c) (collected_bytes c') rests → ended ≡ false → (rests ≡ taken.Lost → ended' ≡ true)
+    → TakesMore {T = T} remaining s t (stage.Asking c) (stage.Asking c') ended ended'
+takes_asking T remaining s t c c' rests ended ended' took goes lost bytes is = (
+  collected_bytes c',
+  refl,
+  subst (λ (l : List ℕ). Gathers (remaining s) (remaining t) l (collected_bytes c') ended') (sym is) (gathers_taken _ _ _ _ rests ended' lost took),
+  λ ends. absurd (goes_on ended goes ends),
+)
 
 -- a sending, to a peer that is answered
-pub sends_answering : {S : Type 0} (T : Type 0) (contents : S → Option (List ℕ)) (s t : S) (u u' : Unsent) (exact exact' : Bool) (sent : Sent)
-    → SendsOn (contents s) (contents t) (unsent_of u) (unsent_of u') sent → Sends {T = T} contents s t (stage.Answering u exact) (stage.Answering u' exact')
-sends_answering T contents s t u u' exact exact' sent on text is = (on.went, unsent_of u', is ∙ on.parted, on.appended, refl)
+pub sends_answering : {S : Type 0} (T : Type 0) (contents : S → Option (List ℕ)) (s t : S) (u u' : Unsent) (exact exact' : Bool) (rests : Sent)
+    → SendsOn (contents s) (contents t) (unsent_of u) (unsent_of u') rests
+    → Sends {T = T} contents s t (stage.Answering u exact) (stage.Answering u' exact')
+sends_answering T contents s t u u' exact exact' rests on text is = (on.went, unsent_of u', is ∙ on.parted, on.appended, refl)
+
+-- where nothing is left of an answer that is held, that is the rest
+none_left : {T : Type 0} (at : Stage T) (rest : List ℕ) → HoldsRest at rest → HoldsAnswer at [] → rest ≡ []
+none_left (stage.Answering unsent exact) rest left empty = left ∙ sym empty
+none_left _ rest left empty = absurd empty
+
+-- all of an answer was sent, and its peer has it
+pub sends_last : {S T : Type 0} (contents : S → Option (List ℕ)) (s t u : S) (before between after : Stage T) → Sends contents s t before between
+    → HoldsAnswer between [] → u ≡ t → after ≡ stage.Leaving → Sends contents s u before after
+sends_last {S = S} {T = T} contents s t u before between after sends empty same leaves text holds =
+    let (went, rest, parted, appended, left) = sends text holds in (
+      went,
+      rest,
+      parted,
+      subst (λ (v : S). Appends (contents s) (contents v) went) (sym same) appended,
+      subst (λ (v : Stage T). HoldsRest v rest) (sym leaves) (none_left between rest left empty),
+    )

@@ -2,3 +2,4 @@ pub mod Exchanges
 pub mod Gatherings
 pub mod Holdings
 pub mod Notings
+pub mod WholeConnections

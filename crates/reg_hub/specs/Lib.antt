@@ -1,3 +1,4 @@
+pub mod Connections
 pub mod CounterLines
 pub mod Exchange
 pub mod Held

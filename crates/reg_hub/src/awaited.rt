@@ -8,6 +8,7 @@ use crate::unsent::{Sent, Unsent};
 use crate::watcher::{LINE, Watcher};
 use mio::Interest;
 use mio::net::UnixStream;
+use reg_signer::Asking;
 use std::io::ErrorKind;
 
 /// How many milliseconds a signature may take, from when its line was looked at.
@@ -35,7 +36,7 @@ pub(crate) struct Awaited<H: Handler> {
     /// What is to be signed, with what of it is not sent yet.
     message: Unsent,
     /// The connection on which it goes out, and on which its signature comes.
-    link: Option<UnixStream>,
+    link: Option<Asking>,
     is_registered: bool,
     way: Way,
     until: u64,
@@ -147,7 +148,7 @@ impl<H: Handler> Awaited<H> {
         usize,
         CounterPeer<UnixStream>,
         Deferred<H::Line>,
-        Option<UnixStream>,
+        Option<Asking>,
     ) {
         let Awaited {
             place,

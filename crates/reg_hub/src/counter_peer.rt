@@ -13,7 +13,7 @@ use crate::link::Link;
 use crate::taking::Taken;
 use crate::unsent::{Sent, Unsent};
 use mio::Interest;
-use mio::net::UnixStream;
+use reg_signer::Asking;
 use reg_wire::first_mark;
 use std::alloc::Global;
 use std::io::{ErrorKind, Read};
@@ -50,7 +50,12 @@ fn line_end(bytes: &[u8]) -> Option<usize>
 
 impl<S: Link> CounterPeer<S> {
     /// A connection that was accepted.
-    pub fn new(alloc: Global, link: S) -> CounterPeer<S> {
+    pub fn new(alloc: Global, link: S) -> CounterPeer<S>
+        ensures link { result.link ≡ link }
+        ensures came { result.came.items ≡ [] }
+        ensures unsent { unsent_of result.unsent ≡ [] }
+        ensures ended { result.has_ended ≡ false }
+    {
         CounterPeer {
             link,
             came: Vec::new(alloc),
@@ -147,6 +152,7 @@ impl<S: Link> CounterPeer<S> {
     pub fn tell<H: Handler>(&mut self, handler: &mut H) -> Result<(), HubFault>
         ensures ok { OnOk result (Telling H.tells handler.old handler.new self.old.came.items self.new.came.items
             (unsent_of self.old.unsent) (unsent_of self.new.unsent)) }
+        ensures kept { (self.new.link ≡ self.old.link) × (self.new.has_ended ≡ self.old.has_ended) }
         ensures err { OnErr result ((self.new ≡ self.old) × (handler.new ≡ handler.old)) }
     {
         if self.unsent.len() > 0 {
@@ -163,6 +169,7 @@ impl<S: Link> CounterPeer<S> {
         requires { end ≤ length self.old.came.items }
         ensures ok { OnOk result (H.tells handler.old (take end self.old.came.items) (unsent_of self.new.unsent) handler.new
             × (self.new.came.items ≡ drop end self.old.came.items)) }
+        ensures kept { (self.new.link ≡ self.old.link) × (self.new.has_ended ≡ self.old.has_ended) }
         ensures err { OnErr result ((self.new ≡ self.old) × (handler.new ≡ handler.old)) }
     {
         let text = handler.tell(&self.came[..end], &mut self.noted)?;
@@ -175,6 +182,7 @@ impl<S: Link> CounterPeer<S> {
         requires { end ≤ length self.old.came.items }
         ensures reply { unsent_of self.new.unsent ≡ text.items }
         ensures rest { self.new.came.items ≡ drop end self.old.came.items }
+        ensures kept { (self.new.link ≡ self.old.link) × (self.new.has_ended ≡ self.old.has_ended) }
     {
         self.unsent = Unsent::new(text);
         drop_front(&mut self.came, end);
@@ -190,6 +198,7 @@ impl<S: Link> CounterPeer<S> {
         ensures looked { Deferring H.defers handler.old handler.new self.old.came.items }
         ensures came { self.new.came ≡ self.old.came }
         ensures unsent { self.new.unsent ≡ self.old.unsent }
+        ensures kept { (self.new.link ≡ self.old.link) × (self.new.has_ended ≡ self.old.has_ended) }
     {
         if self.unsent.len() > 0 || self.looks >= MOST_LOOKS {
             return None;
@@ -213,10 +222,11 @@ impl<S: Link> CounterPeer<S> {
         &mut self,
         handler: &mut H,
         deferred: Deferred<H::Line>,
-        link: Option<UnixStream>,
+        link: Option<Asking>,
     ) -> Result<(), HubFault>
         ensures ok { OnOk result (TellingLater H.tells H.defers handler.old handler.new self.old.came.items self.new.came.items
             (unsent_of self.old.unsent) (unsent_of self.new.unsent)) }
+        ensures kept { (self.new.link ≡ self.old.link) × (self.new.has_ended ≡ self.old.has_ended) }
         ensures err { OnErr result ((self.new ≡ self.old) × (handler.new ≡ handler.old)) }
     {
         if self.unsent.len() > 0 {
@@ -234,7 +244,7 @@ impl<S: Link> CounterPeer<S> {
         handler: &mut H,
         end: usize,
         deferred: Deferred<H::Line>,
-        link: Option<UnixStream>,
+        link: Option<Asking>,
     ) -> Result<(), HubFault>
         requires { end ≤ length self.old.came.items }
         ensures ok { OnOk result (
@@ -242,6 +252,7 @@ impl<S: Link> CounterPeer<S> {
             × (self.new.came.items ≡ drop end self.old.came.items))
             ⊎ (H.defers handler.old (take end self.old.came.items) handler.new
             × (self.new.came.items ≡ self.old.came.items) × (unsent_of self.new.unsent ≡ unsent_of self.old.unsent))) }
+        ensures kept { (self.new.link ≡ self.old.link) × (self.new.has_ended ≡ self.old.has_ended) }
         ensures err { OnErr result ((self.new ≡ self.old) × (handler.new ≡ handler.old)) }
     {
         let told = handler.tell_deferred(&self.came[..end], &mut self.noted, deferred, link)?;

@@ -315,7 +315,9 @@ fn watch(
     shared: &Shared,
     interest: Interest,
 ) -> bool
-    ensures { counter_peer.new.is_registered ≡ true }
+    ensures registered { counter_peer.new.is_registered ≡ true }
+    ensures kept { (counter_peer.new.link ≡ counter_peer.old.link) × (counter_peer.new.came ≡ counter_peer.old.came) × (counter_peer.new.unsent ≡ counter_peer.old.unsent)
+        × (counter_peer.new.has_ended ≡ counter_peer.old.has_ended) }
 {
     let was_watched = counter_peer.is_registered;
     counter_peer.is_registered = true;

@@ -4,7 +4,7 @@ ghost use Rattle.std.specs.Prelude.{◌≡◌, ◌+◌, IfOk, OnOk, OnErr};
 ghost use Rattle.reg_hub.specs.Outcomes.{outcome_of};
 
 use crate::given::{Deferred, Given};
-use mio::net::UnixStream;
+use reg_signer::Asking;
 use std::io;
 use std::net::SocketAddr;
 
@@ -58,8 +58,8 @@ pub trait Handler {
     // This line was looked at, and nothing was told: the handler before and after it.
     ghost defers: { Self → List ℕ → Self → Type 0 };
 
-    // This text finishes what was left of an answer.
-    ghost finishes: { Self.Ticket → List ℕ → Type 0 };
+    // This text finishes what was left of an answer, as the handler finishes it.
+    ghost finishes: { Self → Self.Ticket → List ℕ → Type 0 };
 
     /// Answers what came of the peer at an address, or leaves what is to be signed for it. Where that is no whole request, the text may
     /// be empty.
@@ -76,12 +76,12 @@ pub trait Handler {
     /// # Errors
     ///
     /// `WouldBlock` where what signs has no room for one more; what else the system says where it can't be asked.
-    fn ask(&self, ticket: &Self::Ticket) -> io::Result<UnixStream>;
+    fn ask(&self, ticket: &Self::Ticket) -> io::Result<Asking>;
 
     /// The text that finishes what was left: with what came on the connection on which its signature was asked for, which is at its end; or
     /// without a signature.
-    fn finish(&self, ticket: Self::Ticket, link: Option<UnixStream>) -> Vec<u8>
-        ensures { finishes ticket result.items };
+    fn finish(&self, ticket: Self::Ticket, link: Option<Asking>) -> Vec<u8>
+        ensures { finishes self.now ticket result.items };
 
     /// Answers one line of a counter. What is noted of that counter is written here alone, and is empty where a counter begins.
     ///
@@ -102,7 +102,7 @@ pub trait Handler {
     /// # Errors
     ///
     /// `WouldBlock` where what signs has no room for one more; what else the system says where it can't be connected to.
-    fn reach(&self, ticket: &Self::Line) -> io::Result<UnixStream>;
+    fn reach(&self, ticket: &Self::Line) -> io::Result<Asking>;
 
     /// Answers a line that was looked at: with what came on the connection on which its message went out, which is at its end; or without a
     /// signature. `None` where what is to be signed for it is another message by now: nothing is told then, and it is to be looked at again.
@@ -115,7 +115,7 @@ pub trait Handler {
         line: &[u8],
         noted: &mut Vec<u8>,
         deferred: Deferred<Self::Line>,
-        link: Option<UnixStream>,
+        link: Option<Asking>,
     ) -> Result<Option<Vec<u8>>, HubFault>
         ensures ok { IfOk result (λ told. MatchOption told (defers self.old line.now self.new) (λ text. tells self.old line.now text.items self.new)) }
         ensures err { OnErr result ((self.new ≡ self.old) × (noted.new ≡ noted.old)) };

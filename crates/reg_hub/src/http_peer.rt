@@ -1,7 +1,7 @@
 //! One peer, which is answered once.
 
-ghost use Rattle.std.specs.Prelude.{◌≡◌, ◌≤◌, ◌+◌, OnOk, OnErr};
-ghost use Rattle.reg_hub.specs.Stages.{Answering, Finishing, TakesMore, Sends, WaitsOn};
+ghost use Rattle.std.specs.Prelude.{◌≡◌, ◌≤◌, ◌+◌, [], OnOk, OnErr, is_some, IsSome};
+ghost use Rattle.reg_hub.specs.Stages.{Answering, Drops, Finishing, HasAsked, HoldsAnswer, IsDropped, TakesMore, Sends, WaitsOn};
 ghost use Rattle.reg_hub.specs.Exchange.{Exchanged};
 
 use crate::given::Given;
@@ -11,8 +11,8 @@ use crate::taking::{Taken, take_in};
 use crate::unsent::{Sent, Unsent};
 use crate::watcher::Watcher;
 use mio::Interest;
-use mio::net::UnixStream;
 use reg_heads::Collected;
+use reg_signer::Asking;
 use std::alloc::Global;
 use std::io::{ErrorKind, Read};
 use std::net::SocketAddr;
@@ -34,7 +34,7 @@ pub(crate) enum Stage<T> {
     Asking(Collected),
     /// Its request came, and this is left to be signed for its answer; the connection on which the signature was asked for, once it was;
     /// whether it is let go at once when it has its answer.
-    Waiting(T, Option<UnixStream>, bool),
+    Waiting(T, Option<Asking>, bool),
     /// Its answer goes out; whether it is let go at once then.
     Answering(Unsent, bool),
     /// It has its answer, and what it still sends is dropped.
@@ -74,7 +74,9 @@ fn after_taking(taken: Taken) -> Next {
 }
 
 /// The fault by which a taking in came to rest so, if there is one.
-fn fault_of(taken: Taken) -> Option<PeerFault> {
+fn fault_of(taken: Taken) -> Option<PeerFault>
+    ensures { taken ≡ Taken.Lost → IsSome result }
+{
     match taken {
         Taken::Broken => Some(PeerFault::Broken),
         Taken::Lost => Some(PeerFault::Memory),
@@ -83,12 +85,39 @@ fn fault_of(taken: Taken) -> Option<PeerFault> {
 }
 
 /// What is to be done where a sending came to rest so, of an answer to a peer that is let go at once then, or is not.
-fn after_sending(sent: Sent, is_last: bool) -> After {
+fn after_sending(sent: Sent, is_last: bool) -> After
+    ensures { result ≡ After.Finished → sent ≡ Sent.All }
+{
     match sent {
         Sent::All if is_last => After::Gone,
         Sent::All => After::Finished,
         Sent::Waits | Sent::More => After::Waits,
         Sent::Broken => After::Gone,
+    }
+}
+
+/// Drops what has come, for so many reads.
+fn drop_all<R: Read>(reader: &mut R, room: &mut [u8]) -> Taken
+    ensures { IsDropped (R.remaining reader.old) (R.remaining reader.new) }
+{
+    for _ in 0..MOST_DROPPED {
+        match drop_once(reader, room) {
+            Taken::More => {}
+            taken => return taken,
+        }
+    }
+    Taken::More
+}
+
+/// Drops what one read gives.
+fn drop_once<R: Read>(reader: &mut R, room: &mut [u8]) -> Taken
+    ensures { IsDropped (R.remaining reader.old) (R.remaining reader.new) }
+{
+    match reader.read(room) {
+        Ok(0) => Taken::Ended,
+        Ok(_) => Taken::More,
+        Err(error) if error.kind() == ErrorKind::WouldBlock => Taken::Waits,
+        Err(_) => Taken::Broken,
     }
 }
 
@@ -110,7 +139,11 @@ pub struct HttpPeer<S: Link, H: Handler> {
 
 impl<S: Link, H: Handler> HttpPeer<S, H> {
     /// A peer at an address that was accepted at this moment, in milliseconds of a clock that never goes back.
-    pub fn new(alloc: Global, link: S, peer: SocketAddr, number: u64, now: u64) -> HttpPeer<S, H> {
+    pub fn new(alloc: Global, link: S, peer: SocketAddr, number: u64, now: u64) -> HttpPeer<S, H>
+        ensures link { result.link ≡ link }
+        ensures asks { HasAsked result.stage [] }
+        ensures waited { is_some result.fault ≡ false }
+    {
         HttpPeer {
             link,
             peer,
@@ -158,23 +191,28 @@ impl<S: Link, H: Handler> HttpPeer<S, H> {
     }
 
     /// Goes on as far as the connection does without waiting.
-    pub fn advance(&mut self, room: &mut [u8], now: u64) -> Next {
+    pub fn advance(&mut self, room: &mut [u8], now: u64) -> Next
+        ensures takes { TakesMore S.Read.remaining self.old.link self.new.link self.old.stage self.new.stage (is_some self.old.fault)
+            (is_some self.new.fault) }
+        ensures sends { Sends S.Write.contents self.old.link self.new.link self.old.stage self.new.stage }
+        ensures drops { Drops S.Read.remaining self.old.link self.new.link self.old.stage self.new.stage }
+    {
         match &self.stage {
             Stage::Asking(_) => self.take(room),
             Stage::Waiting(..) => self.wait(room),
-            Stage::Answering(..) => match self.send() {
-                After::Waits => Next::Waits(Interest::WRITABLE),
-                After::Finished => self.finish(now),
-                After::Gone => Next::Gone,
-            },
+            Stage::Answering(..) => self.send_on(now),
             Stage::Leaving => self.leave(room),
         }
     }
 
-    /// Takes in what came of its request.
+    /// Takes in what came of its request, as long as more of it is waited for.
     fn take(&mut self, room: &mut [u8]) -> Next
-        ensures { TakesMore S.Read.remaining self.old.link self.new.link self.old.stage self.new.stage }
+        ensures { TakesMore S.Read.remaining self.old.link self.new.link self.old.stage self.new.stage (is_some self.old.fault)
+            (is_some self.new.fault) }
     {
+        if self.fault.is_some() {
+            return Next::Due;
+        }
         match &mut self.stage {
             Stage::Asking(collected) => {
                 let taken = take_in(&mut self.link, collected, room);
@@ -188,24 +226,33 @@ impl<S: Link, H: Handler> HttpPeer<S, H> {
     }
 
     /// Drops what the peer still sends while it waits for its answer, and sees whether it goes.
-    fn wait(&mut self, room: &mut [u8]) -> Next {
-        for _ in 0..MOST_DROPPED {
-            match self.link.read(room) {
-                Ok(0) => {
-                    self.has_ended = true;
-                    return Next::Rests;
-                }
-                Ok(_) => {}
-                Err(error) if error.kind() == ErrorKind::WouldBlock => break,
-                Err(_) => return Next::Gone,
-            }
+    fn wait(&mut self, room: &mut [u8]) -> Next
+        ensures { Drops S.Read.remaining self.old.link self.new.link self.old.stage self.new.stage }
+    {
+        let taken = drop_all(&mut self.link, room);
+        self.has_ended = self.has_ended || taken == Taken::Ended;
+        if taken == Taken::Broken {
+            Next::Gone
+        } else {
+            Next::Rests
         }
-        Next::Rests
+    }
+
+    /// Sends on its answer; once the peer has all of it, it is told that no more is written.
+    fn send_on(&mut self, now: u64) -> Next
+        ensures { Sends S.Write.contents self.old.link self.new.link self.old.stage self.new.stage }
+    {
+        match self.send() {
+            After::Waits => Next::Waits(Interest::WRITABLE),
+            After::Finished => self.finish(now),
+            After::Gone => Next::Gone,
+        }
     }
 
     /// Sends on its answer.
     fn send(&mut self) -> After
-        ensures { Sends S.Write.contents self.old.link self.new.link self.old.stage self.new.stage }
+        ensures sends { Sends S.Write.contents self.old.link self.new.link self.old.stage self.new.stage }
+        ensures all { result ≡ After.Finished → HoldsAnswer self.new.stage [] }
     {
         match &mut self.stage {
             Stage::Answering(unsent, is_last) => after_sending(
@@ -220,7 +267,10 @@ impl<S: Link, H: Handler> HttpPeer<S, H> {
 
     /// Tells the peer that no more is written. A side that is closed over unread bytes may cost the peer the answer that it
     /// has not read yet: so what it still sends is taken for a short time.
-    fn finish(&mut self, now: u64) -> Next {
+    fn finish(&mut self, now: u64) -> Next
+        ensures link { self.new.link ≡ self.old.link }
+        ensures leaves { self.new.stage ≡ Stage.Leaving }
+    {
         self.stage = Stage::Leaving;
         self.until = now.saturating_add(LINGER);
         match self.link.finish() {
@@ -230,16 +280,13 @@ impl<S: Link, H: Handler> HttpPeer<S, H> {
     }
 
     /// Drops what the peer still sends.
-    fn leave(&mut self, room: &mut [u8]) -> Next {
-        for _ in 0..MOST_DROPPED {
-            match self.link.read(room) {
-                Ok(0) => return Next::Gone,
-                Ok(_) => {}
-                Err(error) if error.kind() == ErrorKind::WouldBlock => break,
-                Err(_) => return Next::Gone,
-            }
+    fn leave(&mut self, room: &mut [u8]) -> Next
+        ensures { Drops S.Read.remaining self.old.link self.new.link self.old.stage self.new.stage }
+    {
+        match drop_all(&mut self.link, room) {
+            Taken::Waits | Taken::More => Next::Waits(Interest::READABLE),
+            _ => Next::Gone,
         }
-        Next::Waits(Interest::READABLE)
     }
 
     /// Whether one whole request came, and nothing behind it.
@@ -260,6 +307,7 @@ impl<S: Link, H: Handler> HttpPeer<S, H> {
         ensures exchanged { Exchanged H.answers H.tells H.defers handler.old handler.new made.old made.new }
         ensures one { made.new ≤ made.old + 1 }
         ensures answered { OnOk result (Answering H.answers handler.old handler.new self.old.stage self.new.stage) }
+        ensures kept { (self.new.link ≡ self.old.link) × (self.new.fault ≡ self.old.fault) }
         ensures err { OnErr result ((self.new ≡ self.old) × (handler.new ≡ handler.old)) }
     {
         let given = match &self.stage {
@@ -291,7 +339,8 @@ impl<S: Link, H: Handler> HttpPeer<S, H> {
     ///
     /// As [`Handler::ask`]; what the system says where the connection can't be watched; `NotConnected` where it waits for no answer.
     pub(crate) fn ask(&mut self, handler: &H, watcher: &Watcher, token: usize) -> io::Result<()>
-        ensures { WaitsOn self.old.stage self.new.stage }
+        ensures waits { WaitsOn self.old.stage self.new.stage }
+        ensures kept { (self.new.link ≡ self.old.link) × (self.new.fault ≡ self.old.fault) }
     {
         let mut link = match &self.stage {
             Stage::Waiting(ticket, _, _) => handler.ask(ticket)?,
@@ -305,8 +354,9 @@ impl<S: Link, H: Handler> HttpPeer<S, H> {
     }
 
     /// Holds the connection on which the signature of its answer was asked for.
-    fn hold(&mut self, link: UnixStream)
-        ensures { WaitsOn self.old.stage self.new.stage }
+    fn hold(&mut self, link: Asking)
+        ensures waits { WaitsOn self.old.stage self.new.stage }
+        ensures kept { (self.new.link ≡ self.old.link) × (self.new.fault ≡ self.old.fault) }
     {
         match &mut self.stage {
             Stage::Waiting(_, held, _) => *held = Some(link),
@@ -319,7 +369,8 @@ impl<S: Link, H: Handler> HttpPeer<S, H> {
     /// Finishes the answer that it waits for: with what came on the connection on which its signature was asked for, where that is at its
     /// end, or without a signature. Who does not wait is as it was.
     pub fn complete(&mut self, handler: &H, has_come: bool, now: u64)
-        ensures { Finishing H.finishes self.old.stage self.new.stage }
+        ensures finished { Finishing (H.finishes handler.now) self.old.stage self.new.stage }
+        ensures kept { (self.new.link ≡ self.old.link) × (self.new.fault ≡ self.old.fault) }
     {
         match mem::replace(&mut self.stage, Stage::Leaving) {
             Stage::Waiting(ticket, link, is_exact) => {

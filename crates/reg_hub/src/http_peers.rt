@@ -175,7 +175,8 @@ fn watch<H: Handler>(
     shared: &Shared,
     interest: Interest,
 ) -> bool
-    ensures { http_peer.new.is_registered ≡ true }
+    ensures registered { http_peer.new.is_registered ≡ true }
+    ensures kept { (http_peer.new.link ≡ http_peer.old.link) × (http_peer.new.stage ≡ http_peer.old.stage) × (http_peer.new.fault ≡ http_peer.old.fault) }
 {
     let was_watched = http_peer.is_registered;
     http_peer.is_registered = true;

@@ -1,6 +1,6 @@
 //! The loop: listeners, the places of the peers, and their turns.
 
-ghost use Rattle.std.specs.Prelude.{◌≡◌, ◌≤◌, ◌+◌, IfOk, OnOk};
+ghost use Rattle.std.specs.Prelude.{◌≡◌, ◌≤◌, ◌+◌, IfOk, IsSome, OnOk};
 ghost use Rattle.reg_hub.specs.Exchange.{Exchanged};
 
 use crate::counter_peers::CounterPeers;
@@ -446,7 +446,8 @@ impl<H: Handler> Hub<H> {
 
 /// Notes by what fault a peer is answered at this moment before its request is whole, if by one.
 fn note_fault<H: Handler>(http_peer: &mut HttpPeer<TcpStream, H>, losses: &mut Losses, now: u64)
-    ensures { http_peer.new.stage ≡ http_peer.old.stage }
+    ensures kept { (http_peer.new.link ≡ http_peer.old.link) × (http_peer.new.stage ≡ http_peer.old.stage) }
+    ensures noted { IsSome http_peer.old.fault → IsSome http_peer.new.fault }
 {
     if let Some(why) = http_peer.fault(now) {
         http_peer.fault = Some(why);

@@ -12,6 +12,7 @@ mod handler;
 mod http_peer;
 mod http_peers;
 mod hub;
+pub mod laws;
 mod link;
 mod losses;
 mod places;

@@ -13,17 +13,17 @@ pub trait Link: Read + Write + Source {
     /// # Errors
     ///
     /// What the system says, where the peer can't be told.
-    fn finish(&mut self) -> io::Result<()>;
+    fn finish(&self) -> io::Result<()>;
 }
 
 impl Link for TcpStream {
-    fn finish(&mut self) -> io::Result<()> {
+    fn finish(&self) -> io::Result<()> {
         self.shutdown(Shutdown::Write)
     }
 }
 
 impl Link for UnixStream {
-    fn finish(&mut self) -> io::Result<()> {
+    fn finish(&self) -> io::Result<()> {
         self.shutdown(Shutdown::Write)
     }
 }

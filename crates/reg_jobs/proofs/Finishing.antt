@@ -1,6 +1,6 @@
 -- An answer that was left to be signed, once it is finished: an exchange over the records of where it was begun.
 use Rattle.std.proofs.Common.{◌≡◌, ◌≢◌, ℕ, List, [], Global, Vec, ap, inl, inr, refl, sym, subst, ◌∙◌}
-use Rattle.std.specs.Prelude.{Option, Some, None, Result, Ok, Err, IfErr, IfOk, Bool, true, false, not, is_none, is_some, option_map}
+use Rattle.std.specs.Prelude.{Option, Some, None, Result, Ok, Err, IfErr, IfOk, IfSome, OnOk, Bool, true, false, not, is_none, is_some, option_map}
 use Rattle.reg_core.specs.Records.{Records}
 use Rattle.reg_core.specs.declared.memory.Memory.{Memory as NoMemory}
 use Rattle.reg_core.specs.declared.refusal.Fault.{Fault}
@@ -25,6 +25,7 @@ use Rattle.reg_ocsp.specs.Drafts.{Drafted, drafted_response}
 use Rattle.reg_signer.specs.Forms.{HasForm}
 use Rattle.reg_hub.specs.Exchange.{Outcome, said, pending, later}
 use Rattle.reg_jobs.specs.Exchanges.{ExchangeAt}
+use Rattle.reg_jobs.specs.Given.{AtTold, GaveAt, WasGiven}
 use Rattle.reg_jobs.specs.Leaving.{FinishesUnsigned, FinishesAt, IsSignatureOf, Meets}
 use Rattle.reg_jobs.specs.declared.leaving.Unsigned.{Unsigned}
 
@@ -151,6 +152,35 @@ meets_weaker finishes wanted other from (said text) met = from text met
 meets_weaker finishes wanted other from (pending ticket) met = λ text finished. from text (met text finished)
 meets_weaker finishes wanted other from later met = met
 
+-- what is asked at a path is asked at the one that was told, where that is it
+pub asked_at : {A E : Type 0} (told : Option (List ℕ)) (path : List ℕ) (Was : List ℕ → Type 0) (Is : List ℕ → A → Type 0) (result : Result A E) → told ≡ Some path
+    → OnOk result (Was path) → IfOk result (Is path) → IfOk result (λ asking. AtTold told (λ it. Was it × Is it asking))
+asked_at told path Was Is (Ok asking) same was is = (path, same, (was, is))
+asked_at told path Was Is (Err error) same was is = tt
+
+-- What was given at the path that was told, was given.
+module _ (gave : List ℕ → List ℕ → List ℕ → Type 0) (told : Option (List ℕ)) where
+  pub given_somewhere : (message : List ℕ) (answer : Option (Vec ℕ Global)) → IfSome answer (λ it. GaveAt gave told message it.items)
+      → IfSome answer (λ it. WasGiven gave message it.items)
+  given_somewhere message (Some it) given = (given.0, given.2)
+  given_somewhere message None given = given
+
+  signed_somewhere : (draft : Drafted) (signature : Option (List ℕ)) → IsSignatureOf (GaveAt gave told) draft signature
+      → IsSignatureOf (WasGiven gave) draft signature
+  signed_somewhere draft (Some signature) (given, form) = ((given.0, given.2), form)
+  signed_somewhere draft None given = given
+
+  -- what finishes an answer with a signature from there finishes it
+  finished_somewhere : (unsigned : Unsigned) (text : List ℕ) → FinishesUnsigned (GaveAt gave told) unsigned text → FinishesUnsigned (WasGiven gave) unsigned text
+  finished_somewhere unsigned text it =
+      record { signature = it.signature; signed = signed_somewhere unsigned.draft it.signature it.signed; wrote = it.wrote }
+
+  pub meets_told : (wanted : List ℕ → Type 0) (outcome : Outcome Unsigned) → Meets (FinishesUnsigned (WasGiven gave)) wanted outcome
+      → Meets (FinishesUnsigned (GaveAt gave told)) wanted outcome
+  meets_told wanted (said text) met = met
+  meets_told wanted (pending unsigned) met = λ text finished. met text (finished_somewhere unsigned text finished)
+  meets_told wanted later met = met
+
 -- What stands in an office before and after.
 module _ {S : Type 0} (is_clean : S → Type 0) (stands : Signatory → S → Records → Type 0) (s t : S) where
   -- the same of what is wanted of a text between two records
@@ -169,6 +199,20 @@ module _ {S : Type 0} (is_clean : S → Type 0) (stands : Signatory → S → Re
       (from identity before after)
       outcome
       met)
+      s
+      t
+      moved
+
+  -- the same where what finishes an answer has its signature from the path that was told
+  pub told_moves : (gave : List ℕ → List ℕ → List ℕ → Type 0) (told : Option (List ℕ)) (wanted : Signatory → Records → Records → List ℕ → Type 0)
+      (outcome : Outcome Unsigned)
+      → Leads is_clean stands (λ identity before after. Meets (FinishesUnsigned (WasGiven gave)) (λ text. wanted identity before after text) outcome) s t
+      → Leads is_clean stands (λ identity before after. Meets (FinishesUnsigned (GaveAt gave told)) (λ text. wanted identity before after text) outcome) s t
+  told_moves gave told wanted outcome moved =
+      follows is_clean stands
+      (λ identity before after. Meets (FinishesUnsigned (WasGiven gave)) (λ text. wanted identity before after text) outcome)
+      (λ identity before after. Meets (FinishesUnsigned (GaveAt gave told)) (λ text. wanted identity before after text) outcome)
+      (λ identity before after. meets_told gave told (λ text. wanted identity before after text) outcome)
       s
       t
       moved

@@ -41,12 +41,13 @@ use Rattle.reg_jobs.specs.Asking.{AtCounter, RowsAtCounter}
 use Rattle.reg_jobs.specs.Copies.{copied_text}
 use Rattle.reg_jobs.specs.Digest.{digest_alone, digests}
 use Rattle.reg_jobs.specs.RegisterFailures.{IsMaking}
+use Rattle.reg_jobs.specs.Given.{GaveAt}
 use Rattle.reg_jobs.specs.Identifiers.{Identifies}
 use Rattle.reg_jobs.specs.Lined.{LineBy, LinesEnd}
 use Rattle.reg_jobs.specs.Sample.{sample_records}
 use Rattle.reg_jobs.specs.Schedules.{Reschedules}
 use Rattle.reg_jobs.specs.Serving.{OpenedAt, Opens, Serves, ServedAt}
-use Rattle.reg_jobs.specs.WhoSigns.{Signing, by_itself}
+use Rattle.reg_jobs.specs.WhoSigns.{Signing, answer_socket, by_itself}
 use Rattle.reg_jobs.specs.Visits.{Visits, NotAudited, NotCopied, NotOpened, Makes, NotMade, ending_of, ending_of_import}
 use Rattle.reg_jobs.specs.declared.front.Front.{Ghosts as Front}
 use Rattle.reg_jobs.specs.declared.leaving.Unsigned.{Unsigned}
@@ -170,12 +171,13 @@ module _ {W P O : Type 0} (contents : W → Option (List ℕ)) (writer writer' :
         × ((start between : P) × Claims path start × MakesAt start between path issuer terms result × Leaves path start between result))
 
     -- HTTP requests over the register at a path (RFC 9112), which is opened before the port is bound: what came of each peer and what
-    -- came of that, in this order
+    -- came of that, in this order. A signature that was waited for is one that what listens at the path of who answers gave.
     abbrev pub ServeAt : {F : Type 0} → Front F → List ℕ → Option KeyHolder → Answerer → ℕ → ℕ → Result (Unit {0}) Failure → Type 0
     ServeAt front path signer answerer port requests result =
         (NotOpened places offices place place' path (Some (signer, answerer)) result × (writer' ≡ writer))
         ⊎ ((inputs : List Input) × (outcomes : List (Outcome Unsigned))
-        × Visits places offices place place' path (Some (signer, answerer)) (Serves offices.signs places.gave front.told inputs outcomes)
+        × Visits places offices place place' path (Some (signer, answerer))
+        (Serves offices.signs (GaveAt places.gave (answer_socket signer answerer)) front.told inputs outcomes)
         × ServedAt contents writer writer' front.bound port requests inputs result)
 
     -- the same, and lines at a counter, until the program is ended
@@ -183,7 +185,8 @@ module _ {W P O : Type 0} (contents : W → Option (List ℕ)) (writer writer' :
     OpenAt front path signer answerer port counter result =
         (NotOpened places offices place place' path (Some (signer, answerer)) result × (writer' ≡ writer))
         ⊎ ((inputs : List Input) × (outcomes : List (Outcome Unsigned))
-        × Visits places offices place place' path (Some (signer, answerer)) (Opens offices.signs places.gave front.told inputs outcomes)
+        × Visits places offices place place' path (Some (signer, answerer))
+        (Opens offices.signs (GaveAt places.gave (answer_socket signer answerer)) front.told inputs outcomes)
         × OpenedAt contents writer writer' front.bound front.laid port counter inputs result)
 
 -- A job over what is read and what is written: the reader and the writer before it and after it.

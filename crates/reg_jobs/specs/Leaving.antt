@@ -22,13 +22,13 @@ pub record IsFinishedText (draft : Drafted) (moment : ℕ) (signature : Option (
   pub made : IfOk given (λ bytes. bytes ≡ drafted_response draft signature)
   pub told : FinishedOf moment given text
 
--- what holds the key gave this for what is to be signed, and it has the form of a signature by who is to sign; or there is none
+-- this was given for what is to be signed, and it has the form of a signature by who is to sign; or there is none
 abbrev pub IsSignatureOf : (List ℕ → List ℕ → Type 0) → Drafted → Option (List ℕ) → Type 0
 IsSignatureOf gave draft (Some signature) =
     gave draft.message signature × HasForm (record { algorithm = draft.algorithm; public_key = draft.key }) signature
 IsSignatureOf gave draft None = Unit {0}
 
--- this text finishes an answer of a moment: with a signature that what holds the key gave, or without one
+-- this text finishes an answer of a moment: with a signature that was given, or without one
 pub record FinishesAt (gave : List ℕ → List ℕ → Type 0) (draft : Drafted) (moment : ℕ) (text : List ℕ) : Type 0 where
   pub signature : Option (List ℕ)
   pub signed : IsSignatureOf gave draft signature

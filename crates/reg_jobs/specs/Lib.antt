@@ -7,6 +7,7 @@ pub mod Digest
 pub mod Ends
 pub mod Exchanges
 pub mod RegisterFailures
+pub mod Given
 pub mod Identifiers
 pub mod Leaving
 pub mod Lined

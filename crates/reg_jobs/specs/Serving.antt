@@ -19,7 +19,8 @@ use Rattle.reg_wire.specs.RunsOfAnswers.{Answered}
 
 -- What came of a request: its text is that of an exchange; or its answer was left to be signed, and whatever text finishes that is of one. In
 -- both the exchange is one over the records as they are where it stands among the others: so each answer is what they say at one moment
--- between its request and its sending, and a revocation that was answered before is in it. What signs gave what finishes it (`gave`).
+-- between its request and its sending, and a revocation that was answered before is in it. A signature that finishes it was given (`gave`) for
+-- exactly what is signed in it.
 abbrev pub Exchanging
     : Signs → (List ℕ → List ℕ → Type 0) → (ℕ → Type 0) → Signatory → Records → List ℕ → Outcome Unsigned → Records → Type 0
 Exchanging signs gave told identity before request outcome after =

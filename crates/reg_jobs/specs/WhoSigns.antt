@@ -1,5 +1,5 @@
 -- Who signs for a register that is opened.
-use Rattle.std.specs.Prelude.{◌≡◌, ◌⊎◌, ℕ, List, Option, Some, None, IfSome, MatchOption}
+use Rattle.std.specs.Prelude.{◌≡◌, ◌⊎◌, ℕ, List, Option, Some, None, IfSome, MatchOption, option_map}
 use Rattle.reg_calls.specs.Signatories.{Responder, Signatory, signs_both}
 use Rattle.reg_core.specs.Crls.{latest}
 use Rattle.reg_core.specs.Records.{Crl, Records}
@@ -38,6 +38,15 @@ by_itself = Issuer None
 abbrev pub answerer_of : Signing → Answerer
 answerer_of None = by_itself
 answerer_of (Some (signer, answerer)) = answerer
+
+-- the path of what signs CRLs, where what holds a key does
+abbrev pub crl_socket : Option KeyHolder → Option (List ℕ)
+crl_socket signer = option_map (λ holder. holder.socket) signer
+
+-- the path of what signs OCSP answers, where what holds a key does: the responder's, or that of what signs CRLs
+abbrev pub answer_socket : Option KeyHolder → Answerer → Option (List ℕ)
+answer_socket signer (Issuer certificate) = crl_socket signer
+answer_socket signer (Delegate certificate holder) = Some holder.socket
 
 -- who signs over an issuer's key (RFC 5280 4.1.2.7): what holds it, under its algorithm, or the digest
 abbrev pub identity_told : Option KeyHolder → List ℕ → Identity

@@ -1,21 +1,25 @@
 //! A line at a counter for which something is to be signed: it is looked at, what is to be signed goes out, and then the line is run, once.
 
-ghost use Rattle.std.specs.Prelude.{◌≡◌, None, IfOk, IfSome, MatchOption, OnErr, OnOk};
+ghost use Rattle.std.specs.Prelude.{◌≡◌, [], None, IfOk, IfSome, OnErr, option_copied};
 ghost use Rattle.reg_calls.specs.Leads.{Leads};
-ghost use Rattle.reg_jobs.specs.Deferring.{IsKnown};
+ghost use Rattle.reg_jobs.specs.Deferring.{IsKnown, socket_for};
+ghost use Rattle.reg_jobs.specs.Given.{AtTold, GaveAt, WasGiven};
+ghost use Rattle.reg_jobs.specs.WhoSigns.{answer_socket, crl_socket};
 ghost use Rattle.reg_jobs.specs.CounterWords.{Word, WordAt};
+ghost use Rattle.reg_signer.specs.Asking.{IsAsking};
 
 use crate::desks::OpenDesk;
 use crate::entering::tell_counted;
 use crate::front::Front;
+use crate::leaving::heard_for;
 use crate::place::Place;
-use mio::net::UnixStream;
 use reg_calls::{Begun, OfficeOfRecords};
 use reg_core::{Fault, Moment, Outcome, Query, Refusal};
 use reg_hub::{Deferred, HubFault};
 use reg_ocsp::Draft;
-use reg_signer::Primed;
+use reg_signer::{Asking, Primed};
 use reg_watch::Tally;
+use reg_words::{Answerer, KeyHolder};
 use std::alloc::Global;
 use std::io;
 use std::io::ErrorKind;
@@ -195,16 +199,52 @@ fn message_of(alloc: Global, draft: &Draft) -> Option<Vec<u8>> {
     }
 }
 
-/// Connects to what signs for a line, at this socket, and waits for nothing.
-pub(crate) fn reach_for<F: Front>(
-    front: &F,
-    signer: Option<&str>,
-    looked: &Looked,
-) -> io::Result<UnixStream>
-    ensures { MatchOption signer.entry (OnOk result ⊥) (λ path. OnOk result (F.reached path.now)) }
+/// The socket of what signs this, where what holds a key does.
+pub(crate) fn socket_of<'w>(
+    signer: &Option<KeyHolder<'w>>,
+    answerer: &Answerer<'w>,
+    wanted: Wanted,
+) -> Option<&'w str>
+    ensures { socket_for signer.now answerer.now wanted ≡ option_copied result }
+{
+    match wanted {
+        Wanted::Crl => crls_at(signer),
+        Wanted::Answer => answers_at(signer, answerer),
+    }
+}
+
+/// The socket of what signs OCSP answers, where what holds a key does: the responder's, or else the one that signs CRLs.
+fn answers_at<'w>(signer: &Option<KeyHolder<'w>>, answerer: &Answerer<'w>) -> Option<&'w str>
+    ensures { answer_socket signer.now answerer.now ≡ option_copied result }
+{
+    match answerer {
+        Answerer::Delegate { holder, .. } => Some(holder.socket.as_str()),
+        Answerer::Issuer { .. } => crls_at(signer),
+    }
+}
+
+/// The socket of what signs CRLs, where what holds a key does.
+fn crls_at<'w>(signer: &Option<KeyHolder<'w>>) -> Option<&'w str>
+    ensures { crl_socket signer.now ≡ option_copied result }
 {
     match signer {
-        Some(path) if !looked.is_left_alone => front.reach(path),
+        Some(holder) => Some(holder.socket.as_str()),
+        None => None,
+    }
+}
+
+/// Connects to what signs for a line, as it was told, and waits for nothing.
+pub(crate) fn reach_for<F: Front>(
+    front: &F,
+    signer: &Option<KeyHolder<'_>>,
+    answerer: &Answerer<'_>,
+    looked: &Looked,
+) -> io::Result<Asking>
+    ensures { IfOk result (λ asking. AtTold (socket_for signer.now answerer.now looked.now.wanted)
+        (λ path. F.reached path × IsAsking path [] asking)) }
+{
+    match socket_of(signer, answerer, looked.wanted) {
+        Some(socket) if !looked.is_left_alone => front.reach(socket),
         _ => Err(io::Error::from(ErrorKind::NotFound)),
     }
 }
@@ -220,16 +260,20 @@ pub(crate) fn known_of<P: Place, F: Front>(
     alloc: Global,
     office: &mut P::Opened,
     front: &F,
+    signer: &Option<KeyHolder<'_>>,
+    answerer: &Answerer<'_>,
     looked: Looked,
     message: Vec<u8>,
-    link: Option<UnixStream>,
+    link: Option<Asking>,
 ) -> Result<Option<Known>, HubFault>
     ensures moves { Leads P.Opened.is_clean P.Opened.stands (λ identity before after. after ≡ before) office.old office.new }
-    ensures known { IfOk result (λ found. IfSome found (IsKnown P.gave F.told)) }
+    ensures known { IfOk result (λ found. IfSome found (IsKnown (GaveAt P.gave (socket_for signer.now answerer.now looked.wanted)) F.told)) }
     ensures err { OnErr result (office.new ≡ office.old) }
 {
     match link {
-        Some(link) => Ok(recalled::<P, F>(alloc, office, front, looked, message, link)),
+        Some(link) => Ok(recalled::<P, F>(
+            alloc, office, front, signer, answerer, looked, message, link,
+        )),
         None => Ok(Some(unsigned_now(alloc, front)?)),
     }
 }
@@ -256,19 +300,28 @@ fn recalled<P: Place, F: Front>(
     alloc: Global,
     office: &mut P::Opened,
     front: &F,
+    signer: &Option<KeyHolder<'_>>,
+    answerer: &Answerer<'_>,
     looked: Looked,
     message: Vec<u8>,
-    mut link: UnixStream,
+    link: Asking,
 ) -> Option<Known>
     ensures moves { Leads P.Opened.is_clean P.Opened.stands (λ identity before after. after ≡ before) office.old office.new }
-    ensures known { IfSome result (IsKnown P.gave F.told) }
+    ensures known { IfSome result (IsKnown (GaveAt P.gave (socket_for signer.now answerer.now looked.wanted)) F.told) }
 {
     if is_past(alloc, office, looked.moment) {
         return None;
     }
     match front.recall(looked.moment) {
         Some(moment) => {
-            let answer = P::hear(alloc, &mut link, &message);
+            let answer = heard_for::<P>(
+                alloc,
+                signer,
+                answerer,
+                looked.wanted,
+                &message,
+                Some(link),
+            );
             let primed = Primed { message, answer };
             Some(Known { moment, primed })
         }
@@ -304,7 +357,7 @@ fn tell_primed<P: Place, F: Front>(
     line: &[u8],
     noted: &mut Vec<u8>,
 ) -> Vec<u8>
-    requires { IfSome known.primed.answer (λ answer. P.gave known.primed.message.items answer.items) }
+    requires { IfSome known.primed.answer (λ answer. WasGiven P.gave known.primed.message.items answer.items) }
     ensures { Leads P.Opened.is_clean P.Opened.stands
         (λ identity before after. WordAt P.Opened.signs known.moment identity before line.now result.items after) office.old office.new }
 {
@@ -329,10 +382,7 @@ fn tell_primed<P: Place, F: Front>(
 impl<'a, 'w, P: Place, F: Front> OpenDesk<'a, 'w, P, F> {
     /// The socket of who signs what a line wants signed.
     pub(crate) fn signer_of(&self, wanted: Wanted) -> Option<&'w str> {
-        match wanted {
-            Wanted::Crl => self.crl_signer,
-            Wanted::Answer => self.signer,
-        }
+        socket_of(self.signer, self.answerer, wanted)
     }
 
     /// Looks at a line that has something signed.
@@ -353,13 +403,13 @@ impl<'a, 'w, P: Place, F: Front> OpenDesk<'a, 'w, P, F> {
         )
     }
 
-    /// Notes whether who signs OCSP answers is left alone by lines from now on, once it was asked for one, or for a CRL.
-    pub(crate) fn note_asked(&mut self, looked: Looked, has_come: bool)
-        ensures { self.new.office ≡ self.old.office }
-    {
-        if !looked.is_left_alone && is_same(self.signer_of(looked.wanted), self.signer) {
-            self.alone_since = alone_since(looked, has_come, self.front.micros());
+    /// Since when who signs OCSP answers is left alone by lines from now on, once it was asked for one, or for a CRL.
+    pub(crate) fn alone_after(&self, looked: Looked, has_come: bool) -> Option<u64> {
+        let answers = self.signer_of(Wanted::Answer);
+        if looked.is_left_alone || !is_same(self.signer_of(looked.wanted), answers) {
+            return self.alone_since;
         }
+        alone_since(looked, has_come, self.front.micros())
     }
 
     /// Answers a line with what is known of the signature that it wants.
@@ -370,7 +420,7 @@ impl<'a, 'w, P: Place, F: Front> OpenDesk<'a, 'w, P, F> {
         looked: Looked,
         known: Known,
     ) -> Vec<u8>
-        requires { IsKnown P.gave F.told known }
+        requires { IsKnown (GaveAt P.gave (socket_for self.old.signer.now self.old.answerer.now looked.wanted)) F.told known }
         ensures { Leads P.Opened.is_clean P.Opened.stands
             (λ identity before after. Word P.Opened.signs F.told identity before line.now result.items after) self.old.office self.new.office }
     {

@@ -9,9 +9,10 @@ use crate::leaving::{Unsigned, ask_for, finish_counted, finish_logged};
 use crate::logging::log_lost;
 use crate::place::Place;
 use crate::visiting::{begin_now, visit_now};
-use mio::net::UnixStream;
 use reg_hub::{Crowd, Deferred, Given, Handler, HubFault, PeerFault};
+use reg_signer::Asking;
 use reg_watch::{Heard, Tally};
+use reg_words::{Answerer, KeyHolder};
 use std::alloc::Global;
 use std::cell::Cell;
 use std::io;
@@ -24,8 +25,9 @@ pub(crate) struct ServedDesk<'a, 'w, P: Place, F: Front> {
     pub(crate) office: P::Opened,
     pub(crate) alloc: Global,
     pub(crate) front: &'a F,
-    /// The socket of who signs OCSP answers, where what holds a key does.
-    pub(crate) signer: Option<&'w str>,
+    /// Who signs CRLs, and who answers OCSP requests, as it was told.
+    pub(crate) signer: &'a Option<KeyHolder<'w>>,
+    pub(crate) answerer: &'a Answerer<'w>,
 }
 
 /// A desk that answers peers and lines at counters, each at a moment of the clock, and tells of itself.
@@ -36,10 +38,9 @@ pub(crate) struct OpenDesk<'a, 'w, P: Place, F: Front> {
     pub(crate) front: &'a F,
     /// The path of the register's file.
     pub(crate) file: &'a str,
-    /// The socket of who signs OCSP answers, where what holds a key does.
-    pub(crate) signer: Option<&'w str>,
-    /// The socket of who signs CRLs, where what holds a key does.
-    pub(crate) crl_signer: Option<&'w str>,
+    /// Who signs CRLs, and who answers OCSP requests, as it was told.
+    pub(crate) signer: &'a Option<KeyHolder<'w>>,
+    pub(crate) answerer: &'a Answerer<'w>,
     /// Since which microseconds who signs OCSP answers is left alone by lines, where it is.
     pub(crate) alone_since: Option<u64>,
     /// What was counted since it was opened. No clause of the desk reads it: an answer that was left to be signed is counted where it is
@@ -55,7 +56,10 @@ pub(crate) struct NoTicket;
 
 impl<'a, 'w, P: Place, F: Front> Handler for ServedDesk<'a, 'w, P, F> {
     ghost use Rattle.reg_calls.specs.Leads.{Leads};
+    ghost use Rattle.reg_jobs.specs.Given.{AtTold, GaveAt, WasGiven};
     ghost use Rattle.reg_jobs.specs.Leaving.{FinishesUnsigned, Meets};
+    ghost use Rattle.reg_jobs.specs.WhoSigns.{answer_socket};
+    ghost use Rattle.reg_signer.specs.Asking.{IsAsking};
     ghost use Rattle.reg_jobs.specs.Exchanges.{Exchange, NoEntry};
 
     type Ticket = Unsigned;
@@ -63,25 +67,35 @@ impl<'a, 'w, P: Place, F: Front> Handler for ServedDesk<'a, 'w, P, F> {
     type Line = NoTicket;
 
     ghost answers = { λ s request outcome t. Leads P.Opened.is_clean P.Opened.stands
-        (λ identity before after. Meets (FinishesUnsigned P.gave) (λ text. Exchange P.Opened.signs F.told identity before request text after) outcome)
+        (λ identity before after. Meets (FinishesUnsigned (WasGiven P.gave)) (λ text. Exchange P.Opened.signs F.told identity before request text after) outcome)
         s.office t.office };
 
     ghost tells = { NoEntry };
 
     ghost defers = { λ s line t. t ≡ s };
 
-    ghost finishes = { FinishesUnsigned P.gave };
+    ghost finishes = { λ s. FinishesUnsigned (GaveAt P.gave (answer_socket s.signer.now s.answerer.now)) };
 
     fn answer(&mut self, peer: SocketAddr, request: &[u8]) -> Result<Given<Unsigned>, HubFault> {
         begin_now::<P, F>(self.alloc, &mut self.office, self.front, peer, request)
     }
 
-    fn ask(&self, ticket: &Unsigned) -> io::Result<UnixStream> {
-        ask_for(self.front, self.signer, ticket)
+    fn ask(&self, ticket: &Unsigned) -> io::Result<Asking>
+        ensures { IfOk result (λ asking. AtTold (answer_socket self.now.signer.now self.now.answerer.now)
+            (λ path. F.asked path ticket.now.draft.message × IsAsking path ticket.now.draft.message asking)) }
+    {
+        ask_for(self.front, self.signer, self.answerer, ticket)
     }
 
-    fn finish(&self, ticket: Unsigned, link: Option<UnixStream>) -> Vec<u8> {
-        finish_logged::<P, F>(self.alloc, self.front, ticket, link)
+    fn finish(&self, ticket: Unsigned, link: Option<Asking>) -> Vec<u8> {
+        finish_logged::<P, F>(
+            self.alloc,
+            self.front,
+            self.signer,
+            self.answerer,
+            ticket,
+            link,
+        )
     }
 
     fn tell(&mut self, _line: &[u8], _noted: &mut Vec<u8>) -> Result<Vec<u8>, HubFault> {
@@ -94,7 +108,7 @@ impl<'a, 'w, P: Place, F: Front> Handler for ServedDesk<'a, 'w, P, F> {
         None
     }
 
-    fn reach(&self, _ticket: &NoTicket) -> io::Result<UnixStream> {
+    fn reach(&self, _ticket: &NoTicket) -> io::Result<Asking> {
         Err(io::Error::from(ErrorKind::NotFound))
     }
 
@@ -103,7 +117,7 @@ impl<'a, 'w, P: Place, F: Front> Handler for ServedDesk<'a, 'w, P, F> {
         line: &[u8],
         noted: &mut Vec<u8>,
         _deferred: Deferred<NoTicket>,
-        _link: Option<UnixStream>,
+        _link: Option<Asking>,
     ) -> Result<Option<Vec<u8>>, HubFault>
         ensures ok { IfOk result (λ told. MatchOption told (self.new ≡ self.old) (λ text. NoEntry self.old line.now text.items self.new)) }
         ensures err { OnErr result ((self.new ≡ self.old) × (noted.new ≡ noted.old)) }
@@ -120,7 +134,12 @@ impl<'a, 'w, P: Place, F: Front> Handler for ServedDesk<'a, 'w, P, F> {
 
 impl<'a, 'w, P: Place, F: Front> Handler for OpenDesk<'a, 'w, P, F> {
     ghost use Rattle.reg_calls.specs.Leads.{Leads};
+    ghost use Rattle.std.specs.Prelude.{[]};
+    ghost use Rattle.reg_jobs.specs.Deferring.{socket_for};
+    ghost use Rattle.reg_jobs.specs.Given.{AtTold, GaveAt, WasGiven};
     ghost use Rattle.reg_jobs.specs.Leaving.{FinishesUnsigned, Meets};
+    ghost use Rattle.reg_jobs.specs.WhoSigns.{answer_socket};
+    ghost use Rattle.reg_signer.specs.Asking.{IsAsking};
     ghost use Rattle.reg_jobs.specs.CounterWords.{Word};
     ghost use Rattle.reg_jobs.specs.Watched.{Visit};
 
@@ -129,7 +148,7 @@ impl<'a, 'w, P: Place, F: Front> Handler for OpenDesk<'a, 'w, P, F> {
     type Line = Looked;
 
     ghost answers = { λ s request outcome t. Leads P.Opened.is_clean P.Opened.stands
-        (λ identity before after. Meets (FinishesUnsigned P.gave) (λ text. Visit P.Opened.signs F.told identity before request text after) outcome)
+        (λ identity before after. Meets (FinishesUnsigned (WasGiven P.gave)) (λ text. Visit P.Opened.signs F.told identity before request text after) outcome)
         s.office t.office };
 
     ghost tells = { λ s line text t. Leads P.Opened.is_clean P.Opened.stands
@@ -137,7 +156,7 @@ impl<'a, 'w, P: Place, F: Front> Handler for OpenDesk<'a, 'w, P, F> {
 
     ghost defers = { λ s line t. Leads P.Opened.is_clean P.Opened.stands (λ identity before after. after ≡ before) s.office t.office };
 
-    ghost finishes = { FinishesUnsigned P.gave };
+    ghost finishes = { λ s. FinishesUnsigned (GaveAt P.gave (answer_socket s.signer.now s.answerer.now)) };
 
     fn answer(&mut self, peer: SocketAddr, request: &[u8]) -> Result<Given<Unsigned>, HubFault> {
         let mut tally = self.tally.get();
@@ -154,13 +173,24 @@ impl<'a, 'w, P: Place, F: Front> Handler for OpenDesk<'a, 'w, P, F> {
         visited
     }
 
-    fn ask(&self, ticket: &Unsigned) -> io::Result<UnixStream> {
-        ask_for(self.front, self.signer, ticket)
+    fn ask(&self, ticket: &Unsigned) -> io::Result<Asking>
+        ensures { IfOk result (λ asking. AtTold (answer_socket self.now.signer.now self.now.answerer.now)
+            (λ path. F.asked path ticket.now.draft.message × IsAsking path ticket.now.draft.message asking)) }
+    {
+        ask_for(self.front, self.signer, self.answerer, ticket)
     }
 
-    fn finish(&self, ticket: Unsigned, link: Option<UnixStream>) -> Vec<u8> {
+    fn finish(&self, ticket: Unsigned, link: Option<Asking>) -> Vec<u8> {
         let mut tally = self.tally.get();
-        let text = finish_counted::<P, F>(self.alloc, self.front, &mut tally, ticket, link);
+        let text = finish_counted::<P, F>(
+            self.alloc,
+            self.front,
+            &mut tally,
+            self.signer,
+            self.answerer,
+            ticket,
+            link,
+        );
         self.tally.set(tally);
         text
     }
@@ -187,8 +217,11 @@ impl<'a, 'w, P: Place, F: Front> Handler for OpenDesk<'a, 'w, P, F> {
         }
     }
 
-    fn reach(&self, ticket: &Looked) -> io::Result<UnixStream> {
-        reach_for(self.front, self.signer_of(ticket.wanted), ticket)
+    fn reach(&self, ticket: &Looked) -> io::Result<Asking>
+        ensures { IfOk result (λ asking. AtTold (socket_for self.now.signer.now self.now.answerer.now ticket.now.wanted)
+            (λ path. F.reached path × IsAsking path [] asking)) }
+    {
+        reach_for(self.front, self.signer, self.answerer, ticket)
     }
 
     fn tell_deferred(
@@ -196,7 +229,7 @@ impl<'a, 'w, P: Place, F: Front> Handler for OpenDesk<'a, 'w, P, F> {
         line: &[u8],
         noted: &mut Vec<u8>,
         deferred: Deferred<Looked>,
-        link: Option<UnixStream>,
+        link: Option<Asking>,
     ) -> Result<Option<Vec<u8>>, HubFault>
         ensures ok { IfOk result (λ told. MatchOption told
             (Leads P.Opened.is_clean P.Opened.stands (λ identity before after. after ≡ before) self.old.office self.new.office)
@@ -212,11 +245,13 @@ impl<'a, 'w, P: Place, F: Front> Handler for OpenDesk<'a, 'w, P, F> {
             self.alloc,
             &mut self.office,
             self.front,
+            self.signer,
+            self.answerer,
             looked,
             message,
             link,
         )?;
-        self.note_asked(asked, has_come);
+        self.alone_since = self.alone_after(asked, has_come);
         match known {
             Some(known) => Ok(Some(self.tell_known(line, noted, ticket, known))),
             None => Ok(None),

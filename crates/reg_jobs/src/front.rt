@@ -1,8 +1,9 @@
 //! A clock, ports and sockets.
 
 use crate::copying::Uncopied;
-use mio::net::{TcpListener, UnixListener, UnixStream as UnwaitingStream};
+use mio::net::{TcpListener, UnixListener};
 use reg_core::{Fault, Moment};
+use reg_signer::Asking;
 use std::io;
 use std::os::unix::net::UnixStream;
 
@@ -10,8 +11,9 @@ use std::os::unix::net::UnixStream;
 /// Who is handed no more than this can tell only by a call of it that a moment is one of the clock, that a port was bound, that a socket
 /// was laid or met, that a line was given to standard error, and that a copy was laid.
 pub trait Front {
-    ghost use Rattle.std.specs.Prelude.{◌≡◌, ℕ, List, OnOk, IfOk, IfErr, IfSome};
+    ghost use Rattle.std.specs.Prelude.{◌≡◌, ℕ, List, [], OnOk, IfOk, IfErr, IfSome};
     ghost use Rattle.reg_jobs.specs.RegisterFailures.{IsOfStore};
+    ghost use Rattle.reg_signer.specs.Asking.{IsAsking};
 
     /// The clock told this moment.
     ghost told: { ℕ → Type 0 };
@@ -81,16 +83,18 @@ pub trait Front {
     /// # Errors
     ///
     /// `WouldBlock` where the socket has no room for one more; what else the system says where nothing can be asked there.
-    fn ask(&self, path: &str, message: &[u8]) -> io::Result<UnwaitingStream>
-        ensures { OnOk result (asked path.now message.now) };
+    fn ask(&self, path: &str, message: &[u8]) -> io::Result<Asking>
+        ensures asked { OnOk result (asked path.now message.now) }
+        ensures kept { IfOk result (IsAsking path.now message.now) };
 
-    /// Connects to the socket at a path, and waits for nothing.
+    /// Connects to the socket at a path, and waits for nothing. No message went out on the connection yet.
     ///
     /// # Errors
     ///
     /// `WouldBlock` where the socket has no room for one more; what else the system says where it can't be connected to.
-    fn reach(&self, path: &str) -> io::Result<UnwaitingStream>
-        ensures { OnOk result (reached path.now) };
+    fn reach(&self, path: &str) -> io::Result<Asking>
+        ensures reached { OnOk result (reached path.now) }
+        ensures kept { IfOk result (IsAsking path.now []) };
 
     /// Whether exchanges are told in a log.
     fn has_log(&self) -> bool;

@@ -1,23 +1,28 @@
 //! An OCSP answer that is left to be signed, and how it is finished.
 
-ghost use Rattle.std.specs.Prelude.{◌≡◌, ◌≤◌, [], IfSome, MatchOption, OnOk, length, option_map};
+ghost use Rattle.std.specs.Prelude.{◌≡◌, ◌≤◌, [], IfOk, IfSome, length, option_map};
 ghost use Rattle.reg_calls.specs.Items.{items_of};
 ghost use Rattle.reg_jobs.specs.Counted.{CountsFinished};
+ghost use Rattle.reg_jobs.specs.Deferring.{socket_for};
 ghost use Rattle.reg_jobs.specs.Exchanges.{Responded};
+ghost use Rattle.reg_jobs.specs.Given.{AtTold, GaveAt};
 ghost use Rattle.reg_jobs.specs.Leaving.{FinishesUnsigned, FinishedOf, IsSignatureOf, IsFinishedText};
+ghost use Rattle.reg_jobs.specs.WhoSigns.{answer_socket};
+ghost use Rattle.reg_signer.specs.Asking.{IsAsking};
 ghost use Rattle.reg_signer.specs.Forms.{HasForm};
 ghost use Rattle.reg_watch.specs.Exchanges.{request_route};
 
+use crate::deferring::{Wanted, socket_of};
 use crate::front::Front;
 use crate::logging::{log_answer, micros_since};
 use crate::place::Place;
 use crate::visiting::{TEXT_ROOM, response_of};
-use mio::net::UnixStream;
 use reg_core::{Memory, Moment};
 use reg_http::finish_one;
 use reg_ocsp::{Draft, slice_of};
-use reg_signer::has_form;
+use reg_signer::{Asking, has_form};
 use reg_watch::{Route, Tally, route_of};
+use reg_words::{Answerer, KeyHolder};
 use std::alloc::Global;
 use std::io;
 use std::io::ErrorKind;
@@ -79,16 +84,18 @@ fn kept_of<F: Front>(alloc: Global, front: &F, request: &[u8]) -> Vec<u8> {
     }
 }
 
-/// Asks who signs answers, at this socket, and waits for nothing.
+/// Asks what signs answers, as it was told, and waits for nothing.
 pub(crate) fn ask_for<F: Front>(
     front: &F,
-    signer: Option<&str>,
+    signer: &Option<KeyHolder<'_>>,
+    answerer: &Answerer<'_>,
     unsigned: &Unsigned,
-) -> io::Result<UnixStream>
-    ensures { MatchOption signer.entry (OnOk result ⊥) (λ path. OnOk result (F.asked path.now unsigned.now.draft.message)) }
+) -> io::Result<Asking>
+    ensures { IfOk result (λ asking. AtTold (answer_socket signer.now answerer.now)
+        (λ path. F.asked path unsigned.now.draft.message × IsAsking path unsigned.now.draft.message asking)) }
 {
-    match signer {
-        Some(path) => front.ask(path, unsigned.draft.message()),
+    match socket_of(signer, answerer, Wanted::Answer) {
+        Some(socket) => front.ask(socket, unsigned.draft.message()),
         None => Err(io::Error::from(ErrorKind::NotFound)),
     }
 }
@@ -97,12 +104,14 @@ pub(crate) fn ask_for<F: Front>(
 pub(crate) fn finish_logged<P: Place, F: Front>(
     alloc: Global,
     front: &F,
+    signer: &Option<KeyHolder<'_>>,
+    answerer: &Answerer<'_>,
     unsigned: Unsigned,
-    link: Option<UnixStream>,
+    link: Option<Asking>,
 ) -> Vec<u8>
-    ensures { FinishesUnsigned P.gave unsigned result.items }
+    ensures { FinishesUnsigned (GaveAt P.gave (answer_socket signer.now answerer.now)) unsigned result.items }
 {
-    let signature = signature_of::<P>(alloc, &unsigned.draft, link);
+    let signature = signature_of::<P>(alloc, signer, answerer, &unsigned.draft, link);
     let text = finish(alloc, &unsigned.draft, unsigned.moment, &signature);
     let micros = micros_since(front, unsigned.began);
     log_finished(alloc, front, micros, &unsigned, &text, signature.is_none());
@@ -114,13 +123,15 @@ pub(crate) fn finish_counted<P: Place, F: Front>(
     alloc: Global,
     front: &F,
     tally: &mut Tally,
+    signer: &Option<KeyHolder<'_>>,
+    answerer: &Answerer<'_>,
     unsigned: Unsigned,
-    link: Option<UnixStream>,
+    link: Option<Asking>,
 ) -> Vec<u8>
-    ensures finished { FinishesUnsigned P.gave unsigned result.items }
-    ensures counted { CountsFinished P.gave unsigned result.items tally.old tally.new }
+    ensures finished { FinishesUnsigned (GaveAt P.gave (answer_socket signer.now answerer.now)) unsigned result.items }
+    ensures counted { CountsFinished (GaveAt P.gave (answer_socket signer.now answerer.now)) unsigned result.items tally.old tally.new }
 {
-    let signature = signature_of::<P>(alloc, &unsigned.draft, link);
+    let signature = signature_of::<P>(alloc, signer, answerer, &unsigned.draft, link);
     let text = finish(alloc, &unsigned.draft, unsigned.moment, &signature);
     let micros = micros_since(front, unsigned.began);
     let is_unsigned = signature.is_none();
@@ -150,17 +161,52 @@ fn log_finished<F: Front>(
     );
 }
 
-/// The signature that came on a connection, where one did and it has the form of one by who is to sign.
-fn signature_of<P: Place>(alloc: Global, draft: &Draft, link: Option<UnixStream>) -> Option<Vec<u8>>
-    ensures signed { IsSignatureOf P.gave draft.now (option_map (λ signature. signature.items) result) }
+/// The signature of an answer that came on a connection, where one did and it has the form of one by who is to sign.
+fn signature_of<P: Place>(
+    alloc: Global,
+    signer: &Option<KeyHolder<'_>>,
+    answerer: &Answerer<'_>,
+    draft: &Draft,
+    link: Option<Asking>,
+) -> Option<Vec<u8>>
+    ensures signed { IsSignatureOf (GaveAt P.gave (answer_socket signer.now answerer.now)) draft.now (option_map (λ signature. signature.items) result) }
     ensures short { IfSome result (λ signature. length signature.items ≤ 4096) }
 {
-    let mut link = link?;
-    let answer = P::hear(alloc, &mut link, draft.message())?;
+    let answer = heard_for::<P>(
+        alloc,
+        signer,
+        answerer,
+        Wanted::Answer,
+        draft.message(),
+        link,
+    )?;
     if has_form(draft.algorithm(), draft.key(), &answer) {
         Some(answer)
     } else {
         None
+    }
+}
+
+/// What came on a connection, where what signs was asked on it, and for the answer to this message.
+pub(crate) fn heard_for<P: Place>(
+    alloc: Global,
+    signer: &Option<KeyHolder<'_>>,
+    answerer: &Answerer<'_>,
+    wanted: Wanted,
+    message: &[u8],
+    link: Option<Asking>,
+) -> Option<Vec<u8>>
+    ensures given { IfSome result (λ answer. GaveAt P.gave (socket_for signer.now answerer.now wanted) message.now answer.items) }
+    ensures short { IfSome result (λ answer. length answer.items ≤ 4096) }
+{
+    let socket = socket_of(signer, answerer, wanted)?;
+    let mut link = link?;
+    if !link.is_for(socket, message) {
+        return None;
+    }
+    match P::hear(alloc, &mut link) {
+        Some(answer) => Some(answer),
+        None => None,
     }
 }
 

@@ -4,13 +4,15 @@ ghost use Rattle.std.specs.Prelude.{◌≡◌, ◌⊎◌, ℕ, List, OnOk, IfErr
 ghost use Rattle.reg_calls.specs.Leads.{Leads};
 ghost use Rattle.reg_hub.specs.Exchange.{Input, Outcome};
 ghost use Rattle.reg_jobs.specs.Ends.{OpenAt};
+ghost use Rattle.reg_jobs.specs.Given.{GaveAt};
+ghost use Rattle.reg_jobs.specs.WhoSigns.{answer_socket};
 ghost use Rattle.reg_jobs.specs.declared.leaving.Unsigned.{Unsigned};
 ghost use Rattle.reg_jobs.specs.Serving.{OpenedAt, Opens, loopback};
 
 use crate::desks::OpenDesk;
 use crate::front::Front;
 use crate::place::Place;
-use crate::serve_job::{LOOPBACK, answers_at, crls_at, hub_over, serve_hub};
+use crate::serve_job::{LOOPBACK, hub_over, serve_hub};
 use reg_core::Fault;
 use reg_endings::Failure;
 use reg_hub::{Handler, Hub};
@@ -43,8 +45,8 @@ pub fn hold_open<'w, P: Place, F: Front, W: Write>(
         alloc,
         front,
         file: path,
-        signer: answers_at(signer, answerer),
-        crl_signer: crls_at(signer),
+        signer,
+        answerer,
         alone_since: None,
         tally: &tally,
         heard: &heard,
@@ -63,7 +65,9 @@ fn keep_open<P: Place, F: Front, W: Write>(
     writer: &mut W,
 ) -> Result<(), Failure>
     ensures { (inputs : List Input) × (outcomes : List (Outcome Unsigned))
-        × Leads P.Opened.is_clean P.Opened.stands (Opens P.Opened.signs P.gave F.told inputs outcomes) opened.old.office opened.new.office
+        × Leads P.Opened.is_clean P.Opened.stands
+        (Opens P.Opened.signs (GaveAt P.gave (answer_socket opened.old.signer.now opened.old.answerer.now)) F.told inputs outcomes)
+        opened.old.office opened.new.office
         × OpenedAt W.contents writer.old writer.new F.bound F.laid port counter.now inputs result }
 {
     let hub: Hub<OpenDesk<'_, '_, P, F>> = match hub_with_counter(rt, opened.front, port, counter) {

@@ -1,14 +1,13 @@
 //! A place where registers lie.
 
 use crate::deferring::Wanted;
-use mio::net::UnixStream;
 use reg_calls::OfficeOfRecords;
 use reg_core::{Fault, Label, Memory, Moment, Policy, Schedule};
 use reg_der::Issuer;
 use reg_endings::Failure;
 use reg_findings::Verdict;
 use reg_lists::{Cursor, Page};
-use reg_signer::Primed;
+use reg_signer::{Asking, Primed};
 use reg_tables::StoreFault;
 use reg_watch::Standing;
 use reg_words::{Answerer, KeyHolder};
@@ -25,11 +24,13 @@ pub trait Place {
     ghost use Rattle.reg_calls.specs.Signatories.{Signatory};
     ghost use Rattle.reg_endings.specs.declared.failure.Failure.{Failure as Failing};
     ghost use Rattle.reg_jobs.specs.RegisterFailures.{IsMaking, IsOfStore, IsOpening};
+    ghost use Rattle.reg_jobs.specs.Given.{WasGiven};
     ghost use Rattle.reg_jobs.specs.Identifiers.{Identifies};
     ghost use Rattle.reg_jobs.specs.Reasons.{HasLongest};
     ghost use Rattle.reg_jobs.specs.Schedules.{Reschedules};
     ghost use Rattle.reg_jobs.specs.WhoSigns.{Signing};
     ghost use Rattle.reg_crl.specs.Signing.{Identity};
+    ghost use Rattle.reg_signer.specs.Asking.{IsAsking};
     ghost use Rattle.reg_signer.specs.Forms.{HasForm};
     ghost use Rattle.reg_jobs.specs.Watched.{HasOpen, HasStanding};
     ghost use Rattle.reg_findings.specs.declared.verdict.Verdict.{Verdict as Verdicts};
@@ -74,13 +75,13 @@ pub trait Place {
     /// For this no audit was had of what lies at the path.
     ghost unaudited: { Self → List ℕ → Failing → Type 0 };
 
-    /// What holds a key gave this answer to this message.
-    ghost gave: { List ℕ → List ℕ → Type 0 };
+    /// What listens at this path gave this answer to this message.
+    ghost gave: { List ℕ → List ℕ → List ℕ → Type 0 };
 
-    /// What came for a message on the connection on which its answer was asked for, up to the end. `None` where that is not its end yet,
-    /// or is behind 4,096 bytes, and for want of memory.
-    fn hear(alloc: Global, link: &mut UnixStream, message: &[u8]) -> Option<Vec<u8>>
-        ensures given { IfSome result (λ answer. gave message.now answer.items) }
+    /// What came on a connection for the message that went out on it, up to the end. `None` where that is not its end yet, or is behind
+    /// 4,096 bytes, and for want of memory.
+    fn hear(alloc: Global, link: &mut Asking) -> Option<Vec<u8>>
+        ensures given { IfSome result (λ answer. (path message : List ℕ) → IsAsking path message link.old → gave path message answer.items) }
         ensures short { IfSome result (λ answer. length answer.items ≤ 4096) };
 
     /// Lays an empty file at a path where nothing lies, and no log either, in one step, so that of two who do so at once one
@@ -222,10 +223,10 @@ pub trait Place {
     fn crl_message(register: &mut Self::Opened, alloc: Global, now: Moment) -> Option<Vec<u8>>
         ensures { Leads Self.Opened.is_clean Self.Opened.stands (λ identity before after. after ≡ before) register.old register.new };
 
-    /// Has what is known of the next signature of a register that was opened taken for it: what the key's holder gave to a message, or that it
-    /// gave nothing. It is not asked then. `None` has it asked again.
+    /// Has what is known of the next signature of a register that was opened taken for it: what was given to a message by what holds the key,
+    /// or that nothing was. It is not asked then. `None` has it asked again.
     fn prime(register: &mut Self::Opened, wanted: Wanted, primed: Option<Primed>)
-        requires { IfSome primed (λ known. IfSome known.answer (λ answer. gave known.message.items answer.items)) }
+        requires { IfSome primed (λ known. IfSome known.answer (λ answer. WasGiven gave known.message.items answer.items)) }
         ensures { Leads Self.Opened.is_clean Self.Opened.stands (λ identity before after. after ≡ before) register.old register.new };
 
     /// Audits the register that lies at a path. It only reads, so the place is as it was: what lies at the path keeps each byte, nothing
@@ -261,7 +262,7 @@ pub trait Place {
     fn remove(&mut self, path: &str)
         ensures { removed self.old path.now self.new };
 
-    /// What holds a key gave is a signature, where it has the form of one.
-    ghost gave_signs: { (identity : Identity) (message answer : List ℕ) → gave message answer → HasForm identity answer
+    /// What was given is a signature, where it has the form of one.
+    ghost gave_signs: { (identity : Identity) (path message answer : List ℕ) → gave path message answer → HasForm identity answer
         → Self.Opened.signs identity message answer };
 }

@@ -5,9 +5,9 @@ ghost use Rattle.std.specs.Prelude.{◌≡◌, IfOk, MatchOption, OnErr};
 use crate::desks::NoTicket;
 use crate::entering::{tell_alone, tell_clocked};
 use crate::front::Front;
-use mio::net::UnixStream;
 use reg_calls::OfficeOfRecords;
 use reg_hub::{Crowd, Deferred, Given, Handler, HubFault, PeerFault};
+use reg_signer::Asking;
 use std::alloc::Global;
 use std::io;
 use std::io::ErrorKind;
@@ -43,17 +43,17 @@ impl<'a, O: OfficeOfRecords, F: Front> Handler for ClockedDesk<'a, O, F> {
 
     ghost defers = { λ s line t. t ≡ s };
 
-    ghost finishes = { λ ticket text. Unit {0} };
+    ghost finishes = { λ s ticket text. Unit {0} };
 
     fn answer(&mut self, _peer: SocketAddr, _request: &[u8]) -> Result<Given<NoTicket>, HubFault> {
         Err(HubFault)
     }
 
-    fn ask(&self, _ticket: &NoTicket) -> io::Result<UnixStream> {
+    fn ask(&self, _ticket: &NoTicket) -> io::Result<Asking> {
         Err(io::Error::from(ErrorKind::NotFound))
     }
 
-    fn finish(&self, _ticket: NoTicket, _link: Option<UnixStream>) -> Vec<u8>
+    fn finish(&self, _ticket: NoTicket, _link: Option<Asking>) -> Vec<u8>
         ensures { Unit {0} }
     {
         Vec::new(self.alloc)
@@ -69,7 +69,7 @@ impl<'a, O: OfficeOfRecords, F: Front> Handler for ClockedDesk<'a, O, F> {
         None
     }
 
-    fn reach(&self, _ticket: &NoTicket) -> io::Result<UnixStream> {
+    fn reach(&self, _ticket: &NoTicket) -> io::Result<Asking> {
         Err(io::Error::from(ErrorKind::NotFound))
     }
 
@@ -78,7 +78,7 @@ impl<'a, O: OfficeOfRecords, F: Front> Handler for ClockedDesk<'a, O, F> {
         line: &[u8],
         noted: &mut Vec<u8>,
         _deferred: Deferred<NoTicket>,
-        _link: Option<UnixStream>,
+        _link: Option<Asking>,
     ) -> Result<Option<Vec<u8>>, HubFault>
         ensures ok { IfOk result (λ told. MatchOption told (self.new ≡ self.old)
             (λ text. Leads O.is_clean O.stands
@@ -108,17 +108,17 @@ impl<O: OfficeOfRecords> Handler for LinedDesk<O> {
 
     ghost defers = { λ s line t. t ≡ s };
 
-    ghost finishes = { λ ticket text. Unit {0} };
+    ghost finishes = { λ s ticket text. Unit {0} };
 
     fn answer(&mut self, _peer: SocketAddr, _request: &[u8]) -> Result<Given<NoTicket>, HubFault> {
         Err(HubFault)
     }
 
-    fn ask(&self, _ticket: &NoTicket) -> io::Result<UnixStream> {
+    fn ask(&self, _ticket: &NoTicket) -> io::Result<Asking> {
         Err(io::Error::from(ErrorKind::NotFound))
     }
 
-    fn finish(&self, _ticket: NoTicket, _link: Option<UnixStream>) -> Vec<u8>
+    fn finish(&self, _ticket: NoTicket, _link: Option<Asking>) -> Vec<u8>
         ensures { Unit {0} }
     {
         Vec::new(self.alloc)
@@ -134,7 +134,7 @@ impl<O: OfficeOfRecords> Handler for LinedDesk<O> {
         None
     }
 
-    fn reach(&self, _ticket: &NoTicket) -> io::Result<UnixStream> {
+    fn reach(&self, _ticket: &NoTicket) -> io::Result<Asking> {
         Err(io::Error::from(ErrorKind::NotFound))
     }
 
@@ -143,7 +143,7 @@ impl<O: OfficeOfRecords> Handler for LinedDesk<O> {
         line: &[u8],
         noted: &mut Vec<u8>,
         _deferred: Deferred<NoTicket>,
-        _link: Option<UnixStream>,
+        _link: Option<Asking>,
     ) -> Result<Option<Vec<u8>>, HubFault>
         ensures ok { IfOk result (λ told. MatchOption told (self.new ≡ self.old)
             (λ text. Leads O.is_clean O.stands

@@ -4,6 +4,8 @@ ghost use Rattle.std.specs.Prelude.{◌≡◌, ◌≢◌, ◌⊎◌, ◌++◌, �
 ghost use Rattle.reg_calls.specs.Leads.{Leads};
 ghost use Rattle.reg_hub.specs.Exchange.{Input, Outcome, Handles, asked_in};
 ghost use Rattle.reg_jobs.specs.Ends.{SaysText, ServeAt};
+ghost use Rattle.reg_jobs.specs.Given.{GaveAt};
+ghost use Rattle.reg_jobs.specs.WhoSigns.{answer_socket};
 ghost use Rattle.reg_jobs.specs.declared.leaving.Unsigned.{Unsigned};
 ghost use Rattle.reg_jobs.specs.Serving.{Served, ServedAt, Serves, listening, loopback};
 ghost use Rattle.reg_wire.specs.RunsOfAnswers.{Answered};
@@ -42,27 +44,12 @@ pub fn serve<'w, P: Place, F: Front, W: Write>(
         office,
         alloc,
         front,
-        signer: answers_at(signer, answerer),
+        signer,
+        answerer,
     };
     let ending = serve_desk(rt, &mut served, port, requests, writer);
     place.close(path, served.office);
     ending
-}
-
-/// The socket of what signs OCSP answers, where what holds a key does: the responder's, or else the one that signs CRLs.
-pub(crate) fn answers_at<'w>(
-    signer: &Option<KeyHolder<'w>>,
-    answerer: &Answerer<'w>,
-) -> Option<&'w str> {
-    match answerer {
-        Answerer::Delegate { holder, .. } => Some(holder.socket.as_str()),
-        Answerer::Issuer { .. } => Some(signer.as_ref()?.socket.as_str()),
-    }
-}
-
-/// The socket of what signs CRLs, where what holds a key does.
-pub(crate) fn crls_at<'w>(signer: &Option<KeyHolder<'w>>) -> Option<&'w str> {
-    Some(signer.as_ref()?.socket.as_str())
 }
 
 /// Binds the port, tells it, and answers so many peers.
@@ -74,7 +61,9 @@ fn serve_desk<P: Place, F: Front, W: Write>(
     writer: &mut W,
 ) -> Result<(), Failure>
     ensures { (inputs : List Input) × (outcomes : List (Outcome Unsigned))
-        × Leads P.Opened.is_clean P.Opened.stands (Serves P.Opened.signs P.gave F.told inputs outcomes) served.old.office served.new.office
+        × Leads P.Opened.is_clean P.Opened.stands
+        (Serves P.Opened.signs (GaveAt P.gave (answer_socket served.old.signer.now served.old.answerer.now)) F.told inputs outcomes)
+        served.old.office served.new.office
         × ServedAt W.contents writer.old writer.new F.bound port requests inputs result }
 {
     let hub: Hub<ServedDesk<'_, '_, P, F>> = match hub_at(rt, served.front, port) {

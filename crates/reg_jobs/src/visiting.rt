@@ -2,6 +2,7 @@
 
 ghost use Rattle.std.specs.Prelude.{◌≡◌, ◌⊎◌, ◌↔◌, ◌<◌, [], IfOk, IsTrue, OnErr};
 ghost use Rattle.reg_hub.specs.Outcomes.{outcome_of};
+ghost use Rattle.reg_jobs.specs.Given.{WasGiven};
 ghost use Rattle.reg_jobs.specs.Leaving.{FinishesUnsigned, FinishesAt, Meets};
 ghost use Rattle.reg_calls.specs.Leads.{Leads};
 ghost use Rattle.reg_heads.specs.Response.{memory_text};
@@ -39,7 +40,7 @@ pub(crate) fn begin_now<P: Place, F: Front>(
     request: &[u8],
 ) -> Result<Given<Unsigned>, HubFault>
     ensures ok { IfOk result (λ given. Leads P.Opened.is_clean P.Opened.stands
-        (λ identity before after. Meets (FinishesUnsigned P.gave) (λ text. Exchange P.Opened.signs F.told identity before request.now text after)
+        (λ identity before after. Meets (FinishesUnsigned (WasGiven P.gave)) (λ text. Exchange P.Opened.signs F.told identity before request.now text after)
         (outcome_of given))
         office.old office.new) }
     ensures err { OnErr result (office.new ≡ office.old) }
@@ -61,7 +62,7 @@ pub(crate) fn visit_now<P: Place, F: Front>(
     request: &[u8],
 ) -> Result<Given<Unsigned>, HubFault>
     ensures ok { IfOk result (λ given. Leads P.Opened.is_clean P.Opened.stands
-        (λ identity before after. Meets (FinishesUnsigned P.gave) (λ text. Visit P.Opened.signs F.told identity before request.now text after)
+        (λ identity before after. Meets (FinishesUnsigned (WasGiven P.gave)) (λ text. Visit P.Opened.signs F.told identity before request.now text after)
         (outcome_of given))
         office.old office.new) }
     ensures err { OnErr result ((office.new ≡ office.old) × (tally.new ≡ tally.old)) }
@@ -82,7 +83,7 @@ fn begin_logged<P: Place, F: Front>(
     request: &[u8],
 ) -> Given<Unsigned>
     ensures { Leads P.Opened.is_clean P.Opened.stands
-        (λ identity before after. Meets (FinishesUnsigned P.gave) (λ text. ExchangeAt P.Opened.signs now identity before request.now text after)
+        (λ identity before after. Meets (FinishesUnsigned (WasGiven P.gave)) (λ text. ExchangeAt P.Opened.signs now identity before request.now text after)
         (outcome_of result))
         office.old office.new }
 {
@@ -114,7 +115,7 @@ fn visit_logged<P: Place, F: Front>(
     request: &[u8],
 ) -> Given<Unsigned>
     ensures moves { Leads P.Opened.is_clean P.Opened.stands
-        (λ identity before after. Meets (FinishesUnsigned P.gave) (λ text. VisitAt P.Opened.signs now identity before request.now text after)
+        (λ identity before after. Meets (FinishesUnsigned (WasGiven P.gave)) (λ text. VisitAt P.Opened.signs now identity before request.now text after)
         (outcome_of result))
         office.old office.new }
     ensures counted { (asked : Tallies) × IsRecounted tally.old asked
@@ -147,7 +148,7 @@ fn visit_at<P: Place>(
     request: &[u8],
 ) -> Given<Draft>
     ensures moves { Leads P.Opened.is_clean P.Opened.stands
-        (λ identity before after. Meets (λ draft text. FinishesAt P.gave draft now text)
+        (λ identity before after. Meets (λ draft text. FinishesAt (WasGiven P.gave) draft now text)
         (λ text. VisitAt P.Opened.signs now identity before request.now text after) (outcome_of result))
         office.old office.new }
     ensures recounted { IsRecounted tally.old tally.new }
@@ -168,7 +169,7 @@ fn open_at<P: Place>(
     request: &[u8],
 ) -> Given<Draft>
     ensures { Leads P.Opened.is_clean P.Opened.stands
-        (λ identity before after. Meets (λ draft text. FinishesAt P.gave draft now text)
+        (λ identity before after. Meets (λ draft text. FinishesAt (WasGiven P.gave) draft now text)
         (λ text. OpenExchangeAt P.Opened.signs now identity before request.now text after) (outcome_of result))
         office.old office.new }
 {
@@ -198,7 +199,7 @@ fn begin_at<P: Place>(
     request: &[u8],
 ) -> Given<Draft>
     ensures { Leads P.Opened.is_clean P.Opened.stands
-        (λ identity before after. Meets (λ draft text. FinishesAt P.gave draft now text)
+        (λ identity before after. Meets (λ draft text. FinishesAt (WasGiven P.gave) draft now text)
         (λ text. ExchangeAt P.Opened.signs now identity before request.now text after) (outcome_of result))
         office.old office.new }
 {
@@ -218,7 +219,7 @@ fn begin_in<P: Place>(
 ) -> Given<Draft>
     requires { text.items ≡ [] }
     ensures { Leads P.Opened.is_clean P.Opened.stands
-        (λ identity before after. Meets (λ draft text. FinishesAt P.gave draft now text)
+        (λ identity before after. Meets (λ draft text. FinishesAt (WasGiven P.gave) draft now text)
         (λ text. ExchangeAt P.Opened.signs now identity before request.now text after) (outcome_of result))
         office.old office.new }
 {

@@ -1,4 +1,5 @@
 pub mod Algorithms
+pub mod Asking
 pub mod Both
 pub mod Exchange
 pub mod Forms

@@ -1,7 +1,7 @@
 //! Who signs where there may be a key.
 
 ghost use Rattle.std.specs.Prelude.{◌≡◌, ◌<◌, ◌≤◌, Some, None, false, true, option_map, IfOk, IfSome, IsErrOf, OnOk, length};
-ghost use Rattle.std.specs.Option.{option_map_or};
+ghost use Rattle.std.specs.Option.{ForSome, option_map_or};
 ghost use Rattle.sha1.specs.Sha1.{sha1};
 ghost use Rattle.reg_signer.specs.Both.{digest};
 ghost use Rattle.reg_signer.specs.Forms.{identity_of};
@@ -65,7 +65,7 @@ impl<D: Device + Drop> KeyOrDigest<D> {
 
     /// Has what is known of the key's next signature taken for it, as [`DeviceSigner::prime`] does. A digest needs nothing.
     pub fn prime(&mut self, primed: Option<Primed>)
-        requires { IsPrimed D.gave primed }
+        requires { ForSome self.old.key (λ signer. IsPrimed (D.gave (D.place signer.device)) primed) }
         ensures same_identity { option_map_or (λ signer. identity_of signer.algorithm (D.public_key signer.device)) self.new.key digest
             ≡ option_map_or (λ signer. identity_of signer.algorithm (D.public_key signer.device)) self.old.key digest }
         ensures same_failures { option_map_or (λ signer. signer.failures) self.new.key self.new.failures

@@ -20,11 +20,11 @@ pub trait Device {
     // Under this key this is the answer to this message.
     ghost answers: { List ℕ → List ℕ → List ℕ → Type 0 };
 
-    // Others, who asked what the device asks, were given this answer to this message.
-    ghost gave: { List ℕ → List ℕ → Type 0 };
+    // Others, who asked what is at this place, were given this answer to this message.
+    ghost gave: { List ℕ → List ℕ → List ℕ → Type 0 };
 
     // What others were given is an answer, under any key.
-    ghost gave_answers: { (key message answer : List ℕ) → ∥ gave message answer ∥₁ → answers key message answer };
+    ghost gave_answers: { (key place message answer : List ℕ) → ∥ gave place message answer ∥₁ → answers key message answer };
 
     // Asked for the answer to this message, the device failed, and the device after it.
     ghost fails: { Self → List ℕ → Self → Type 0 };

@@ -38,8 +38,8 @@ pub trait Connector {
     // No connection could be made to what listens at the path, if anything does.
     ghost unconnected: { List ℕ → Type 0 };
 
-    // Over a connection that never waits, this message was answered so.
-    ghost gave: { List ℕ → List ℕ → Type 0 };
+    // Over a connection that never waits, what listens at the path answered this message so.
+    ghost gave: { List ℕ → List ℕ → List ℕ → Type 0 };
 
     /// Connects to what listens at a path.
     ///
@@ -90,11 +90,11 @@ impl<C: Connector> Device for SocketDevice<C> {
     // Some connection to what listens at some path took the message whole, and gave the answer until its end; or one that never waits did.
     ghost answers = { λ key message answer. ((path : List ℕ) × (link : C.Link) × C.connected path link
         × GivesBack C.Link.Read.remaining C.Link.Write.contents C.Link.DeviceConnection.finished link message answer)
-        ⊎ ∥ C.gave message answer ∥₁ };
+        ⊎ ((path : List ℕ) × ∥ C.gave path message answer ∥₁) };
 
     ghost gave = { C.gave };
 
-    ghost gave_answers = { λ key message answer given. inr given };
+    ghost gave_answers = { λ key place message answer given. inr (place, given) };
 
     // No connection could be made, or one was made and gave no answer.
     ghost fails = { λ it message after. C.unconnected (string_bytes it.path) ⊎ ((link : C.Link) × C.connected (string_bytes it.path) link) };
@@ -155,7 +155,7 @@ fn receive<R: Read>(reader: &mut R, room: &mut [u8]) -> Result<usize, DeviceFaul
 
 /// The answer that a reader gives up to its end. `None` where it fails, has not come to its end, or gives more than 4,096 bytes, and for
 /// want of memory.
-pub fn hear<R: Read>(alloc: Global, reader: &mut R) -> Option<Vec<u8>>
+pub(crate) fn hear<R: Read>(alloc: Global, reader: &mut R) -> Option<Vec<u8>>
     ensures came { IfSome result (λ answer. Consumes (R.remaining reader.old) (R.remaining reader.new) answer.items) }
     ensures ended { OnSome result (IsAtEnd (R.remaining reader.new)) }
     ensures short { IfSome result (λ answer. length answer.items ≤ 4096) }

@@ -29,7 +29,7 @@ pub struct DeviceSigner<D: Device> {
     failures: u64,
     /// What is known of the next signature, for which the device is not asked then.
     primed: Option<Primed>,
-    ghost came: { IsPrimed D.gave primed },
+    ghost came: { IsPrimed (D.gave (D.place device)) primed },
 }
 
 impl<D: Device + Drop> DeviceSigner<D> {
@@ -56,10 +56,10 @@ impl<D: Device + Drop> DeviceSigner<D> {
         })
     }
 
-    /// Has what is known of the next signature taken for it, whatever that is: what the device gave for a message when others asked it, or
-    /// that it gave nothing. The device is not asked then: for another message, too, that is a failure. `None` has it asked again.
+    /// Has what is known of the next signature taken for it, whatever that is: what the device gave for a message when others asked it where
+    /// it is, or that it gave nothing. The device is not asked then: for another message, too, that is a failure. `None` has it asked again.
     pub fn prime(&mut self, primed: Option<Primed>)
-        requires { IsPrimed D.gave primed }
+        requires { IsPrimed (D.gave (D.place self.old.device)) primed }
         ensures primed { self.new.primed ≡ primed }
         ensures same_device { self.new.device ≡ self.old.device }
         ensures same_algorithm { self.new.algorithm ≡ self.old.algorithm }
@@ -135,7 +135,8 @@ impl<D: Device + Drop> DeviceSigner<D> {
 
     /// A signature of the message: what is known of it, where that has the form of one.
     fn sign_primed(&mut self, primed: Primed, message: &[u8]) -> Result<Vec<u8>, SignFault>
-        requires { IsPrimed D.gave (Some primed) }
+        requires { IsPrimed (D.gave (D.place self.old.device)) (Some primed) }
+        ensures given { IfOk result (λ signature. ∥ D.gave (D.place self.old.device) message.now signature.items ∥₁) }
         ensures signed { IfOk result (λ signature. D.answers (D.public_key self.old.device) message.now signature.items
             × HasForm (identity_of self.old.algorithm (D.public_key self.old.device)) signature.items) }
         ensures short { IfOk result (λ signature. length signature.items ≤ 4096) }
@@ -200,6 +201,7 @@ impl<D: Device + Drop> Signer for DeviceSigner<D> {
             ≡ identity_of self.old.algorithm (D.public_key self.old.device) }
 
         ensures asked { self.old.primed ≡ None → IfOk result (λ signature. D.asked (D.place self.old.device) message.now signature.items) }
+        ensures given { ¬ (self.old.primed ≡ None) → IfOk result (λ signature. ∥ D.gave (D.place self.old.device) message.now signature.items ∥₁) }
         ensures same_place { D.place self.new.device ≡ D.place self.old.device }
 
         // Where the device is asked, a fault of it comes only where it failed, or its answer has not the form of a signature.

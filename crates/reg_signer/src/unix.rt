@@ -70,7 +70,7 @@ impl Connector for HostRuntime {
 
     ghost unconnected = { λ path. Unit {0} };
 
-    ghost gave = { λ message answer. Unit {0} };
+    ghost gave = { λ path message answer. Unit {0} };
 
     fn connect(&self, path: &str) -> Result<UnixLink, DeviceFault>
         ensures { Unit {0} }
@@ -95,13 +95,15 @@ impl DeviceConnection for UnwaitingStream {
     }
 }
 
-/// Asks what listens at a path for the answer to a message, and waits for nothing: the connection on which the answer will come, up to its
-/// end.
+/// Connects to the socket at a path, and sends what listens there the whole of a message, without waiting.
 ///
 /// # Errors
-/// `WouldBlock` where the socket has no room for one more connection. What else the system says: where nothing listens there, and where
-/// the message is not taken at once, as one of some hundred thousand bytes may be.
-pub fn ask_unwaiting(net: &impl Net, path: &str, message: &[u8]) -> io::Result<UnwaitingStream> {
+/// As [`crate::Asking::ask`].
+pub(crate) fn connect_and_send(
+    net: &impl Net,
+    path: &str,
+    message: &[u8],
+) -> io::Result<UnwaitingStream> {
     let mut link = UnwaitingStream::connect(net, path)?;
     match send(&mut link, message) {
         Ok(()) => Ok(link),

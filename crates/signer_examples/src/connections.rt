@@ -116,7 +116,7 @@ impl Connector for Peer {
 
     ghost unconnected = { λ path. Unit {0} };
 
-    ghost gave = { λ message answer. ⊥ };
+    ghost gave = { λ path message answer. ⊥ };
 
     fn connect(&self, path: &str) -> Result<Talk, DeviceFault>
         ensures { Unit {0} }

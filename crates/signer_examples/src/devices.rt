@@ -36,9 +36,9 @@ impl Device for Scripted {
 
     ghost answers = { λ key message answer. Unit {0} };
 
-    ghost gave = { λ message answer. Unit {0} };
+    ghost gave = { λ place message answer. Unit {0} };
 
-    ghost gave_answers = { λ key message answer given. tt };
+    ghost gave_answers = { λ key place message answer given. tt };
 
     ghost fails = { λ it message after. Unit {0} };
 
@@ -112,9 +112,9 @@ impl Device for Lasting {
 
     ghost answers = { λ key message answer. Unit {0} };
 
-    ghost gave = { λ message answer. Unit {0} };
+    ghost gave = { λ place message answer. Unit {0} };
 
-    ghost gave_answers = { λ key message answer given. tt };
+    ghost gave_answers = { λ key place message answer given. tt };
 
     ghost fails = { λ it message after. Unit {0} };
 

@@ -2,11 +2,12 @@
 
 use mio::net::{TcpListener, UnixListener, UnixStream as UnwaitingStream};
 use reg_hub::{Crowd, Deferred, Given, Handler, Hub, HubFault, PeerFault};
+use reg_signer::Asking;
 use std::alloc::{AllocError, Global};
 use std::cell::Cell;
 use std::fmt::Debug;
 use std::io::{ErrorKind, Read, Write};
-use std::net::{Ipv4Addr, Shutdown, SocketAddr, TcpStream};
+use std::net::{Ipv4Addr, SocketAddr, TcpStream};
 use std::os::unix::net::UnixStream;
 use std::test::Fail;
 use std::time::{Clock, Duration};
@@ -65,7 +66,7 @@ impl Handler for Echo {
 
     ghost defers = { λ _ _ _. Unit {0} };
 
-    ghost finishes = { λ _ _. Unit {0} };
+    ghost finishes = { λ _ _ _. Unit {0} };
 
     fn answer(&mut self, peer: SocketAddr, request: &[u8]) -> Result<Given<Vec<u8>>, HubFault> {
         self.last = Some(peer);
@@ -75,21 +76,18 @@ impl Handler for Echo {
         }
     }
 
-    fn ask(&self, ticket: &Vec<u8>) -> io::Result<UnwaitingStream> {
+    fn ask(&self, ticket: &Vec<u8>) -> io::Result<Asking> {
         match self.signer {
-            Some(path) => ask_at(&self.rt, path, ticket),
+            Some(path) => Asking::ask(&self.rt, path, ticket),
             None => Err(io::Error::from(ErrorKind::WouldBlock)),
         }
     }
 
-    fn finish(&self, ticket: Vec<u8>, link: Option<UnwaitingStream>) -> Vec<u8>
+    fn finish(&self, ticket: Vec<u8>, link: Option<Asking>) -> Vec<u8>
         ensures { Unit {0} }
     {
         let mut text = ticket;
-        if let Some(mut link) = link {
-            // What can't be read is left out.
-            let _ = link.read_to_end(&mut text);
-        }
+        self.add_answer(&mut text, link);
         text
     }
 
@@ -116,9 +114,9 @@ impl Handler for Echo {
         }
     }
 
-    fn reach(&self, _ticket: &Vec<u8>) -> io::Result<UnwaitingStream> {
+    fn reach(&self, _ticket: &Vec<u8>) -> io::Result<Asking> {
         match self.signer {
-            Some(path) => UnwaitingStream::connect(&self.rt, path),
+            Some(path) => Asking::reach(&self.rt, path),
             None => Err(io::Error::from(ErrorKind::WouldBlock)),
         }
     }
@@ -128,7 +126,7 @@ impl Handler for Echo {
         line: &[u8],
         noted: &mut Vec<u8>,
         _deferred: Deferred<Vec<u8>>,
-        link: Option<UnwaitingStream>,
+        link: Option<Asking>,
     ) -> Result<Option<Vec<u8>>, HubFault>
         ensures ok { IfOk result (λ told. MatchOption told (Unit {0}) (λ text. Unit {0})) }
         ensures err { OnErr result ((self.new ≡ self.old) × (noted.new ≡ noted.old)) }
@@ -138,10 +136,7 @@ impl Handler for Echo {
             Ok(text) => text,
             Err(_) => Vec::new(self.alloc),
         };
-        if let Some(mut link) = link {
-            // What can't be read is left out.
-            let _ = link.read_to_end(&mut text);
-        }
+        self.add_answer(&mut text, link);
         Ok(Some(text))
     }
 
@@ -150,14 +145,6 @@ impl Handler for Echo {
     }
 
     fn hold(&self, _crowd: Crowd) {}
-}
-
-/// Asks what signs at a path for the signature of a message.
-fn ask_at(rt: &HostRuntime, path: &str, message: &[u8]) -> io::Result<UnwaitingStream> {
-    let mut link = UnwaitingStream::connect(rt, path)?;
-    link.write_all(message)?;
-    link.shutdown(Shutdown::Write)?;
-    Ok(link)
 }
 
 /// What a request comes to, by the text of its answer.
@@ -190,6 +177,15 @@ impl Echo {
             self.add_more(&mut text)?;
         }
         Ok(text)
+    }
+
+    /// Adds what came on a connection. What can't be read is left out.
+    fn add_answer(&self, text: &mut Vec<u8>, link: Option<Asking>) {
+        if let Some(mut link) = link {
+            if let Some(answer) = link.answer(self.alloc) {
+                let _ = text.extend_from_slice(&answer);
+            }
+        }
     }
 
     fn add_more(&self, text: &mut Vec<u8>) -> Result<(), AllocError> {

@@ -1,8 +1,11 @@
 use Rattle.std.proofs.Common.{[], inl, inr, refl}
 use Rattle.reg_faces.proofs.ComposedCalls.{stays}
-use Rattle.reg_jobs.specs.Exchanges.{NoEntry, Unmoved}
+use Rattle.reg_jobs.specs.Exchanges.{Exchange, NoEntry, Unmoved}
+use Rattle.reg_jobs.specs.Given.{GaveAt}
 use Rattle.reg_jobs.specs.Serving.{Exchanging}
+use Rattle.reg_jobs.specs.WhoSigns.{answer_socket}
 use Rattle.reg_jobs.proofs.Fates.{unbound}
+use Rattle.reg_jobs.proofs.Finishing.{told_moves}
 use Rattle.reg_jobs.proofs.Peers.{exchanges_move}
 use Rattle.reg_jobs.proofs.serve_job.serve_desk.Goals as goal
 
@@ -16,7 +19,8 @@ returns-in-Err g c = (
 
 pub returns : goal.returns
 returns g c =
-    let ran = rw c.from.ensures at c.serve_hub.ensures in (
+    let ran = rw c.from.ensures at c.serve_hub.ensures in
+    let told = answer_socket c.args.served.now.signer.now c.args.served.now.answerer.now in (
       ran.0,
       ran.1,
       exchanges_move
@@ -25,10 +29,13 @@ returns g c =
           _
           _
           _
-          (Exchanging g.P.Opened.OfficeOfRecords.signs g.P.Place.gave g.F.Front.told)
+          (Exchanging g.P.Opened.OfficeOfRecords.signs (GaveAt g.P.Place.gave told) g.F.Front.told)
           (λ identity. NoEntry)
           (λ identity. Unmoved)
-          (λ s came outcome t moved. moved)
+          (λ s came outcome t moved. told_moves g.P.Opened.OfficeOfRecords.is_clean g.P.Opened.OfficeOfRecords.stands s.office t.office g.P.Place.gave told
+          (λ identity before after text. Exchange g.P.Opened.OfficeOfRecords.signs g.F.Front.told identity before came text after)
+          outcome
+          moved)
           (λ s came text t never. absurd never)
           (λ s came t same. stays
           (λ served. g.P.Opened.OfficeOfRecords.is_clean served.office)

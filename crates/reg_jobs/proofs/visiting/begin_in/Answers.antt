@@ -1,12 +1,15 @@
 use Rattle.std.proofs.Common.{ℕ, Global, Vec}
 use Rattle.std.specs.Prelude.{Ok, Err}
+use Rattle.reg_jobs.specs.Given.{WasGiven}
 use Rattle.reg_jobs.proofs.Finishing.{left_moves}
 use Rattle.reg_jobs.proofs.Peers.{exchange_over}
 use Rattle.reg_jobs.proofs.visiting.begin_in.Goals as goal
 
 pub returns-in-Ok-Some : goal.returns-in-Ok-Some
 returns-in-Ok-Some g c =
-    left_moves g.P.Opened.OfficeOfRecords.signs g.P.Place.gave g.met.P.Place.gave_signs g.P.Opened.OfficeOfRecords.is_clean g.P.Opened.OfficeOfRecords.stands c.args.now _ _
+    left_moves g.P.Opened.OfficeOfRecords.signs (WasGiven g.P.Place.gave)
+    (λ identity message answer given form. g.met.P.Place.gave_signs identity given.0 message answer given.1 form)
+    g.P.Opened.OfficeOfRecords.is_clean g.P.Opened.OfficeOfRecords.stands c.args.now _ _
     c.args.request.now _ _ _ _ (rw c.in-Ok-Some.field-0-is at c.in-Ok-Some.ensures.ends)
 
 pub returns-in-Ok-None : goal.returns-in-Ok-None

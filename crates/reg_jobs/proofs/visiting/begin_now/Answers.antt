@@ -1,12 +1,13 @@
 use Rattle.reg_hub.specs.Outcomes.{outcome_of}
 use Rattle.reg_jobs.specs.Exchanges.{Exchange, ExchangeAt}
+use Rattle.reg_jobs.specs.Given.{WasGiven}
 use Rattle.reg_jobs.specs.Leaving.{FinishesUnsigned}
 use Rattle.reg_jobs.proofs.Finishing.{weaker_moves}
 use Rattle.reg_jobs.proofs.visiting.begin_now.Goals as goal
 
 pub returns-in-Ok-clause-ok : goal.returns-in-Ok-clause-ok
 returns-in-Ok-clause-ok g c =
-    weaker_moves g.P.Opened.OfficeOfRecords.is_clean g.P.Opened.OfficeOfRecords.stands _ _ (FinishesUnsigned g.P.Place.gave)
+    weaker_moves g.P.Opened.OfficeOfRecords.is_clean g.P.Opened.OfficeOfRecords.stands _ _ (FinishesUnsigned (WasGiven g.P.Place.gave))
     (λ identity before after text. ExchangeAt g.P.Opened.OfficeOfRecords.signs c.in-Ok.now identity before c.args.request.now text after)
     (λ identity before after text. Exchange g.P.Opened.OfficeOfRecords.signs g.F.Front.told identity before c.args.request.now text after)
     (λ identity before after text exchanged. (c.in-Ok.now, c.in-Ok.ensures.told, exchanged))

@@ -2,6 +2,7 @@ use Rattle.std.proofs.Common.{◌≡◌, inl, inr, refl}
 use Rattle.reg_hub.specs.Outcomes.{outcome_of}
 use Rattle.reg_faces.proofs.ComposedCalls.{follows}
 use Rattle.reg_jobs.specs.Exchanges.{OpenExchangeAt}
+use Rattle.reg_jobs.specs.Given.{WasGiven}
 use Rattle.reg_jobs.specs.Leaving.{FinishesAt}
 use Rattle.reg_jobs.specs.Watched.{TellsItself, VisitAt}
 use Rattle.reg_jobs.proofs.Finishing.{weaker_moves}
@@ -20,7 +21,7 @@ returns-in-Ok-Some-clause-moves g c =
 
 pub returns-in-Ok-None-clause-moves : goal.returns-in-Ok-None-clause-moves
 returns-in-Ok-None-clause-moves g c =
-    weaker_moves g.P.Opened.OfficeOfRecords.is_clean g.P.Opened.OfficeOfRecords.stands _ _ (λ draft text. FinishesAt g.P.Place.gave draft c.args.now text)
+    weaker_moves g.P.Opened.OfficeOfRecords.is_clean g.P.Opened.OfficeOfRecords.stands _ _ (λ draft text. FinishesAt (WasGiven g.P.Place.gave) draft c.args.now text)
     (λ identity before after text. OpenExchangeAt g.P.Opened.OfficeOfRecords.signs c.args.now identity before c.args.request.now text after)
     (λ identity before after text. VisitAt g.P.Opened.OfficeOfRecords.signs c.args.now identity before c.args.request.now text after)
     (λ identity before after text answered. inl answered)

@@ -1,4 +1,5 @@
 use Rattle.std.proofs.Common.{List, ℕ, ap, refl, ◌∙◌}
+use Rattle.reg_jobs.specs.Given.{WasGiven}
 use Rattle.reg_jobs.specs.Watched.{VisitAt}
 use Rattle.reg_jobs.proofs.Finishing.{kept_moves}
 use Rattle.reg_watch.specs.Exchanges.{request_route}
@@ -10,7 +11,7 @@ pub returns-in-Left-clause-moves : goal.returns-in-Left-clause-moves
 returns-in-Left-clause-moves g c =
     kept_moves g.P.Opened.OfficeOfRecords.is_clean g.P.Opened.OfficeOfRecords.stands _ _
     (λ identity before after text. VisitAt g.P.Opened.OfficeOfRecords.signs c.args.now identity before c.args.request.now text after)
-    c.args.now g.P.Place.gave c.in-Left.draft c.unsigned_of.result c.unsigned_of.ensures.draft c.unsigned_of.ensures.moment
+    c.args.now (WasGiven g.P.Place.gave) c.in-Left.draft c.unsigned_of.result c.unsigned_of.ensures.draft c.unsigned_of.ensures.moment
     (rw c.in-Left.is at c.visit_at.ensures.moves)
 
 pub returns-in-Left-clause-counted : goal.returns-in-Left-clause-counted

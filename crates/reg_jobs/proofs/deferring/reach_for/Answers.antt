@@ -1,0 +1,9 @@
+use Rattle.std.proofs.Common.{[]}
+use Rattle.reg_jobs.proofs.Finishing.{asked_at}
+use Rattle.reg_signer.specs.Asking.{IsAsking}
+use Rattle.reg_jobs.proofs.deferring.reach_for.Goals as goal
+
+pub returns-in-Some : goal.returns-in-Some
+returns-in-Some g c =
+    asked_at _ c.in-Some.socket.now g.F.Front.reached (λ path. IsAsking path []) c.reach.result c.socket_of.ensures
+    c.reach.ensures.reached c.reach.ensures.kept

@@ -1,0 +1,9 @@
+use Rattle.reg_jobs.proofs.Finishing.{asked_at}
+use Rattle.reg_signer.specs.Asking.{IsAsking}
+use Rattle.reg_jobs.proofs.leaving.ask_for.Goals as goal
+
+pub returns-in-Some : goal.returns-in-Some
+returns-in-Some g c =
+    let message = c.args.unsigned.now.draft.message in
+    asked_at _ c.in-Some.socket.now (λ path. g.F.Front.asked path message) (λ path. IsAsking path message) c.ask.result c.socket_of.ensures
+    c.ask.ensures.asked c.ask.ensures.kept
