@@ -1,24 +1,18 @@
 -- What is held of what came, and what is sent of a text, one step after the other.
-use Rattle.std.proofs.Common.{◌≡◌, ℕ, Bool, ◌+◌, ◌-◌, ◌≤◌, List, [], ◌∷◌, ◌++◌, length, take, drop, refl, sym, subst, ap, ◌∙◌, arith, take-append-drop}
+use Rattle.std.proofs.Common.{◌≡◌, ℕ, ◌+◌, ◌-◌, ◌≤◌, List, [], ◌++◌, length, take, drop, sym, subst, ap, ◌∙◌, arith, take-append-drop}
 use Rattle.std.specs.Prelude.{Option, None, Some, MatchOption}
-use Rattle.std.specs.Io.KnownBytes.{Appends, Consumes}
+use Rattle.std.specs.Io.KnownBytes.{Appends}
 use Rattle.std.proofs.KnownBytes.{Appends-trans, Consumes-trans}
-use Rattle.std.proofs.lemmas.List.{append-nil, append_assoc, drop-drop, take-take, take_all}
+use Rattle.std.proofs.lemmas.List.{append_assoc, drop-drop, take-take, take_all}
 use Rattle.reg_wire.specs.Mark.{EndsWith, FirstMark, HasNoMark}
 use Rattle.reg_wire.proofs.PublicLaws.{no_mark_in_front}
-use Rattle.reg_hub.proofs.Gatherings.{gathers_taken, goes_on}
-use Rattle.reg_heads.specs.Bytes.{collected_bytes}
-use Rattle.reg_hub.specs.CounterLines.{Gathers}
-use Rattle.reg_hub.specs.Stages.{HoldsAnswer, HoldsRest, IsDropped, Sends, TakesMore}
+use Rattle.reg_hub.specs.Stages.{HoldsAnswer, HoldsRest, IsDropped, Sends}
 use Rattle.reg_hub.specs.Held.{AddsTo, TakesIn, SendsOn}
-use Rattle.reg_hub.specs.Unsent.{unsent_of}
 use Rattle.reg_hub.specs.declared.http_peer.Stage.{Stage}
 use Rattle.reg_hub.specs.declared.http_peer.Stage.TheVariants as stage
 use Rattle.reg_hub.specs.declared.taking.Taken.{Taken}
 use Rattle.reg_hub.specs.declared.taking.Taken.TheVariants as taken
-use Rattle.reg_hub.specs.declared.unsent.Unsent.{Unsent}
 use Rattle.reg_hub.specs.declared.unsent.Sent.{Sent}
-use Rattle.reg_heads.specs.declared.collected.Collected.{Collected}
 use Rattle.reg_hub.specs.declared.unsent.Sent.TheVariants as sent
 
 -- bytes that came before stand before those that came then
@@ -74,23 +68,6 @@ found_or_none bytes mark (Some end) found = found.1
 -- some were dropped, and then others
 pub dropped_then : (a b c : Option (List ℕ)) → IsDropped a b → IsDropped b c → IsDropped a c
 dropped_then a b c first rest = (first.0 ++ rest.0, Consumes-trans a b c first.0 rest.0 first.1 rest.1)
-
--- a taking in, of a peer that asks and of whose request more is waited for
-pub takes_asking : {S : Type 0} (T : Type 0) (remaining : S → Option (List ℕ)) (s t : S) (c c' : Collected) (rests : Taken) (ended ended' : Bool)
-    → TakesIn (remaining s) (remaining t) (collected_bytes c) (collected_bytes c') rests → ended ≡ false → (rests ≡ taken.Lost → ended' ≡ true)
-    → TakesMore {T = T} remaining s t (stage.Asking c) (stage.Asking c') ended ended'
-takes_asking T remaining s t c c' rests ended ended' took goes lost bytes is = (
-  collected_bytes c',
-  refl,
-  subst (λ (l : List ℕ). Gathers (remaining s) (remaining t) l (collected_bytes c') ended') (sym is) (gathers_taken _ _ _ _ rests ended' lost took),
-  λ ends. absurd (goes_on ended goes ends),
-)
-
--- a sending, to a peer that is answered
-pub sends_answering : {S : Type 0} (T : Type 0) (contents : S → Option (List ℕ)) (s t : S) (u u' : Unsent) (exact exact' : Bool) (rests : Sent)
-    → SendsOn (contents s) (contents t) (unsent_of u) (unsent_of u') rests
-    → Sends {T = T} contents s t (stage.Answering u exact) (stage.Answering u' exact')
-sends_answering T contents s t u u' exact exact' rests on text is = (on.went, unsent_of u', is ∙ on.parted, on.appended, refl)
 
 -- where nothing is left of an answer that is held, that is the rest
 none_left : {T : Type 0} (at : Stage T) (rest : List ℕ) → HoldsRest at rest → HoldsAnswer at [] → rest ≡ []

@@ -1,7 +1,7 @@
 -- What a connection was, from when it was accepted, step by step.
 use Rattle.std.proofs.Common.{◌≡◌, ℕ, Bool, List, [], ◌∷◌, ◌++◌, ◌⊎◌, take, drop, refl, sym, subst, ap, ◌∙◌, inl, inr, take-append-drop}
 use Rattle.std.specs.Prelude.{Option, true, false}
-use Rattle.std.specs.List.{AllZip, concat}
+use Rattle.std.specs.List.{concat}
 use Rattle.std.proofs.lemmas.List.{append-nil, append_assoc}
 use Rattle.std.proofs.lemmas.List.Elements.{AllZip-push}
 use Rattle.std.proofs.lemmas.List.Folds.{concat-append}

@@ -1,5 +1,5 @@
--- A connection as a whole, from when it was accepted: the lines that were told at a counter, and the request of a peer that was answered. Where
--- the peer, the connection or memory fails, what came behind may be lost, and what is unsent stays so; of neither is anything told again.
+-- A connection as a whole, from when it was accepted: which lines were told at a counter, and what of a peer was answered. Where it ends early,
+-- since it failed or there was no memory, what is behind is not told, and what is unsent is not sent; nothing is told or sent twice.
 use Rattle.std.specs.Prelude.{◌≡◌, ◌≢◌, ◌⊎◌, ℕ, Bool, true, List, [], ◌∷◌, ◌++◌}
 use Rattle.std.specs.declared.option.Option.{Option}
 use Rattle.std.specs.Io.KnownBytes.{Appends, Consumes}
@@ -7,7 +7,7 @@ use Rattle.std.specs.List.{All, AllZip, concat}
 use Rattle.reg_heads.specs.Bytes.{collected_bytes}
 use Rattle.reg_hub.specs.Exchange.{Outcome, said, pending}
 use Rattle.reg_hub.specs.CounterLines.{Advances}
-use Rattle.reg_hub.specs.Stages.{Drops, HasAsked, Sends, TakesMore}
+use Rattle.reg_hub.specs.Stages.{Drops, Sends, TakesMore}
 use Rattle.reg_hub.specs.Unsent.{unsent_of}
 use Rattle.reg_hub.specs.declared.http_peer.Stage.{Stage}
 use Rattle.reg_hub.specs.declared.http_peer.Stage.TheVariants as stage
@@ -72,7 +72,7 @@ IsAnsweredOnce answers finishes came gone (stage.Waiting ticket link exact) ende
 IsAnsweredOnce answers finishes came gone (stage.Answering unsent exact) ended = WasAnswered answers finishes came (gone ++ unsent_of unsent)
 IsAnsweredOnce answers finishes came gone stage.Leaving ended = WasAnswered answers finishes came gone
 
--- a peer's connection at a stage, where no more of its request is waited for or is: it is answered once, by the bytes that came on it
+-- a peer's connection at a stage, of whose request no more is waited for (ended) or more may come: it is answered once
 pub record HasServed {S H T : Type 0} (contents remaining : S → Option (List ℕ)) (answers : H → List ℕ → Outcome T → H → Type 0)
     (finishes : T → List ℕ → Type 0) (first now : S) (at : Stage T) (ended : Bool) : Type 0 where
   pub came : List ℕ

@@ -1,6 +1,6 @@
 //! One peer, which is answered once.
 
-ghost use Rattle.std.specs.Prelude.{◌≡◌, ◌≤◌, ◌+◌, [], OnOk, OnErr, is_some, IsSome};
+ghost use Rattle.std.specs.Prelude.{◌≡◌, ◌≤◌, ◌+◌, [], OnOk, OnErr, is_some, IsSome, false};
 ghost use Rattle.reg_hub.specs.Stages.{Answering, Drops, Finishing, HasAsked, HoldsAnswer, IsDropped, TakesMore, Sends, WaitsOn};
 ghost use Rattle.reg_hub.specs.Exchange.{Exchanged};
 

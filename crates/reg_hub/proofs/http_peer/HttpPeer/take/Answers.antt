@@ -1,6 +1,5 @@
 use Rattle.std.proofs.Common.{refl}
 use Rattle.reg_hub.proofs.Gatherings.{gathers_none}
-use Rattle.reg_hub.proofs.Holdings.{takes_asking}
 use Rattle.reg_hub.proofs.http_peer.HttpPeer.take.Goals as goal
 
 pub returns-then-is_some : goal.returns-then-is_some

@@ -1,0 +1,13 @@
+use Rattle.std.proofs.Common.{ℕ, List, refl, subst}
+use Rattle.reg_signer.proofs.signer.DeviceSigner.sign_primed.Goals as goal
+
+pub returns-clause-signed : goal.returns-clause-signed
+returns-clause-signed g c =
+    let key = g.D.Device.public_key c.args.self.now.device in
+    let place = g.D.Device.place c.args.self.now.device in
+    let P : List ℕ → Type 0 = λ message. ∥ g.D.Device.gave place message c.in-Some.answer.items ∥₁ in
+    let given : P c.args.message.now = subst P c.in-Some.ensures.1 (c.requires c.args.primed refl c.in-Some.answer c.in-Some.ensures.0) in
+    let form = rw c.deref.ensures.value at c.if-not-is_signature.ensures in (
+      g.D.Device.gave_answers key place c.args.message.now c.in-Some.answer.items given,
+      record { algorithm = c.args.self.now.algorithm; named = refl; form = form.0 },
+    )
