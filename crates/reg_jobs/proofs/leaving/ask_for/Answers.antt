@@ -5,5 +5,6 @@ use Rattle.reg_jobs.proofs.leaving.ask_for.Goals as goal
 pub returns-in-Some : goal.returns-in-Some
 returns-in-Some g c =
     let message = c.args.unsigned.now.draft.message in
-    asked_at _ c.in-Some.socket.now (λ path. g.F.Front.asked path message) (λ path. IsAsking path message) c.ask.result c.socket_of.ensures
-    c.ask.ensures.asked c.ask.ensures.kept
+    let told = rw c.in-Some.is at c.socket_of.ensures in
+    asked_at _ c.in-Some.socket.now (λ path. g.F.Front.asked path message) (λ path. IsAsking path message) c.ask.result told
+    (rw c.message.ensures at c.ask.ensures.asked) (rw c.message.ensures at c.ask.ensures.kept)
