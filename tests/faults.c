@@ -1,6 +1,7 @@
 /* Loaded before `desk` (LD_PRELOAD), puts faults into it from outside. What it does is told by variables, which are read once:
 
    FAULTS_CLOCK=PATH       the machine's clock is what the file PATH has: decimal seconds since 1970. The real one where there is none.
+   FAULTS_PASSED=PATH      the time that passes, by which waiting ends, is what the file PATH has: milliseconds, in 8 bytes.
    FAULTS_FAIL=KIND:N ..   the Nth call of KIND fails, parted by commas; `KIND:N+` all from the Nth on, `KIND:N=EIO` by that error, and a
                            read or write by `=0` moves nothing. Kinds: see `names` below. Allocations count from `main` on.
    FAULTS_SHORT=N          reads and writes move N bytes at most.
@@ -51,7 +52,7 @@ void *__libc_realloc(void *, size_t);
 void *__libc_memalign(size_t, size_t);
 
 static int ready, begun;
-static uint64_t counted_here[COUNTS], *counts = counted_here;
+static uint64_t counted_here[COUNTS], *counts = counted_here, *passed;
 static struct { uint64_t from; int after, error; } fails[KINDS];
 static uint64_t stop_at, most, lose;
 static int torn, lose_files, same, quick;
@@ -97,6 +98,18 @@ static void read_fails(const char *text) {
     }
 }
 
+/* The numbers that a file has, without a descriptor: what is written to either is in the other. */
+static uint64_t *numbers_of(const char *path, int how, size_t size) {
+    int file = syscall(SYS_openat, AT_FDCWD, path, O_RDWR | O_CLOEXEC | how, 0600);
+    if (file < 0 || syscall(SYS_ftruncate, file, size))
+        not_understood(path);
+    void *shared = mmap(NULL, size, PROT_READ | PROT_WRITE, MAP_SHARED, file, 0);
+    if (shared == MAP_FAILED)
+        not_understood(path);
+    syscall(SYS_close, file);
+    return shared;
+}
+
 static uint64_t number(const char *name) {
     const char *text = getenv(name);
     return text ? strtoull(text, NULL, 10) : 0;
@@ -109,15 +122,10 @@ __attribute__((constructor)) static void at_first(void) {
     torn = number("FAULTS_TORN") != 0, lose_files = number("FAULTS_LOSE_FILES") != 0, same = number("FAULTS_SAME") != 0;
     quick = number("FAULTS_QUICK") != 0;
     only = getenv("FAULTS_ONLY");
-    if (path) {
-        int file = syscall(SYS_openat, AT_FDCWD, path, O_RDWR | O_CREAT | O_TRUNC | O_CLOEXEC, 0600);
-        if (file < 0 || syscall(SYS_ftruncate, file, sizeof counted_here))
-            not_understood(path);
-        void *shared = mmap(NULL, sizeof counted_here, PROT_READ | PROT_WRITE, MAP_SHARED, file, 0);
-        if (shared != MAP_FAILED)
-            counts = shared;
-        syscall(SYS_close, file);
-    }
+    if (path)
+        counts = numbers_of(path, O_CREAT | O_TRUNC, sizeof counted_here);
+    if ((path = getenv("FAULTS_PASSED")))
+        passed = numbers_of(path, 0, sizeof *passed);
     ready = 1;
 }
 
@@ -542,6 +550,11 @@ static int seconds_told(time_t *seconds) {
 
 int clock_gettime(clockid_t which, struct timespec *at) {
     time_t seconds;
+    if (which == CLOCK_MONOTONIC && passed) {
+        at->tv_sec = *passed / 1000;
+        at->tv_nsec = *passed % 1000 * 1000000;
+        return 0;
+    }
     if (which != CLOCK_REALTIME && which != CLOCK_REALTIME_COARSE)
         return syscall(SYS_clock_gettime, which, at);
     if (ready && fails_now(CLOCK))

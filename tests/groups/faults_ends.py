@@ -132,6 +132,21 @@ def a_call_of_the_signer_s_socket_fails(t, kind, how):
     t.true(told >= 4, f"only {told} signatures failed")
 
 
+@each({"a read": "read", "a write": "write"}, seconds=2)
+def a_signal_at_the_signer_s_socket_is_nothing(t, kind):
+    base = t.register("base.db", key=program.P256_KEY)
+    t.signer()
+    faults.copy(base, t.room / "ca.db")
+    whole, at, met = t.desk("script", "ca.db", *SIGNING, given=TEXT).out, 0, True
+    while met:
+        at += 1
+        faults.copy(base, t.room / "ca.db")
+        ran, count = faults.run(t, ["script", "ca.db", *SIGNING], TEXT, only="socket", fail=f"{kind}:{at}=EINTR")
+        met = count["met"]
+        t.same((ran.status, ran.out, ran.err), (0, whole, b""), f"{kind} {at}")
+    t.true(at > 4, f"only {at} rounds")
+
+
 AT = {
     "a read of standard input": ("stdin", "read:1", b"F4 read\n"),
     "a read behind the first": ("stdin", "read:2", b"F4 read\n"),

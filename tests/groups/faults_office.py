@@ -105,6 +105,14 @@ def a_write_to_a_peer_goes_wrong(t, request, response, entered):
             t.same((got, met, stand), (response[: at - 1], 1, entered), f"{where}: what the peer got, whether it was met, and what was entered")
 
 
+@each({"a read": "read", "a write": "write"}, seconds=2)
+def a_signal_at_a_peer_s_socket_is_nothing(t, kind):
+    base = t.register("base.db", text(REGISTERED))
+    for at in (1, 2, len(REQUEST)):
+        got, met, stand = served(t, base, REQUEST, f"{kind} {at}", short=1, fail=f"{kind}:{at}=EINTR")
+        t.same((got, met, stand), (ANSWER, 1, 1), f"{kind} {at}: what the peer got, whether it was met, and what was entered")
+
+
 @test(seconds=3)
 def pieces_of_any_size_are_the_same(t):
     base = t.register("base.db", text(REGISTERED))

@@ -6,8 +6,10 @@ import resource
 import socket
 import threading
 import time
+from concurrent.futures import ThreadPoolExecutor
 
 from lib.authority import until
+from lib.passing import Passing
 from lib.program import Counter, parted, read_all
 from lib.trial import Skipped, test
 
@@ -17,11 +19,18 @@ CRL = b"GET /crl/1 HTTP/1.1\r\nHost: localhost\r\n\r\n"
 LARGE = 12_000_000
 
 
-def opened(t, *words, command="open"):
-    """A desk whose CRL 1 is larger than what a socket holds; nothing but an audit looks into an older CRL."""
-    t.register(lines=f"{DAY} subscriber acme\n{DAY} order 1 398\n{DAY} register 1 05 {DAY} 2026-12-31T00:00:00Z\n{DAY} crl\n{DAY} crl\n")
-    t.sql("ca.db", f"UPDATE crl SET der = zeroblob({LARGE}) WHERE number = 1")
+def entered(t, *sizes):
+    """A register whose CRLs, but for the last, are so large; nothing but an audit looks into an older CRL."""
+    crls = f"{DAY} crl\n" * (len(sizes) + 1)
+    t.register(lines=f"{DAY} subscriber acme\n{DAY} order 1 398\n{DAY} register 1 05 {DAY} 2026-12-31T00:00:00Z\n{crls}")
+    for number, size in enumerate(sizes, 1):
+        t.sql("ca.db", f"UPDATE crl SET der = zeroblob({size}) WHERE number = {number}")
     t.clock(DAY)
+
+
+def opened(t, *words, command="open"):
+    """A desk whose CRL 1 is larger than what a socket holds."""
+    entered(t, LARGE)
     return t.open("ca.db", *words, command=command)
 
 
@@ -186,6 +195,92 @@ def who_is_not_whole_in_30_seconds_is_let_go(t):
     t.true(f"{DAY} 127.0.0.1:{ports[b'']} lost late" in told, f"the log does not tell of who was silent: {told}")
 
 
+# To the millisecond: what ends for one goes on for another who came a millisecond later.
+
+
+@test
+def a_request_has_30_seconds_to_be_whole(t):
+    entered(t)
+    desk = Passing(t)
+    first = desk.comes(COUNTS[:9])
+    desk.goes(1)
+    second = desk.comes(COUNTS[:9])
+    desk.goes(29_999)
+    t.same(read_all(first), b"", "what the first hears")
+    second.sendall(COUNTS[9:])
+    t.same(parted(read_all(second))[0], 200, "the second")
+    desk.loses(first, why="late")
+
+
+@test(seconds=2)
+def an_answer_has_30_seconds_to_be_taken(t):
+    """From when it is there, however long its request took."""
+    entered(t, LARGE)
+    desk = Passing(t)
+    first, second = desk.comes(CRL[:9]), desk.comes(CRL[:9])
+    for it, passes in ((first, 20_000), (second, 1)):
+        desk.goes(passes)
+        it.sendall(CRL[9:])
+        t.same(it.recv(1), b"H", "its answer is there")
+    desk.goes(29_999)
+    t.true(len(read_all(first)) < LARGE, "the first got all of its answer")
+    t.true(len(read_all(second)) > LARGE, "the second did not")
+    desk.loses(first, why="late")
+
+
+@test
+def what_follows_a_request_is_dropped_for_a_second(t):
+    """Its peer has its place until then, and its answer, whatever it sends."""
+    entered(t)
+    desk = Passing(t)
+    for passes in (1, 0):
+        it = desk.comes(COUNTS + b"more")
+        t.same(parted(read_all(it))[0], 200, "its answer, and that no more is written")
+        it.sendall(b"more")
+        desk.goes(passes)
+    t.same(desk.files, desk.before + 2, "both have their places")
+    desk.goes(999)
+    t.same(desk.files, desk.before + 1, "the second alone")
+    desk.loses()
+
+
+@test
+def who_has_its_answer_is_let_go_before_the_oldest(t):
+    entered(t)
+    desk = Passing(t)
+    t.tool("prlimit", "--pid", desk.desk.process.pid, f"--nofile={desk.before + 3}:{desk.before + 3}")
+    oldest, has_it = desk.comes(COUNTS[:9]), desk.comes(COUNTS + b"more")
+    t.same(parted(read_all(has_it))[0], 200)
+    newest = peer(t, desk.desk, COUNTS[:9])
+    until(lambda: desk.files == desk.before + 3, "as many as there are descriptors for")
+    at_once(t, desk.desk, "them")
+    for it in (oldest, newest):
+        it.sendall(COUNTS[9:])
+        t.same(parted(read_all(it))[0], 200, "who had no answer yet")
+    desk.loses()
+
+
+@test(seconds=10)
+def answers_that_wait_hold_64_mib_together(t):
+    """Two of 33 MB fit and a third does not, whatever of them the system has taken. The oldest is let go; never the newest, also where it is longer than
+    that alone."""
+    size, too_long = 33_000_000, 70_000_000
+    entered(t, size, too_long)
+    desk = Passing(t)
+
+    def asks(request):
+        it = peer(t, desk.desk, request)
+        t.same(it.recv(1), b"H", "its answer is there")
+        return it
+
+    first, second = asks(CRL), asks(CRL)
+    desk.loses()
+    third = asks(CRL)
+    desk.loses(first, why="crowded")
+    t.true(len(read_all(asks(CRL.replace(b"1 ", b"2 ", 1)))) > too_long, "the last did not get all of its answer")
+    desk.loses(first, second, third, why="crowded")
+
+
 @test(seconds=2)
 def so_many_are_served_and_no_more(t):
     desk = opened(t, "--requests", 3, command="serve")
@@ -247,7 +342,8 @@ def a_line_that_is_not_whole_is_never_run(t):
 
 @test(seconds=3)
 def a_counter_that_does_not_read_is_held(t):
-    opened(t)
+    """Its next line is told once the socket has taken the reply to the one before, and no line behind that."""
+    desk = opened(t, "--log")
     unread = t.counter()
     unread.peer.settimeout(1)
     try:
@@ -256,6 +352,24 @@ def a_counter_that_does_not_read_is_held(t):
     except TimeoutError:
         pass
     t.same(t.done("at", "counter", given="status 05\n"), "good\n", "another counter")
+    told = sum('counter "status 7b"' in it for it in desk.end().told)
+    replies = read_all(unread.peer).count(b"unknown\n")
+    t.true(0 < replies <= told <= replies + 1, f"{told} lines were told, and {replies} replies taken")
+
+
+@test(seconds=3)
+def a_counter_of_many_lines_holds_nobody_up(t):
+    desk = opened(t)
+    busy, other = t.counter(), t.counter()
+    count = 20_000
+    with ThreadPoolExecutor(2) as pool:
+        pool.submit(busy.peer.sendall, b"status 7b\n" * count)
+        replies = pool.submit(lambda: [busy.file.readline() for _ in range(count)])
+        for _ in range(3):
+            t.same(other.ask("status 05"), "good", "another counter")
+            at_once(t, desk, "a counter of many lines")
+        t.same(replies.done(), False, "all its lines were told before")
+        t.same(set(replies.result()), {b"unknown\n"}, "its replies")
 
 
 @test(seconds=2)

@@ -4,12 +4,13 @@ that fail."""
 import json
 import re
 import select
+import signal
 import socket
 import threading
 import time
 from concurrent.futures import ThreadPoolExecutor
 
-from lib import authority, program
+from lib import authority, faults, program
 from lib.authority import IDENTIFIERS, INTERNAL, KEYS, Authority, Peer, body_of, first_day, first_day_replies, moment_of
 from lib.program import ANY_SIGNATURE, P256_KEY
 from lib.trial import each, need, test
@@ -202,8 +203,11 @@ def a_crl_of_3000_entries_is_sent_whole_and_verified(t):
         lines += [f"{begins} order 1 398", f"{begins} register {at} {serial} {begins} {ends}"]
         lines += [f"{begins} request {serial} superseded", f"{begins} revoke {at}"]
     lines += [f"{begins} crl", f"{begins} crl"]
-    told = t.done("script", file, *it.signing(), given="\n".join(lines) + "\n").splitlines()
+    counting = faults.environment(count=t.room / "count", only="socket")
+    told = t.done("script", file, *it.signing(), given="\n".join(lines) + "\n", faults=counting).splitlines()
     t.same(told[-2:], ["crl 1 entries 3000", "crl 2 entries 3000"])
+    # The system may wait anew for each part of a longer piece.
+    t.same(faults.counted(t.room / "count")["write"], sum(-(-len(asked) // 32_768) for asked in signer.asked), "pieces that are written")
     crl = t.done("crl", file).encode("latin-1")
     t.true(len(crl) > 100_000, f"the CRL has {len(crl)} bytes")
     it.verifies(crl)
@@ -303,6 +307,7 @@ ECDSA_FORMS = [
 ]
 P384_KEY = "04" + "11" * 96
 RSA_2048_KEY = "3082010A0282010100" + "BF" * 256 + "0203010001"
+LONGEST_RSA_KEY = "308207FC028207F5" + "7F" * 2037 + "020103"
 ED25519_KEY = "17" * 32
 
 
@@ -321,6 +326,7 @@ FORMS = {
     "a modulus of one octet": ("rsa-sha256", "300602010F020103", [(it, len(it) == 2) for it in signatures_of_lengths(0, 1, 2, 3, 4)]),
     "a modulus with a zero octet": ("rsa-sha256", "3008020300FFFF020103", [(it, len(it) == 4) for it in signatures_of_lengths(0, 1, 2, 3, 4)]),
     "a modulus of three octets": ("rsa-sha256", "3008020301FFFF020103", [(it, len(it) == 6) for it in signatures_of_lengths(0, 1, 2, 3, 4)]),
+    "the longest modulus of a key": ("rsa-sha256", LONGEST_RSA_KEY, [(it, len(it) == 4074) for it in signatures_of_lengths(2036, 2037, 2038, 4096)]),
 }
 
 
@@ -426,8 +432,14 @@ FAILING = {
     "gives half of a signature": gives(ANY_SIGNATURE[:4]),
     "gives a byte too many": gives(ANY_SIGNATURE + b"\0"),
     "gives a signature twice": gives(ANY_SIGNATURE, ANY_SIGNATURE, pause=0.05),
-    "gives a megabyte": gives(b"\7" * 1_000_000),
+    "gives bytes without end": lambda peer, it: endless(peer),
 }
+
+
+def endless(peer):
+    program.read_all(peer)
+    while True:
+        peer.sendall(b"\7" * 65_536)
 
 
 @each(FAILING, seconds=2)
@@ -436,8 +448,9 @@ def a_signer_that_fails_once(t, manner):
     t.register(key=P256_KEY)
     well = gives(ANY_SIGNATURE)
     t.enter_context(Peer(t.room / "ca.sign", lambda peer, it: (manner if it.asked % 2 else well)(peer, it)))
-    got = tried(t, ["crl", "crl", "crl", "subscriber acme", "crl"])
+    got, seconds = timed(lambda: tried(t, ["crl", "crl", "crl", "subscriber acme", "crl"]))
     t.same(got, ["F3 signer", "crl 1 entries 0", "F3 signer", "subscriber 1", "crl 2 entries 0"])
+    t.true(seconds < 9, f"it took {seconds:.1f} s: a failure was waited for")
     t.same(t.sql("ca.db", "SELECT number FROM crl ORDER BY number"), [(1,), (2,)])
     desk = t.open("ca.db", *P256)
     request = bytes.fromhex("30423040303E303C303A300906052B0E03021A05000414" + "00" * 20 + "0414" + "00" * 20 + "020105")
@@ -489,19 +502,41 @@ def drips(peer, it):
         peer.sendall(b"\7")
 
 
+def takes_little(peer, it):
+    """All that a socket holds of single bytes each four seconds: who waits ten seconds for each byte to be taken waits for longer."""
+    while not it.ended.wait(4):
+        peer.recv(65_536)
+
+
+# A name of 992 bytes, of a message that has more than so many single bytes as a socket holds.
+LONG_NAME = "308203DC" + program.NAME[4:] * 76
+LINES = [f"{MOMENT} crl", f"{MOMENT} counts"]
+
+
 @test(seconds=14)
 def a_signer_has_ten_seconds_in_all(t):
-    """Of a script and of an open desk, where the signer hangs and where it drips: all four at once."""
-    for name, manner in (("hangs", hangs), ("drips", drips)):
-        for command in ("script", "open"):
-            t.register(f"{name}-{command}.db", key=P256_KEY)
-            t.enter_context(Peer(t.room / f"{name}-{command}.sign", manner))
+    """Of a script and of an open desk, where the signer hangs and where it drips; of a script also where it takes little, and where signals end each
+    wait: all at once."""
     signing = lambda name: ("--signer", f"{name}.sign", "--algorithm", "ecdsa-sha256")
 
-    def by_script(name):
+    def by_script(name, **how):
         begun = time.monotonic()
-        ran = program.run(["script", f"{name}.db", *signing(name)], f"{MOMENT} crl\n{MOMENT} counts\n", cwd=t.room)
+        ran = program.run(["script", f"{name}.db", *signing(name)], "".join(f"{it}\n" for it in LINES), cwd=t.room, **how)
         return ran.lines, time.monotonic() - begun
+
+    def by_pieces(name):
+        return by_script(name, faults=faults.environment(short=1, only="socket"))
+
+    def by_stopped(name):
+        """What a process waits for at a socket ends by EINTR where it is stopped and goes on (signal(7))."""
+        with faults.Lines(t, f"{name}.db", signing(name)) as desk, ThreadPoolExecutor(1) as asker:
+            begun = time.monotonic()
+            told = asker.submit(lambda: [desk.ask(it) for it in LINES])
+            while not told.done():
+                for it in (signal.SIGSTOP, signal.SIGCONT):
+                    time.sleep(0.2)
+                    desk.process.send_signal(it)
+            return told.result(), time.monotonic() - begun
 
     def by_open(name):
         desk = t.open(f"{name}.db", *signing(name), "--counter", f"{name}.counter")
@@ -510,12 +545,13 @@ def a_signer_has_ten_seconds_in_all(t):
             told = [counter.ask("crl"), counter.ask("counts")]
             return told, time.monotonic() - begun
 
-    with ThreadPoolExecutor(4) as pool:
-        works = {
-            f"{it}-{command}": pool.submit(work, f"{it}-{command}")
-            for it in ("hangs", "drips") for command, work in (("script", by_script), ("open", by_open))
-        }
-        for name, work in works.items():
+    works = {"hangs-script": (hangs, by_script), "hangs-stopped": (hangs, by_stopped), "hangs-open": (hangs, by_open),
+             "drips-script": (drips, by_script), "drips-open": (drips, by_open), "takes-little": (takes_little, by_pieces)}
+    for name, (manner, _) in works.items():
+        t.register(f"{name}.db", name=LONG_NAME, key=P256_KEY)
+        t.enter_context(Peer(t.room / f"{name}.sign", manner))
+    with ThreadPoolExecutor(len(works)) as pool:
+        for name, work in {name: pool.submit(work, name) for name, (_, work) in works.items()}.items():
             told, seconds = work.result()
             t.same(told, ["F3 signer", "good 0 revoked 0 expired 0"], name)
             # As long on a machine that is busy, and never less.

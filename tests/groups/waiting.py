@@ -1,6 +1,7 @@
 """Signatures that are on their way, of OCSP answers and of what is signed at the counter: nobody waits for one but who asked, and lines at
 counters."""
 
+import hashlib
 import os
 import queue
 import socket
@@ -11,6 +12,7 @@ from contextlib import ExitStack
 
 from lib import authority, program
 from lib.authority import INTERNAL, Authority, body_of
+from lib.passing import Passing
 from lib.program import ANY_SIGNATURE, P256_KEY, Signers
 from lib.trial import test
 
@@ -45,17 +47,23 @@ def is_signed(response):
     return bytes.fromhex("0A0100") in response[:8] and ANY_SIGNATURE in response
 
 
+def own_signature(message):
+    """What has the form of an ECDSA signature, another one for each message."""
+    number = b"\x02\x20\x01" + hashlib.sha256(message).digest()[1:]
+    return b"\x30\x44" + number * 2
+
+
 class Held:
     """Signers that answer nothing until they are let go."""
 
-    def __init__(self, t, path="ca.sign"):
-        self.goes = threading.Event()
+    def __init__(self, t, path="ca.sign", signature=lambda message: ANY_SIGNATURE):
+        self.goes, self.signature = threading.Event(), signature
         t.callback(self.goes.set)
         self.signers = t.enter_context(Signers(t.room / path, self.answer))
 
     def answer(self, message):
         self.goes.wait(60)
-        return ANY_SIGNATURE
+        return self.signature(message)
 
 
 def opened(t, *words):
@@ -75,7 +83,8 @@ def milliseconds(works):
 
 @test(seconds=3)
 def so_many_are_asked_for_at_once_and_no_more(t):
-    held = Held(t)
+    """And each signature is put to what was signed by it."""
+    held = Held(t, signature=own_signature)
     desk = opened(t)
     with ThreadPoolExecutor(AT_ONCE + 8) as pool:
         answers = [pool.submit(told, desk, 0x1100 + at) for at in range(AT_ONCE + 8)]
@@ -84,9 +93,9 @@ def so_many_are_asked_for_at_once_and_no_more(t):
         t.same(held.signers.most, AT_ONCE, "at once")
         held.goes.set()
         for at, it in enumerate(answers):
-            response = it.result()
-            t.true(is_signed(response), f"answer {at} is {response.hex()}")
-            t.true(names(response, 0x1100 + at), f"answer {at} is another one's")
+            part, _, signature = authority.signed_part(authority.basic_of(it.result()))
+            t.true(names(part, 0x1100 + at), f"answer {at} is another one's")
+            t.same(signature, own_signature(part), f"signature {at}")
     t.same(len(held.signers.asked), AT_ONCE + 8, "signatures")
 
 
@@ -172,6 +181,24 @@ def ten_seconds_and_for_one_alone(t):
         t.true(9.9 <= seconds < 10 + 2 * program.PATIENCE, f"it took {seconds:.1f} s")
     lines = desk.end().told
     t.same(sum(it.endswith(" signer") for it in lines), 1, "lines of the log that tell of it")
+
+
+@test
+def ten_seconds_to_the_millisecond(t):
+    """They end for one, and go on for another who asked a millisecond later."""
+    t.register(key=P256_KEY)
+    held = Held(t)
+    desk = Passing(t, *SIGNING)
+    with ThreadPoolExecutor(2) as pool:
+        first = pool.submit(told, desk.desk, 0x1111)
+        t.true(held.signers.until(1), "the first is asked for")
+        desk.goes(1)
+        second = pool.submit(told, desk.desk, 0x2222)
+        t.true(held.signers.until(2), "the second is asked for")
+        desk.goes(9_999)
+        t.same(first.result(), INTERNAL)
+        held.goes.set()
+        t.true(is_signed(second.result()), "the second is not signed")
 
 
 @test(seconds=3)
@@ -318,10 +345,12 @@ def a_crl_holds_lines_and_no_request(t):
         begun = time.monotonic()
         crl = pool.submit(first.ask, "crl")
         t.true(signers.until(1), "it is asked for")
-        counts = pool.submit(second.ask, "counts")
+        request = pool.submit(second.ask, "request 05 superseded")
         quick(t, desk)
-        t.same((crl.done(), counts.done()), (False, False), "lines that are answered")
-        t.same((crl.result(), counts.result()), ("crl 1 entries 0", "good 1 revoked 0 expired 0"))
+        t.same((crl.done(), request.done()), (False, False), "lines that are answered")
+        # Nor is what would come of it there.
+        t.has(desk.ask("GET", "/metrics"), b"\ndesk_lines_total{reply=\"accepted\"} 0\n", "lines that were told")
+        t.same((crl.result(), request.result().split(" due ")[0]), ("crl 1 entries 0", "request 1"))
         t.true(time.monotonic() - begun >= 3, "it waited for its signature")
     t.same(len(signers.asked), 1, "signatures")
 
@@ -400,6 +429,21 @@ def a_crl_whose_signature_does_not_come(t):
         t.true(9.9 <= seconds < 10 + 2 * program.PATIENCE, f"it took {seconds:.1f} s")
         held.goes.set()
         t.same(counter.ask("crl"), "crl 1 entries 0", "the next")
+
+
+@test
+def ten_seconds_of_a_line_to_the_millisecond(t):
+    t.register(key=P256_KEY)
+    held = Held(t)
+    desk = Passing(t, *SIGNING)
+    with ThreadPoolExecutor(1) as pool, t.counter() as counter:
+        crl = pool.submit(counter.ask, "crl")
+        t.true(held.signers.until(1), "it is asked for")
+        desk.goes(9_999)
+        time.sleep(0.1)
+        t.same(crl.done(), False, "it is answered a millisecond before")
+        desk.goes(1)
+        t.same(crl.result(), "F3 signer")
 
 
 @test(seconds=3)

@@ -1,7 +1,0 @@
-//! The examples.
-
-mod counters;
-mod office;
-mod peers;
-mod pieces;
-mod steps;
