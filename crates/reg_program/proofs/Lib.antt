@@ -3,6 +3,7 @@ pub mod Clocking
 pub mod Holding
 pub mod Looking
 pub mod Misfitting
+pub mod Missing
 pub mod Opened
 pub mod Priming
 pub mod Setting

@@ -1,5 +1,5 @@
 -- What is known of a register in a file.
-use Rattle.std.specs.Prelude.{◌≡◌, ◌≤◌, ◌⊎◌}
+use Rattle.std.specs.Prelude.{◌≡◌, ◌≤◌, ◌⊎◌, Some, None}
 use Rattle.sqlite.specs.Files.{file_state, over_files, IsOpened}
 use Rattle.sqlite.specs.Held.{Held, IsNew}
 use Rattle.sqlite.specs.Start.{FindsIn}
@@ -25,8 +25,14 @@ use Rattle.reg_verdict.specs.Presumed.{IsPresumed}
 use Rattle.reg_verdict.specs.Verdicts.{CountedBy, DeniedBy, IsSound, TellsOf}
 use Rattle.reg_findings.specs.declared.verdict.Verdict.{Verdict}
 use Rattle.reg_calls.specs.Signatories.{Signatory}
+use Rattle.reg_endings.specs.declared.failure.Failure.{Failure}
+use Rattle.reg_endings.specs.declared.failure.Failure.TheVariants as failure
+use Rattle.reg_files.specs.declared.reading.Unread.{Unread}
+use Rattle.reg_files.specs.declared.reading.Unread.TheVariants as unread
 use Rattle.reg_office.specs.AfterStoppedCommand.{LeavesThese}
 use Rattle.reg_jobs.specs.WhoSigns.{EmbedsOwn, Follows, IsAnswering, IsSigning, OfCrls, Signing, answerer_of, crls_told}
+use Rattle.reg_words.specs.declared.job.Answerer.{Answerer}
+use Rattle.reg_words.specs.declared.job.Answerer.TheVariants.{Issuer, Delegate}
 
 -- tables showed the records of a register, of this program's version or of an older one
 abbrev pub Showed : {C : Type 0} → Ghosts C → Held C → Records → Type 0
@@ -97,3 +103,18 @@ pub record IsAudited {D : Type 0} (g : disk.Ghosts D) (verdict : Verdict) : Type
 pub record IsAuditOf {D : Type 0} (g : disk.Ghosts D) (image : Image) (verdict : Verdict) : Type 0 where
   pub audited : IsAudited g verdict
   pub found : HasCleanDisk (file_state audited.connection) → FindsIn image (file_state audited.connection)
+
+-- how it is told why files are not opened
+abbrev pub failure_of : Unread → Failure
+failure_of unread.Nothing = failure.NotARegister
+failure_of (unread.Fault why) = failure.Fault why.fault
+
+-- files were not opened, and this tells why
+abbrev pub IsMissed : (Unread → Type 0) → Failure → Type 0
+IsMissed missed told = (why : Unread) × missed why × (told ≡ failure_of why)
+
+-- a certificate is told that is to stand with answers: it is read before anything is opened
+abbrev pub HasCertificate : Answerer → Type 0
+HasCertificate (Issuer None) = ⊥
+HasCertificate (Issuer (Some path)) = Unit {0}
+HasCertificate (Delegate path holder) = Unit {0}

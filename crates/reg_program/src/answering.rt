@@ -1,10 +1,11 @@
 //! Who answers OCSP requests for a register in a file.
 
-ghost use Rattle.std.specs.Prelude.{◌≡◌, ◌⊎◌, IsTrue, IfOk, IfErr};
+ghost use Rattle.std.specs.Prelude.{◌≡◌, ◌⊎◌, IsTrue, IfOk, IfErr, OnErr};
 ghost use Rattle.reg_crl.specs.Signing.{Identity};
 ghost use Rattle.reg_jobs.specs.RegisterFailures.{IsOpening};
 ghost use Rattle.reg_jobs.specs.WhoSigns.{EmbedsOwn, IsAnswering, IsDelegate};
 ghost use Rattle.reg_office.specs.Answering.{answers_by, failures_of, signatory_of};
+ghost use Rattle.reg_program.specs.Files.{HasCertificate};
 ghost use Rattle.reg_words.specs.declared.job.Answerer.TheVariants.{Issuer};
 
 use crate::machine::Machine;
@@ -29,6 +30,7 @@ pub(crate) fn responder_told(
     answerer: &Answerer<'_>,
 ) -> Result<Responder<FileSigner>, Failure>
     ensures ok { IfOk result (λ responder. (crls : Identity) → IsAnswering answerer.now (signatory_of ⟦<FileSigner as Signer>⟧.identity crls responder)) }
+    ensures certified { OnErr result (HasCertificate answerer.now) }
     ensures faults { IfErr result IsOpening }
 {
     match answerer {
@@ -46,6 +48,7 @@ fn issuer_told(
     path: &Option<Word<'_>>,
 ) -> Result<Responder<FileSigner>, Failure>
     ensures ok { IfOk result (λ responder. (crls : Identity) → IsAnswering (Issuer path.now) (signatory_of ⟦<FileSigner as Signer>⟧.identity crls responder)) }
+    ensures certified { OnErr result (HasCertificate (Issuer path.now)) }
     ensures faults { IfErr result IsOpening }
 {
     match path {

@@ -41,7 +41,7 @@ fn words_of(rt: &HostRuntime) -> Result<Vec<String>, Usage> {
     }
 }
 
-/// Does what the words order.
+/// Does what the words say.
 fn run(rt: &HostRuntime, words: &[String]) -> io::Result<u8> {
     match read_words(rt.alloc(), words) {
         Ok(invocation) => {
@@ -55,7 +55,7 @@ fn run(rt: &HostRuntime, words: &[String]) -> io::Result<u8> {
     }
 }
 
-/// Why the file of the log that an order names can't be written, if it can't.
+/// Why the file of the log that an invocation names can't be written, if it can't.
 fn unlogged(rt: &HostRuntime, invocation: &Invocation<'_>) -> Option<Option<Cause>> {
     let path = log_path(invocation)?;
     match open_log(rt, path) {
@@ -64,8 +64,8 @@ fn unlogged(rt: &HostRuntime, invocation: &Invocation<'_>) -> Option<Option<Caus
     }
 }
 
-/// The path of the file of the log that an order names.
-fn log_path<'o>(invocation: &'o Invocation<'_>) -> Option<&'o str> {
+/// The path of the file of the log that an invocation names.
+fn log_path<'n>(invocation: &'n Invocation<'_>) -> Option<&'n str> {
     match &invocation.log_file {
         Some(path) => Some(path.as_str()),
         None => None,
@@ -147,7 +147,7 @@ fn do_at<P: Place>(
     )
 }
 
-/// The machine for an order, which notes causes here.
+/// The machine for an invocation, which notes causes here.
 fn machine_for<'n>(
     rt: &HostRuntime,
     invocation: &'n Invocation<'_>,

@@ -8,11 +8,12 @@ ghost use Rattle.reg_program.specs.Clocks.{StoodAt, Tells, TellsAt};
 use crate::counter::lay_socket;
 use crate::machine::Machine;
 use crate::system::System;
-use mio::net::{TcpListener, UnixListener, UnixStream as UnwaitingStream};
+use mio::net::{TcpListener, UnixListener};
 use reg_causes::{Cause, of_io, of_port};
 use reg_core::{Fault, Moment};
 use reg_files::Unread;
 use reg_jobs::{Front, Uncopied};
+use reg_signer::Asking;
 use std::io;
 use std::io::ErrorKind;
 use std::os::unix::net::UnixStream;
@@ -99,7 +100,7 @@ impl<'a, S: System> Front for Machine<'a, S> {
         }
     }
 
-    fn ask(&self, path: &str, message: &[u8]) -> io::Result<UnwaitingStream> {
+    fn ask(&self, path: &str, message: &[u8]) -> io::Result<Asking> {
         match self.rt.ask(path, message) {
             Ok(link) => Ok(link),
             // One that is let go gives it room.
@@ -108,7 +109,7 @@ impl<'a, S: System> Front for Machine<'a, S> {
         }
     }
 
-    fn reach(&self, path: &str) -> io::Result<UnwaitingStream> {
+    fn reach(&self, path: &str) -> io::Result<Asking> {
         match self.rt.reach(path) {
             Ok(link) => Ok(link),
             Err(error) if is_crowded(&error) => Err(io::Error::from(ErrorKind::WouldBlock)),
@@ -158,7 +159,7 @@ fn uncopied_by(why: Unread) -> Uncopied
             fault: Fault::Store,
             cause: Some(Cause::Damaged),
         },
-        Unread::Unopened(why) => Uncopied {
+        Unread::Fault(why) => Uncopied {
             fault: why.fault,
             cause: why.cause,
         },

@@ -1,12 +1,13 @@
 //! What the system does for the machine, a call at a time.
 
-ghost use Rattle.std.specs.Prelude.{◌≡◌, ◌/◌, Ok, IfErr, IfOk};
+ghost use Rattle.std.specs.Prelude.{◌≡◌, ◌/◌, [], Ok, IfErr, IfOk};
 ghost use Rattle.std.specs.Duration.{as_nanos};
 ghost use Rattle.reg_files.specs.Reading.{IsUnread};
+ghost use Rattle.reg_signer.specs.Asking.{IsAsking};
 
 use mio::net::{TcpListener, UnixListener, UnixStream as UnwaitingStream};
 use reg_files::{Unread, copy_open};
-use reg_signer::ask_unwaiting;
+use reg_signer::Asking;
 use reg_wire::write_whole;
 use std::fs::{File, OpenOptions, Permissions};
 use std::io::ErrorKind;
@@ -23,8 +24,9 @@ pub(crate) const OWNER_ALONE: u32 = 0o600;
 /// can say that it was the port, the path, the mode and the moment that were told. That a call of the real one, [`HostRuntime`], does what
 /// its relation says no clause can say: each is one call of std with what it was handed.
 pub trait System {
-    ghost use Rattle.std.specs.Prelude.{ℕ, List, OnOk, IfOk, IfErr, IsTrue};
+    ghost use Rattle.std.specs.Prelude.{ℕ, List, [], OnOk, IfOk, IfErr, IsTrue};
     ghost use Rattle.reg_files.specs.Reading.{IsUnread};
+    ghost use Rattle.reg_signer.specs.Asking.{IsAsking};
 
     /// The clock stood so many whole seconds behind the begin of 1970; 0 also where it stood before it.
     ghost read: { ℕ → Type 0 };
@@ -111,19 +113,21 @@ pub trait System {
     fn meet(&self, path: &str) -> io::Result<UnixStream>
         ensures { OnOk result (met path.now) };
 
-    /// The same, and waits for nothing.
+    /// The same, as [`Asking::reach`] does.
     ///
     /// # Errors
     /// What the system says.
-    fn reach(&self, path: &str) -> io::Result<UnwaitingStream>
-        ensures { OnOk result (met path.now) };
+    fn reach(&self, path: &str) -> io::Result<Asking>
+        ensures met { OnOk result (met path.now) }
+        ensures kept { IfOk result (IsAsking path.now []) };
 
-    /// Asks what listens at the socket at a path, as [`ask_unwaiting`] does.
+    /// Asks what listens at the socket at a path, as [`Asking::ask`] does.
     ///
     /// # Errors
     /// What the system says.
-    fn ask(&self, path: &str, message: &[u8]) -> io::Result<UnwaitingStream>
-        ensures { OnOk result (asked path.now message.now) };
+    fn ask(&self, path: &str, message: &[u8]) -> io::Result<Asking>
+        ensures asked { OnOk result (asked path.now message.now) }
+        ensures kept { IfOk result (IsAsking path.now message.now) };
 
     /// Gives a text to standard error. What can't be written disturbs nobody.
     fn say(&self, text: &[u8])
@@ -212,16 +216,18 @@ impl System for HostRuntime {
         UnixStream::connect(self, path)
     }
 
-    fn reach(&self, path: &str) -> io::Result<UnwaitingStream>
-        ensures { Unit {0} }
+    fn reach(&self, path: &str) -> io::Result<Asking>
+        ensures met { Unit {0} }
+        ensures kept { IfOk result (IsAsking path.now []) }
     {
-        UnwaitingStream::connect(self, path)
+        Asking::reach(self, path)
     }
 
-    fn ask(&self, path: &str, message: &[u8]) -> io::Result<UnwaitingStream>
-        ensures { Unit {0} }
+    fn ask(&self, path: &str, message: &[u8]) -> io::Result<Asking>
+        ensures asked { Unit {0} }
+        ensures kept { IfOk result (IsAsking path.now message.now) }
     {
-        ask_unwaiting(self, path, message)
+        Asking::ask(self, path, message)
     }
 
     fn say(&self, text: &[u8])
