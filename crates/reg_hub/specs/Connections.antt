@@ -21,12 +21,12 @@ pub data SinceAccepted {S : Type 0} (contents remaining : S → Option (List ℕ
       → SinceAccepted contents remaining first came (gone ++ more) t
 
 -- other bytes, and then LF
-abbrev pub IsLine : List ℕ → Type 0
-IsLine line = (front : List ℕ) × (line ≡ front ++ 10 ∷ []) × All (λ byte. byte ≢ 10) front
+abbrev pub IsLineWithLf : List ℕ → Type 0
+IsLineWithLf line = (front : List ℕ) × (line ≡ front ++ 10 ∷ []) × All (λ byte. byte ≢ 10) front
 
 -- this line was told, and this is what the handler said to it
 abbrev pub IsToldBy : {H : Type 0} → (H → List ℕ → List ℕ → H → Type 0) → List ℕ → List ℕ → Type 0
-IsToldBy {H = H} tells line reply = IsLine line × ((s : H) × (t : H) × tells s line reply t)
+IsToldBy {H = H} tells line reply = IsLineWithLf line × ((s : H) × (t : H) × tells s line reply t)
 
 -- At a counter these lines were told, each once: the bytes that came are they, one after the other, and then what is held, of a line that is
 -- not whole or is told next. The bytes that went out, and behind them what is unsent, are their replies, in the same order, each once.
