@@ -1,6 +1,7 @@
 #!/usr/bin/env python3
 """Says what the pages name that is not there: files and functions of docs/PROOFS.md and docs/ARCHITECTURE.md, definitions of docs/PROOFS.md, crates and what they
-stand on in docs/ARCHITECTURE.md, links to headings, and what docs/MODEL.md counts. Prints a line for each, and nothing where all is there; the exit status is 1 where something is not."""
+stand on in docs/ARCHITECTURE.md, links to headings, and what docs/MODEL.md counts; and which name two crates give to definitions of theirs, since a page says a definition by its name. Prints a line for
+each, and nothing where all is there; the exit status is 1 where something is not."""
 import re
 import sys
 from pathlib import Path
@@ -142,7 +143,19 @@ def look_at_chain():
         miss("docs/MODEL.md", it)
 
 
-for look in (look_at_links, look_at_ways, look_at_laws, look_at_promises, look_at_crates, look_at_chain):
+def look_at_names():
+    """A definition has one name over all crates."""
+    definition = re.compile(r"^(?:(?:abbrev|unfoldable) pub|pub (?:record|data)) ([^\s:({]+)", re.MULTILINE)
+    crates_of = {}
+    for path in sorted((TOP / "crates").glob("*/specs/*.antt")):
+        for name in definition.findall(path.read_text(encoding="utf-8")):
+            crates_of.setdefault(name, set()).add(path.parent.parent.name)
+    for name, crates in sorted(crates_of.items()):
+        if len(crates) > 1:
+            miss("specs", f"{name} is defined in {' and '.join(sorted(crates))}")
+
+
+for look in (look_at_links, look_at_ways, look_at_laws, look_at_promises, look_at_crates, look_at_chain, look_at_names):
     look()
 print(*missing, sep="\n", end="\n" if missing else "")
 sys.exit(1 if missing else 0)
