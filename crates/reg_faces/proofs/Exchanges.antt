@@ -1,5 +1,5 @@
 -- HTTP exchanges over an office that keeps records.
-use Rattle.std.proofs.Common.{◌≡◌, ◌≢◌, ℕ, List, inl, inr, refl, sym, ap, ◌∙◌}
+use Rattle.std.proofs.Common.{◌≡◌, ◌≢◌, ℕ, List, inl, inr, refl, sym, ◌∙◌}
 use Rattle.std.specs.Prelude.{Option, Some, None, Result, Ok, Err, IfErr}
 use Rattle.reg_core.specs.declared.command.Command.{Command}
 use Rattle.reg_core.specs.declared.command.Command.TheVariants.{Request}
@@ -13,7 +13,7 @@ use Rattle.reg_heads.specs.Frame.{Part, refused, asked}
 use Rattle.reg_heads.specs.Response.{Response}
 use Rattle.reg_http.specs.RespondsTo.{RespondsTo}
 use Rattle.reg_http.specs.Asked.{Asked, refused as refuses, only, unread, malformed, ocsp_of, crl_of, status_of, counts_of, request_of, asked as asks_for}
-use Rattle.reg_http.specs.Beginning.{BeginningEnds, LeftOf}
+use Rattle.reg_http.specs.Beginning.{BeginningEnds}
 use Rattle.reg_http.specs.Served.{ServingEnds, Responds}
 use Rattle.reg_ocsp.specs.Drafts.{Drafted}
 use Rattle.reg_calls.specs.Leads.{Leads}
@@ -37,60 +37,27 @@ module _ {S I R : Type 0} (is_clean : S → Type 0) (stands : I → S → R → 
   KeptAnswers now what response i before after =
       RespondsTo (kept_runs i) (kept_asks i) (kept_ocsps i) (kept_crls i) now before what response after
 
-  -- an answer that asks nothing of the office
-  unasked : (now : ℕ) (what : Asked) (response : Response) (s t : S) → t ≡ s
-      → ((i : I) (before after : R) → after ≡ before → KeptAnswers now what response i before after)
-      → Leads is_clean stands (KeptAnswers now what response) s t
-  unasked now what response s t same from =
-      follows is_clean stands (λ i before after. after ≡ before) (KeptAnswers now what response) from s t (stays is_clean stands s t same)
-
   -- one answer
   pub answer_moves : (now : ℕ) (what : Asked) (response : Response) (s t : S) → RespondsTo runs asks ocsps crls now s what response t
       → Leads is_clean stands (KeptAnswers now what response) s t
-  answer_moves now (refuses status) response s t (same, is) = unasked now (refuses status) response s t same (λ i before after stayed. (stayed, is))
-  answer_moves now (only method) response s t (same, is) = unasked now (only method) response s t same (λ i before after stayed. (stayed, is))
-  answer_moves now unread response s t (same, is) = unasked now unread response s t same (λ i before after stayed. (stayed, is))
-  answer_moves now malformed response s t (same, is) = unasked now malformed response s t same (λ i before after stayed. (stayed, is))
+  answer_moves now (refuses status) response s t (same, is) =
+      follows is_clean stands _ _ (λ i before after stayed. (stayed, is)) s t (stays is_clean stands s t same)
+  answer_moves now (only method) response s t (same, is) =
+      follows is_clean stands _ _ (λ i before after stayed. (stayed, is)) s t (stays is_clean stands s t same)
+  answer_moves now unread response s t (same, is) =
+      follows is_clean stands _ _ (λ i before after stayed. (stayed, is)) s t (stays is_clean stands s t same)
+  answer_moves now malformed response s t (same, is) =
+      follows is_clean stands _ _ (λ i before after stayed. (stayed, is)) s t (stays is_clean stands s t same)
   answer_moves now (ocsp_of request) response s t (given, came, is) =
-      follows is_clean stands
-      (λ i before after. kept_ocsps i before now request given after)
-      (KeptAnswers now (ocsp_of request) response)
-      (λ i before after made. (given, made, is))
-      s
-      t
-      (lifts_ocsps s now request given t came)
+      follows is_clean stands _ _ (λ i before after made. (given, made, is)) s t (lifts_ocsps s now request given t came)
   answer_moves now (crl_of number) response s t (given, came, is) =
-      follows is_clean stands
-      (λ i before after. kept_crls i before number given after)
-      (KeptAnswers now (crl_of number) response)
-      (λ i before after made. (given, made, is))
-      s
-      t
-      (lifts_crls s number given t came)
+      follows is_clean stands _ _ (λ i before after made. (given, made, is)) s t (lifts_crls s number given t came)
   answer_moves now (status_of serial) response s t (given, came, is) =
-      follows is_clean stands
-      (λ i before after. kept_asks i before now (Status serial) given after)
-      (KeptAnswers now (status_of serial) response)
-      (λ i before after made. (given, made, is))
-      s
-      t
-      (lifts_asks s now (Status serial) given t came)
+      follows is_clean stands _ _ (λ i before after made. (given, made, is)) s t (lifts_asks s now (Status serial) given t came)
   answer_moves now counts_of response s t (given, came, is) =
-      follows is_clean stands
-      (λ i before after. kept_asks i before now Counts given after)
-      (KeptAnswers now counts_of response)
-      (λ i before after made. (given, made, is))
-      s
-      t
-      (lifts_asks s now Counts given t came)
+      follows is_clean stands _ _ (λ i before after made. (given, made, is)) s t (lifts_asks s now Counts given t came)
   answer_moves now (request_of serial word) response s t (given, came, is) =
-      follows is_clean stands
-      (λ i before after. kept_runs i before now (Request serial word) given after)
-      (KeptAnswers now (request_of serial word) response)
-      (λ i before after made. (given, made, is))
-      s
-      t
-      (lifts_runs s now (Request serial word) given t came)
+      follows is_clean stands _ _ (λ i before after made. (given, made, is)) s t (lifts_runs s now (Request serial word) given t came)
 
   -- the responses of the records
   abbrev pub KeptResponds : ℕ → Part → List ℕ → I → R → R → Type 0
@@ -101,29 +68,11 @@ module _ {S I R : Type 0} (is_clean : S → Type 0) (stands : I → S → R → 
   pub response_moves : (now : ℕ) (part : Part) (text : List ℕ) (s t : S) → Responds runs asks ocsps crls now s part text t
       → Leads is_clean stands (KeptResponds now part text) s t
   response_moves now (refused status) text s t (same, is) =
-      follows is_clean stands
-      (λ i before after. after ≡ before)
-      (KeptResponds now (refused status) text)
-      (λ i before after stayed. (stayed, is))
-      s
-      t
-      (stays is_clean stands s t same)
+      follows is_clean stands _ _ (λ i before after stayed. (stayed, is)) s t (stays is_clean stands s t same)
   response_moves now (asked method target body) text s t (inl (response, answered, is)) =
-      follows is_clean stands
-      (KeptAnswers now (asks_for method target body) response)
-      (KeptResponds now (asked method target body) text)
-      (λ i before after made. inl (response, made, is))
-      s
-      t
-      (answer_moves now (asks_for method target body) response s t answered)
+      follows is_clean stands _ _ (λ i before after made. inl (response, made, is)) s t (answer_moves now (asks_for method target body) response s t answered)
   response_moves now (asked method target body) text s t (inr (same, is)) =
-      follows is_clean stands
-      (λ i before after. after ≡ before)
-      (KeptResponds now (asked method target body) text)
-      (λ i before after stayed. inr (stayed, is))
-      s
-      t
-      (stays is_clean stands s t same)
+      follows is_clean stands _ _ (λ i before after stayed. inr (stayed, is)) s t (stays is_clean stands s t same)
 
   -- the endings of the records
   abbrev pub KeptEnds : ℕ → Option (List ℕ) → Option (List ℕ) → Option (List ℕ) → Option (List ℕ) → Result (Unit {0}) Fault → I → R → R → Type 0
@@ -136,10 +85,7 @@ module _ {S I R : Type 0} (is_clean : S → Type 0) (stands : I → S → R → 
       → (result ≡ Err Read → t ≡ s) → (result ≡ Err Memory → t ≡ s)
       → Leads is_clean stands (KeptEnds now input left out written result) s t
   served_moves now s t input left out written (Ok done) ended read memory =
-      follows is_clean stands
-      (KeptResponds now ended.part ended.text)
-      (KeptEnds now input left out written (Ok done))
-      (λ i before after made. record {
+      follows is_clean stands _ _ (λ i before after made. record {
         took = ended.took;
         part = ended.part;
         text = ended.text;
@@ -147,15 +93,9 @@ module _ {S I R : Type 0} (is_clean : S → Type 0) (stands : I → S → R → 
         framed = ended.framed;
         responds = made;
         wrote = ended.wrote;
-      })
-      s
-      t
-      (response_moves now ended.part ended.text s t ended.responds)
+      }) s t (response_moves now ended.part ended.text s t ended.responds)
   served_moves now s t input left out written (Err Write) ended read memory =
-      follows is_clean stands
-      (KeptResponds now ended.part ended.text)
-      (KeptEnds now input left out written (Err Write))
-      (λ i before after made. record {
+      follows is_clean stands _ _ (λ i before after made. record {
         took = ended.took;
         part = ended.part;
         text = ended.text;
@@ -163,26 +103,11 @@ module _ {S I R : Type 0} (is_clean : S → Type 0) (stands : I → S → R → 
         framed = ended.framed;
         responds = made;
         wrote = ended.wrote;
-      })
-      s
-      t
-      (response_moves now ended.part ended.text s t ended.responds)
+      }) s t (response_moves now ended.part ended.text s t ended.responds)
   served_moves now s t input left out written (Err Read) ended read memory =
-      follows is_clean stands
-      (λ i before after. after ≡ before)
-      (KeptEnds now input left out written (Err Read))
-      (λ i before after stayed. ended)
-      s
-      t
-      (stays is_clean stands s t (read refl))
+      follows is_clean stands _ _ (λ i before after stayed. ended) s t (stays is_clean stands s t (read refl))
   served_moves now s t input left out written (Err Memory) ended read memory =
-      follows is_clean stands
-      (λ i before after. after ≡ before)
-      (KeptEnds now input left out written (Err Memory))
-      (λ i before after stayed. ended)
-      s
-      t
-      (stays is_clean stands s t (memory refl))
+      follows is_clean stands _ _ (λ i before after stayed. ended) s t (stays is_clean stands s t (memory refl))
   served_moves now s t input left out written (Err Store) ended read memory = absurd ended
   served_moves now s t input left out written (Err Signer) ended read memory = absurd ended
   served_moves now s t input left out written (Err (Refused why)) ended read memory = absurd ended
@@ -204,10 +129,7 @@ module _ {S I R : Type 0} (is_clean : S → Type 0) (stands : I → S → R → 
     begun_moves now s t input left out written (Ok None) ended read memory =
         served_moves now s t input left out written (Ok tt) ended (λ same. absurd (cc same)) (λ same. absurd (cc same))
     begun_moves now s t input left out written (Ok (Some draft)) ended read memory =
-        follows is_clean stands
-        (λ i before after. kept_drafts i before now ended.0.request draft after)
-        (KeptBegins now input left out written (Ok (Some draft)))
-        (λ i before after made. (
+        follows is_clean stands _ _ (λ i before after made. (
           record {
             took = ended.0.took;
             method = ended.0.method;
@@ -220,10 +142,7 @@ module _ {S I R : Type 0} (is_clean : S → Type 0) (stands : I → S → R → 
             drafted = made;
           },
           ended.1,
-        ))
-        s
-        t
-        (lifts_drafts s now ended.0.request draft t ended.0.drafted)
+        )) s t (lifts_drafts s now ended.0.request draft t ended.0.drafted)
     begun_moves now s t input left out written (Err why) ended read memory =
         served_moves now s t input left out written (Err why) ended (λ same. read (still Read same)) (λ same. memory (still Memory same))
       where
@@ -239,17 +158,13 @@ pub memory_is_not_write : Memory ≢ Write
 memory_is_not_write same = cc same
 
 -- where a fault that is no failed write leaves an office, it is as it was
-pub stays_silent : {S : Type 0} (A : Type 0) {s t : S} (result : Result (Unit {0}) Fault)
-    → IfErr result (λ fault. fault ≢ Write → A × (t ≡ s)) → {other : Fault} → other ≢ Write → result ≡ Err other → t ≡ s
-stays_silent A (Ok done) silent {other = other} is_none same = absurd (cc)
-stays_silent A (Err fault) silent {other = other} is_none same =
-    let is : fault ≡ other = cc in
-    (silent (λ write. is_none (sym is ∙ write))).1
-
--- the same where an answer may be left to be signed
 pub begun_silent : {S B : Type 0} (A : Type 0) {s t : S} (result : Result B Fault)
     → IfErr result (λ fault. fault ≢ Write → A × (t ≡ s)) → {other : Fault} → other ≢ Write → result ≡ Err other → t ≡ s
 begun_silent A (Ok done) silent {other = other} is_none same = absurd (cc)
 begun_silent A (Err fault) silent {other = other} is_none same =
     let is : fault ≡ other = cc in
     (silent (λ write. is_none (sym is ∙ write))).1
+
+pub stays_silent : {S : Type 0} (A : Type 0) {s t : S} (result : Result (Unit {0}) Fault)
+    → IfErr result (λ fault. fault ≢ Write → A × (t ≡ s)) → {other : Fault} → other ≢ Write → result ≡ Err other → t ≡ s
+stays_silent A result silent is_none same = begun_silent A result silent is_none same

@@ -52,28 +52,12 @@ pub script_follows : {S E W : Type 0} (answers other : S → Meaning → Answer 
     → ScriptEnds other remaining contents s t reader reader' writer writer' result
 script_follows {S = S} answers other from remaining contents s t reader reader' writer writer' result ended =
     let moved =
-    script_moves
-    (λ v. Unit {0})
-    (λ (i : Unit {0}) (v w : S). v ≡ w)
-    answers
-    (λ i. other)
-    (λ v meaning answer w answered. (
+    script_moves (λ v. Unit {0}) (λ (i : Unit {0}) (v w : S). v ≡ w) answers (λ i. other) (λ v meaning answer w answered. (
       (λ clean. clean),
       (λ i before is clean.
           let P : S → Type 0 = λ b. other b meaning answer w in
           (w, subst P is (from v meaning answer w answered), refl)),
-    ))
-    remaining
-    contents
-    s
-    t
-    reader
-    reader'
-    writer
-    writer'
-    result
-    ended
-    in
+    )) remaining contents s t reader reader' writer writer' result ended in
     let (after, made, is) = moved.1 tt s refl tt in
     let Q : S → Type 0 = λ a. ScriptEnds other remaining contents s a reader reader' writer writer' result in
     subst Q (sym is) made

@@ -1,14 +1,14 @@
 -- Scripts and imports over an office that keeps records.
-use Rattle.std.proofs.Common.{◌≡◌, ℕ, Bool, true, false, List, map, inl, inr}
+use Rattle.std.proofs.Common.{◌≡◌, ℕ, Bool, true, false, List, map, refl, inl, inr}
 use Rattle.std.specs.Prelude.{Result, Ok, Err}
 use Rattle.std.specs.declared.option.Option.{Option}
 use Rattle.reg_core.specs.declared.refusal.Fault.{Fault}
 use Rattle.reg_core.specs.declared.refusal.Fault.TheVariants.{Refused, Memory, Store, Signer, Read, Write}
 use Rattle.reg_wire.specs.RunsOfAnswers.{Answered}
 use Rattle.reg_lines.specs.Answer.{Answer, Replies, came_to}
-use Rattle.reg_lines.specs.Import.{Row, RowReplies, RowsEnd, ImportEnds, data_rows}
+use Rattle.reg_lines.specs.Import.{AllRan, FirstRan, OneCut, Row, RowReplies, RowsEnd, ImportEnds, data_rows}
 use Rattle.reg_lines.specs.Meaning.{Meaning, tells}
-use Rattle.reg_lines.specs.Script.{Finished, ScriptEnds, StoppedAtRead, StoppedAtWrite, line_of, pieces}
+use Rattle.reg_lines.specs.Script.{ScriptEnds, line_of, pieces}
 use Rattle.reg_lines.specs.Strict.{StrictEnds, StrictRan, ended_part}
 use Rattle.reg_lines.specs.declared.strict.Imported.{Imported}
 use Rattle.reg_lines.specs.declared.strict.Imported.TheVariants as imported
@@ -20,35 +20,17 @@ module _ {S I R : Type 0} (is_clean : S → Type 0) (stands : I → S → R → 
     (lifts : (s : S) (meaning : Meaning) (answer : Answer) (t : S) → answers s meaning answer t
     → Leads is_clean stands (λ i before after. kept i before meaning answer after) s t) where
   -- one line
-  pub line_moves : (s : S) (line reply : List ℕ) (t : S) → Replies answers s line reply t
+  line_moves : (s : S) (line reply : List ℕ) (t : S) → Replies answers s line reply t
       → Leads is_clean stands (λ i before after. Replies (kept i) before line reply after) s t
   line_moves s line reply t (inl (meaning, answer, means, answered, told)) =
-      follows is_clean stands
-      (λ i before after. kept i before meaning answer after)
-      (λ i before after. Replies (kept i) before line reply after)
-      (λ i before after made. inl (meaning, answer, means, made, told))
-      s
-      t
-      (lifts s meaning answer t answered)
+      follows is_clean stands _ _ (λ i before after made. inl (meaning, answer, means, made, told)) s t (lifts s meaning answer t answered)
   line_moves s line reply t (inr (inl (now, bytes, means, told, same))) =
-      follows is_clean stands
-      (λ i before after. after ≡ before)
-      (λ i before after. Replies (kept i) before line reply after)
-      (λ i before after stayed. inr (inl (now, bytes, means, told, stayed)))
-      s
-      t
-      (stays is_clean stands s t same)
+      follows is_clean stands _ _ (λ i before after stayed. inr (inl (now, bytes, means, told, stayed))) s t (stays is_clean stands s t same)
   line_moves s line reply t (inr (inr (unreadable, told, same))) =
-      follows is_clean stands
-      (λ i before after. after ≡ before)
-      (λ i before after. Replies (kept i) before line reply after)
-      (λ i before after stayed. inr (inr (unreadable, told, stayed)))
-      s
-      t
-      (stays is_clean stands s t same)
+      follows is_clean stands _ _ (λ i before after stayed. inr (inr (unreadable, told, stayed))) s t (stays is_clean stands s t same)
 
   -- lines, one after the other
-  pub lines_move : (s t : S) (lines replies : List (List ℕ)) → Answered (Replies answers) s lines replies t
+  lines_move : (s t : S) (lines replies : List (List ℕ)) → Answered (Replies answers) s lines replies t
       → Leads is_clean stands (λ i before after. Answered (Replies (kept i)) before lines replies after) s t
   lines_move = runs is_clean stands (Replies answers) (λ i. Replies (kept i)) line_moves
 
@@ -57,10 +39,7 @@ module _ {S I R : Type 0} (is_clean : S → Type 0) (stands : I → S → R → 
       (result : Result (Unit {0}) Fault) → ScriptEnds answers remaining contents s t reader reader' writer writer' result
       → Leads is_clean stands (λ i before after. ScriptEnds (kept i) remaining contents before after reader reader' writer writer' result) s t
   script_moves remaining contents s t reader reader' writer writer' (Ok done) ended =
-      follows is_clean stands
-      (λ i before after. Answered (Replies (kept i)) before (map line_of (pieces ended.took)) ended.replies after)
-      (λ i before after. Finished (kept i) before after (remaining reader) (remaining reader') (contents writer) (contents writer'))
-      (λ i before after ran. record {
+      follows is_clean stands _ _ (λ i before after ran. record {
         took = ended.took;
         replies = ended.replies;
         consumed = ended.consumed;
@@ -69,41 +48,21 @@ module _ {S I R : Type 0} (is_clean : S → Type 0) (stands : I → S → R → 
         short = ended.short;
         answered = ran;
         wrote = ended.wrote;
-      })
-      s
-      t
-      (lines_move s t (map line_of (pieces ended.took)) ended.replies ended.answered)
+      }) s t (lines_move s t (map line_of (pieces ended.took)) ended.replies ended.answered)
   script_moves remaining contents s t reader reader' writer writer' (Err Read) ended =
-      follows is_clean stands
-      (λ i before after. Answered (Replies (kept i)) before (map line_of ended.done) ended.replies after)
-      (λ i before after. StoppedAtRead (kept i) before after (remaining reader) (remaining reader') (contents writer) (contents writer'))
-      (λ i before after ran. record {
+      follows is_clean stands _ _ (λ i before after ran. record {
         took = ended.took;
         done = ended.done;
         replies = ended.replies;
         left = ended.left;
         consumed = ended.consumed;
-        ran = record {
-          parts = ended.ran.parts;
-          first = ended.ran.first;
-          few = ended.ran.few;
-          short = ended.ran.short;
-          answered = ran;
-        };
+        ran = record { parts = ended.ran.parts; first = ended.ran.first; few = ended.ran.few; short = ended.ran.short; answered = ran };
         fails = ended.fails;
         little = ended.little;
         wrote = ended.wrote;
-      })
-      s
-      t
-      (lines_move s t (map line_of ended.done) ended.replies ended.ran.answered)
+      }) s t (lines_move s t (map line_of ended.done) ended.replies ended.ran.answered)
   script_moves remaining contents s t reader reader' writer writer' (Err Write) ended =
-      follows is_clean stands
-      (λ i before after. (middle : R)
-      × Answered (Replies (kept i)) before (map line_of ended.done) ended.replies middle
-      × Replies (kept i) middle (line_of ended.piece) ended.reply after)
-      (λ i before after. StoppedAtWrite (kept i) before after (remaining reader) (remaining reader') (contents writer) (contents writer'))
-      (λ i before after both. record {
+      follows is_clean stands _ _ (λ i before after both. record {
         took = ended.took;
         done = ended.done;
         replies = ended.replies;
@@ -114,13 +73,7 @@ module _ {S I R : Type 0} (is_clean : S → Type 0) (stands : I → S → R → 
         reply = ended.reply;
         part = ended.part;
         consumed = ended.consumed;
-        ran = record {
-          parts = ended.ran.parts;
-          first = ended.ran.first;
-          few = ended.ran.few;
-          short = ended.ran.short;
-          answered = both.1;
-        };
+        ran = record { parts = ended.ran.parts; first = ended.ran.first; few = ended.ran.few; short = ended.ran.short; answered = both.1 };
         few = ended.few;
         next = ended.next;
         ends = ended.ends;
@@ -128,132 +81,78 @@ module _ {S I R : Type 0} (is_clean : S → Type 0) (stands : I → S → R → 
         answered = both.2;
         partly = ended.partly;
         wrote = ended.wrote;
-      })
-      s
-      t
-      (chains is_clean stands
-      (λ i before middle. Answered (Replies (kept i)) before (map line_of ended.done) ended.replies middle)
-      (λ i middle after. Replies (kept i) middle (line_of ended.piece) ended.reply after)
-      s
-      ended.middle
-      t
+      }) s t (chains is_clean stands _ _ s ended.middle t
       (lines_move s ended.middle (map line_of ended.done) ended.replies ended.ran.answered)
       (line_moves ended.middle (line_of ended.piece) ended.reply t ended.answered))
   script_moves remaining contents s t reader reader' writer writer' (Err Memory) ended =
-      follows is_clean stands
-      (λ i before after. after ≡ before)
-      (λ i before after. (after ≡ before) × (reader' ≡ reader) × (writer' ≡ writer))
-      (λ i before after stayed. (stayed, ended.1, ended.2))
-      s
-      t
-      (stays is_clean stands s t ended.0)
-  script_moves remaining contents s t reader reader' writer writer' (Err Store) ended = absurd ended
-  script_moves remaining contents s t reader reader' writer writer' (Err Signer) ended = absurd ended
-  script_moves remaining contents s t reader reader' writer writer' (Err (Refused refusal)) ended = absurd ended
+      follows is_clean stands _ _ (λ i before after stayed. (stayed, ended.1, ended.2)) s t (stays is_clean stands s t ended.0)
+  script_moves remaining contents s t reader reader' writer writer' result ended = absurd ended
 
   -- one row of an import
-  pub row_moves : (now : ℕ) (s : S) (row : Row) (reply : List ℕ) (t : S) → RowReplies answers now s row reply t
+  row_moves : (now : ℕ) (s : S) (row : Row) (reply : List ℕ) (t : S) → RowReplies answers now s row reply t
       → Leads is_clean stands (λ i before after. RowReplies (kept i) now before row reply after) s t
   row_moves now s row reply t (inl (command, outcome, means, answered, told)) =
-      follows is_clean stands
-      (λ i before after. kept i before (tells now command) (came_to outcome) after)
-      (λ i before after. RowReplies (kept i) now before row reply after)
-      (λ i before after made. inl (command, outcome, means, made, told))
-      s
-      t
+      follows is_clean stands _ _ (λ i before after made. inl (command, outcome, means, made, told)) s t
       (lifts s (tells now command) (came_to outcome) t answered)
   row_moves now s row reply t (inr (unreadable, told, same)) =
-      follows is_clean stands
-      (λ i before after. after ≡ before)
-      (λ i before after. RowReplies (kept i) now before row reply after)
-      (λ i before after stayed. inr (unreadable, told, stayed))
-      s
-      t
-      (stays is_clean stands s t same)
+      follows is_clean stands _ _ (λ i before after stayed. inr (unreadable, told, stayed)) s t (stays is_clean stands s t same)
 
-  -- rows, one after the other
-  pub rows_move : (now : ℕ) (s t : S) (rows : List Row) (replies : List (List ℕ)) → Answered (RowReplies answers now) s rows replies t
-      → Leads is_clean stands (λ i before after. Answered (RowReplies (kept i) now) before rows replies after) s t
-  rows_move now = runs is_clean stands (RowReplies answers now) (λ i. RowReplies (kept i) now) (row_moves now)
+  -- all rows of a text, its first rows, or its first rows and one whose reply was cut
+  module _ (now : ℕ) (s t : S) (out out' : Option (List ℕ)) (text : List ℕ) where
+    rows_move : (rows : List Row) (replies : List (List ℕ)) (t : S) → Answered (RowReplies answers now) s (data_rows rows) replies t
+        → Leads is_clean stands (λ i before after. Answered (RowReplies (kept i) now) before (data_rows rows) replies after) s t
+    rows_move rows replies t = runs is_clean stands (RowReplies answers now) (λ i. RowReplies (kept i) now) (row_moves now) s t (data_rows rows) replies
+
+    all_move : (ran : AllRan answers now s t out out' text)
+        → Leads is_clean stands (λ i before after. (moved : AllRan (kept i) now before after out out' text) × (moved.replies ≡ ran.replies)) s t
+    all_move ran =
+        follows is_clean stands _ _ (λ i before after moved.
+        (record { rows = ran.rows; replies = ran.replies; all = ran.all; answered = moved; wrote = ran.wrote }, refl))
+        s t (rows_move ran.rows ran.replies t ran.answered)
+
+    first_move : (ran : FirstRan answers now s t out out' text)
+        → Leads is_clean stands (λ i before after. (moved : FirstRan (kept i) now before after out out' text) × (moved.replies ≡ ran.replies)) s t
+    first_move ran =
+        follows is_clean stands _ _ (λ i before after moved.
+        (record { rows = ran.rows; replies = ran.replies; first = ran.first; answered = moved; wrote = ran.wrote }, refl))
+        s t (rows_move ran.rows ran.replies t ran.answered)
+
+    cut_move : (ran : OneCut answers now s t out out' text)
+        → Leads is_clean stands (λ i before after. (moved : OneCut (kept i) now before after out out' text) × (moved.replies ≡ ran.replies)) s t
+    cut_move ran =
+        follows is_clean stands _ _ (λ i before after both. (
+          record {
+            rows = ran.rows;
+            replies = ran.replies;
+            middle = both.0;
+            row = ran.row;
+            reply = ran.reply;
+            part = ran.part;
+            first = ran.first;
+            no_header = ran.no_header;
+            answered = both.1;
+            replied = both.2;
+            partly = ran.partly;
+            wrote = ran.wrote;
+          },
+          refl,
+        )) s t (chains is_clean stands _ _ s ran.middle t (rows_move ran.rows ran.replies ran.middle ran.answered)
+        (row_moves now ran.middle ran.row ran.reply t ran.replied))
 
   -- an import
   pub import_moves : {E W : Type 0} (remaining : E → Option (List ℕ)) (contents : W → Option (List ℕ)) (now : ℕ) (s t : S) (reader reader' : E)
       (writer writer' : W) (result : Result (Unit {0}) Fault) → ImportEnds answers remaining contents now s t reader reader' writer writer' result
       → Leads is_clean stands (λ i before after. ImportEnds (kept i) remaining contents now before after reader reader' writer writer' result) s t
   import_moves remaining contents now s t reader reader' writer writer' (Ok done) (text, all, ended) =
-      follows is_clean stands
-      (λ i before after. Answered (RowReplies (kept i) now) before (data_rows ended.rows) ended.replies after)
-      (λ i before after. ImportEnds (kept i) remaining contents now before after reader reader' writer writer' (Ok done))
-      (λ i before after ran. (
-        text,
-        all,
-        record { rows = ended.rows; replies = ended.replies; all = ended.all; answered = ran; wrote = ended.wrote },
-      ))
-      s
-      t
-      (rows_move now s t (data_rows ended.rows) ended.replies ended.answered)
+      follows is_clean stands _ _ (λ i before after moved. (text, all, moved.0)) s t (all_move now s t (contents writer) (contents writer') text ended)
   import_moves remaining contents now s t reader reader' writer writer' (Err Read) (some, same, unwritten) =
-      follows is_clean stands
-      (λ i before after. after ≡ before)
-      (λ i before after. ImportEnds (kept i) remaining contents now before after reader reader' writer writer' (Err Read))
-      (λ i before after stayed. (some, stayed, unwritten))
-      s
-      t
-      (stays is_clean stands s t same)
+      follows is_clean stands _ _ (λ i before after stayed. (some, stayed, unwritten)) s t (stays is_clean stands s t same)
   import_moves remaining contents now s t reader reader' writer writer' (Err Write) (text, all, ended) =
-      follows is_clean stands
-      (λ i before after. (middle : R)
-      × Answered (RowReplies (kept i) now) before (data_rows ended.rows) ended.replies middle
-      × RowReplies (kept i) now middle ended.row ended.reply after)
-      (λ i before after. ImportEnds (kept i) remaining contents now before after reader reader' writer writer' (Err Write))
-      (λ i before after both. (
-        text,
-        all,
-        record {
-          rows = ended.rows;
-          replies = ended.replies;
-          middle = both.0;
-          row = ended.row;
-          reply = ended.reply;
-          part = ended.part;
-          first = ended.first;
-          no_header = ended.no_header;
-          answered = both.1;
-          replied = both.2;
-          partly = ended.partly;
-          wrote = ended.wrote;
-        },
-      ))
-      s
-      t
-      (chains is_clean stands
-      (λ i before middle. Answered (RowReplies (kept i) now) before (data_rows ended.rows) ended.replies middle)
-      (λ i middle after. RowReplies (kept i) now middle ended.row ended.reply after)
-      s
-      ended.middle
-      t
-      (rows_move now s ended.middle (data_rows ended.rows) ended.replies ended.answered)
-      (row_moves now ended.middle ended.row ended.reply t ended.replied))
+      follows is_clean stands _ _ (λ i before after moved. (text, all, moved.0)) s t (cut_move now s t (contents writer) (contents writer') text ended)
   import_moves remaining contents now s t reader reader' writer writer' (Err Memory) (inl (some, same, unwritten)) =
-      follows is_clean stands
-      (λ i before after. after ≡ before)
-      (λ i before after. ImportEnds (kept i) remaining contents now before after reader reader' writer writer' (Err Memory))
-      (λ i before after stayed. inl (some, stayed, unwritten))
-      s
-      t
-      (stays is_clean stands s t same)
+      follows is_clean stands _ _ (λ i before after stayed. inl (some, stayed, unwritten)) s t (stays is_clean stands s t same)
   import_moves remaining contents now s t reader reader' writer writer' (Err Memory) (inr (text, all, ended)) =
-      follows is_clean stands
-      (λ i before after. Answered (RowReplies (kept i) now) before (data_rows ended.rows) ended.replies after)
-      (λ i before after. ImportEnds (kept i) remaining contents now before after reader reader' writer writer' (Err Memory))
-      (λ i before after ran. inr (
-        text,
-        all,
-        record { rows = ended.rows; replies = ended.replies; first = ended.first; answered = ran; wrote = ended.wrote },
-      ))
-      s
-      t
-      (rows_move now s t (data_rows ended.rows) ended.replies ended.answered)
+      follows is_clean stands _ _ (λ i before after moved. inr (text, all, moved.0)) s t (first_move now s t (contents writer) (contents writer') text ended)
   import_moves remaining contents now s t reader reader' writer writer' (Err Store) ended = absurd ended
   import_moves remaining contents now s t reader reader' writer writer' (Err Signer) ended = absurd ended
   import_moves remaining contents now s t reader reader' writer writer' (Err (Refused refusal)) ended = absurd ended
@@ -263,72 +162,13 @@ module _ {S I R : Type 0} (is_clean : S → Type 0) (stands : I → S → R → 
       → RowsEnd answers is_strict now s t out out' text result
       → Leads is_clean stands (λ i before after. RowsEnd (kept i) is_strict now before after out out' text result) s t
   row_run_moves is_strict now s t out out' text (Ok true) (ran, passed) =
-      follows is_clean stands
-      (λ i before after. Answered (RowReplies (kept i) now) before (data_rows ran.rows) ran.replies after)
-      (λ i before after. RowsEnd (kept i) is_strict now before after out out' text (Ok true))
-      (λ i before after moved. (
-        record { rows = ran.rows; replies = ran.replies; all = ran.all; answered = moved; wrote = ran.wrote },
-        passed,
-      ))
-      s
-      t
-      (rows_move now s t (data_rows ran.rows) ran.replies ran.answered)
+      follows is_clean stands _ _ (λ i before after moved. (moved.0, rw moved.1 passed)) s t (all_move now s t out out' text ran)
   row_run_moves is_strict now s t out out' text (Ok false) (ran, strict, refused) =
-      follows is_clean stands
-      (λ i before after. Answered (RowReplies (kept i) now) before (data_rows ran.rows) ran.replies after)
-      (λ i before after. RowsEnd (kept i) is_strict now before after out out' text (Ok false))
-      (λ i before after moved. (
-        record { rows = ran.rows; replies = ran.replies; first = ran.first; answered = moved; wrote = ran.wrote },
-        strict,
-        refused,
-      ))
-      s
-      t
-      (rows_move now s t (data_rows ran.rows) ran.replies ran.answered)
+      follows is_clean stands _ _ (λ i before after moved. (moved.0, strict, rw moved.1 refused)) s t (first_move now s t out out' text ran)
   row_run_moves is_strict now s t out out' text (Err Write) (ran, passed) =
-      follows is_clean stands
-      (λ i before after. (middle : R)
-      × Answered (RowReplies (kept i) now) before (data_rows ran.rows) ran.replies middle
-      × RowReplies (kept i) now middle ran.row ran.reply after)
-      (λ i before after. RowsEnd (kept i) is_strict now before after out out' text (Err Write))
-      (λ i before after both. (
-        record {
-          rows = ran.rows;
-          replies = ran.replies;
-          middle = both.0;
-          row = ran.row;
-          reply = ran.reply;
-          part = ran.part;
-          first = ran.first;
-          no_header = ran.no_header;
-          answered = both.1;
-          replied = both.2;
-          partly = ran.partly;
-          wrote = ran.wrote;
-        },
-        passed,
-      ))
-      s
-      t
-      (chains is_clean stands
-      (λ i before middle. Answered (RowReplies (kept i) now) before (data_rows ran.rows) ran.replies middle)
-      (λ i middle after. RowReplies (kept i) now middle ran.row ran.reply after)
-      s
-      ran.middle
-      t
-      (rows_move now s ran.middle (data_rows ran.rows) ran.replies ran.answered)
-      (row_moves now ran.middle ran.row ran.reply t ran.replied))
+      follows is_clean stands _ _ (λ i before after moved. (moved.0, rw moved.1 passed)) s t (cut_move now s t out out' text ran)
   row_run_moves is_strict now s t out out' text (Err Memory) (ran, passed) =
-      follows is_clean stands
-      (λ i before after. Answered (RowReplies (kept i) now) before (data_rows ran.rows) ran.replies after)
-      (λ i before after. RowsEnd (kept i) is_strict now before after out out' text (Err Memory))
-      (λ i before after moved. (
-        record { rows = ran.rows; replies = ran.replies; first = ran.first; answered = moved; wrote = ran.wrote },
-        passed,
-      ))
-      s
-      t
-      (rows_move now s t (data_rows ran.rows) ran.replies ran.answered)
+      follows is_clean stands _ _ (λ i before after moved. (moved.0, rw moved.1 passed)) s t (first_move now s t out out' text ran)
   row_run_moves is_strict now s t out out' text (Err Read) ended = absurd ended
   row_run_moves is_strict now s t out out' text (Err Store) ended = absurd ended
   row_run_moves is_strict now s t out out' text (Err Signer) ended = absurd ended
@@ -339,21 +179,9 @@ module _ {S I R : Type 0} (is_clean : S → Type 0) (stands : I → S → R → 
       → StrictRan answers now s t out out' text result
       → Leads is_clean stands (λ i before after. StrictRan (kept i) now before after out out' text result) s t
   strict_run_moves now s t out out' text (Ok imported.Whole) (ran, ends) =
-      follows is_clean stands
-      (λ i before after. RowsEnd (kept i) true now before after out out' (ended_part text) (Ok true))
-      (λ i before after. StrictRan (kept i) now before after out out' text (Ok imported.Whole))
-      (λ i before after moved. (moved, ends))
-      s
-      t
-      (row_run_moves true now s t out out' (ended_part text) (Ok true) ran)
+      follows is_clean stands _ _ (λ i before after moved. (moved, ends)) s t (row_run_moves true now s t out out' (ended_part text) (Ok true) ran)
   strict_run_moves now s t out out' text (Ok imported.NoLineEnd) (ran, ends) =
-      follows is_clean stands
-      (λ i before after. RowsEnd (kept i) true now before after out out' (ended_part text) (Ok true))
-      (λ i before after. StrictRan (kept i) now before after out out' text (Ok imported.NoLineEnd))
-      (λ i before after moved. (moved, ends))
-      s
-      t
-      (row_run_moves true now s t out out' (ended_part text) (Ok true) ran)
+      follows is_clean stands _ _ (λ i before after moved. (moved, ends)) s t (row_run_moves true now s t out out' (ended_part text) (Ok true) ran)
   strict_run_moves now s t out out' text (Ok imported.Refused) ran = row_run_moves true now s t out out' (ended_part text) (Ok false) ran
   strict_run_moves now s t out out' text (Err fault) ran = row_run_moves true now s t out out' (ended_part text) (Err fault) ran
 
@@ -362,18 +190,7 @@ module _ {S I R : Type 0} (is_clean : S → Type 0) (stands : I → S → R → 
       (writer writer' : W) (result : Result Imported Fault) → StrictEnds answers remaining contents now s t reader reader' writer writer' result
       → Leads is_clean stands (λ i before after. StrictEnds (kept i) remaining contents now before after reader reader' writer writer' result) s t
   strict_import_moves remaining contents now s t reader reader' writer writer' result (inl (text, took, ran)) =
-      follows is_clean stands
-      (λ i before after. StrictRan (kept i) now before after (contents writer) (contents writer') text result)
-      (λ i before after. StrictEnds (kept i) remaining contents now before after reader reader' writer writer' result)
-      (λ i before after moved. inl (text, took, moved))
-      s
-      t
+      follows is_clean stands _ _ (λ i before after moved. inl (text, took, moved)) s t
       (strict_run_moves now s t (contents writer) (contents writer') text result ran)
   strict_import_moves remaining contents now s t reader reader' writer writer' result (inr (why, some, same, unwritten)) =
-      follows is_clean stands
-      (λ i before after. after ≡ before)
-      (λ i before after. StrictEnds (kept i) remaining contents now before after reader reader' writer writer' result)
-      (λ i before after stayed. inr (why, some, stayed, unwritten))
-      s
-      t
-      (stays is_clean stands s t same)
+      follows is_clean stands _ _ (λ i before after stayed. inr (why, some, stayed, unwritten)) s t (stays is_clean stands s t same)

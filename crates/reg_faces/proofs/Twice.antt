@@ -43,9 +43,9 @@ rows_agree : (cfg : Config) (s : State) (text : List ℕ) (rows others : List Ro
 unfolding Reached
 rows_agree cfg s text [] [] a b = refl
 rows_agree cfg s text [] (row ∷ others) (t, left, (same, bytes), none) (u, rest, (p, found, is, more), end) =
-    absurd (let both : None ≡ Some p = sym none ∙ rw (sym same, sym bytes) found in let bad : ⊥ = cc in bad)
+    let both : None ≡ Some p = sym none ∙ rw (sym same, sym bytes) found in cc
 rows_agree cfg s text (row ∷ rows) [] (u, rest, (p, found, is, more), end) (t, left, (same, bytes), none) =
-    absurd (let both : None ≡ Some p = sym none ∙ rw (sym same, sym bytes) found in let bad : ⊥ = cc in bad)
+    let both : None ≡ Some p = sym none ∙ rw (sym same, sym bytes) found in cc
 rows_agree cfg s text (row ∷ rows) (other ∷ others) (t, left, (p, found, is, more), none) (u, rest, (q, found', is', more'), none') =
     let both : Some p ≡ Some q = sym found ∙ found' in
     let same : p ≡ q = cc in
@@ -88,12 +88,12 @@ means_spells row (Register order serial not_before not_after) (rest, is, fields)
       is = ap (λ o. option_and_then certificate_of o) read;
       command_is = refl;
     }
-means_spells row (Subscriber name) (is, label) = absurd (let bad : ⊥ = cc in bad)
-means_spells row (Order subscriber days) (a, b, is, first, second) = absurd (let bad : ⊥ = cc in bad)
-means_spells row (Request serial ground) (a, is, first, second) = absurd (let bad : ⊥ = cc in bad)
-means_spells row (Decline request) (a, is, first) = absurd (let bad : ⊥ = cc in bad)
-means_spells row (Revoke request) (a, is, first) = absurd (let bad : ⊥ = cc in bad)
-means_spells row Crl is = absurd (let bad : ⊥ = cc in bad)
+means_spells row (Subscriber name) (is, label) = absurd (cc)
+means_spells row (Order subscriber days) (a, b, is, first, second) = absurd (cc)
+means_spells row (Request serial ground) (a, is, first, second) = absurd (cc)
+means_spells row (Decline request) (a, is, first) = absurd (cc)
+means_spells row (Revoke request) (a, is, first) = absurd (cc)
+means_spells row Crl is = absurd (cc)
 
 -- a row that means no command spells no certificate
 unread_spells : (row : Row) → ((command : Command) → ¬ RowMeans row command) → spelled row ≡ None
@@ -166,12 +166,7 @@ registered_told outcome (inl is) told = is
 registered_told outcome (inr (inl is)) told =
     absurd (apart 0 _ _ (ap (λ o. with_lf (outcome_line o)) (sym is) ∙ told) refl)
 registered_told outcome (inr (inr its)) told =
-    absurd
-    (no_fault_told
-    its.0
-    (with_lf (codes "registered"))
-    (ap (λ o. with_lf (outcome_line o)) (sym its.1) ∙ told)
-    (lit< tt))
+    absurd (no_fault_told its.0 (with_lf (codes "registered")) (ap (λ o. with_lf (outcome_line o)) (sym its.1) ∙ told) (lit< tt))
 
 -- a row's line that tells `same` is that of this reply
 same_told
@@ -184,12 +179,7 @@ same_told outcome (inl is) told =
     absurd (apart 0 _ _ (ap (λ o. with_lf (outcome_line o)) (sym is) ∙ told) refl)
 same_told outcome (inr (inl is)) told = is
 same_told outcome (inr (inr its)) told =
-    absurd
-    (no_fault_told
-    its.0
-    (with_lf (codes "same"))
-    (ap (λ o. with_lf (outcome_line o)) (sym its.1) ∙ told)
-    (lit< tt))
+    absurd (no_fault_told its.0 (with_lf (codes "same")) (ap (λ o. with_lf (outcome_line o)) (sym its.1) ∙ told) (lit< tt))
 
 same_line : with_lf (outcome_line (Ok Same)) ≡ with_lf (codes "same")
 unfolding outcome_line reply_line
@@ -218,24 +208,18 @@ all_again : (firsts : List (Result Reply Fault)) (replies : List (List ℕ)) (se
     → AllByRecursion IsOfRow firsts → AllZip IsTold firsts replies → AllZip IsTold seconds others → AllZip AnsweredAgain firsts seconds
     → AllZip RepliedAgain replies others
 all_again [] [] [] [] of a b again = tt
-all_again [] [] [] (other ∷ others) of a b again = absurd b
-all_again [] [] (second ∷ seconds) others of a b again = absurd again
-all_again [] (told ∷ replies) seconds others of a b again = absurd a
-all_again (first ∷ firsts) [] seconds others of a b again = absurd a
-all_again (first ∷ firsts) (told ∷ replies) [] others of a b again = absurd again
-all_again (first ∷ firsts) (told ∷ replies) (second ∷ seconds) [] of a b again = absurd b
 all_again (first ∷ firsts) (told ∷ replies) (second ∷ seconds) (other ∷ others) of a b again =
     (replied_again first second told other of.0 a.0 b.0 again.0, all_again firsts replies seconds others of.1 a.1 b.1 again.1)
+all_again firsts replies seconds others of a b again = absurd (assumption)
 
 -- where no reply tells a fault, no outcome is one
 no_faults : (outcomes : List (Result Reply Fault)) (replies : List (List ℕ))
     → AllZip IsTold outcomes replies → AllByRecursion (λ told. ¬ TellsFault told) replies
     → AllByRecursion (λ outcome. IsFault outcome → ⊥) outcomes
 no_faults [] [] is none = tt
-no_faults [] (told ∷ replies) is none = absurd is
-no_faults (outcome ∷ outcomes) [] is none = absurd is
 no_faults (outcome ∷ outcomes) (told ∷ replies) is none =
     ((λ fault. none.0 (outcome, is.0, fault)), no_faults outcomes replies is.1 none.1)
+no_faults outcomes replies is none = absurd is
 
 -- ---- a run of rows, as an import by the rules
 
@@ -252,8 +236,6 @@ module _ (signed : CertList → List ℕ → Type 0) (answers : Records → Mean
   ran : (records after : Records) (now : ℕ) (rows : List Row) (replies : List (List ℕ))
       → Answered (RowReplies answers now) records rows replies after → RowsRan signed records now rows replies after
   ran records after now [] [] same = record { outcomes = []; imports = same; of_rows = tt; told = tt }
-  ran records after now [] (told ∷ replies) answered = absurd answered
-  ran records after now (row ∷ rows) [] answered = absurd answered
   ran records after now (row ∷ rows) (told ∷ replies) (next, inl (command, outcome, means, happened, is), answered) =
       let spells = means_spells row command means in
       let rest = ran next after now rows replies answered in
@@ -275,6 +257,7 @@ module _ (signed : CertList → List ℕ → Type 0) (answers : Records → Mean
         of_rows = (inr (inr (Refused refused.Syntax, refl)), rest.of_rows);
         told = (is, rest.told);
       }
+  ran records after now rows replies answered = absurd answered
 
   -- two runs of one text
   pub comes_twice : (records between after : Records) (now : ℕ) (text : List ℕ) (out out' again again' : Option (List ℕ))
@@ -289,18 +272,6 @@ module _ (signed : CertList → List ℕ → Type 0) (answers : Records → Mean
       let one = ran records between now (data_rows first.rows) first.replies first.answered in
       let two = ran between after now (data_rows first.rows) second.replies (subst P same second.answered) in
       let both =
-      imports_twice
-      signed
-      records
-      between
-      after
-      now
-      (map spelled (data_rows first.rows))
-      one.outcomes
-      two.outcomes
-      sound
-      one.imports
-      (no_faults one.outcomes first.replies one.told none)
-      two.imports
-      in
+      imports_twice signed records between after now (map spelled (data_rows first.rows)) one.outcomes two.outcomes sound one.imports
+      (no_faults one.outcomes first.replies one.told none) two.imports in
       (both.0, all_again one.outcomes first.replies two.outcomes second.replies one.of_rows one.told two.told both.1)

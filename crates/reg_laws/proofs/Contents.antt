@@ -1,9 +1,9 @@
 -- Records that grow, and that what a recorded CRL lists stays as it was.
-use Rattle.std.proofs.Common.{◌≡◌, ℕ, ◌+◌, ◌<◌, ◌≤◌, Bool, false, not, ◌&&◌, ◌==◌, nat_le, nat_lt, List, [], ◌∷◌, ◌++◌, length, map, filter, Some, IsFalse, refl, sym, ap, ap₂, ◌∙◌, arith, append_assoc, append-nil, length-append}
-use Rattle.std.specs.List.{AllByRecursion, list_any}
+use Rattle.std.proofs.Common.{◌≡◌, ℕ, ◌+◌, ◌<◌, ◌≤◌, Bool, not, ◌&&◌, ◌==◌, nat_le, nat_lt, List, [], ◌∷◌, ◌++◌, length, map, filter, Some, IsFalse, refl, sym, ap, ap₂, ◌∙◌, arith, append_assoc, append-nil, length-append}
+use Rattle.std.specs.List.{AllByRecursion}
 use Rattle.std.proofs.lemmas.Bool.Decides.{nat_tests}
 use Rattle.std.proofs.lemmas.List.Elements.{filter-append}
-use Rattle.reg_core.specs.Crls.{content, cert_list, entry_of, ascending, is_on, is_past_on, is_past_end, next_number}
+use Rattle.reg_core.specs.Crls.{content, cert_list, entry_of, ascending, is_on, is_past_on, next_number}
 use Rattle.reg_core.specs.Records.{Records, Crl, certificate_in}
 use Rattle.reg_core.specs.Sound.{SoundRows, SoundRevocation, NumberedFrom}
 use Rattle.reg_core.specs.declared.rows.CertRow.{CertRow}
@@ -50,46 +50,39 @@ grows_on before between after first second = record {
   policy = second.policy ∙ first.policy;
   last = omega (arith, first.last, second.last);
   more_certificates = first.more_certificates ++ second.more_certificates;
-  certificates = added before.certificates first.more_certificates second.more_certificates between.certificates after.certificates first.certificates second.certificates;
+  certificates = added _ _ _ _ _ first.certificates second.certificates;
   more_revocations = first.more_revocations ++ second.more_revocations;
-  revocations = added before.revocations first.more_revocations second.more_revocations between.revocations after.revocations first.revocations second.revocations;
+  revocations = added _ _ _ _ _ first.revocations second.revocations;
   more_crls = first.more_crls ++ second.more_crls;
-  crls = added before.crls first.more_crls second.more_crls between.crls after.crls first.crls second.crls;
-  new_firsts = all_append (λ revocation. length before.crls < revocation.first) first.more_revocations second.more_revocations first.new_firsts (all_weaker (λ revocation. length between.crls < revocation.first) (λ revocation. length before.crls < revocation.first) (λ revocation above. omega (arith, longer)) second.more_revocations second.new_firsts);
-  new_numbers = all_append (λ crl. length before.crls < crl.number) first.more_crls second.more_crls first.new_numbers (all_weaker (λ crl. length between.crls < crl.number) (λ crl. length before.crls < crl.number) (λ crl above. omega (arith, longer)) second.more_crls second.new_numbers);
+  crls = added _ _ _ _ _ first.crls second.crls;
+  new_firsts = all_append _ first.more_revocations _ first.new_firsts (all_weaker _ _ (λ revocation above. omega (arith, longer)) _ second.new_firsts);
+  new_numbers = all_append _ first.more_crls _ first.new_numbers (all_weaker _ _ (λ crl above. omega (arith, longer)) _ second.new_numbers);
 }
   where
     longer : length before.crls ≤ length between.crls
-    longer = let e : length between.crls ≡ length before.crls + length first.more_crls = ap length first.crls ∙ length-append before.crls first.more_crls in omega arith
+    longer = omega (arith, ap length first.crls, length-append before.crls first.more_crls)
 
-next_from : (from : ℕ) (first : Crl) (rest : List Crl) → NumberedFrom (λ crl. crl.number) from (first ∷ rest) → next_number (first ∷ rest) ≡ from + length (first ∷ rest)
+next_from : (from : ℕ) (first : Crl) (rest : List Crl) → NumberedFrom (λ crl. crl.number) from (first ∷ rest)
+    → next_number (first ∷ rest) ≡ from + length (first ∷ rest)
 next_from from first [] numbered = omega (arith, numbered.0)
-next_from from first (next ∷ rest) numbered = let later : next_number (next ∷ rest) ≡ (from + 1) + length (next ∷ rest) = next_from (from + 1) next rest numbered.1 in omega arith
+next_from from first (next ∷ rest) numbered = omega (arith, next_from (from + 1) next rest numbered.1)
 
 -- the next number is one more than the number of CRLs
 pub next_is : (crls : List Crl) → NumberedFrom (λ crl. crl.number) 1 crls → next_number crls ≡ length crls + 1
 next_is [] numbered = refl
-next_is (first ∷ rest) numbered = let is : next_number (first ∷ rest) ≡ 1 + length (first ∷ rest) = next_from 1 first rest numbered in omega arith
+next_is (first ∷ rest) numbered = omega (arith, next_from 1 first rest numbered)
 
--- whether a moment is past the end of a registered certificate stays as it was
-pub past_end_kept : (rows more : List CertRow) (serial moment : ℕ) (certificate : CertRow)
-    → certificate_in rows serial ≡ Some certificate
-    → is_past_end (rows ++ more) serial moment ≡ is_past_end rows serial moment
-past_end_kept rows more serial moment certificate found =
-    let front : certificate_in (rows ++ more) serial ≡ Some certificate = find_front (λ row. row.serial == serial) rows more certificate found in
-    rw (front, found)
-
--- so does whether a CRL is past the end of a recorded revocation's certificate
+-- whether a CRL is past the end of a recorded revocation's certificate stays as it was
 pub is_past_on_kept : (rows more : List CertRow) (revocation : RevocationRow) (crl : Crl) (certificate : CertRow)
-    → certificate_in rows revocation.serial ≡ Some certificate
-    → is_past_on (rows ++ more) revocation crl ≡ is_past_on rows revocation crl
+    → certificate_in rows revocation.serial ≡ Some certificate → is_past_on (rows ++ more) revocation crl ≡ is_past_on rows revocation crl
 is_past_on_kept rows more revocation crl certificate found =
-    ap (λ past. nat_le revocation.first crl.number && past) (past_end_kept rows more revocation.serial crl.this_update certificate found)
+    let front : certificate_in (rows ++ more) revocation.serial ≡ Some certificate =
+    find_front (λ row. row.serial == revocation.serial) rows more certificate found in
+    rw (front, found)
 
 -- over rows and CRLs that were added: up to the least new number, whether a CRL lists a revocation stays as it was
 is_on_added : (rows more_rows : List CertRow) (crls more_crls : List Crl) (n : ℕ) (revocation : RevocationRow) (certificate : CertRow)
-    → certificate_in rows revocation.serial ≡ Some certificate
-    → AllByRecursion (λ crl. n ≤ crl.number) more_crls
+    → certificate_in rows revocation.serial ≡ Some certificate → AllByRecursion (λ crl. n ≤ crl.number) more_crls
     → is_on (rows ++ more_rows) (crls ++ more_crls) n revocation ≡ is_on rows crls n revocation
 is_on_added rows more_rows crls more_crls n revocation certificate found above =
     ap (λ past. nat_le revocation.first n && not past) (any_past after crls more_crls late ∙ any_same after before crls same)
@@ -101,71 +94,61 @@ is_on_added rows more_rows crls more_crls n revocation certificate found above =
     before crl = nat_lt crl.number n && is_past_on rows revocation crl
 
     late : AllByRecursion (λ crl. IsFalse (after crl)) more_crls
-    late = all_weaker (λ crl. n ≤ crl.number) (λ crl. IsFalse (after crl)) (λ crl least. let e : nat_lt crl.number n ≡ false = grind (arith, nat_tests) in ap (λ below. below && is_past_on (rows ++ more_rows) revocation crl) e) more_crls above
+    late = all_weaker _ _ (λ crl least. grind (arith, nat_tests)) more_crls above
 
     same : AllByRecursion (λ crl. after crl ≡ before crl) crls
-    same = all_any (λ crl. after crl ≡ before crl) (λ crl. ap (λ past. nat_lt crl.number n && past) (is_past_on_kept rows more_rows revocation crl certificate found)) crls
-
--- up to the next number, whether a CRL lists a recorded revocation stays as it was
-pub is_on_kept : (before after : Records) → Grows before after → (n : ℕ) → n ≤ length before.crls + 1
-    → (revocation : RevocationRow) → SoundRevocation before.last before.certificates before.requests before.crls revocation
-    → is_on after.certificates after.crls n revocation ≡ is_on before.certificates before.crls n revocation
-is_on_kept before after grows n recorded revocation sound =
-    let found = some_and_of (λ certificate. revocation.at ≤ certificate.not_after) (certificate_in before.certificates revocation.serial) sound.within_validity in
-    let above : AllByRecursion (λ crl. n ≤ crl.number) grows.more_crls = all_weaker (λ crl. length before.crls < crl.number) (λ crl. n ≤ crl.number) (λ crl new. omega arith) grows.more_crls grows.new_numbers in
-    ap₂ (λ (rows : List CertRow) (crls : List Crl). is_on rows crls n revocation) grows.certificates grows.crls
-    ∙ is_on_added before.certificates grows.more_certificates before.crls grows.more_crls n revocation found.0 found.1 above
+    same = all_any _ (λ crl. ap (λ past. nat_lt crl.number n && past) (is_past_on_kept rows more_rows revocation crl certificate found)) crls
 
 -- what the CRL with a number up to the next lists of the recorded revocations stays as it was
-pub old_content_kept : (before after : Records) → SoundRows before → Grows before after → (n : ℕ) → n ≤ length before.crls + 1
+old_content_kept : (before after : Records) → SoundRows before → Grows before after → (n : ℕ) → n ≤ length before.crls + 1
     → filter (is_on after.certificates after.crls n) before.revocations ≡ content before n
-old_content_kept before after sound grows n recorded =
-    filter_same (is_on after.certificates after.crls n) (is_on before.certificates before.crls n) before.revocations same
+old_content_kept before after sound grows n recorded = filter_same _ _ before.revocations (all_weaker _ _ same before.revocations sound.revocations.each)
   where
-    same : AllByRecursion (λ revocation. is_on after.certificates after.crls n revocation ≡ is_on before.certificates before.crls n revocation) before.revocations
-    same =
-        all_weaker
-        (SoundRevocation before.last before.certificates before.requests before.crls)
-        (λ revocation. is_on after.certificates after.crls n revocation ≡ is_on before.certificates before.crls n revocation)
-        (is_on_kept before after grows n recorded)
-        before.revocations
-        sound.revocations.each
+    above : AllByRecursion (λ crl. n ≤ crl.number) grows.more_crls
+    above = all_weaker _ _ (λ crl new. omega arith) grows.more_crls grows.new_numbers
+
+    same : (revocation : RevocationRow) → SoundRevocation before.last before.certificates before.requests before.crls revocation
+        → is_on after.certificates after.crls n revocation ≡ is_on before.certificates before.crls n revocation
+    same revocation holds =
+        let found =
+        some_and_of (λ certificate. revocation.at ≤ certificate.not_after) (certificate_in before.certificates revocation.serial) holds.within_validity in
+        ap₂ (λ (rows : List CertRow) (crls : List Crl). is_on rows crls n revocation) grows.certificates grows.crls
+        ∙ is_on_added before.certificates grows.more_certificates before.crls grows.more_crls n revocation found.0 found.1 above
 
 -- what a recorded CRL lists stays as it was
 pub content_kept : (before after : Records) → SoundRows before → Grows before after → (n : ℕ) → n ≤ length before.crls → content after n ≡ content before n
 content_kept before after sound grows n recorded =
-    ap (filter test) grows.revocations ∙ filter-append test before.revocations grows.more_revocations ∙ ap₂ ◌++◌ (old_content_kept before after sound grows n (omega arith)) none ∙ append-nil (content before n)
+    ap (filter test) grows.revocations ∙ filter-append test before.revocations grows.more_revocations
+    ∙ ap₂ ◌++◌ (old_content_kept before after sound grows n (omega arith)) (filter_none test grows.more_revocations fails) ∙ append-nil (content before n)
   where
     test : RevocationRow → Bool
     test = is_on after.certificates after.crls n
 
-    fails : (revocation : RevocationRow) → length before.crls < revocation.first → IsFalse (test revocation)
-    fails revocation new =
-        let e : nat_le revocation.first n ≡ false = grind (arith, nat_tests) in
-        ap (λ first. first && not (list_any (λ crl. nat_lt crl.number n && is_past_on after.certificates revocation crl) after.crls)) e
-
-    none : filter test grows.more_revocations ≡ []
-    none =
-        filter_none
-        test
-        grows.more_revocations
-        (all_weaker (λ revocation. length before.crls < revocation.first) (λ revocation. IsFalse (test revocation)) fails grows.more_revocations grows.new_firsts)
+    fails : AllByRecursion (λ revocation. IsFalse (test revocation)) grows.more_revocations
+    fails = all_weaker _ _ (λ revocation new. grind (arith, nat_tests)) grows.more_revocations grows.new_firsts
 
 -- what is signed in a CRL is determined by what it lists
-cert_list_by : (before after : Records) (n this_update : ℕ) → after.issuer ≡ before.issuer → after.policy ≡ before.policy → content after n ≡ content before n → cert_list after n this_update ≡ cert_list before n this_update
+cert_list_by : (before after : Records) (n this_update : ℕ) → after.issuer ≡ before.issuer → after.policy ≡ before.policy → content after n ≡ content before n
+    → cert_list after n this_update ≡ cert_list before n this_update
 cert_list_by before after n this_update issuer policy listed =
-    λ i. record { issuer = issuer i; number = n; this_update = this_update; next_update = this_update + (policy i).crl_life; entries = ascending (map entry_of (listed i)) }
+    λ i. record {
+      issuer = issuer i;
+      number = n;
+      this_update = this_update;
+      next_update = this_update + (policy i).crl_life;
+      entries = ascending
+          (map entry_of (listed i));
+    }
 
 -- what is signed in a recorded CRL stays as it was
-pub cert_list_kept : (before after : Records) → SoundRows before → Grows before after → (n this_update : ℕ) → n ≤ length before.crls → cert_list after n this_update ≡ cert_list before n this_update
+pub cert_list_kept : (before after : Records) → SoundRows before → Grows before after → (n this_update : ℕ) → n ≤ length before.crls
+    → cert_list after n this_update ≡ cert_list before n this_update
 cert_list_kept before after sound grows n this_update recorded =
     cert_list_by before after n this_update grows.issuer grows.policy (content_kept before after sound grows n recorded)
 
--- where no revocation is added, the same of the next CRL
-pub next_content_kept : (before after : Records) → SoundRows before → Grows before after → after.revocations ≡ before.revocations → (n : ℕ) → n ≤ length before.crls + 1 → content after n ≡ content before n
-next_content_kept before after sound grows same n recorded =
-    ap (filter (is_on after.certificates after.crls n)) same ∙ old_content_kept before after sound grows n recorded
-
-pub next_cert_list_kept : (before after : Records) → SoundRows before → Grows before after → after.revocations ≡ before.revocations → (n this_update : ℕ) → n ≤ length before.crls + 1 → cert_list after n this_update ≡ cert_list before n this_update
+-- and where no revocation is added, that of the next CRL
+pub next_cert_list_kept : (before after : Records) → SoundRows before → Grows before after → after.revocations ≡ before.revocations → (n this_update : ℕ)
+    → n ≤ length before.crls + 1 → cert_list after n this_update ≡ cert_list before n this_update
 next_cert_list_kept before after sound grows same n this_update recorded =
-    cert_list_by before after n this_update grows.issuer grows.policy (next_content_kept before after sound grows same n recorded)
+    cert_list_by before after n this_update grows.issuer grows.policy
+    (ap (filter (is_on after.certificates after.crls n)) same ∙ old_content_kept before after sound grows n recorded)

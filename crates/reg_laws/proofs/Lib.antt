@@ -11,9 +11,7 @@ pub mod Listed
 pub mod Listings
 pub mod Lists
 pub mod Outcomes
-pub mod Parted
 pub mod Revoked
 pub mod Runs
-pub mod Timed
 pub mod Told
 pub mod Worked

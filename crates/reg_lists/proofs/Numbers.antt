@@ -1,19 +1,11 @@
 -- Rows that are numbered from 1 on: those past a number, and the one at a number.
-use Rattle.std.proofs.Common.{◌≡◌, ◌≢◌, ◌≤◌, ◌<◌, ◌+◌, ◌-◌, ◌==◌, ℕ, zero, suc, Bool, true, false, cond, List, [], ◌∷◌, length, map, take, drop, Option, None, Some, refl, sym, ap, subst, ◌∙◌, arith, inl, inr}
-use Rattle.std.specs.Prelude.{nat_lt, slice_get, filter_map, option_and_then, option_map}
+use Rattle.std.proofs.Common.{◌≡◌, ◌≢◌, ◌≤◌, ◌<◌, ◌+◌, ◌==◌, ℕ, zero, suc, List, [], ◌∷◌, length, take, drop, Option, Some, refl, sym, ap, subst, ◌∙◌, arith}
+use Rattle.std.specs.Prelude.{nat_lt, filter_map, option_and_then}
 use Rattle.std.specs.List.{filter, find, AllByRecursion, cons_option}
-use Rattle.std.proofs.lemmas.Bool.{lt-ltb, le-ltb}
 use Rattle.std.proofs.lemmas.Bool.Decides.{nat_tests}
 use Rattle.reg_core.specs.Sound.{KeysDiffer, NumberedFrom}
-use Rattle.reg_lists.specs.Lists.{put_in, in_order, next_behind, past}
-use Rattle.reg_lists.specs.declared.cursor.Cursor.{Cursor}
-use Rattle.reg_lists.proofs.Orders.{filter_in, filter_out, numbers_differ}
-
-other_number : (m n : ℕ) → m ≢ n → (m == n) ≡ false
-other_number m n other = grind (arith, nat_tests)
-
-same_number : (m : ℕ) → (m == m) ≡ true
-same_number m = grind (arith, nat_tests)
+use Rattle.reg_lists.specs.Lists.{put_in, in_order, past}
+use Rattle.reg_lists.proofs.Orders.{all_above, put_front}
 
 module _ {A : Type 0} (key : A → ℕ) where
   -- ---- the row with a key
@@ -21,42 +13,31 @@ module _ {A : Type 0} (key : A → ℕ) where
   find_later : (x : A) (xs ys : List A) → AllByRecursion (λ a. key x ≢ key a) ys → AllByRecursion (λ a. Some a ≡ find (λ b. key b == key a) xs) ys
       → AllByRecursion (λ a. Some a ≡ find (λ b. key b == key a) (x ∷ xs)) ys
   find_later x xs [] apart found = tt
-  find_later x xs (y ∷ ys) apart found = (rw (other_number (key x) (key y) apart.0) found.0, find_later x xs ys apart.1 found.1)
+  find_later x xs (y ∷ ys) apart found = (grind (arith, nat_tests, apart.0, found.0), find_later x xs ys apart.1 found.1)
 
   -- where keys differ, each row is the one that is found by its key
   pub find_self : (xs : List A) → KeysDiffer key xs → AllByRecursion (λ a. Some a ≡ find (λ b. key b == key a) xs) xs
   find_self [] differ = tt
-  find_self (x ∷ xs) differ = (rw (same_number (key x)) refl, find_later x xs xs differ.0 (find_self xs differ.1))
+  find_self (x ∷ xs) differ = (grind (arith, nat_tests), find_later x xs xs differ.0 (find_self xs differ.1))
 
   -- ---- the rows past a number
 
   from_on : (low from : ℕ) (xs : List A) → low < from → NumberedFrom key from xs → AllByRecursion (λ a. low < key a) xs
   from_on low from [] less numbered = tt
-  from_on low from (x ∷ xs) less numbered = ((let is = numbered.0 in omega (arith, is)), from_on low (from + 1) xs (omega arith) numbered.1)
-
-  put_first : (x : A) (xs : List A) → AllByRecursion (λ a. key x < key a) xs → put_in key x xs ≡ x ∷ xs
-  put_first x [] all = refl
-  put_first x (y ∷ xs) all = rw (lt-ltb (key x) (key y) all.0) refl
+  from_on low from (x ∷ xs) less numbered = (omega (arith, numbered.0), from_on low (from + 1) xs (omega arith) numbered.1)
 
   in_order_already : (from : ℕ) (xs : List A) → NumberedFrom key from xs → in_order key xs ≡ xs
   in_order_already from [] numbered = refl
   in_order_already from (x ∷ xs) numbered =
-      ap (put_in key x) (in_order_already (from + 1) xs numbered.1)
-      ∙ put_first x xs (from_on (key x) (from + 1) xs (let is = numbered.0 in omega (arith, is)) numbered.1)
-
-  all_past : (after : ℕ) (xs : List A) → AllByRecursion (λ a. after < key a) xs → filter (λ a. nat_lt after (key a)) xs ≡ xs
-  all_past after [] all = refl
-  all_past after (x ∷ xs) all = filter_in (λ a. nat_lt after (key a)) x xs (lt-ltb after (key x) all.0) ∙ ap (λ l. x ∷ l) (all_past after xs all.1)
+      ap (put_in key x) (in_order_already (from + 1) xs numbered.1) ∙ put_front key x xs (from_on (key x) (from + 1) xs (omega (arith, numbered.0)) numbered.1)
 
   -- the first so many are not past their number
   filter_drop : (from gone : ℕ) (xs : List A) → NumberedFrom key (from + 1) xs → filter (λ a. nat_lt (from + gone) (key a)) xs ≡ drop gone xs
-  filter_drop from zero xs numbered = all_past (from + 0) xs (from_on (from + 0) (from + 1) xs (omega arith) numbered)
+  filter_drop from zero xs numbered = all_above key (from + 0) xs (from_on (from + 0) (from + 1) xs (omega arith) numbered)
   filter_drop from (suc gone) [] numbered = refl
   filter_drop from (suc gone) (x ∷ xs) numbered =
-      let near : nat_lt (from + suc gone) (key x) ≡ false = le-ltb (from + suc gone) (key x) (let is = numbered.0 in omega (arith, is)) in
       let next : from + suc gone ≡ (from + 1) + gone = omega arith in
-      filter_out (λ a. nat_lt (from + suc gone) (key a)) x xs near ∙ ap (λ k. filter (λ a. nat_lt k (key a)) xs) next
-      ∙ filter_drop (from + 1) gone xs numbered.1
+      grind (arith, nat_tests, numbered.0, ap (λ k. filter (λ a. nat_lt k (key a)) xs) next, filter_drop (from + 1) gone xs numbered.1)
 
   numbered_kept : (after from : ℕ) (xs : List A) → NumberedFrom key from xs → NumberedFrom key (from + after) (drop after xs)
   numbered_kept zero from xs numbered = let same : from ≡ from + 0 = omega arith in subst (λ k. NumberedFrom key k xs) same numbered

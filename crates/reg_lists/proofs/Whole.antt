@@ -1,7 +1,6 @@
 -- The pages of a list, one behind the other, have its rows.
-use Rattle.std.proofs.Common.{◌≡◌, ◌≤◌, ◌<◌, ◌+◌, ◌-◌, ◌==◌, ℕ, zero, suc, Bool, true, false, cond, List, [], ◌∷◌, ◌++◌, append-nil, append_assoc, length, map, take, drop, Option, None, Some, refl, sym, ap, subst, ◌∙◌, arith, inl, inr}
-use Rattle.std.specs.Prelude.{slice_get, filter_map, option_map}
-use Rattle.std.specs.List.{cons_option}
+use Rattle.std.proofs.Common.{◌≡◌, ◌+◌, ◌-◌, ◌==◌, ℕ, zero, suc, List, [], ◌∷◌, ◌++◌, append-nil, length, map, take, drop, Option, None, Some, refl, sym, ap, ◌∙◌, arith, inl, inr}
+use Rattle.std.specs.Prelude.{filter_map}
 use Rattle.std.proofs.lemmas.Bool.{cases_Bool}
 use Rattle.std.proofs.lemmas.Bool.Decides.{nat_tests}
 use Rattle.reg_core.specs.Records.{Records, Crl}
@@ -23,20 +22,10 @@ abbrev pub rest_of : Records → ℕ → Option Cursor → List Row
 rest_of records now None = []
 rest_of records now (Some next) = rows_from records now next
 
-cons_split : {B : Type 0} (o : Option B) (xs ys zs : List B) → xs ≡ ys ++ zs → cons_option o xs ≡ cons_option o ys ++ zs
-cons_split None xs ys zs same = same
-cons_split (Some x) xs ys zs same = ap (λ l. x ∷ l) same
-
 split_at : {A B : Type 0} (f : A → Option B) (n : ℕ) (xs : List A) → filter_map f xs ≡ filter_map f (take n xs) ++ filter_map f (drop n xs)
 split_at f zero xs = refl
 split_at f (suc n) [] = refl
-split_at f (suc n) (x ∷ xs) = cons_split (f x) (filter_map f xs) (filter_map f (take n xs)) (filter_map f (drop n xs)) (split_at f n xs)
-
-is_number : (m n : ℕ) → (m == n) ≡ true → m ≡ n
-is_number m n same = grind (arith, nat_tests)
-
-no_number : (m n : ℕ) → (m == n) ≡ false → m ≡ n → ⊥
-no_number m n other same = grind (arith, nat_tests)
+split_at f (suc n) (x ∷ xs) = grind (arith, split_at f n xs)
 
 module _ (records : Records) (now m : ℕ) where
   -- one page of rows of a kind, whose list from a key on is known
@@ -47,20 +36,16 @@ module _ (records : Records) (now m : ℕ) where
       let keys = map key (take (suc m) rows) in
       elim (cases_Bool (length keys == suc m)) [
         | inl full ↦
-            let size : length keys ≡ suc m = is_number (length keys) (suc m) full in
+            let size : length keys ≡ suc m = grind (arith, nat_tests) in
             let last = last_of key m rows size in
             let place : length keys - 1 ≡ m = omega (arith, size) in
-            let next : next_behind at (suc m) keys ≡ Some (at (key last.0)) =
-            ap (λ b. cond b (option_map at (slice_get keys (length keys - 1))) None) full ∙ ap (λ k. option_map at (slice_get keys k)) place ∙ ap (option_map at) last.2 in
-            split_at row_for (suc m) rows
-            ∙ ap (λ l. filter_map row_for (take (suc m) rows) ++ filter_map row_for l) (sym (past_behind key xs differ after m last.0 last.1))
-            ∙ ap (λ l. filter_map row_for (take (suc m) rows) ++ l) (sym (list (key last.0)))
-            ∙ ap (λ o. filter_map row_for (take (suc m) rows) ++ rest_of records now o) (sym next)
+            let next : next_behind at (suc m) keys ≡ Some (at (key last.0)) = rw (full, place, last.2) in
+            rw next (split_at row_for (suc m) rows ∙ ap (λ l. filter_map row_for (take (suc m) rows) ++ l)
+            (sym (list (key last.0) ∙ ap (filter_map row_for) (past_behind key xs differ after m last.0 last.1))))
         | inr short ↦
-            let whole : take (suc m) rows ≡ rows = taken_whole key (suc m) rows (no_number (length keys) (suc m) short) in
-            let next : next_behind at (suc m) keys ≡ None = ap (λ b. cond b (option_map at (slice_get keys (length keys - 1))) None) short in
-            sym (append-nil (filter_map row_for rows)) ∙ ap (λ l. filter_map row_for l ++ []) (sym whole)
-            ∙ ap (λ o. filter_map row_for (take (suc m) rows) ++ rest_of records now o) (sym next)
+            let part : length keys ≡ suc m → ⊥ = (λ full. grind (arith, nat_tests)) in
+            let next : next_behind at (suc m) keys ≡ None = rw short in
+            rw next (sym (append-nil (filter_map row_for rows)) ∙ ap (λ l. filter_map row_for l ++ []) (sym (taken_whole key (suc m) rows part)))
       ]
 
   -- a page, and then the list from where the next one goes on
