@@ -9,7 +9,7 @@ use Rattle.std.proofs.lemmas.List.{map-append, length-map}
 use Rattle.std.proofs.lemmas.List.Sorted.{IsPermutation-map, IsPermutation-append, IsPermutation-refl, length_permutation}
 use Rattle.sqlite_trees.proofs.ListLemmas.{map-map, filter-map, IsPermutation-filter}
 use Rattle.reg_laws.proofs.CountFacts.{same_length, one_has, equal_numbers, same_number}
-use Rattle.reg_core.specs.Changes.{Fits, changed_by, touched, with_subscriber, with_order, with_certificate, with_request, with_declined, with_revocation, with_crl}
+use Rattle.reg_core.specs.Changes.{Fits, changed_by, touched, with_certificate, with_revocation, with_crl}
 use Rattle.reg_core.specs.Crls.{last_listing, is_past_end, is_past_on, next_number}
 use Rattle.reg_core.specs.Records.{Records, Crl, certificate_in, revocation_in}
 use Rattle.reg_core.specs.Sound.{SoundRows, SoundRevocation}
@@ -85,21 +85,6 @@ module _ (records : Records) (columns : Columns) (now : ℕ) (sound : SoundRows 
 
   moved_stand : shifted columns.counts (ended_by now columns) 0 0 ≡ counts (touched records now) now
   moved_stand = moved ∙ counts_stand (touched records now) (found_each records sound) (swept now columns).letters passed
-
-  kept_touched : (end : ℕ) → Kept (columns_after now Touch end columns) (touched records now)
-  kept_touched end = record { letters = passed; counts = moved_stand; listed = kept.listed }
-
-  kept_subscriber : (row : _) (end : ℕ) → Kept (columns_after now (Subscriber row) end columns) (with_subscriber records now row)
-  kept_subscriber row end = record { letters = passed; counts = moved_stand; listed = kept.listed }
-
-  kept_order : (row : _) (end : ℕ) → Kept (columns_after now (Order row) end columns) (with_order records now row)
-  kept_order row end = record { letters = passed; counts = moved_stand; listed = kept.listed }
-
-  kept_request : (row : _) (end : ℕ) → Kept (columns_after now (Request row) end columns) (with_request records now row)
-  kept_request row end = record { letters = passed; counts = moved_stand; listed = kept.listed }
-
-  kept_declined : (id end : ℕ) → Kept (columns_after now (Decline id) end columns) (with_declined records now id)
-  kept_declined id end = record { letters = passed; counts = moved_stand; listed = kept.listed }
 
 -- ---- one certificate more
 
@@ -314,12 +299,12 @@ module _ (records : Records) (columns : Columns) (now : ℕ) (sound : SoundRows 
 
 pub kept_change : (records : Records) (columns : Columns) (now : ℕ) → SoundRows records → records.last ≤ now → Kept columns records → (change : Change) → Fits records now change
     → Kept (columns_after now change (end_in_change records now change) columns) (changed_by records now change)
-kept_change records columns now sound up kept Touch fits = kept_touched records columns now sound up kept now
-kept_change records columns now sound up kept (Subscriber row) fits = kept_subscriber records columns now sound up kept row now
-kept_change records columns now sound up kept (Order row) fits = kept_order records columns now sound up kept row now
+kept_change records columns now sound up kept Touch fits = record { letters = passed records columns now sound up kept; counts = moved_stand records columns now sound up kept; listed = kept.listed }
+kept_change records columns now sound up kept (Subscriber row) fits = record { letters = passed records columns now sound up kept; counts = moved_stand records columns now sound up kept; listed = kept.listed }
+kept_change records columns now sound up kept (Order row) fits = record { letters = passed records columns now sound up kept; counts = moved_stand records columns now sound up kept; listed = kept.listed }
 kept_change records columns now sound up kept (Certificate row) fits = kept_certificate records columns now sound up kept row fits.0 fits.1 now
-kept_change records columns now sound up kept (Request row) fits = kept_request records columns now sound up kept row now
-kept_change records columns now sound up kept (Decline id) fits = kept_declined records columns now sound up kept id now
+kept_change records columns now sound up kept (Request row) fits = record { letters = passed records columns now sound up kept; counts = moved_stand records columns now sound up kept; listed = kept.listed }
+kept_change records columns now sound up kept (Decline id) fits = record { letters = passed records columns now sound up kept; counts = moved_stand records columns now sound up kept; listed = kept.listed }
 kept_change records columns now sound up kept (Revocation row) fits =
     let known = some_and_of (λ certificate. now ≤ certificate.not_after) (certificate_in records.certificates row.serial) fits.1 in
     let ends : known.0.not_after ≡ not_after_of records row.serial = ap (λ found. unwrap_or (option_map (λ (c : CertRow). c.not_after) found) 0) (sym known.1) in

@@ -1,10 +1,7 @@
-pub mod Days
 pub mod Law
 pub mod Letters
 pub mod Making
 pub mod Meaning
-pub mod Obeying
 pub mod Putting
-pub mod Spared
 pub mod Stages
 pub mod Sweeping

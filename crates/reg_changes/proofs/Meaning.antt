@@ -1,10 +1,14 @@
 -- What the texts mean over the tables of a register.
 use Rattle.std.proofs.Common.{ℕ, pos, List, [], ◌∷◌, codes, refl}
+use Rattle.sqlite_value.specs.declared.value.Value.{Value}
+use Rattle.sqlite_value.specs.declared.value.ValueRef.{ValueRef}
+use Rattle.sqlite_value.specs.Value.{owned}
 use Rattle.sqlite_value.specs.declared.value.Value.TheVariants.{Null, Int, Text}
 use Rattle.sqlite_value.specs.declared.keys.Collation.TheVariants.{Binary}
 use Rattle.sqlite_sql.specs.Term.{Term, lit, col, op2}
 use Rattle.sqlite_sql.specs.declared.ops.BinaryOp.TheVariants.{Compare, Is}
 use Rattle.sqlite_sql.specs.declared.ops.CompareOp.TheVariants.{Eq, Lt}
+use Rattle.sqlite.specs.Values.{bound_value}
 use Rattle.sqlite.specs.Listing.{understood}
 use Rattle.sqlite_tied.specs.Compute.{everything}
 use Rattle.reg_tables.specs.Schema.{register_schema}
@@ -19,6 +23,10 @@ below a b = op2 (Compare Lt Binary) a b
 
 abbrev pub text : List ℕ → Term
 text letters = lit (Text letters)
+
+-- the value that a parameter lends
+abbrev pub lends : ValueRef → Value
+lends v = bound_value (owned v)
 
 pub sweep_means : IsWriting SWEEP.now (updates 7 12 (equals (col 1 3) (text (codes "G")) ∷ below (col 1 2) (col 0 0) ∷ []) (col 1 1 ∷ col 1 2 ∷ text (codes "X") ∷ []))
 unfolding understood everything register_schema

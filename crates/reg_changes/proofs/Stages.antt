@@ -1,5 +1,5 @@
 -- The schedule as it is written anew.
-use Rattle.std.proofs.Common.{ℕ, List, [], IsTrue, refl, sym, ap, subst, ◌∙◌}
+use Rattle.std.proofs.Common.{ℕ, List, [], IsTrue, refl, sym, subst, ◌∙◌}
 use Rattle.std.specs.List.{AllByRecursion}
 use Rattle.sqlite_trees.specs.Tree.{Trees}
 use Rattle.sqlite.specs.Effect.{Database}
@@ -10,7 +10,7 @@ use Rattle.reg_core.specs.Records.{Records}
 use Rattle.reg_core.specs.Schedule.{IsSchedule}
 use Rattle.reg_tables.specs.Schema.{register_schema, longest}
 use Rattle.reg_tables.specs.Rows.{stored_step}
-use Rattle.reg_tables.specs.Columns.{Columns, office_days}
+use Rattle.reg_tables.specs.Columns.{Columns}
 use Rattle.reg_tables.specs.Kept.{Kept}
 use Rattle.reg_tables.specs.Shows.{IsShownBy, AreBoth}
 use Rattle.reg_writing.specs.Ran.{Ran}
@@ -20,8 +20,7 @@ use Rattle.reg_changes.specs.declared.sql.TheConstants.{CLEAR_STEPS}
 use Rattle.reg_changes.proofs.Meaning.{clear_steps_means}
 use Rattle.reg_writing.proofs.Turning.{stored_keyed}
 use Rattle.reg_writing.proofs.Registers.{empties_rows, empties_spares}
-use Rattle.reg_writing.proofs.Spared.{columns_spared}
-use Rattle.reg_changes.proofs.Spared.{schedule_is}
+use Rattle.reg_writing.proofs.Spared.{rows_after, columns_after}
 
 pub clears : (base : Trees) (steps : List (ℕ × ℕ)) (old new : State) (count : ℕ) → Ran CLEAR_STEPS.now [] old new count → (IsTrue old.is_open → IsStaged base steps old.now) → IsStaged base [] new.now
 unfolding register_schema
@@ -37,14 +36,14 @@ clears base steps old new count ran before =
 pub staged_shows : (db after : Database) (records : Records) (steps : List (ℕ × ℕ)) → IsSchedule steps → IsShownBy db records → IsStaged db.trees steps after → IsShownBy after (with_schedule records steps)
 staged_shows db after records steps is shown staged = record {
   schema = staged.schema;
-  rows = schedule_is db.trees after.trees records steps (record { same = staged.others }) shown.rows staged.rows
+  rows = rows_after 17 db.trees after.trees (record { same = staged.others }) records (with_schedule records steps) shown.rows (refl, refl, refl, refl, refl, refl, refl, staged.rows)
       (record { schedule = is; crl_life = shown.rows.policy.crl_life; ocsp_life = shown.rows.policy.ocsp_life; cap = shown.rows.policy.cap });
 }
 
 pub staged_both : (db after : Database) (records : Records) (columns : Columns) (steps : List (ℕ × ℕ)) → IsSchedule steps → AreBoth db records columns → IsStaged db.trees steps after → AreBoth after (with_schedule records steps) columns
 staged_both db after records columns steps is both staged = record {
   shown = staged_shows db after records steps is both.shown staged;
-  kept = columns_spared 17 db.trees after.trees columns (record { same = staged.others }) refl refl refl (ap office_days (staged.others 0 refl refl)) both.kept;
+  kept = columns_after 17 db.trees after.trees (record { same = staged.others }) columns columns both.kept (refl, refl, refl, refl);
 }
 
 pub staged_first : (db : Database) (records : Records) → IsShownBy db records → IsStaged db.trees records.policy.schedule db

@@ -22,10 +22,6 @@ unfolding fields_of
 fields_some [] e = cc e
 fields_some (byte ∷ rest) e = some_by byte rest (byte == 32) e
 
-pub left_none : (rest : Option (List ℕ)) → fields_left rest ≡ [] → rest ≡ None
-left_none None e = refl
-left_none (Some text) e = absurd (fields_some text e)
-
 -- up to the first space there is a field, and behind it are the others
 pub fields_cut : (text : List ℕ) → position_or_len is_space text < length text
     → fields_of text ≡ take (position_or_len is_space text) text ∷ fields_of (drop (position_or_len is_space text + 1) text)

@@ -1,5 +1,5 @@
 -- Lemmas on the meaning of a line: what is read from its fields is what they spell.
-use Rattle.std.proofs.Common.{◌≡◌, ◌⊎◌, ℕ, Bool, true, false, cond, List, [], ◌∷◌, Option, Some, None, option_map, refl, sym, ap, ◌∙◌, subst, inl, inr}
+use Rattle.std.proofs.Common.{◌≡◌, ℕ, Bool, true, false, cond, List, [], ◌∷◌, Option, Some, None, option_map, refl, sym, ap, ◌∙◌, subst}
 use Rattle.std.specs.Prelude.{bytes_eq, codes, IfNone, IfSome, option_and_then}
 use Rattle.std.proofs.lemmas.Slice.Eq.{bytes_eq-Decides}
 use Rattle.reg_core.specs.Calendar.{moment_of, moment_text}
@@ -26,10 +26,6 @@ and_then_some f (Some a) b e = (a, refl, e)
 map_some : {A B : Type 0} (f : A → B) (o : Option A) (b : B) → option_map f o ≡ Some b → (a : A) × (o ≡ Some a) × (f a ≡ b)
 map_some f None b e = cc e
 map_some f (Some a) b e = let same : f a ≡ b = cc in (a, refl, same)
-
-if_some : {A : Type 0} (b : Bool) (x y : Option A) (v : A) → cond b x y ≡ Some v → ((b ≡ true) × (x ≡ Some v)) ⊎ ((b ≡ false) × (y ≡ Some v))
-if_some true x y v e = inl (refl, e)
-if_some false x y v e = inr (refl, e)
 
 one_is : (fields : List (List ℕ)) (a : List ℕ) → one fields ≡ Some a → fields ≡ a ∷ []
 one_is [] a e = cc e
@@ -169,103 +165,50 @@ Says now fields (tells at command) = (at ≡ now) × SpellsCommand command field
 Says now fields (asks at query) = (at ≡ now) × SpellsQuery query fields
 Says now fields (asks_ocsp at bytes) = (at ≡ now) × SpellsOcsp bytes fields
 
-tells_by : (now : ℕ) (word text : List ℕ) (fields : List (List ℕ)) (o : Option Command) (v : Meaning)
-    → bytes_eq word text ≡ true → ((c : Command) → o ≡ Some c → SpellsCommand c (text ∷ fields)) → option_map (tells now) o ≡ Some v → Says now (word ∷ fields) v
-tells_by now word text fields o v is spelled e =
-    let same : word ≡ text = (bytes_eq-Decides word text).0 is in
-    let (c, found, made) = map_some (tells now) o v e in
-    subst (Says now (word ∷ fields)) made (refl, subst (λ w. SpellsCommand c (w ∷ fields)) (sym same) (spelled c found))
+-- one word more: what is read where it is this one, and where it is another
+word_or : {A : Type 0} (make : A → Meaning) (now : ℕ) (word text : List ℕ) (fields : List (List ℕ)) (o : Option A) (y : Option Meaning) (v : Meaning)
+    → ((a : A) → o ≡ Some a → Says now (text ∷ fields) (make a)) → (y ≡ Some v → Says now (word ∷ fields) v)
+    → cond (bytes_eq word text) (option_map make o) y ≡ Some v → Says now (word ∷ fields) v
+word_or {A} make now word text fields o y v here other = go (bytes_eq word text) refl
+  where
+    go : (b : Bool) → bytes_eq word text ≡ b → cond b (option_map make o) y ≡ Some v → Says now (word ∷ fields) v
+    go true is e =
+        let same : word ≡ text = (bytes_eq-Decides word text).0 is in
+        let (a, found, made) = map_some make o v e in
+        subst (Says now (word ∷ fields)) made (subst (λ w. Says now (w ∷ fields) (make a)) (sym same) (here a found))
+    go false is e = other e
 
-asks_by : (now : ℕ) (word text : List ℕ) (fields : List (List ℕ)) (o : Option Query) (v : Meaning)
-    → bytes_eq word text ≡ true → ((q : Query) → o ≡ Some q → SpellsQuery q (text ∷ fields)) → option_map (asks now) o ≡ Some v → Says now (word ∷ fields) v
-asks_by now word text fields o v is spelled e =
-    let same : word ≡ text = (bytes_eq-Decides word text).0 is in
-    let (q, found, made) = map_some (asks now) o v e in
-    subst (Says now (word ∷ fields)) made (refl, subst (λ w. SpellsQuery q (w ∷ fields)) (sym same) (spelled q found))
-
-ocsp_by : (now : ℕ) (word text : List ℕ) (fields : List (List ℕ)) (o : Option (List ℕ)) (v : Meaning)
-    → bytes_eq word text ≡ true → ((b : List ℕ) → o ≡ Some b → SpellsOcsp b (text ∷ fields)) → option_map (asks_ocsp now) o ≡ Some v → Says now (word ∷ fields) v
-ocsp_by now word text fields o v is spelled e =
-    let same : word ≡ text = (bytes_eq-Decides word text).0 is in
-    let (b, found, made) = map_some (asks_ocsp now) o v e in
-    subst (Says now (word ∷ fields)) made (refl, subst (λ w. SpellsOcsp b (w ∷ fields)) (sym same) (spelled b found))
-
-lone_command : (text : List ℕ) (command : Command) (fields : List (List ℕ)) → SpellsCommand command (text ∷ [])
-    → (c : Command) → alone command fields ≡ Some c → SpellsCommand c (text ∷ fields)
-lone_command text command fields spelled c e =
-    let is = alone_is command c fields e in
-    subst (λ v. SpellsCommand v (text ∷ fields)) is.1 (subst (λ rest. SpellsCommand command (text ∷ rest)) (sym is.0) spelled)
-
-lone_query : (text : List ℕ) (query : Query) (fields : List (List ℕ)) → SpellsQuery query (text ∷ [])
-    → (q : Query) → alone query fields ≡ Some q → SpellsQuery q (text ∷ fields)
-lone_query text query fields spelled q e =
-    let is = alone_is query q fields e in
-    subst (λ v. SpellsQuery v (text ∷ fields)) is.1 (subst (λ rest. SpellsQuery query (text ∷ rest)) (sym is.0) spelled)
+-- a word with no field
+lone : {A : Type 0} (Spells : A → List (List ℕ) → Type 0) (text : List ℕ) (value : A) (fields : List (List ℕ)) → Spells value (text ∷ []) → (v : A) → alone value fields ≡ Some v → Spells v (text ∷ fields)
+lone Spells text value fields spelled v e =
+    let is = alone_is value v fields e in
+    subst (λ w. Spells w (text ∷ fields)) is.1 (subst (λ rest. Spells value (text ∷ rest)) (sym is.0) spelled)
 
 -- what is read from a word and its fields is what they say
 asked_spelled : (now : ℕ) (word : List ℕ) (fields : List (List ℕ)) (v : Meaning) → asked_by now word fields ≡ Some v → Says now (word ∷ fields) v
 unfolding asked_by
-asked_spelled now word fields v e =
-    elim (if_some (bytes_eq word (codes "status")) _ _ v e) [
-      | inl p0 ↦ asks_by now word (codes "status") fields _ v p0.0 (status_spelled fields) p0.1
-      | inr q0 ↦
-          elim (if_some (bytes_eq word (codes "counts")) _ _ v q0.1) [
-            | inl p1 ↦ asks_by now word (codes "counts") fields _ v p1.0 (lone_query (codes "counts") Counts fields refl) p1.1
-            | inr q1 ↦
-                elim (if_some (bytes_eq word (codes "listing")) _ _ v q1.1) [
-                  | inl p2 ↦ asks_by now word (codes "listing") fields _ v p2.0 (listing_spelled fields) p2.1
-                  | inr q2 ↦
-                      elim (if_some (bytes_eq word (codes "overdue")) _ _ v q2.1) [
-                        | inl p3 ↦ asks_by now word (codes "overdue") fields _ v p3.0 (lone_query (codes "overdue") Overdue fields refl) p3.1
-                        | inr q3 ↦
-                            elim (if_some (bytes_eq word (codes "next-crl")) _ _ v q3.1) [
-                              | inl p4 ↦ asks_by now word (codes "next-crl") fields _ v p4.0 (lone_query (codes "next-crl") NextCrl fields refl) p4.1
-                              | inr q4 ↦
-                                  elim (if_some (bytes_eq word (codes "ocsp")) _ _ v q4.1) [
-                                    | inl p5 ↦ ocsp_by now word (codes "ocsp") fields _ v p5.0 (ocsp_spelled fields) p5.1
-                                    | inr q5 ↦ absurd (cc q5.1)
-                                  ]
-                            ]
-                      ]
-                ]
-          ]
-    ]
+asked_spelled now word fields v =
+    word_or (asks now) now word (codes "status") fields (status_of fields) _ v (λ q e. (refl, status_spelled fields q e))
+    (word_or (asks now) now word (codes "counts") fields (alone Counts fields) _ v (λ q e. (refl, lone SpellsQuery (codes "counts") Counts fields refl q e))
+    (word_or (asks now) now word (codes "listing") fields (listing_of fields) _ v (λ q e. (refl, listing_spelled fields q e))
+    (word_or (asks now) now word (codes "overdue") fields (alone Overdue fields) _ v (λ q e. (refl, lone SpellsQuery (codes "overdue") Overdue fields refl q e))
+    (word_or (asks now) now word (codes "next-crl") fields (alone NextCrl fields) _ v (λ q e. (refl, lone SpellsQuery (codes "next-crl") NextCrl fields refl q e))
+    (word_or (asks_ocsp now) now word (codes "ocsp") fields (ocsp_of fields) None v (λ bytes e. (refl, ocsp_spelled fields bytes e)) (λ none. absurd (cc none)))))))
 
 revoking_spelled : (now : ℕ) (word : List ℕ) (fields : List (List ℕ)) (v : Meaning) → revoking_by now word fields ≡ Some v → Says now (word ∷ fields) v
 unfolding revoking_by
-revoking_spelled now word fields v e =
-    elim (if_some (bytes_eq word (codes "request")) _ _ v e) [
-      | inl p0 ↦ tells_by now word (codes "request") fields _ v p0.0 (request_spelled fields) p0.1
-      | inr q0 ↦
-          elim (if_some (bytes_eq word (codes "decline")) _ _ v q0.1) [
-            | inl p1 ↦ tells_by now word (codes "decline") fields _ v p1.0 (decline_spelled fields) p1.1
-            | inr q1 ↦
-                elim (if_some (bytes_eq word (codes "revoke")) _ _ v q1.1) [
-                  | inl p2 ↦ tells_by now word (codes "revoke") fields _ v p2.0 (revoke_spelled fields) p2.1
-                  | inr q2 ↦
-                      elim (if_some (bytes_eq word (codes "crl")) _ _ v q2.1) [
-                        | inl p3 ↦ tells_by now word (codes "crl") fields _ v p3.0 (lone_command (codes "crl") Crl fields refl) p3.1
-                        | inr q3 ↦ asked_spelled now word fields v q3.1
-                      ]
-                ]
-          ]
-    ]
+revoking_spelled now word fields v =
+    word_or (tells now) now word (codes "request") fields (request_of fields) _ v (λ c e. (refl, request_spelled fields c e))
+    (word_or (tells now) now word (codes "decline") fields (decline_of fields) _ v (λ c e. (refl, decline_spelled fields c e))
+    (word_or (tells now) now word (codes "revoke") fields (revoke_of fields) _ v (λ c e. (refl, revoke_spelled fields c e))
+    (word_or (tells now) now word (codes "crl") fields (alone Crl fields) (asked_by now word fields) v (λ c e. (refl, lone SpellsCommand (codes "crl") Crl fields refl c e)) (asked_spelled now word fields v))))
 
 said_spelled : (now : ℕ) (word : List ℕ) (fields : List (List ℕ)) (v : Meaning) → said_by now word fields ≡ Some v → Says now (word ∷ fields) v
 unfolding said_by
-said_spelled now word fields v e =
-    elim (if_some (bytes_eq word (codes "subscriber")) _ _ v e) [
-      | inl p0 ↦ tells_by now word (codes "subscriber") fields _ v p0.0 (subscriber_spelled fields) p0.1
-      | inr q0 ↦
-          elim (if_some (bytes_eq word (codes "order")) _ _ v q0.1) [
-            | inl p1 ↦ tells_by now word (codes "order") fields _ v p1.0 (order_spelled fields) p1.1
-            | inr q1 ↦
-                elim (if_some (bytes_eq word (codes "register")) _ _ v q1.1) [
-                  | inl p2 ↦ tells_by now word (codes "register") fields _ v p2.0 (register_spelled fields) p2.1
-                  | inr q2 ↦ revoking_spelled now word fields v q2.1
-                ]
-          ]
-    ]
+said_spelled now word fields v =
+    word_or (tells now) now word (codes "subscriber") fields (subscriber_of fields) _ v (λ c e. (refl, subscriber_spelled fields c e))
+    (word_or (tells now) now word (codes "order") fields (order_of fields) _ v (λ c e. (refl, order_spelled fields c e))
+    (word_or (tells now) now word (codes "register") fields (register_of fields) (revoking_by now word fields) v (λ c e. (refl, register_spelled fields c e)) (revoking_spelled now word fields v)))
 
 -- ---- what is spelled is read
 

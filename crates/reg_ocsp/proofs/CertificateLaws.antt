@@ -5,7 +5,6 @@ use Rattle.std.proofs.lemmas.Bool.{eqb-true, le-ltb, ltb-false}
 use Rattle.std.proofs.lemmas.Bool.Decides.{nat_tests}
 use Rattle.std.proofs.lemmas.List.{length-append}
 use Rattle.reg_core.specs.Integer.{IsBytes}
-use Rattle.reg_core.specs.Sequence.{◌>>=◌}
 use Rattle.reg_der.specs.Authority.{IsKey}
 use Rattle.reg_der.specs.Der.{tlv}
 use Rattle.reg_der.specs.ValueReading.{Gives, Takes}
@@ -17,7 +16,7 @@ use Rattle.reg_ocsp.specs.Certificate.{Form, IsCertificateOf, key_info, to_be_si
 use Rattle.reg_ocsp.specs.RequestReading.{expect_at, whole_at, optional_at}
 use Rattle.reg_ocsp.specs.Request.{optional}
 use Rattle.reg_ocsp.specs.Views.{key_seen}
-use Rattle.reg_ocsp.proofs.PartLaws.{chosen, expect_takes, expect_again, whole_takes, whole_again, optional_takes, optional_again, IsSmall, begins_value}
+use Rattle.reg_ocsp.proofs.PartLaws.{chosen, expect_takes, expect_again, expect_next, whole_takes, whole_again, optional_takes, optional_next, begins_value}
 
 -- ---- the key
 
@@ -55,28 +54,16 @@ record TakesKey (bytes raw key : List ℕ) : Type 0 where
   same : raw ≡ tlv 0x30 algorithm
   is_key : IsKey key
 
-abbrev after_key : List ℕ × List ℕ → List ℕ → Option (List ℕ × List ℕ)
-after_key algorithm key = Some (tlv 0x30 algorithm.0, key)
-
-abbrev after_bits : List ℕ × List ℕ → List ℕ → Option (List ℕ × List ℕ)
-after_bits algorithm bits = as_key bits >>= after_key algorithm
-
-abbrev after_string : List ℕ × List ℕ → List ℕ → Option (List ℕ × List ℕ)
-after_string algorithm string = no_unused string >>= after_bits algorithm
-
-abbrev after_algorithm : List ℕ × List ℕ → Option (List ℕ × List ℕ)
-after_algorithm algorithm = whole_at 0x03 algorithm.1 >>= after_string algorithm
-
 key_bytes : (key : List ℕ) → IsBytes (0 ∷ key) → IsBytes key
 key_bytes key each = λ i. each (suc i)
 
 key_info_takes : (bytes : List ℕ) (x : List ℕ × List ℕ) → IsBytes bytes → key_info_at bytes ≡ Some x → TakesKey bytes x.0 x.1
 unfolding key_info_at
 key_info_takes bytes x each e =
-    bind_then (expect_at 0x30 bytes) after_algorithm x e (λ algorithm read_algorithm e1.
-    bind_then (whole_at 0x03 algorithm.1) (after_string algorithm) x e1 (λ string read_string e2.
-    bind_then (no_unused string) (after_bits algorithm) x e2 (λ bits read_bits e3.
-    bind_then (as_key bits) (after_key algorithm) x e3 (λ key read_key e4.
+    bind_then (expect_at 0x30 bytes) _ x e (λ algorithm read_algorithm e1.
+    bind_then (whole_at 0x03 algorithm.1) _ x e1 (λ string read_string e2.
+    bind_then (no_unused string) _ x e2 (λ bits read_bits e3.
+    bind_then (as_key bits) _ x e3 (λ key read_key e4.
     let t0 = expect_takes 0x30 bytes algorithm each read_algorithm in
     let t1 = whole_takes 0x03 algorithm.1 string t0.taken.each read_string in
     let b = bits_take string bits key read_bits read_key in
@@ -111,33 +98,15 @@ record TakesSubject (bytes rest : List ℕ) : Type 0 where
   each : IsBytes rest
   spelled : bytes ≡ optional 0xA0 version ++ (tlv 0x02 serial ++ (tlv 0x30 signature ++ (tlv 0x30 issuer ++ (tlv 0x30 validity ++ (tlv 0x30 subject ++ rest)))))
 
-abbrev after_subject : List ℕ × List ℕ → Option (List ℕ)
-after_subject subject = Some subject.1
-
-abbrev after_validity : List ℕ × List ℕ → Option (List ℕ)
-after_validity validity = expect_at 0x30 validity.1 >>= after_subject
-
-abbrev after_issuer : List ℕ × List ℕ → Option (List ℕ)
-after_issuer issuer = expect_at 0x30 issuer.1 >>= after_validity
-
-abbrev after_signature : List ℕ × List ℕ → Option (List ℕ)
-after_signature signature = expect_at 0x30 signature.1 >>= after_issuer
-
-abbrev after_serial : List ℕ × List ℕ → Option (List ℕ)
-after_serial serial = expect_at 0x30 serial.1 >>= after_signature
-
-abbrev after_version : Option (List ℕ) × List ℕ → Option (List ℕ)
-after_version version = expect_at 0x02 version.1 >>= after_serial
-
 subject_takes : (bytes rest : List ℕ) → IsBytes bytes → after_subject_at bytes ≡ Some rest → TakesSubject bytes rest
 unfolding after_subject_at
 subject_takes bytes rest each e =
-    bind_then (optional_at 0xA0 bytes) after_version rest e (λ version read_version e1.
-    bind_then (expect_at 0x02 version.1) after_serial rest e1 (λ serial read_serial e2.
-    bind_then (expect_at 0x30 serial.1) after_signature rest e2 (λ signature read_signature e3.
-    bind_then (expect_at 0x30 signature.1) after_issuer rest e3 (λ issuer read_issuer e4.
-    bind_then (expect_at 0x30 issuer.1) after_validity rest e4 (λ validity read_validity e5.
-    bind_then (expect_at 0x30 validity.1) after_subject rest e5 (λ subject read_subject e6.
+    bind_then (optional_at 0xA0 bytes) _ rest e (λ version read_version e1.
+    bind_then (expect_at 0x02 version.1) _ rest e1 (λ serial read_serial e2.
+    bind_then (expect_at 0x30 serial.1) _ rest e2 (λ signature read_signature e3.
+    bind_then (expect_at 0x30 signature.1) _ rest e3 (λ issuer read_issuer e4.
+    bind_then (expect_at 0x30 issuer.1) _ rest e4 (λ validity read_validity e5.
+    bind_then (expect_at 0x30 validity.1) _ rest e5 (λ subject read_subject e6.
     let t0 = optional_takes 0xA0 bytes version each read_version in
     let t1 = expect_takes 0x02 version.1 serial t0.taken.each read_serial in
     let t2 = expect_takes 0x30 serial.1 signature t1.taken.each read_signature in
@@ -162,34 +131,22 @@ subject_takes bytes rest each e =
       spelled = s0;
     })))))))
 
-optional_small : (tag : ℕ) (written : Option (List ℕ)) (rest : List ℕ) → length (optional tag written ++ rest) ≤ 65536 → IsSmall written
-optional_small tag None rest small = tt
-optional_small tag (Some contents) rest small =
-    omega (arith, (value_size tag contents).least, length-append (tlv tag contents) rest)
-
 subject_again : (version : Option (List ℕ)) (serial signature issuer validity subject rest : List ℕ)
     → length (optional 0xA0 version ++ (tlv 0x02 serial ++ (tlv 0x30 signature ++ (tlv 0x30 issuer ++ (tlv 0x30 validity ++ (tlv 0x30 subject ++ rest)))))) ≤ 65536
-    → after_subject_at (optional 0xA0 version ++ (tlv 0x02 serial ++ (tlv 0x30 signature ++ (tlv 0x30 issuer ++ (tlv 0x30 validity ++ (tlv 0x30 subject ++ rest)))))) ≡ Some rest
+    → (after_subject_at (optional 0xA0 version ++ (tlv 0x02 serial ++ (tlv 0x30 signature ++ (tlv 0x30 issuer ++ (tlv 0x30 validity ++ (tlv 0x30 subject ++ rest)))))) ≡ Some rest) × (length rest ≤ 65536)
 unfolding after_subject_at
 subject_again version serial signature issuer validity subject rest small =
     let b5 = tlv 0x30 subject ++ rest in
     let b4 = tlv 0x30 validity ++ b5 in
     let b3 = tlv 0x30 issuer ++ b4 in
     let b2 = tlv 0x30 signature ++ b3 in
-    let b1 = tlv 0x02 serial ++ b2 in
-    let l0 = length-append (optional 0xA0 version) b1 in
-    let l1 = length-append (tlv 0x02 serial) b2 in
-    let l2 = length-append (tlv 0x30 signature) b3 in
-    let l3 = length-append (tlv 0x30 issuer) b4 in
-    let l4 = length-append (tlv 0x30 validity) b5 in
-    let l5 = length-append (tlv 0x30 subject) rest in
-    let e0 = optional_again 0xA0 version b1 (omega arith) (optional_small 0xA0 version b1 small) (begins_value 0xA0 0x02 serial b2 (λ same. absurd (omega (arith, same)))) in
-    let e1 = expect_again 0x02 serial b2 (omega arith) (omega (arith, (value_size 0x02 serial).least)) in
-    let e2 = expect_again 0x30 signature b3 (omega arith) (omega (arith, (value_size 0x30 signature).least)) in
-    let e3 = expect_again 0x30 issuer b4 (omega arith) (omega (arith, (value_size 0x30 issuer).least)) in
-    let e4 = expect_again 0x30 validity b5 (omega arith) (omega (arith, (value_size 0x30 validity).least)) in
-    let e5 = expect_again 0x30 subject rest (omega arith) (omega (arith, (value_size 0x30 subject).least)) in
-    rw (e0, e1, e2, e3, e4, e5) refl
+    let s0 = optional_next 0xA0 version (tlv 0x02 serial ++ b2) (omega arith) small (begins_value 0xA0 0x02 serial b2 (λ same. absurd (omega (arith, same)))) in
+    let s1 = expect_next 0x02 serial b2 (omega arith) s0.1 in
+    let s2 = expect_next 0x30 signature b3 (omega arith) s1.1 in
+    let s3 = expect_next 0x30 issuer b4 (omega arith) s2.1 in
+    let s4 = expect_next 0x30 validity b5 (omega arith) s3.1 in
+    let s5 = expect_next 0x30 subject rest (omega arith) s4.1 in
+    (rw (s0.0, s1.0, s2.0, s3.0, s4.0, s5.0) refl, s5.1)
 
 -- ---- what is signed
 
@@ -200,26 +157,14 @@ record TakesPart (bytes part : List ℕ) : Type 0 where
   each : IsBytes part
   spelled : bytes ≡ tlv 0x30 (tlv 0x30 part ++ (tlv 0x30 signed_under ++ tlv 0x03 signed))
 
-abbrev after_signed : List ℕ → List ℕ → Option (List ℕ)
-after_signed part signed = Some part
-
-abbrev after_under : List ℕ → List ℕ × List ℕ → Option (List ℕ)
-after_under part under = whole_at 0x03 under.1 >>= after_signed part
-
-abbrev after_part : List ℕ × List ℕ → Option (List ℕ)
-after_part part = expect_at 0x30 part.1 >>= after_under part.0
-
-abbrev after_outer : List ℕ → Option (List ℕ)
-after_outer outer = expect_at 0x30 outer >>= after_part
-
 part_takes : (bytes part : List ℕ) → IsBytes bytes → signed_part_at bytes ≡ Some part → TakesPart bytes part
 unfolding signed_part_at
 part_takes bytes part each e =
-    let g = kept (ltb 65536 (length bytes)) (whole_at 0x30 bytes >>= after_outer) part e in
-    bind_then (whole_at 0x30 bytes) after_outer part g.1 (λ outer read_outer e1.
-    bind_then (expect_at 0x30 outer) after_part part e1 (λ first read_first e2.
-    bind_then (expect_at 0x30 first.1) (after_under first.0) part e2 (λ under read_under e3.
-    bind_then (whole_at 0x03 under.1) (after_signed first.0) part e3 (λ signed read_signed e4.
+    let g = kept (ltb 65536 (length bytes)) _ part e in
+    bind_then (whole_at 0x30 bytes) _ part g.1 (λ outer read_outer e1.
+    bind_then (expect_at 0x30 outer) _ part e1 (λ first read_first e2.
+    bind_then (expect_at 0x30 first.1) _ part e2 (λ under read_under e3.
+    bind_then (whole_at 0x03 under.1) _ part e3 (λ signed read_signed e4.
     let t0 = whole_takes 0x30 bytes outer each read_outer in
     let t1 = expect_takes 0x30 outer first t0.inner read_first in
     let t2 = expect_takes 0x30 first.1 under t1.taken.each read_under in
@@ -243,33 +188,22 @@ part_again part signed_under signed small =
     let b2 = tlv 0x03 signed in
     let b1 = tlv 0x30 signed_under ++ b2 in
     let b0 = tlv 0x30 part ++ b1 in
-    let l0 = length-append (tlv 0x30 part) b1 in
-    let l1 = length-append (tlv 0x30 signed_under) b2 in
     let within : length b0 ≤ 65536 = omega (arith, (value_size 0x30 b0).least) in
     let t : ltb 65536 (length (tlv 0x30 b0)) ≡ false = le-ltb 65536 (length (tlv 0x30 b0)) small in
     let e0 = whole_again 0x30 b0 (omega arith) within in
-    let e1 = expect_again 0x30 part b1 (omega arith) (omega (arith, (value_size 0x30 part).least)) in
-    let e2 = expect_again 0x30 signed_under b2 (omega arith) (omega (arith, (value_size 0x30 signed_under).least)) in
-    let e3 = whole_again 0x03 signed (omega arith) (omega (arith, (value_size 0x03 signed).least)) in
-    rw (t, e0, e1, e2, e3) refl
+    let s1 = expect_next 0x30 part b1 (omega arith) within in
+    let s2 = expect_next 0x30 signed_under b2 (omega arith) s1.1 in
+    let e3 = whole_again 0x03 signed (omega arith) (omega (arith, s2.1, (value_size 0x03 signed).least)) in
+    rw (t, e0, s1.0, s2.0, e3) refl
 
 -- ---- the whole
-
-abbrev after_info : List ℕ × List ℕ → Option (List ℕ × List ℕ)
-after_info info = key_info_at info.0
-
-abbrev after_rest : List ℕ → Option (List ℕ × List ℕ)
-after_rest rest = expect_at 0x30 rest >>= after_info
-
-abbrev after_whole : List ℕ → Option (List ℕ × List ℕ)
-after_whole part = after_subject_at part >>= after_rest
 
 certificate_takes : (bytes : List ℕ) (x : List ℕ × List ℕ) → IsBytes bytes → certificate_at bytes ≡ Some x → IsCertificateOf bytes x.0 x.1
 unfolding certificate_at
 certificate_takes bytes x each e =
-    bind_then (signed_part_at bytes) after_whole x e (λ part read_part e1.
-    bind_then (after_subject_at part) after_rest x e1 (λ rest read_rest e2.
-    bind_then (expect_at 0x30 rest) after_info x e2 (λ info read_info e3.
+    bind_then (signed_part_at bytes) _ x e (λ part read_part e1.
+    bind_then (after_subject_at part) _ x e1 (λ rest read_rest e2.
+    bind_then (expect_at 0x30 rest) _ x e2 (λ info read_info e3.
     let t0 = part_takes bytes part each read_part in
     let t1 = subject_takes part rest t0.each read_rest in
     let t2 = expect_takes 0x30 rest info t1.each read_info in
@@ -305,31 +239,17 @@ unfolding certificate_at
 certificate_reads c is small =
     let info = tlv 0x30 c.algorithm ++ bits_value c.key in
     let rest = tlv 0x30 info ++ c.behind in
-    let b5 = tlv 0x30 c.subject ++ rest in
-    let b4 = tlv 0x30 c.validity ++ b5 in
-    let b3 = tlv 0x30 c.issuer ++ b4 in
-    let b2 = tlv 0x30 c.signature ++ b3 in
-    let b1 = tlv 0x02 c.serial ++ b2 in
-    let part = optional 0xA0 c.version ++ b1 in
+    let part = optional 0xA0 c.version ++ (tlv 0x02 c.serial ++ (tlv 0x30 c.signature ++ (tlv 0x30 c.issuer ++ (tlv 0x30 c.validity ++ (tlv 0x30 c.subject ++ rest))))) in
     let after = tlv 0x30 c.signed_under ++ tlv 0x03 c.signed in
     let whole = tlv 0x30 part ++ after in
-    let short : length (tlv 0x30 whole) ≤ 65536 = small in
-    let l0 = length-append (tlv 0x30 part) after in
-    let within : length part ≤ 65536 = omega (arith, (value_size 0x30 whole).least, (value_size 0x30 part).least) in
-    let l1 = length-append (optional 0xA0 c.version) b1 in
-    let l2 = length-append (tlv 0x02 c.serial) b2 in
-    let l3 = length-append (tlv 0x30 c.signature) b3 in
-    let l4 = length-append (tlv 0x30 c.issuer) b4 in
-    let l5 = length-append (tlv 0x30 c.validity) b5 in
-    let l6 = length-append (tlv 0x30 c.subject) rest in
-    let l7 = length-append (tlv 0x30 info) c.behind in
-    let l8 = length-append (tlv 0x30 c.algorithm) (bits_value c.key) in
-    let of_info : length info ≤ 65536 = omega (arith, (value_size 0x30 info).least) in
+    let size = length-append (tlv 0x30 part) after in
+    let within : length part ≤ 65536 = omega (arith, small, size, (value_size 0x30 whole).least, (value_size 0x30 part).least) in
     let e0 = part_again part c.signed_under c.signed small in
-    let e1 = subject_again c.version c.serial c.signature c.issuer c.validity c.subject rest within in
-    let e2 = expect_again 0x30 info c.behind (omega arith) of_info in
-    let e3 = key_info_again c.algorithm c.key is (omega (arith, (value_size 0x30 c.algorithm).least)) in
-    rw (e0, e1, e2, e3) refl
+    let s1 = subject_again c.version c.serial c.signature c.issuer c.validity c.subject rest within in
+    let s2 = expect_next 0x30 info c.behind (omega arith) s1.1 in
+    let few : length info ≤ 65536 = omega (arith, s1.1, length-append (tlv 0x30 info) c.behind, (value_size 0x30 info).least) in
+    let e3 = key_info_again c.algorithm c.key is (omega (arith, few, length-append (tlv 0x30 c.algorithm) (bits_value c.key), (value_size 0x30 c.algorithm).least)) in
+    rw (e0, s1.0, s2.0, e3) refl
 
 -- a certificate is read so
 pub certificate_again : (bytes algorithm key : List ℕ) → IsCertificateOf bytes algorithm key → certificate_at bytes ≡ Some (algorithm, key)

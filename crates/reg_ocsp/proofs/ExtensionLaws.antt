@@ -7,7 +7,6 @@ use Rattle.std.proofs.lemmas.Bool.{eqb-true, eqb-false, ne_eqb, not-false, not_f
 use Rattle.std.proofs.lemmas.List.{length-append}
 use Rattle.std.proofs.lemmas.Slice.Eq.{bytes_eq-Decides}
 use Rattle.reg_core.specs.Integer.{IsBytes}
-use Rattle.reg_core.specs.Sequence.{◌>>=◌}
 use Rattle.reg_der.specs.Der.{tlv}
 use Rattle.reg_der.specs.ValueReading.{Takes}
 use Rattle.reg_der.proofs.PublicLaws.{value_size}
@@ -31,26 +30,17 @@ flag_takes [] b e = absurd cc
 flag_takes (octet ∷ []) b e = flag_cases octet b (eqb octet 0xFF) (eqb octet 0x00) refl refl e
 flag_takes (octet ∷ second ∷ rest) b e = absurd cc
 
-abbrev as_flag : Bool → Option (Option Bool)
-as_flag b = Some (Some b)
-
 written_takes : (written : Option (List ℕ)) (flag : Option Bool) → written_flag written ≡ Some flag → optional 0x01 written ≡ critical flag
 written_takes None flag e = ap critical (some_is None flag e)
 written_takes (Some contents) flag e =
-    bind_then (flag_of contents) as_flag flag e (λ b read then.
+    bind_then (flag_of contents) _ flag e (λ b read then.
     ap (tlv 0x01) (flag_takes contents b read) ∙ ap critical (some_is (Some b) flag then))
-
-abbrev after_written : Option (List ℕ) × List ℕ → Option (Option Bool × List ℕ)
-after_written x = written_flag x.0 >>= λ flag. Some (flag, x.1)
-
-abbrev with_rest : List ℕ → Option Bool → Option (Option Bool × List ℕ)
-with_rest rest flag = Some (flag, rest)
 
 critical_takes : (bytes : List ℕ) (x : Option Bool × List ℕ) → IsBytes bytes → critical_at bytes ≡ Some x → Takes bytes (critical x.0) x.1
 unfolding critical_at
 critical_takes bytes x each e =
-    bind_then (optional_at 0x01 bytes) after_written x e (λ written read then.
-    bind_then (written_flag written.0) (with_rest written.1) x then (λ flag read_flag made.
+    bind_then (optional_at 0x01 bytes) _ x e (λ written read then.
+    bind_then (written_flag written.0) _ x then (λ flag read_flag made.
     let t = optional_takes 0x01 bytes written each read in
     let same = written_takes written.0 flag read_flag in
     subst (λ (y : Option Bool × List ℕ). Takes bytes (critical y.0) y.1) (some_is (flag, written.1) x made)
@@ -81,21 +71,6 @@ critical_again flag rest begins =
     rw (again, octets_read flag) refl
 
 -- ---- one extension
-
-abbrev after_value : List ℕ → Option Bool → List ℕ → Option Extension
-after_value identifier flag value = cond (is_refused identifier flag) None (Some (record { identifier = identifier; critical = flag; value = value }))
-
-abbrev after_critical : List ℕ → Option Bool × List ℕ → Option Extension
-after_critical identifier flag = whole_at 0x04 flag.1 >>= after_value identifier flag.0
-
-abbrev after_identifier : List ℕ × List ℕ → Option Extension
-after_identifier identifier = critical_at identifier.1 >>= after_critical identifier.0
-
-abbrev after_fields : List ℕ → Extension → Option (Extension × List ℕ)
-after_fields rest e = Some (e, rest)
-
-abbrev after_outer : List ℕ × List ℕ → Option (Extension × List ℕ)
-after_outer outer = fields_at outer.0 >>= after_fields outer.1
 
 known_from : (identifier : List ℕ) (flag : Option Bool) → (unwrap_or flag false && not (bytes_eq identifier nonce_identifier)) ≡ false → flag ≡ Some true → identifier ≡ nonce_identifier
 known_from identifier None e same = absurd cc
@@ -132,9 +107,9 @@ record HasFields (contents : List ℕ) (e : Extension) : Type 0 where
 fields_take : (bytes : List ℕ) (e : Extension) → IsBytes bytes → fields_at bytes ≡ Some e → HasFields bytes e
 unfolding fields_at
 fields_take bytes e each read =
-    bind_then (expect_at 0x06 bytes) after_identifier e read (λ identifier read_identifier e2.
-    bind_then (critical_at identifier.1) (after_critical identifier.0) e e2 (λ flag read_flag e3.
-    bind_then (whole_at 0x04 flag.1) (after_value identifier.0 flag.0) e e3 (λ value read_value e4.
+    bind_then (expect_at 0x06 bytes) _ e read (λ identifier read_identifier e2.
+    bind_then (critical_at identifier.1) _ e e2 (λ flag read_flag e3.
+    bind_then (whole_at 0x04 flag.1) _ e e3 (λ value read_value e4.
     let made : Extension = record { identifier = identifier.0; critical = flag.0; value = value } in
     let g = kept (is_refused identifier.0 flag.0) (Some made) e e4 in
     let t1 = expect_takes 0x06 bytes identifier each read_identifier in
@@ -149,8 +124,8 @@ fields_take bytes e each read =
 pub extension_takes : (bytes : List ℕ) (x : Extension × List ℕ) → IsBytes bytes → extension_at bytes ≡ Some x → TakesItem request_extension same_extension IsExtension bytes x.0 x.1
 unfolding extension_at
 extension_takes bytes x each e =
-    bind_then (expect_at 0x30 bytes) after_outer x e (λ outer read_outer e1.
-    bind_then (fields_at outer.0) (after_fields outer.1) x e1 (λ made read_made e2.
+    bind_then (expect_at 0x30 bytes) _ x e (λ outer read_outer e1.
+    bind_then (fields_at outer.0) _ x e1 (λ made read_made e2.
     let t0 = expect_takes 0x30 bytes outer each read_outer in
     let t1 = fields_take outer.0 made t0.inner read_made in
     subst (λ (y : Extension × List ℕ). TakesItem request_extension same_extension IsExtension bytes y.0 y.1) (some_is (made, outer.1) x e2)
@@ -201,17 +176,11 @@ pub record TakesExtensions (tag : ℕ) (written : Option (List ℕ)) (nonce : Op
   pub spelled : optional tag written ≡ extensions tag tree
   pub same : nonce ≡ nonce_in tree
 
-abbrev as_nonce : List Extension → Option (Option (List ℕ))
-as_nonce es = Some (first_nonce es)
-
-abbrev after_list : List ℕ → Option (Option (List ℕ))
-after_list list = all_at extension_at list >>= as_nonce
-
 nonce_takes : (tag : ℕ) (contents : List ℕ) (nonce : Option (List ℕ)) → IsBytes contents → nonce_at contents ≡ Some nonce → TakesExtensions tag (Some contents) nonce
 unfolding nonce_at
 nonce_takes tag contents nonce each e =
-    bind_then (whole_at 0x30 contents) after_list nonce e (λ list read_list e1.
-    bind_then (all_at extension_at list) as_nonce nonce e1 (λ es read_es e2.
+    bind_then (whole_at 0x30 contents) _ nonce e (λ list read_list e1.
+    bind_then (all_at extension_at list) _ nonce e1 (λ es read_es e2.
     let t0 = whole_takes 0x30 contents list each read_list in
     let t1 = items_take extension_at request_extension same_extension IsExtension extension_reads (length list) list es t0.inner read_es in
     let same : es ≡ t1.trees = t1.same ∙ map_same t1.trees in
@@ -262,7 +231,7 @@ pub record TakesLast (tag : ℕ) (bytes : List ℕ) (nonce : Option (List ℕ)) 
 pub last_nonce_takes : (tag : ℕ) (bytes : List ℕ) (nonce : Option (List ℕ)) → IsBytes bytes → last_nonce_at tag bytes ≡ Some nonce → TakesLast tag bytes nonce
 unfolding last_nonce_at
 last_nonce_takes tag bytes nonce each e =
-    bind_then (last_at tag bytes) written_nonce nonce e (λ written read then.
+    bind_then (last_at tag bytes) _ nonce e (λ written read then.
     let t0 = last_takes tag bytes written each read in
     let t1 = written_nonce_takes tag written nonce t0.inner then in
     record { tree = t1.tree; fits = t1.fits; spelled = t0.spelled ∙ t1.spelled; same = t1.same })

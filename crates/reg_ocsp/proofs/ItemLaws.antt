@@ -1,5 +1,5 @@
 -- Items one after the other, whatever an item is.
-use Rattle.std.proofs.Common.{◌≡◌, ℕ, zero, suc, ◌<◌, ◌≤◌, List, [], ◌∷◌, ◌++◌, length, map, Option, Some, None, refl, sym, ap, subst, ◌∙◌, arith}
+use Rattle.std.proofs.Common.{◌≡◌, ℕ, zero, suc, ◌<◌, ◌≤◌, List, [], ◌∷◌, ◌++◌, length, map, Option, Some, refl, sym, ap, subst, ◌∙◌, arith}
 use Rattle.std.specs.List.{flat_map, AllByRecursion}
 use Rattle.std.proofs.lemmas.List.{length-append}
 use Rattle.reg_core.specs.Integer.{IsBytes}
@@ -111,7 +111,3 @@ all_step item spell view Fits reads (first ∷ after) x rest each some read =
     let less = taken_shorter item spell view Fits reads (first ∷ after) (x, rest) each read in
     let shorter = less.0 in
     rw read (ap (λ (o : Option (List _)). o >>= with_first x) (items_room item spell view Fits reads (length after) (length rest) rest less.1 (omega arith) (omega arith)))
-
-pub all_fails : {V : Type 0} (item : List ℕ → Option (V × List ℕ)) (bytes : List ℕ) → 1 ≤ length bytes → item bytes ≡ None → all_at item bytes ≡ None
-all_fails item [] some read = absurd (omega arith)
-all_fails item (first ∷ rest) some read = rw read refl

@@ -1,15 +1,13 @@
 -- The steps of the loops over extensions and over requests.
-use Rattle.std.proofs.Common.{◌≡◌, ℕ, ◌≤◌, true, false, List, [], ◌∷◌, ◌++◌, length, Option, Some, None, Bor, refl, sym, ap, ◌∙◌, append_assoc, arith}
+use Rattle.std.proofs.Common.{◌≡◌, ℕ, ◌≤◌, true, false, List, [], ◌∷◌, ◌++◌, length, Option, Some, None, Bor, refl, sym, ap, ◌∙◌, append_assoc}
 use Rattle.std.specs.Prelude.{option_copied, is_some}
 use Rattle.std.specs.Str.{bytes_eq}
-use Rattle.std.proofs.lemmas.Bool.{ne_eqb}
-use Rattle.std.proofs.lemmas.List.{append-nil, nil_from_length}
 use Rattle.reg_core.specs.Integer.{IsBytes}
 use Rattle.reg_core.specs.Sequence.{◌>>=◌}
 use Rattle.reg_ocsp.specs.Request.{Extension, IsExtension, Id, id_asked, single, IsSingle, request_extension, first_nonce, nonce_identifier}
-use Rattle.reg_ocsp.specs.RequestReading.{whole_at, all_at, extension_at, nonce_at, single_at, ids_at}
+use Rattle.reg_ocsp.specs.RequestReading.{whole_at, all_at, extension_at, single_at}
 use Rattle.reg_ocsp.proofs.PartLaws.{whole_takes}
-use Rattle.reg_ocsp.proofs.ItemLaws.{all_step, all_fails}
+use Rattle.reg_ocsp.proofs.ItemLaws.{all_step}
 use Rattle.reg_ocsp.proofs.ExtensionLaws.{same_extension, extension_takes, extension_reads}
 use Rattle.reg_ocsp.proofs.TargetLaws.{single_takes, single_reads}
 
@@ -60,23 +58,6 @@ pub nonce_not : (before : Option (Bor (List ℕ))) (e : Extension) → is_some b
 nonce_not (Some value) e was is es = absurd cc
 nonce_not None e was is es = rw is refl
 
-pub nonce_ends : (bytes list rest : List ℕ) (nonce : Option (List ℕ)) → whole_at 0x30 bytes ≡ Some list → length rest ≡ 0 → LooksFor nonce rest list → nonce_at bytes ≡ Some nonce
-unfolding nonce_at
-nonce_ends bytes list rest nonce read none so_far =
-    let nothing : rest ≡ [] = nil_from_length rest none in
-    let told : found_in nonce (all_at extension_at []) ≡ found_in None (all_at extension_at list) = rw nothing at so_far.told in
-    rw read (sym told ∙ found_all nonce)
-  where
-    found_all : (nonce : Option (List ℕ)) → found_in nonce (all_at extension_at []) ≡ Some nonce
-    found_all None = refl
-    found_all (Some value) = refl
-
-pub nonce_fails : (bytes list rest : List ℕ) (nonce : Option (List ℕ)) → whole_at 0x30 bytes ≡ Some list → 1 ≤ length rest → extension_at rest ≡ None → LooksFor nonce rest list → nonce_at bytes ≡ None
-unfolding nonce_at
-nonce_fails bytes list rest nonce read some none so_far =
-    let fails = all_fails extension_at rest some none in
-    rw read (sym so_far.told ∙ ap (found_in nonce) fails)
-
 -- ---- the CertIDs
 
 -- what was read before, and what is read of the rest
@@ -86,13 +67,6 @@ with_front front read = read >>= λ ids. Some (front ++ ids)
 pub record Lists (front : List Id) (rest list : List ℕ) : Type 0 where
   pub told : with_front front (all_at single_at rest) ≡ all_at single_at list
   pub each : IsBytes rest
-
-no_front : (read : Option (List Id)) → with_front [] read ≡ read
-no_front (Some ids) = refl
-no_front None = refl
-
-pub ids_begin : (list : List ℕ) → IsBytes list → Lists [] list list
-ids_begin list each = record { told = no_front (all_at single_at list); each = each }
 
 push_front : (front : List Id) (id : Id) (read : Option (List Id)) → with_front front (read >>= λ ids. Some (id ∷ ids)) ≡ with_front (front ++ id ∷ []) read
 push_front front id (Some ids) = ap (λ (xs : List Id). Some xs) (simp append_assoc)
@@ -105,17 +79,3 @@ ids_go_on front rest after list id some read so_far =
       told = sym (ap (with_front front) step ∙ push_front front id (all_at single_at after)) ∙ so_far.told;
       each = (single_takes rest (id, after) so_far.each read).taken.each;
     }
-
-pub ids_end : (front : List Id) (rest list : List ℕ) → 1 ≤ length list → length rest ≡ 0 → Lists front rest list → ids_at list ≡ Some front
-unfolding ids_at
-ids_end front rest list some none so_far =
-    let nothing : rest ≡ [] = nil_from_length rest none in
-    let told : with_front front (all_at single_at []) ≡ all_at single_at list = rw nothing at so_far.told in
-    let whole : all_at single_at list ≡ Some front = sym told ∙ ap (λ (ids : List Id). Some ids) (append-nil front) in
-    rw (ne_eqb (length list) 0 (λ same. absurd (omega arith))) whole
-
-pub ids_fail : (front : List Id) (rest list : List ℕ) → 1 ≤ length list → 1 ≤ length rest → single_at rest ≡ None → Lists front rest list → ids_at list ≡ None
-unfolding ids_at
-ids_fail front rest list some left none so_far =
-    let fails = all_fails single_at rest left none in
-    rw (ne_eqb (length list) 0 (λ same. absurd (omega arith))) (sym so_far.told ∙ ap (with_front front) fails)

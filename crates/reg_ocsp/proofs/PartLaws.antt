@@ -2,12 +2,12 @@
 use Rattle.std.proofs.Common.{◌≡◌, ℕ, ◌%◌, ◌<◌, ◌≤◌, Bool, true, false, cond, eqb, List, [], ◌∷◌, ◌++◌, length, Option, Some, None, refl, sym, ap, subst, ◌∙◌, arith}
 use Rattle.std.specs.Prelude.{IfSome}
 use Rattle.std.proofs.lemmas.Bool.{eqb-true, eq-eqb, ne_eqb}
-use Rattle.std.proofs.lemmas.List.{append-nil, nil_from_length}
+use Rattle.std.proofs.lemmas.List.{append-nil, length-append, nil_from_length}
 use Rattle.reg_core.specs.Integer.{IsBytes}
 use Rattle.reg_core.specs.Sequence.{◌>>=◌}
 use Rattle.reg_der.specs.Der.{tlv}
-use Rattle.reg_der.specs.ValueReading.{Parts, value_at, Takes}
-use Rattle.reg_der.proofs.PublicLaws.{value_takes, value_again}
+use Rattle.reg_der.specs.ValueReading.{value_at, Takes}
+use Rattle.reg_der.proofs.PublicLaws.{value_size, value_takes, value_again}
 use Rattle.reg_der.proofs.ValueLemmas.{bind_then, some_is}
 use Rattle.reg_ocsp.specs.Request.{optional}
 use Rattle.reg_ocsp.specs.RequestReading.{expect_at, whole_at, optional_at, last_at}
@@ -26,13 +26,10 @@ pub record TakesTag (bytes : List ℕ) (tag : ℕ) (contents rest : List ℕ) : 
   pub taken : Takes bytes (tlv tag contents) rest
   pub inner : IsBytes contents
 
-abbrev after_value : ℕ → Parts × List ℕ → Option (List ℕ × List ℕ)
-after_value tag x = cond (eqb x.0.tag tag) (Some (x.0.contents, x.1)) None
-
 pub expect_takes : (tag : ℕ) (bytes : List ℕ) (x : List ℕ × List ℕ) → IsBytes bytes → expect_at tag bytes ≡ Some x → TakesTag bytes tag x.0 x.1
 unfolding expect_at
 expect_takes tag bytes x each e =
-    bind_then (value_at bytes) (after_value tag) x e (λ v read then.
+    bind_then (value_at bytes) _ x e (λ v read then.
     let t = value_takes bytes v each read in
     let g = chosen (eqb v.0.tag tag) (Some (v.0.contents, v.1)) x then in
     let made : TakesTag bytes v.0.tag v.0.contents v.1 = record { taken = t.taken; inner = t.fits.byte_contents } in
@@ -50,13 +47,10 @@ pub record IsWhole (bytes : List ℕ) (tag : ℕ) (contents : List ℕ) : Type 0
   pub spelled : bytes ≡ tlv tag contents
   pub inner : IsBytes contents
 
-abbrev after_whole : List ℕ × List ℕ → Option (List ℕ)
-after_whole x = cond (eqb (length x.1) 0) (Some x.0) None
-
 pub whole_takes : (tag : ℕ) (bytes contents : List ℕ) → IsBytes bytes → whole_at tag bytes ≡ Some contents → IsWhole bytes tag contents
 unfolding whole_at
 whole_takes tag bytes contents each e =
-    bind_then (expect_at tag bytes) after_whole contents e (λ v read then.
+    bind_then (expect_at tag bytes) _ contents e (λ v read then.
     let t = expect_takes tag bytes v each read in
     let g = chosen (eqb (length v.1) 0) (Some v.0) contents then in
     let nothing : v.1 ≡ [] = nil_from_length v.1 (eqb-true (length v.1) 0 g.0) in
@@ -84,7 +78,7 @@ left_out tag bytes each = record { taken = record { parts = refl; each = each };
 optional_first : (tag first : ℕ) (rest : List ℕ) (b : Bool) (x : Option (List ℕ) × List ℕ) → IsBytes (first ∷ rest)
     → cond b (expect_at tag (first ∷ rest) >>= as_written) (Some (None, first ∷ rest)) ≡ Some x → TakesOptional (first ∷ rest) tag x.0 x.1
 optional_first tag first rest true x each e =
-    bind_then (expect_at tag (first ∷ rest)) as_written x e (λ v read then.
+    bind_then (expect_at tag (first ∷ rest)) _ x e (λ v read then.
     let t = expect_takes tag (first ∷ rest) v each read in
     subst (λ (y : Option (List ℕ) × List ℕ). TakesOptional (first ∷ rest) tag y.0 y.1) (some_is (Some v.0, v.1) x then) (record { taken = t.taken; inner = t.inner }))
 optional_first tag first rest false x each e =
@@ -131,20 +125,33 @@ pub optional_again : (tag : ℕ) (written : Option (List ℕ)) (rest : List ℕ)
 optional_again tag None rest low small begins = optional_left tag rest begins
 optional_again tag (Some contents) rest low small begins = optional_written tag contents rest low small
 
+-- of few bytes few are left behind a value
+
+pub expect_next : (tag : ℕ) (contents rest : List ℕ) → tag % 32 < 31 → length (tlv tag contents ++ rest) ≤ 65536 → (expect_at tag (tlv tag contents ++ rest) ≡ Some (contents, rest)) × (length rest ≤ 65536)
+expect_next tag contents rest low small =
+    let size = length-append (tlv tag contents) rest in
+    let least = (value_size tag contents).least in
+    (expect_again tag contents rest low (omega (arith, size, least)), omega (arith, size))
+
+pub optional_next : (tag : ℕ) (written : Option (List ℕ)) (rest : List ℕ) → tag % 32 < 31 → length (optional tag written ++ rest) ≤ 65536 → BeginsElse tag rest
+    → (optional_at tag (optional tag written ++ rest) ≡ Some (written, rest)) × (length rest ≤ 65536)
+optional_next tag None rest low small begins = (optional_left tag rest begins, small)
+optional_next tag (Some contents) rest low small begins =
+    let size = length-append (tlv tag contents) rest in
+    let least = (value_size tag contents).least in
+    (optional_written tag contents rest low (omega (arith, size, least)), omega (arith, size))
+
 -- ---- the same at the end
 
 pub record IsLast (bytes : List ℕ) (tag : ℕ) (written : Option (List ℕ)) : Type 0 where
   pub spelled : bytes ≡ optional tag written
   pub inner : IfSome written IsBytes
 
-abbrev as_last : List ℕ → Option (Option (List ℕ))
-as_last x = Some (Some x)
-
 pub last_takes : (tag : ℕ) (bytes : List ℕ) (written : Option (List ℕ)) → IsBytes bytes → last_at tag bytes ≡ Some written → IsLast bytes tag written
 unfolding last_at
 last_takes tag [] written each e = subst (λ (y : Option (List ℕ)). IsLast [] tag y) (some_is None written e) (record { spelled = refl; inner = tt })
 last_takes tag (first ∷ rest) written each e =
-    bind_then (whole_at tag (first ∷ rest)) as_last written e (λ contents read then.
+    bind_then (whole_at tag (first ∷ rest)) _ written e (λ contents read then.
     let t = whole_takes tag (first ∷ rest) contents each read in
     subst (λ (y : Option (List ℕ)). IsLast (first ∷ rest) tag y) (some_is (Some contents) written then) (record { spelled = t.spelled; inner = t.inner }))
 

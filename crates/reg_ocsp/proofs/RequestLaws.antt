@@ -7,7 +7,6 @@ use Rattle.std.proofs.lemmas.List.{length-append, length-map}
 use Rattle.std.proofs.lemmas.List.Sums.{sum_by-cons}
 use Rattle.std.proofs.lemmas.Slice.Eq.{bytes_eq-Decides}
 use Rattle.reg_core.specs.Integer.{IsBytes}
-use Rattle.reg_core.specs.Sequence.{◌>>=◌}
 use Rattle.reg_der.specs.Der.{tlv, length_octets}
 use Rattle.reg_der.specs.ValueReading.{Takes}
 use Rattle.reg_der.proofs.PublicLaws.{value_size}
@@ -18,7 +17,7 @@ use Rattle.reg_ocsp.specs.declared.fault.AskFault.{AskFault}
 use Rattle.reg_ocsp.specs.declared.fault.AskFault.TheVariants.{Malformed, Memory}
 use Rattle.reg_ocsp.specs.Views.{id_seen, ids_seen, GivesUnlessMemory}
 use Rattle.reg_ocsp.specs.RequestReading.{expect_at, whole_at, optional_at, last_at, all_at, ids_at, single_at, is_version, version_at, last_nonce_at, list_at, signed_at, tbs_at, parts_at, request_at}
-use Rattle.reg_ocsp.proofs.PartLaws.{chosen, expect_takes, expect_again, whole_takes, whole_again, optional_takes, optional_again, last_takes, last_again, IsSmall, BeginsElse, begins_value, begins_optional}
+use Rattle.reg_ocsp.proofs.PartLaws.{chosen, expect_takes, expect_again, expect_next, whole_takes, whole_again, optional_takes, optional_again, optional_next, last_takes, last_again, IsSmall, BeginsElse, begins_value, begins_optional}
 use Rattle.reg_ocsp.proofs.ItemLaws.{TakesAll, items_take, items_again}
 use Rattle.reg_ocsp.proofs.ExtensionLaws.{nonce_in, contents_small, last_nonce_takes, last_nonce_again}
 use Rattle.reg_ocsp.proofs.TargetLaws.{single_reads}
@@ -68,13 +67,10 @@ version_written bytes rest (Some contents) taken is =
     let same : contents ≡ tlv 0x02 (0 ∷ []) = (bytes_eq-Decides contents (0x02 ∷ 0x01 ∷ 0x00 ∷ [])).0 is ∙ sym the_version in
     record { flag = true; taken = subst (λ (c : List ℕ). Takes bytes (tlv 0xA0 c) rest) same taken }
 
-abbrev after_version : Option (List ℕ) × List ℕ → Option (List ℕ)
-after_version x = cond (is_version x.0) (Some x.1) None
-
 version_takes : (bytes rest : List ℕ) → IsBytes bytes → version_at bytes ≡ Some rest → TakesVersion bytes rest
 unfolding version_at
 version_takes bytes rest each e =
-    bind_then (optional_at 0xA0 bytes) after_version rest e (λ written read then.
+    bind_then (optional_at 0xA0 bytes) _ rest e (λ written read then.
     let g = chosen (is_version written.0) (Some written.1) rest then in
     let t = optional_takes 0xA0 bytes written each read in
     subst (λ (r : List ℕ). TakesVersion bytes r) (some_is written.1 rest g.1) (version_written bytes written.1 written.0 t.taken g.0))
@@ -122,18 +118,6 @@ record TakesSigned (bytes list : List ℕ) (nonce : Option (List ℕ)) : Type 0 
   inner : IsBytes list
   same : nonce ≡ nonce_of tree
 
-abbrev after_nonce : List ℕ → Option (List ℕ) → Option (List ℕ × Option (List ℕ))
-after_nonce list first = Some (list, repeated first)
-
-abbrev after_list : List ℕ × List ℕ → Option (List ℕ × Option (List ℕ))
-after_list list = last_nonce_at 0xA2 list.1 >>= after_nonce list.0
-
-abbrev after_requestor : Option (List ℕ) × List ℕ → Option (List ℕ × List ℕ)
-after_requestor requestor = expect_at 0x30 requestor.1
-
-abbrev after_start : List ℕ → Option (List ℕ × List ℕ)
-after_start rest = optional_at 0xA1 rest >>= after_requestor
-
 -- the list of requests, and what stands before it
 record TakesList (bytes list rest : List ℕ) : Type 0 where
   flag : Bool
@@ -145,8 +129,8 @@ record TakesList (bytes list rest : List ℕ) : Type 0 where
 list_takes : (bytes : List ℕ) (x : List ℕ × List ℕ) → IsBytes bytes → list_at bytes ≡ Some x → TakesList bytes x.0 x.1
 unfolding list_at
 list_takes bytes x each e =
-    bind_then (version_at bytes) after_start x e (λ start read_start e1.
-    bind_then (optional_at 0xA1 start) after_requestor x e1 (λ requestor read_requestor e2.
+    bind_then (version_at bytes) _ x e (λ start read_start e1.
+    bind_then (optional_at 0xA1 start) _ x e1 (λ requestor read_requestor e2.
     let t0 = version_takes bytes start each read_start in
     let t1 = optional_takes 0xA1 start requestor t0.taken.each read_requestor in
     let t2 = expect_takes 0x30 requestor.1 x t1.taken.each e2 in
@@ -161,8 +145,8 @@ list_takes bytes x each e =
 signed_takes : (bytes : List ℕ) (x : List ℕ × Option (List ℕ)) → IsBytes bytes → signed_at bytes ≡ Some x → TakesSigned bytes x.0 x.1
 unfolding signed_at
 signed_takes bytes x each e =
-    bind_then (list_at bytes) after_list x e (λ list read_list e1.
-    bind_then (last_nonce_at 0xA2 list.1) (after_nonce list.0) x e1 (λ first read_first e2.
+    bind_then (list_at bytes) _ x e (λ list read_list e1.
+    bind_then (last_nonce_at 0xA2 list.1) _ x e1 (λ first read_first e2.
     let t0 = list_takes bytes list each read_list in
     let t1 = last_nonce_takes 0xA2 list.1 first t0.each read_first in
     let whole : bytes ≡ signed_text t0.flag t0.requestor list.0 t1.tree =
@@ -186,39 +170,15 @@ signed_again flag requestor list tree fits small =
     let after_requestor = tlv 0x30 list ++ last in
     let after_version = optional 0xA1 requestor ++ after_requestor in
     let len0 = length-append (request_version flag) after_version in
-    let len1 = length-append (optional 0xA1 requestor) after_requestor in
-    let len2 = length-append (tlv 0x30 list) last in
-    let l2 : length list ≤ 65536 = omega (arith, (value_size 0x30 list).least) in
-    let l3 : length (optional 0xA1 requestor) ≤ 65536 = omega arith in
     let begins_list : BeginsElse 0xA1 after_requestor = begins_value 0xA1 0x30 list last (λ same. absurd (omega arith)) in
     let begins_here : BeginsElse 0xA0 after_version = begins_optional 0xA0 0xA1 requestor after_requestor (λ same. absurd (omega arith)) (begins_value 0xA0 0x30 list last (λ same. absurd (omega arith))) in
     let e0 = version_again flag after_version begins_here in
-    let e1 = optional_again 0xA1 requestor after_requestor (omega arith) (contents_small 0xA1 requestor l3) begins_list in
-    let e2 = expect_again 0x30 list last (omega arith) l2 in
-    let e3 = last_nonce_again 0xA2 tree (omega arith) fits (omega arith) in
-    rw (e0, e1, e2, e3, nonce_is tree) refl
+    let s1 = optional_next 0xA1 requestor after_requestor (omega arith) (omega (arith, len0)) begins_list in
+    let s2 = expect_next 0x30 list last (omega arith) s1.1 in
+    let e3 = last_nonce_again 0xA2 tree (omega arith) fits s2.1 in
+    rw (e0, s1.0, s2.0, e3, nonce_is tree) refl
 
 -- ---- the outer values
-
-record TakesParts (bytes list : List ℕ) (nonce : Option (List ℕ)) : Type 0 where
-  flag : Bool
-  requestor : Option (List ℕ)
-  tree : Option (List Extension)
-  signature : Option (List ℕ)
-  fits : AreExtensions tree
-  short : length bytes ≤ 65536
-  spelled : bytes ≡ tlv 0x30 (tlv 0x30 (signed_text flag requestor list tree) ++ optional 0xA0 signature)
-  inner : IsBytes list
-  same : nonce ≡ nonce_of tree
-
-abbrev after_signature : List ℕ → Option (List ℕ) → Option (List ℕ)
-after_signature signed signature = Some signed
-
-abbrev after_signed : List ℕ × List ℕ → Option (List ℕ)
-after_signed signed = last_at 0xA0 signed.1 >>= after_signature signed.0
-
-abbrev after_outer : List ℕ → Option (List ℕ)
-after_outer outer = expect_at 0x30 outer >>= after_signed
 
 -- what is signed, and what stands beside it
 record TakesOuter (bytes signed : List ℕ) : Type 0 where
@@ -229,9 +189,9 @@ record TakesOuter (bytes signed : List ℕ) : Type 0 where
 outer_takes : (bytes signed : List ℕ) → IsBytes bytes → tbs_at bytes ≡ Some signed → TakesOuter bytes signed
 unfolding tbs_at
 outer_takes bytes signed each e =
-    bind_then (whole_at 0x30 bytes) after_outer signed e (λ outer read_outer e1.
-    bind_then (expect_at 0x30 outer) after_signed signed e1 (λ first read_first e2.
-    bind_then (last_at 0xA0 first.1) (after_signature first.0) signed e2 (λ signature read_signature e3.
+    bind_then (whole_at 0x30 bytes) _ signed e (λ outer read_outer e1.
+    bind_then (expect_at 0x30 outer) _ signed e1 (λ first read_first e2.
+    bind_then (last_at 0xA0 first.1) _ signed e2 (λ signature read_signature e3.
     let t0 = whole_takes 0x30 bytes outer each read_outer in
     let t1 = expect_takes 0x30 outer first t0.inner read_first in
     let t2 = last_takes 0xA0 first.1 signature t1.taken.each read_signature in
@@ -242,24 +202,19 @@ outer_takes bytes signed each e =
       inner = t1.inner;
     }))))
 
+record TakesParts (bytes list : List ℕ) (nonce : Option (List ℕ)) : Type 0 where
+  signed : List ℕ
+  short : length bytes ≤ 65536
+  outer : TakesOuter bytes signed
+  within : TakesSigned signed list nonce
+
 parts_takes : (bytes : List ℕ) (x : List ℕ × Option (List ℕ)) → IsBytes bytes → parts_at bytes ≡ Some x → TakesParts bytes x.0 x.1
 unfolding parts_at
 parts_takes bytes x each e =
-    let g = kept (ltb 65536 (length bytes)) (tbs_at bytes >>= signed_at) x e in
-    bind_then (tbs_at bytes) signed_at x g.1 (λ signed read_signed e1.
-    let t0 = outer_takes bytes signed each read_signed in
-    let t1 = signed_takes signed x t0.inner e1 in
-    record {
-      flag = t1.flag;
-      requestor = t1.requestor;
-      tree = t1.tree;
-      signature = t0.signature;
-      fits = t1.fits;
-      short = ltb-false 65536 (length bytes) g.0;
-      spelled = t0.spelled ∙ ap (λ (r : List ℕ). tlv 0x30 (tlv 0x30 r ++ optional 0xA0 t0.signature)) t1.spelled;
-      inner = t1.inner;
-      same = t1.same;
-    })
+    let g = kept (ltb 65536 (length bytes)) _ x e in
+    bind_then (tbs_at bytes) _ x g.1 (λ signed read_signed e1.
+    let outer = outer_takes bytes signed each read_signed in
+    record { signed = signed; short = ltb-false 65536 (length bytes) g.0; outer = outer; within = signed_takes signed x outer.inner e1 })
 
 parts_again : (flag : Bool) (requestor : Option (List ℕ)) (list : List ℕ) (tree : Option (List Extension)) (signature : Option (List ℕ)) → AreExtensions tree
     → length (tlv 0x30 (tlv 0x30 (signed_text flag requestor list tree) ++ optional 0xA0 signature)) ≤ 65536
@@ -281,28 +236,23 @@ parts_again flag requestor list tree signature fits small =
 
 -- ---- the two laws
 
-abbrev with_nonce : Option (List ℕ) → List Id → Option (List Id × Option (List ℕ))
-with_nonce repeats ids = Some (ids, repeats)
-
-abbrev after_parts : List ℕ × Option (List ℕ) → Option (List Id × Option (List ℕ))
-after_parts parts = ids_at parts.0 >>= with_nonce parts.1
-
 pub request_takes : (bytes : List ℕ) (x : List Id × Option (List ℕ)) → IsBytes bytes → request_at bytes ≡ Some x → IsOcspRequest bytes x.0 x.1
 unfolding request_at
 request_takes bytes x each e =
-    bind_then (parts_at bytes) after_parts x e (λ parts read_parts e1.
-    bind_then (ids_at parts.0) (with_nonce parts.1) x e1 (λ ids read_ids e2.
+    bind_then (parts_at bytes) _ x e (λ parts read_parts e1.
+    bind_then (ids_at parts.0) _ x e1 (λ ids read_ids e2.
     let t0 = parts_takes bytes parts each read_parts in
-    let t1 = ids_takes parts.0 ids t0.inner read_ids in
-    let made : Form = record { version = t0.flag; requestor = t0.requestor; singles = t1.all.trees; extensions = t0.tree; signature = t0.signature } in
+    let s = t0.within in
+    let t1 = ids_takes parts.0 ids s.inner read_ids in
+    let made : Form = record { version = s.flag; requestor = s.requestor; singles = t1.all.trees; extensions = s.tree; signature = t0.outer.signature } in
     let spelled : bytes ≡ spelling made =
-    t0.spelled ∙ ap (λ (list : List ℕ). tlv 0x30 (tlv 0x30 (signed_text t0.flag t0.requestor list t0.tree) ++ optional 0xA0 t0.signature)) t1.all.spelled in
+    t0.outer.spelled ∙ ap (λ (r : List ℕ). tlv 0x30 (tlv 0x30 r ++ optional 0xA0 t0.outer.signature)) (s.spelled ∙ ap (λ (list : List ℕ). signed_text s.flag s.requestor list s.tree) t1.all.spelled) in
     subst (λ (y : List Id × Option (List ℕ)). IsOcspRequest bytes y.0 y.1) (some_is (ids, parts.1) x e2)
     (record {
       each = each;
       short = t0.short;
       form = made;
-      built = record { allowed = record { some = t1.some; each = t1.all.fits; extensions = t0.fits }; spelled = spelled; asks = t1.all.same; repeats = t0.same };
+      built = record { allowed = record { some = t1.some; each = t1.all.fits; extensions = s.fits }; spelled = spelled; asks = t1.all.same; repeats = s.same };
     })))
 
 list_small : (f : Form) → length (spelling f) ≤ 65536 → length (flat_map single f.singles) ≤ 65536

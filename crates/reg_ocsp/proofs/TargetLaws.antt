@@ -1,18 +1,17 @@
 -- CertIDs and single requests: what is read is spelled so, and what is spelled so is read.
-use Rattle.std.proofs.Common.{◌≡◌, ℕ, ◌%◌, ◌<◌, ◌≤◌, true, false, not, ◌&&◌, ◌||◌, cond, eqb, ltb, leb, List, [], ◌∷◌, ◌++◌, length, Option, Some, None, refl, sym, ap, subst, ◌∙◌, arith}
+use Rattle.std.proofs.Common.{◌≡◌, ℕ, ◌%◌, ◌<◌, ◌≤◌, true, false, not, ◌&&◌, ◌||◌, eqb, ltb, leb, List, [], ◌∷◌, ◌++◌, length, Option, Some, None, refl, sym, ap, subst, ◌∙◌, arith}
 use Rattle.std.specs.Prelude.{IfSome}
 use Rattle.std.proofs.lemmas.Bool.{eqb-true, eqb-false, ne_eqb, not-false}
 use Rattle.std.proofs.lemmas.Bool.Decides.{nat_tests}
 use Rattle.std.proofs.lemmas.List.{append-nil, nil_from_length, length-append}
 use Rattle.reg_core.specs.Integer.{IsBytes, IsShortest}
-use Rattle.reg_core.specs.Sequence.{◌>>=◌}
 use Rattle.reg_der.specs.Der.{tlv}
 use Rattle.reg_der.specs.ValueReading.{Parts, value_at, Takes}
 use Rattle.reg_der.proofs.PublicLaws.{value_takes, value_again, value_size}
 use Rattle.reg_der.proofs.ValueLemmas.{bind_then, kept, some_is, or_false}
 use Rattle.reg_ocsp.specs.Request.{Target, IsTarget, Single, IsSingle, Id, id_of, id_asked, parameters, algorithm, cert_id, single, extensions}
 use Rattle.reg_ocsp.specs.RequestReading.{expect_at, whole_at, last_nonce_at, read_all, algorithm_at, is_shortest, serial_at, names_at, target_at, single_at}
-use Rattle.reg_ocsp.proofs.PartLaws.{chosen, expect_takes, expect_again, whole_takes, whole_again}
+use Rattle.reg_ocsp.proofs.PartLaws.{chosen, expect_takes, expect_again, expect_next, whole_takes, whole_again}
 use Rattle.reg_ocsp.proofs.ItemLaws.{Reads, TakesItem}
 use Rattle.reg_ocsp.proofs.ExtensionLaws.{last_nonce_takes, last_nonce_again}
 
@@ -53,18 +52,11 @@ record TakesAlgorithm (bytes raw rest : List ℕ) : Type 0 where
   taken : Takes bytes (algorithm identifier any) rest
   same : raw ≡ algorithm identifier any
 
-abbrev after_algorithm : List ℕ × List ℕ → List ℕ × List ℕ → Option (List ℕ × List ℕ)
-after_algorithm outer identifier =
-    cond (eqb (length identifier.0) 0 || not (read_all identifier.1 (value_at identifier.1))) None (Some (tlv 0x30 outer.0, outer.1))
-
-abbrev after_sequence : List ℕ × List ℕ → Option (List ℕ × List ℕ)
-after_sequence outer = expect_at 0x06 outer.0 >>= after_algorithm outer
-
 algorithm_takes : (bytes : List ℕ) (x : List ℕ × List ℕ) → IsBytes bytes → algorithm_at bytes ≡ Some x → TakesAlgorithm bytes x.0 x.1
 unfolding algorithm_at
 algorithm_takes bytes x each e =
-    bind_then (expect_at 0x30 bytes) after_sequence x e (λ outer read_outer e1.
-    bind_then (expect_at 0x06 outer.0) (after_algorithm outer) x e1 (λ identifier read_identifier e2.
+    bind_then (expect_at 0x30 bytes) _ x e (λ outer read_outer e1.
+    bind_then (expect_at 0x06 outer.0) _ x e1 (λ identifier read_identifier e2.
     let g = kept (eqb (length identifier.0) 0 || not (read_all identifier.1 (value_at identifier.1))) (Some (tlv 0x30 outer.0, outer.1)) x e2 in
     let tests = or_false (eqb (length identifier.0) 0) (not (read_all identifier.1 (value_at identifier.1))) g.0 in
     let ne = eqb-false (length identifier.0) 0 tests.0 in
@@ -116,9 +108,6 @@ shortest_passes (first ∷ second ∷ rest) is = shortest_to_tests first second 
 
 -- ---- the CertID
 
-abbrev after_octets : List ℕ → Option (List ℕ)
-after_octets serial = cond (is_shortest serial) (Some serial) None
-
 -- a serial number that was read
 record IsSerialRead (bytes serial : List ℕ) : Type 0 where
   spelled : bytes ≡ tlv 0x02 serial
@@ -127,19 +116,10 @@ record IsSerialRead (bytes serial : List ℕ) : Type 0 where
 serial_takes : (bytes serial : List ℕ) → IsBytes bytes → serial_at bytes ≡ Some serial → IsSerialRead bytes serial
 unfolding serial_at
 serial_takes bytes serial each e =
-    bind_then (whole_at 0x02 bytes) after_octets serial e (λ octets read then.
+    bind_then (whole_at 0x02 bytes) _ serial e (λ octets read then.
     let g = chosen (is_shortest octets) (Some octets) serial then in
     subst (λ (s : List ℕ). IsSerialRead bytes s) (some_is octets serial g.1)
     (record { spelled = (whole_takes 0x02 bytes octets each read).spelled; shortest = shortest_from octets g.0 }))
-
-abbrev after_serial : List ℕ → List ℕ → List ℕ → Option (List ℕ × List ℕ × List ℕ)
-after_serial name key serial = Some (name, key, serial)
-
-abbrev after_key : List ℕ → List ℕ × List ℕ → Option (List ℕ × List ℕ × List ℕ)
-after_key name key = serial_at key.1 >>= after_serial name key.0
-
-abbrev after_name : List ℕ × List ℕ → Option (List ℕ × List ℕ × List ℕ)
-after_name name = expect_at 0x04 name.1 >>= after_key name.0
 
 -- hashes and a serial number that were read
 record AreNamesRead (bytes name key serial : List ℕ) : Type 0 where
@@ -149,9 +129,9 @@ record AreNamesRead (bytes name key serial : List ℕ) : Type 0 where
 names_take : (bytes : List ℕ) (x : List ℕ × List ℕ × List ℕ) → IsBytes bytes → names_at bytes ≡ Some x → AreNamesRead bytes x.0 x.1 x.2
 unfolding names_at
 names_take bytes x each e =
-    bind_then (expect_at 0x04 bytes) after_name x e (λ name read_name e1.
-    bind_then (expect_at 0x04 name.1) (after_key name.0) x e1 (λ key read_key e2.
-    bind_then (serial_at key.1) (after_serial name.0 key.0) x e2 (λ serial read_serial e3.
+    bind_then (expect_at 0x04 bytes) _ x e (λ name read_name e1.
+    bind_then (expect_at 0x04 name.1) _ x e1 (λ key read_key e2.
+    bind_then (serial_at key.1) _ x e2 (λ serial read_serial e3.
     let t1 = expect_takes 0x04 bytes name each read_name in
     let t2 = expect_takes 0x04 name.1 key t1.taken.each read_key in
     let t3 = serial_takes key.1 serial t2.taken.each read_serial in
@@ -160,15 +140,6 @@ names_take bytes x each e =
       spelled = t1.taken.parts ∙ ap (λ (r : List ℕ). tlv 0x04 name.0 ++ r) (t2.taken.parts ∙ ap (λ (r : List ℕ). tlv 0x04 key.0 ++ r) t3.spelled);
       shortest = t3.shortest;
     }))))
-
-abbrev after_names : List ℕ × List ℕ → List ℕ → List ℕ × List ℕ × List ℕ → Option (Id × List ℕ)
-after_names outer algorithm names = Some (record { raw = tlv 0x30 outer.0; algorithm = algorithm; name_hash = names.0; key_hash = names.1; serial = names.2 }, outer.1)
-
-abbrev after_hash : List ℕ × List ℕ → List ℕ × List ℕ → Option (Id × List ℕ)
-after_hash outer algorithm = names_at algorithm.1 >>= after_names outer algorithm.0
-
-abbrev after_outer : List ℕ × List ℕ → Option (Id × List ℕ)
-after_outer outer = algorithm_at outer.0 >>= after_hash outer
 
 abbrev the_id : Id → Id
 the_id id = id
@@ -180,9 +151,9 @@ same_id raw raw2 algorithm algorithm2 name key serial e f = cc
 target_takes : (bytes : List ℕ) (x : Id × List ℕ) → IsBytes bytes → target_at bytes ≡ Some x → TakesItem cert_id id_of IsTarget bytes x.0 x.1
 unfolding target_at
 target_takes bytes x each e =
-    bind_then (expect_at 0x30 bytes) after_outer x e (λ outer read_outer e1.
-    bind_then (algorithm_at outer.0) (after_hash outer) x e1 (λ hash read_hash e2.
-    bind_then (names_at hash.1) (after_names outer hash.0) x e2 (λ names read_names e3.
+    bind_then (expect_at 0x30 bytes) _ x e (λ outer read_outer e1.
+    bind_then (algorithm_at outer.0) _ x e1 (λ hash read_hash e2.
+    bind_then (names_at hash.1) _ x e2 (λ names read_names e3.
     let made : Id = record { raw = tlv 0x30 outer.0; algorithm = hash.0; name_hash = names.0; key_hash = names.1; serial = names.2 } in
     let t0 = expect_takes 0x30 bytes outer each read_outer in
     let t1 = algorithm_takes outer.0 hash t0.inner read_hash in
@@ -208,36 +179,21 @@ target_again t rest fits small =
     let contents = front ++ after_front in
     let l0 : length contents ≤ 65536 = omega (arith, (value_size 0x30 contents).least) in
     let len0 = length-append front after_front in
-    let len1 = length-append (tlv 0x04 t.name_hash) after_name in
-    let len2 = length-append (tlv 0x04 t.key_hash) last in
-    let l1 : length front ≤ 65536 = omega arith in
-    let l2 : length t.name_hash ≤ 65536 = omega (arith, (value_size 0x04 t.name_hash).least) in
-    let l3 : length t.key_hash ≤ 65536 = omega (arith, (value_size 0x04 t.key_hash).least) in
-    let l4 : length t.serial ≤ 65536 = omega (arith, (value_size 0x02 t.serial).least) in
     let e0 = expect_again 0x30 contents rest (omega arith) l0 in
-    let e1 = algorithm_again t.identifier t.parameters after_front fits.identified fits.low_tag l1 in
-    let e2 = expect_again 0x04 t.name_hash after_name (omega arith) l2 in
-    let e3 = expect_again 0x04 t.key_hash last (omega arith) l3 in
-    let e4 = whole_again 0x02 t.serial (omega arith) l4 in
-    rw (e0, e1, e2, e3, e4, shortest_passes t.serial fits.shortest) refl
+    let e1 = algorithm_again t.identifier t.parameters after_front fits.identified fits.low_tag (omega (arith, len0, l0)) in
+    let s2 = expect_next 0x04 t.name_hash after_name (omega arith) (omega (arith, len0, l0)) in
+    let s3 = expect_next 0x04 t.key_hash last (omega arith) s2.1 in
+    let e4 = whole_again 0x02 t.serial (omega arith) (omega (arith, s3.1, (value_size 0x02 t.serial).least)) in
+    rw (e0, e1, s2.0, s3.0, e4, shortest_passes t.serial fits.shortest) refl
 
 -- ---- one request
-
-abbrev after_nonce : List ℕ → Id → Option (List ℕ) → Option (Id × List ℕ)
-after_nonce rest id ignored = Some (id, rest)
-
-abbrev after_target : List ℕ → Id × List ℕ → Option (Id × List ℕ)
-after_target rest target = last_nonce_at 0xA0 target.1 >>= after_nonce rest target.0
-
-abbrev after_single : List ℕ × List ℕ → Option (Id × List ℕ)
-after_single outer = target_at outer.0 >>= after_target outer.1
 
 pub single_takes : (bytes : List ℕ) (x : Id × List ℕ) → IsBytes bytes → single_at bytes ≡ Some x → TakesItem single id_asked IsSingle bytes x.0 x.1
 unfolding single_at
 single_takes bytes x each e =
-    bind_then (expect_at 0x30 bytes) after_single x e (λ outer read_outer e1.
-    bind_then (target_at outer.0) (after_target outer.1) x e1 (λ target read_target e2.
-    bind_then (last_nonce_at 0xA0 target.1) (after_nonce outer.1 target.0) x e2 (λ nonce read_nonce e3.
+    bind_then (expect_at 0x30 bytes) _ x e (λ outer read_outer e1.
+    bind_then (target_at outer.0) _ x e1 (λ target read_target e2.
+    bind_then (last_nonce_at 0xA0 target.1) _ x e2 (λ nonce read_nonce e3.
     let t0 = expect_takes 0x30 bytes outer each read_outer in
     let t1 = target_takes outer.0 target t0.inner read_target in
     let t2 = last_nonce_takes 0xA0 target.1 nonce t1.taken.each read_nonce in

@@ -6,7 +6,13 @@ use Rattle.std.proofs.lemmas.Bool.{cases_Bool}
 use Rattle.std.proofs.lemmas.Bool.Decides.{nat_tests}
 use Rattle.std.proofs.lemmas.List.{append_assoc, length-take-le, take-append-drop, take_all, take_more}
 use Rattle.reg_core.specs.Sound.{NumberedFrom, KeysDiffer, NeverFalls}
-use Rattle.reg_laws.proofs.Lists.{all_push, all_back, all_weaker, find_back, find_none, find_past, numbered_push, keys_push, falls_push, key_new}
+use Rattle.reg_laws.proofs.Lists.{all_push, all_back, all_weaker, find_back, find_none, find_past, numbered_push, keys_push, falls_push, key_new, all_found, find_passes, none_passes, some_of}
+use Rattle.std.specs.Str.{bytes_eq}
+use Rattle.std.specs.Cmp.Lexicographic.{slice_cmp}
+use Rattle.std.proofs.lemmas.Map.Text.{is_eq-slice_cmp}
+use Rattle.std.proofs.lemmas.Slice.Eq.{bytes_eq-Decides}
+use Rattle.reg_core.specs.Records.{subscriber_named}
+use Rattle.reg_core.specs.declared.rows.SubscriberRow.{SubscriberRow}
 
 -- what a list says of a row in it, and of those before it
 
@@ -93,7 +99,7 @@ module _ {Row : Type 0} (rows : List Row) (i : ℕ) (row : Row) (within : i < le
     one_more : (k : ℕ) → find (sought k) (take i rows) ≡ None → find (sought k) (take (i + 1) rows) ≡ cond (key row == k) (Some row) None
     one_more k none = ap (find (sought k)) more ∙ find_back (sought k) (take i rows) (row ∷ []) none
 
-    pub found_more : (old new : ℕ → Option Row) → ((k : ℕ) → old k ≡ find (sought k) (take i rows)) → ((k : ℕ) → new k ≡ cond (is_eq (nat_cmp (key row) k)) (Some row) (old k)) → old (key row) ≡ None
+    found_more : (old new : ℕ → Option Row) → ((k : ℕ) → old k ≡ find (sought k) (take i rows)) → ((k : ℕ) → new k ≡ cond (is_eq (nat_cmp (key row) k)) (Some row) (old k)) → old (key row) ≡ None
         → (k : ℕ) → new k ≡ find (sought k) (take (i + 1) rows)
     found_more old new was put none k = elim (cases_Bool (key row == k)) [
       | inl same ↦
@@ -106,8 +112,10 @@ module _ {Row : Type 0} (rows : List Row) (i : ℕ) (row : Row) (within : i < le
           put k ∙ rw tested (was k ∙ sym (ap (find (sought k)) more ∙ find_past (sought k) (take i rows) (row ∷ []) (other, tt)))
     ]
 
-    pub new_key : (old : ℕ → Option Row) → ((k : ℕ) → old k ≡ find (sought k) (take i rows)) → old (key row) ≡ None → AllByRecursion (λ other. key other ≢ key row) (take i rows)
-    new_key old was none = key_new key (take i rows) (key row) (sym (was (key row)) ∙ none)
+    -- the row is put in, and none was there
+    pub entered_more : (old new : ℕ → Option Row) → KeysDiffer key (take i rows) → ((k : ℕ) → old k ≡ find (sought k) (take i rows)) → ((k : ℕ) → new k ≡ cond (is_eq (nat_cmp (key row) k)) (Some row) (old k)) → old (key row) ≡ None
+        → record { differ : KeysDiffer key (take (i + 1) rows); found : (k : ℕ) → new k ≡ find (sought k) (take (i + 1) rows) }
+    entered_more old new differ was put none = record { differ = keys_more key differ (key_new key (take i rows) (key row) (sym (was (key row)) ∙ none)); found = found_more old new was put none }
 
     pub known_key : (old : ℕ → Option Row) → ((k : ℕ) → old k ≡ find (sought k) (take i rows)) → (known : Row) → old (key row) ≡ Some known → KeysDiffer key rows → ⊥
     known_key old was known some differ =
@@ -118,3 +126,33 @@ module _ {Row : Type 0} (rows : List Row) (i : ℕ) (row : Row) (within : i < le
 -- a loop that is done went over the whole
 pub whole : {Row : Type 0} (rows : List Row) (C : List Row → Type 0) (i : ℕ) → length rows ≤ i → C (take i rows) → C rows
 whole rows C i past all = subst C (take_all i rows past) all
+
+-- ---- subscribers by their names
+
+none_of : {A : Type 0} (o : Option A) → is_some o ≡ false → o ≡ None
+none_of None is = refl
+none_of (Some x) is = absurd (let bad : ⊥ = cc in bad)
+
+module _ (rows : List SubscriberRow) (i : ℕ) (row : SubscriberRow) (within : i < length rows) (is : row ≡ get_or rows i row) where
+  abbrev name_of : SubscriberRow → List ℕ
+  name_of other = other.name
+
+  pub name_differs : KeysDiffer name_of (take i rows) → is_some (subscriber_named (take i rows) row.name) ≡ false → KeysDiffer name_of (take (i + 1) rows)
+  name_differs differ free =
+      keys_more rows i row within is name_of differ
+      (all_weaker (λ (other : SubscriberRow). IsFalse (bytes_eq other.name row.name)) (λ (other : SubscriberRow). other.name ≢ row.name)
+      (λ other fails same. let hit : bytes_eq other.name row.name ≡ true = (bytes_eq-Decides other.name row.name).1 same in let bad : ⊥ = cc in bad) (take i rows)
+      (none_passes (λ (other : SubscriberRow). bytes_eq other.name row.name) (take i rows) (none_of (subscriber_named (take i rows) row.name) free)))
+
+  pub name_repeats : is_some (subscriber_named (take i rows) row.name) ≡ true → KeysDiffer name_of rows → ⊥
+  name_repeats taken differ =
+      let known = some_of (subscriber_named (take i rows) row.name) taken in
+      let test = λ (other : SubscriberRow). bytes_eq other.name row.name in
+      let same : known.0.name ≡ row.name = (bytes_eq-Decides known.0.name row.name).0 (find_passes test (take i rows) known.0 known.1) in
+      all_found (λ (other : SubscriberRow). other.name ≢ row.name) test (take i rows) known.0 known.1 (keys_here rows i row within is name_of differ) same
+
+  pub name_entered : (key name : List ℕ) (old new : Bool) → key ≡ row.name → old ≡ is_some (subscriber_named (take i rows) name) → new ≡ cond (is_eq (slice_cmp nat_cmp key name)) true old
+      → new ≡ is_some (subscriber_named (take (i + 1) rows) name)
+  name_entered key name old new own was put =
+      let tested : is_eq (slice_cmp nat_cmp key name) ≡ bytes_eq row.name name = is_eq-slice_cmp key name ∙ ap (λ k. bytes_eq k name) own in
+      put ∙ ap (λ b. cond b true old) tested ∙ ap (cond (bytes_eq row.name name) true) was ∙ sym (any_more rows i row within is (λ (other : SubscriberRow). bytes_eq other.name name))

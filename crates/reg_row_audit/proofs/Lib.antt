@@ -1,9 +1,6 @@
 pub mod Fronts
 pub mod Fits
-pub mod Names
 pub mod Sorted
 pub mod Following
 pub mod Results
-pub mod Signatures
-pub mod Entries
 pub mod Contents

@@ -8,7 +8,7 @@ use Rattle.sqlite_schema.specs.declared.program.Program.{Program}
 use Rattle.sqlite_schema.specs.declared.schema.Schema.{Schema}
 use Rattle.sqlite_schema.specs.declared.schema.Table.{Table}
 use Rattle.sqlite.specs.declared.run.Mode.{Mode}
-use Rattle.sqlite.specs.Does.{Tally, AtPlace, Does, OnRows}
+use Rattle.sqlite.specs.Does.{Tally, AtPlace, OnRows}
 use Rattle.sqlite.specs.Effect.{Database}
 use Rattle.sqlite.specs.Given.{IsPlain}
 use Rattle.sqlite.specs.Listing.{understood}
@@ -36,28 +36,19 @@ module _ (limit : Option ℕ) (mode : Mode) (params : Row) (db : Database) (tall
       at_table (slice_get db.schema.tables at) (λ table. OnRows (task_on table) mode None command db.trees) (tally, after) (after.schema ≡ db.schema)
       (λ table on. rows_keep (task_on table) mode command db tally after on) h
 
-  insert_keeps : (from : Source) → Does limit mode params db text None (Insert at from) (Ok (tally, after)) → after.schema ≡ db.schema
-  insert_keeps from h = kept_by (Insert at from) h
-
-  update_keeps : (q : Program) → Does limit mode params db text None (Update at q) (Ok (tally, after)) → after.schema ≡ db.schema
-  update_keeps q h = kept_by (Update at q) h
-
-  delete_keeps : (q : Program) → Does limit mode params db text None (Delete at q) (Ok (tally, after)) → after.schema ≡ db.schema
-  delete_keeps q h = kept_by (Delete at q) h
-
 -- a text over a schema that inserts, updates or deletes rows
 module _ (sql : List ℕ) (params : Row) (old new : State) (count : ℕ) (ran : Ran sql params old new count) (schema : Schema) (has : old.now.schema ≡ schema) (plain : IsPlain (understood schema sql)) (at : ℕ) where
   pub inserts_keep : (from : Source) → command_of (understood schema sql) ≡ Insert at from → new.now.schema ≡ schema
   inserts_keep from is =
       let w : Writes old new None (Insert at from) (statement_of sql (understood schema sql)) params count = runs_as sql params old new schema has (Insert at from) is plain count ran.ran in
-      insert_keeps old.step_limit (mode_of old) params old.now w.tally new.now (statement_of sql (understood schema sql)) at from w.changed ∙ has
+      kept_by old.step_limit (mode_of old) params old.now w.tally new.now (statement_of sql (understood schema sql)) at (Insert at from) w.changed ∙ has
 
   pub updates_keep : (q : Program) → command_of (understood schema sql) ≡ Update at q → new.now.schema ≡ schema
   updates_keep q is =
       let w : Writes old new None (Update at q) (statement_of sql (understood schema sql)) params count = runs_as sql params old new schema has (Update at q) is plain count ran.ran in
-      update_keeps old.step_limit (mode_of old) params old.now w.tally new.now (statement_of sql (understood schema sql)) at q w.changed ∙ has
+      kept_by old.step_limit (mode_of old) params old.now w.tally new.now (statement_of sql (understood schema sql)) at (Update at q) w.changed ∙ has
 
   pub deletes_keep : (q : Program) → command_of (understood schema sql) ≡ Delete at q → new.now.schema ≡ schema
   deletes_keep q is =
       let w : Writes old new None (Delete at q) (statement_of sql (understood schema sql)) params count = runs_as sql params old new schema has (Delete at q) is plain count ran.ran in
-      delete_keeps old.step_limit (mode_of old) params old.now w.tally new.now (statement_of sql (understood schema sql)) at q w.changed ∙ has
+      kept_by old.step_limit (mode_of old) params old.now w.tally new.now (statement_of sql (understood schema sql)) at (Delete at q) w.changed ∙ has

@@ -12,7 +12,7 @@ use Rattle.reg_core.specs.Status as core
 use Rattle.reg_core.specs.Status.{status, status_by, counts, registered}
 use Rattle.reg_core.specs.declared.command.Counts.{Counts}
 use Rattle.reg_core.specs.declared.command.Status.{Status}
-use Rattle.reg_core.specs.declared.command.Status.TheVariants.{Good, Expired}
+use Rattle.reg_core.specs.declared.command.Status.TheVariants.{Good, Expired, Revoked}
 use Rattle.reg_core.specs.declared.rows.CertRow.{CertRow}
 use Rattle.reg_core.specs.declared.rows.RevocationRow.{RevocationRow}
 use Rattle.reg_tables.specs.Columns.{Letter, good, revoked, expired, is_good_letter, Standing}
@@ -49,29 +49,11 @@ pub found_each : (records : Records) → SoundRows records → AllByRecursion (�
 found_each records sound = each_found (λ (row : CertRow). row.serial) records.certificates sound.certificates.serials_differ
 
 -- the letters of the records are counted as their statuses are
-letter_good : (moment : ℕ) (row : CertRow) (revocation : Option RevocationRow) → is_good_letter (letter_of (status_by moment (Some row) revocation)) ≡ core.is_good (status_by moment (Some row) revocation)
-letter_good moment row (Some revocation) = refl
-letter_good moment row None = go (nat_lt row.not_after moment)
-  where
-    go : (b : Bool) → is_good_letter (letter_of (cond b Expired Good)) ≡ core.is_good (cond b Expired Good)
-    go true = refl
-    go false = refl
-
-letter_revoked : (moment : ℕ) (row : CertRow) (revocation : Option RevocationRow) → is_revoked (letter_of (status_by moment (Some row) revocation)) ≡ core.is_revoked (status_by moment (Some row) revocation)
-letter_revoked moment row (Some revocation) = refl
-letter_revoked moment row None = go (nat_lt row.not_after moment)
-  where
-    go : (b : Bool) → is_revoked (letter_of (cond b Expired Good)) ≡ core.is_revoked (cond b Expired Good)
-    go true = refl
-    go false = refl
-
-letter_expired : (moment : ℕ) (row : CertRow) (revocation : Option RevocationRow) → is_expired (letter_of (status_by moment (Some row) revocation)) ≡ core.is_expired (status_by moment (Some row) revocation)
-letter_expired moment row (Some revocation) = refl
-letter_expired moment row None = go (nat_lt row.not_after moment)
-  where
-    go : (b : Bool) → is_expired (letter_of (cond b Expired Good)) ≡ core.is_expired (cond b Expired Good)
-    go true = refl
-    go false = refl
+letter_as : (test : Letter → Bool) (of : Status → Bool) → test good ≡ of Good → test expired ≡ of Expired → ((at reason : ℕ) → test revoked ≡ of (Revoked at reason)) → (moment : ℕ) (row : CertRow) (revocation : Option RevocationRow)
+    → test (letter_of (status_by moment (Some row) revocation)) ≡ of (status_by moment (Some row) revocation)
+letter_as test of goods ends revokes moment row (Some revocation) = revokes revocation.at revocation.reason
+letter_as test of goods ends revokes moment row None =
+    elim (nat_lt row.not_after moment) as (λ b. test (letter_of (cond b Expired Good)) ≡ of (cond b Expired Good)) [ true ↦ ends | false ↦ goods ]
 
 module _ (records : Records) (found : AllByRecursion (λ (row : CertRow). certificate_in records.certificates row.serial ≡ Some row) records.certificates) (letters : List Standing)
     (stand : IsPermutation (map (standing_of records) records.certificates) letters) where
@@ -90,4 +72,7 @@ module _ (records : Records) (found : AllByRecursion (λ (row : CertRow). certif
 
   -- the letters count the statuses at the last accepted moment
   pub counts_stand : letter_counts letters ≡ counts records records.last
-  counts_stand = same_counts _ _ (counted_by is_good_letter core.is_good (letter_good records.last)) (counted_by is_revoked core.is_revoked (letter_revoked records.last)) (counted_by is_expired core.is_expired (letter_expired records.last))
+  counts_stand = same_counts _ _
+      (counted_by is_good_letter core.is_good (letter_as is_good_letter core.is_good refl refl (λ at reason. refl) records.last))
+      (counted_by is_revoked core.is_revoked (letter_as is_revoked core.is_revoked refl refl (λ at reason. refl) records.last))
+      (counted_by is_expired core.is_expired (letter_as is_expired core.is_expired refl refl (λ at reason. refl) records.last))

@@ -1,5 +1,4 @@
 pub mod Committing
-pub mod Counting
 pub mod Days
 pub mod Edits
 pub mod Keeping

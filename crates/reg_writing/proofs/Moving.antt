@@ -11,7 +11,7 @@ use Rattle.reg_tables.specs.Columns.{Columns}
 use Rattle.reg_tables.specs.Shows.{Holds, ShowsBoth, AreBoth}
 use Rattle.reg_tables.specs.Kept.{Kept, ShowsKept}
 use Rattle.reg_tables.specs.Stays.{Moves}
-use Rattle.reg_writing.specs.Ran.{Ran, Before, Moved}
+use Rattle.reg_writing.specs.Ran.{Ran, Before}
 
 -- a statement that ran is a step, to tables of which this holds
 pub moves : (sql : List ℕ) (params : Row) (old new : State) (count : ℕ) (P : Database → Type 0) → Ran sql params old new count → P new.now → Moves old new P
@@ -46,18 +46,6 @@ module _ {S : Type 0} (g : Ghosts S) (was begun entered ended : Held S) (begins 
   clean_was clean = subst (λ h. HasCleanDisk (state g h)) begins (was_clean (state g begun) (state g entered) first (was_clean (state g entered) (state g ended) second clean))
 
   -- a transaction that is committed
-  pub commits : (records : Records) (columns : Columns) (later : Records) (beside : Columns) → ShowsBoth g was records columns
-      → (HasCleanDisk (state g entered) → Before (state g begun) records columns → Moved (state g begun) (state g entered) later beside)
-      → (HasCleanDisk (state g ended) → IsSeen (state g entered) (state g ended) (state g entered).now (state g entered).now false)
-      → ShowsBoth g ended later beside
-  commits records columns later beside both enters commit = record {
-    saved = λ clean up. (commit clean).now_is ∙ sym (commit clean).committed_is;
-    tables = λ clean up.
-        let before : Before (state g begun) records columns = subst (λ h. Before (state g h) records columns) (sym begins) (λ up. both.tables (clean_was clean) up) in
-        subst (λ db. AreBoth db later beside) (sym (commit clean).now_is) (enters (was_clean (state g entered) (state g ended) second clean) before).tables;
-  }
-
-  -- the same of any properties of the tables
   pub commits_by : (P Q : Database → Type 0) → Holds g was P
       → (HasCleanDisk (state g entered) → (IsTrue (state g begun).is_open → P (state g begun).now) → IsTrue (state g entered).is_open → Q (state g entered).now)
       → (HasCleanDisk (state g ended) → IsSeen (state g entered) (state g ended) (state g entered).now (state g entered).now false)

@@ -1,16 +1,14 @@
 -- A row that is put into a table of the register stands at its end.
 use Rattle.std.proofs.Common.{◌≡◌, ◌+◌, ◌<◌, ℕ, pos, ◌+ℤ◌, List, [], ◌∷◌, ◌++◌, map, fold, length, Less, refl, ap, ap₂, ◌∙◌, arith}
 use Rattle.std.specs.List.{AllByRecursion}
-use Rattle.std.proofs.lemmas.Bool.Decides.{nat_tests}
-use Rattle.std.proofs.lemmas.Int.{ints}
 use Rattle.sqlite_value.specs.declared.value.Value.TheVariants.{Null, Int}
 use Rattle.sqlite_value.specs.Order.{Row, value_cmp}
-use Rattle.sqlite_value.proofs.OrderLemmas.{value_cmp-Int}
 use Rattle.sqlite_trees.specs.Tree.{rowid, put_row}
 use Rattle.sqlite_rules.specs.declared.error.Rowids.TheVariants.{Chosen}
 use Rattle.sqlite_rules.specs.Edit.{id_in, next_rowid, with_rowid}
 use Rattle.reg_core.specs.Sound.{NumberedFrom}
 use Rattle.reg_tables.specs.Rows.{number, behind_rowids, counted_rows}
+use Rattle.reg_writing.proofs.Turning.{less}
 
 abbrev Below : Row → Row → Type 0
 Below new r = value_cmp (rowid r) (rowid new) ≡ Less
@@ -18,9 +16,6 @@ Below new r = value_cmp (rowid r) (rowid new) ≡ Less
 put_last : (new : Row) (rows : List Row) → AllByRecursion (Below new) rows → put_row new rows ≡ rows ++ new ∷ []
 put_last new [] all = refl
 put_last new (r ∷ rows) all = rw all.0 (ap (λ l. r ∷ l) (put_last new rows all.1))
-
-less : (m n : ℕ) → m < n → value_cmp (number m) (number n) ≡ Less
-less m n h = value_cmp-Int (pos m) (pos n) ∙ grind (arith, ints, nat_tests)
 
 -- ---- rowids that count
 
@@ -43,6 +38,10 @@ counted_put columns xs =
     let id : next_rowid (counted_rows xs) ≡ pos top = next_from 1 xs in
     ap (λ n. put_row (Int n ∷ columns) (counted_rows xs)) id ∙ put_last (number top ∷ columns) (counted_rows xs) (behind_below 1 top columns xs (omega arith)) ∙ behind_end 1 top columns xs refl
 
+pub mapped_push : {A : Type 0} (stored : A → Row) (new : A) (xs : List A) → map stored xs ++ stored new ∷ [] ≡ map stored (xs ++ new ∷ [])
+mapped_push stored new [] = refl
+mapped_push stored new (x ∷ xs) = ap (λ l. stored x ∷ l) (mapped_push stored new xs)
+
 -- ---- keys that count
 
 module _ {A : Type 0} (stored : A → Row) (key : A → ℕ) (first : (x : A) → rowid (stored x) ≡ number (key x)) where
@@ -51,16 +50,8 @@ module _ {A : Type 0} (stored : A → Row) (key : A → ℕ) (first : (x : A) �
   stored_below from top new (x ∷ xs) is h numbered =
       (ap₂ value_cmp (first x ∙ ap number numbered.0) (first new ∙ ap number is) ∙ less from top (omega arith), stored_below (from + 1) top new xs is (omega arith) numbered.1)
 
-  mapped_end : (new : A) (xs : List A) → map stored xs ++ stored new ∷ [] ≡ map stored (xs ++ new ∷ [])
-  mapped_end new [] = refl
-  mapped_end new (x ∷ xs) = ap (λ l. stored x ∷ l) (mapped_end new xs)
-
   pub stored_put : (new : A) (xs : List A) → NumberedFrom key 1 xs → key new ≡ length xs + 1 → put_row (stored new) (map stored xs) ≡ map stored (xs ++ new ∷ [])
-  stored_put new xs numbered next = put_last (stored new) (map stored xs) (stored_below 1 (length xs + 1) new xs next (omega arith) numbered) ∙ mapped_end new xs
-
-pub mapped_push : {A : Type 0} (stored : A → Row) (new : A) (xs : List A) → map stored xs ++ stored new ∷ [] ≡ map stored (xs ++ new ∷ [])
-mapped_push stored new [] = refl
-mapped_push stored new (x ∷ xs) = ap (λ l. stored x ∷ l) (mapped_push stored new xs)
+  stored_put new xs numbered next = put_last (stored new) (map stored xs) (stored_below 1 (length xs + 1) new xs next (omega arith) numbered) ∙ mapped_push stored new xs
 
 -- a row whose key is above those that are there
 pub put_behind : {A : Type 0} (stored : A → Row) (key : A → ℕ) → ((x : A) → rowid (stored x) ≡ number (key x)) → (new : A) (xs : List A) → AllByRecursion (λ x. key x < key new) xs

@@ -13,7 +13,7 @@ use Rattle.reg_tables.specs.Columns.{Columns}
 use Rattle.reg_tables.specs.Schema.{register_schema}
 use Rattle.reg_tables.specs.Shows.{AreBoth}
 use Rattle.reg_tables.specs.Stays.{LeavesNothing}
-use Rattle.reg_writing.specs.AfterStop.{AreARegisters}
+use Rattle.reg_writing.specs.AfterStop.{AreRowsOf, AreARegisters}
 
 -- what a database shows its rows show
 pub resting : (db : Database) (trees : Trees) (records : Records) (columns : Columns) → trees ≡ db.trees → AreBoth db records columns → AreBoth (record { schema = register_schema; trees = trees }) records columns
@@ -23,6 +23,9 @@ resting db trees records columns is both =
 -- and what it obeys they obey
 pub rests_sound : (db : Database) (trees : Trees) → trees ≡ db.trees → db.schema ≡ register_schema → IsDatabase db → AreARegisters trees
 rests_sound db trees is schema sound = subst (λ t. IsSound register_schema t) (sym is) (subst (λ s. IsSound s db.trees) schema sound)
+
+pub rests : (db : Database) (trees : Trees) (records : Records) (columns : Columns) → trees ≡ db.trees → AreBoth db records columns → IsDatabase db → AreRowsOf records columns trees × AreARegisters trees
+rests db trees records columns is both sound = (resting db trees records columns is both, rests_sound db trees is both.shown.schema sound)
 
 -- what commits nothing leaves what any call may
 pub leaves_less : (old new : State) (P : Trees → Type 0) → LeavesNothing old new → Survives old new P

@@ -1,12 +1,136 @@
--- Tables that a statement does not write show what they showed.
-use Rattle.std.proofs.Common.{◌≡◌, ℕ, false, ◌==◌, List, [], ◌∷◌, map, refl, ap, ◌∙◌}
+-- What a statement that writes one table leaves of what the tables show.
+use Rattle.std.proofs.Common.{◌≡◌, ℕ, ℤ, Bool, true, false, ◌==◌, List, [], ◌∷◌, map, refl, ap, subst, ◌∙◌, IsTrue}
+use Rattle.std.specs.Prelude.{MatchBool}
+use Rattle.sqlite_value.specs.declared.value.Value.TheVariants.{Int}
+use Rattle.sqlite_value.specs.Order.{Row}
 use Rattle.sqlite_trees.specs.Tree.{Trees}
-use Rattle.reg_core.specs.Records.{Records}
-use Rattle.reg_tables.specs.Rows.{counted_rows}
+use Rattle.sqlite.specs.State.{State}
+use Rattle.reg_core.specs.Policy.{IsPolicy}
+use Rattle.reg_core.specs.Records.{Records, Crl}
+use Rattle.reg_core.specs.Sound.{NumberedFrom}
+use Rattle.reg_core.specs.declared.rows.SubscriberRow.{SubscriberRow}
+use Rattle.reg_core.specs.declared.rows.OrderRow.{OrderRow}
+use Rattle.reg_core.specs.declared.rows.CertRow.{CertRow}
+use Rattle.reg_core.specs.declared.rows.RequestRow.{RequestRow}
+use Rattle.reg_core.specs.declared.rows.RevocationRow.{RevocationRow}
 use Rattle.reg_tables.specs.Columns.{Columns, office_days, Standing, Listed, stored_standing, stored_counts, stored_listed}
-use Rattle.reg_core.specs.declared.command.Counts.{Counts}
-use Rattle.reg_tables.specs.Shows.{AreRows, AreColumns, HaveSerials}
+use Rattle.reg_tables.specs.Rows.{counted_rows, stored_office, stored_subscriber, stored_order, stored_certificate, stored_request, stored_revocation, stored_crl, stored_step}
+use Rattle.reg_tables.specs.Schema.{register_schema}
+use Rattle.reg_tables.specs.Shows.{AreRows, AreColumns, AreBoth, HaveSerials}
+use Rattle.reg_tables.specs.Stays.{Moves}
+use Rattle.reg_writing.specs.Ran.{Ran}
 use Rattle.reg_writing.proofs.Registers.{Spares}
+
+-- rows with a key that counts, and rows with a serial number
+abbrev pub Numbered : {A : Type 0} → (A → Row) → (A → ℕ) → List Row → List A → Type 0
+Numbered stored key rows xs = (rows ≡ map stored xs) × NumberedFrom key 1 xs
+
+abbrev pub Counted : {A : Type 0} → (A → Row) → (A → ℕ) → List Row → List A → Type 0
+Counted stored serial rows xs = (rows ≡ counted_rows (map stored xs)) × HaveSerials serial xs
+
+-- of what a table shows: the table was written, and shows this now, or it shows what it showed
+abbrev pub Told : {A : Type 0} → ℕ → ℕ → (A → Type 0) → A → A → Type 0
+Told n tree P was is = MatchBool (n == tree) (P is) (was ≡ is)
+
+-- the table of each part of the records
+abbrev pub HasOffice : Trees → (ℤ → Row) → Type 0
+HasOffice trees row = (days : ℤ) × (trees 0 ≡ row days ∷ [])
+
+abbrev pub HasRequests : Trees → List RequestRow → Type 0
+HasRequests trees xs = (trees 7 ≡ map stored_request xs) × NumberedFrom (λ (row : RequestRow). row.id) 1 xs × HaveSerials (λ (row : RequestRow). row.serial) xs
+
+abbrev pub RowsTold : ℕ → Trees → Records → Records → Type 0
+RowsTold tree after was is =
+    Told 0 tree (HasOffice after) (λ days. stored_office days was.issuer was.policy was.last) (λ days. stored_office days is.issuer is.policy is.last)
+    × Told 1 tree (Numbered stored_subscriber (λ (row : SubscriberRow). row.id) (after 1)) was.subscribers is.subscribers
+    × Told 3 tree (Numbered stored_order (λ (row : OrderRow). row.id) (after 3)) was.orders is.orders
+    × Told 4 tree (Counted stored_certificate (λ (row : CertRow). row.serial) (after 4)) was.certificates is.certificates
+    × Told 7 tree (HasRequests after) was.requests is.requests
+    × Told 8 tree (Counted stored_revocation (λ (row : RevocationRow). row.serial) (after 8)) was.revocations is.revocations
+    × Told 11 tree (Numbered stored_crl (λ (crl : Crl). crl.number) (after 11)) was.crls is.crls
+    × Told 17 tree (λ steps. after 17 ≡ map stored_step steps) was.policy.schedule is.policy.schedule
+
+abbrev pub ColumnsTold : ℕ → Trees → Columns → Columns → Type 0
+ColumnsTold tree after was is =
+    Told 12 tree (Counted stored_standing (λ (row : Standing). row.serial) (after 12)) was.letters is.letters
+    × Told 14 tree (λ counts. after 14 ≡ stored_counts counts ∷ []) was.counts is.counts
+    × Told 15 tree (Counted stored_listed (λ (row : Listed). row.serial) (after 15)) was.listed is.listed
+    × Told 0 tree (λ days. office_days (after 0) ≡ Int days) was.days is.days
+
+module _ (tree : ℕ) (db after : Trees) (spares : Spares tree db after) where
+  part : {A : Type 0} (n : ℕ) (P : A → Type 0) (was is : A) → ((n == tree) ≡ false → P was) → Told n tree P was is → P is
+  part {A} n P was is kept told = go (n == tree) kept told
+    where
+      go : (b : Bool) → (b ≡ false → P was) → MatchBool b (P is) (was ≡ is) → P is
+      go true kept told = told
+      go false kept told = subst P told (kept refl)
+
+  pub rows_after : (was is : Records) → AreRows db was → RowsTold tree after was is → IsPolicy is.policy → AreRows after is
+  rows_after was is rows told policy =
+      let office = part 0 (HasOffice after) _ _ (λ e. (rows.days, spares.same 0 refl e ∙ rows.office)) told.0 in
+      let subscribers = part 1 (Numbered stored_subscriber (λ (row : SubscriberRow). row.id) (after 1)) _ _
+      (λ e. (spares.same 1 refl e ∙ rows.subscribers, rows.subscribers_numbered)) told.1 in
+      let orders = part 3 (Numbered stored_order (λ (row : OrderRow). row.id) (after 3)) _ _
+      (λ e. (spares.same 3 refl e ∙ rows.orders, rows.orders_numbered)) told.2 in
+      let certificates = part 4 (Counted stored_certificate (λ (row : CertRow). row.serial) (after 4)) _ _
+      (λ e. (spares.same 4 refl e ∙ rows.certificates, rows.certificate_serials)) told.3 in
+      let requests = part 7 (HasRequests after) _ _ (λ e. (spares.same 7 refl e ∙ rows.requests, rows.requests_numbered, rows.request_serials)) told.4 in
+      let revocations = part 8 (Counted stored_revocation (λ (row : RevocationRow). row.serial) (after 8)) _ _
+      (λ e. (spares.same 8 refl e ∙ rows.revocations, rows.revocation_serials)) told.5 in
+      let crls = part 11 (Numbered stored_crl (λ (crl : Crl). crl.number) (after 11)) _ _
+      (λ e. (spares.same 11 refl e ∙ rows.crls, rows.crls_numbered)) told.6 in
+      let schedule = part 17 (λ steps. after 17 ≡ map stored_step steps) _ _ (λ e. spares.same 17 refl e ∙ rows.schedule) told.7 in
+      record {
+        days = office.0;
+        office = office.1;
+        schedule = schedule;
+        policy = policy;
+        subscribers = subscribers.0;
+        subscribers_numbered = subscribers.1;
+        orders = orders.0;
+        orders_numbered = orders.1;
+        crls = crls.0;
+        crls_numbered = crls.1;
+        certificates = certificates.0;
+        certificate_serials = certificates.1;
+        revocations = revocations.0;
+        revocation_serials = revocations.1;
+        requests = requests.0;
+        requests_numbered = requests.1;
+        request_serials = requests.2;
+      }
+
+  pub columns_after : (was is : Columns) → AreColumns db was → ColumnsTold tree after was is → AreColumns after is
+  columns_after was is kept told =
+      let letters = part 12 (Counted stored_standing (λ (row : Standing). row.serial) (after 12)) _ _
+      (λ e. (spares.same 12 refl e ∙ kept.letters, kept.letter_serials)) told.0 in
+      let listed = part 15 (Counted stored_listed (λ (row : Listed). row.serial) (after 15)) _ _
+      (λ e. (spares.same 15 refl e ∙ kept.listed, kept.listed_serials)) told.2 in
+      record {
+        letters = letters.0;
+        letter_serials = letters.1;
+        listed = listed.0;
+        listed_serials = listed.1;
+        counts = part 14 (λ counts. after 14 ≡ stored_counts counts ∷ []) _ _ (λ e. spares.same 14 refl e ∙ kept.counts) told.1;
+        days = part 0 (λ days. office_days (after 0) ≡ Int days) _ _ (λ e. ap office_days (spares.same 0 refl e) ∙ kept.days) told.3;
+      }
+
+-- a statement that wrote one table is a step to tables that show what it told
+pub writes : (sql : List ℕ) (params : Row) (old new : State) (count tree : ℕ)
+    (was is : Records) (columns those : Columns) → Ran sql params old new count → AreBoth old.now was columns
+    → new.now.schema ≡ register_schema → Spares tree old.now.trees new.now.trees → RowsTold tree new.now.trees was is
+    → IsPolicy is.policy → ColumnsTold tree new.now.trees columns those
+    → Moves old new (λ db. AreBoth db is those)
+writes sql params old new count tree was is columns those ran both schema spares rows policy kept = record {
+  was_open = ran.was_open;
+  is_open = ran.is_open;
+  committed = ran.committed;
+  under_way = ran.under_way;
+  tables = record {
+    shown = record { schema = schema; rows = rows_after tree old.now.trees new.now.trees spares was is both.shown.rows rows policy };
+    kept = columns_after tree old.now.trees new.now.trees spares columns those both.kept kept;
+  };
+}
 
 -- a statement on a table that is kept beside the records leaves the records
 pub rows_spared : (tree : ℕ) (db after : Trees) (records : Records) → Spares tree db after
@@ -19,76 +143,19 @@ pub rows_spared : (tree : ℕ) (db after : Trees) (records : Records) → Spares
     → (11 == tree) ≡ false
     → (17 == tree) ≡ false
     → AreRows db records → AreRows after records
-rows_spared tree db after records spares e0 e1 e3 e4 e7 e8 e11 e17 rows = record {
-  days = rows.days;
-  office = spares.same 0 refl e0 ∙ rows.office;
-  subscribers = spares.same 1 refl e1 ∙ rows.subscribers;
-  orders = spares.same 3 refl e3 ∙ rows.orders;
-  certificates = spares.same 4 refl e4 ∙ rows.certificates;
-  requests = spares.same 7 refl e7 ∙ rows.requests;
-  revocations = spares.same 8 refl e8 ∙ rows.revocations;
-  crls = spares.same 11 refl e11 ∙ rows.crls;
-  schedule = spares.same 17 refl e17 ∙ rows.schedule;
-  policy = rows.policy;
-  subscribers_numbered = rows.subscribers_numbered;
-  orders_numbered = rows.orders_numbered;
-  requests_numbered = rows.requests_numbered;
-  crls_numbered = rows.crls_numbered;
-  certificate_serials = rows.certificate_serials;
-  request_serials = rows.request_serials;
-  revocation_serials = rows.revocation_serials;
-}
-
--- and a statement on a table of the records what is kept beside them
-pub columns_spared : (tree : ℕ) (db after : Trees) (columns : Columns) → Spares tree db after
-    → (12 == tree) ≡ false
-    → (14 == tree) ≡ false
-    → (15 == tree) ≡ false
-    → office_days (after 0) ≡ office_days (db 0)
-    → AreColumns db columns → AreColumns after columns
-columns_spared tree db after columns spares e12 e14 e15 days kept = record {
-  days = days ∙ kept.days;
-  letters = spares.same 12 refl e12 ∙ kept.letters;
-  counts = spares.same 14 refl e14 ∙ kept.counts;
-  listed = spares.same 15 refl e15 ∙ kept.listed;
-  letter_serials = kept.letter_serials;
-  listed_serials = kept.listed_serials;
-}
+rows_spared tree db after records spares e0 e1 e3 e4 e7 e8 e11 e17 rows =
+    rows_after tree db after spares records records rows (rw e0 refl, rw e1 refl, rw e3 refl, rw e4 refl, rw e7 refl, rw e8 refl, rw e11 refl, rw e17 refl) rows.policy
 
 -- other letters
 pub letters_are : (db after : Trees) (columns : Columns) (those : List Standing) → Spares 12 db after → AreColumns db columns → after 12 ≡ counted_rows (map stored_standing those)
     → HaveSerials (λ (row : Standing). row.serial) those
     → AreColumns after (record columns { letters = those })
-letters_are db after columns those spares kept is serials = record {
-  days = ap office_days (spares.same 0 refl refl) ∙ kept.days;
-  letters = is;
-  counts = spares.same 14 refl refl ∙ kept.counts;
-  listed = spares.same 15 refl refl ∙ kept.listed;
-  letter_serials = serials;
-  listed_serials = kept.listed_serials;
-}
-
--- other counts
-pub counts_are : (db after : Trees) (columns : Columns) (those : Counts) → Spares 14 db after → AreColumns db columns → after 14 ≡ stored_counts those ∷ []
-    → AreColumns after (record columns { counts = those })
-counts_are db after columns those spares kept is = record {
-  days = ap office_days (spares.same 0 refl refl) ∙ kept.days;
-  letters = spares.same 12 refl refl ∙ kept.letters;
-  counts = is;
-  listed = spares.same 15 refl refl ∙ kept.listed;
-  letter_serials = kept.letter_serials;
-  listed_serials = kept.listed_serials;
-}
+letters_are db after columns those spares kept is serials =
+    columns_after 12 db after spares columns (record columns { letters = those }) kept ((is, serials), refl, refl, refl)
 
 -- other listings
 pub listings_are : (db after : Trees) (columns : Columns) (those : List Listed) → Spares 15 db after → AreColumns db columns → after 15 ≡ counted_rows (map stored_listed those)
     → HaveSerials (λ (row : Listed). row.serial) those
     → AreColumns after (record columns { listed = those })
-listings_are db after columns those spares kept is serials = record {
-  days = ap office_days (spares.same 0 refl refl) ∙ kept.days;
-  letters = spares.same 12 refl refl ∙ kept.letters;
-  counts = spares.same 14 refl refl ∙ kept.counts;
-  listed = is;
-  letter_serials = kept.letter_serials;
-  listed_serials = serials;
-}
+listings_are db after columns those spares kept is serials =
+    columns_after 15 db after spares columns (record columns { listed = those }) kept (refl, refl, (is, serials), refl)

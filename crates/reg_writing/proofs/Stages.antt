@@ -1,23 +1,32 @@
--- The schedule as it is written.
-use Rattle.std.proofs.Common.{◌≡◌, ◌<◌, ◌≤◌, ℕ, zero, suc, List, [], ◌∷◌, ◌++◌, map, take, get_or, length, IsTrue, refl, ap, ◌∙◌, arith}
+-- The schedule and the counts as they are written.
+use Rattle.std.proofs.Common.{◌≡◌, ◌<◌, ℕ, zero, suc, List, [], ◌∷◌, ◌++◌, map, take, get_or, length, IsTrue, refl, ap, ◌∙◌, arith, sym, subst}
 use Rattle.std.specs.List.{AllByRecursion}
 use Rattle.sqlite_value.specs.declared.value.Value.TheVariants.{Null}
-use Rattle.sqlite_trees.specs.Tree.{Trees, put_row}
+use Rattle.sqlite_trees.specs.Tree.{Trees, put_row, IsTable}
 use Rattle.sqlite_sql.specs.Term.{lit, col, eval_all}
 use Rattle.sqlite_rules.specs.declared.error.Rowids.TheVariants.{Chosen}
 use Rattle.sqlite_rules.specs.Edit.{with_rowid}
 use Rattle.sqlite_rules.specs.Cast.{cast_row}
 use Rattle.sqlite.specs.State.{State}
 use Rattle.reg_core.specs.Schedule.{Ascends}
-use Rattle.reg_tables.specs.Schema.{register_schema, longest}
+use Rattle.reg_tables.specs.Schema.{register_schema, longest, kept}
 use Rattle.reg_tables.specs.Rows.{number, stored_step}
 use Rattle.reg_writing.specs.Ran.{Ran}
 use Rattle.reg_writing.specs.Staged.{IsStaged, AreBefore}
-use Rattle.reg_writing.specs.declared.sql.TheConstants.{PUT_STEP}
-use Rattle.reg_writing.proofs.Meaning.{put_step_means}
+use Rattle.reg_writing.specs.declared.sql.TheConstants.{PUT_STEP, SET_COUNTS}
+use Rattle.reg_writing.proofs.Meaning.{put_step_means, set_counts_means}
 use Rattle.reg_writing.proofs.Placing.{put_behind}
-use Rattle.reg_writing.proofs.Edits.{cast_int, cast_null}
-use Rattle.reg_writing.proofs.Registers.{puts_row, puts_spares}
+use Rattle.reg_writing.proofs.Edits.{cast_int, cast_null, made, Turns}
+use Rattle.reg_writing.proofs.Registers.{puts_row, puts_spares, turns_rows, turns_spares}
+use Rattle.reg_core.specs.Records.{Records}
+use Rattle.reg_core.specs.declared.command.Counts.{Counts}
+use Rattle.reg_tables.specs.Columns.{Columns, stored_counts}
+use Rattle.reg_tables.specs.Shows.{AreBoth}
+use Rattle.reg_tables.specs.Stays.{Moves}
+use Rattle.reg_tables.proofs.Queries.{passes}
+use Rattle.reg_writing.specs.RowEffects.{turned, with_counts}
+use Rattle.reg_writing.proofs.Turning.{IsKeyed}
+use Rattle.reg_writing.proofs.Spared.{writes}
 
 pub puts_step : (base : Trees) (steps : List (ℕ × ℕ)) (from days : ℕ) (old new : State) (count : ℕ) → Ran PUT_STEP.now (number from ∷ number days ∷ []) old new count → AreBefore from steps
     → (IsTrue old.is_open → IsStaged base steps old.now) → IsStaged base (steps ++ (from, days) ∷ []) new.now
@@ -59,10 +68,18 @@ earlier_steps (x ∷ steps) zero d up within = tt
 earlier_steps (x ∷ steps) (suc at) d up within =
     (above_at x.0 steps at d (after_first x steps up) (omega arith), earlier_steps steps at d (rest_ascends x steps up) (omega arith))
 
--- ---- at the end
+-- ---- the counts
 
-pub take_whole : (n : ℕ) (steps : List (ℕ × ℕ)) → length steps ≤ n → take n steps ≡ steps
-take_whole zero [] h = refl
-take_whole (suc n) [] h = refl
-take_whole zero (x ∷ steps) h = absurd (omega arith)
-take_whole (suc n) (x ∷ steps) h = ap (λ l. x ∷ l) (take_whole n steps (omega arith))
+pub sets_counts : (old new : State) (records : Records) (columns : Columns) (counts : Counts) (count : ℕ) → Ran SET_COUNTS.now (number counts.good ∷ number counts.revoked ∷ number counts.expired ∷ []) old new count
+    → (IsTrue old.is_open → AreBoth old.now records columns) → Moves old new (λ db. AreBoth db records (with_counts counts columns))
+unfolding register_schema
+sets_counts old new records columns counts count ran before =
+    let params = number counts.good ∷ number counts.revoked ∷ number counts.expired ∷ [] in
+    let those = lit Null ∷ col 0 0 ∷ col 0 1 ∷ col 0 2 ∷ [] in
+    let both = before ran.was_open in
+    let was = both.kept.counts in
+    let turns : Turns register_schema kept (passes [] params) (made kept those params) old.now.trees new.now count =
+    turns_rows SET_COUNTS.now params old new count ran both.shown.schema 8 kept refl [] those set_counts_means refl (subst IsTable (sym was) (tt, tt)) (subst (AllByRecursion IsKeyed) (sym was) (refl, tt)) in
+    let rows : new.now.trees 14 ≡ stored_counts counts ∷ [] = turns.rows ∙ ap (map (turned (passes [] params) (made kept those params))) was ∙ simp (cast_int, cast_null) in
+    writes SET_COUNTS.now params old new count 14 records records columns (with_counts counts columns) ran both turns.keeps_schema (turns_spares kept _ _ old.now.trees new.now count turns)
+    (refl, refl, refl, refl, refl, refl, refl, refl) both.shown.rows.policy (refl, rows, refl, refl)

@@ -159,7 +159,7 @@ module _ (p : Row → Bool) (f : Row → Row) (rows to : List Row) (table : IsTa
 
 -- ---- the tables of a register
 
-less : (m n : ℕ) → m < n → value_cmp (number m) (number n) ≡ Less
+pub less : (m n : ℕ) → m < n → value_cmp (number m) (number n) ≡ Less
 less m n h = value_cmp-Int (pos m) (pos n) ∙ grind (arith, ints, nat_tests)
 
 behind_above : (low from : ℕ) (xs : List Row) → low < from → AllByRecursion (λ r. value_cmp (number low) (rowid r) ≡ Less) (behind_rowids from xs)
@@ -190,24 +190,20 @@ module _ {A : Type 0} (stored : A → Row) (key : A → ℕ) (first : (x : A) �
   stored_keyed (x ∷ xs) = (first x ∙ ap (λ v. Int (id_in v)) (sym (first x)), stored_keyed xs)
 
 -- what the rows become, of rows that records stand in
-module _ {A : Type 0} (P : A → Type 0) (stored : A → Row) (p : Row → Bool) (f : Row → Row) (q : A → Bool) (g : A → A) where
-  same_turn : (b c : Bool) (x : A) (row : Row) → b ≡ c → row ≡ stored (g x) → cond b row (stored x) ≡ stored (cond c (g x) x)
-  same_turn b true x row is made = ap (λ d. cond d row (stored x)) is ∙ made
-  same_turn b false x row is made = ap (λ d. cond d row (stored x)) is
+same_turn : {A : Type 0} (stored : A → Row) (g : A → A) (b c : Bool) (x : A) (row : Row) → b ≡ c → row ≡ stored (g x) → cond b row (stored x) ≡ stored (cond c (g x) x)
+same_turn stored g b true x row is made = ap (λ d. cond d row (stored x)) is ∙ made
+same_turn stored g b false x row is made = ap (λ d. cond d row (stored x)) is
 
+module _ {A : Type 0} (P : A → Type 0) (stored : A → Row) (p : Row → Bool) (f : Row → Row) (q : A → Bool) (g : A → A) where
   pub stored_turned : ((x : A) → P x → p (stored x) ≡ q x) → ((x : A) → f (stored x) ≡ stored (g x)) → (xs : List A) → AllByRecursion P xs
       → map (turned p f) (map stored xs) ≡ map stored (map (turned q g) xs)
   stored_turned tests makes [] all = refl
-  stored_turned tests makes (x ∷ xs) all = ap₂ ◌∷◌ (same_turn _ _ x (f (stored x)) (tests x all.0) (makes x)) (stored_turned tests makes xs all.1)
-
-  behind_turn : (id : ℕ) (b c : Bool) (x : A) (row : Row) → b ≡ c → row ≡ number id ∷ stored (g x) → cond b row (number id ∷ stored x) ≡ number id ∷ stored (cond c (g x) x)
-  behind_turn id b true x row is made = ap (λ d. cond d row (number id ∷ stored x)) is ∙ made
-  behind_turn id b false x row is made = ap (λ d. cond d row (number id ∷ stored x)) is
+  stored_turned tests makes (x ∷ xs) all = ap₂ ◌∷◌ (same_turn stored g _ _ x (f (stored x)) (tests x all.0) (makes x)) (stored_turned tests makes xs all.1)
 
   pub behind_turned : ((id : ℕ) (x : A) → P x → p (number id ∷ stored x) ≡ q x) → ((id : ℕ) (x : A) → f (number id ∷ stored x) ≡ number id ∷ stored (g x)) → (from : ℕ) (xs : List A) → AllByRecursion P xs
       → map (turned p f) (behind_rowids from (map stored xs)) ≡ behind_rowids from (map stored (map (turned q g) xs))
   behind_turned tests makes from [] all = refl
-  behind_turned tests makes from (x ∷ xs) all = ap₂ ◌∷◌ (behind_turn from _ _ x (f (number from ∷ stored x)) (tests from x all.0) (makes from x)) (behind_turned tests makes (from + 1) xs all.1)
+  behind_turned tests makes from (x ∷ xs) all = ap₂ ◌∷◌ (same_turn (λ y. number from ∷ stored y) g _ _ x (f (number from ∷ stored x)) (tests from x all.0) (makes from x)) (behind_turned tests makes (from + 1) xs all.1)
 
   counted_same : (b c : Bool) (row : Row) (rows : List Row) (x : A) (xs : List A) → b ≡ c → length rows ≡ length xs → length (cond b (row ∷ rows) rows) ≡ length (cond c (x ∷ xs) xs)
   counted_same b true row rows x xs is same = rw is (omega arith)

@@ -2,12 +2,12 @@ use Rattle.std.proofs.Common.{◌≡◌, ap, subst}
 use Rattle.sqlite.specs.Held.{state}
 use Rattle.sqlite.proofs.StateLemmas.{survives_then}
 use Rattle.reg_core.specs.Changes.{changed_by}
-use Rattle.reg_tables.proofs.Staying.{kept_shows, both_shows, shows_register, stays_both}
+use Rattle.reg_tables.proofs.Staying.{kept_shows, shows_register, looked_both}
 use Rattle.reg_writing.specs.AfterStop.{AreRowsOf}
 use Rattle.reg_changes.specs.AfterStoppedChange.{IsChanged, IsEntered}
 use Rattle.reg_changes.specs.ChangeEffects.{columns_after, end_in_change}
 use Rattle.reg_writing.proofs.Days.{stays_days}
-use Rattle.reg_changes.proofs.Days.{keeps_days_then}
+use Rattle.reg_changes.proofs.Making.{keeps_days_then}
 use Rattle.reg_changes.proofs.Law.{kept_change}
 use Rattle.reg_writing.proofs.Moving.{ok_kept_by, was_clean}
 use Rattle.reg_changes.proofs.applying.apply.Goals as goal
@@ -21,7 +21,7 @@ returns-clause-ok g c records kept sound up fits =
     let change = c.args.change.now in
     let columns = kept.0 in
     let shows = kept_shows s old records kept in
-    let still = stays_both s old mid records columns c.end_for.ensures.looked.survives.clean (c.end_for.ensures.looked.same (shows_register s old records shows)) kept.1 in
+    let still = looked_both c.end_for.ensures.looked records columns kept.1 in
     ok_kept_by s c.commit.new.conn (changed_by records now change) (columns_after now change c.in_ok-not_after.not_after columns) (columns_after now change (end_in_change records now change) columns)
     c.commit.result (c.commit.ensures.ok records columns still sound fits)
     (λ clean. ap (λ n. columns_after now change n columns) (c.in_ok-not_after.ensures.found records shows (was_clean (state s mid) (state s c.commit.new.conn) c.commit.ensures.survives.clean clean)))
@@ -34,16 +34,11 @@ returns-clause-days g c records kept sound fits =
     let mid = c.end_for.new.conn in
     let columns = kept.0 in
     let same = c.end_for.ensures.looked.same (shows_register s old records (kept_shows s old records kept)) in
-    let still = stays_both s old mid records columns c.end_for.ensures.looked.survives.clean same kept.1 in
+    let still = looked_both c.end_for.ensures.looked records columns kept.1 in
     keeps_days_then s old mid c.commit.new.conn c.commit.result (stays_days s old mid c.end_for.ensures.looked.survives.clean same) (c.commit.ensures.days records columns still sound fits)
 
 pub returns-clause-one : goal.returns-clause-one
-returns-clause-one g c clean records columns both =
-    let s = g.S.Store in
-    let old = c.args.conn.now in
-    let mid = c.end_for.new.conn in
-    let still = stays_both s old mid records columns c.end_for.ensures.looked.survives.clean (c.end_for.ensures.looked.same (shows_register s old records (both_shows s old records columns both))) both in
-    c.commit.ensures.one clean records columns still
+returns-clause-one g c clean records columns both = c.commit.ensures.one clean records columns (looked_both c.end_for.ensures.looked records columns both)
 
 pub returns-clause-survives : goal.returns-clause-survives
 returns-clause-survives g c =
@@ -57,7 +52,7 @@ returns-clause-survives g c =
     (λ clean trees entered records kept sound up fits.
     let columns = kept.0 in
     let shows = kept_shows s old records kept in
-    let still = stays_both s old mid records columns c.end_for.ensures.looked.survives.clean (c.end_for.ensures.looked.same (shows_register s old records shows)) kept.1 in
+    let still = looked_both c.end_for.ensures.looked records columns kept.1 in
     let ends : c.in_ok-not_after.not_after ≡ end_in_change records now change = c.in_ok-not_after.ensures.found records shows (was_clean (state s mid) (state s new) c.commit.ensures.survives.clean clean) in
     let rows = entered records columns still sound fits in (
       columns_after now change (end_in_change records now change) columns,

@@ -1,15 +1,7 @@
-use Rattle.std.proofs.Common.{[], ◌∷◌, ap, subst}
-use Rattle.sqlite_value.specs.declared.value.Value.TheVariants.{Blob}
-use Rattle.sqlite.specs.Held.{state}
-use Rattle.reg_writing.specs.Ran.{Ran}
-use Rattle.reg_changes.specs.declared.sql.TheConstants.{PUT_LETTER}
-use Rattle.reg_writing.proofs.Params.{moment_is}
 use Rattle.reg_changes.proofs.Putting.{puts_letter}
 use Rattle.reg_changes.proofs.statements.put_letter.Goals as goal
 
 pub returns-clause-ok : goal.returns-clause-ok
 returns-clause-ok g c clean records columns before =
-    let old = state g.S.Store c.args.tx.now.conn.now in
-    let new = state g.S.Store c.write.new.tx.conn.now in
-    let ran = subst (λ params. Ran PUT_LETTER.now params old new c.in_ok-write.field-0) (λ i. (ap Blob c.bytes20-serial.ensures.bytes) i ∷ (moment_is _ _ c.sql_moment-not_after.ensures) i ∷ []) (c.in_ok-write.ensures.ran clean) in
-    puts_letter old new records columns c.args.serial c.args.not_after c.in_ok-write.field-0 ran c.bytes20-serial.ensures.in_range before
+    puts_letter _ _ records columns _ before c.args.serial c.args.not_after (c.in_ok-write.ensures.ran clean)
+    c.bytes20-serial.ensures.bytes c.sql_moment-not_after.ensures c.bytes20-serial.ensures.in_range

@@ -1,14 +1,7 @@
-use Rattle.std.proofs.Common.{[], ◌∷◌, subst}
-use Rattle.sqlite.specs.Held.{state}
-use Rattle.reg_writing.specs.Ran.{Ran}
-use Rattle.reg_changes.specs.declared.sql.TheConstants.{PUT_ORDER}
-use Rattle.reg_writing.proofs.Params.{number_is}
 use Rattle.reg_changes.proofs.Putting.{puts_order}
 use Rattle.reg_changes.proofs.statements.put_order.Goals as goal
 
 pub returns-clause-ok : goal.returns-clause-ok
 returns-clause-ok g c clean records columns next before =
-    let old = state g.S.Store c.args.tx.now.conn.now in
-    let new = state g.S.Store c.write.new.tx.conn.now in
-    let ran = subst (λ params. Ran PUT_ORDER.now params old new c.in_ok-write.field-0) (λ i. (number_is _ _ c.in_ok-id.ensures.value) i ∷ (number_is _ _ c.in_ok-subscriber.ensures.value) i ∷ (number_is _ _ c.in_ok-days.ensures.value) i ∷ []) (c.in_ok-write.ensures.ran clean) in
-    puts_order old new records columns c.args.row c.in_ok-write.field-0 ran next before
+    puts_order _ _ records columns _ before c.args.row (c.in_ok-write.ensures.ran clean)
+    c.in_ok-id.ensures.value c.in_ok-subscriber.ensures.value c.in_ok-days.ensures.value next

@@ -1,7 +1,7 @@
 use Rattle.std.proofs.Common.{◌≡◌, length, sym, ap, ◌∙◌, rules}
 use Rattle.reg_core.specs.Crls.{CertList}
 use Rattle.reg_crl.specs.Crl.{certificate_list}
-use Rattle.reg_row_audit.proofs.Signatures.{crl_signature}
+use Rattle.reg_row_audit.proofs.Contents.{crl_signature}
 use Rattle.reg_row_audit.proofs.crls.check_bytes.Goals as goal
 
 pub returns-then-signature-gt-MOST_SIGNATURE-clause-broken : goal.returns-then-signature-gt-MOST_SIGNATURE-clause-broken

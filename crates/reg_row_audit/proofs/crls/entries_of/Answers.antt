@@ -4,7 +4,7 @@ use Rattle.std.proofs.lemmas.List.Sorted.{IsNonDecreasingBy-from_sort_by_key}
 use Rattle.reg_core.specs.Crls.{EntriesAscend}
 use Rattle.reg_core.specs.declared.rows.Entry.{Entry}
 use Rattle.reg_row_audit.specs.Crls.{lists_row, listed_entry}
-use Rattle.reg_row_audit.proofs.Entries.{entries_ascend, entries_few}
+use Rattle.reg_row_audit.proofs.Contents.{entries_ascend, entries_few}
 use Rattle.reg_row_audit.proofs.crls.entries_of.Goals as goal
 
 pub returns-then-len-gt-MOST_ENTRIES-clause-broken : goal.returns-then-len-gt-MOST_ENTRIES-clause-broken

@@ -1,23 +1,17 @@
-use Rattle.std.proofs.Common.{◌≡◌, None, rules}
+use Rattle.std.proofs.Common.{rules}
 use Rattle.std.specs.BTreeMap.{get}
 use Rattle.std.specs.Ordering.{nat_cmp}
 use Rattle.reg_core.specs.declared.rows.CertRow.{CertRow}
 use Rattle.reg_laws.proofs.Lists.{some_of}
-use Rattle.reg_row_audit.proofs.Fronts.{keys_more, found_more, new_key, known_key}
+use Rattle.reg_row_audit.proofs.Fronts.{entered_more, known_key}
 use Rattle.reg_row_audit.proofs.index.certificates_by_order.Goals as goal
 
 pub returns-then-is_some-clause-broken : goal.returns-then-is_some-clause-broken
 returns-then-is_some-clause-broken c is differ =
-    let row = c.index-certificates-place.result in
     let known = some_of c.in_ok-insert.field-0 (search rules) in
-    known_key c.args.certificates.now c.loop-place.place row c.loop-place-test.true c.index-certificates-place.is (λ (x : CertRow). x.order) (get nat_cmp c.loop-place.found) c.loop-place.invariant.found known.0 (search rules) differ
+    known_key c.args.certificates.now c.loop-place.place c.index-certificates-place.result c.loop-place-test.true c.index-certificates-place.is (λ (x : CertRow). x.order) (get nat_cmp c.loop-place.found) c.loop-place.invariant.found known.0 (search rules) differ
 
 pub loop-place-preserved : goal.loop-place-preserved
 loop-place-preserved c =
-    let row = c.index-certificates-place.result in
-    let none : get nat_cmp c.loop-place.found row.order ≡ None = search rules in
-    let new = new_key c.args.certificates.now c.loop-place.place row c.loop-place-test.true c.index-certificates-place.is (λ (x : CertRow). x.order) (get nat_cmp c.loop-place.found) c.loop-place.invariant.found none in
-    record {
-      differ = keys_more c.args.certificates.now c.loop-place.place row c.loop-place-test.true c.index-certificates-place.is (λ (x : CertRow). x.order) c.loop-place.invariant.differ new;
-      found = found_more c.args.certificates.now c.loop-place.place row c.loop-place-test.true c.index-certificates-place.is (λ (x : CertRow). x.order) (get nat_cmp c.loop-place.found) (get nat_cmp c.insert.new.self) c.loop-place.invariant.found c.in_ok-insert.ensures.updates.0 none;
-    }
+    entered_more c.args.certificates.now c.loop-place.place c.index-certificates-place.result c.loop-place-test.true c.index-certificates-place.is (λ (x : CertRow). x.order)
+    (get nat_cmp c.loop-place.found) (get nat_cmp c.insert.new.self) c.loop-place.invariant.differ c.loop-place.invariant.found c.in_ok-insert.ensures.updates.0 (search rules)

@@ -1,6 +1,6 @@
 use Rattle.std.proofs.Common.{◌≡◌, true, false, is_some, sym, ap, ◌∙◌, rules}
 use Rattle.reg_core.specs.Records.{subscriber_named}
-use Rattle.reg_row_audit.proofs.Names.{name_differs, name_repeats, name_entered}
+use Rattle.reg_row_audit.proofs.Fronts.{name_differs, name_repeats, name_entered}
 use Rattle.reg_row_audit.proofs.index.names_differ.Goals as goal
 
 pub returns-then-not-branch-clause-broken : goal.returns-then-not-branch-clause-broken

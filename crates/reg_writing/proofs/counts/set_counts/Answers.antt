@@ -6,7 +6,7 @@ use Rattle.reg_tables.specs.Schema.{register_schema}
 use Rattle.reg_writing.proofs.Keeping.{updates_keep}
 use Rattle.reg_writing.proofs.Meaning.{set_counts_means}
 use Rattle.reg_writing.proofs.Params.{number_is}
-use Rattle.reg_writing.proofs.Counting.{sets_counts}
+use Rattle.reg_writing.proofs.Stages.{sets_counts}
 use Rattle.reg_writing.proofs.Obeying.{counts_obey}
 use Rattle.reg_writing.proofs.counts.set_counts.Goals as goal
 

@@ -1,11 +1,11 @@
 use Rattle.std.proofs.Common.{◌<◌, ℕ, [], ◌∷◌, ◌++◌, take, length, sym, ap, subst, ◌∙◌}
-use Rattle.std.proofs.lemmas.List.{take_more}
+use Rattle.std.proofs.lemmas.List.{take_all, take_more}
 use Rattle.sqlite.specs.Held.{state}
 use Rattle.sqlite.specs.State.{HasCleanDisk}
 use Rattle.reg_tables.proofs.Staying.{stepped_then}
 use Rattle.reg_writing.specs.Staged.{IsStaged, AreBefore}
 use Rattle.reg_writing.proofs.Moving.{was_clean}
-use Rattle.reg_writing.proofs.Stages.{earlier_steps, take_whole}
+use Rattle.reg_writing.proofs.Stages.{earlier_steps}
 use Rattle.reg_writing.proofs.scheduling.put_schedule_steps.Goals as goal
 
 pub loop-step-preserved : goal.loop-step-preserved
@@ -35,7 +35,7 @@ loop-step-preserved g c =
 pub returns-clause-ok : goal.returns-clause-ok
 returns-clause-ok g c clean base up before open_now =
     let s1 = state g.S.Store c.loop-step.tx.conn.now in
-    subst (λ l. IsStaged base l s1.now) (take_whole c.loop-step.step-index c.args.steps.now c.loop-step-test.false) (c.loop-step.invariant.staged clean base up before open_now)
+    subst (λ l. IsStaged base l s1.now) (take_all c.loop-step.step-index c.args.steps.now c.loop-step-test.false) (c.loop-step.invariant.staged clean base up before open_now)
 
 pub returns-clause-database : goal.returns-clause-database
 returns-clause-database g c clean base up before obeys open_now = c.loop-step.invariant.database clean base up before obeys open_now
