@@ -1,7 +1,6 @@
 //! What is read of the records while what is kept beside them is made anew.
 
-ghost use Rattle.std.specs.Prelude.{◌≡◌, List, [], ◌∷◌, map, IsTrue, IsSomeAnd, IfOk};
-ghost use Rattle.std.specs.List.{AllByRecursion};
+ghost use Rattle.std.specs.Prelude.{◌≡◌, [], ◌∷◌, map, IsTrue, IsSomeAnd, IfOk};
 ghost use Rattle.sqlite_value.specs.Order.{Row as Values};
 ghost use Rattle.sqlite.specs.Values.{bound};
 ghost use Rattle.sqlite.specs.Held.{state};
@@ -9,15 +8,16 @@ ghost use Rattle.sqlite.specs.State.{HasCleanDisk, KeepsCommit, IsUnchanged};
 ghost use Rattle.reg_core.specs.Crls.{row_of};
 ghost use Rattle.reg_core.specs.Records.{Records, certificate_in};
 ghost use Rattle.reg_core.specs.Serial.{IsSerial};
-ghost use Rattle.reg_tables.specs.ReadStatements.{Answers, IsReading, shown_certificate, shown_revocation, shown_crl};
+ghost use Rattle.reg_tables.specs.ReadStatements.{Answers, IsReading, shown_certificate};
 ghost use Rattle.reg_tables.specs.Schema.{register_schema};
 ghost use Rattle.reg_tables.specs.Shows.{IsShownBy};
 ghost use Rattle.reg_tables.specs.Stays.{LeavesNothing, Stepped};
 
 use crate::sql;
 use reg_core::{CertRow, CrlRow, Moment, RevocationRow, Serial};
+use reg_tables::DatabaseFault;
+use reg_tables::rows::{ShownRow, rows_in};
 use reg_tables::sql::CERT_BY_SERIAL;
-use reg_tables::{DatabaseFault, rows};
 use sqlite::types::ValueRef;
 use sqlite::{Alter, Row, Transaction, params};
 
@@ -37,28 +37,6 @@ pub(crate) fn ask<S: Alter>(
     Ok(tx.query_all(sql, params)?)
 }
 
-/// A row for each revocation: serial, at, reason, request, first_crl.
-fn revocations_in(rows: &Vec<Row>) -> Result<Vec<RevocationRow>, DatabaseFault>
-    ensures read { (revocations : List RevocationRow) → AllByRecursion (λ revocation. IsSerial revocation.serial) revocations → rows.now.items ≡ map shown_revocation revocations → IfOk result (λ read. read.items ≡ revocations) }
-{
-    let mut revocations = Vec::new(*rows.allocator());
-    for row in rows {
-        revocations.push(rows::revocation_in(row)?)?;
-    }
-    Ok(revocations)
-}
-
-/// A row for each CRL: number, this_update.
-fn crls_in(rows: &Vec<Row>) -> Result<Vec<CrlRow>, DatabaseFault>
-    ensures read { (crls : List CrlRow) → rows.now.items ≡ map shown_crl crls → IfOk result (λ read. read.items ≡ crls) }
-{
-    let mut crls = Vec::new(*rows.allocator());
-    for row in rows {
-        crls.push(rows::crl_in(row)?)?;
-    }
-    Ok(crls)
-}
-
 /// All revocations, in the order of entry.
 pub(crate) fn revocations<S: Alter>(
     tx: &mut Transaction<'_, S>,
@@ -69,7 +47,7 @@ pub(crate) fn revocations<S: Alter>(
     ensures stepped { Stepped S.Store tx.old tx.new }
 {
     let found = ask(tx, sql::REVOCATIONS, &[])?;
-    revocations_in(&found)
+    Ok(rows_in::<RevocationRow>(*found.allocator(), &found)?)
 }
 
 /// All CRLs, without their bytes, in the order of their numbers.
@@ -80,7 +58,7 @@ pub(crate) fn crls<S: Alter>(tx: &mut Transaction<'_, S>) -> Result<Vec<CrlRow>,
     ensures stepped { Stepped S.Store tx.old tx.new }
 {
     let found = ask(tx, sql::CRLS, &[])?;
-    crls_in(&found)
+    Ok(rows_in::<CrlRow>(*found.allocator(), &found)?)
 }
 
 /// The end of the certificate that a row shows. `Store` for no row and for more.
@@ -88,7 +66,10 @@ fn end_in(rows: &[Row]) -> Result<Moment, DatabaseFault>
     ensures read { IfOk result (λ end. (row : Values) × (rows.now ≡ row ∷ []) × ((certificate : CertRow) → IsSerial certificate.serial → row ≡ shown_certificate certificate → end ≡ certificate.not_after)) }
 {
     match rows {
-        [row] => Ok(rows::certificate_in(row)?.not_after),
+        [row] => match CertRow::in_row(row) {
+            Some(certificate) => Ok(certificate.not_after),
+            None => Err(DatabaseFault::Store),
+        },
         _ => Err(DatabaseFault::Store),
     }
 }

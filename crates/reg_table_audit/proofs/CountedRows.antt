@@ -20,7 +20,8 @@ use Rattle.reg_table_audit.specs.Cells.{CountedFrom}
 use Rattle.reg_table_audit.specs.ReadTexts.{IsReadOf}
 use Rattle.reg_table_audit.specs.declared.sql.What.TheVariants.{Subscribers, Orders, Requests, Crls, CertificateRowids, RevocationRowids, StandingRowids, ListingRowids}
 use Rattle.reg_table_audit.specs.declared.sql.TheConstants.{CERTIFICATE_ROWIDS, REVOCATION_ROWIDS, STANDING_ROWIDS, LISTING_ROWIDS}
-use Rattle.reg_table_audit.proofs.Showing.{keyed_are, with_rowids, rowids_are, rowids_numbered, subscribers_are, orders_are, requests_are, crls_are}
+use Rattle.reg_tables.proofs.Rowids.{with_rowids, behind, rowids_are, rowids_numbered}
+use Rattle.reg_table_audit.proofs.Showing.{keyed_are, subscribers_are, orders_are, requests_are, crls_are}
 use Rattle.reg_table_audit.proofs.TableRows.{rowid_alone, rowid_name, certificate_rowids_mean, revocation_rowids_mean, standing_rowids_mean, listing_rowids_mean}
 use Rattle.reg_table_audit.proofs.TreeOrder.{by_rowid}
 
@@ -50,7 +51,7 @@ module _ {A : Type 0} (stored : A → Row) (xs : List A) (tree : ℕ) (text : Li
   rowids_counted : db.trees tree ≡ counted_rows (map stored xs) → CountedFrom 1 rows
   rowids_counted table =
       let are : rows ≡ map (λ (row : ℕ × A). number row.0 ∷ []) (with_rowids 1 xs) =
-      keyed_are (λ (row : ℕ × A). row.0) (λ (row : ℕ × A). number row.0 ∷ stored row.1) (λ (row : ℕ × A). number row.0 ∷ []) (with_rowids 1 xs) (rowids_numbered 1 xs) tree rowid_alone text rowid_name means db plain rows reads
+      keyed_are (λ (row : ℕ × A). row.0) (behind stored) (λ (row : ℕ × A). number row.0 ∷ []) (with_rowids 1 xs) (rowids_numbered 1 xs) tree rowid_alone text rowid_name means db plain rows reads
       (table ∙ rowids_are stored 1 xs) (λ row. refl) in
       subst (CountedFrom 1) (sym are) (shown_counted (λ (row : ℕ × A). number row.0 ∷ []) (λ (row : ℕ × A). row.0) (λ row. refl) 1 (with_rowids 1 xs) (rowids_numbered 1 xs))
 

@@ -1,6 +1,5 @@
 pub mod Statements
 pub mod Whole
-pub mod Serials
 pub mod Showing
 pub mod Signed
 pub mod Algorithms

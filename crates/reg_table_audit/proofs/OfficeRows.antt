@@ -25,7 +25,7 @@ use Rattle.reg_tables.proofs.Queries.{selects, as_command, no_limit}
 use Rattle.reg_table_audit.specs.Cells.{HasCells, IsOfSomeRecord}
 use Rattle.reg_table_audit.specs.Complete.{AreTables, AreOffice, AreCounts, IsTermsOf}
 use Rattle.reg_table_audit.specs.ReadTexts.{IsReadFrom, IsReadOf}
-use Rattle.reg_table_audit.specs.ShownRows.{shown_counts}
+use Rattle.reg_tables.specs.ShownRows.{shown_counts}
 use Rattle.reg_table_audit.specs.ReadableValues.{HasAllowedDays}
 use Rattle.reg_table_audit.specs.declared.complete.Terms.{Terms as Found}
 use Rattle.reg_table_audit.specs.declared.sql.What.TheVariants.{Counts as OfCounts, CountsRowid, Terms as OfTerms, Steps}

@@ -21,17 +21,19 @@ use Rattle.reg_core.specs.declared.rows.RequestRow.{RequestRow}
 use Rattle.reg_core.specs.declared.rows.SubscriberRow.{SubscriberRow}
 use Rattle.reg_tables.specs.Columns as column
 use Rattle.reg_tables.specs.Columns.{Columns, letter_text, stored_standing, stored_counts, stored_listed}
-use Rattle.reg_tables.specs.Rows.{number, serial_value, behind_rowids, counted_rows, stored_office, stored_subscriber, stored_order, stored_certificate, stored_request, stored_revocation, stored_crl}
+use Rattle.reg_tables.specs.Rows.{number, serial_value, counted_rows, stored_office, stored_subscriber, stored_order, stored_certificate, stored_request, stored_revocation, stored_crl}
 use Rattle.reg_tables.specs.Schema.{register_schema}
 use Rattle.reg_tables.specs.Shows.{HaveSerials}
 use Rattle.reg_tables.specs.ReadStatements.{command_of, shown_subscriber, shown_order, shown_certificate, shown_request, shown_revocation, shown_crl}
 use Rattle.reg_tables.proofs.Queries.{selects, as_command, no_limit, keyed_given, all_of, all_kept}
+use Rattle.reg_tables.proofs.Rowids.{with_rowids, behind, rowids_are, rowids_numbered}
 use Rattle.reg_tables.proofs.Sorting.{ascending_key, ascends, sorted_same}
 use Rattle.reg_tables.proofs.Greatest.{numbered_rises}
 use Rattle.reg_row_audit.specs.KeptAsRead.{letter_in, standing_in, listed_in}
 use Rattle.reg_row_audit.proofs.Following.{letter_out, standing_out, listed_out}
 use Rattle.reg_table_audit.specs.ReadTexts.{IsReadOf}
-use Rattle.reg_table_audit.specs.ShownRows.{shown_office, shown_standing, shown_counts, shown_listed}
+use Rattle.reg_tables.specs.ShownRows.{shown_counts}
+use Rattle.reg_table_audit.specs.ShownRows.{shown_office, shown_standing, shown_listed}
 use Rattle.reg_table_audit.specs.declared.sql.What.TheVariants.{Office, Subscribers, Orders, Certificates, Requests, Revocations, Crls, Standings, Counts, Listings}
 use Rattle.reg_table_audit.specs.declared.sql.TheConstants.{OFFICE, SUBSCRIBERS, ORDERS, CERTIFICATES, REQUESTS, REVOCATIONS, CRLS, STANDINGS, COUNTS, LISTINGS}
 
@@ -56,18 +58,6 @@ module _ {A : Type 0} (n : A → ℕ) (stored view : A → Row) (xs : List A) (n
 
 -- ---- a table whose rowids count its rows
 
-abbrev pub with_rowids : {A : Type 0} → ℕ → List A → List (ℕ × A)
-with_rowids from [] = []
-with_rowids from (x ∷ xs) = (from, x) ∷ with_rowids (from + 1) xs
-
-pub rowids_are : {A : Type 0} (stored : A → Row) (from : ℕ) (xs : List A) → behind_rowids from (map stored xs) ≡ map (λ (row : ℕ × A). number row.0 ∷ stored row.1) (with_rowids from xs)
-rowids_are stored from [] = refl
-rowids_are stored from (x ∷ xs) = ap (λ (l : List Row). (number from ∷ stored x) ∷ l) (rowids_are stored (from + 1) xs)
-
-pub rowids_numbered : {A : Type 0} (from : ℕ) (xs : List A) → NumberedFrom (λ (row : ℕ × A). row.0) from (with_rowids from xs)
-rowids_numbered from [] = tt
-rowids_numbered from (x ∷ xs) = (refl, rowids_numbered (from + 1) xs)
-
 rowids_shown : {A : Type 0} (view : A → Row) (from : ℕ) (xs : List A) → map (λ (row : ℕ × A). view row.1) (with_rowids from xs) ≡ map view xs
 rowids_shown view from [] = refl
 rowids_shown view from (x ∷ xs) = ap (λ (l : List Row). view x ∷ l) (rowids_shown view (from + 1) xs)
@@ -79,7 +69,7 @@ module _ {A : Type 0} (stored view : A → Row) (xs : List A) (tree : ℕ) (proj
   pub counted_are : db.trees tree ≡ counted_rows (map stored xs)
       → ((row : ℕ × A) → output (selects tree [] project by_first no_limit) ([] ∷ (number row.0 ∷ stored row.1) ∷ []) ≡ (number row.0 ∷ [], view row.1)) → rows ≡ map view xs
   counted_are table views =
-      keyed_are (λ (row : ℕ × A). row.0) (λ (row : ℕ × A). number row.0 ∷ stored row.1) (λ (row : ℕ × A). view row.1) (with_rowids 1 xs) (rowids_numbered 1 xs) tree project text names means db plain rows reads
+      keyed_are (λ (row : ℕ × A). row.0) (behind stored) (λ (row : ℕ × A). view row.1) (with_rowids 1 xs) (rowids_numbered 1 xs) tree project text names means db plain rows reads
       (table ∙ rowids_are stored 1 xs) views ∙ rowids_shown view 1 xs
 
 -- ---- a table of one row

@@ -2,11 +2,7 @@
 use Rattle.std.specs.Prelude.{◌≡◌, ℕ, ◌+◌, List, [], ◌∷◌}
 use Rattle.sqlite_value.specs.Order.{Row, column}
 use Rattle.reg_tables.specs.Rows.{number}
-
--- the columns from a place on have these values
-abbrev pub HasCells : ℕ → Row → Row → Type 0
-HasCells at row [] = Unit {0}
-HasCells at row (value ∷ values) = (column row at ≡ value) × HasCells (at + 1) row values
+pub use Rattle.reg_tables.specs.ShownRows.{HasCells}
 
 -- the row is that of some record
 abbrev pub IsOfSomeRecord : {A : Type 0} → (A → Type 0) → (A → Row) → Row → Type 0

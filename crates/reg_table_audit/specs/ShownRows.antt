@@ -2,7 +2,6 @@
 use Rattle.std.specs.Prelude.{[], ◌∷◌}
 use Rattle.sqlite_value.specs.declared.value.Value.TheVariants.{Text}
 use Rattle.sqlite_value.specs.Order.{Row}
-use Rattle.reg_core.specs.declared.command.Counts.{Counts}
 use Rattle.reg_tables.specs.Columns.{letter_text, number_or_null}
 use Rattle.reg_tables.specs.Rows.{number, serial_value}
 use Rattle.reg_row_audit.specs.KeptAsRead.{letter_in}
@@ -15,9 +14,6 @@ shown_office office = number office.cap ∷ number office.last ∷ []
 
 abbrev pub shown_standing : Standing → Row
 shown_standing row = serial_value row.serial ∷ number row.not_after ∷ Text (letter_text (letter_in row.letter)) ∷ []
-
-abbrev pub shown_counts : Counts → Row
-shown_counts counts = number counts.good ∷ number counts.revoked ∷ number counts.expired ∷ []
 
 abbrev pub shown_listed : Listed → Row
 shown_listed row = serial_value row.serial ∷ number row.at ∷ number row.reason ∷ number row.first ∷ number row.not_after ∷ number_or_null row.last ∷ []

@@ -18,14 +18,14 @@ ghost use Rattle.reg_table_audit.specs.declared.sql.What.TheVariants.{Subscriber
 use crate::fault::AuditFault;
 use crate::read_rows::rows_at;
 use crate::sql::What;
-use crate::sql_values::{moment_at, number_at};
-use crate::typed::OfRow;
+use crate::typed::{ListedRows, StandingRows};
 use reg_core::{
     CertRow, Counts, CrlRow, Moment, OrderRow, Policy, RequestRow, RevocationRow, Schedule,
     SubscriberRow,
 };
 use reg_findings::{BrokenRow, Defect, RegisterTable};
-use reg_row_audit::{Listed, Standing};
+use reg_tables::rows::{ShownRow, Step};
+use reg_tables::sql_values::number_at;
 use sqlite::Row;
 use std::alloc::Global;
 
@@ -75,7 +75,7 @@ fn check_counted(table: RegisterTable, rows: &[Row]) -> Result<(), AuditFault>
 }
 
 /// The row is that of some record.
-fn stands<T: OfRow>(row: &Row) -> bool
+fn stands<T: ShownRow>(row: &Row) -> bool
     ensures { IsTrue result → IsOfSomeRecord T.is_keyed T.shown row.now }
 {
     match T::in_row(row) {
@@ -85,7 +85,7 @@ fn stands<T: OfRow>(row: &Row) -> bool
 }
 
 /// Each row is that of some record.
-fn each_stands<T: OfRow>(rows: &[Row]) -> Result<(), AuditFault>
+fn each_stands<T: ShownRow>(rows: &[Row]) -> Result<(), AuditFault>
     ensures stand { OnOk result (AllByRecursion (IsOfSomeRecord T.is_keyed T.shown) rows.now) }
     ensures broken { IfErr result (λ fault. ¬ EndsAtBrokenRow fault) }
 {
@@ -157,7 +157,7 @@ fn check_letters(rows: &[Row], rowids: &[Row]) -> Result<(), AuditFault>
     ensures broken { (records : Records) → (columns : Columns) → IsReadOf records columns StandingRowids rowids.now → IfErr result (λ fault. ¬ EndsAtBrokenRow fault) }
 {
     check_counted(RegisterTable::Standing, rowids)?;
-    each_stands::<Standing>(rows)
+    each_stands::<StandingRows>(rows)
 }
 
 /// The one row of kept is that of counts.
@@ -180,7 +180,7 @@ fn check_listings(rows: &[Row], rowids: &[Row]) -> Result<(), AuditFault>
     ensures broken { (records : Records) → (columns : Columns) → IsReadOf records columns ListingRowids rowids.now → IfErr result (λ fault. ¬ EndsAtBrokenRow fault) }
 {
     check_counted(RegisterTable::Listed, rowids)?;
-    each_stands::<Listed>(rows)
+    each_stands::<ListedRows>(rows)
 }
 
 /// The numbers of the office's one row.
@@ -210,13 +210,6 @@ fn terms_in(rows: &[Row]) -> Option<Terms>
     })
 }
 
-/// The step of the schedule in a row.
-fn step_in(row: &Row) -> Option<(Moment, u64)>
-    ensures { IfSome result (λ step. HasCells 0 row.now (shown_step step)) }
-{
-    Some((moment_at(row, 0)?, number_at(row, 1)?))
-}
-
 /// The steps of the schedule.
 fn steps_in(alloc: Global, rows: &[Row]) -> Result<Vec<(Moment, u64)>, AuditFault>
     ensures told { IfOk result (λ steps. AllZip (λ (step : ℕ × ℕ) (row : Cells). HasCells 0 row (shown_step step)) steps.items rows.now) }
@@ -224,7 +217,7 @@ fn steps_in(alloc: Global, rows: &[Row]) -> Result<Vec<(Moment, u64)>, AuditFaul
 {
     let mut steps = Vec::new(alloc);
     for row in rows {
-        match step_in(row) {
+        match Step::in_row(row) {
             Some(step) => steps.push(step)?,
             None => return Err(AuditFault::Store),
         }

@@ -12,9 +12,9 @@ ghost use Rattle.reg_table_audit.specs.ReadableValues.{HasAllowedDays};
 
 use crate::fault::AuditFault;
 use crate::read_rows::rows_at;
-use crate::sql_values::number_at;
 use reg_core::Schedule;
 use reg_findings::{BrokenRow, Defect, RegisterTable};
+use reg_tables::sql_values::number_at;
 use sqlite::Row;
 
 /// Whether the days in the row of the office are some that a schedule can allow.

@@ -11,7 +11,7 @@ ghost use Rattle.reg_table_audit.specs.ReadableValues.{AreReadable};
 ghost use Rattle.reg_table_audit.specs.declared.sql.What.TheVariants.{Office as OfOffice, Subscribers, Orders, Certificates, Requests, Revocations, Crls, Standings, Counts as OfCounts, Listings};
 
 use crate::fault::AuditFault;
-use crate::typed::{OfficeRow, only, typed};
+use crate::typed::{ListedRows, OfficeRow, StandingRows, only, typed};
 use reg_core::{CertRow, Counts, CrlRow, OrderRow, RequestRow, RevocationRow, SubscriberRow};
 use reg_findings::RegisterTable;
 use reg_row_audit::{Listed, Standing};
@@ -24,7 +24,7 @@ pub(crate) fn office(rows: &[Row]) -> Result<OfficeRow, AuditFault>
         → IfOk result (λ found. (found.cap ≡ records.policy.cap) × (found.last ≡ records.last)) }
     ensures has { (records : Records) → (columns : Columns) → IsReadOf records columns OfOffice rows.now → AreReadable records columns → IfErr result (λ fault. ¬ EndsAtBrokenRow fault) }
 {
-    only(RegisterTable::Office, rows)
+    only::<OfficeRow>(RegisterTable::Office, rows)
 }
 
 /// The subscribers, in the order of entry.
@@ -32,7 +32,7 @@ pub(crate) fn subscribers(alloc: Global, rows: &[Row]) -> Result<Vec<SubscriberR
     ensures read { (records : Records) → (columns : Columns) → IsReadOf records columns Subscribers rows.now → IfOk result (λ found. found.items ≡ records.subscribers) }
     ensures has { (records : Records) → (columns : Columns) → IsReadOf records columns Subscribers rows.now → AreReadable records columns → IfErr result (λ fault. ¬ EndsAtBrokenRow fault) }
 {
-    typed(alloc, RegisterTable::Subscriber, rows)
+    typed::<SubscriberRow>(alloc, RegisterTable::Subscriber, rows)
 }
 
 /// The orders, in the order of entry.
@@ -40,7 +40,7 @@ pub(crate) fn orders(alloc: Global, rows: &[Row]) -> Result<Vec<OrderRow>, Audit
     ensures read { (records : Records) → (columns : Columns) → IsReadOf records columns Orders rows.now → IfOk result (λ found. found.items ≡ records.orders) }
     ensures has { (records : Records) → (columns : Columns) → IsReadOf records columns Orders rows.now → AreReadable records columns → IfErr result (λ fault. ¬ EndsAtBrokenRow fault) }
 {
-    typed(alloc, RegisterTable::Orders, rows)
+    typed::<OrderRow>(alloc, RegisterTable::Orders, rows)
 }
 
 /// The certificates, in the order of entry.
@@ -48,7 +48,7 @@ pub(crate) fn certificates(alloc: Global, rows: &[Row]) -> Result<Vec<CertRow>, 
     ensures read { (records : Records) → (columns : Columns) → IsReadOf records columns Certificates rows.now → IfOk result (λ found. found.items ≡ records.certificates) }
     ensures has { (records : Records) → (columns : Columns) → IsReadOf records columns Certificates rows.now → AreReadable records columns → IfErr result (λ fault. ¬ EndsAtBrokenRow fault) }
 {
-    typed(alloc, RegisterTable::Cert, rows)
+    typed::<CertRow>(alloc, RegisterTable::Cert, rows)
 }
 
 /// The requests, in the order of entry.
@@ -56,7 +56,7 @@ pub(crate) fn requests(alloc: Global, rows: &[Row]) -> Result<Vec<RequestRow>, A
     ensures read { (records : Records) → (columns : Columns) → IsReadOf records columns Requests rows.now → IfOk result (λ found. found.items ≡ records.requests) }
     ensures has { (records : Records) → (columns : Columns) → IsReadOf records columns Requests rows.now → AreReadable records columns → IfErr result (λ fault. ¬ EndsAtBrokenRow fault) }
 {
-    typed(alloc, RegisterTable::Request, rows)
+    typed::<RequestRow>(alloc, RegisterTable::Request, rows)
 }
 
 /// The revocations, in the order of entry.
@@ -64,7 +64,7 @@ pub(crate) fn revocations(alloc: Global, rows: &[Row]) -> Result<Vec<RevocationR
     ensures read { (records : Records) → (columns : Columns) → IsReadOf records columns Revocations rows.now → IfOk result (λ found. found.items ≡ records.revocations) }
     ensures has { (records : Records) → (columns : Columns) → IsReadOf records columns Revocations rows.now → AreReadable records columns → IfErr result (λ fault. ¬ EndsAtBrokenRow fault) }
 {
-    typed(alloc, RegisterTable::Revocation, rows)
+    typed::<RevocationRow>(alloc, RegisterTable::Revocation, rows)
 }
 
 /// The CRLs without their bytes, in the order of their numbers.
@@ -72,7 +72,7 @@ pub(crate) fn crls(alloc: Global, rows: &[Row]) -> Result<Vec<CrlRow>, AuditFaul
     ensures read { (records : Records) → (columns : Columns) → IsReadOf records columns Crls rows.now → IfOk result (λ found. found.items ≡ map row_of records.crls) }
     ensures has { (records : Records) → (columns : Columns) → IsReadOf records columns Crls rows.now → AreReadable records columns → IfErr result (λ fault. ¬ EndsAtBrokenRow fault) }
 {
-    typed(alloc, RegisterTable::Crl, rows)
+    typed::<CrlRow>(alloc, RegisterTable::Crl, rows)
 }
 
 /// The state letters.
@@ -80,7 +80,7 @@ pub(crate) fn letters(alloc: Global, rows: &[Row]) -> Result<Vec<Standing>, Audi
     ensures read { (records : Records) → (columns : Columns) → IsReadOf records columns Standings rows.now → IfOk result (λ found. map standing_in found.items ≡ columns.letters) }
     ensures has { (records : Records) → (columns : Columns) → IsReadOf records columns Standings rows.now → AreReadable records columns → IfErr result (λ fault. ¬ EndsAtBrokenRow fault) }
 {
-    typed(alloc, RegisterTable::Standing, rows)
+    typed::<StandingRows>(alloc, RegisterTable::Standing, rows)
 }
 
 /// The counts of the state letters.
@@ -88,7 +88,7 @@ pub(crate) fn counts(rows: &[Row]) -> Result<Counts, AuditFault>
     ensures read { (records : Records) → (columns : Columns) → IsReadOf records columns OfCounts rows.now → IfOk result (λ found. found ≡ columns.counts) }
     ensures has { (records : Records) → (columns : Columns) → IsReadOf records columns OfCounts rows.now → AreReadable records columns → IfErr result (λ fault. ¬ EndsAtBrokenRow fault) }
 {
-    only(RegisterTable::Kept, rows)
+    only::<Counts>(RegisterTable::Kept, rows)
 }
 
 /// What CRLs list of each revocation.
@@ -96,5 +96,5 @@ pub(crate) fn listings(alloc: Global, rows: &[Row]) -> Result<Vec<Listed>, Audit
     ensures read { (records : Records) → (columns : Columns) → IsReadOf records columns Listings rows.now → IfOk result (λ found. map listed_in found.items ≡ columns.listed) }
     ensures has { (records : Records) → (columns : Columns) → IsReadOf records columns Listings rows.now → AreReadable records columns → IfErr result (λ fault. ¬ EndsAtBrokenRow fault) }
 {
-    typed(alloc, RegisterTable::Listed, rows)
+    typed::<ListedRows>(alloc, RegisterTable::Listed, rows)
 }

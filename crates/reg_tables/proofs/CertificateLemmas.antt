@@ -1,5 +1,5 @@
 -- What the look-ups of certificates show.
-use Rattle.std.proofs.Common.{◌≡◌, ◌≤◌, ℕ, None, List, [], ◌∷◌, length, codes, refl, ◌∙◌, arith}
+use Rattle.std.proofs.Common.{◌≡◌, ◌≤◌, ℕ, List, [], ◌∷◌, length, codes, refl, ◌∙◌, arith}
 use Rattle.std.specs.Prelude.{◌==◌}
 use Rattle.std.specs.List.{AllByRecursion}
 use Rattle.sqlite_value.specs.Order.{Row}
@@ -18,9 +18,10 @@ use Rattle.reg_tables.specs.Rows.{number, serial_value, stored_certificate}
 use Rattle.reg_tables.specs.Shows.{IsShownBy}
 use Rattle.reg_tables.specs.Failing.{IsAsked}
 use Rattle.reg_tables.specs.ReadStatements.{IsReading, command_of, shown_certificate}
+use Rattle.reg_tables.specs.ShownRows.{IsRowOf}
 use Rattle.reg_tables.specs.declared.sql.TheConstants.{CERT_BY_SERIAL, CERT_BY_ORDER}
 use Rattle.reg_tables.proofs.Compares.{and_true, eq_number, eq_serial}
-use Rattle.reg_tables.proofs.Queries.{column_is, selects, as_command, no_limit, Given, counted_given, find_none, find_one, Found}
+use Rattle.reg_tables.proofs.Queries.{column_is, selects, as_command, no_limit, Given, counted_given, row_of}
 use Rattle.reg_tables.proofs.Selecting.{select_never}
 use Rattle.reg_tables.proofs.FailingLemmas.{asked_by}
 use Rattle.reg_tables.proofs.Few.{given_few, one_number}
@@ -52,18 +53,12 @@ module _ (db : Database) (records : Records) (shown : IsShownBy db records) (ser
       counted_given (λ row. IsSerial row.serial) stored_certificate (λ row. row.serial == serial) out records.certificates shown.rows.certificate_serials 4 (column_is 1) columns [] no_limit (serial_value serial ∷ []) CERT_BY_SERIAL.now names by_serial_means db refl rows reads
       shown.rows.certificates (λ id row in_row. and_true _ ∙ eq_serial row.serial serial in_row is_serial) (λ id row. refl)
 
-  pub by_serial_none : rows ≡ [] → None ≡ certificate_in records.certificates serial
-  by_serial_none = find_none (λ row. row.serial == serial) out records.certificates 4 (column_is 1) columns [] (serial_value serial ∷ []) rows by_serial_given
-
   pub by_serial_few : KeysDiffer (λ (row : CertRow). row.serial) records.certificates → length rows ≤ 1
   by_serial_few differ = given_few (λ row. row.serial == serial) out records.certificates 4 (column_is 1) columns [] (serial_value serial ∷ []) rows by_serial_given
       (one_number (λ (row : CertRow). row.serial) serial records.certificates differ)
 
-  pub by_serial_has : (P : CertRow → Type 0) → AllByRecursion P records.certificates → (row : Row) → rows ≡ row ∷ [] → Found P shown_certificate (certificate_in records.certificates serial) row
-  by_serial_has P all = find_one (λ row. row.serial == serial) out records.certificates 4 (column_is 1) columns [] (serial_value serial ∷ []) rows by_serial_given P all
-
-  pub by_serial_one : (row : Row) → rows ≡ row ∷ [] → Found (λ row. IsSerial row.serial) shown_certificate (certificate_in records.certificates serial) row
-  by_serial_one = by_serial_has (λ row. IsSerial row.serial) shown.rows.certificate_serials
+  pub by_serial_row : (P : CertRow → Type 0) → AllByRecursion P records.certificates → IsRowOf P shown_certificate rows (certificate_in records.certificates serial)
+  by_serial_row P all = row_of (λ row. row.serial == serial) out records.certificates 4 (column_is 1) columns [] (serial_value serial ∷ []) rows by_serial_given P all
 
 by_order_means : command_of (understood register_schema CERT_BY_ORDER.now) ≡ as_command (selects 4 (column_is 2) columns [] no_limit) names
 unfolding understood everything register_schema
@@ -83,15 +78,9 @@ module _ (db : Database) (records : Records) (shown : IsShownBy db records) (ord
       counted_given (λ row. IsSerial row.serial) stored_certificate (λ row. row.order == order) out records.certificates shown.rows.certificate_serials 4 (column_is 2) columns [] no_limit (number order ∷ []) CERT_BY_ORDER.now names by_order_means db refl rows reads
       shown.rows.certificates (λ id row in_row. and_true _ ∙ eq_number row.order order) (λ id row. refl)
 
-  pub by_order_none : rows ≡ [] → None ≡ certificate_of_order records.certificates order
-  by_order_none = find_none (λ row. row.order == order) out records.certificates 4 (column_is 2) columns [] (number order ∷ []) rows by_order_given
-
   pub by_order_few : KeysDiffer (λ (row : CertRow). row.order) records.certificates → length rows ≤ 1
   by_order_few differ = given_few (λ row. row.order == order) out records.certificates 4 (column_is 2) columns [] (number order ∷ []) rows by_order_given
       (one_number (λ (row : CertRow). row.order) order records.certificates differ)
 
-  pub by_order_has : (P : CertRow → Type 0) → AllByRecursion P records.certificates → (row : Row) → rows ≡ row ∷ [] → Found P shown_certificate (certificate_of_order records.certificates order) row
-  by_order_has P all = find_one (λ row. row.order == order) out records.certificates 4 (column_is 2) columns [] (number order ∷ []) rows by_order_given P all
-
-  pub by_order_one : (row : Row) → rows ≡ row ∷ [] → Found (λ row. IsSerial row.serial) shown_certificate (certificate_of_order records.certificates order) row
-  by_order_one = by_order_has (λ row. IsSerial row.serial) shown.rows.certificate_serials
+  pub by_order_row : (P : CertRow → Type 0) → AllByRecursion P records.certificates → IsRowOf P shown_certificate rows (certificate_of_order records.certificates order)
+  by_order_row P all = row_of (λ row. row.order == order) out records.certificates 4 (column_is 2) columns [] (number order ∷ []) rows by_order_given P all

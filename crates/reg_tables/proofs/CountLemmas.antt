@@ -33,9 +33,10 @@ use Rattle.reg_tables.specs.Columns.{Letter, good, revoked, expired, is_good_let
 use Rattle.reg_tables.specs.Shows.{AreBoth}
 use Rattle.reg_tables.specs.Failing.{IsAsked}
 use Rattle.reg_tables.specs.ReadStatements.{IsReading, command_of}
+use Rattle.reg_tables.specs.ShownRows.{shown_counts}
 use Rattle.reg_tables.specs.declared.sql.TheConstants.{COUNTS, ENDED_BEFORE}
 use Rattle.reg_tables.proofs.Compares.{and_true, compares, lt_number, eq_text}
-use Rattle.reg_tables.proofs.Queries.{selects, no_limit, as_command, passes, picked, kept_behind, all_of, Given, keyed_given, find_one}
+use Rattle.reg_tables.proofs.Queries.{selects, no_limit, as_command, passes, picked, kept_behind, all_of, Given, keyed_given}
 use Rattle.reg_tables.proofs.Selecting.{select_never}
 use Rattle.reg_tables.proofs.FailingLemmas.{asked_by, asked_of}
 
@@ -182,14 +183,8 @@ pub asked_counts : IsAsked COUNTS.now []
 unfolding understood everything register_schema
 asked_counts = asked_by COUNTS.now 14 [] (col 1 2 ∷ col 1 3 ∷ col 1 4 ∷ []) [] no_limit (codes "n_good" ∷ codes "n_revoked" ∷ codes "n_expired" ∷ []) [] (omega arith, refl) counts_mean refl
 
-abbrev shown_counts : Counts → Row
-shown_counts counts = number counts.good ∷ number counts.revoked ∷ number counts.expired ∷ []
-
 abbrev counts_out : Counts → Output
 counts_out counts = ([], shown_counts counts)
-
-same_some : (x y : Counts) → Some x ≡ Some y → x ≡ y
-same_some x y e = cc
 
 module _ (db : Database) (records : Records) (kept : Columns) (both : AreBoth db records kept) (rows : List Row) (reads : Reads (command_of (understood register_schema COUNTS.now)) db [] rows) where
   counts_given : Given (λ _. true) counts_out (kept.counts ∷ []) (selects 14 [] (col 1 2 ∷ col 1 3 ∷ col 1 4 ∷ []) [] no_limit) [] rows
@@ -200,8 +195,3 @@ module _ (db : Database) (records : Records) (kept : Columns) (both : AreBoth db
   -- the one row is there
   pub counts_rows : rows ≡ shown_counts kept.counts ∷ []
   counts_rows = counts_given.shown ∙ ap (λ to. page (selects 14 [] (col 1 2 ∷ col 1 3 ∷ col 1 4 ∷ []) [] no_limit) [] (map (λ a. (counts_out a).1) to)) (one_permutation kept.counts counts_given.to counts_given.same)
-
-  pub counts_one : (row : Row) → rows ≡ row ∷ [] → row ≡ shown_counts kept.counts
-  counts_one row one =
-      let found = find_one (λ _. true) counts_out (kept.counts ∷ []) 14 [] (col 1 2 ∷ col 1 3 ∷ col 1 4 ∷ []) [] [] rows counts_given (λ _. Unit {0}) (tt, tt) row one in
-      found.shown ∙ ap shown_counts (same_some found.it kept.counts found.first)

@@ -32,6 +32,7 @@ use Rattle.reg_core.specs.Sound.{NumberedFrom, SoundRows}
 use Rattle.reg_core.specs.declared.rows.Entry.{Entry}
 use Rattle.reg_core.specs.declared.rows.RevocationRow.{RevocationRow}
 use Rattle.reg_laws.proofs.Entries.{entries_ascending}
+use Rattle.reg_laws.proofs.Lists.{all_map}
 use Rattle.reg_tables.specs.Schema.{register_schema}
 use Rattle.reg_tables.specs.Rows.{number, serial_value}
 use Rattle.reg_tables.specs.Columns.{Listed, Columns, stored_listed, number_or_null}
@@ -172,10 +173,6 @@ pub record Lists (records : Records) (n : ℕ) (rows : List Row) (found : List E
   pub serials : AllByRecursion (λ (entry : Entry). IsSerial entry.serial) found
   pub same : IsPermutation (map entry_of (content records n)) found
 
-pub all_mapped : {A B : Type 0} (P : B → Type 0) (f : A → B) (xs : List A) → AllByRecursion (λ x. P (f x)) xs → AllByRecursion P (map f xs)
-all_mapped P f [] all = tt
-all_mapped P f (x ∷ xs) all = (all.0, all_mapped P f xs all.1)
-
 -- ---- in the order of serial numbers
 
 serial_key : (a b : ℕ) → IsSerial a → IsSerial b → key_cmp 0 (ascending_key ∷ []) (serial_value a ∷ []) (serial_value b ∷ []) ≡ nat_cmp a b
@@ -215,7 +212,7 @@ module _ (db : Database) (records : Records) (kept : Columns) (both : AreBoth db
       (IsPermutation-trans (filter (lists n) (map (listed_of records) records.revocations)) (filter (lists n) kept.listed) entries_given.to listed entries_given.same) in
       record {
         shown = entries_given.shown ∙ sym (map-map shown_entry entry_in entries_given.to);
-        serials = all_mapped (λ (entry : Entry). IsSerial entry.serial) entry_in entries_given.to all;
+        serials = all_map (λ (entry : Entry). IsSerial entry.serial) entry_in entries_given.to all;
         same = subst (λ l. IsPermutation l found_entries) (entries_listed records n both.shown.rows.crls_numbered) same;
       }
 
@@ -241,7 +238,7 @@ module _ (records : Records) (n : ℕ) (rows : List Row) (found : List Entry) (i
   entries_have all =
       let P : Entry → Type 0 = λ entry. AreMomentAndReason entry.at entry.reason in
       let listed = map entry_of (content records n) in
-      let each = all_mapped P entry_of (content records n) (kept_have (λ (row : RevocationRow). AreMomentAndReason row.at row.reason) (is_on records.certificates records.crls n) records.revocations all) in
+      let each = all_map P entry_of (content records n) (kept_have (λ (row : RevocationRow). AreMomentAndReason row.at row.reason) (is_on records.certificates records.crls n) records.revocations all) in
       recursion_from_All P found (All-permutation P listed found it.same (All-from_recursion P listed each))
 
   -- no more than there are revocations

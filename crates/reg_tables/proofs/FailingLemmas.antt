@@ -1,7 +1,7 @@
 -- A statement that only reads fails for the database's own reasons, and so does what looks at its rows.
-use Rattle.std.specs.Prelude.{Ok, Err, None, Some, IfErr, IsSome, MatchOption, MatchResult}
+use Rattle.std.specs.Prelude.{Ok, Err, None, Some, IfErr, IsSome, MatchOption, OnErr}
 use Rattle.std.specs.Option.{ok_or}
-use Rattle.std.proofs.Common.{◌≡◌, ◌≤◌, inl, inr, ℕ, false, true, List, [], Option, append-nil, IsTrue, Result, refl, sym, ap, subst, ◌∙◌, arith}
+use Rattle.std.proofs.Common.{◌≡◌, ◌≤◌, inl, inr, ℕ, false, true, List, [], ◌∷◌, length, Option, append-nil, IsTrue, Result, refl, sym, ap, subst, ◌∙◌, arith}
 use Rattle.std.proofs.lemmas.Bool.{cases_Bool}
 use Rattle.sqlite_disk.specs.Disk.{MoreFaults}
 use Rattle.sqlite_value.specs.Order.{Row}
@@ -25,15 +25,13 @@ use Rattle.sqlite.specs.Listing.{understood, reads_listing, IsSourceOf}
 use Rattle.sqlite.specs.State.{State, HasCleanDisk, HasCause, IsStatement, IsNoStatement, IsNotRun, FailsToShow, FailsToQuery, store_error}
 use Rattle.reg_core.specs.Records.{Records}
 use Rattle.reg_tables.specs.Schema.{register_schema}
-use Rattle.reg_der.specs.Authority.{IsKept, IsKey}
-use Rattle.reg_der.specs.declared.issuer.IssuerFault.{IssuerFault}
-use Rattle.reg_der.specs.declared.issuer.IssuerFault.TheVariants as of_issuer
-use Rattle.reg_tables.specs.Faults.{database_fault_of, issuer_fault_of}
+use Rattle.reg_tables.specs.Faults.{database_fault_of}
 use Rattle.reg_tables.specs.declared.fault.DatabaseFault.{DatabaseFault}
 use Rattle.reg_tables.specs.declared.fault.DatabaseFault.TheVariants as call
 use Rattle.reg_tables.specs.declared.fault.DatabaseFault.TheVariants.{Store}
 use Rattle.reg_tables.specs.Failing.{HasFailed, ShowsWritten, Blamed, IsTaken, IsAsked}
 use Rattle.reg_tables.specs.ReadStatements.{Answers, IsReading, command_of}
+use Rattle.reg_tables.specs.ShownRows.{IsRowOf}
 use Rattle.reg_tables.specs.Shows.{Shows, IsShownBy, AreBoth}
 use Rattle.reg_tables.specs.Stays.{IsRegister, Looked}
 use Rattle.reg_tables.proofs.Queries.{selects, as_command}
@@ -189,27 +187,36 @@ blamed_then {T = T} {E = E} {g = g} {a = a} {b = b} {c = c} failure result first
 
 -- ---- a value or a row that is read as what it is
 
--- what is told of no such value is told of none
-pub never_told : {T E : Type 0} (P : T → Type 0) (Q R : E → Type 0) (r : Result T E) → MatchResult r P Q → ((e : E) → Q e → ⊥) → IfErr r R
-never_told P Q R (Ok x) read never = tt
-never_told P Q R (Err e) read never = absurd (never e read)
+-- want of memory is no failure of the store
+pub memory_alone : {T : Type 0} (H : Type 0) (r : Result T DatabaseFault) → IfErr r (λ fault. fault ≡ call.Memory) → IfErr r (λ fault. fault ≡ Store → H)
+memory_alone H (Ok x) told = tt
+memory_alone H (Err fault) told = λ store. absurd (let no : call.Memory ≡ Store = sym told ∙ store in cc)
 
--- of a failure of the store alone
-pub never_store : {T : Type 0} (H : Type 0) (P : T → Type 0) (Q : DatabaseFault → Type 0) (r : Result T DatabaseFault) → MatchResult r P Q → ((e : DatabaseFault) → Q e → e ≡ Store → ⊥) → IfErr r (λ e. e ≡ Store → H)
-never_store H P Q (Ok x) read never = tt
-never_store H P Q (Err e) read never = λ store. absurd (never e read store)
+-- what is told of rows that are many is told of none that are few
+pub few_never : {T E : Type 0} (P : Type 0) (R : E → Type 0) (r : Result T E) → OnErr r P → (P → ⊥) → IfErr r R
+few_never P R (Ok x) told never = tt
+few_never P R (Err e) told never = absurd (never told)
+
+-- the one row that is wanted
+pub the_row : {A : Type 0} (P : A → Type 0) (view : A → Row) (it : A) (rows : List Row) → P it → rows ≡ view it ∷ [] → IsRowOf P view rows (Some it) × (length rows ≤ 1)
+the_row P view it rows holds is = (
+  record {
+    none = λ none. absurd (let no : [] ≡ view it ∷ [] = sym none ∙ is in cc);
+    one = λ row one. record { it = it; first = refl; holds = holds; shown = let same : row ∷ [] ≡ view it ∷ [] = sym one ∙ is in cc };
+  },
+  let one : length rows ≡ length (view it ∷ []) = ap length is in omega arith,
+)
+
+pub same_some : {A : Type 0} {x y : A} → Some x ≡ Some y → x ≡ y
+same_some same = cc
+
+pub some_none : {A : Type 0} {x : A} → None ≡ Some x → ⊥
+some_none clash = cc
 
 -- what is made is no error
 pub made_of : {T E : Type 0} (R : E → Type 0) (r : Result T E) (o : Option T) (e : E) → r ≡ ok_or o e → IsSome o → IfErr r R
 made_of R r (Some x) e is some = subst (λ r. IfErr r R) (sym is) tt
 made_of R r None e is some = absurd (let no : false ≡ true = some in cc)
-
--- bytes that are an issuer's are told as none's for want of memory alone
-pub no_issuer_fault : {T : Type 0} {name key : List ℕ} (e : IssuerFault) → IsKept name → IsKey key → (◌≡◌ {A = Result T IssuerFault} (Err e) (Err of_issuer.BadName) → ¬ IsKept name) → (◌≡◌ {A = Result T IssuerFault} (Err e) (Err of_issuer.BadKey) → IsKept name × ¬ IsKey key)
-    → issuer_fault_of e ≡ Store → ⊥
-no_issuer_fault of_issuer.Memory is_name is_key bad_name bad_key store = absurd (let no : call.Memory ≡ Store = store in cc)
-no_issuer_fault of_issuer.BadName is_name is_key bad_name bad_key store = bad_name refl is_name
-no_issuer_fault of_issuer.BadKey is_name is_key bad_name bad_key store = (bad_key refl).1 is_key
 
 -- where no key was made, the number is one that SQL doesn't have
 pub none_made : {T P : Type 0} (Q : T → Type 0) (o : Option T) → ((x : T) → o ≡ Some x → ⊥) → MatchOption o P Q → P

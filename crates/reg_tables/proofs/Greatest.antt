@@ -25,7 +25,7 @@ module _ {A : Type 0} (n : A → ℕ) where
   weaken low high [] le all = tt
   weaken low high (x ∷ xs) le all = (omega arith, weaken low high xs le all.1)
 
-  numbered_from : (from : ℕ) (xs : List A) → NumberedFrom n from xs → AllByRecursion (λ a. from ≤ n a) xs
+  pub numbered_from : (from : ℕ) (xs : List A) → NumberedFrom n from xs → AllByRecursion (λ a. from ≤ n a) xs
   numbered_from from [] numbered = tt
   numbered_from from (x ∷ xs) numbered = (omega arith, weaken from (from + 1) xs (omega arith) (numbered_from (from + 1) xs numbered.1))
 

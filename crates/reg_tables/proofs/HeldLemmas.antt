@@ -1,171 +1,127 @@
 -- What the statements on the last rows show.
-use Rattle.std.proofs.Common.{◌≡◌, ◌+◌, ℕ, true, List, [], ◌∷◌, map, length, codes, refl, ap, subst, ◌∙◌, arith}
-use Rattle.sqlite_value.specs.Order.{Row, column}
+use Rattle.std.proofs.Common.{◌≡◌, ◌≤◌, ℕ, zero, suc, true, List, [], ◌∷◌, Option, None, Some, unwrap_or, map, length, codes, refl, ap, subst, ◌∙◌, arith}
+use Rattle.sqlite_value.specs.Order.{Row}
+use Rattle.sqlite_value.specs.declared.keys.Key.{Key}
 use Rattle.sqlite_sql.specs.Term.{Term, col}
+use Rattle.sqlite_sql.specs.Query.{Query}
+use Rattle.sqlite_sql.specs.Program.{overlay}
 use Rattle.sqlite.specs.Effect.{Database, Reads}
 use Rattle.sqlite.specs.Listing.{understood}
 use Rattle.sqlite_resolve.specs.Compile.{first}
 use Rattle.sqlite_tied.specs.Compute.{everything}
-use Rattle.reg_core.specs.Records.{Records, Crl}
+use Rattle.reg_core.specs.Records.{Records}
 use Rattle.reg_core.specs.Sound.{NumberedFrom}
-use Rattle.reg_core.specs.declared.rows.SubscriberRow.{SubscriberRow}
-use Rattle.reg_core.specs.declared.rows.OrderRow.{OrderRow}
-use Rattle.reg_core.specs.declared.rows.CertRow.{CertRow}
-use Rattle.reg_core.specs.declared.rows.RequestRow.{RequestRow}
 use Rattle.reg_tables.specs.Schema.{register_schema}
-use Rattle.reg_tables.specs.Rows.{number, behind_rowids, stored_subscriber, stored_order, stored_certificate, stored_request, stored_crl}
+use Rattle.reg_tables.specs.Rows.{number, stored_subscriber, stored_order, stored_certificate, stored_request, stored_crl}
 use Rattle.reg_tables.specs.Shows.{IsShownBy}
-use Rattle.reg_tables.specs.Tables.{IsNumberShown}
+use Rattle.reg_tables.specs.ShownRows.{IsRowOf, shown_number}
+use Rattle.reg_tables.specs.Tables.{rows_of, text_of_last}
 use Rattle.reg_tables.specs.Failing.{IsAsked}
 use Rattle.reg_tables.specs.ReadStatements.{IsReading, command_of}
-use Rattle.reg_tables.specs.declared.sql.TheConstants.{LAST_SUBSCRIBER, LAST_ORDER, LAST_CERT, LAST_REQUEST, LATEST_CRL}
-use Rattle.reg_tables.proofs.Queries.{selects, as_command, Given, keyed_given, all_of}
+use Rattle.reg_tables.specs.declared.sizes.Table.{Table}
+use Rattle.reg_tables.specs.declared.sizes.Table.TheVariants.{Subscribers, Orders, Certs, Requests, Crls}
+use Rattle.reg_tables.specs.declared.sql.TheConstants.{LAST_SUBSCRIBER, LAST_ORDER, LAST_CERT, LAST_REQUEST, LAST_CRL}
+use Rattle.reg_tables.proofs.Queries.{selects, as_command, shows, Given, keyed_given, all_of}
 use Rattle.reg_tables.proofs.Selecting.{select_never}
 use Rattle.reg_tables.proofs.Sorting.{descending_key}
-use Rattle.reg_tables.proofs.Greatest.{one_row, greatest_none, greatest_one}
+use Rattle.reg_tables.proofs.Greatest.{one_row, numbered_from, greatest_none, greatest_one}
+use Rattle.reg_tables.proofs.Rowids.{with_rowids, behind, rowids_are, rowids_numbered, length-with_rowids}
 use Rattle.reg_tables.proofs.FailingLemmas.{asked_by}
 use Rattle.reg_tables.proofs.Few.{taken_few}
 
--- a statement on the greatest number, of a table whose key it is
-module _ {A : Type 0} (stored : A → Row) (n : A → ℕ) (view : A → Row) (xs : List A) (numbered : NumberedFrom n 1 xs) (tree : ℕ) (project : List Term) (text : List ℕ) (names : List (List ℕ))
-    (means : command_of (understood register_schema text) ≡ as_command (selects tree [] project ((col 1 0, descending_key) ∷ []) one_row) names)
-    (db : Database) (rows : List Row)
-    (given : Given (λ _. true) (λ a. (number (n a) ∷ [], view a)) xs (selects tree [] project ((col 1 0, descending_key) ∷ []) one_row) [] rows) (shows_it : (x : A) → column (view x) 0 ≡ number (n x)) where
-  pub number_is : IsNumberShown (length xs) rows
-  number_is = record {
-    none = greatest_none n view xs numbered tree project [] rows given;
-    one = λ row one.
-        let it = greatest_one n view xs numbered tree project [] rows given (λ _. Unit {0}) (all_of (λ _. Unit {0}) (λ _. tt) xs) row one in
-        ap (λ (r : Row). column r 0) it.shown ∙ shows_it it.it ∙ ap number it.counts;
-    few = taken_few rows (map view given.to) given.shown;
-  }
+abbrev tree_of : Table → ℕ
+tree_of Subscribers = 1
+tree_of Orders = 3
+tree_of Certs = 4
+tree_of Requests = 7
+tree_of Crls = 11
 
-subscriber_means : command_of (understood register_schema LAST_SUBSCRIBER.now) ≡ as_command (selects 1 [] (col 1 0 ∷ []) ((col 1 0, descending_key) ∷ []) one_row) (codes "id" ∷ [])
+abbrev names_of : Table → List (List ℕ)
+names_of Subscribers = codes "id" ∷ []
+names_of Orders = codes "id" ∷ []
+names_of Certs = codes "rowid" ∷ []
+names_of Requests = codes "id" ∷ []
+names_of Crls = codes "number" ∷ []
+
+abbrev by_number : List (Term × Key)
+by_number = (col 1 0, descending_key) ∷ []
+
+abbrev last_query : ℕ → Query
+last_query tree = selects tree [] (col 1 0 ∷ []) by_number one_row
+
+last_means : (table : Table) → command_of (understood register_schema (text_of_last table)) ≡ as_command (last_query (tree_of table)) (names_of table)
 unfolding understood everything register_schema
-subscriber_means = refl
+last_means Subscribers = refl
+last_means Orders = refl
+last_means Certs = refl
+last_means Requests = refl
+last_means Crls = refl
 
-pub reading_subscriber : IsReading LAST_SUBSCRIBER.now
+pub reading_last : (table : Table) → IsReading (text_of_last table)
 unfolding understood everything register_schema first
-reading_subscriber = record { plain = (refl, refl); unlisted = refl; never = select_never LAST_SUBSCRIBER.now _ _ refl refl refl }
+reading_last Subscribers = record { plain = (refl, refl); unlisted = refl; never = select_never LAST_SUBSCRIBER.now _ _ refl refl refl }
+reading_last Orders = record { plain = (refl, refl); unlisted = refl; never = select_never LAST_ORDER.now _ _ refl refl refl }
+reading_last Certs = record { plain = (refl, refl); unlisted = refl; never = select_never LAST_CERT.now _ _ refl refl refl }
+reading_last Requests = record { plain = (refl, refl); unlisted = refl; never = select_never LAST_REQUEST.now _ _ refl refl refl }
+reading_last Crls = record { plain = (refl, refl); unlisted = refl; never = select_never LAST_CRL.now _ _ refl refl refl }
 
-pub asked_subscriber : IsAsked LAST_SUBSCRIBER.now []
+pub asked_last : (table : Table) → IsAsked (text_of_last table) []
 unfolding understood everything register_schema
-asked_subscriber = asked_by LAST_SUBSCRIBER.now 1 [] (col 1 0 ∷ []) ((col 1 0, descending_key) ∷ []) one_row (codes "id" ∷ []) [] (omega arith, refl) subscriber_means refl
+asked_last Subscribers = asked_by LAST_SUBSCRIBER.now 1 [] (col 1 0 ∷ []) by_number one_row (names_of Subscribers) [] (omega arith, refl) (last_means Subscribers) refl
+asked_last Orders = asked_by LAST_ORDER.now 3 [] (col 1 0 ∷ []) by_number one_row (names_of Orders) [] (omega arith, refl) (last_means Orders) refl
+asked_last Certs = asked_by LAST_CERT.now 4 [] (col 1 0 ∷ []) by_number one_row (names_of Certs) [] (omega arith, refl) (last_means Certs) refl
+asked_last Requests = asked_by LAST_REQUEST.now 7 [] (col 1 0 ∷ []) by_number one_row (names_of Requests) [] (omega arith, refl) (last_means Requests) refl
+asked_last Crls = asked_by LAST_CRL.now 11 [] (col 1 0 ∷ []) by_number one_row (names_of Crls) [] (omega arith, refl) (last_means Crls) refl
 
-module _ (db : Database) (records : Records) (shown : IsShownBy db records) (rows : List Row) (reads : Reads (command_of (understood register_schema LAST_SUBSCRIBER.now)) db [] rows) where
-  pub subscriber_given : Given (λ _. true) (λ (row : SubscriberRow). (number row.id ∷ [], number row.id ∷ [])) records.subscribers (selects 1 [] (col 1 0 ∷ []) ((col 1 0, descending_key) ∷ []) one_row) [] rows
-  subscriber_given =
-      keyed_given (λ _. Unit {0}) stored_subscriber (λ _. true) (λ (row : SubscriberRow). (number row.id ∷ [], number row.id ∷ [])) records.subscribers (all_of (λ _. Unit {0}) (λ _. tt) records.subscribers) 1 [] (col 1 0 ∷ []) ((col 1 0, descending_key) ∷ []) one_row []
-      LAST_SUBSCRIBER.now (codes "id" ∷ []) subscriber_means db refl rows reads shown.rows.subscribers (λ row any. refl) (λ row. refl)
+-- the number of the last row, where there is one
+abbrev pub last_of : ℕ → Option ℕ
+last_of zero = None
+last_of (suc n) = Some (suc n)
 
-  pub subscriber_count : IsNumberShown (length records.subscribers) rows
-  subscriber_count = number_is stored_subscriber (λ row. row.id) (λ row. number row.id ∷ []) records.subscribers shown.rows.subscribers_numbered 1 (col 1 0 ∷ []) LAST_SUBSCRIBER.now (codes "id" ∷ []) subscriber_means db rows subscriber_given (λ row. refl)
+pub last_is : (n : ℕ) → unwrap_or (last_of n) 0 ≡ n
+last_is zero = refl
+last_is (suc n) = refl
 
-order_means : command_of (understood register_schema LAST_ORDER.now) ≡ as_command (selects 3 [] (col 1 0 ∷ []) ((col 1 0, descending_key) ∷ []) one_row) (codes "id" ∷ [])
-unfolding understood everything register_schema
-order_means = refl
+none_last : (n : ℕ) → n ≡ 0 → None ≡ last_of n
+none_last zero is = refl
+none_last (suc n) is = absurd (omega arith)
 
-pub reading_order : IsReading LAST_ORDER.now
-unfolding understood everything register_schema first
-reading_order = record { plain = (refl, refl); unlisted = refl; never = select_never LAST_ORDER.now _ _ refl refl refl }
+some_last : (n : ℕ) → 1 ≤ n → Some n ≡ last_of n
+some_last zero some = absurd (omega arith)
+some_last (suc n) some = refl
 
-pub asked_order : IsAsked LAST_ORDER.now []
-unfolding understood everything register_schema
-asked_order = asked_by LAST_ORDER.now 3 [] (col 1 0 ∷ []) ((col 1 0, descending_key) ∷ []) one_row (codes "id" ∷ []) [] (omega arith, refl) order_means refl
+module _ (P : ℕ → Type 0) (each : (n : ℕ) → P n) (db : Database) where
+  -- of a table whose key is the number
+  module _ {A : Type 0} (n : A → ℕ) (xs : List A) (numbered : NumberedFrom n 1 xs) (tree : ℕ) (rows : List Row)
+      (g : Given (λ _. true) (λ a. (number (n a) ∷ [], shown_number (n a))) xs (last_query tree) [] rows) where
+    last_shown : IsRowOf P shown_number rows (last_of (length xs)) × (length rows ≤ 1)
+    last_shown = (
+      record {
+        none = λ none. none_last (length xs) (greatest_none n (λ a. shown_number (n a)) xs numbered tree (col 1 0 ∷ []) [] rows g none);
+        one = λ row one.
+            let it = greatest_one n (λ a. shown_number (n a)) xs numbered tree (col 1 0 ∷ []) [] rows g (λ a. 1 ≤ n a) (numbered_from n 1 xs numbered) row one in
+            let some : 1 ≤ length xs = omega (arith, it.holds, it.counts) in
+            record { it = length xs; first = some_last (length xs) some; holds = each (length xs); shown = it.shown ∙ ap shown_number it.counts };
+      },
+      taken_few rows (map (λ a. shown_number (n a)) g.to) g.shown,
+    )
 
-module _ (db : Database) (records : Records) (shown : IsShownBy db records) (rows : List Row) (reads : Reads (command_of (understood register_schema LAST_ORDER.now)) db [] rows) where
-  pub order_given : Given (λ _. true) (λ (row : OrderRow). (number row.id ∷ [], number row.id ∷ [])) records.orders (selects 3 [] (col 1 0 ∷ []) ((col 1 0, descending_key) ∷ []) one_row) [] rows
-  order_given =
-      keyed_given (λ _. Unit {0}) stored_order (λ _. true) (λ (row : OrderRow). (number row.id ∷ [], number row.id ∷ [])) records.orders (all_of (λ _. Unit {0}) (λ _. tt) records.orders) 3 [] (col 1 0 ∷ []) ((col 1 0, descending_key) ∷ []) one_row []
-      LAST_ORDER.now (codes "id" ∷ []) order_means db refl rows reads shown.rows.orders (λ row any. refl) (λ row. refl)
+  module _ {A : Type 0} (stored : A → Row) (n : A → ℕ) (xs : List A) (numbered : NumberedFrom n 1 xs) (table : Table) (plain : overlay db.trees [] (tree_of table) ≡ db.trees (tree_of table)) (is : db.trees (tree_of table) ≡ map stored xs)
+      (rows : List Row)
+      (reads : Reads (command_of (understood register_schema (text_of_last table))) db [] rows) where
+    last_keyed : ((x : A) → shows (last_query (tree_of table)) [] (stored x) ≡ (number (n x) ∷ [], shown_number (n x))) → IsRowOf P shown_number rows (last_of (length xs)) × (length rows ≤ 1)
+    last_keyed views =
+        last_shown n xs numbered (tree_of table) rows
+        (keyed_given (λ _. Unit {0}) stored (λ _. true) (λ a. (number (n a) ∷ [], shown_number (n a))) xs (all_of (λ _. Unit {0}) (λ _. tt) xs) (tree_of table) [] (col 1 0 ∷ []) by_number one_row [] (text_of_last table) (names_of table) (last_means table) db
+        plain rows reads is (λ x any. refl) views)
 
-  pub order_count : IsNumberShown (length records.orders) rows
-  order_count = number_is stored_order (λ row. row.id) (λ row. number row.id ∷ []) records.orders shown.rows.orders_numbered 3 (col 1 0 ∷ []) LAST_ORDER.now (codes "id" ∷ []) order_means db rows order_given (λ row. refl)
-
-request_means : command_of (understood register_schema LAST_REQUEST.now) ≡ as_command (selects 7 [] (col 1 0 ∷ []) ((col 1 0, descending_key) ∷ []) one_row) (codes "id" ∷ [])
-unfolding understood everything register_schema
-request_means = refl
-
-pub reading_request : IsReading LAST_REQUEST.now
-unfolding understood everything register_schema first
-reading_request = record { plain = (refl, refl); unlisted = refl; never = select_never LAST_REQUEST.now _ _ refl refl refl }
-
-pub asked_request : IsAsked LAST_REQUEST.now []
-unfolding understood everything register_schema
-asked_request = asked_by LAST_REQUEST.now 7 [] (col 1 0 ∷ []) ((col 1 0, descending_key) ∷ []) one_row (codes "id" ∷ []) [] (omega arith, refl) request_means refl
-
-module _ (db : Database) (records : Records) (shown : IsShownBy db records) (rows : List Row) (reads : Reads (command_of (understood register_schema LAST_REQUEST.now)) db [] rows) where
-  pub request_given : Given (λ _. true) (λ (row : RequestRow). (number row.id ∷ [], number row.id ∷ [])) records.requests (selects 7 [] (col 1 0 ∷ []) ((col 1 0, descending_key) ∷ []) one_row) [] rows
-  request_given =
-      keyed_given (λ _. Unit {0}) stored_request (λ _. true) (λ (row : RequestRow). (number row.id ∷ [], number row.id ∷ [])) records.requests (all_of (λ _. Unit {0}) (λ _. tt) records.requests) 7 [] (col 1 0 ∷ []) ((col 1 0, descending_key) ∷ []) one_row []
-      LAST_REQUEST.now (codes "id" ∷ []) request_means db refl rows reads shown.rows.requests (λ row any. refl) (λ row. refl)
-
-  pub request_count : IsNumberShown (length records.requests) rows
-  request_count = number_is stored_request (λ row. row.id) (λ row. number row.id ∷ []) records.requests shown.rows.requests_numbered 7 (col 1 0 ∷ []) LAST_REQUEST.now (codes "id" ∷ []) request_means db rows request_given (λ row. refl)
-
-crl_means : command_of (understood register_schema LATEST_CRL.now) ≡ as_command (selects 11 [] (col 1 0 ∷ col 1 2 ∷ []) ((col 1 0, descending_key) ∷ []) one_row) (codes "number" ∷ codes "this_update" ∷ [])
-unfolding understood everything register_schema
-crl_means = refl
-
-pub reading_crl : IsReading LATEST_CRL.now
-unfolding understood everything register_schema first
-reading_crl = record { plain = (refl, refl); unlisted = refl; never = select_never LATEST_CRL.now _ _ refl refl refl }
-
-pub asked_crl : IsAsked LATEST_CRL.now []
-unfolding understood everything register_schema
-asked_crl = asked_by LATEST_CRL.now 11 [] (col 1 0 ∷ col 1 2 ∷ []) ((col 1 0, descending_key) ∷ []) one_row (codes "number" ∷ codes "this_update" ∷ []) [] (omega arith, refl) crl_means refl
-
-module _ (db : Database) (records : Records) (shown : IsShownBy db records) (rows : List Row) (reads : Reads (command_of (understood register_schema LATEST_CRL.now)) db [] rows) where
-  pub crl_given : Given (λ _. true) (λ (row : Crl). (number row.number ∷ [], number row.number ∷ number row.this_update ∷ [])) records.crls (selects 11 [] (col 1 0 ∷ col 1 2 ∷ []) ((col 1 0, descending_key) ∷ []) one_row) [] rows
-  crl_given =
-      keyed_given (λ _. Unit {0}) stored_crl (λ _. true) (λ (row : Crl). (number row.number ∷ [], number row.number ∷ number row.this_update ∷ [])) records.crls (all_of (λ _. Unit {0}) (λ _. tt) records.crls) 11 [] (col 1 0 ∷ col 1 2 ∷ []) ((col 1 0, descending_key) ∷ []) one_row []
-      LATEST_CRL.now (codes "number" ∷ codes "this_update" ∷ []) crl_means db refl rows reads shown.rows.crls (λ row any. refl) (λ row. refl)
-
-  pub crl_count : IsNumberShown (length records.crls) rows
-  crl_count = number_is stored_crl (λ row. row.number) (λ row. number row.number ∷ number row.this_update ∷ []) records.crls shown.rows.crls_numbered 11 (col 1 0 ∷ col 1 2 ∷ []) LATEST_CRL.now (codes "number" ∷ codes "this_update" ∷ []) crl_means db rows crl_given (λ row. refl)
-
--- certificates with their rowids
-abbrev with_rowids : ℕ → List CertRow → List (ℕ × CertRow)
-with_rowids from [] = []
-with_rowids from (row ∷ rest) = (from, row) ∷ with_rowids (from + 1) rest
-
-abbrev stored_numbered : ℕ × CertRow → Row
-stored_numbered row = number row.0 ∷ stored_certificate row.1
-
-rowids_are : (from : ℕ) (rows : List CertRow) → behind_rowids from (map stored_certificate rows) ≡ map stored_numbered (with_rowids from rows)
-rowids_are from [] = refl
-rowids_are from (row ∷ rest) = ap (λ (l : List Row). stored_numbered (from, row) ∷ l) (rowids_are (from + 1) rest)
-
-rowids_numbered : (from : ℕ) (rows : List CertRow) → NumberedFrom (λ (row : ℕ × CertRow). row.0) from (with_rowids from rows)
-rowids_numbered from [] = tt
-rowids_numbered from (row ∷ rest) = (refl, rowids_numbered (from + 1) rest)
-
-length-with_rowids : (from : ℕ) (rows : List CertRow) → length (with_rowids from rows) ≡ length rows
-length-with_rowids from [] = refl
-length-with_rowids from (row ∷ rest) = let more = length-with_rowids (from + 1) rest in omega arith
-
-cert_means : command_of (understood register_schema LAST_CERT.now) ≡ as_command (selects 4 [] (col 1 0 ∷ []) ((col 1 0, descending_key) ∷ []) one_row) (codes "rowid" ∷ [])
-unfolding understood everything register_schema
-cert_means = refl
-
-pub reading_cert : IsReading LAST_CERT.now
-unfolding understood everything register_schema first
-reading_cert = record { plain = (refl, refl); unlisted = refl; never = select_never LAST_CERT.now _ _ refl refl refl }
-
-pub asked_cert : IsAsked LAST_CERT.now []
-unfolding understood everything register_schema
-asked_cert = asked_by LAST_CERT.now 4 [] (col 1 0 ∷ []) ((col 1 0, descending_key) ∷ []) one_row (codes "rowid" ∷ []) [] (omega arith, refl) cert_means refl
-
-module _ (db : Database) (records : Records) (shown : IsShownBy db records) (rows : List Row) (reads : Reads (command_of (understood register_schema LAST_CERT.now)) db [] rows) where
-  abbrev numbered_certificates : List (ℕ × CertRow)
-  numbered_certificates = with_rowids 1 records.certificates
-
-  cert_given : Given (λ _. true) (λ (row : ℕ × CertRow). (number row.0 ∷ [], number row.0 ∷ [])) numbered_certificates (selects 4 [] (col 1 0 ∷ []) ((col 1 0, descending_key) ∷ []) one_row) [] rows
-  cert_given =
-      keyed_given (λ _. Unit {0}) stored_numbered (λ _. true) (λ (row : ℕ × CertRow). (number row.0 ∷ [], number row.0 ∷ [])) numbered_certificates (all_of (λ _. Unit {0}) (λ _. tt) numbered_certificates) 4 [] (col 1 0 ∷ [])
-      ((col 1 0, descending_key) ∷ []) one_row [] LAST_CERT.now (codes "rowid" ∷ []) cert_means db refl rows reads (shown.rows.certificates ∙ rowids_are 1 records.certificates) (λ row any. refl) (λ row. refl)
-
-  pub cert_count : IsNumberShown (length records.certificates) rows
-  cert_count = subst (λ n. IsNumberShown n rows) (length-with_rowids 1 records.certificates)
-      (number_is stored_numbered (λ row. row.0) (λ row. number row.0 ∷ []) numbered_certificates (rowids_numbered 1 records.certificates) 4 (col 1 0 ∷ []) LAST_CERT.now (codes "rowid" ∷ []) cert_means db rows cert_given
-      (λ row. refl))
+  -- the last row of a table
+  pub last_row : (records : Records) → IsShownBy db records → (table : Table) (rows : List Row) → Reads (command_of (understood register_schema (text_of_last table))) db [] rows
+      → IsRowOf P shown_number rows (last_of (rows_of records table)) × (length rows ≤ 1)
+  last_row records shown Subscribers rows reads = last_keyed stored_subscriber (λ row. row.id) records.subscribers shown.rows.subscribers_numbered Subscribers refl shown.rows.subscribers rows reads (λ row. refl)
+  last_row records shown Orders rows reads = last_keyed stored_order (λ row. row.id) records.orders shown.rows.orders_numbered Orders refl shown.rows.orders rows reads (λ row. refl)
+  last_row records shown Certs rows reads =
+      subst (λ n. IsRowOf P shown_number rows (last_of n) × (length rows ≤ 1)) (length-with_rowids 1 records.certificates)
+      (last_keyed (behind stored_certificate) (λ row. row.0) (with_rowids 1 records.certificates) (rowids_numbered 1 records.certificates) Certs refl (shown.rows.certificates ∙ rowids_are stored_certificate 1 records.certificates) rows reads (λ row. refl))
+  last_row records shown Requests rows reads = last_keyed stored_request (λ row. row.id) records.requests shown.rows.requests_numbered Requests refl shown.rows.requests rows reads (λ row. refl)
+  last_row records shown Crls rows reads = last_keyed stored_crl (λ crl. crl.number) records.crls shown.rows.crls_numbered Crls refl shown.rows.crls rows reads (λ crl. refl)

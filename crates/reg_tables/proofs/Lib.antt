@@ -1,13 +1,13 @@
-mod Making
 pub mod Compares
 pub mod Queries
 pub mod Selecting
+pub mod Rowids
+pub mod Serials
 pub mod Sorting
 pub mod Greatest
 pub mod UnlistedLemmas
 pub mod ScheduleLemmas
 pub mod Taking
-pub mod Judging
 pub mod AscendLemmas
 pub mod EntryLemmas
 pub mod CountLemmas

@@ -26,9 +26,10 @@ use Rattle.reg_tables.specs.Shows.{AreBoth}
 use Rattle.reg_tables.specs.Kept.{Kept, listed_of}
 use Rattle.reg_tables.specs.Failing.{IsAsked}
 use Rattle.reg_tables.specs.ReadStatements.{IsReading, command_of}
+use Rattle.reg_tables.specs.ShownRows.{IsRowOf, shown_listing}
 use Rattle.reg_tables.specs.declared.sql.TheConstants.{LISTED_BY_SERIAL}
 use Rattle.reg_tables.proofs.Compares.{and_true, eq_serial}
-use Rattle.reg_tables.proofs.Queries.{column_is, selects, as_command, no_limit, Given, counted_given, all_of, find_none, find_one}
+use Rattle.reg_tables.proofs.Queries.{column_is, selects, as_command, no_limit, Given, counted_given, all_of, row_of}
 use Rattle.reg_tables.proofs.Selecting.{select_never}
 use Rattle.reg_tables.proofs.FailingLemmas.{asked_by}
 use Rattle.reg_tables.proofs.Few.{given_few, one_number}
@@ -102,10 +103,12 @@ module _ (db : Database) (records : Records) (kept : Columns) (both : AreBoth db
   listed_few differ = given_few has_serial out listed_rows 15 (column_is 1) columns [] (serial_value serial ∷ []) rows listed_given
       (one_number (λ (row : Listed). row.serial) serial listed_rows (keys_map (λ (row : Listed). row.serial) (listed_of records) records.revocations differ))
 
-  pub listed_none : rows ≡ [] → None ≡ listing records serial
-  listed_none none = ap (option_map listing_of) (find_none has_serial out listed_rows 15 (column_is 1) columns [] (serial_value serial ∷ []) rows listed_given none) ∙ listing_is
-
-  pub listed_one : (row : Row) → rows ≡ row ∷ [] → (it : Listing) × (Some it ≡ listing records serial) × (row ≡ number it.first ∷ number_or_null it.last ∷ [])
-  listed_one row one =
-      let found = find_one has_serial out listed_rows 15 (column_is 1) columns [] (serial_value serial ∷ []) rows listed_given (λ _. Unit {0}) (all_of (λ _. Unit {0}) (λ _. tt) listed_rows) row one in
-      (listing_of found.it, ap (option_map listing_of) found.first ∙ listing_is, found.shown)
+  pub listed_row : (P : Listing → Type 0) → ((it : Listing) → P it) → IsRowOf P shown_listing rows (listing records serial)
+  listed_row P each =
+      let row = row_of has_serial out listed_rows 15 (column_is 1) columns [] (serial_value serial ∷ []) rows listed_given (λ _. Unit {0}) (all_of (λ _. Unit {0}) (λ _. tt) listed_rows) in
+      record {
+        none = λ none. ap (option_map listing_of) (row.none none) ∙ listing_is;
+        one = λ r one.
+            let found = row.one r one in
+            record { it = listing_of found.it; first = ap (option_map listing_of) found.first ∙ listing_is; holds = each (listing_of found.it); shown = found.shown };
+      }

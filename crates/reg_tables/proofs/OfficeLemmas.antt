@@ -1,5 +1,5 @@
 -- What the statements on the office show.
-use Rattle.std.proofs.Common.{◌≡◌, ℕ, true, Some, List, [], ◌∷◌, map, codes, refl, ap, ◌∙◌, arith}
+use Rattle.std.proofs.Common.{◌≡◌, ℕ, true, List, [], ◌∷◌, map, codes, refl, ap, ◌∙◌, arith}
 use Rattle.sqlite_value.specs.Order.{Row}
 use Rattle.sqlite_value.specs.declared.value.Value.TheVariants.{Blob}
 use Rattle.sqlite_sql.specs.Term.{Term, col, eval_all}
@@ -16,12 +16,9 @@ use Rattle.reg_tables.specs.Shows.{IsShownBy}
 use Rattle.reg_tables.specs.Failing.{IsAsked}
 use Rattle.reg_tables.specs.ReadStatements.{IsReading, command_of}
 use Rattle.reg_tables.specs.declared.sql.TheConstants.{LAST, ISSUER, RESPONDING, TERMS}
-use Rattle.reg_tables.proofs.Queries.{selects, as_command, no_limit, Given, keyed_given, find_one}
+use Rattle.reg_tables.proofs.Queries.{selects, as_command, no_limit, Given, keyed_given}
 use Rattle.reg_tables.proofs.Selecting.{select_never}
 use Rattle.reg_tables.proofs.FailingLemmas.{asked_by}
-
-same_some : {A : Type 0} (x y : A) → Some x ≡ Some y → x ≡ y
-same_some x y e = cc
 
 module _ (project : List Term) (text : List ℕ) (names : List (List ℕ)) (means : command_of (understood register_schema text) ≡ as_command (selects 0 [] project [] no_limit) names)
     (db : Database) (records : Records) (shown : IsShownBy db records) (rows : List Row) (reads : Reads (command_of (understood register_schema text)) db [] rows) where
@@ -33,11 +30,6 @@ module _ (project : List Term) (text : List ℕ) (names : List (List ℕ)) (mean
 
   office_given : Given (λ _. true) out (records ∷ []) (selects 0 [] project [] no_limit) [] rows
   office_given = keyed_given (λ _. Unit {0}) stored (λ _. true) out (records ∷ []) (tt, tt) 0 [] project [] no_limit [] text names means db refl rows reads shown.rows.office (λ r any. refl) (λ r. refl)
-
-  office_one : (row : Row) → rows ≡ row ∷ [] → row ≡ eval_all project ([] ∷ stored records ∷ [])
-  office_one row one =
-      let found = find_one (λ _. true) out (records ∷ []) 0 [] project [] [] rows office_given (λ _. Unit {0}) (tt, tt) row one in
-      found.shown ∙ ap (λ (r : Records). eval_all project ([] ∷ stored r ∷ [])) (same_some found.it records found.first)
 
   -- the one row is there
   office_rows : rows ≡ eval_all project ([] ∷ stored records ∷ []) ∷ []
@@ -91,20 +83,6 @@ reading_terms = record { plain = (refl, refl); unlisted = refl; never = select_n
 pub asked_terms : IsAsked TERMS.now []
 unfolding understood everything register_schema
 asked_terms = asked_by TERMS.now 0 [] (col 1 6 ∷ col 1 7 ∷ col 1 8 ∷ []) [] no_limit (codes "crl_life" ∷ codes "ocsp_life" ∷ codes "cap" ∷ []) [] (omega arith, refl) terms_means refl
-
-module _ (db : Database) (records : Records) (shown : IsShownBy db records) (rows : List Row) (row : Row) (one : rows ≡ row ∷ []) where
-  pub last_one : Reads (command_of (understood register_schema LAST.now)) db [] rows → row ≡ number records.last ∷ []
-  last_one reads = office_one (col 1 9 ∷ []) LAST.now (codes "last_at" ∷ []) last_means db records shown rows reads row one
-
-  pub issuer_one : Reads (command_of (understood register_schema ISSUER.now)) db [] rows → row ≡ Blob records.issuer.name ∷ Blob records.issuer.key ∷ []
-  issuer_one reads = office_one (col 1 3 ∷ col 1 4 ∷ []) ISSUER.now (codes "name" ∷ codes "pubkey" ∷ []) issuer_means db records shown rows reads row one
-
-  pub terms_one : Reads (command_of (understood register_schema TERMS.now)) db [] rows → row ≡ number records.policy.crl_life ∷ number records.policy.ocsp_life ∷ number records.policy.cap ∷ []
-  terms_one reads = office_one (col 1 6 ∷ col 1 7 ∷ col 1 8 ∷ []) TERMS.now (codes "crl_life" ∷ codes "ocsp_life" ∷ codes "cap" ∷ []) terms_means db records shown rows reads row one
-
-  pub responding_one : Reads (command_of (understood register_schema RESPONDING.now)) db [] rows
-      → row ≡ number records.last ∷ Blob records.issuer.name ∷ Blob records.issuer.key ∷ number records.policy.ocsp_life ∷ []
-  responding_one reads = office_one (col 1 9 ∷ col 1 3 ∷ col 1 4 ∷ col 1 7 ∷ []) RESPONDING.now (codes "last_at" ∷ codes "name" ∷ codes "pubkey" ∷ codes "ocsp_life" ∷ []) responding_means db records shown rows reads row one
 
 module _ (db : Database) (records : Records) (shown : IsShownBy db records) (rows : List Row) where
   pub last_rows : Reads (command_of (understood register_schema LAST.now)) db [] rows → rows ≡ (number records.last ∷ []) ∷ []

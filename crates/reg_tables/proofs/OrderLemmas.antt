@@ -1,6 +1,7 @@
 -- What the look-ups of orders show.
-use Rattle.std.proofs.Common.{◌≡◌, ◌≤◌, ℕ, None, List, [], ◌∷◌, length, codes, refl, ◌∙◌, arith}
+use Rattle.std.proofs.Common.{◌≡◌, ◌≤◌, ℕ, List, [], ◌∷◌, length, codes, refl, ◌∙◌, arith}
 use Rattle.std.specs.Prelude.{◌==◌}
+use Rattle.std.specs.List.{AllByRecursion}
 use Rattle.sqlite_value.specs.Order.{Row}
 use Rattle.sqlite_sql.specs.Term.{Term, col}
 use Rattle.sqlite_sql.specs.Query.{Output}
@@ -15,9 +16,10 @@ use Rattle.reg_tables.specs.Rows.{number, stored_order}
 use Rattle.reg_tables.specs.Shows.{IsShownBy}
 use Rattle.reg_tables.specs.Failing.{IsAsked}
 use Rattle.reg_tables.specs.ReadStatements.{IsReading, command_of, shown_order}
+use Rattle.reg_tables.specs.ShownRows.{IsRowOf}
 use Rattle.reg_tables.specs.declared.sql.TheConstants.{ORDER_BY_ID}
 use Rattle.reg_tables.proofs.Compares.{and_true, eq_number}
-use Rattle.reg_tables.proofs.Queries.{column_is, selects, as_command, no_limit, Given, keyed_given, all_of, find_none, find_one, Found}
+use Rattle.reg_tables.proofs.Queries.{column_is, selects, as_command, no_limit, Given, keyed_given, all_of, row_of}
 use Rattle.reg_tables.proofs.Selecting.{select_never}
 use Rattle.reg_tables.proofs.FailingLemmas.{asked_by}
 use Rattle.reg_tables.proofs.Few.{given_few, numbers_differ, one_number}
@@ -49,12 +51,9 @@ module _ (db : Database) (records : Records) (shown : IsShownBy db records) (id 
       keyed_given (λ _. Unit {0}) stored_order (λ row. row.id == id) out records.orders (all_of (λ _. Unit {0}) (λ _. tt) records.orders) 3 (column_is 0) columns [] no_limit (number id ∷ []) ORDER_BY_ID.now names by_id_means db refl rows reads
       shown.rows.orders (λ row in_row. and_true _ ∙ eq_number row.id id) (λ row. refl)
 
-  pub by_id_none : rows ≡ [] → None ≡ order_in records.orders id
-  by_id_none = find_none (λ row. row.id == id) out records.orders 3 (column_is 0) columns [] (number id ∷ []) rows by_id_given
-
   pub by_id_few : length rows ≤ 1
   by_id_few = given_few (λ row. row.id == id) out records.orders 3 (column_is 0) columns [] (number id ∷ []) rows by_id_given
       (one_number (λ (row : OrderRow). row.id) id records.orders (numbers_differ (λ (row : OrderRow). row.id) 1 records.orders shown.rows.orders_numbered))
 
-  pub by_id_one : (row : Row) → rows ≡ row ∷ [] → Found (λ _. Unit {0}) shown_order (order_in records.orders id) row
-  by_id_one = find_one (λ row. row.id == id) out records.orders 3 (column_is 0) columns [] (number id ∷ []) rows by_id_given (λ _. Unit {0}) (all_of (λ _. Unit {0}) (λ _. tt) records.orders)
+  pub by_id_row : (P : OrderRow → Type 0) → AllByRecursion P records.orders → IsRowOf P shown_order rows (order_in records.orders id)
+  by_id_row P all = row_of (λ row. row.id == id) out records.orders 3 (column_is 0) columns [] (number id ∷ []) rows by_id_given P all

@@ -1,11 +1,10 @@
 -- What the statements on the first rows past a key show.
-use Rattle.std.proofs.Common.{◌≡◌, ◌≤◌, ◌<◌, ◌+◌, ◌^◌, ℕ, zero, suc, Bool, true, false, List, [], ◌∷◌, map, take, length, get_or, codes, refl, sym, ap, subst, ◌∙◌, arith, inl, inr}
+use Rattle.std.proofs.Common.{◌≡◌, ◌<◌, ◌+◌, ◌^◌, ℕ, zero, suc, Bool, List, [], ◌∷◌, map, take, get_or, codes, refl, sym, ap, subst, ◌∙◌, arith, inl, inr}
 use Rattle.std.specs.Prelude.{nat_lt}
 use Rattle.std.specs.List.{filter, AllByRecursion, take-map}
 use Rattle.std.specs.List.Sorted.{IsPermutation, IsSorted, IsNonDecreasingBy}
 use Rattle.std.specs.Ordering.{nat_cmp, is_lt}
 use Rattle.std.proofs.lemmas.Bool.{cases_Bool}
-use Rattle.std.proofs.lemmas.Cmp.{tied_itself}
 use Rattle.std.proofs.lemmas.List.Elements.{All-from_recursion, recursion_from_All}
 use Rattle.std.proofs.lemmas.List.Sorted.{All-permutation, IsPermutation-refl, IsPermutation-cons, IsPermutation-trans, IsPermutation-sym, IsPermutation-append_left, IsPermutation-append_comm, IsNonDecreasingBy-from_sort}
 use Rattle.sqlite_value.specs.Order.{Row}
@@ -14,6 +13,7 @@ use Rattle.sqlite_value.specs.declared.keys.Collation.TheVariants.{Binary}
 use Rattle.sqlite_value.proofs.OrderLemmas.{then-Equal, value_cmp-Blob}
 use Rattle.sqlite_sql.specs.Term.{Term, col, op2}
 use Rattle.sqlite_sql.specs.Query.{Output, key_cmp}
+use Rattle.sqlite_sql.specs.Program.{overlay}
 use Rattle.sqlite_sql.specs.declared.ops.BinaryOp.TheVariants.{Compare}
 use Rattle.sqlite_sql.specs.declared.ops.CompareOp.TheVariants.{Gt}
 use Rattle.sqlite.specs.Effect.{Database, Reads}
@@ -30,7 +30,7 @@ use Rattle.reg_lists.specs.Lists.{in_order, past, put_in}
 use Rattle.reg_lists.proofs.Orders.{all_ordered, order_filter, order_rises, kept_rises}
 use Rattle.reg_lists.proofs.Orders as orders
 use Rattle.reg_tables.specs.Schema.{register_schema}
-use Rattle.reg_tables.specs.Rows.{number, serial_value, stored_certificate, stored_crl, stored_revocation}
+use Rattle.reg_tables.specs.Rows.{number, serial_value, counted_rows, stored_certificate, stored_crl, stored_revocation}
 use Rattle.reg_tables.specs.Shows.{IsShownBy}
 use Rattle.reg_tables.specs.Failing.{IsAsked}
 use Rattle.reg_tables.specs.ReadStatements.{IsReading, command_of, shown_certificate, shown_crl, shown_revocation}
@@ -38,7 +38,7 @@ use Rattle.reg_tables.specs.declared.sql.TheConstants.{CERTS_AFTER, CRLS_AFTER, 
 use Rattle.reg_tables.proofs.Compares.{and_true, gt_number, gt_serial, serial_order}
 use Rattle.reg_tables.proofs.FailingLemmas.{asked_by}
 use Rattle.reg_tables.proofs.Few.{numbers_differ}
-use Rattle.reg_tables.proofs.Queries.{selects, as_command, Given, all_of, counted_given, keyed_given, kept_have}
+use Rattle.reg_tables.proofs.Queries.{selects, as_command, passes, shows, Given, all_of, counted_given, keyed_given, kept_have}
 use Rattle.reg_tables.proofs.Selecting.{select_never}
 use Rattle.reg_tables.proofs.Sorting.{ascending_key, ascends, Rises, sorted_same}
 
@@ -93,7 +93,7 @@ serials_ascend serial xs all sorted =
     IsNonDecreasingBy-from_sort serial xs (λ k d low high.
     sym (ap is_lt (serial_key (serial (get_or xs (k + 1) d)) (serial (get_or xs k d)) (All-from_recursion (λ a. IsSerial (serial a)) xs all (k + 1) d high) (All-from_recursion (λ a. IsSerial (serial a)) xs all k d (omega arith)))) ∙ sorted k d low high)
 
--- ---- certificates
+-- ---- a table whose key is a serial number
 
 abbrev past_serial : List Term
 past_serial = op2 (Compare Gt Binary) (col 1 1) (col 0 0) ∷ []
@@ -104,6 +104,24 @@ by_serial = (col 1 1, ascending_key) ∷ []
 -- the second parameter
 abbrev as_many : Term
 as_many = col 0 1
+
+module _ {A : Type 0} (serial : A → ℕ) (stored view : A → Row) (xs : List A) (serials : AllByRecursion (λ a. IsSerial (serial a)) xs) (tree : ℕ) (project : List Term) (text : List ℕ) (names : List (List ℕ))
+    (means : command_of (understood register_schema text) ≡ as_command (selects tree past_serial project by_serial as_many) names) (db : Database) (plain : overlay db.trees [] tree ≡ db.trees tree) (table : db.trees tree ≡ counted_rows (map stored xs))
+    (after most : ℕ) (rows : List Row) (reads : Reads (command_of (understood register_schema text)) db (serial_value after ∷ number most ∷ []) rows) where
+  -- the first rows past a serial number, in the order of serial numbers
+  page_shown : ((id : ℕ) (a : A) → IsSerial (serial a) → passes past_serial (serial_value after ∷ number most ∷ []) (number id ∷ stored a) ≡ nat_lt after (serial a))
+      → ((id : ℕ) (a : A) → shows (selects tree past_serial project by_serial as_many) (serial_value after ∷ number most ∷ []) (number id ∷ stored a) ≡ (serial_value (serial a) ∷ [], view a))
+      → KeysDiffer serial xs → rows ≡ map view (take most (past serial after xs))
+  page_shown tests views differ =
+      let P : A → Type 0 = λ a. IsSerial (serial a) in
+      let is_past : A → Bool = λ a. nat_lt after (serial a) in
+      let given =
+      counted_given P stored is_past (λ a. (serial_value (serial a) ∷ [], view a)) xs serials tree past_serial project by_serial as_many (serial_value after ∷ number most ∷ []) text names means db plain rows reads table tests views in
+      let all = recursion_from_All P given.to (All-permutation P (filter is_past xs) given.to given.same (All-from_recursion P (filter is_past xs) (kept_have P is_past xs serials))) in
+      let are = past_given serial after xs given.to differ given.same (serials_ascend serial given.to all given.sorted) in
+      given.shown ∙ take-map view most given.to ∙ ap (λ l. map view (take most l)) are
+
+-- ---- certificates
 
 abbrev cert_columns : List Term
 cert_columns = col 1 1 ∷ col 1 2 ∷ col 1 3 ∷ col 1 4 ∷ []
@@ -123,28 +141,12 @@ pub asked_certs : (after most : ℕ) → IsAsked CERTS_AFTER.now (serial_value a
 unfolding understood everything register_schema
 asked_certs after most = asked_by CERTS_AFTER.now 4 past_serial cert_columns by_serial as_many cert_names (serial_value after ∷ number most ∷ []) (omega arith, refl) certs_mean refl
 
-abbrev cert_out : CertRow → Output
-cert_out row = (serial_value row.serial ∷ [], shown_certificate row)
-
 module _ (db : Database) (records : Records) (shown : IsShownBy db records) (after most : ℕ) (low : after < 2 ^ 159) (rows : List Row)
     (reads : Reads (command_of (understood register_schema CERTS_AFTER.now)) db (serial_value after ∷ number most ∷ []) rows) where
-  abbrev is_past : CertRow → Bool
-  is_past row = nat_lt after row.serial
-
-  certs_given : Given is_past cert_out records.certificates (selects 4 past_serial cert_columns by_serial as_many) (serial_value after ∷ number most ∷ []) rows
-  certs_given =
-      counted_given (λ (row : CertRow). IsSerial row.serial) stored_certificate is_past cert_out records.certificates shown.rows.certificate_serials 4 past_serial cert_columns by_serial as_many (serial_value after ∷ number most ∷ []) CERTS_AFTER.now cert_names certs_mean db
-      refl rows reads shown.rows.certificates (λ id row in_row. and_true _ ∙ gt_serial row.serial after in_row low) (λ id row. refl)
-
-  certs_are : KeysDiffer (λ (row : CertRow). row.serial) records.certificates → certs_given.to ≡ past (λ (row : CertRow). row.serial) after records.certificates
-  certs_are differ =
-      let serial : CertRow → ℕ = λ row. row.serial in
-      let kept = kept_have (λ (row : CertRow). IsSerial row.serial) is_past records.certificates shown.rows.certificate_serials in
-      let all = recursion_from_All (λ (row : CertRow). IsSerial row.serial) certs_given.to (All-permutation (λ (row : CertRow). IsSerial row.serial) (filter is_past records.certificates) certs_given.to certs_given.same (All-from_recursion (λ (row : CertRow). IsSerial row.serial) (filter is_past records.certificates) kept)) in
-      past_given serial after records.certificates certs_given.to differ certs_given.same (serials_ascend serial certs_given.to all certs_given.sorted)
-
   pub certs_shown : KeysDiffer (λ (row : CertRow). row.serial) records.certificates → rows ≡ map shown_certificate (take most (past (λ (row : CertRow). row.serial) after records.certificates))
-  certs_shown differ = certs_given.shown ∙ take-map shown_certificate most certs_given.to ∙ ap (λ l. map shown_certificate (take most l)) (certs_are differ)
+  certs_shown =
+      page_shown (λ row. row.serial) stored_certificate shown_certificate records.certificates shown.rows.certificate_serials 4 cert_columns CERTS_AFTER.now cert_names certs_mean db refl shown.rows.certificates after most rows reads
+      (λ id row in_row. and_true _ ∙ gt_serial row.serial after in_row low) (λ id row. refl)
 
   pub certs_serials : AllByRecursion (λ (row : CertRow). IsSerial row.serial) (take most (past (λ (row : CertRow). row.serial) after records.certificates))
   certs_serials = past_have (λ (row : CertRow). row.serial) (λ (row : CertRow). IsSerial row.serial) after most records.certificates shown.rows.certificate_serials
@@ -170,28 +172,12 @@ unfolding understood everything register_schema
 asked_revocations after most =
     asked_by REVOCATIONS_AFTER.now 8 past_serial revocation_columns by_serial as_many revocation_names (serial_value after ∷ number most ∷ []) (omega arith, refl) revocations_mean refl
 
-abbrev revocation_out : RevocationRow → Output
-revocation_out row = (serial_value row.serial ∷ [], shown_revocation row)
-
 module _ (db : Database) (records : Records) (shown : IsShownBy db records) (after most : ℕ) (low : after < 2 ^ 159) (rows : List Row)
     (reads : Reads (command_of (understood register_schema REVOCATIONS_AFTER.now)) db (serial_value after ∷ number most ∷ []) rows) where
-  abbrev is_behind : RevocationRow → Bool
-  is_behind row = nat_lt after row.serial
-
-  revocations_given : Given is_behind revocation_out records.revocations (selects 8 past_serial revocation_columns by_serial as_many) (serial_value after ∷ number most ∷ []) rows
-  revocations_given =
-      counted_given (λ (row : RevocationRow). IsSerial row.serial) stored_revocation is_behind revocation_out records.revocations shown.rows.revocation_serials 8 past_serial revocation_columns by_serial as_many (serial_value after ∷ number most ∷ [])
-      REVOCATIONS_AFTER.now revocation_names revocations_mean db refl rows reads shown.rows.revocations (λ id row in_row. and_true _ ∙ gt_serial row.serial after in_row low) (λ id row. refl)
-
-  revocations_are : KeysDiffer (λ (row : RevocationRow). row.serial) records.revocations → revocations_given.to ≡ past (λ (row : RevocationRow). row.serial) after records.revocations
-  revocations_are differ =
-      let serial : RevocationRow → ℕ = λ row. row.serial in
-      let kept = kept_have (λ (row : RevocationRow). IsSerial row.serial) is_behind records.revocations shown.rows.revocation_serials in
-      let all = recursion_from_All (λ (row : RevocationRow). IsSerial row.serial) revocations_given.to (All-permutation (λ (row : RevocationRow). IsSerial row.serial) (filter is_behind records.revocations) revocations_given.to revocations_given.same (All-from_recursion (λ (row : RevocationRow). IsSerial row.serial) (filter is_behind records.revocations) kept)) in
-      past_given serial after records.revocations revocations_given.to differ revocations_given.same (serials_ascend serial revocations_given.to all revocations_given.sorted)
-
   pub revocations_shown : KeysDiffer (λ (row : RevocationRow). row.serial) records.revocations → rows ≡ map shown_revocation (take most (past (λ (row : RevocationRow). row.serial) after records.revocations))
-  revocations_shown differ = revocations_given.shown ∙ take-map shown_revocation most revocations_given.to ∙ ap (λ l. map shown_revocation (take most l)) (revocations_are differ)
+  revocations_shown =
+      page_shown (λ row. row.serial) stored_revocation shown_revocation records.revocations shown.rows.revocation_serials 8 revocation_columns REVOCATIONS_AFTER.now revocation_names revocations_mean db refl shown.rows.revocations after most rows reads
+      (λ id row in_row. and_true _ ∙ gt_serial row.serial after in_row low) (λ id row. refl)
 
   pub revocations_serials : AllByRecursion (λ (row : RevocationRow). IsSerial row.serial) (take most (past (λ (row : RevocationRow). row.serial) after records.revocations))
   revocations_serials = past_have (λ (row : RevocationRow). row.serial) (λ (row : RevocationRow). IsSerial row.serial) after most records.revocations shown.rows.revocation_serials

@@ -1,5 +1,5 @@
 -- What a query on one table shows, of rows that records stand in.
-use Rattle.std.proofs.Common.{◌≡◌, ◌+◌, ℕ, pos, negsuc, Bool, true, false, cond, List, [], ◌∷◌, map, length, Option, None, Some, slice_get, refl, sym, ap, subst, ◌∙◌, arith, inl, inr}
+use Rattle.std.proofs.Common.{◌≡◌, ◌+◌, ℕ, pos, negsuc, Bool, true, false, cond, List, [], ◌∷◌, map, length, None, slice_get, refl, sym, ap, subst, ◌∙◌, arith, inl, inr}
 use Rattle.std.specs.List.{filter, find, flat_map, list_all, AllByRecursion}
 use Rattle.std.specs.List.Sorted.{IsPermutation, IsSorted}
 use Rattle.std.specs.declared.cmp.Ordering.{Ordering}
@@ -23,6 +23,7 @@ use Rattle.sqlite.proofs.Callers.{one_permutation}
 use Rattle.sqlite.specs.Listing.{understood}
 use Rattle.reg_tables.specs.Schema.{register_schema}
 use Rattle.reg_tables.specs.ReadStatements.{command_of}
+use Rattle.reg_tables.specs.ShownRows.{IsRowOf}
 use Rattle.reg_tables.specs.Rows.{number, behind_rowids, counted_rows}
 
 -- a column is the first parameter
@@ -158,32 +159,26 @@ none_to : {A B : Type 0} (f : A → B) (to : List A) → [] ≡ map f to → to 
 none_to f [] is = refl
 none_to f (x ∷ to) is = absurd (cc)
 
--- the one record that a row stands for, where an answer is a look-up
-pub record Found {A : Type 0} (P : A → Type 0) (view : A → Row) (answer : Option A) (row : Row) : Type 0 where
-  pub it : A
-  pub first : Some it ≡ answer
-  pub holds : P it
-  pub shown : row ≡ view it
-
 module _ {A : Type 0} (keep : A → Bool) (out : A → Output) (xs : List A) (tree : ℕ) (terms project : List Term) (order : List (Term × Key)) (params : Row) (rows : List Row)
     (g : Given keep out xs (selects tree terms project order no_limit) params rows) where
-  pub find_none : rows ≡ [] → None ≡ find keep xs
-  find_none none =
-      let to : g.to ≡ [] = none_to (λ a. (out a).1) g.to (sym none ∙ g.shown) in
-      let size : length (filter keep xs) ≡ 0 = sym (length_permutation (filter keep xs) g.to g.same) ∙ ap length to in
-      sym (find_first keep xs ∙ ap (λ l. slice_get l 0) (nothing_left (filter keep xs) size))
-
-  pub find_one : (P : A → Type 0) → AllByRecursion P xs → (row : Row) → rows ≡ row ∷ [] → Found P (λ a. (out a).1) (find keep xs) row
-  find_one P all row one =
-      let only = only_to (λ a. (out a).1) g.to row (sym g.shown ∙ one) in
-      let same : IsPermutation (only.0 ∷ []) (filter keep xs) = subst (λ l. IsPermutation l (filter keep xs)) only.1 (IsPermutation-sym (filter keep xs) g.to g.same) in
-      let kept : filter keep xs ≡ only.0 ∷ [] = one_permutation only.0 (filter keep xs) same in
-      record {
-        it = only.0;
-        first = sym (find_first keep xs ∙ ap (λ l. slice_get l 0) kept);
-        holds = (subst (AllByRecursion P) kept (kept_have P keep xs all)).0;
-        shown = only.2;
-      }
+  -- what holds of each record holds of the one that is found
+  pub row_of : (P : A → Type 0) → AllByRecursion P xs → IsRowOf P (λ a. (out a).1) rows (find keep xs)
+  row_of P all = record {
+    none = λ none.
+        let to : g.to ≡ [] = none_to (λ a. (out a).1) g.to (sym none ∙ g.shown) in
+        let size : length (filter keep xs) ≡ 0 = sym (length_permutation (filter keep xs) g.to g.same) ∙ ap length to in
+        sym (find_first keep xs ∙ ap (λ l. slice_get l 0) (nothing_left (filter keep xs) size));
+    one = λ row one.
+        let only = only_to (λ a. (out a).1) g.to row (sym g.shown ∙ one) in
+        let same : IsPermutation (only.0 ∷ []) (filter keep xs) = subst (λ l. IsPermutation l (filter keep xs)) only.1 (IsPermutation-sym (filter keep xs) g.to g.same) in
+        let kept : filter keep xs ≡ only.0 ∷ [] = one_permutation only.0 (filter keep xs) same in
+        record {
+          it = only.0;
+          first = sym (find_first keep xs ∙ ap (λ l. slice_get l 0) kept);
+          holds = (subst (AllByRecursion P) kept (kept_have P keep xs all)).0;
+          shown = only.2;
+        };
+  }
 
 -- ---- the answer of a text over a table of the register
 

@@ -1,5 +1,5 @@
 -- What the look-ups of requests show.
-use Rattle.std.proofs.Common.{◌≡◌, ◌≤◌, ℕ, None, List, [], ◌∷◌, length, codes, refl, ◌∙◌, arith}
+use Rattle.std.proofs.Common.{◌≡◌, ◌≤◌, ℕ, List, [], ◌∷◌, length, codes, refl, ◌∙◌, arith}
 use Rattle.std.specs.Prelude.{◌==◌}
 use Rattle.std.specs.List.{AllByRecursion}
 use Rattle.sqlite_value.specs.Order.{Row}
@@ -17,9 +17,10 @@ use Rattle.reg_tables.specs.Rows.{number, stored_request}
 use Rattle.reg_tables.specs.Shows.{IsShownBy}
 use Rattle.reg_tables.specs.Failing.{IsAsked}
 use Rattle.reg_tables.specs.ReadStatements.{IsReading, command_of, shown_request}
+use Rattle.reg_tables.specs.ShownRows.{IsRowOf}
 use Rattle.reg_tables.specs.declared.sql.TheConstants.{REQUEST_BY_ID}
 use Rattle.reg_tables.proofs.Compares.{and_true, eq_number}
-use Rattle.reg_tables.proofs.Queries.{column_is, selects, as_command, no_limit, Given, keyed_given, find_none, find_one, Found}
+use Rattle.reg_tables.proofs.Queries.{column_is, selects, as_command, no_limit, Given, keyed_given, row_of}
 use Rattle.reg_tables.proofs.Selecting.{select_never}
 use Rattle.reg_tables.proofs.FailingLemmas.{asked_by}
 use Rattle.reg_tables.proofs.Few.{given_few, numbers_differ, one_number}
@@ -51,15 +52,9 @@ module _ (db : Database) (records : Records) (shown : IsShownBy db records) (id 
       keyed_given (λ row. IsSerial row.serial) stored_request (λ row. row.id == id) out records.requests shown.rows.request_serials 7 (column_is 0) columns [] no_limit (number id ∷ []) REQUEST_BY_ID.now names by_id_means db refl rows reads
       shown.rows.requests (λ row in_row. and_true _ ∙ eq_number row.id id) (λ row. refl)
 
-  pub by_id_none : rows ≡ [] → None ≡ request_in records.requests id
-  by_id_none = find_none (λ row. row.id == id) out records.requests 7 (column_is 0) columns [] (number id ∷ []) rows by_id_given
-
   pub by_id_few : length rows ≤ 1
   by_id_few = given_few (λ row. row.id == id) out records.requests 7 (column_is 0) columns [] (number id ∷ []) rows by_id_given
       (one_number (λ (row : RequestRow). row.id) id records.requests (numbers_differ (λ (row : RequestRow). row.id) 1 records.requests shown.rows.requests_numbered))
 
-  pub by_id_has : (P : RequestRow → Type 0) → AllByRecursion P records.requests → (row : Row) → rows ≡ row ∷ [] → Found P shown_request (request_in records.requests id) row
-  by_id_has P all = find_one (λ row. row.id == id) out records.requests 7 (column_is 0) columns [] (number id ∷ []) rows by_id_given P all
-
-  pub by_id_one : (row : Row) → rows ≡ row ∷ [] → Found (λ row. IsSerial row.serial) shown_request (request_in records.requests id) row
-  by_id_one = by_id_has (λ row. IsSerial row.serial) shown.rows.request_serials
+  pub by_id_row : (P : RequestRow → Type 0) → AllByRecursion P records.requests → IsRowOf P shown_request rows (request_in records.requests id)
+  by_id_row P all = row_of (λ row. row.id == id) out records.requests 7 (column_is 0) columns [] (number id ∷ []) rows by_id_given P all

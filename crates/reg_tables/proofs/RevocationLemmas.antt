@@ -1,5 +1,5 @@
 -- What the look-ups of revocations show.
-use Rattle.std.proofs.Common.{◌≡◌, ◌≤◌, ℕ, None, List, [], ◌∷◌, length, codes, refl, ◌∙◌, arith}
+use Rattle.std.proofs.Common.{◌≡◌, ◌≤◌, ℕ, List, [], ◌∷◌, length, codes, refl, ◌∙◌, arith}
 use Rattle.std.specs.Prelude.{◌==◌}
 use Rattle.std.specs.List.{AllByRecursion}
 use Rattle.sqlite_value.specs.Order.{Row}
@@ -18,9 +18,10 @@ use Rattle.reg_tables.specs.Rows.{serial_value, stored_revocation}
 use Rattle.reg_tables.specs.Shows.{IsShownBy}
 use Rattle.reg_tables.specs.Failing.{IsAsked}
 use Rattle.reg_tables.specs.ReadStatements.{IsReading, command_of, shown_revocation}
+use Rattle.reg_tables.specs.ShownRows.{IsRowOf}
 use Rattle.reg_tables.specs.declared.sql.TheConstants.{REVOCATION_BY_SERIAL}
 use Rattle.reg_tables.proofs.Compares.{and_true, eq_serial}
-use Rattle.reg_tables.proofs.Queries.{column_is, selects, as_command, no_limit, Given, counted_given, find_none, find_one, Found}
+use Rattle.reg_tables.proofs.Queries.{column_is, selects, as_command, no_limit, Given, counted_given, row_of}
 use Rattle.reg_tables.proofs.Selecting.{select_never}
 use Rattle.reg_tables.proofs.FailingLemmas.{asked_by}
 use Rattle.reg_tables.proofs.Few.{given_few, one_number}
@@ -52,15 +53,9 @@ module _ (db : Database) (records : Records) (shown : IsShownBy db records) (ser
       counted_given (λ row. IsSerial row.serial) stored_revocation (λ row. row.serial == serial) out records.revocations shown.rows.revocation_serials 8 (column_is 1) columns [] no_limit (serial_value serial ∷ []) REVOCATION_BY_SERIAL.now names by_serial_means db refl rows reads
       shown.rows.revocations (λ id row in_row. and_true _ ∙ eq_serial row.serial serial in_row is_serial) (λ id row. refl)
 
-  pub by_serial_none : rows ≡ [] → None ≡ revocation_in records.revocations serial
-  by_serial_none = find_none (λ row. row.serial == serial) out records.revocations 8 (column_is 1) columns [] (serial_value serial ∷ []) rows by_serial_given
-
   pub by_serial_few : KeysDiffer (λ (row : RevocationRow). row.serial) records.revocations → length rows ≤ 1
   by_serial_few differ = given_few (λ row. row.serial == serial) out records.revocations 8 (column_is 1) columns [] (serial_value serial ∷ []) rows by_serial_given
       (one_number (λ (row : RevocationRow). row.serial) serial records.revocations differ)
 
-  pub by_serial_has : (P : RevocationRow → Type 0) → AllByRecursion P records.revocations → (row : Row) → rows ≡ row ∷ [] → Found P shown_revocation (revocation_in records.revocations serial) row
-  by_serial_has P all = find_one (λ row. row.serial == serial) out records.revocations 8 (column_is 1) columns [] (serial_value serial ∷ []) rows by_serial_given P all
-
-  pub by_serial_one : (row : Row) → rows ≡ row ∷ [] → Found (λ row. IsSerial row.serial) shown_revocation (revocation_in records.revocations serial) row
-  by_serial_one = by_serial_has (λ row. IsSerial row.serial) shown.rows.revocation_serials
+  pub by_serial_row : (P : RevocationRow → Type 0) → AllByRecursion P records.revocations → IsRowOf P shown_revocation rows (revocation_in records.revocations serial)
+  by_serial_row P all = row_of (λ row. row.serial == serial) out records.revocations 8 (column_is 1) columns [] (serial_value serial ∷ []) rows by_serial_given P all

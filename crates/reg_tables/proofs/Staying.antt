@@ -188,10 +188,20 @@ pub ok_then : {T E : Type 0} {P Q : T → Type 0} (r : Result T E) → IfOk r P 
 ok_then (Ok x) h more = more x h
 ok_then (Err e) h more = tt
 
--- what each result gives holds
-pub ok_holds : {T E : Type 0} {P : T → Type 0} {Q : Type 0} (r : Result T E) → IfOk r P → ((x : T) → P x → Q) → OnOk r Q
-ok_holds (Ok x) h more = more x h
-ok_holds (Err e) h more = tt
+-- and so do two things together
+pub ok_also : {T E : Type 0} {P Q R : T → Type 0} (r : Result T E) → IfOk r P → IfOk r Q → ((x : T) → P x → Q x → R x) → IfOk r R
+ok_also (Ok x) first second more = more x first second
+ok_also (Err e) first second more = tt
+
+-- what each result gives holds beside what it gives
+pub ok_both : {T E : Type 0} (P : Type 0) (Q : T → Type 0) (r : Result T E) → OnOk r P → IfOk r Q → IfOk r (λ x. P × Q x)
+ok_both P Q (Ok x) holds gives = (holds, gives)
+ok_both P Q (Err e) holds gives = tt
+
+-- what it gives where something holds
+pub ok_if : {T E : Type 0} (P : Type 0) (Q : T → Type 0) (r : Result T E) → (P → IfOk r Q) → IfOk r (λ x. P → Q x)
+ok_if P Q (Ok x) gives = gives
+ok_if P Q (Err e) gives = tt
 
 -- a result that gives none gives what is none
 pub past_then : {T E P : Type 0} (r : Result (Option T) E) (what : Option T) → IfOk r (λ found. found ≡ None) → OnOk r P → (P → None ≡ what) → IfOk r (λ found. found ≡ what)

@@ -1,5 +1,5 @@
 -- What the look-ups of subscribers show.
-use Rattle.std.proofs.Common.{◌≡◌, ◌≤◌, ℕ, true, None, List, [], ◌∷◌, length, codes, refl, ◌∙◌, arith}
+use Rattle.std.proofs.Common.{◌≡◌, ◌≤◌, ℕ, true, List, [], ◌∷◌, length, codes, refl, ◌∙◌, arith}
 use Rattle.std.specs.Prelude.{◌==◌, bytes_eq}
 use Rattle.std.specs.List.{AllByRecursion}
 use Rattle.std.proofs.lemmas.Slice.Eq.{bytes_eq-Decides}
@@ -19,9 +19,10 @@ use Rattle.reg_tables.specs.Rows.{number, stored_subscriber}
 use Rattle.reg_tables.specs.Shows.{IsShownBy}
 use Rattle.reg_tables.specs.Failing.{IsAsked}
 use Rattle.reg_tables.specs.ReadStatements.{IsReading, command_of, shown_subscriber}
+use Rattle.reg_tables.specs.ShownRows.{IsRowOf}
 use Rattle.reg_tables.specs.declared.sql.TheConstants.{SUBSCRIBER_BY_ID, SUBSCRIBER_BY_NAME}
 use Rattle.reg_tables.proofs.Compares.{and_true, eq_number, eq_text}
-use Rattle.reg_tables.proofs.Queries.{column_is, selects, as_command, no_limit, Given, keyed_given, all_of, find_none, find_one, Found}
+use Rattle.reg_tables.proofs.Queries.{column_is, selects, as_command, no_limit, Given, keyed_given, all_of, row_of}
 use Rattle.reg_tables.proofs.Selecting.{select_never}
 use Rattle.reg_tables.proofs.FailingLemmas.{asked_by}
 use Rattle.reg_tables.proofs.Few.{at_most_one, given_few, numbers_differ, one_number}
@@ -53,18 +54,12 @@ module _ (db : Database) (records : Records) (shown : IsShownBy db records) (id 
       keyed_given (λ _. Unit {0}) stored_subscriber (λ row. row.id == id) out records.subscribers (all_of (λ _. Unit {0}) (λ _. tt) records.subscribers) 1 (column_is 0) columns [] no_limit (number id ∷ []) SUBSCRIBER_BY_ID.now names by_id_means db refl rows reads
       shown.rows.subscribers (λ row in_row. and_true _ ∙ eq_number row.id id) (λ row. refl)
 
-  pub by_id_none : rows ≡ [] → None ≡ subscriber_in records.subscribers id
-  by_id_none = find_none (λ row. row.id == id) out records.subscribers 1 (column_is 0) columns [] (number id ∷ []) rows by_id_given
-
   pub by_id_few : length rows ≤ 1
   by_id_few = given_few (λ row. row.id == id) out records.subscribers 1 (column_is 0) columns [] (number id ∷ []) rows by_id_given
       (one_number (λ (row : SubscriberRow). row.id) id records.subscribers (numbers_differ (λ (row : SubscriberRow). row.id) 1 records.subscribers shown.rows.subscribers_numbered))
 
-  pub by_id_has : (P : SubscriberRow → Type 0) → AllByRecursion P records.subscribers → (row : Row) → rows ≡ row ∷ [] → Found P shown_subscriber (subscriber_in records.subscribers id) row
-  by_id_has P all = find_one (λ row. row.id == id) out records.subscribers 1 (column_is 0) columns [] (number id ∷ []) rows by_id_given P all
-
-  pub by_id_one : (row : Row) → rows ≡ row ∷ [] → Found (λ _. Unit {0}) shown_subscriber (subscriber_in records.subscribers id) row
-  by_id_one = by_id_has (λ _. Unit {0}) (all_of (λ _. Unit {0}) (λ _. tt) records.subscribers)
+  pub by_id_row : (P : SubscriberRow → Type 0) → AllByRecursion P records.subscribers → IsRowOf P shown_subscriber rows (subscriber_in records.subscribers id)
+  by_id_row P all = row_of (λ row. row.id == id) out records.subscribers 1 (column_is 0) columns [] (number id ∷ []) rows by_id_given P all
 
 by_name_means : command_of (understood register_schema SUBSCRIBER_BY_NAME.now) ≡ as_command (selects 1 (column_is 2) columns [] no_limit) names
 unfolding understood everything register_schema
@@ -87,15 +82,9 @@ module _ (db : Database) (records : Records) (shown : IsShownBy db records) (nam
       keyed_given (λ _. Unit {0}) stored_subscriber (λ row. bytes_eq row.name name) out records.subscribers (all_of (λ _. Unit {0}) (λ _. tt) records.subscribers) 1 (column_is 2) columns [] no_limit (Text name ∷ []) SUBSCRIBER_BY_NAME.now names by_name_means db refl rows reads
       shown.rows.subscribers (λ row in_row. and_true _ ∙ eq_text row.name name) (λ row. refl)
 
-  pub by_name_none : rows ≡ [] → None ≡ subscriber_named records.subscribers name
-  by_name_none = find_none (λ row. bytes_eq row.name name) out records.subscribers 1 (column_is 2) columns [] (Text name ∷ []) rows by_name_given
-
   pub by_name_few : KeysDiffer (λ (row : SubscriberRow). row.name) records.subscribers → length rows ≤ 1
   by_name_few differ = given_few (λ row. bytes_eq row.name name) out records.subscribers 1 (column_is 2) columns [] (Text name ∷ []) rows by_name_given
       (at_most_one (λ (row : SubscriberRow). row.name) name (λ (row : SubscriberRow). bytes_eq row.name name) (λ row same. same_name row.name name same) records.subscribers differ)
 
-  pub by_name_has : (P : SubscriberRow → Type 0) → AllByRecursion P records.subscribers → (row : Row) → rows ≡ row ∷ [] → Found P shown_subscriber (subscriber_named records.subscribers name) row
-  by_name_has P all = find_one (λ row. bytes_eq row.name name) out records.subscribers 1 (column_is 2) columns [] (Text name ∷ []) rows by_name_given P all
-
-  pub by_name_one : (row : Row) → rows ≡ row ∷ [] → Found (λ _. Unit {0}) shown_subscriber (subscriber_named records.subscribers name) row
-  by_name_one = by_name_has (λ _. Unit {0}) (all_of (λ _. Unit {0}) (λ _. tt) records.subscribers)
+  pub by_name_row : (P : SubscriberRow → Type 0) → AllByRecursion P records.subscribers → IsRowOf P shown_subscriber rows (subscriber_named records.subscribers name)
+  by_name_row P all = row_of (λ row. bytes_eq row.name name) out records.subscribers 1 (column_is 2) columns [] (Text name ∷ []) rows by_name_given P all

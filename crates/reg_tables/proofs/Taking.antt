@@ -1,5 +1,5 @@
 -- Rows that are read one after another.
-use Rattle.std.proofs.Common.{◌≡◌, ◌<◌, ◌+◌, ℕ, List, [], ◌∷◌, ◌++◌, map, take, length, get_or, sym, ap, ◌∙◌, arith}
+use Rattle.std.proofs.Common.{◌≡◌, ◌<◌, ◌≤◌, ◌+◌, ℕ, List, [], ◌∷◌, ◌++◌, map, take, length, get_or, sym, ap, ◌∙◌, arith}
 use Rattle.std.specs.List.{AllByRecursion}
 use Rattle.std.proofs.lemmas.List.{take_more, get_or-map, length-map}
 use Rattle.std.proofs.lemmas.List.Elements.{All-from_recursion}
@@ -31,3 +31,12 @@ none_read P Q view (z ∷ xs) all each rows slice i row are same below is reads 
     let y = get_or (z ∷ xs) i z in
     let shown : row ≡ view y = is ∙ ap (λ l. get_or l i row) (same ∙ are) ∙ get_or-map view (z ∷ xs) i z row within in
     reads y (All-from_recursion P (z ∷ xs) all i z within) (All-from_recursion Q (z ∷ xs) each i z within) shown
+
+-- the one row of rows that are one
+pub one_item : {A : Type 0} (xs : List A) (x : A) → 1 ≤ length xs → length xs ≤ 1 → x ≡ get_or xs 0 x → xs ≡ x ∷ []
+one_item [] x some few is = absurd (omega arith)
+one_item (y ∷ []) x some few is = ap (λ z. z ∷ []) (sym is)
+one_item (y ∷ z ∷ more) x some few is = absurd (omega arith)
+
+pub same_row : {rows : List Row} {a b : Row} → rows ≡ a ∷ [] → rows ≡ b ∷ [] → a ≡ b
+same_row one two = cc

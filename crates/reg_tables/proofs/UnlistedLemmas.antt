@@ -26,6 +26,7 @@ use Rattle.reg_tables.specs.Rows.{number, stored_revocation}
 use Rattle.reg_tables.specs.Shows.{IsShownBy}
 use Rattle.reg_tables.specs.Failing.{IsAsked}
 use Rattle.reg_tables.specs.ReadStatements.{IsReading, command_of}
+use Rattle.reg_tables.specs.ShownRows.{Found, IsRowOf, shown_number}
 use Rattle.reg_tables.specs.declared.sql.TheConstants.{EARLIEST_ABOVE}
 use Rattle.reg_tables.proofs.Compares.{and_true, gt_number}
 use Rattle.reg_tables.proofs.Queries.{selects, as_command, Given, counted_given, all_of, kept_have}
@@ -144,35 +145,26 @@ module _ (db : Database) (records : Records) (shown : IsShownBy db records) (n :
   pub above_few : length rows ≤ 1
   above_few = taken_few rows (map (λ (row : RevocationRow). (out row).1) above_given.to) above_given.shown
 
-  has_above : (P : ℕ → Type 0) → AllByRecursion (λ row. P row.at) records.revocations → (row : Row) (to : List RevocationRow) → to ≡ above_given.to → row ∷ [] ≡ take 1 (map (λ (row : RevocationRow). (out row).1) to) → (at : ℕ) × P at × (row ≡ number at ∷ [])
-  has_above P all row [] to_is is = absurd (cc)
-  has_above P all row (t ∷ more) to_is is =
-      let same : IsPermutation (filter waits records.revocations) (t ∷ more) = subst (IsPermutation (filter waits records.revocations)) (sym to_is) above_given.same in (
-        t.at,
-        first_is_one (λ (a : RevocationRow). a.at) (λ (a : RevocationRow). P a.at) (filter waits records.revocations) t more same (kept_have (λ (a : RevocationRow). P a.at) waits records.revocations all),
-        cc,
-      )
-
-  -- what each moment has, the one that is shown has
-  pub above_has : (P : ℕ → Type 0) → AllByRecursion (λ row. P row.at) records.revocations → (row : Row) → rows ≡ row ∷ [] → (at : ℕ) × P at × (row ≡ number at ∷ [])
-  above_has P all row one = has_above P all row above_given.to refl (sym one ∙ above_given.shown)
-
-  pub above_none : rows ≡ [] → None ≡ earliest (filter waits records.revocations)
-  above_none none =
-      none_earliest (filter waits records.revocations) (sym (length_permutation (filter waits records.revocations) above_given.to above_given.same) ∙ no_rows above_given.to (sym none ∙ above_given.shown))
-
-  one_above : (row : Row) (to : List RevocationRow) → to ≡ above_given.to → row ∷ [] ≡ take 1 (map (λ (row : RevocationRow). (out row).1) to) → (at : ℕ) × (Some at ≡ earliest (filter waits records.revocations)) × (row ≡ number at ∷ [])
-  one_above row [] to_is is = absurd (cc)
-  one_above row (t ∷ more) to_is is =
-      let same : IsPermutation (filter waits records.revocations) (t ∷ more) = subst (IsPermutation (filter waits records.revocations)) (sym to_is) above_given.same in
+  row_above : (P : ℕ → Type 0) → AllByRecursion (λ row. P row.at) records.revocations → (row : Row) (to : List RevocationRow) → to ≡ above_given.to → row ∷ [] ≡ take 1 (map (λ (row : RevocationRow). (out row).1) to)
+      → Found P shown_number (earliest (filter waits records.revocations)) row
+  row_above P all row [] to_is is = absurd (cc)
+  row_above P all row (t ∷ more) to_is is =
+      let xs = filter waits records.revocations in
+      let same : IsPermutation xs (t ∷ more) = subst (IsPermutation xs) (sym to_is) above_given.same in
       let sorted : IsSorted (λ (a b : RevocationRow). key_cmp 0 (ascending_key ∷ []) (number a.at ∷ []) (number b.at ∷ [])) (t ∷ more) =
       subst (IsSorted (λ (a b : RevocationRow). key_cmp 0 (ascending_key ∷ []) (number a.at ∷ []) (number b.at ∷ []))) (sym to_is) above_given.sorted in
-      let least = least_first (λ (a : RevocationRow). a.at) (filter waits records.revocations) t more same (ascends (λ (a : RevocationRow). a.at) (t ∷ more) sorted) in (
-        t.at,
-        first_is_one (λ (a : RevocationRow). a.at) (λ (a : RevocationRow). AllByRecursion (λ b. a.at ≤ b.at) (filter waits records.revocations) → Some a.at ≡ earliest (filter waits records.revocations)) (filter waits records.revocations) t more same
-            (earliest_all (filter waits records.revocations)) least,
-        cc,
-      )
+      let least = least_first (λ (a : RevocationRow). a.at) xs t more same (ascends (λ (a : RevocationRow). a.at) (t ∷ more) sorted) in
+      record {
+        it = t.at;
+        first = first_is_one (λ (a : RevocationRow). a.at) (λ (a : RevocationRow). AllByRecursion (λ b. a.at ≤ b.at) xs → Some a.at ≡ earliest xs) xs t more same (earliest_all xs) least;
+        holds = first_is_one (λ (a : RevocationRow). a.at) (λ (a : RevocationRow). P a.at) xs t more same (kept_have (λ (a : RevocationRow). P a.at) waits records.revocations all);
+        shown = cc;
+      }
 
-  pub above_one : (row : Row) → rows ≡ row ∷ [] → (at : ℕ) × (Some at ≡ earliest (filter waits records.revocations)) × (row ≡ number at ∷ [])
-  above_one row one = one_above row above_given.to refl (sym one ∙ above_given.shown)
+  -- what each moment has, the one that is shown has
+  pub above_row : (P : ℕ → Type 0) → AllByRecursion (λ row. P row.at) records.revocations → IsRowOf P shown_number rows (earliest (filter waits records.revocations))
+  above_row P all = record {
+    none = λ none.
+        none_earliest (filter waits records.revocations) (sym (length_permutation (filter waits records.revocations) above_given.to above_given.same) ∙ no_rows above_given.to (sym none ∙ above_given.shown));
+    one = λ row one. row_above P all row above_given.to refl (sym one ∙ above_given.shown);
+  }

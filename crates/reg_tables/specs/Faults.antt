@@ -8,6 +8,8 @@ use Rattle.reg_der.specs.declared.issuer.IssuerFault.{IssuerFault}
 use Rattle.reg_der.specs.declared.issuer.IssuerFault.TheVariants as issuer
 use Rattle.reg_tables.specs.declared.fault.DatabaseFault.{DatabaseFault}
 use Rattle.reg_tables.specs.declared.fault.DatabaseFault.TheVariants as call
+use Rattle.reg_tables.specs.declared.fault.Unshown.{Unshown}
+use Rattle.reg_tables.specs.declared.fault.Unshown.TheVariants as rows
 use Rattle.reg_tables.specs.declared.fault.StoreFault.{StoreFault}
 use Rattle.reg_tables.specs.declared.fault.StoreFault.TheVariants.{Memory, Store, NotEmpty, NotARegister, NewVersion}
 
@@ -21,6 +23,11 @@ abbrev pub issuer_fault_of : IssuerFault → DatabaseFault
 issuer_fault_of issuer.Memory = call.Memory
 issuer_fault_of issuer.BadName = call.Store
 issuer_fault_of issuer.BadKey = call.Store
+
+-- memory was lacking, or a row is one that no register writes
+abbrev pub unshown_fault_of : Unshown → DatabaseFault
+unshown_fault_of rows.Memory = call.Memory
+unshown_fault_of (rows.At place) = call.Store
 
 -- the fault of a call on an open register is one of the store's
 abbrev pub store_fault_of : DatabaseFault → StoreFault

@@ -6,6 +6,7 @@ pub mod Shows
 pub mod Faults
 pub mod Kept
 pub mod Stays
+pub mod ShownRows
 pub mod ReadStatements
 pub mod Tables
 pub mod Failing

@@ -1,11 +1,8 @@
 -- How many rows a table of the records has.
-use Rattle.std.specs.Prelude.{◌≡◌, ◌≤◌, ℕ, List, [], ◌∷◌, length}
-use Rattle.sqlite_value.specs.Order.{Row, column}
-use Rattle.sqlite.specs.State.{State}
+use Rattle.std.specs.Prelude.{ℕ, List, length}
 use Rattle.reg_core.specs.Records.{Records}
-use Rattle.reg_tables.specs.ReadStatements.{Answers}
-use Rattle.reg_tables.specs.Rows.{number}
 use Rattle.reg_tables.specs.declared.sizes.Table.{Table}
+use Rattle.reg_tables.specs.declared.sql.TheConstants.{LAST_SUBSCRIBER, LAST_ORDER, LAST_CERT, LAST_REQUEST, LAST_CRL}
 use Rattle.reg_tables.specs.declared.sizes.Table.TheVariants.{Subscribers, Orders, Certs, Requests, Crls}
 
 -- the rows of a table
@@ -16,12 +13,10 @@ rows_of records Certs = length records.certificates
 rows_of records Requests = length records.requests
 rows_of records Crls = length records.crls
 
--- the number of the one row that is shown, or 0 where none is
-pub record IsNumberShown (n : ℕ) (rows : List Row) : Type 0 where
-  pub none : rows ≡ [] → n ≡ 0
-  pub one : (row : Row) → rows ≡ row ∷ [] → column row 0 ≡ number n
-  pub few : length rows ≤ 1
-
--- an answer of the text shows a number
-abbrev pub HasNumber : State → List ℕ → Type 0
-HasNumber s text = (rows : List Row) → Answers s text [] rows → (n : ℕ) × IsNumberShown n rows
+-- the text that finds its last row
+abbrev pub text_of_last : Table → List ℕ
+text_of_last Subscribers = LAST_SUBSCRIBER.now
+text_of_last Orders = LAST_ORDER.now
+text_of_last Certs = LAST_CERT.now
+text_of_last Requests = LAST_REQUEST.now
+text_of_last Crls = LAST_CRL.now

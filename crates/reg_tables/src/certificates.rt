@@ -9,8 +9,7 @@ ghost use Rattle.reg_tables.specs.Shows.{Shows};
 ghost use Rattle.reg_tables.specs.Stays.{Looked};
 
 use crate::fault::DatabaseFault;
-use crate::read_statements::{at_most_one, read};
-use crate::rows;
+use crate::read_statements::look_up;
 use crate::sql::{CERT_BY_ORDER, CERT_BY_SERIAL};
 use crate::sql_values::sql_number;
 use reg_core::{CertRow, Serial};
@@ -29,11 +28,7 @@ pub fn cert<S: Alter>(
     ensures fails { Blamed S.Store DatabaseFault.Store conn.old conn.new result }
     ensures looked { Looked S.Store conn.old conn.new }
 {
-    let found = read(conn, CERT_BY_SERIAL, params![serial.bytes20().as_slice()])?;
-    match at_most_one(&found)? {
-        None => Ok(None),
-        Some(row) => Ok(Some(rows::certificate_in(row)?)),
-    }
+    look_up::<S, CertRow>(conn, CERT_BY_SERIAL, params![serial.bytes20().as_slice()])
 }
 
 /// The certificate that fills an order.
@@ -50,9 +45,5 @@ pub fn cert_of_order<S: Alter>(
     ensures looked { Looked S.Store conn.old conn.new }
 {
     let value = sql_number(order)?;
-    let found = read(conn, CERT_BY_ORDER, params![&value])?;
-    match at_most_one(&found)? {
-        None => Ok(None),
-        Some(row) => Ok(Some(rows::certificate_in(row)?)),
-    }
+    look_up::<S, CertRow>(conn, CERT_BY_ORDER, params![&value])
 }

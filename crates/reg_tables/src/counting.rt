@@ -13,9 +13,10 @@ ghost use Rattle.reg_tables.specs.Shows.{ShowsBoth};
 ghost use Rattle.reg_tables.specs.Stays.{Looked};
 
 use crate::fault::DatabaseFault;
-use crate::read_statements::{only, read};
+use crate::read_statements::look_up_one;
+use crate::rows::Number;
 use crate::sql::{COUNTS, ENDED_BEFORE};
-use crate::sql_values::{number_at, sql_number};
+use crate::sql_values::sql_number;
 use reg_core::{Counts, Moment};
 use sqlite::{Alter, Connection, params};
 
@@ -29,13 +30,7 @@ pub fn kept_counts<S: Alter>(conn: &mut Connection<S>) -> Result<Counts, Databas
     ensures fails { Blamed S.Store DatabaseFault.Store conn.old conn.new result }
     ensures looked { Looked S.Store conn.old conn.new }
 {
-    let found = read(conn, COUNTS, &[])?;
-    let row = only(&found)?;
-    Ok(Counts {
-        good: number_at(row, 0)?,
-        revoked: number_at(row, 1)?,
-        expired: number_at(row, 2)?,
-    })
+    look_up_one::<S, Counts>(conn, COUNTS, &[])
 }
 
 /// How many certificates are kept as good and end before a moment.
@@ -47,9 +42,7 @@ fn ended_before<S: Alter>(conn: &mut Connection<S>, now: Moment) -> Result<u64, 
     ensures looked { Looked S.Store conn.old conn.new }
 {
     let value = sql_number(now.secs())?;
-    let found = read(conn, ENDED_BEFORE, params![&value])?;
-    let ended = number_at(only(&found)?, 0)?;
-    Ok(ended)
+    look_up_one::<S, Number>(conn, ENDED_BEFORE, params![&value])
 }
 
 /// How many registered certificates are good, revoked and expired at a moment, from the last accepted one on.

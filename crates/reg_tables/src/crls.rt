@@ -10,8 +10,7 @@ ghost use Rattle.reg_tables.specs.Shows.{Shows};
 ghost use Rattle.reg_tables.specs.Stays.{Looked};
 
 use crate::fault::DatabaseFault;
-use crate::read_statements::{at_most_one, read};
-use crate::rows;
+use crate::read_statements::{at_most_one, look_up, read};
 use crate::sizes::{Table, none_past};
 use crate::sql::{CRL_BYTES, LATEST_CRL};
 use crate::sql_values::sql_key;
@@ -22,17 +21,13 @@ use sqlite::{Alter, Connection, params};
 ///
 /// # Errors
 /// `Memory`; `Store` where the database fails, or where its row is one that no register writes.
-#[tactic(auto, using(crate::proofs::HeldLemmas::reading_crl))]
+#[tactic(auto, using(crate::proofs::CrlLemmas::reading_latest))]
 pub fn latest_crl<S: Alter>(conn: &mut Connection<S>) -> Result<Option<CrlRow>, DatabaseFault>
     ensures found { (records : Records) → Shows S.Store conn.old records → HasCleanDisk (state S.Store conn.new) → IfOk result (λ row. row ≡ option_map row_of (latest records.crls)) }
     ensures fails { Blamed S.Store DatabaseFault.Store conn.old conn.new result }
     ensures looked { Looked S.Store conn.old conn.new }
 {
-    let found = read(conn, LATEST_CRL, &[])?;
-    match at_most_one(&found)? {
-        None => Ok(None),
-        Some(row) => Ok(Some(rows::crl_in(row)?)),
-    }
+    look_up::<S, CrlRow>(conn, LATEST_CRL, &[])
 }
 
 /// The DER of a CRL, by its number.

@@ -31,6 +31,38 @@ pub enum StoreFault {
     NewVersion,
 }
 
+/// Why rows are not read.
+#[derive(Clone, Copy, PartialEq, Eq)]
+pub enum Unshown {
+    /// Memory could not be had.
+    Memory,
+    /// The row at this place, counted from 0, has a value that no register writes.
+    At(usize),
+}
+
+impl<T: Drop> From<AllocFailed<T>> for Unshown {
+    ghost use Rattle.reg_tables.specs.declared.fault.Unshown.TheVariants.{Memory};
+
+    ghost from_gives = { λ _ why. why ≡ Memory };
+
+    fn from(_error: AllocFailed<T>) -> Unshown {
+        Unshown::Memory
+    }
+}
+
+impl From<Unshown> for DatabaseFault {
+    ghost use Rattle.reg_tables.specs.Faults.{unshown_fault_of};
+
+    ghost from_gives = { λ why fault. fault ≡ unshown_fault_of why };
+
+    fn from(why: Unshown) -> DatabaseFault {
+        match why {
+            Unshown::Memory => DatabaseFault::Memory,
+            Unshown::At(_) => DatabaseFault::Store,
+        }
+    }
+}
+
 impl From<Error> for DatabaseFault {
     ghost use Rattle.reg_tables.specs.Faults.{database_fault_of};
 

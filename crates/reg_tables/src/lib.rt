@@ -17,13 +17,13 @@ pub mod rows;
 pub mod schema;
 mod sizes;
 pub mod sql;
-mod sql_values;
+pub mod sql_values;
 mod subscribers;
 
 pub use certificates::{cert, cert_of_order};
 pub use counting::{counts, kept_counts};
 pub use crls::{crl, latest_crl};
-pub use fault::{DatabaseFault, StoreFault};
+pub use fault::{DatabaseFault, StoreFault, Unshown};
 pub use listed::{entries, listing};
 pub use office::{issuer, last, policy, responding};
 pub use orders::order;

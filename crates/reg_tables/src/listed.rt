@@ -1,22 +1,26 @@
 //! Look-ups of what CRLs list, from the rows that are kept for it alone.
 
-ghost use Rattle.std.specs.Prelude.{◌≡◌, ◌<◌, ◌≤◌, ◌^◌, ◌↔◌, length, IsTrue, IfOk};
+ghost use Rattle.std.specs.Prelude.{◌≡◌, ◌<◌, ◌≤◌, ◌^◌, ◌↔◌, List, map, length, IsTrue, IfOk, IfErr};
+ghost use Rattle.std.specs.List.{AllByRecursion};
 ghost use Rattle.sqlite.specs.Held.{state};
 ghost use Rattle.sqlite.specs.State.{HasCleanDisk};
 ghost use Rattle.reg_core.specs.Crls.{EntriesAscend, entries};
 ghost use Rattle.reg_core.specs.Queries.{listing};
 ghost use Rattle.reg_core.specs.Records.{Records};
+ghost use Rattle.reg_core.specs.Serial.{IsSerial};
 ghost use Rattle.reg_tables.specs.Failing.{Blamed};
 ghost use Rattle.reg_tables.specs.Kept.{ShowsKept};
+ghost use Rattle.reg_tables.specs.ReadStatements.{shown_entry};
+ghost use Rattle.reg_tables.specs.RecordValues.{AreMomentAndReason};
 ghost use Rattle.reg_tables.specs.Stays.{Looked};
 
 use crate::fault::DatabaseFault;
-use crate::read_statements::{at_most_one, read};
-use crate::rows::entries_in;
+use crate::read_statements::{look_up, read};
+use crate::rows::rows_in;
 use crate::sql::{ENTRIES, LISTED_BY_SERIAL};
-use crate::sql_values::{number_at, number_or_null_at, sql_number};
+use crate::sql_values::sql_number;
 use reg_core::{Entry, Listing, Serial};
-use sqlite::{Alter, Connection, params};
+use sqlite::{Alter, Connection, Row, params};
 
 /// The most entries of a CRL.
 const MOST_ENTRIES: usize = 1_000_000;
@@ -26,6 +30,24 @@ fn ascends(entries: &[Entry]) -> bool
     ensures { IsTrue result ↔ EntriesAscend entries.now }
 {
     entries.is_sorted_by(|earlier, later| earlier.serial < later.serial)
+}
+
+/// The entries that the rows show, where their serial numbers rise and they are no more than 1,000,000.
+fn entries_of(rows: &Vec<Row>) -> Result<Vec<Entry>, DatabaseFault>
+    ensures read { (shown : List Entry) → AllByRecursion (λ entry. IsSerial entry.serial) shown → rows.now.items ≡ map shown_entry shown → IfOk result (λ found. found.items ≡ shown) }
+    ensures ascending { IfOk result (λ found. EntriesAscend found.items) }
+    ensures at_most { IfOk result (λ found. length found.items ≤ 1000000) }
+    ensures has { (shown : List Entry) → AllByRecursion (λ entry. IsSerial entry.serial) shown → rows.now.items ≡ map shown_entry shown
+        → AllByRecursion (λ entry. AreMomentAndReason entry.at entry.reason) shown → EntriesAscend shown → length shown ≤ 1000000 → IfErr result (λ fault. fault ≡ DatabaseFault.Memory) }
+{
+    let entries = rows_in::<Entry>(*rows.allocator(), rows)?;
+    if entries.len() > MOST_ENTRIES {
+        return Err(DatabaseFault::Store);
+    }
+    if !ascends(&entries) {
+        return Err(DatabaseFault::Store);
+    }
+    Ok(entries)
 }
 
 /// The entries of the CRL with a number, issued or the next, in ascending order of serial number: at most 1,000,000.
@@ -44,14 +66,7 @@ pub fn entries<S: Alter>(conn: &mut Connection<S>, number: u64) -> Result<Vec<En
 {
     let value = sql_number(number)?;
     let found = read(conn, ENTRIES, params![&value])?;
-    let entries = entries_in(&found)?;
-    if entries.len() > MOST_ENTRIES {
-        return Err(DatabaseFault::Store);
-    }
-    if !ascends(&entries) {
-        return Err(DatabaseFault::Store);
-    }
-    Ok(entries)
+    entries_of(&found)
 }
 
 /// The numbers of the first CRL that can list a revoked serial number and, where it has been issued, of the last that
@@ -68,12 +83,5 @@ pub fn listing<S: Alter>(
     ensures fails { Blamed S.Store DatabaseFault.Store conn.old conn.new result }
     ensures looked { Looked S.Store conn.old conn.new }
 {
-    let found = read(conn, LISTED_BY_SERIAL, params![serial.bytes20().as_slice()])?;
-    match at_most_one(&found)? {
-        None => Ok(None),
-        Some(row) => Ok(Some(Listing {
-            first: number_at(row, 0)?,
-            last: number_or_null_at(row, 1)?,
-        })),
-    }
+    look_up::<S, Listing>(conn, LISTED_BY_SERIAL, params![serial.bytes20().as_slice()])
 }

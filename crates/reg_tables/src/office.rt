@@ -1,21 +1,28 @@
 //! Look-ups of the office: its issuer, its policy and the last accepted moment.
 
-ghost use Rattle.std.specs.Prelude.{◌≡◌, ◌≤◌, IfOk};
+ghost use Rattle.std.specs.Prelude.{◌≡◌, ◌≤◌, ◌<◌, ◌+◌, ℕ, [], ◌∷◌, IfOk, IfErr};
+ghost use Rattle.sqlite_value.specs.declared.value.Value.TheVariants.{Blob};
+ghost use Rattle.sqlite_value.specs.Order.{column};
 ghost use Rattle.sqlite.specs.Held.{state};
 ghost use Rattle.sqlite.specs.State.{HasCleanDisk};
+ghost use Rattle.reg_core.specs.Calendar.{clock_end};
+ghost use Rattle.reg_core.specs.Issuer.{Issuer as Kept};
 ghost use Rattle.reg_core.specs.Records.{Records};
+ghost use Rattle.reg_der.specs.Authority.{IsIssuer};
 ghost use Rattle.reg_tables.specs.Failing.{Blamed};
+ghost use Rattle.reg_tables.specs.ShownRows.{shown_responding};
 ghost use Rattle.reg_tables.specs.Shows.{Shows};
 ghost use Rattle.reg_tables.specs.Stays.{Looked};
 
 use crate::fault::DatabaseFault;
-use crate::read_statements::{only, read};
-use crate::rows::steps_in;
+use crate::read_statements::{look_up_all, look_up_one, only, read};
+use crate::rows::{ClockMoment, Step, Terms};
 use crate::sql::{ISSUER, LAST, RESPONDING, STEPS, TERMS};
-use crate::sql_values::{bytes_at, clock_moment_at, life_at, number_at};
+use crate::sql_values::{bytes_at, clock_moment_at, life_at};
 use reg_core::{Moment, Policy, Schedule};
 use reg_der::Issuer;
-use sqlite::{Alter, Connection};
+use sqlite::{Alter, Connection, Row};
+use std::alloc::Global;
 
 /// The last accepted moment.
 ///
@@ -27,8 +34,30 @@ pub fn last<S: Alter>(conn: &mut Connection<S>) -> Result<Moment, DatabaseFault>
     ensures fails { Blamed S.Store DatabaseFault.Store conn.old conn.new result }
     ensures looked { Looked S.Store conn.old conn.new }
 {
-    let found = read(conn, LAST, &[])?;
-    clock_moment_at(only(&found)?, 0)
+    look_up_one::<S, ClockMoment>(conn, LAST, &[])
+}
+
+/// The issuer whose name is in a column, and its key in the next.
+fn issuer_in(alloc: Global, row: &Row, at: usize) -> Result<Issuer, DatabaseFault>
+    requires { at < 10 }
+    ensures read { (issuer : Kept) → column row.now at ≡ Blob issuer.name → column row.now (at + 1) ≡ Blob issuer.key → IfOk result (λ read. read ≡ issuer) }
+    ensures has { (issuer : Kept) → IsIssuer issuer → column row.now at ≡ Blob issuer.name → column row.now (at + 1) ≡ Blob issuer.key → IfErr result (λ fault. fault ≡ DatabaseFault.Memory) }
+{
+    match bytes_at(row, at) {
+        None => Err(DatabaseFault::Store),
+        Some(name) => match bytes_at(row, at + 1) {
+            None => Err(DatabaseFault::Store),
+            Some(key) => Ok(Issuer::of_kept(alloc, name, key)?),
+        },
+    }
+}
+
+/// The issuer that the one row shows.
+fn issuer_of(rows: &Vec<Row>) -> Result<Issuer, DatabaseFault>
+    ensures read { (issuer : Kept) → rows.now.items ≡ (Blob issuer.name ∷ Blob issuer.key ∷ []) ∷ [] → IfOk result (λ read. read ≡ issuer) }
+    ensures has { (issuer : Kept) → IsIssuer issuer → rows.now.items ≡ (Blob issuer.name ∷ Blob issuer.key ∷ []) ∷ [] → IfErr result (λ fault. fault ≡ DatabaseFault.Memory) }
+{
+    issuer_in(*rows.allocator(), only(rows)?, 0)
 }
 
 /// The issuer.
@@ -42,8 +71,22 @@ pub fn issuer<S: Alter>(conn: &mut Connection<S>) -> Result<Issuer, DatabaseFaul
     ensures looked { Looked S.Store conn.old conn.new }
 {
     let found = read(conn, ISSUER, &[])?;
-    let row = only(&found)?;
-    Ok(Issuer::of_kept(*found.allocator(), bytes_at(row, 0)?, bytes_at(row, 1)?)?)
+    issuer_of(&found)
+}
+
+/// The last accepted moment, the issuer and the life of an answer that a row shows.
+fn responding_in(alloc: Global, row: &Row) -> Result<(Moment, Issuer, u64), DatabaseFault>
+    ensures read { (last life : ℕ) → (issuer : Kept) → row.now ≡ shown_responding last issuer life → IfOk result (λ it. (it.0 ≡ last) × (it.1 ≡ issuer) × (it.2 ≡ life)) }
+    ensures has { (last life : ℕ) → (issuer : Kept) → row.now ≡ shown_responding last issuer life → last < clock_end → IsIssuer issuer → life ≤ 863999 → IfErr result (λ fault. fault ≡ DatabaseFault.Memory) }
+    ensures short { IfOk result (λ it. it.2 ≤ 863999) }
+{
+    match clock_moment_at(row, 0) {
+        None => Err(DatabaseFault::Store),
+        Some(last) => match life_at(row, 3) {
+            None => Err(DatabaseFault::Store),
+            Some(life) => Ok((last, issuer_in(alloc, row, 1)?, life)),
+        },
+    }
 }
 
 /// What OCSP answers are made from beside the certificates, read by one statement: the last accepted moment, the issuer, and
@@ -62,11 +105,7 @@ pub fn responding<S: Alter>(
     ensures looked { Looked S.Store conn.old conn.new }
 {
     let found = read(conn, RESPONDING, &[])?;
-    let row = only(&found)?;
-    let last = clock_moment_at(row, 0)?;
-    let issuer = Issuer::of_kept(*found.allocator(), bytes_at(row, 1)?, bytes_at(row, 2)?)?;
-    let life = life_at(row, 3)?;
-    Ok((last, issuer, life))
+    responding_in(*found.allocator(), only(&found)?)
 }
 
 /// The lives of CRLs and of OCSP answers, and the cap.
@@ -77,9 +116,7 @@ fn terms<S: Alter>(conn: &mut Connection<S>) -> Result<(u64, u64, u64), Database
     ensures fails { Blamed S.Store DatabaseFault.Store conn.old conn.new result }
     ensures looked { Looked S.Store conn.old conn.new }
 {
-    let found = read(conn, TERMS, &[])?;
-    let row = only(&found)?;
-    Ok((number_at(row, 0)?, number_at(row, 1)?, number_at(row, 2)?))
+    look_up_one::<S, Terms>(conn, TERMS, &[])
 }
 
 /// The schedule of longest validities.
@@ -89,8 +126,7 @@ fn schedule<S: Alter>(conn: &mut Connection<S>) -> Result<Schedule, DatabaseFaul
     ensures fails { Blamed S.Store DatabaseFault.Store conn.old conn.new result }
     ensures looked { Looked S.Store conn.old conn.new }
 {
-    let found = read(conn, STEPS, &[])?;
-    let steps = steps_in(&found)?;
+    let steps = look_up_all::<S, Step>(conn, STEPS, &[])?;
     Schedule::new(&steps).ok_or(DatabaseFault::Store)
 }
 

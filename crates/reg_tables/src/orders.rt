@@ -9,8 +9,7 @@ ghost use Rattle.reg_tables.specs.Shows.{Shows};
 ghost use Rattle.reg_tables.specs.Stays.{Looked};
 
 use crate::fault::DatabaseFault;
-use crate::read_statements::{at_most_one, read};
-use crate::rows;
+use crate::read_statements::look_up;
 use crate::sizes::{Table, none_past};
 use crate::sql::ORDER_BY_ID;
 use crate::sql_values::sql_key;
@@ -30,9 +29,5 @@ pub fn order<S: Alter>(conn: &mut Connection<S>, id: u64) -> Result<Option<Order
     let Some(value) = sql_key(id) else {
         return none_past(conn, Table::Orders, id);
     };
-    let found = read(conn, ORDER_BY_ID, params![&value])?;
-    match at_most_one(&found)? {
-        None => Ok(None),
-        Some(row) => Ok(Some(rows::order_in(row)?)),
-    }
+    look_up::<S, OrderRow>(conn, ORDER_BY_ID, params![&value])
 }

@@ -12,9 +12,8 @@ ghost use Rattle.reg_tables.specs.Stays.{Looked};
 
 use crate::certificates::cert;
 use crate::fault::DatabaseFault;
-use crate::read_statements::read;
+use crate::read_statements::look_up_all;
 use crate::revocations::revocation;
-use crate::rows::requests_in;
 use crate::sql::UNDECLINED;
 use reg_core::{Moment, Overdue, RequestRow, Serial, Status, status_of};
 use sqlite::{Alter, Connection};
@@ -26,8 +25,7 @@ fn undeclined<S: Alter>(conn: &mut Connection<S>) -> Result<Vec<RequestRow>, Dat
     ensures fails { Blamed S.Store DatabaseFault.Store conn.old conn.new result }
     ensures looked { Looked S.Store conn.old conn.new }
 {
-    let found = read(conn, UNDECLINED, &[])?;
-    requests_in(&found)
+    look_up_all::<S, RequestRow>(conn, UNDECLINED, &[])
 }
 
 /// Whether a registered certificate is good at a moment. `Store` where it is not registered.

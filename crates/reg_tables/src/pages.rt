@@ -13,8 +13,7 @@ ghost use Rattle.reg_tables.specs.Shows.{Shows};
 ghost use Rattle.reg_tables.specs.Stays.{Looked};
 
 use crate::fault::DatabaseFault;
-use crate::read_statements::read;
-use crate::rows::{certificates_in, crls_in, revocations_in};
+use crate::read_statements::look_up_all;
 use crate::sql::{CERTS_AFTER, CRLS_AFTER, REVOCATIONS_AFTER};
 use crate::sql_values::sql_number;
 use reg_core::{CertRow, CrlRow, RevocationRow, Serial};
@@ -51,8 +50,7 @@ pub fn certs_after<S: Alter>(
 {
     let limit = sql_number(most)?;
     let key = bytes_of(after);
-    let found = read(conn, CERTS_AFTER, params![key.as_slice(), &limit])?;
-    certificates_in(&found)
+    look_up_all::<S, CertRow>(conn, CERTS_AFTER, params![key.as_slice(), &limit])
 }
 
 /// The revocations past a serial number, or from the first one on, in ascending order of their serial numbers: as many as are
@@ -73,8 +71,7 @@ pub fn revocations_after<S: Alter>(
 {
     let limit = sql_number(most)?;
     let key = bytes_of(after);
-    let found = read(conn, REVOCATIONS_AFTER, params![key.as_slice(), &limit])?;
-    revocations_in(&found)
+    look_up_all::<S, RevocationRow>(conn, REVOCATIONS_AFTER, params![key.as_slice(), &limit])
 }
 
 /// The CRLs past a number, without their bytes, in ascending order of their numbers: as many as are wanted, if there are.
@@ -94,6 +91,5 @@ pub fn crls_after<S: Alter>(
 {
     let limit = sql_number(most)?;
     let key = sql_number(after)?;
-    let found = read(conn, CRLS_AFTER, params![&key, &limit])?;
-    crls_in(&found)
+    look_up_all::<S, CrlRow>(conn, CRLS_AFTER, params![&key, &limit])
 }

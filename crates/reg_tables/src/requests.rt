@@ -9,8 +9,7 @@ ghost use Rattle.reg_tables.specs.Shows.{Shows};
 ghost use Rattle.reg_tables.specs.Stays.{Looked};
 
 use crate::fault::DatabaseFault;
-use crate::read_statements::{at_most_one, read};
-use crate::rows;
+use crate::read_statements::look_up;
 use crate::sizes::{Table, none_past};
 use crate::sql::REQUEST_BY_ID;
 use crate::sql_values::sql_key;
@@ -33,9 +32,5 @@ pub fn request<S: Alter>(
     let Some(value) = sql_key(id) else {
         return none_past(conn, Table::Requests, id);
     };
-    let found = read(conn, REQUEST_BY_ID, params![&value])?;
-    match at_most_one(&found)? {
-        None => Ok(None),
-        Some(row) => Ok(Some(rows::request_in(row)?)),
-    }
+    look_up::<S, RequestRow>(conn, REQUEST_BY_ID, params![&value])
 }

@@ -10,11 +10,11 @@ ghost use Rattle.reg_tables.specs.Shows.{Shows};
 ghost use Rattle.reg_tables.specs.Stays.{Looked};
 
 use crate::fault::DatabaseFault;
-use crate::read_statements::{at_most_one, read};
-use crate::rows;
+use crate::read_statements::look_up;
+use crate::rows::ClockMoment;
 use crate::sizes::{Table, held};
 use crate::sql::{EARLIEST_ABOVE, REVOCATION_BY_SERIAL};
-use crate::sql_values::{clock_moment_at, sql_number};
+use crate::sql_values::sql_number;
 use reg_core::{Moment, RevocationRow, Serial};
 use sqlite::{Alter, Connection, params};
 
@@ -31,15 +31,11 @@ pub fn revocation<S: Alter>(
     ensures fails { Blamed S.Store DatabaseFault.Store conn.old conn.new result }
     ensures looked { Looked S.Store conn.old conn.new }
 {
-    let found = read(
+    look_up::<S, RevocationRow>(
         conn,
         REVOCATION_BY_SERIAL,
         params![serial.bytes20().as_slice()],
-    )?;
-    match at_most_one(&found)? {
-        None => Ok(None),
-        Some(row) => Ok(Some(rows::revocation_in(row)?)),
-    }
+    )
 }
 
 /// The moment of the earliest of the revocations whose first CRL has a number above this one.
@@ -54,11 +50,7 @@ fn earliest_above<S: Alter>(
     ensures looked { Looked S.Store conn.old conn.new }
 {
     let value = sql_number(number)?;
-    let found = read(conn, EARLIEST_ABOVE, params![&value])?;
-    match at_most_one(&found)? {
-        None => Ok(None),
-        Some(row) => Ok(Some(clock_moment_at(row, 0)?)),
-    }
+    look_up::<S, ClockMoment>(conn, EARLIEST_ABOVE, params![&value])
 }
 
 /// The moment of the earliest revocation that no CRL can have listed yet. It walks the revocations.

@@ -27,6 +27,9 @@ pub(crate) const LAST_CERT: &str = "SELECT rowid FROM cert ORDER BY rowid DESC L
 /// The greatest id of a request.
 pub(crate) const LAST_REQUEST: &str = "SELECT id FROM request ORDER BY id DESC LIMIT 1";
 
+/// The number of the latest CRL.
+pub(crate) const LAST_CRL: &str = "SELECT number FROM crl ORDER BY number DESC LIMIT 1";
+
 /// The latest CRL, without its bytes.
 pub(crate) const LATEST_CRL: &str =
     "SELECT number, this_update FROM crl ORDER BY number DESC LIMIT 1";

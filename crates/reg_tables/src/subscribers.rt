@@ -9,8 +9,7 @@ ghost use Rattle.reg_tables.specs.Shows.{Shows};
 ghost use Rattle.reg_tables.specs.Stays.{Looked};
 
 use crate::fault::DatabaseFault;
-use crate::read_statements::{at_most_one, read};
-use crate::rows;
+use crate::read_statements::look_up;
 use crate::sizes::{Table, none_past};
 use crate::sql::{SUBSCRIBER_BY_ID, SUBSCRIBER_BY_NAME};
 use crate::sql_values::sql_key;
@@ -34,11 +33,7 @@ pub fn subscriber<S: Alter>(
     let Some(value) = sql_key(id) else {
         return none_past(conn, Table::Subscribers, id);
     };
-    let found = read(conn, SUBSCRIBER_BY_ID, params![&value])?;
-    match at_most_one(&found)? {
-        None => Ok(None),
-        Some(row) => Ok(Some(rows::subscriber_in(row)?)),
-    }
+    look_up::<S, SubscriberRow>(conn, SUBSCRIBER_BY_ID, params![&value])
 }
 
 /// The subscriber with a name.
@@ -54,9 +49,5 @@ pub fn subscriber_by_name<S: Alter>(
     ensures fails { Blamed S.Store DatabaseFault.Store conn.old conn.new result }
     ensures looked { Looked S.Store conn.old conn.new }
 {
-    let found = read(conn, SUBSCRIBER_BY_NAME, &[ValueRef::Text(name.as_bytes())])?;
-    match at_most_one(&found)? {
-        None => Ok(None),
-        Some(row) => Ok(Some(rows::subscriber_in(row)?)),
-    }
+    look_up::<S, SubscriberRow>(conn, SUBSCRIBER_BY_NAME, &[ValueRef::Text(name.as_bytes())])
 }

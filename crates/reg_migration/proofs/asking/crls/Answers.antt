@@ -1,22 +1,26 @@
-use Rattle.std.proofs.Common.{map}
+use Rattle.std.proofs.Common.{map, ◌∙◌}
 use Rattle.sqlite.specs.Held.{state}
 use Rattle.reg_core.specs.Crls.{row_of}
-use Rattle.reg_migration.proofs.OneAfterAnother.{if_ok}
+use Rattle.reg_core.specs.declared.rows.CrlRow.{CrlRow}
+use Rattle.reg_tables.proofs.Queries.{all_of}
 use Rattle.reg_migration.proofs.Questions.{reading_crls, crls_are}
 use Rattle.reg_migration.proofs.asking.crls.Goals as goal
 
 pub returns-clause-same : goal.returns-clause-same
-returns-clause-same g c clean = if_ok _ c.crls_in.result (c.in_ok-found.ensures.same clean reading_crls)
+returns-clause-same g c clean = c.in_ok-found.ensures.same clean reading_crls
 
 pub returns-clause-found : goal.returns-clause-found
 returns-clause-found g c clean records before =
     let s0 = state g.S.Store c.args.tx.now.conn.now in
     let answer = c.in_ok-found.ensures.rows clean reading_crls (λ up. (before up).schema) in
     let shown = before answer.is_open in
-    c.crls_in.ensures.read (map row_of records.crls) (crls_are s0.now records shown c.in_ok-found.found.items answer.reads)
+    c.in_ok-rows_in.ensures.read (map row_of records.crls) (all_of (λ (crl : CrlRow). Unit {0}) (λ _. tt) (map row_of records.crls)) (c.deref.ensures.value ∙ crls_are s0.now records shown c.in_ok-found.found.items answer.reads)
 
 pub returns-in_err-found-clause-stepped : goal.returns-in_err-found-clause-stepped
 returns-in_err-found-clause-stepped g c = record { same_reference = c.ask.ensures.same_reference; kept = λ clean. c.ask.ensures.kept clean reading_crls; survives = c.ask.ensures.survives }
+
+pub returns-in_err-rows_in-clause-stepped : goal.returns-in_err-rows_in-clause-stepped
+returns-in_err-rows_in-clause-stepped g c = record { same_reference = c.ask.ensures.same_reference; kept = λ clean. c.ask.ensures.kept clean reading_crls; survives = c.ask.ensures.survives }
 
 pub returns-clause-stepped : goal.returns-clause-stepped
 returns-clause-stepped g c = record { same_reference = c.ask.ensures.same_reference; kept = λ clean. c.ask.ensures.kept clean reading_crls; survives = c.ask.ensures.survives }

@@ -3,7 +3,7 @@ use Rattle.reg_core.specs.Calendar.{clock_end}
 use Rattle.reg_core.specs.Crls.{row_of}
 use Rattle.reg_core.specs.declared.rows.CrlRow.{CrlRow}
 use Rattle.reg_tables.proofs.Queries.{all_of}
-use Rattle.reg_table_audit.proofs.Having.{all_map}
+use Rattle.reg_laws.proofs.Lists.{all_map}
 use Rattle.reg_table_audit.proofs.Showing.{crls_are}
 use Rattle.reg_table_audit.proofs.tables.crls.Goals as goal
 

@@ -5,7 +5,7 @@ use Rattle.reg_tables.specs.Columns as column
 use Rattle.reg_row_audit.specs.KeptAsRead.{standing_in}
 use Rattle.reg_row_audit.specs.declared.kept.Standing.{Standing}
 use Rattle.reg_row_audit.proofs.Following.{standing_out}
-use Rattle.reg_table_audit.proofs.Having.{all_map}
+use Rattle.reg_laws.proofs.Lists.{all_map}
 use Rattle.reg_table_audit.proofs.Showing.{letters_back, letters_are, serials_out}
 use Rattle.reg_table_audit.proofs.tables.letters.Goals as goal
 

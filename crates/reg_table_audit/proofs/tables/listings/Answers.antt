@@ -6,7 +6,7 @@ use Rattle.reg_row_audit.specs.KeptAsRead.{listed_in}
 use Rattle.reg_row_audit.specs.declared.kept.Listed.{Listed}
 use Rattle.reg_row_audit.proofs.Following.{listed_out}
 use Rattle.reg_table_audit.specs.ReadableValues.{AreMomentAndReason}
-use Rattle.reg_table_audit.proofs.Having.{all_map}
+use Rattle.reg_laws.proofs.Lists.{all_map}
 use Rattle.reg_table_audit.proofs.Showing.{listings_back, listed_are, serials_out}
 use Rattle.reg_table_audit.proofs.tables.listings.Goals as goal
 

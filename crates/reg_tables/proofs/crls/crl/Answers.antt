@@ -6,7 +6,7 @@ use Rattle.reg_core.specs.Records.{Crl, crl_in}
 use Rattle.reg_tables.specs.Rows.{number}
 use Rattle.reg_tables.proofs.Greatest.{none_past}
 use Rattle.reg_tables.proofs.Staying.{shows_register, shown_then, past_maps}
-use Rattle.reg_tables.proofs.CrlLemmas.{reading_bytes, bytes_none, bytes_one, same_blob, asked_bytes, bytes_few}
+use Rattle.reg_tables.proofs.CrlLemmas.{reading_bytes, bytes_row, same_blob, asked_bytes, bytes_few}
 use Rattle.reg_tables.specs.Failing.{HasFailed}
 use Rattle.reg_tables.specs.declared.fault.DatabaseFault.TheVariants.{Store}
 use Rattle.reg_tables.proofs.FailingLemmas.{none_made, written_register, written_shown}
@@ -27,7 +27,7 @@ returns-in-None-clause-found g c records shows clean =
     let value : c.in-Some.value ≡ number c.args.number = (rw c.in-Some.is at c.sql_key.ensures.value).1 in
     let answer = c.in_ok-found.ensures.rows reading_bytes (shows_register g.S.Store c.args.conn.now records shows) clean in
     let shown = shown_then g.S.Store c.args.conn.now c.read.new.conn records c.read.ensures.clean clean answer.is_open shows in
-    ap (option_map (λ (crl : Crl). crl.bytes)) (bytes_none (state g.S.Store c.args.conn.now).now records shown c.args.number c.in_ok-found.found.items (rw (c.params-to_sql.ensures, value) at answer.reads)
+    ap (option_map (λ (crl : Crl). crl.bytes)) ((bytes_row (state g.S.Store c.args.conn.now).now records shown c.args.number c.in_ok-found.found.items (rw (c.params-to_sql.ensures, value) at answer.reads)).none
     (sym c.deref.ensures.value ∙ (rw c.in-None.is at c.in_ok-at_most_one.ensures.found)))
 
 pub returns-clause-found : goal.returns-clause-found
@@ -35,7 +35,7 @@ returns-clause-found g c records shows clean =
     let value : c.in-Some.value ≡ number c.args.number = (rw c.in-Some.is at c.sql_key.ensures.value).1 in
     let answer = c.in_ok-found.ensures.rows reading_bytes (shows_register g.S.Store c.args.conn.now records shows) clean in
     let shown = shown_then g.S.Store c.args.conn.now c.read.new.conn records c.read.ensures.clean clean answer.is_open shows in
-    let one = bytes_one (state g.S.Store c.args.conn.now).now records shown c.args.number c.in_ok-found.found.items (rw (c.params-to_sql.ensures, value) at answer.reads)
+    let one = (bytes_row (state g.S.Store c.args.conn.now).now records shown c.args.number c.in_ok-found.found.items (rw (c.params-to_sql.ensures, value) at answer.reads)).one
     c.in-Some-2.row.now (sym c.deref.ensures.value ∙ (rw c.in-Some-2.is at c.in_ok-at_most_one.ensures.found)) in
     let same = same_blob (column c.in-Some-2.row.now 0) c.in_ok-get-in-Some-2.field-0.items one.it.bytes c.in_ok-get-in-Some-2.ensures.ok.1 (ap (λ (r : Row). column r 0) one.shown) in
     ap (λ (bytes : List ℕ). Some bytes) same ∙ ap (option_map (λ (crl : Crl). crl.bytes)) one.first
@@ -69,7 +69,7 @@ returns-in_err-get-in-Some-2-clause-fails g c records written clean =
     let value : c.in-Some.value ≡ number c.args.number = (rw c.in-Some.is at c.sql_key.ensures.value).1 in
     let answer = c.in_ok-found.ensures.rows reading_bytes (written_register g.S.Store c.args.conn.now records written) clean in
     let shown = written_shown {g = g.S.Store} {old = c.args.conn.now} c.read.new.conn records c.read.ensures.clean clean written answer in
-    let one = bytes_one (state g.S.Store c.args.conn.now).now records shown c.args.number c.in_ok-found.found.items (rw (c.params-to_sql.ensures, value) at answer.reads) c.in-Some-2.row.now (sym c.deref.ensures.value ∙ (rw c.in-Some-2.is at c.in_ok-at_most_one.ensures.found)) in
+    let one = (bytes_row (state g.S.Store c.args.conn.now).now records shown c.args.number c.in_ok-found.found.items (rw (c.params-to_sql.ensures, value) at answer.reads)).one c.in-Some-2.row.now (sym c.deref.ensures.value ∙ (rw c.in-Some-2.is at c.in_ok-at_most_one.ensures.found)) in
     let blob : column c.in-Some-2.row.now 0 ≡ Blob one.it.bytes = ap (λ (r : Row). column r 0) one.shown in
     let size : length c.in-Some-2.row.now ≡ 1 = ap length one.shown in
     let told : database_fault_of c.in_err-get-in-Some-2.field-0.0 ≡ Store → HasFailed (state g.S.Store c.args.conn.now) (state g.S.Store c.read.new.conn) =

@@ -1,77 +1,36 @@
-use Rattle.std.proofs.Common.{sym, ap, ◌∙◌, ◌≡◌, arith, rules, subst}
+use Rattle.std.proofs.Common.{◌≡◌, ◌∙◌, sym, arith, rules}
 use Rattle.sqlite.specs.Held.{state}
-use Rattle.sqlite_value.specs.Order.{Row, column}
-use Rattle.reg_tables.proofs.Staying.{shows_register, shown_then}
-use Rattle.reg_tables.proofs.OfficeLemmas.{reading_responding, responding_one, asked_responding, responding_rows}
 use Rattle.reg_tables.specs.Failing.{HasFailed}
 use Rattle.reg_tables.specs.declared.fault.DatabaseFault.TheVariants.{Store}
-use Rattle.reg_tables.proofs.FailingLemmas.{written_register, written_shown, no_issuer_fault}
-use Rattle.reg_der.specs.Authority.{IsKept, IsKey}
-use Rattle.reg_tables.specs.Faults.{issuer_fault_of}
+use Rattle.reg_tables.proofs.FailingLemmas.{written_register, written_shown, memory_alone}
+use Rattle.reg_tables.proofs.OfficeLemmas.{reading_responding, asked_responding, responding_rows}
+use Rattle.reg_tables.proofs.Staying.{shows_register, shown_then}
+use Rattle.reg_tables.proofs.Taking.{same_row}
 use Rattle.reg_tables.proofs.office.responding.Goals as goal
 
 pub returns-clause-found : goal.returns-clause-found
 returns-clause-found g c records shows clean =
-    let answer = c.in_ok-found.ensures.rows reading_responding (shows_register g.S.Store c.args.conn.now records shows) clean in
-    let shown = shown_then g.S.Store c.args.conn.now c.read.new.conn records c.read.ensures.clean clean answer.is_open shows in
-    let row = responding_one (state g.S.Store c.args.conn.now).now records shown c.in_ok-found.found.items c.in_ok-row.row.now (sym c.deref.ensures.value ∙ c.in_ok-row.ensures.found) answer.reads in
-    let last = c.in_ok-last.ensures.read records.last (ap (λ (r : Row). column r 0) row) in
-    let name = c.in_ok-bytes_at.ensures.read records.issuer.name (ap (λ (r : Row). column r 1) row) in
-    let key = c.in_ok-bytes_at-2.ensures.read records.issuer.key (ap (λ (r : Row). column r 2) row) in
-    let life = c.in_ok-life.ensures.read records.policy.ocsp_life (ap (λ (r : Row). column r 3) row) in
-    let made = c.in_ok-issuer.ensures.ok in
-    (last, (λ i. record { name = (made.0 ∙ name) i; key = (made.1 ∙ key) i }), life)
+    let answers = c.in_ok-found.ensures.rows reading_responding (shows_register g.S.Store c.args.conn.now records shows) clean in
+    let shown = shown_then g.S.Store c.args.conn.now c.read.new.conn records c.read.ensures.clean clean answers.is_open shows in
+    let row = same_row (sym c.deref.ensures.value ∙ c.in_ok-only.ensures.found) (responding_rows (state g.S.Store c.args.conn.now).now records shown c.in_ok-found.found.items answers.reads) in
+    c.responding_in.ensures.read records.last records.policy.ocsp_life records.issuer row
 
 pub returns-in_err-found-clause-fails : goal.returns-in_err-found-clause-fails
 returns-in_err-found-clause-fails g c records written clean =
-    let told : c.in_err-found.field-0.0 ≡ Store → HasFailed (state g.S.Store c.args.conn.now) (state g.S.Store c.read.new.conn) = c.in_err-found.ensures.fails reading_responding asked_responding (written_register g.S.Store c.args.conn.now records written) clean in
+    let told : c.in_err-found.field-0.0 ≡ Store → HasFailed (state g.S.Store c.args.conn.now) (state g.S.Store c.read.new.conn) =
+    c.in_err-found.ensures.fails reading_responding asked_responding (written_register g.S.Store c.args.conn.now records written) clean in
     search rules
 
-pub returns-in_err-row-clause-fails : goal.returns-in_err-row-clause-fails
-returns-in_err-row-clause-fails g c records written clean =
-    let answer = c.in_ok-found.ensures.rows reading_responding (written_register g.S.Store c.args.conn.now records written) clean in
-    let shown = written_shown {g = g.S.Store} {old = c.args.conn.now} c.read.new.conn records c.read.ensures.clean clean written answer in
-    absurd (c.in_err-row.ensures.others _ (c.deref.ensures.value ∙ responding_rows (state g.S.Store c.args.conn.now).now records shown c.in_ok-found.found.items answer.reads))
+pub returns-in_err-only-clause-fails : goal.returns-in_err-only-clause-fails
+returns-in_err-only-clause-fails g c records written clean =
+    let answers = c.in_ok-found.ensures.rows reading_responding (written_register g.S.Store c.args.conn.now records written) clean in
+    let shown = written_shown {g = g.S.Store} {old = c.args.conn.now} c.read.new.conn records c.read.ensures.clean clean written answers in
+    absurd (c.in_err-only.ensures.others _ (c.deref.ensures.value ∙ responding_rows (state g.S.Store c.args.conn.now).now records shown c.in_ok-found.found.items answers.reads))
 
-pub returns-in_err-last-clause-fails : goal.returns-in_err-last-clause-fails
-returns-in_err-last-clause-fails g c records written clean =
-    let answer = c.in_ok-found.ensures.rows reading_responding (written_register g.S.Store c.args.conn.now records written) clean in
-    let shown = written_shown {g = g.S.Store} {old = c.args.conn.now} c.read.new.conn records c.read.ensures.clean clean written answer in
-    let row = responding_one (state g.S.Store c.args.conn.now).now records shown c.in_ok-found.found.items c.in_ok-row.row.now (sym c.deref.ensures.value ∙ c.in_ok-row.ensures.found) answer.reads in
-    let late = c.in_err-last.ensures.read records.last (ap (λ (r : Row). column r 0) row) in
-    let early = written.sound.before_clock_end in
-    absurd (omega arith)
-
-pub returns-in_err-bytes_at-clause-fails : goal.returns-in_err-bytes_at-clause-fails
-returns-in_err-bytes_at-clause-fails g c records written clean =
-    let answer = c.in_ok-found.ensures.rows reading_responding (written_register g.S.Store c.args.conn.now records written) clean in
-    let shown = written_shown {g = g.S.Store} {old = c.args.conn.now} c.read.new.conn records c.read.ensures.clean clean written answer in
-    let row = responding_one (state g.S.Store c.args.conn.now).now records shown c.in_ok-found.found.items c.in_ok-row.row.now (sym c.deref.ensures.value ∙ c.in_ok-row.ensures.found) answer.reads in
-    absurd (c.in_err-bytes_at.ensures.read records.issuer.name (ap (λ (r : Row). column r 1) row))
-
-pub returns-in_err-bytes_at-2-clause-fails : goal.returns-in_err-bytes_at-2-clause-fails
-returns-in_err-bytes_at-2-clause-fails g c records written clean =
-    let answer = c.in_ok-found.ensures.rows reading_responding (written_register g.S.Store c.args.conn.now records written) clean in
-    let shown = written_shown {g = g.S.Store} {old = c.args.conn.now} c.read.new.conn records c.read.ensures.clean clean written answer in
-    let row = responding_one (state g.S.Store c.args.conn.now).now records shown c.in_ok-found.found.items c.in_ok-row.row.now (sym c.deref.ensures.value ∙ c.in_ok-row.ensures.found) answer.reads in
-    absurd (c.in_err-bytes_at-2.ensures.read records.issuer.key (ap (λ (r : Row). column r 2) row))
-
-pub returns-in_err-issuer-clause-fails : goal.returns-in_err-issuer-clause-fails
-returns-in_err-issuer-clause-fails g c records written clean =
-    let answer = c.in_ok-found.ensures.rows reading_responding (written_register g.S.Store c.args.conn.now records written) clean in
-    let shown = written_shown {g = g.S.Store} {old = c.args.conn.now} c.read.new.conn records c.read.ensures.clean clean written answer in
-    let row = responding_one (state g.S.Store c.args.conn.now).now records shown c.in_ok-found.found.items c.in_ok-row.row.now (sym c.deref.ensures.value ∙ c.in_ok-row.ensures.found) answer.reads in
-    let name = c.in_ok-bytes_at.ensures.read records.issuer.name (ap (λ (r : Row). column r 1) row) in
-    let key = c.in_ok-bytes_at-2.ensures.read records.issuer.key (ap (λ (r : Row). column r 2) row) in
-    let told : issuer_fault_of c.in_err-issuer.field-0.0 ≡ Store → HasFailed (state g.S.Store c.args.conn.now) (state g.S.Store c.read.new.conn) =
-    λ store. absurd (no_issuer_fault c.in_err-issuer.field-0.0 (subst IsKept (sym name) written.issuer.name) (subst IsKey (sym key) written.issuer.key) c.in_err-issuer.ensures.bad_name.0 c.in_err-issuer.ensures.bad_key.0 store) in
-    search rules
-
-pub returns-in_err-life-clause-fails : goal.returns-in_err-life-clause-fails
-returns-in_err-life-clause-fails g c records written clean =
-    let answer = c.in_ok-found.ensures.rows reading_responding (written_register g.S.Store c.args.conn.now records written) clean in
-    let shown = written_shown {g = g.S.Store} {old = c.args.conn.now} c.read.new.conn records c.read.ensures.clean clean written answer in
-    let row = responding_one (state g.S.Store c.args.conn.now).now records shown c.in_ok-found.found.items c.in_ok-row.row.now (sym c.deref.ensures.value ∙ c.in_ok-row.ensures.found) answer.reads in
-    let late = c.in_err-life.ensures.read records.policy.ocsp_life (ap (λ (r : Row). column r 3) row) in
-    let early = written.policy.ocsp_life.1 in
-    absurd (omega arith)
+pub returns-clause-fails : goal.returns-clause-fails
+returns-clause-fails g c records written clean =
+    let answers = c.in_ok-found.ensures.rows reading_responding (written_register g.S.Store c.args.conn.now records written) clean in
+    let shown = written_shown {g = g.S.Store} {old = c.args.conn.now} c.read.new.conn records c.read.ensures.clean clean written answers in
+    let row = same_row (sym c.deref.ensures.value ∙ c.in_ok-only.ensures.found) (responding_rows (state g.S.Store c.args.conn.now).now records shown c.in_ok-found.found.items answers.reads) in
+    memory_alone _ c.responding_in.result
+    (c.responding_in.ensures.has records.last records.policy.ocsp_life records.issuer row written.sound.before_clock_end written.issuer (let life = written.policy.ocsp_life.1 in omega arith))

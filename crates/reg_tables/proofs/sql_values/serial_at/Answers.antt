@@ -2,8 +2,8 @@ use Rattle.std.proofs.Common.{rules, ◌≡◌}
 use Rattle.reg_core.specs.Serial.{serial_bytes}
 use Rattle.sqlite_value.specs.Order.{column}
 use Rattle.sqlite_value.specs.declared.value.Value.TheVariants.{Blob}
-use Rattle.reg_table_audit.proofs.Serials.{serial_read, serial_told}
-use Rattle.reg_table_audit.proofs.sql_values.serial_at.Goals as goal
+use Rattle.reg_tables.proofs.Serials.{serial_read, serial_told}
+use Rattle.reg_tables.proofs.sql_values.serial_at.Goals as goal
 
 pub returns-in-Ok-Blob : goal.returns-in-Ok-Blob
 returns-in-Ok-Blob c = record {
