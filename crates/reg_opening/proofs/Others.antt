@@ -1,5 +1,5 @@
 -- What is known of tables once their schema was compared with that of each version.
-use Rattle.std.proofs.Common.{◌≡◌, ◌≢◌, ◌⊎◌, ◌↔◌, Bool, false, true, Option, None, Some, IsTrue, inl, inr, sym, ap, subst, ◌∙◌}
+use Rattle.std.proofs.Common.{◌≡◌, ◌≢◌, ◌⊎◌, ◌↔◌, Option, None, Some, IsTrue, inl, inr, sym, ap, ◌∙◌}
 use Rattle.sqlite_schema.specs.declared.schema.Schema.{Schema}
 use Rattle.sqlite.specs.Effect.{Database}
 use Rattle.sqlite.specs.State.{State, HasCleanDisk}
@@ -7,16 +7,13 @@ use Rattle.reg_core.specs.Records.{Records}
 use Rattle.reg_tables.specs.Schema.{register_schema}
 use Rattle.reg_tables.specs.Stays.{IsRegister, Stays}
 use Rattle.reg_writing.specs.Ran.{HasSchema}
+use Rattle.reg_schema.specs.declared.versions.Version.{Version}
 use Rattle.reg_migration.specs.Older.{older_schema}
 use Rattle.reg_migration.specs.declared.version.OlderVersion.{OlderVersion}
-use Rattle.reg_opening.specs.Compared.{says}
+use Rattle.reg_opening.specs.Compared.{version_told}
 use Rattle.reg_opening.specs.Examined.{SaysFound, IsOlderOf, found_version}
 use Rattle.reg_opening.specs.Said.{version_of, schema_of, HasVersion, HasOthers}
-use Rattle.reg_opening.specs.declared.comparing.Compared.{Compared}
 use Rattle.reg_opening.specs.declared.opening.OlderOffice.{OlderOffice}
-
-says_not : (b : Bool) → b ≡ false → IsTrue b → ⊥
-says_not b other said = absurd (let never : false ≡ true = sym other ∙ said in cc)
 
 has_found : (db : Database) (found : Option OlderOffice) → SaysFound db found → HasVersion db (version_of (found_version found))
 has_found db None it = it.0
@@ -27,16 +24,16 @@ version_found version records None is = absurd is
 version_found version records (Some older) is = ap Some is.0
 
 -- the tables of a database, by what was compared
-module _ (db : Database) (tables : Compared) (is : (version : Option OlderVersion) → IsTrue (says tables version) ↔ (db.schema ≡ schema_of version)) (found : Option OlderOffice) where
-  pub current_there : IsTrue (says tables (found_version found)) → found ≡ None → db.schema ≡ register_schema
+module _ (db : Database) (tables : Option Version) (is : (version : Option OlderVersion) → (tables ≡ Some (version_told version)) ↔ (db.schema ≡ schema_of version)) (found : Option OlderOffice) where
+  pub current_there : tables ≡ Some (version_told (found_version found)) → found ≡ None → db.schema ≡ register_schema
   current_there same none = (is (found_version found)).0 same ∙ ap (λ f. schema_of (found_version f)) none
 
-  pub older_there : IsTrue (says tables (found_version found)) → (older : OlderOffice) → found ≡ Some older → db.schema ≡ older_schema older.version
+  pub older_there : tables ≡ Some (version_told (found_version found)) → (older : OlderOffice) → found ≡ Some older → db.schema ≡ older_schema older.version
   older_there same older some = (is (found_version found)).0 same ∙ ap (λ f. schema_of (found_version f)) some
 
-  module _ (other : says tables (found_version found) ≡ false) where
+  module _ (other : tables ≢ Some (version_told (found_version found))) where
     differs : db.schema ≢ schema_of (found_version found)
-    differs same = says_not (says tables (found_version found)) other ((is (found_version found)).1 same)
+    differs same = other ((is (found_version found)).1 same)
 
     pub others_there : SaysFound db found → HasOthers db
     others_there it = (found_version found, has_found db found it, differs)

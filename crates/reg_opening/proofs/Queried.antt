@@ -66,12 +66,8 @@ module _ (text : List ℕ) (query : IsQuery text) (old new : State) where
 -- ---- why it fails over the tables of a register
 
 cause_is_call : (old new : State) (cause : StoreError) → HasCause old new ⊥ cause → IsTrue (is_call_error (store_error cause))
-cause_is_call old new OutOfMemory why = refl
-cause_is_call old new Io why = refl
-cause_is_call old new Corrupt why = refl
-cause_is_call old new Full why = refl
-cause_is_call old new Broken why = refl
 cause_is_call old new Unstorable why = absurd why
+cause_is_call old new other why = refl
 
 failed_is_call : (old new : State) (e : Error) → Fails old new ⊥ e → IsTrue (is_call_error e)
 failed_is_call old new e h = subst (λ x. IsTrue (is_call_error x)) (sym h.1) (cause_is_call old new h.0 h.2)
@@ -133,23 +129,7 @@ unlimited limit (command.Select q names) db e other (inl h) = inl h
 unlimited limit (command.Select q names) db e other (inr (inl h)) = inr (inl h)
 unlimited limit (command.Select q names) db e other (inr (inr h)) = absurd (interrupted_is_call e h.0 other)
 unlimited limit (command.Rows values width names) db e other h = absurd (interrupted_is_call e h.0 other)
-unlimited limit (command.Insert at from) db e other h = h
-unlimited limit (command.InsertOr at how from clauses) db e other h = h
-unlimited limit (command.Update at q) db e other h = h
-unlimited limit (command.Delete at q) db e other h = h
-unlimited limit command.CreateTable db e other h = h
-unlimited limit (command.CreateIndex at) db e other h = h
-unlimited limit (command.DropTable at) db e other h = h
-unlimited limit (command.DropIndex at) db e other h = h
-unlimited limit command.Begin db e other h = h
-unlimited limit command.Commit db e other h = h
-unlimited limit command.Rollback db e other h = h
-unlimited limit (command.Savepoint name) db e other h = h
-unlimited limit (command.Release name) db e other h = h
-unlimited limit (command.RollbackTo name) db e other h = h
-unlimited limit command.Nothing db e other h = h
-unlimited limit command.CreateView db e other h = h
-unlimited limit (command.DropView at) db e other h = h
+unlimited limit another db e other h = h
 
 module _ (text : List ℕ) (query : IsQuery text) (old new : State) (e : Error) (other : is_call_error e ≡ false) where
   failed_otherwise : Fails old new ⊥ e → ⊥

@@ -1,7 +1,8 @@
 -- Rows that are the steps of a schedule.
-use Rattle.std.proofs.Common.{◌≡◌, ◌<◌, ◌≤◌, ◌+◌, ℕ, zero, suc, List, [], ◌∷◌, ◌++◌, take, get_or, length, refl, sym, ap, subst, ◌∙◌, arith, add-one}
+use Rattle.std.specs.Prelude.{MatchOption, IfSome}
+use Rattle.std.proofs.Common.{◌≡◌, ◌≢◌, Option, None, Some, ◌<◌, ◌≤◌, ◌+◌, ℕ, zero, suc, List, [], ◌∷◌, ◌++◌, take, get_or, length, refl, sym, ap, subst, ◌∙◌, arith, add-one}
 use Rattle.sqlite_value.specs.Order.{Row, column}
-use Rattle.reg_core.specs.Calendar.{IsMoment}
+use Rattle.reg_core.specs.Calendar.{IsMoment, clock_end}
 use Rattle.reg_tables.specs.Rows.{number}
 use Rattle.reg_opening.specs.Said.{AreSteps, HaveMoments}
 use Rattle.reg_opening.proofs.Registered.{number_one}
@@ -52,3 +53,9 @@ is_step other row step same is = subst (λ r. IsStep r step) same is
 -- the one row
 pub only_row : (rows : List Row) (a b : Row) → rows ≡ a ∷ [] → rows ≡ b ∷ [] → a ≡ b
 only_row rows a b one two = cc
+
+-- a moment that the clock lets pass, judged both ways
+pub last_judged : (row : Row) (at : ℕ) (found : Option ℕ) → ((n : ℕ) → column row at ≡ number n → MatchOption found (clock_end ≤ n) (λ read. read ≡ n)) → IfSome found (λ n. column row at ≡ number n) → IfSome found (λ n. n < clock_end)
+    → MatchOption found ((last : ℕ) → last < clock_end → column row at ≢ number last) (λ last. (last < clock_end) × (column row at ≡ number last))
+last_judged row at None read told early = λ last before is. absurd (let late : clock_end ≤ last = read last is in omega (arith, late, before))
+last_judged row at (Some n) read told early = (early, told)

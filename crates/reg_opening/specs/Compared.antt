@@ -1,11 +1,12 @@
 -- What is told of a schema that was compared with that of each version.
-use Rattle.std.specs.Prelude.{Bool, Option, None, Some}
+use Rattle.std.specs.Prelude.{Option, None, Some}
+use Rattle.reg_schema.specs.declared.versions.Version.{Version}
+use Rattle.reg_schema.specs.declared.versions.Version.TheVariants as version
 use Rattle.reg_migration.specs.declared.version.OlderVersion.{OlderVersion}
 use Rattle.reg_migration.specs.declared.version.OlderVersion.TheVariants.{First, Second}
-use Rattle.reg_opening.specs.declared.comparing.Compared.{Compared}
 
--- whether it is that of a version, which is the program's where it is none
-abbrev pub says : Compared → Option OlderVersion → Bool
-says tables None = tables.third
-says tables (Some First) = tables.first
-says tables (Some Second) = tables.second
+-- a version, which is the program's where it is none
+abbrev pub version_told : Option OlderVersion → Version
+version_told None = version.Third
+version_told (Some First) = version.First
+version_told (Some Second) = version.Second

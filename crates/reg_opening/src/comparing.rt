@@ -1,51 +1,36 @@
 //! Whose tables stand in a database.
 
-ghost use Rattle.std.specs.Prelude.{◌≡◌, ◌↔◌, Option, false, IsTrue};
+ghost use Rattle.std.specs.Prelude.{◌≡◌, ◌↔◌, Option, Some, false, IfOk, IsTrue};
 ghost use Rattle.sqlite.specs.Held.{state};
 ghost use Rattle.reg_opening.specs.Said.{schema_of};
-ghost use Rattle.reg_opening.specs.Compared.{says};
+ghost use Rattle.reg_opening.specs.Compared.{version_told};
 
 use reg_migration::OlderVersion;
-use reg_schema::{Version, is_of};
+use reg_schema::{Version, version_of};
 use sqlite::{Alter, Connection};
-use sqlite_schema::schema::Schema;
+use std::alloc::{AllocError, Global};
 
-/// Whether the tables, with all that stands beside them, are those of each version.
-#[derive(Clone, Copy)]
-pub(crate) struct Compared {
-    first: bool,
-    second: bool,
-    third: bool,
-}
-
-/// Compares a schema with that of each version.
-fn compare(schema: &Schema) -> Compared
-    ensures { (version : Option OlderVersion) → IsTrue (says result version) ↔ (schema.now ≡ schema_of version) }
-{
-    Compared {
-        first: is_of(schema, Version::First),
-        second: is_of(schema, Version::Second),
-        third: is_of(schema, Version::Third),
-    }
-}
-
-/// Whether the tables are those of this version, which is the program's where it is none.
-pub(crate) fn is_same(tables: Compared, version: Option<OlderVersion>) -> bool
-    ensures { result ≡ says tables version }
+/// Whether the tables of a version are those of this one, which is the program's where it is none.
+pub(crate) fn is_same(tables: Option<Version>, version: Option<OlderVersion>) -> bool
+    ensures { IsTrue result ↔ (tables ≡ Some (version_told version)) }
 {
     match version {
-        None => tables.third,
-        Some(OlderVersion::First) => tables.first,
-        Some(OlderVersion::Second) => tables.second,
+        None => matches!(tables, Some(Version::Third)),
+        Some(OlderVersion::First) => matches!(tables, Some(Version::First)),
+        Some(OlderVersion::Second) => matches!(tables, Some(Version::Second)),
     }
 }
 
-/// Whose tables stand there. No transaction is under way, so they are those that were committed last.
-pub(crate) fn look<S: Alter>(conn: &Connection<S>) -> Compared
+/// The version whose tables stand there, if they are a version's, with all that stands beside them. No transaction is under way, so they
+/// are those that were committed last.
+pub(crate) fn look<S: Alter>(
+    alloc: Global,
+    conn: &Connection<S>,
+) -> Result<Option<Version>, AllocError>
     requires { conn.now.in_transaction ≡ false }
-    ensures tables { (version : Option OlderVersion) → IsTrue (says result version) ↔ ((state S.Store conn.now).now.schema ≡ schema_of version) }
+    ensures tables { IfOk result (λ tables. (version : Option OlderVersion) → (tables ≡ Some (version_told version)) ↔ ((state S.Store conn.now).now.schema ≡ schema_of version)) }
     ensures settled { IsTrue (state S.Store conn.now).is_open → (state S.Store conn.now).now ≡ (state S.Store conn.now).committed }
 {
     prove!(conn.is_autocommit());
-    compare(conn.schema())
+    version_of(alloc, conn.schema())
 }

@@ -9,7 +9,6 @@ mod office_rows;
 mod opening;
 mod peeking;
 pub mod sql;
-mod sql_values;
 
 pub use creating::create;
 pub use opening::{OlderOffice, examine, open};

@@ -1,8 +1,8 @@
 //! Whether rows are those of a register's office.
 
-ghost use Rattle.std.specs.Prelude.{◌≡◌, ◌≢◌, ◌⊎◌, ◌<◌, ◌≤◌, ℕ, List, OnOk, IfOk, IfErr, Err, MatchOption};
+ghost use Rattle.std.specs.Prelude.{◌≡◌, ◌≢◌, ◌⊎◌, ◌<◌, ◌≤◌, ℕ, List, [], ◌∷◌, OnOk, IfOk, IfErr, Err, MatchOption};
 ghost use Rattle.sqlite_value.specs.declared.value.Value.TheVariants.{Blob};
-ghost use Rattle.sqlite_value.specs.Order.{column};
+ghost use Rattle.sqlite_value.specs.Order.{Row as Cells, column};
 ghost use Rattle.reg_core.specs.Calendar.{IsMoment, clock_end};
 ghost use Rattle.reg_core.specs.Issuer as core;
 ghost use Rattle.reg_core.specs.Policy.{Terms, IsPolicy};
@@ -11,13 +11,23 @@ ghost use Rattle.reg_der.specs.Authority.{IsIssuer};
 ghost use Rattle.reg_tables.specs.Rows.{number};
 ghost use Rattle.reg_opening.specs.Said.{version_of, IsOne, AreSteps, HaveMoments, KeepsTo, AreOfficeRows, AreOlderOffice};
 
-use crate::sql_values::{bytes_at, number_at, only};
 use reg_core::{Moment, Policy, Schedule};
 use reg_der::{Issuer, IssuerFault};
 use reg_migration::OlderVersion;
 use reg_tables::StoreFault;
+use reg_tables::sql_values::{bytes_at, clock_moment_at, moment_at, number_at};
 use sqlite::Row;
 use std::alloc::Global;
+
+/// The one row.
+fn only(rows: &[Row]) -> Option<&Row>
+    ensures { MatchOption result ((row : Cells) → rows.now ≢ row ∷ []) (λ row. rows.now ≡ row.now ∷ []) }
+{
+    match rows {
+        [row] => Some(row),
+        _ => None,
+    }
+}
 
 /// The version, which is the one column of the one row.
 fn version_in(rows: &[Row]) -> Option<u64>
@@ -47,8 +57,7 @@ pub(crate) fn judge_version(rows: &[Row]) -> Result<Option<OlderVersion>, StoreF
 fn step_in(row: &Row) -> Option<(Moment, u64)>
     ensures { MatchOption result ((n : ℕ) → (days : ℕ) → IsMoment n → column row.now 0 ≡ number n → column row.now 1 ≢ number days) (λ step. (column row.now 0 ≡ number step.0) × (column row.now 1 ≡ number step.1) × IsMoment step.0) }
 {
-    let moment = Moment::of_secs(number_at(row, 0)?)?;
-    Some((moment, number_at(row, 1)?))
+    Some((moment_at(row, 0)?, number_at(row, 1)?))
 }
 
 /// The steps of the schedule.
@@ -95,12 +104,7 @@ fn policy_in(row: &Row, schedule: Schedule) -> Option<Policy>
 fn last_in(row: &Row) -> Option<Moment>
     ensures { MatchOption result ((last : ℕ) → last < clock_end → column row.now 5 ≢ number last) (λ last. (last < clock_end) × (column row.now 5 ≡ number last)) }
 {
-    let moment = Moment::of_secs(number_at(row, 5)?)?;
-    if moment < Moment::CLOCK_END {
-        Some(moment)
-    } else {
-        None
-    }
+    clock_moment_at(row, 5)
 }
 
 /// Whether a name and a key are an issuer's.

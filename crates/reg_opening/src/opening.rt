@@ -1,6 +1,6 @@
 //! The tables of an opened database, tested before they are used, and made newer where they are of an older version.
 
-ghost use Rattle.std.specs.Prelude.{◌≡◌, ◌≢◌, ◌<◌, ◌⊎◌, ℕ, Option, None, false, IsTrue, MatchResult, OnOk, OnErr, IfOk, IfErr, Err};
+ghost use Rattle.std.specs.Prelude.{◌≡◌, ◌≢◌, ◌<◌, ◌⊎◌, ℕ, Option, None, Some, false, IsTrue, MatchResult, OnOk, OnErr, IfOk, IfErr, Err};
 ghost use Rattle.sqlite.specs.Held.{state};
 ghost use Rattle.sqlite.specs.State.{HasCleanDisk, IsUnchanged, Survives};
 ghost use Rattle.reg_core.specs.Records.{Records};
@@ -11,19 +11,21 @@ ghost use Rattle.reg_tables.specs.Shows.{IsShownBy, Shows, HasOfficeDays, KeepsO
 ghost use Rattle.reg_tables.specs.Stays.{IsDatabaseFault, IsRegister, LeavesNothing, Stays, Stepped};
 ghost use Rattle.reg_migration.specs.Older.{IsShownByOlder, ShowsOlder};
 ghost use Rattle.reg_opening.specs.Said.{version_of, IsOfVersion, HasVersion, SaysOffice, ReadsOlder, IsOlder, SaysNoVersion, SaysNoOffice, SaysNoOlder, SaysNoRegister, IsNoRegister, HoldsNoRegister, InRange};
-ghost use Rattle.reg_opening.specs.Compared.{says};
+ghost use Rattle.reg_opening.specs.Compared.{version_told};
 ghost use Rattle.reg_opening.specs.AfterStoppedOpening.{IsOpened};
 ghost use Rattle.reg_opening.specs.Examined.{SaysFound, IsOlderOf, found_version};
 
-use crate::comparing::{Compared, is_same, look};
+use crate::comparing::{is_same, look};
 use crate::office_rows::{judge_office, judge_older, judge_version};
 use crate::peeking::peek;
 use crate::sql;
 use reg_core::Moment;
 use reg_migration::{OlderVersion, migrate};
+use reg_schema::Version;
 use reg_tables::StoreFault;
 use reg_tables::sql::STEPS;
 use sqlite::{Alter, Connection, Transaction};
+use std::alloc::Global;
 
 /// What the office of an older version says.
 #[derive(Clone, Copy)]
@@ -147,9 +149,9 @@ fn version_in(found: Option<OlderOffice>) -> Option<OlderVersion>
 }
 
 /// Tests that the tables are those of the version that was found.
-fn test_schema(tables: Compared, found: Option<OlderOffice>) -> Result<(), StoreFault>
-    ensures ok { OnOk result (IsTrue (says tables (found_version found))) }
-    ensures err { IfErr result (λ fault. (fault ≡ StoreFault.NotARegister) × (says tables (found_version found) ≡ false)) }
+fn test_schema(tables: Option<Version>, found: Option<OlderOffice>) -> Result<(), StoreFault>
+    ensures ok { OnOk result (tables ≡ Some (version_told (found_version found))) }
+    ensures err { IfErr result (λ fault. (fault ≡ StoreFault.NotARegister) × (tables ≢ Some (version_told (found_version found)))) }
 {
     if is_same(tables, version_in(found)) {
         return Ok(());
@@ -167,7 +169,7 @@ fn test_schema(tables: Compared, found: Option<OlderOffice>) -> Result<(), Store
 /// indexes, or what stands beside them, are others than those of its version; `NewVersion` above 3; `Memory`; `Store`
 /// where the database fails, or where an older register can't be made newer, as with a row that no register writes. The
 /// tables are as they were then.
-pub fn open<S: Alter>(conn: &mut Connection<S>) -> Result<(), StoreFault>
+pub fn open<S: Alter>(alloc: Global, conn: &mut Connection<S>) -> Result<(), StoreFault>
     requires { conn.old.in_transaction ≡ false }
     ensures shows { (records : Records) → Shows S.Store conn.old records → OnOk result (Shows S.Store conn.new records) }
     ensures keeps { (records : Records) → ShowsKept S.Store conn.old records → OnOk result (ShowsKept S.Store conn.new records) }
@@ -186,7 +188,9 @@ pub fn open<S: Alter>(conn: &mut Connection<S>) -> Result<(), StoreFault>
     ensures idle { conn.new.in_transaction ≡ false }
     ensures faults { IfErr result (λ fault. fault ≢ StoreFault.NotEmpty) }
 {
-    let tables = look(conn);
+    let Ok(tables) = look(alloc, conn) else {
+        return Err(StoreFault::Memory);
+    };
     let found = examine(conn)?;
     test_schema(tables, found)?;
     match found {

@@ -1,1 +1,3 @@
-pub mod Joined
+pub mod Steps
+pub mod Texts
+pub mod Told

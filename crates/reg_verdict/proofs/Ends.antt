@@ -1,10 +1,10 @@
 -- How the look of an audit ends.
-use Rattle.std.proofs.Common.{◌≡◌, ◌≢◌, ℕ, ◌<◌, false, true, Some, None, is_some, Result, Ok, Err, IfOk, sym, ap, subst, ◌∙◌}
+use Rattle.std.proofs.Common.{◌≡◌, ◌≢◌, ℕ, ◌<◌, false, true, Some, None, is_some, Result, Ok, Err, IfOk, inl, refl, sym, ap, subst, ◌∙◌}
 use Rattle.std.specs.Prelude.{Option, IsErrAnd}
 use Rattle.sqlite_trees.specs.declared.store.Store.{Ghosts}
 use Rattle.sqlite.specs.Effect.{Database}
 use Rattle.sqlite.specs.Held.{Held, state}
-use Rattle.sqlite.specs.State.{HasCleanDisk}
+use Rattle.sqlite.specs.State.{State, HasCleanDisk}
 use Rattle.reg_tables.specs.Schema.{register_schema}
 use Rattle.reg_tables.specs.Stays.{Stays}
 use Rattle.reg_tables.specs.declared.fault.StoreFault.{StoreFault}
@@ -23,6 +23,10 @@ use Rattle.reg_verdict.specs.Verdicts.{TellsOf, verdict_of}
 -- a fault of who looks at the version
 abbrev fails_by : StoreFault → Result (Option OlderOffice) StoreFault
 fails_by why = Err why
+
+-- nothing was done yet
+pub stays_same : (s : State) → Stays s s
+stays_same s = record { was_open = λ clean up. up; now = λ clean up. inl refl; committed = λ clean up. refl }
 
 module _ {S : Type 0} (g : Ghosts S) (old new : Held S) (same : Stays (state g old) (state g new)) (idle : new.in_transaction ≡ false) where
   -- the look at the version fails

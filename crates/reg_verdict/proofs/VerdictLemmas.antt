@@ -37,10 +37,8 @@ module _ (P : Type 0) where
 
 module _ (records : Records) (columns : Columns) where
   well_denied : (audited : Result Audited AuditFault) → IfErr audited (λ reason. IsDenied reason records columns) → IfOk (verdict_of audited) (λ verdict. DeniedBy verdict records columns)
-  well_denied (Ok found) denied = tt
   well_denied (Err (audit_fault.Broken broken)) denied = denied
-  well_denied (Err audit_fault.Memory) denied = tt
-  well_denied (Err audit_fault.Store) denied = tt
+  well_denied other denied = tt
 
   -- what a row that was found denies, it denies where it is told
   pub denied_said : (audited : Result Audited AuditFault) (result : Result Verdict StoreFault) → result ≡ verdict_of audited → IfErr audited (λ reason. IsDenied reason records columns) → IfOk result (λ verdict. DeniedBy verdict records columns)
@@ -49,8 +47,7 @@ module _ (records : Records) (columns : Columns) where
 well_counted : (records : Records) (audited : Result Audited AuditFault) → IfOk audited (AreNumbersOf records) → IfOk (verdict_of audited) (λ verdict. CountedBy verdict records)
 well_counted records (Ok found) counted = counted
 well_counted records (Err (audit_fault.Broken broken)) counted = tt
-well_counted records (Err audit_fault.Memory) counted = tt
-well_counted records (Err audit_fault.Store) counted = tt
+well_counted records (Err other) counted = tt
 
 -- the numbers that were found are told
 pub counted_said : (records : Records) (audited : Result Audited AuditFault) (result : Result Verdict StoreFault) → result ≡ verdict_of audited → IfOk audited (AreNumbersOf records)

@@ -40,14 +40,18 @@ fn said(audited: Result<Audited, AuditFault>) -> Result<Verdict, StoreFault>
 }
 
 /// Whether a connection is in no transaction, and its schema is a register's.
-fn is_over_register<S: Alter>(conn: &Connection<S>) -> bool
-    ensures is { IsTrue result → IsOverRegister S.Store conn.now }
-    ensures other { conn.now.in_transaction ≡ false → result ≡ false → (state S.Store conn.now).now.schema ≢ register_schema }
+fn is_over_register<S: Alter>(alloc: Global, conn: &Connection<S>) -> Result<bool, StoreFault>
+    ensures is { IfOk result (λ same. IsTrue same → IsOverRegister S.Store conn.now) }
+    ensures other { conn.now.in_transaction ≡ false → IfOk result (λ same. same ≡ false → (state S.Store conn.now).now.schema ≢ register_schema) }
+    ensures faults { IfErr result (λ fault. fault ≡ StoreFault.Memory) }
 {
     if !conn.is_autocommit() {
-        return false;
+        return Ok(false);
     }
-    is_register(conn.schema())
+    match is_register(alloc, conn.schema()) {
+        Ok(same) => Ok(same),
+        Err(_) => Err(StoreFault::Memory),
+    }
 }
 
 /// Looks at the version, the issuer, the policy and the last accepted moment as who opens a register does; then, where the
@@ -99,7 +103,7 @@ fn judged<S: Alter, W: Watch>(
     requires { conn.old.in_transaction ≡ false }
     ensures { IsJudged S.Store conn.old conn.new result }
 {
-    let is_register = is_over_register(conn);
+    let is_register = is_over_register(alloc, conn)?;
     let older = examine(conn)?;
     if older.is_some() {
         return Ok(Verdict::Older);

@@ -28,7 +28,7 @@ returns-in_err-found-clause-alone g c clean is unviewed = no_register (state g.S
 pub returns-in_err-test_schema-clause-none : goal.returns-in_err-test_schema-clause-none
 returns-in_err-test_schema-clause-none g c clean is =
     let old = (state g.S.Store c.args.conn.now).now in
-    inr (others_there old c.look-tables.result c.look-tables.ensures.tables c.in_ok-found.found c.in_err-test_schema.ensures.err.1 (c.in_ok-found.ensures.ok clean))
+    inr (others_there old c.in-Ok.tables c.in-Ok.ensures.tables c.in_ok-found.found c.in_err-test_schema.ensures.err.1 (c.in_ok-found.ensures.ok clean))
 
 pub returns-in_err-test_schema-clause-alone : goal.returns-in_err-test_schema-clause-alone
 returns-in_err-test_schema-clause-alone g c clean is unviewed = no_register (state g.S.Store c.args.conn.now).now unviewed (returns-in_err-test_schema-clause-none g c clean is)
@@ -39,7 +39,7 @@ returns-in_err-test_schema-clause-shown g c clean records within shows =
     let old = state s c.args.conn.now in
     let was : HasCleanDisk old = was_clean old (state s c.examine.new.conn) c.examine.ensures.survives.clean clean in
     let shown = shows.tables was (c.in_ok-found.ensures.live clean) in
-    absurd (never_current old.now c.look-tables.result c.look-tables.ensures.tables c.in_ok-found.found c.in_err-test_schema.ensures.err.1 (c.in_ok-found.ensures.register clean records shows) shown.schema)
+    absurd (never_current old.now c.in-Ok.tables c.in-Ok.ensures.tables c.in_ok-found.found c.in_err-test_schema.ensures.err.1 (c.in_ok-found.ensures.register clean records shows) shown.schema)
 
 pub returns-in_err-test_schema-clause-shown_older : goal.returns-in_err-test_schema-clause-shown_older
 returns-in_err-test_schema-clause-shown_older g c clean version records within shows =
@@ -47,7 +47,7 @@ returns-in_err-test_schema-clause-shown_older g c clean version records within s
     let old = state s c.args.conn.now in
     let was : HasCleanDisk old = was_clean old (state s c.examine.new.conn) c.examine.ensures.survives.clean clean in
     let shown = shows.tables was (c.in_ok-found.ensures.live clean) in
-    absurd (never_older old.now c.look-tables.result c.look-tables.ensures.tables c.in_ok-found.found c.in_err-test_schema.ensures.err.1 version records (c.in_ok-found.ensures.older clean version records shows) shown.schema)
+    absurd (never_older old.now c.in-Ok.tables c.in-Ok.ensures.tables c.in_ok-found.found c.in_err-test_schema.ensures.err.1 version records (c.in_ok-found.ensures.older clean version records shows) shown.schema)
 
 pub returns-in_err-test_schema-clause-survives : goal.returns-in_err-test_schema-clause-survives
 returns-in_err-test_schema-clause-survives g c = leaves_less (state g.S.Store c.args.conn.now) (state g.S.Store c.examine.new.conn) (IsOpened g.S.Store c.args.conn.now) c.examine.ensures.survives
@@ -56,19 +56,19 @@ pub returns-in-None-clause-registers : goal.returns-in-None-clause-registers
 returns-in-None-clause-registers g c =
     let s = g.S.Store in
     let old = state s c.args.conn.now in
-    let schema = current_there old.now c.look-tables.result c.look-tables.ensures.tables c.in_ok-found.found c.in_ok-test_schema.ensures.ok c.in-None.is in
-    same_register old (state s c.examine.new.conn) c.examine.ensures.same c.look-tables.ensures.settled schema
+    let schema = current_there old.now c.in-Ok.tables c.in-Ok.ensures.tables c.in_ok-found.found c.in_ok-test_schema.ensures.ok c.in-None.is in
+    same_register old (state s c.examine.new.conn) c.examine.ensures.same c.look.ensures.settled schema
 
 pub returns-in_ok-migrate-in-Some-clause-registers : goal.returns-in_ok-migrate-in-Some-clause-registers
 returns-in_ok-migrate-in-Some-clause-registers g c =
     let s = g.S.Store in
     let old = state s c.args.conn.now in
     let older = c.in-Some.older in
-    let schema = older_there old.now c.look-tables.result c.look-tables.ensures.tables c.in_ok-found.found c.in_ok-test_schema.ensures.ok older c.in-Some.is in
+    let schema = older_there old.now c.in-Ok.tables c.in-Ok.ensures.tables c.in_ok-found.found c.in_ok-test_schema.ensures.ok older c.in-Some.is in
     let mid = state s c.examine.new.conn in
     let new = state s c.migrate.new.conn in
     let gives : HasCleanDisk new → IsRegister new = λ clean.
-    c.in_ok-migrate-in-Some.ensures.registers (same_schema old mid c.examine.ensures.same c.look-tables.ensures.settled (older_schema older.version) schema (was_clean mid new c.migrate.ensures.survives.clean clean)) in
+    c.in_ok-migrate-in-Some.ensures.registers (same_schema old mid c.examine.ensures.same c.look.ensures.settled (older_schema older.version) schema (was_clean mid new c.migrate.ensures.survives.clean clean)) in
     record { now = λ clean up. (gives clean).now clean up; committed = λ clean up. (gives clean).committed clean up }
 
 pub returns-in-None-clause-migrated : goal.returns-in-None-clause-migrated
@@ -125,7 +125,7 @@ returns-in_ok-migrate-in-Some-clause-said g c clean =
     let was : HasCleanDisk (state s mid) = was_clean (state s mid) (state s new) c.migrate.ensures.survives.clean clean in
     let it = subst (SaysFound (state s c.args.conn.now).now) c.in-Some.is (c.in_ok-found.ensures.ok was) in
     let older = c.in-Some.older in
-    let schema = older_there (state s c.args.conn.now).now c.look-tables.result c.look-tables.ensures.tables c.in_ok-found.found c.in_ok-test_schema.ensures.ok older c.in-Some.is in
+    let schema = older_there (state s c.args.conn.now).now c.in-Ok.tables c.in-Ok.ensures.tables c.in_ok-found.found c.in_ok-test_schema.ensures.ok older c.in-Some.is in
     inr (older.version, schema, it.0, (older.days, older.last, it.1))
 
 pub returns-in_err-found-clause-survives : goal.returns-in_err-found-clause-survives
@@ -144,7 +144,7 @@ returns-in_ok-migrate-in-Some-clause-survives g c =
     survives_then (state s old) (state s mid) (state s new) (λ _. ⊥) (IsMigrated s mid older.version older.days older.last) (IsOpened s old) (λ clean trees none. absurd none)
     (λ clean trees migrated.
     let was : HasCleanDisk (state s mid) = was_clean (state s mid) (state s new) c.migrate.ensures.survives.clean clean in
-    let schema = older_there (state s old).now c.look-tables.result c.look-tables.ensures.tables c.in_ok-found.found c.in_ok-test_schema.ensures.ok older c.in-Some.is in
+    let schema = older_there (state s old).now c.in-Ok.tables c.in-Ok.ensures.tables c.in_ok-found.found c.in_ok-test_schema.ensures.ok older c.in-Some.is in
     let it = subst (SaysFound (state s old).now) c.in-Some.is (c.in_ok-found.ensures.ok was) in (
       (older.version, schema, it.0, (older.days, older.last, it.1)),
       λ version records shows sound.
@@ -162,7 +162,7 @@ returns-in_err-migrate-in-Some-clause-survives g c =
     survives_then (state s old) (state s mid) (state s new) (λ _. ⊥) (IsMigrated s mid older.version older.days older.last) (IsOpened s old) (λ clean trees none. absurd none)
     (λ clean trees migrated.
     let was : HasCleanDisk (state s mid) = was_clean (state s mid) (state s new) c.migrate.ensures.survives.clean clean in
-    let schema = older_there (state s old).now c.look-tables.result c.look-tables.ensures.tables c.in_ok-found.found c.in_ok-test_schema.ensures.ok older c.in-Some.is in
+    let schema = older_there (state s old).now c.in-Ok.tables c.in-Ok.ensures.tables c.in_ok-found.found c.in_ok-test_schema.ensures.ok older c.in-Some.is in
     let it = subst (SaysFound (state s old).now) c.in-Some.is (c.in_ok-found.ensures.ok was) in (
       (older.version, schema, it.0, (older.days, older.last, it.1)),
       λ version records shows sound.

@@ -3,15 +3,21 @@ use Rattle.sqlite.specs.Held.{state}
 use Rattle.sqlite.specs.State.{HasCleanDisk}
 use Rattle.reg_tables.proofs.Staying.{stays_both, stays_holds, stays_register, stays_then}
 use Rattle.reg_table_audit.specs.Complete.{ShowsSound}
-use Rattle.reg_verdict.proofs.Ends.{ended_older, ended_other, failed_first, never_newer, never_none, says_older, tells_said}
+use Rattle.reg_verdict.proofs.Ends.{ended_older, ended_other, failed_first, never_newer, never_none, says_older, stays_same, tells_said}
 use Rattle.reg_verdict.proofs.Ordered.{tables_are}
 use Rattle.reg_verdict.proofs.VerdictLemmas.{always_said, counted_said, denied_said, register_by, says_third, sound_said}
 use Rattle.reg_verdict.proofs.verdict.judged.Goals as goal
 
+pub returns-in_err-is_register : goal.returns-in_err-is_register
+returns-in_err-is_register g c =
+    let memory = c.in_err-is_register.ensures.faults in
+    failed_first g.S.Store c.args.conn.now c.args.conn.now (stays_same (state g.S.Store c.args.conn.now)) c.requires
+    c.from_residual.result c.in_err-is_register.field-0.0 c.from_residual.ensures.1 (λ clean e. absurd (let bad : ⊥ = cc in bad)) (λ clean e. absurd (let bad : ⊥ = cc in bad)) (λ e. let bad : ⊥ = cc in bad)
+
 pub returns-in_err-older : goal.returns-in_err-older
 returns-in_err-older g c =
     failed_first g.S.Store c.args.conn.now c.examine.new.conn c.examine.ensures.same c.examine.ensures.idle
-    c.from_residual.result c.in_err-older.field-0.0 c.from_residual.ensures.1 c.in_err-older.ensures.newer c.in_err-older.ensures.none c.in_err-older.ensures.faults
+    c.from_residual-in_err-older.result c.in_err-older.field-0.0 c.from_residual-in_err-older.ensures.1 c.in_err-older.ensures.newer c.in_err-older.ensures.none c.in_err-older.ensures.faults
 
 pub returns-then-is_some : goal.returns-then-is_some
 returns-then-is_some g c =
@@ -22,10 +28,10 @@ returns-then-is_some g c =
 pub returns-then-not-is_register : goal.returns-then-not-is_register
 returns-then-not-is_register g c =
     let db = (state g.S.Store c.args.conn.now).now in
-    let other : c.is_over_register-is_register.result ≡ false = search rules in
+    let other : c.in_ok-is_register.is_register ≡ false = search rules in
     let third : is_some c.in_ok-older.older ≡ false = search rules in
     ended_other g.S.Store c.args.conn.now c.examine.new.conn c.examine.ensures.same c.examine.ensures.idle
-    (λ clean. (says_third db c.in_ok-older.older third (c.in_ok-older.ensures.ok clean), c.is_over_register-is_register.ensures.other c.requires other))
+    (λ clean. (says_third db c.in_ok-older.older third (c.in_ok-older.ensures.ok clean), c.in_ok-is_register.ensures.other c.requires other))
 
 pub returns : goal.returns
 returns g c =
@@ -35,7 +41,7 @@ returns g c =
     let new = c.audit.new.conn in
     let db = (state s old).now in
     let third : is_some c.in_ok-older.older ≡ false = search rules in
-    let is = c.is_over_register-is_register.ensures.is c.if-not-is_register.false in
+    let is = c.in_ok-is_register.ensures.is c.if-not-is_register.false in
     let clean_first = c.examine.ensures.survives.clean in
     let first = c.examine.ensures.same in
     let looked = c.audit.ensures.looked in

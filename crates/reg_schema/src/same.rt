@@ -1,0 +1,185 @@
+//! Whether two schemas are the same, part by part.
+
+ghost use Rattle.std.specs.Prelude.{◌≡◌, ◌↔◌, IsTrue};
+
+use crate::terms::{same_terms, same_value};
+use sqlite_items::Items;
+use sqlite_schema::code::Terms;
+use sqlite_schema::schema::{Column, Index, Reference, Schema, Stamps, Table, View};
+use sqlite_value::keys::Order;
+use sqlite_value::value::{Bytes, Value};
+
+/// What is compared, part by part.
+pub(crate) trait Same {
+    /// Whether it is the same as another.
+    fn is_same(&self, other: &Self) -> bool
+        ensures { IsTrue result ↔ (self.now ≡ other.now) };
+}
+
+/// Whether two lists have the same items, one by one.
+fn are_same<T: Same>(left: &[T], right: &[T]) -> bool
+    ensures { IsTrue result ↔ (left.entry.now ≡ right.entry.now) }
+{
+    let mut left = left;
+    let mut right = right;
+    while let [first, rest @ ..] = left {
+        let [second, others @ ..] = right else {
+            return false;
+        };
+        if !first.is_same(second) {
+            return false;
+        }
+        left = rest;
+        right = others;
+    }
+    right.is_empty()
+}
+
+impl<T: Same> Same for Items<T> {
+    fn is_same(&self, other: &Items<T>) -> bool {
+        are_same(self.as_slice(), other.as_slice())
+    }
+}
+
+impl<T: Same> Same for Option<T> {
+    fn is_same(&self, other: &Option<T>) -> bool {
+        match self {
+            None => other.is_none(),
+            Some(one) => match other {
+                None => false,
+                Some(another) => one.is_same(another),
+            },
+        }
+    }
+}
+
+impl Same for usize {
+    fn is_same(&self, other: &usize) -> bool {
+        *self == *other
+    }
+}
+
+impl Same for Bytes {
+    fn is_same(&self, other: &Bytes) -> bool {
+        self.as_slice() == other.as_slice()
+    }
+}
+
+impl Same for Value {
+    fn is_same(&self, other: &Value) -> bool {
+        same_value(self, other)
+    }
+}
+
+impl Same for Order {
+    fn is_same(&self, other: &Order) -> bool {
+        self.digits == other.digits
+    }
+}
+
+impl Same for Terms {
+    fn is_same(&self, other: &Terms) -> bool {
+        same_terms(self, other)
+    }
+}
+
+impl Same for Column {
+    fn is_same(&self, other: &Column) -> bool {
+        self.name.is_same(&other.name)
+            && self.kind == other.kind
+            && self.is_strict == other.is_strict
+            && self.not_null == other.not_null
+            && self.default.is_same(&other.default)
+            && self.collation == other.collation
+    }
+}
+
+impl Same for Reference {
+    fn is_same(&self, other: &Reference) -> bool {
+        self.columns.is_same(&other.columns)
+            && self.parent.is_same(&other.parent)
+            && self.parent_columns.is_same(&other.parent_columns)
+            && self.on_delete == other.on_delete
+            && self.on_update == other.on_update
+            && self.is_deferred == other.is_deferred
+    }
+}
+
+impl Same for Stamps {
+    fn is_same(&self, other: &Stamps) -> bool {
+        self.places.is_same(&other.places)
+            && self.terms.is_same(&other.terms)
+            && self.formats.is_same(&other.formats)
+    }
+}
+
+/// Whether two tables have the same name and tree, columns, rowid and AUTOINCREMENT.
+fn have_same_columns(left: &Table, right: &Table) -> bool
+    ensures { IsTrue result ↔ ((left.now.name ≡ right.now.name) × (left.now.tree ≡ right.now.tree) × (left.now.columns ≡ right.now.columns)
+        × (left.now.key ≡ right.now.key) × (left.now.is_counted ≡ right.now.is_counted)) }
+{
+    left.name.is_same(&right.name)
+        && left.tree == right.tree
+        && left.columns.is_same(&right.columns)
+        && left.key == right.key
+        && left.is_counted == right.is_counted
+}
+
+/// Whether two tables have the same keys.
+fn have_same_keys(left: &Table, right: &Table) -> bool
+    ensures { IsTrue result ↔ ((left.now.primary ≡ right.now.primary)
+        × (left.now.uniques ≡ right.now.uniques) × (left.now.orders ≡ right.now.orders)) }
+{
+    left.primary.is_same(&right.primary)
+        && left.uniques.is_same(&right.uniques)
+        && left.orders.is_same(&right.orders)
+}
+
+/// Whether two tables have the same CHECKs, references and defaults that are computed.
+fn have_same_rules(left: &Table, right: &Table) -> bool
+    ensures { IsTrue result ↔ ((left.now.checks ≡ right.now.checks) × (left.now.references ≡ right.now.references)
+        × (left.now.computed ≡ right.now.computed) × (left.now.stamps ≡ right.now.stamps)) }
+{
+    left.checks.is_same(&right.checks)
+        && left.references.is_same(&right.references)
+        && left.computed.is_same(&right.computed)
+        && left.stamps.is_same(&right.stamps)
+}
+
+impl Same for Table {
+    fn is_same(&self, other: &Table) -> bool {
+        have_same_columns(self, other)
+            && have_same_keys(self, other)
+            && have_same_rules(self, other)
+    }
+}
+
+impl Same for Index {
+    fn is_same(&self, other: &Index) -> bool {
+        self.name.is_same(&other.name)
+            && self.tree == other.tree
+            && self.table == other.table
+            && self.columns.is_same(&other.columns)
+            && self.order.is_same(&other.order)
+            && self.is_unique == other.is_unique
+    }
+}
+
+impl Same for View {
+    fn is_same(&self, other: &View) -> bool {
+        self.name.is_same(&other.name)
+            && self.tree == other.tree
+            && self.sql.is_same(&other.sql)
+            && self.foreign.is_same(&other.foreign)
+            && self.binds == other.binds
+            && self.is_bound == other.is_bound
+    }
+}
+
+impl Same for Schema {
+    fn is_same(&self, other: &Schema) -> bool {
+        self.tables.is_same(&other.tables)
+            && self.indexes.is_same(&other.indexes)
+            && self.views.is_same(&other.views)
+    }
+}

@@ -1,0 +1,146 @@
+//! Whether terms are the same, read node by node.
+
+ghost use Rattle.std.specs.Prelude.{◌≡◌, ◌<◌, ◌↔◌, IsTrue, IfSome, MatchOption};
+ghost use Rattle.sqlite_value.specs.declared.value.Value.TheVariants.{Null};
+ghost use Rattle.sqlite_sql.specs.Term.{lit};
+ghost use Rattle.sqlite_schema.specs.Code.{op_term, term_to, term_in, terms_in};
+
+use sqlite_schema::code::{Op, Terms, lend_value};
+use sqlite_value::order;
+use sqlite_value::value::Value;
+
+/// A term: the nodes, the depth to which they are read, and the place of its first.
+#[derive(Clone, Copy)]
+struct Place<'a> {
+    nodes: &'a [Op],
+    depth: usize,
+    at: usize,
+}
+
+/// Whether two values are the same.
+pub(crate) fn same_value(left: &Value, right: &Value) -> bool
+    ensures { IsTrue result ↔ (left.now ≡ right.now) }
+{
+    order::is_same(lend_value(left), lend_value(right))
+}
+
+/// The node of a term, and the depth to which its operands are read.
+fn node_at<'a>(term: Place<'a>) -> Option<(&'a Op, usize)>
+    ensures falls { IfSome result (λ found. found.1 < term.entry.depth) }
+    ensures is { MatchOption result (term_to term.entry.nodes.now term.entry.depth term.entry.at ≡ lit Null)
+        (λ found. term_to term.entry.nodes.now term.entry.depth term.entry.at ≡ op_term (term_to term.entry.nodes.now found.1) found.0.now) }
+{
+    if term.depth == 0 || term.at >= term.nodes.len() {
+        return None;
+    }
+    Some((&term.nodes[term.at], term.depth - 1))
+}
+
+/// The term at a place among the nodes of another, read to a depth.
+fn operand(term: Place<'_>, depth: usize, at: usize) -> Place<'_>
+    ensures { (result.nodes.now ≡ term.entry.nodes.now) × (result.depth ≡ depth) × (result.at ≡ at) }
+{
+    Place {
+        nodes: term.nodes,
+        depth,
+        at,
+    }
+}
+
+/// Whether a term is NULL.
+fn is_null(term: Place<'_>) -> bool
+    ensures { IsTrue result ↔ (term_to term.entry.nodes.now term.entry.depth term.entry.at ≡ lit Null) }
+{
+    match node_at(term) {
+        None => true,
+        Some((Op::Literal(Value::Null), _)) => true,
+        _ => false,
+    }
+}
+
+/// Whether two terms are the same.
+fn same_term(left: Place<'_>, right: Place<'_>) -> bool
+    ensures { IsTrue result ↔ (term_to left.entry.nodes.now left.entry.depth left.entry.at
+        ≡ term_to right.entry.nodes.now right.entry.depth right.entry.at) }
+{
+    let Some((first, depth)) = node_at(left) else {
+        return is_null(right);
+    };
+    let Some((second, below)) = node_at(right) else {
+        return is_null(left);
+    };
+    match first {
+        Op::Literal(value) => match second {
+            Op::Literal(other) => same_value(value, other),
+            _ => false,
+        },
+        Op::Column(slot, at) => match second {
+            Op::Column(other, place) => *slot == *other && *at == *place,
+            _ => false,
+        },
+        Op::Unary(op, a) => match second {
+            Op::Unary(by, c) => {
+                *op == *by && same_term(operand(left, depth, *a), operand(right, below, *c))
+            }
+            _ => false,
+        },
+        Op::Binary(op, a, b) => match second {
+            Op::Binary(by, c, d) => {
+                *op == *by
+                    && same_term(operand(left, depth, *a), operand(right, below, *c))
+                    && same_term(operand(left, depth, *b), operand(right, below, *d))
+            }
+            _ => false,
+        },
+        Op::Case(test, a, b) => match second {
+            Op::Case(when, c, d) => {
+                same_term(operand(left, depth, *test), operand(right, below, *when))
+                    && same_term(operand(left, depth, *a), operand(right, below, *c))
+                    && same_term(operand(left, depth, *b), operand(right, below, *d))
+            }
+            _ => false,
+        },
+    }
+}
+
+/// The term at a place among nodes, read as deep as they go.
+fn root(nodes: &[Op], at: usize) -> Place<'_>
+    ensures { term_to result.nodes.now result.depth result.at ≡ term_in nodes.now at }
+{
+    Place {
+        nodes,
+        depth: nodes.len(),
+        at,
+    }
+}
+
+/// Whether the terms at places among nodes are the same, one by one.
+fn are_same(left: &[Op], roots: &[usize], right: &[Op], others: &[usize]) -> bool
+    ensures { IsTrue result ↔ (terms_in left.now roots.entry.now ≡ terms_in right.now others.entry.now) }
+{
+    let mut roots = roots;
+    let mut others = others;
+    while let [first, rest @ ..] = roots {
+        let [second, more @ ..] = others else {
+            return false;
+        };
+        if !same_term(root(left, *first), root(right, *second)) {
+            return false;
+        }
+        roots = rest;
+        others = more;
+    }
+    others.is_empty()
+}
+
+/// Whether two lists of terms are the same.
+pub(crate) fn same_terms(left: &Terms, right: &Terms) -> bool
+    ensures { IsTrue result ↔ (left.now ≡ right.now) }
+{
+    are_same(
+        left.nodes.as_slice(),
+        left.roots.as_slice(),
+        right.nodes.as_slice(),
+        right.roots.as_slice(),
+    )
+}
