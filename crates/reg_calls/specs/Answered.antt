@@ -1,13 +1,12 @@
 -- What queries are answered.
-use Rattle.std.specs.Prelude.{◌≡◌, ℕ, ◌<◌, List, Option, Some, None, option_map, Result, Ok, Err, IsSome}
+use Rattle.std.specs.Prelude.{◌≡◌, ℕ, ◌<◌, List, Option, Some, None, option_map, Result, Ok, Err}
 use Rattle.reg_core.specs.Checks.{clock_end}
 use Rattle.reg_core.specs.Crls.{latest}
-use Rattle.reg_core.specs.Queries.{answer, listing}
-use Rattle.reg_core.specs.Records.{Records, Crl, certificate_in, crl_in}
-use Rattle.reg_core.specs.declared.command.Listing.{Listing}
+use Rattle.reg_core.specs.Queries.{answer}
+use Rattle.reg_core.specs.Records.{Records, Crl, crl_in}
 use Rattle.reg_core.specs.declared.command.Query.{Query}
 use Rattle.reg_core.specs.declared.command.Reply.{Reply}
-use Rattle.reg_core.specs.declared.refusal.Refusal.TheVariants.{NoCrl, UnknownSerial}
+use Rattle.reg_core.specs.declared.refusal.Refusal.TheVariants.{NoCrl}
 use Rattle.reg_core.specs.declared.refusal.Fault.{Fault}
 use Rattle.reg_core.specs.declared.refusal.Fault.TheVariants.{Refused, Memory, Store, Signer, Read, Write}
 
@@ -20,17 +19,6 @@ IsAnswered records now query (Err Store) = now < clock_end
 IsAnswered records now query (Err Signer) = ⊥
 IsAnswered records now query (Err Read) = ⊥
 IsAnswered records now query (Err Write) = ⊥
-
--- what a listing gives: the CRLs that list a registered serial number, a refusal of one that is not registered, or want
--- of memory or a failure of the store
-abbrev pub IsListed : Records → ℕ → Result (Option Listing) Fault → Type 0
-IsListed records serial (Ok found) = IsSome (certificate_in records.certificates serial) × (found ≡ listing records serial)
-IsListed records serial (Err (Refused refusal)) = (refusal ≡ UnknownSerial) × (certificate_in records.certificates serial ≡ None)
-IsListed records serial (Err Memory) = Unit {0}
-IsListed records serial (Err Store) = Unit {0}
-IsListed records serial (Err Signer) = ⊥
-IsListed records serial (Err Read) = ⊥
-IsListed records serial (Err Write) = ⊥
 
 -- the CRL that is asked for: the one with a number, or the latest
 abbrev pub crl_asked_for : Records → Option ℕ → Option Crl

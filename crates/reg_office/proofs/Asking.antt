@@ -1,11 +1,13 @@
 -- Queries that are answered.
-use Rattle.std.specs.Prelude.{⊤, IsErrAnd, IsSome}
+use Rattle.std.specs.Prelude.{⊤, IfErr, IsSome}
 use Rattle.std.proofs.Common.{◌≡◌, ◌≤◌, ◌<◌, ℕ, Bool, true, false, List, [], ◌∷◌, ◌++◌, Option, None, Some, Result, Ok, Err, refl, sym, ap, subst, ◌∙◌, arith}
 use Rattle.std.proofs.lemmas.Bool.Decides.{nat_tests}
 use Rattle.std.specs.Prelude.{nat_le, nat_lt}
+use Rattle.sqlite_trees.specs.declared.store.Store.{Ghosts}
+use Rattle.sqlite.specs.Held.{Held}
 use Rattle.reg_core.specs.Checks.{clock_end, clock_checks, first_of_all, when, where_none}
 use Rattle.reg_core.specs.Decisions.{IsDecidedBy, refused_or}
-use Rattle.reg_core.specs.Queries.{answer, query_checks, query_reply}
+use Rattle.reg_core.specs.Queries.{query_checks, query_reply}
 use Rattle.reg_core.specs.Records.{Records, certificate_in}
 use Rattle.reg_core.specs.declared.command.Query.{Query}
 use Rattle.reg_core.specs.declared.command.Query.TheVariants.{Listing as AskListing}
@@ -15,7 +17,10 @@ use Rattle.reg_core.specs.declared.refusal.Refusal.TheVariants.{ClockEnd, ClockB
 use Rattle.reg_core.specs.declared.refusal.Fault.{Fault}
 use Rattle.reg_core.specs.declared.refusal.Fault.TheVariants.{Refused, Memory, Store, Signer, Read, Write}
 use Rattle.reg_laws.proofs.Decided.{says}
-use Rattle.reg_calls.specs.Answered.{IsAnswered, IsListed}
+use Rattle.reg_calls.specs.Answered.{IsAnswered}
+use Rattle.reg_office.specs.Faults.{IsTableFault}
+use Rattle.reg_office.specs.Looking.{IsDecidedOr, LooksAndDecides, LooksUp}
+use Rattle.reg_office.proofs.Looking.{and_so, decided_for, so}
 
 -- no check of the first ones applies: the first of the others
 first_none :
@@ -53,39 +58,22 @@ back_false false false last e = refl
 pub not_back : (now last : ℕ) → Passes now last → last ≤ now
 not_back now last e = let test : nat_lt now last ≡ false = back_false (nat_le clock_end now) (nat_lt now last) last e in grind (arith, nat_tests)
 
--- a query is answered
-pub answered :
-    (records : Records) (now : ℕ) (query asked : Query) (reply : Reply)
-    → query ≡ asked → Passes now records.last → first_of_all (query_checks records asked) ≡ None
-    → query_reply records now asked ≡ reply → answer records now query ≡ Ok reply
-answered records now query asked reply same clock own reply_is =
-    subst
-    (λ (q : Query). answer records now q ≡ Ok reply)
-    (sym same)
-    (ap
-    (λ o. refused_or o (query_reply records now asked))
-    (first_none (clock_checks now records.last) (query_checks records asked) clock ∙ own)
-    ∙ ap Ok reply_is)
+-- the clock refuses a moment
+pub clock_refuses : (now last known : ℕ) (why : Refusal)
+    → last ≡ known → IsDecidedBy (first_of_all (clock_checks now last)) (λ (u : Unit {0}). ⊤) (Err why) → first_of_all (clock_checks now known) ≡ Some why
+clock_refuses now last known why same decides =
+    says (first_of_all (clock_checks now known)) (λ (u : Unit {0}). ⊤) (Err why)
+    (subst (λ n. IsDecidedBy (first_of_all (clock_checks now n)) (λ (u : Unit {0}). ⊤) (Err why)) same decides)
 
--- or refused by the clock
+-- and so a query
 pub refused_by_clock :
-    (records : Records) (now last : ℕ) (query : Query) (outcome : Result Reply Fault) (why : Refusal)
-    → last ≡ records.last
-    → IsDecidedBy (first_of_all (clock_checks now last)) (λ (u : Unit {0}). ⊤) (Err why)
-    → IsErrAnd outcome (λ told. told ≡ Refused why) → IsAnswered records now query outcome
-refused_by_clock records now last query (Ok reply) why same decides told = absurd told
-refused_by_clock records now last query (Err fault) why same decides told =
-    let clock =
-    says (first_of_all (clock_checks now records.last)) (λ (u : Unit {0}). ⊤) (Err why)
-    (subst (λ n. IsDecidedBy (first_of_all (clock_checks now n)) (λ (u : Unit {0}). ⊤) (Err why)) same decides) in
-    subst
-    (λ f. IsAnswered records now query (Err f))
-    (sym told)
-    (ap
-    (λ o. refused_or o (query_reply records now query))
-    (first_some (clock_checks now records.last) (query_checks records query) why clock))
+    (records : Records) (now last : ℕ) (query : Query) (why : Refusal)
+    → last ≡ records.last → IsDecidedBy (first_of_all (clock_checks now last)) (λ (u : Unit {0}). ⊤) (Err why)
+    → first_of_all (clock_checks now records.last ++ query_checks records query) ≡ Some why
+refused_by_clock records now last query why same decides =
+    first_some (clock_checks now records.last) (query_checks records query) why (clock_refuses now last records.last why same decides)
 
--- a listing is asked for of a serial number that is registered
+-- a listing is asked for of a serial number that is registered, or of one that is not
 pub known_serial : (records : Records) (serial : ℕ) → IsSome (certificate_in records.certificates serial) → first_of_all (query_checks records (AskListing serial)) ≡ None
 known_serial records serial known = go (certificate_in records.certificates serial) known
   where
@@ -93,33 +81,60 @@ known_serial records serial known = go (certificate_in records.certificates seri
     go None some = absurd (let bad : ⊥ = cc in bad)
     go (Some row) some = refl
 
--- or of one that is not
-listing_refused :
-    (records : Records) (now : ℕ) (query : Query) (serial : ℕ) (why : Refusal)
-    → query ≡ AskListing serial → Passes now records.last → (why ≡ UnknownSerial) × (certificate_in records.certificates serial ≡ None)
-    → answer records now query ≡ Err why
-listing_refused records now query serial why same clock unknown =
-    subst
-    (λ (q : Query). answer records now q ≡ Err why)
-    (sym same)
-    (ap
-    (λ o. refused_or o (query_reply records now (AskListing serial)))
-    (first_none (clock_checks now records.last) (query_checks records (AskListing serial)) clock
-    ∙ ap (λ o. first_of_all (where_none o UnknownSerial ∷ [])) unknown.1)
-    ∙ ap Err (sym unknown.0))
+pub unknown_serial : (records : Records) (serial : ℕ) → certificate_in records.certificates serial ≡ None → first_of_all (query_checks records (AskListing serial)) ≡ Some UnknownSerial
+unknown_serial records serial unknown = ap (λ o. first_of_all (where_none o UnknownSerial ∷ [])) unknown
 
-pub listing_fails :
-    (records : Records) (now : ℕ) (query : Query) (serial : ℕ) (outcome : Result Reply Fault) (fault : Fault)
-    → now < clock_end → query ≡ AskListing serial → Passes now records.last → IsListed records serial (Err fault)
-    → IsErrAnd outcome (λ told. told ≡ fault) → IsAnswered records now query outcome
-listing_fails records now query serial (Ok reply) fault below same clock listed told = absurd told
-listing_fails records now query serial (Err told) fault below same clock listed is =
-    subst (λ f. IsAnswered records now query (Err f)) (sym is) (go fault listed)
+-- nothing refuses a query, which is answered so
+abbrev IsReply : Records → ℕ → Query → Reply → Type 0
+IsReply records now query reply = (first_of_all (query_checks records query) ≡ None) × (query_reply records now query ≡ reply)
+
+module _ {C : Type 0} {g : Ghosts C} {a b : Held C} (query asked : Query) (same : query ≡ asked) where
+  pub replied : {now : ℕ} {reply : Reply}
+      → LooksUp g a b (λ records. records.last ≤ now → IsReply records now asked reply)
+      → LooksAndDecides g a b (λ records. first_of_all (query_checks records query)) (λ records reply. records.last ≤ now → IsReply records now query reply) (Ok reply)
+  replied {now = now} {reply = reply} looks =
+      decided_for reply (so looks (λ records sound it before. subst (λ (q : Query). IsReply records now q reply) (sym same) (it before)))
+
+  pub asked_as : {T : Type 0} {What : Records → T → Type 0} {outcome : Result T Fault}
+      → LooksAndDecides g a b (λ records. first_of_all (query_checks records asked)) What outcome
+      → LooksAndDecides g a b (λ records. first_of_all (query_checks records query)) What outcome
+  asked_as {What = What} {outcome = outcome} decides =
+      subst (λ (q : Query). LooksAndDecides g a b (λ records. first_of_all (query_checks records q)) What outcome) (sym same) decides
+
+-- what a query comes to at a moment that the clock takes
+pub after_clock : {C : Type 0} {g : Ghosts C} {a b c : Held C} (now : ℕ) (query : Query) (outcome : Result Reply Fault)
+    → LooksUp g a b (λ records. Passes now records.last)
+    → LooksAndDecides g b c (λ records. first_of_all (query_checks records query)) (λ records reply. records.last ≤ now → IsReply records now query reply) outcome
+    → LooksAndDecides g a c (λ records. first_of_all (clock_checks now records.last ++ query_checks records query))
+    (λ records reply. (first_of_all (clock_checks now records.last ++ query_checks records query) ≡ None) × (query_reply records now query ≡ reply)) outcome
+after_clock now query outcome passed decides = record {
+  looks = so (and_so passed decides.looks) (λ records sound it. go records outcome it.0 it.1);
+  faults = decides.faults;
+}
   where
-    go : (f : Fault) → IsListed records serial (Err f) → IsAnswered records now query (Err f)
-    go (Refused why) h = listing_refused records now query serial why same clock h
-    go Memory h = below
-    go Store h = below
-    go Signer h = h
-    go Read h = h
-    go Write h = h
+    go : (records : Records) (outcome : Result Reply Fault) → Passes now records.last
+        → IsDecidedOr (first_of_all (query_checks records query)) (λ reply. records.last ≤ now → IsReply records now query reply) outcome
+        → IsDecidedOr (first_of_all (clock_checks now records.last ++ query_checks records query))
+        (λ reply. (first_of_all (clock_checks now records.last ++ query_checks records query) ≡ None) × (query_reply records now query ≡ reply)) outcome
+    go records (Ok reply) clock it =
+        let its = it (not_back now records.last clock) in
+        (first_none (clock_checks now records.last) (query_checks records query) clock ∙ its.0, its.1)
+    go records (Err (Refused why)) clock it = first_none (clock_checks now records.last) (query_checks records query) clock ∙ it
+    go records (Err Memory) clock it = tt
+    go records (Err Store) clock it = tt
+    go records (Err Signer) clock it = tt
+    go records (Err Read) clock it = tt
+    go records (Err Write) clock it = tt
+
+-- that is what it is answered
+pub is_answered : (records : Records) (now : ℕ) (query : Query) (outcome : Result Reply Fault) → now < clock_end → IfErr outcome IsTableFault
+    → IsDecidedOr (first_of_all (clock_checks now records.last ++ query_checks records query))
+    (λ reply. (first_of_all (clock_checks now records.last ++ query_checks records query) ≡ None) × (query_reply records now query ≡ reply)) outcome
+    → IsAnswered records now query outcome
+is_answered records now query (Ok reply) below is it = ap (λ o. refused_or o (query_reply records now query)) it.0 ∙ ap Ok it.1
+is_answered records now query (Err (Refused why)) below is it = ap (λ o. refused_or o (query_reply records now query)) it
+is_answered records now query (Err Memory) below is it = below
+is_answered records now query (Err Store) below is it = below
+is_answered records now query (Err Signer) below is it = absurd is
+is_answered records now query (Err Read) below is it = absurd is
+is_answered records now query (Err Write) below is it = absurd is

@@ -1,6 +1,6 @@
 -- What a command leaves: look-ups, and then a change or an error.
 use Rattle.std.specs.Prelude.{IsErr}
-use Rattle.std.proofs.Common.{Result, Ok, Err}
+use Rattle.std.proofs.Common.{Result, Ok, Err, refl}
 use Rattle.sqlite_trees.specs.Tree.{Trees}
 use Rattle.sqlite_trees.specs.declared.store.Store.{Ghosts}
 use Rattle.sqlite.specs.Held.{Held, state}
@@ -45,30 +45,10 @@ changed_made {g = g} {a = a} {b = b} {c = c} {First = First} {Made = Made} looke
   survives = survives_then (state g a) (state g b) (state g c) (λ _. ⊥) First Made (λ clean trees none. absurd none) more looked.survives changed.survives;
 }
 
--- a change that leaves more
-pub changed_more :
-    {C T E : Type 0} {g : Ghosts C} {a b : Held C} {First Made : Trees → Type 0} {outcome : Result T E}
-    → Changed g a b First outcome → (HasCleanDisk (state g b) → (trees : Trees) → First trees → Made trees) → Changed g a b Made outcome
-changed_more {g = g} {a = a} {b = b} {First = First} {Made = Made} changed more = record {
-  live = changed.live;
-  err = changed.err;
-  survives = survives_weaker (state g a) (state g b) First Made more changed.survives;
-}
-
 -- a change after look-ups, whether it is made or not
 pub changed_after :
-    {C T E : Type 0} {g : Ghosts C} {a b c : Held C} {First Made : Trees → Type 0} {outcome : Result T E}
+    {C T E : Type 0} {g : Ghosts C} {a b c : Held C} {First Made : Trees → Type 0} (outcome : Result T E)
     → Looked g a b → Changed g b c First outcome
     → (HasCleanDisk (state g c) → (trees : Trees) → First trees → Made trees) → Changed g a c Made outcome
-changed_after {g = g} {a = a} {b = b} {c = c} {First = First} {Made = Made} {outcome = Ok x} looked changed more = record {
-  live = changed.live;
-  err = λ register. tt;
-  survives = survives_then (state g a) (state g b) (state g c) (λ _. ⊥) First Made (λ clean trees none. absurd none) more looked.survives changed.survives;
-}
-changed_after {g = g} {a = a} {b = b} {c = c} {First = First} {Made = Made} {outcome = Err e} looked changed more = record {
-  live = λ clean. tt;
-  err = λ register.
-      let was = looked.same register in
-      stays_then (state g a) (state g b) (state g c) changed.survives.clean was (changed.err (stays_register (state g a) (state g b) looked.survives.clean was register));
-  survives = survives_then (state g a) (state g b) (state g c) (λ _. ⊥) First Made (λ clean trees none. absurd none) more looked.survives changed.survives;
-}
+changed_after (Ok x) looked changed more = changed_made looked changed more
+changed_after (Err e) looked changed more = changed_failed (Err e) refl looked changed more

@@ -1,94 +1,161 @@
--- Each pure decision is the step of its command.
-use Rattle.std.proofs.Common.{ℕ, Bool, List, length, Option, Some, None, refl, ap}
-use Rattle.std.specs.Prelude.{Result, Ok, Err, option_map}
-use Rattle.reg_core.specs.Changes.{changed_by, with_declined}
+-- What each pure decision comes to: the refusal that applies, or what the command is answered and changes. So it is the step of its command.
+use Rattle.std.proofs.Common.{◌≡◌, ℕ, ◌+◌, Bool, List, [], length, Option, Some, None, refl, sym, ap, subst}
+use Rattle.std.specs.Prelude.{Result, Ok, Err, option_and_then, option_map}
+use Rattle.reg_core.specs.Changes.{Fits, changed_by}
 use Rattle.reg_core.specs.Crls.{CertList, latest, row_of}
-use Rattle.reg_core.specs.Decisions.{head_of}
+use Rattle.reg_core.specs.Decisions.{head_of, DecidesSubscriber, DecidesOrder, DecidesRegister, DecidesRequest, DecidesDecline, DecidesRevoke}
 use Rattle.reg_core.specs.Due.{deadline}
-use Rattle.reg_core.specs.Records.{subscriber_in, subscriber_named, order_in, certificate_in, certificate_of_order, request_in, revocation_in}
-use Rattle.reg_core.specs.Step.{certificate_of_request, revocation_of_request}
+use Rattle.reg_core.specs.Grounds.{limit_of}
+use Rattle.reg_core.specs.Records.{Records, subscriber_in, subscriber_named, order_in, certificate_in, certificate_of_order, request_in, revocation_in}
+use Rattle.reg_core.specs.Sound.{SoundRows}
+use Rattle.reg_core.specs.Step.{IsSigned, refusal, certificate_of_request, revocation_of_request}
+use Rattle.reg_core.specs.declared.change.Change.{Change}
 use Rattle.reg_core.specs.declared.change.Change.TheVariants as change
+use Rattle.reg_core.specs.declared.command.Command.{Command}
 use Rattle.reg_core.specs.declared.command.Command.TheVariants.{Subscriber, Order, Register, Request, Decline, Revoke}
+use Rattle.reg_core.specs.declared.command.Reply.{Reply}
 use Rattle.reg_core.specs.declared.command.Reply.TheVariants.{Subscriber as SubscriberEntered, Order as OrderEntered, Request as RequestEntered, Declined, Revoked}
 use Rattle.reg_core.specs.declared.refusal.Refusal.{Refusal}
+use Rattle.reg_core.specs.declared.rows.Head.{Head}
 use Rattle.reg_core.specs.declared.rows.SubscriberRow.{SubscriberRow}
 use Rattle.reg_core.specs.declared.rows.OrderRow.{OrderRow}
 use Rattle.reg_core.specs.declared.rows.CertRow.{CertRow}
 use Rattle.reg_core.specs.declared.rows.RequestRow.{RequestRow}
 use Rattle.reg_core.specs.declared.rows.RevocationRow.{RevocationRow}
 use Rattle.reg_core.specs.declared.rows.CrlRow.{CrlRow}
-use Rattle.reg_laws.proofs.Decided.{SubscriberSays, subscriber_decided, OrderSays, order_decided, RegisterSays, register_decided, RequestSays, request_decided, DeclineSays, decline_decided, RevokeSays, revoke_decided, CrlSays, crl_decided}
+use Rattle.reg_laws.proofs.Decided.{Accepts, subscriber_decided, order_decided, register_decided, request_decided, decline_decided, RevokeSays, revoke_decided, CrlSays, crl_decided, step_accepted, step_refused}
 use Rattle.reg_office.specs.Decisions.{IsStepOf, IsIssue, registration_reply, registration_change, SubscribersAreSteps, OrdersAreSteps, RegistrationsAreSteps, RequestsAreSteps, DeclinesAreSteps, RevocationsAreSteps, CrlsAreSteps}
+use Rattle.reg_office.specs.Looking.{IsAcceptance}
+use Rattle.reg_office.proofs.Facts.{registrable, revocable}
+
+-- the refusal that applies, or what the command is answered and changes
+abbrev pub IsToDo : {Answer : Type 0} → Records → ℕ → Command → (Answer → Reply × Change) → Result Answer Refusal → Type 0
+IsToDo records now command what (Err refused) = refusal records now command ≡ Some refused
+IsToDo records now command what (Ok answer) = IsAcceptance now command records (what answer)
+
+-- no bytes are signed here
+abbrev pub unsigned : CertList → List ℕ → Type 0
+unsigned list bytes = ⊥
+
+module _ (records : Records) (now : ℕ) where
+  to_do : {command : Command} {answer : Reply} (change : Change) → Accepts unsigned records now command answer (changed_by records now change) → Fits records now change
+      → IsAcceptance now command records (answer, change)
+  to_do change accepts fits = record { accepted = accepts.accepted; replies = accepts.replies; changes = accepts.changes; fits = fits }
+
+  pub subscriber_to_do : (head : Head) (name : List ℕ) (by_name : Option SubscriberRow) (result : Result SubscriberRow Refusal)
+      → head ≡ head_of records now (length records.subscribers) → by_name ≡ subscriber_named records.subscribers name
+      → DecidesSubscriber head name by_name result
+      → IsToDo records now (Subscriber name) (λ row. (SubscriberEntered row.id, change.Subscriber row)) result
+  subscriber_to_do head name by_name (Err why) head_is by_name_is decides =
+      (subscriber_decided unsigned records now head name by_name (Err why) head_is by_name_is decides).refused_by
+  subscriber_to_do head name by_name (Ok row) head_is by_name_is decides =
+      let says = subscriber_decided unsigned records now head name by_name (Ok row) head_is by_name_is decides in
+      to_do (change.Subscriber row) says.accepts (ap (λ (r : SubscriberRow). r.id) says.row_is)
+
+  pub order_to_do : (head : Head) (subscriber days : ℕ) (known : Option SubscriberRow) (result : Result OrderRow Refusal)
+      → head ≡ head_of records now (length records.orders) → known ≡ subscriber_in records.subscribers subscriber
+      → DecidesOrder head known days result
+      → IsToDo records now (Order subscriber days) (λ row. (OrderEntered row.id, change.Order row)) result
+  order_to_do head subscriber days known (Err why) head_is known_is decides =
+      (order_decided unsigned records now head subscriber days known (Err why) head_is known_is decides).refused_by
+  order_to_do head subscriber days known (Ok row) head_is known_is decides =
+      let says = order_decided unsigned records now head subscriber days known (Ok row) head_is known_is decides in
+      to_do (change.Order row) says.accepts (ap (λ (r : OrderRow). r.id) says.row_is)
+
+  pub register_to_do : (head : Head) (wanted : CertRow) (order : Option OrderRow) (by_order by_serial : Option CertRow) (result : Result (Option CertRow) Refusal)
+      → SoundRows records → head ≡ head_of records now (length records.certificates) → order ≡ order_in records.orders wanted.order
+      → by_order ≡ certificate_of_order records.certificates wanted.order → by_serial ≡ certificate_in records.certificates wanted.serial
+      → DecidesRegister head wanted order by_order by_serial result
+      → IsToDo records now (Register wanted.order wanted.serial wanted.not_before wanted.not_after) (λ found. (registration_reply found, registration_change found)) result
+  register_to_do head wanted order by_order by_serial (Err why) sound head_is order_is by_order_is by_serial_is decides =
+      (register_decided unsigned records now head wanted order by_order by_serial (Err why) sound head_is order_is by_order_is by_serial_is decides).refused_by
+  register_to_do head wanted order by_order by_serial (Ok None) sound head_is order_is by_order_is by_serial_is decides =
+      to_do change.Touch (register_decided unsigned records now head wanted order by_order by_serial (Ok None) sound head_is order_is by_order_is by_serial_is decides).accepts tt
+  register_to_do head wanted order by_order by_serial (Ok (Some row)) sound head_is order_is by_order_is by_serial_is decides =
+      let says = register_decided unsigned records now head wanted order by_order by_serial (Ok (Some row)) sound head_is order_is by_order_is by_serial_is decides in
+      to_do (change.Certificate row) says.accepts (registrable unsigned records now wanted row says)
+
+  pub request_to_do : (head : Head) (serial : ℕ) (word : List ℕ) (certificate : Option CertRow) (revocation : Option RevocationRow) (result : Result RequestRow Refusal)
+      → head ≡ head_of records now (length records.requests) → certificate ≡ certificate_in records.certificates serial
+      → revocation ≡ revocation_in records.revocations serial → DecidesRequest head certificate word revocation result
+      → IsToDo records now (Request serial word) (λ row. (RequestEntered row.id (deadline row), change.Request row)) result
+  request_to_do head serial word certificate revocation (Err why) head_is certificate_is revocation_is decides =
+      (request_decided unsigned records now head serial word certificate revocation (Err why) head_is certificate_is revocation_is decides).refused_by
+  request_to_do head serial word certificate revocation (Ok row) head_is certificate_is revocation_is decides =
+      let says = request_decided unsigned records now head serial word certificate revocation (Ok row) head_is certificate_is revocation_is decides in
+      to_do (change.Request row) says.accepts (ap (λ (r : RequestRow). r.id) says.row_is)
+
+  -- it is to be decided so long from now on
+  pub request_due : (head : Head) (serial : ℕ) (word : List ℕ) (certificate : Option CertRow) (revocation : Option RevocationRow) (row : RequestRow)
+      → head ≡ head_of records now (length records.requests) → certificate ≡ certificate_in records.certificates serial
+      → revocation ≡ revocation_in records.revocations serial → DecidesRequest head certificate word revocation (Ok row)
+      → IsAcceptance now (Request serial word) records (RequestEntered row.id (now + limit_of row.ground), change.Request row)
+  request_due head serial word certificate revocation row head_is certificate_is revocation_is decides =
+      let says = request_decided unsigned records now head serial word certificate revocation (Ok row) head_is certificate_is revocation_is decides in
+      subst
+      (λ (n : ℕ). IsAcceptance now (Request serial word) records (RequestEntered row.id (n + limit_of row.ground), change.Request row))
+      (ap (λ (r : RequestRow). r.received) says.row_is)
+      (request_to_do head serial word certificate revocation (Ok row) head_is certificate_is revocation_is decides)
+
+  pub decline_to_do : (head : Head) (held id : ℕ) (request : Option RequestRow) (certificate : Option CertRow) (revocation : Option RevocationRow) (result : Result RequestRow Refusal)
+      → head ≡ head_of records now held → request ≡ request_in records.requests id
+      → certificate ≡ option_and_then (λ row. certificate_in records.certificates row.serial) request
+      → revocation ≡ option_and_then (λ row. revocation_in records.revocations row.serial) request
+      → DecidesDecline head request certificate revocation result
+      → IsToDo records now (Decline id) (λ row. (Declined, change.Decline row.id)) result
+  decline_to_do head held id request certificate revocation (Err why) head_is request_is certificate_is revocation_is decides =
+      (decline_decided unsigned records now head held id request certificate revocation (Err why) head_is request_is certificate_is revocation_is decides).refused_by
+  decline_to_do head held id request certificate revocation (Ok row) head_is request_is certificate_is revocation_is decides =
+      let says = decline_decided unsigned records now head held id request certificate revocation (Ok row) head_is request_is certificate_is revocation_is decides in
+      subst (λ (n : ℕ). IsAcceptance now (Decline id) records (Declined, change.Decline n)) (sym says.id_is) (to_do (change.Decline id) says.accepts tt)
+
+  pub revoke_to_do : (head : Head) (held id : ℕ) (request : Option RequestRow) (certificate : Option CertRow) (revocation : Option RevocationRow) (newest : Option CrlRow)
+      (result : Result (RevocationRow × Bool) Refusal)
+      → SoundRows records → head ≡ head_of records now held → request ≡ request_in records.requests id
+      → certificate ≡ option_and_then (λ row. certificate_in records.certificates row.serial) request
+      → revocation ≡ option_and_then (λ row. revocation_in records.revocations row.serial) request
+      → newest ≡ option_map row_of (latest records.crls) → DecidesRevoke head request certificate revocation newest result
+      → IsToDo records now (Revoke id) (λ decided. (Revoked decided.1, change.Revocation decided.0)) result
+  revoke_to_do head held id request certificate revocation newest (Err why) sound head_is request_is certificate_is revocation_is newest_is decides =
+      (revoke_decided unsigned records now head held id request certificate revocation newest (Err why) head_is request_is certificate_is revocation_is newest_is decides).refused_by
+  revoke_to_do head held id request certificate revocation newest (Ok decided) sound head_is request_is certificate_is revocation_is newest_is decides =
+      let says = revoke_decided unsigned records now head held id request certificate revocation newest (Ok decided) head_is request_is certificate_is revocation_is newest_is decides in
+      to_do (change.Revocation decided.0) says.accepts (revocable unsigned records now id decided sound says)
+
+  -- that is the step of a command which issues no CRL
+  step_of : {Answer : Type 0} (signed : CertList → List ℕ → Type 0) (command : Command) (what : Answer → Reply × Change) (result : Result Answer Refusal)
+      → IsSigned signed records now command [] → IsToDo records now command what result
+      → IsStepOf signed records now command (λ answer. (what answer).0) (λ answer. (what answer).1) result
+  step_of signed command what (Err refused) none is = (step_refused signed records now command refused is).step records refl
+  step_of signed command what (Ok answer) none is =
+      let after = changed_by records now (what answer).1 in
+      step_accepted signed records now command (what answer).0 [] after is.accepted none is.replies is.changes after refl
 
 module _ (signed : CertList → List ℕ → Type 0) where
   pub subscribers : SubscribersAreSteps signed
   subscribers records now name result decides =
-      go
-      result
-      (subscriber_decided signed records now (head_of records now (length records.subscribers)) name (subscriber_named records.subscribers name) result refl refl decides)
-    where
-      go :
-          (answer : Result SubscriberRow Refusal)
-          → SubscriberSays signed records now name answer
-          → IsStepOf signed records now (Subscriber name) (λ row. SubscriberEntered row.id) (λ row. change.Subscriber row) answer
-      go (Err refused) said = said.step records refl
-      go (Ok row) said = said.accepts.step (changed_by records now (change.Subscriber row)) refl
+      step_of records now signed (Subscriber name) _ result refl
+      (subscriber_to_do records now _ name _ result refl refl decides)
 
   pub orders : OrdersAreSteps signed
   orders records now subscriber days result decides =
-      go
-      result
-      (order_decided signed records now (head_of records now (length records.orders)) subscriber days (subscriber_in records.subscribers subscriber) result refl refl decides)
-    where
-      go :
-          (answer : Result OrderRow Refusal)
-          → OrderSays signed records now subscriber days answer
-          → IsStepOf signed records now (Order subscriber days) (λ row. OrderEntered row.id) (λ row. change.Order row) answer
-      go (Err refused) said = said.step records refl
-      go (Ok row) said = said.accepts.step (changed_by records now (change.Order row)) refl
+      step_of records now signed (Order subscriber days) _ result refl
+      (order_to_do records now _ subscriber days _ result refl refl decides)
 
   pub registrations : RegistrationsAreSteps signed
   registrations records now wanted result sound decides =
-      go
-      result
-      (register_decided signed records now (head_of records now (length records.certificates)) wanted (order_in records.orders wanted.order)
-      (certificate_of_order records.certificates wanted.order) (certificate_in records.certificates wanted.serial) result sound refl refl refl refl decides)
-    where
-      go :
-          (answer : Result (Option CertRow) Refusal)
-          → RegisterSays signed records now wanted answer
-          → IsStepOf signed records now (Register wanted.order wanted.serial wanted.not_before wanted.not_after) registration_reply registration_change answer
-      go (Err refused) said = said.step records refl
-      go (Ok None) said = said.accepts.step (changed_by records now change.Touch) refl
-      go (Ok (Some row)) said = said.accepts.step (changed_by records now (change.Certificate row)) refl
+      step_of records now signed (Register wanted.order wanted.serial wanted.not_before wanted.not_after) _ result refl
+      (register_to_do records now _ wanted _ _ _ result sound refl refl refl refl decides)
 
   pub requests : RequestsAreSteps signed
   requests records now serial word result decides =
-      go
-      result
-      (request_decided signed records now (head_of records now (length records.requests)) serial word (certificate_in records.certificates serial)
-      (revocation_in records.revocations serial) result refl refl refl decides)
-    where
-      go :
-          (answer : Result RequestRow Refusal)
-          → RequestSays signed records now serial word answer
-          → IsStepOf signed records now (Request serial word) (λ row. RequestEntered row.id (deadline row)) (λ row. change.Request row) answer
-      go (Err refused) said = said.step records refl
-      go (Ok row) said = said.accepts.step (changed_by records now (change.Request row)) refl
+      step_of records now signed (Request serial word) _ result refl
+      (request_to_do records now _ serial word _ _ result refl refl refl decides)
 
   pub declines : DeclinesAreSteps signed
   declines records now held id result decides =
-      go
-      result
-      (decline_decided signed records now (head_of records now held) held id (request_in records.requests id) (certificate_of_request records id)
-      (revocation_of_request records id) result refl refl refl refl decides)
-    where
-      go :
-          (answer : Result RequestRow Refusal)
-          → DeclineSays signed records now id answer
-          → IsStepOf signed records now (Decline id) (λ row. Declined) (λ row. change.Decline row.id) answer
-      go (Err refused) said = said.step records refl
-      go (Ok row) said = said.accepts.step (changed_by records now (change.Decline row.id)) (ap (with_declined records now) said.id_is)
+      step_of records now signed (Decline id) _ result refl
+      (decline_to_do records now _ held id _ _ _ result refl refl refl refl decides)
 
   pub revocations : RevocationsAreSteps signed
   revocations records now held id result decides =

@@ -67,18 +67,25 @@ module _ {C : Type 0} (g : Ghosts C) (signs : Signs) (old new : Held C) (who who
   stood_by : (those : Signatory) (before : Records) → StandsFor g signs (old, who) those before → Stands g signs old who.crls before
   stood_by = stood_for g signs old new who who' same
 
-  -- a call that leaves the records
+  -- a call that leaves the records: what holds of those who signed holds of those who sign
+  leads_on : (Did : Signatory → Records → Records → Type 0)
+      → ((records : Records) → Stands g signs old who.crls records → HasCleanDisk (state g new) → Did who records records)
+      → ((records : Records) → Stands g signs old who.crls records → HasCleanDisk (state g new) → Stands g signs new who'.crls records)
+      → LeadsOver g signs Did (old, who) (new, who')
+  leads_on Did did stays = (
+    was_clean (state g old) (state g new) survives.clean,
+    (λ those before stood is_clean.
+        let stands = stood_by those before stood in
+        let is : who' ≡ those = same ∙ stood.0 in
+        let Q : Signatory → Type 0 = λ v. Stands g signs new v.crls before in
+        (before, subst (λ (v : Signatory). Did v before before) stood.0 (did before stands is_clean), (is, subst Q is (stays before stands is_clean), left_by those before stood))),
+  )
+
   pub answer_leads : (Answers : Records → Type 0)
       → ((records : Records) → Stands g signs old who.crls records → HasCleanDisk (state g new) → Answers records × Stands g signs new who'.crls records)
       → LeadsOver g signs (λ those before after. Answers before × (after ≡ before)) (old, who) (new, who')
-  answer_leads Answers call = (
-    was_clean (state g old) (state g new) survives.clean,
-    (λ those before stood is_clean.
-        let (answered, stands) = call before (stood_by those before stood) is_clean in
-        let is : who' ≡ those = same ∙ stood.0 in
-        let Q : Signatory → Type 0 = λ v. Stands g signs new v.crls before in
-        (before, (answered, refl), (is, subst Q is stands, left_by those before stood))),
-  )
+  answer_leads Answers call =
+      leads_on (λ those before after. Answers before × (after ≡ before)) (λ records stands is_clean. ((call records stands is_clean).0, refl)) (λ records stands is_clean. (call records stands is_clean).1)
 
   -- an OCSP request
   pub ocsp_leads : {Z : Type 0} (now : ℕ) (request : List ℕ) (result : Result (Vec ℕ Z) Memory)
@@ -86,37 +93,18 @@ module _ {C : Type 0} (g : Ghosts C) (signs : Signs) (old new : Held C) (who who
       → IfOk result (λ answer. IsOcspReply signs who.answers records now request answer.items))
       → ((records : Records) → Stands g signs old who.crls records → Stands g signs new who'.crls records)
       → LeadsOver g signs (λ those before after. Ocsps signs those before now request (items_of result) after) (old, who) (new, who')
-  ocsp_leads now request (Ok bytes) replied stays = (
-    was_clean (state g old) (state g new) survives.clean,
-    (λ those before stood is_clean.
-        let stands = stood_by those before stood in
-        let is : who' ≡ those = same ∙ stood.0 in
-        let P : Signatory → Type 0 = λ v. IsOcspReply signs v.answers before now request bytes.items in
-        let Q : Signatory → Type 0 = λ v. Stands g signs new v.crls before in
-        (before, (subst P stood.0 (replied before stands is_clean), refl), (is, subst Q is (stays before stands), left_by those before stood))),
-  )
-  ocsp_leads now request (Err memory) replied stays = (
-    was_clean (state g old) (state g new) survives.clean,
-    (λ those before stood is_clean.
-        let is : who' ≡ those = same ∙ stood.0 in
-        let Q : Signatory → Type 0 = λ v. Stands g signs new v.crls before in
-        (before, refl, (is, subst Q is (stays before (stood_by those before stood)), left_by those before stood))),
-  )
+  ocsp_leads now request (Ok bytes) replied stays =
+      leads_on (λ those before after. Ocsps signs those before now request (Ok bytes.items) after) (λ records stands is_clean. (replied records stands is_clean, refl)) (λ records stands is_clean. stays records stands)
+  ocsp_leads now request (Err memory) replied stays =
+      leads_on (λ those before after. Ocsps signs those before now request (Err memory) after) (λ records stands is_clean. refl) (λ records stands is_clean. stays records stands)
 
   -- what is left to be signed for one
   draft_leads : (now : ℕ) (request : List ℕ) (draft : Drafted)
       → ((records : Records) → Stands g signs old who.crls records → HasCleanDisk (state g new) → IsDraft who.answers records now request draft)
       → ((records : Records) → Stands g signs old who.crls records → Stands g signs new who'.crls records)
       → LeadsOver g signs (λ those before after. Drafts those before now request draft after) (old, who) (new, who')
-  draft_leads now request draft left stays = (
-    was_clean (state g old) (state g new) survives.clean,
-    (λ those before stood is_clean.
-        let stands = stood_by those before stood in
-        let is : who' ≡ those = same ∙ stood.0 in
-        let P : Signatory → Type 0 = λ v. IsDraft v.answers before now request draft in
-        let Q : Signatory → Type 0 = λ v. Stands g signs new v.crls before in
-        (before, (subst P stood.0 (left before stands is_clean), refl), (is, subst Q is (stays before stands), left_by those before stood))),
-  )
+  draft_leads now request draft left stays =
+      leads_on (λ those before after. Drafts those before now request draft after) (λ records stands is_clean. (left records stands is_clean, refl)) (λ records stands is_clean. stays records stands)
 
   -- an OCSP request whose answer may be left to be signed
   pub begin_leads : {S : Type 0} (s t : S) (answers : S → ℕ → List ℕ → Result (List ℕ) Memory → S → Type 0)

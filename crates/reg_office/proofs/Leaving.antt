@@ -26,7 +26,7 @@ use Rattle.reg_tables.specs.Stays.{Changed, LeavesNothing}
 use Rattle.reg_writing.specs.AfterStop.{IsAtRest}
 use Rattle.reg_office.specs.AfterStoppedCommand.{Does, IsOneMore, LeavesThese, LeavesTold}
 use Rattle.reg_office.specs.Stands.{Stands}
-use Rattle.reg_office.proofs.Resting.{clean_first}
+use Rattle.reg_office.proofs.Composing.{was_clean as clean_first}
 use Rattle.reg_office.proofs.Stopping.{Settles}
 
 -- a fault or a refusal leaves the records

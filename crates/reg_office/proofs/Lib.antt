@@ -12,10 +12,10 @@ pub mod Identified
 pub mod Issuing
 pub mod Leading
 pub mod Leaving
+pub mod Looking
 pub mod OpenedAgain
 pub mod Paging
 pub mod Responding
-pub mod Resting
 pub mod RowsTold
 pub mod Standing
 pub mod Stopping

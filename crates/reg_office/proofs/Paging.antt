@@ -1,24 +1,22 @@
 -- Pages of lists, row by row.
-use Rattle.std.proofs.Common.{◌≡◌, ◌≤◌, ◌<◌, ◌⊎◌, ◌+◌, ◌-◌, ◌==◌, ℕ, zero, suc, Bool, true, false, ◌&&◌, cond, List, [], ◌∷◌, ◌++◌, length, length-drop, map, take, drop, get_or, Option, None, Some, Result, Ok, Err, refl, sym, ap, subst, ◌∙◌, arith, inl, inr}
-use Rattle.std.specs.Prelude.{⊤, IfErr, IfOk, IsErrAnd, filter_map, min, nat_lt, option_and_then, option_map, slice_get}
+use Rattle.std.proofs.Common.{◌≡◌, ◌≤◌, ◌<◌, ◌+◌, ◌-◌, ◌==◌, ℕ, zero, suc, Bool, true, false, ◌&&◌, cond, List, [], ◌∷◌, ◌++◌, length, length-drop, map, take, drop, get_or, Option, None, Some, Result, Ok, Err, refl, sym, ap, ◌∙◌, arith, inl, inr}
+use Rattle.std.specs.Prelude.{IfErr, filter_map, min, nat_lt, option_and_then, option_map, slice_get}
 use Rattle.std.specs.List.{AllByRecursion, cons_option, find}
 use Rattle.std.proofs.lemmas.Bool.{cases_Bool, cases_order, le-ltb, lt-ltb, ltb-true, ltb-false}
+use Rattle.std.proofs.lemmas.Option.{slice_get-map}
 use Rattle.std.proofs.lemmas.List.{length-take-le, take_all, take_more}
 use Rattle.reg_core.specs.Checks.{clock_checks, first_of_all}
 use Rattle.reg_core.specs.Crls.{row_of}
-use Rattle.reg_core.specs.Decisions.{IsDecidedBy}
-use Rattle.reg_core.specs.Records.{Records, Crl, revocation_in}
+use Rattle.reg_core.specs.Records.{Records, Crl}
 use Rattle.reg_core.specs.Sound.{NumberedFrom, SoundRows}
 use Rattle.reg_core.specs.declared.rows.CrlRow.{CrlRow}
 use Rattle.reg_core.specs.declared.rows.OrderRow.{OrderRow}
 use Rattle.reg_core.specs.declared.rows.RequestRow.{RequestRow}
-use Rattle.reg_core.specs.declared.rows.RevocationRow.{RevocationRow}
 use Rattle.reg_core.specs.declared.rows.SubscriberRow.{SubscriberRow}
-use Rattle.reg_core.specs.declared.refusal.Refusal.{Refusal}
 use Rattle.reg_core.specs.declared.refusal.Fault.{Fault}
 use Rattle.reg_core.specs.declared.refusal.Fault.TheVariants.{Refused, Memory, Store, Signer, Read, Write}
-use Rattle.reg_laws.proofs.Decided.{says}
-use Rattle.reg_lists.specs.Lists.{crl_row, next_behind, open_row, order_row, overdue_row, page, page_over, past, subscriber_row}
+use Rattle.reg_core.specs.declared.rows.CertRow.{CertRow}
+use Rattle.reg_lists.specs.Lists.{certificate_row, crl_row, ending_row, key_of, next_behind, open_row, order_row, overdue_row, page, page_over, past, subscriber_row}
 use Rattle.reg_lists.specs.Pages.{IsPage, IsPaged}
 use Rattle.reg_lists.specs.declared.cursor.Cursor.{Cursor}
 use Rattle.reg_lists.specs.declared.cursor.Cursor.TheVariants.{Crls}
@@ -29,10 +27,10 @@ use Rattle.reg_lists.specs.declared.rows.Row.TheVariants.{Crl as OfCrl}
 use Rattle.reg_lists.proofs.Numbers.{dropped_numbered, find_self, looked_up, numbers, past_drop}
 use Rattle.reg_lists.proofs.Orders.{numbers_differ}
 use Rattle.reg_tables.specs.Tables.{rows_of}
-use Rattle.reg_tables.proofs.PageLemmas.{past_have}
 use Rattle.reg_tables.proofs.Few.{mapped}
-use Rattle.reg_office.specs.Faults.{IsStoreFault}
-use Rattle.reg_office.specs.Numbered.{cursor_of, row_at, numbered_table}
+use Rattle.reg_office.specs.Faults.{IsTableFault}
+use Rattle.reg_office.specs.Looking.{IsDecidedOr}
+use Rattle.reg_office.specs.Numbered.{certificate_listed, certificates_after, cursor_of, row_at, numbered_table}
 use Rattle.reg_office.specs.declared.pages.Numbered.{Numbered}
 use Rattle.reg_office.specs.declared.pages.Numbered.TheVariants.{OpenRequests, Overdue, Subscribers, Orders}
 
@@ -51,57 +49,19 @@ row_more f xs i x row done new within is told was now =
     now ∙ (λ j. was j ++ filter_map (λ one. one) (told j ∷ []))
     ∙ sym (split_end f (take i xs) x) ∙ ap (filter_map f) (sym (take_more xs i x within ∙ ap (λ y. take i xs ++ y ∷ []) (sym is)))
 
--- the revocations that a page looks at are those of their serial numbers
-pub revocations_found : (records : Records) → SoundRows records → (after most : ℕ)
-    → AllByRecursion (λ row. Some row ≡ revocation_in records.revocations row.serial) (take most (past (λ row. row.serial) after records.revocations))
-revocations_found records sound after most =
-    past_have (λ (row : RevocationRow). row.serial) (λ (row : RevocationRow). Some row ≡ revocation_in records.revocations row.serial) after most records.revocations
-    (find_self (λ (row : RevocationRow). row.serial) records.revocations sound.revocations.serials_differ)
-
--- a page that the clock lets be told, or a fault of the store
-pub paged : (records : Records) (now most : ℕ) (from : Cursor) (result : Result Page Fault) → first_of_all (clock_checks now records.last) ≡ None
-    → IfOk result (IsPage records now most from) → IfErr result IsStoreFault → IsPaged records now most from result
-paged records now most from (Ok given) passes is faults = (passes, is)
-paged records now most from (Err (Refused refusal)) passes is faults = absurd (by faults)
-  where
-    by : (Refused refusal ≡ Memory) ⊎ (Refused refusal ≡ Store) → ⊥
-    by (inl same) = cc
-    by (inr same) = cc
-paged records now most from (Err Memory) passes is faults = tt
-paged records now most from (Err Store) passes is faults = tt
-paged records now most from (Err Signer) passes is faults = absurd (by faults)
-  where
-    by : (Signer ≡ Memory) ⊎ (Signer ≡ Store) → ⊥
-    by (inl same) = cc
-    by (inr same) = cc
-paged records now most from (Err Read) passes is faults = absurd (by faults)
-  where
-    by : (Read ≡ Memory) ⊎ (Read ≡ Store) → ⊥
-    by (inl same) = cc
-    by (inr same) = cc
-paged records now most from (Err Write) passes is faults = absurd (by faults)
-  where
-    by : (Write ≡ Memory) ⊎ (Write ≡ Store) → ⊥
-    by (inl same) = cc
-    by (inr same) = cc
-
--- a refusal of the clock
-pub refused_paged : (records : Records) (now most last : ℕ) (from : Cursor) (outcome : Result Page Fault) (why : Refusal) → last ≡ records.last
-    → IsDecidedBy (first_of_all (clock_checks now last)) (λ (u : Unit {0}). ⊤) (Err why) → IsErrAnd outcome (λ told. told ≡ Refused why)
-    → IsPaged records now most from outcome
-refused_paged records now most last from (Ok given) why same decides told = absurd told
-refused_paged records now most last from (Err fault) why same decides told =
-    let clock =
-    says (first_of_all (clock_checks now records.last)) (λ (u : Unit {0}). ⊤) (Err why)
-    (subst (λ n. IsDecidedBy (first_of_all (clock_checks now n)) (λ (u : Unit {0}). ⊤) (Err why)) same decides) in
-    subst (λ f. IsPaged records now most from (Err f)) (sym told) clock
+-- a page that the clock lets be told, or its refusal, or a fault of the store
+pub paged : (records : Records) (now most : ℕ) (from : Cursor) (result : Result Page Fault) → IfErr result IsTableFault
+    → IsDecidedOr (first_of_all (clock_checks now records.last)) (λ given. (first_of_all (clock_checks now records.last) ≡ None) × IsPage records now most from given) result
+    → IsPaged records now most from result
+paged records now most from (Ok given) is it = it
+paged records now most from (Err (Refused why)) is it = it
+paged records now most from (Err Memory) is it = tt
+paged records now most from (Err Store) is it = tt
+paged records now most from (Err Signer) is it = absurd is
+paged records now most from (Err Read) is it = absurd is
+paged records now most from (Err Write) is it = absurd is
 
 -- ---- where the next page goes on
-
-get_mapped : {A B : Type 0} (f : A → B) (xs : List A) (n : ℕ) → slice_get (map f xs) n ≡ option_map f (slice_get xs n)
-get_mapped f [] n = refl
-get_mapped f (x ∷ xs) zero = refl
-get_mapped f (x ∷ xs) (suc n) = get_mapped f xs n
 
 mapped_cond : {A B : Type 0} (f : A → B) (b : Bool) (o : Option A) → option_map f (cond b o None) ≡ cond b (option_map f o) None
 mapped_cond f true o = refl
@@ -113,7 +73,7 @@ pub next_same : {A : Type 0} (key : A → ℕ) (at : ℕ → Cursor) (most : ℕ
 next_same key at most found last next is told =
     let size = mapped key found in
     told ∙ ap (option_map at) is ∙ mapped_cond at (length found == most) (option_map key (slice_get found (length found - 1)))
-    ∙ ap (λ o. cond (length found == most) (option_map at o) None) (sym (get_mapped key found (length found - 1)))
+    ∙ ap (λ o. cond (length found == most) (option_map at o) None) (sym (slice_get-map key found (length found - 1)))
     ∙ sym (ap (λ n. cond (n == most) (option_map at (slice_get (map key found) (n - 1))) None) size)
 
 -- a page over rows that were looked up by their keys
@@ -126,6 +86,18 @@ keyed_page key row_for at after most all found told counted rows last next is to
   has ∙ ap (filter_map row_for) (told_is ∙ is),
   next_same key at most counted last next last_is next_is ∙ ap (λ l. next_behind at most (map key l)) (counted_is ∙ is),
 )
+
+-- the certificates, or those that are good and end before a moment
+pub certificates_page : (records : Records) (now most : ℕ) (before after : Option ℕ) (found told counted : List CertRow) (rows : List Row) (last : Option ℕ) (next : Option Cursor)
+    → found ≡ take most (past (λ (row : CertRow). row.serial) (key_of after) records.certificates) → told ≡ found → counted ≡ found
+    → rows ≡ filter_map (certificate_listed records now before) told
+    → last ≡ cond (length counted == most) (option_map (λ (row : CertRow). row.serial) (slice_get counted (length counted - 1))) None
+    → next ≡ option_map (λ serial. certificates_after before (Some serial)) last
+    → (rows ≡ (page records now most (certificates_after before after)).rows) × (next ≡ (page records now most (certificates_after before after)).next)
+certificates_page records now most None after =
+    keyed_page (λ (row : CertRow). row.serial) (certificate_row records now) (λ serial. cursor.Certificates (Some serial)) (key_of after) most records.certificates
+certificates_page records now most (Some before) after =
+    keyed_page (λ (row : CertRow). row.serial) (ending_row records now before) (λ serial. cursor.Ending before (Some serial)) (key_of after) most records.certificates
 
 -- ---- the CRLs, which are looked up without their bytes
 

@@ -1,14 +1,10 @@
 -- What an answer comes to, part by part.
-use Rattle.std.proofs.Common.{◌≡◌, ◌≢◌, ℕ, ◌+◌, ◌<◌, Bool, true, false, nat_le, List, [], ◌∷◌, ◌++◌, length, take, Option, Some, None, Ok, Err, refl, sym, ap, subst, ◌∙◌, arith}
+use Rattle.std.proofs.Common.{◌≡◌, ◌≢◌, ℕ, ◌+◌, ◌<◌, List, [], ◌∷◌, ◌++◌, length, take, Option, refl, sym, ap, subst, ◌∙◌, arith}
 use Rattle.std.specs.List.{AllByRecursion, AllZip}
 use Rattle.std.specs.Prelude.{get_or}
-use Rattle.std.proofs.lemmas.Bool.Decides.{nat_tests}
 use Rattle.std.proofs.lemmas.List.{length-append, map_push, take_more}
-use Rattle.reg_core.specs.Checks.{clock_checks, clock_end, first_of_all}
-use Rattle.reg_core.specs.Decisions.{IsDecidedBy}
 use Rattle.reg_core.specs.Records.{Records}
 use Rattle.reg_core.specs.declared.command.Status.{Status}
-use Rattle.reg_core.specs.declared.refusal.Refusal.{Refusal}
 use Rattle.reg_der.specs.Der.{tlv, length_octets}
 use Rattle.reg_der.proofs.PublicLaws.{value_size}
 use Rattle.reg_ocsp.specs.declared.asked.CertId.{CertId}
@@ -44,24 +40,6 @@ pub each_answer : (records : Records) (now : ℕ) (ids : List CertId) (answers :
     → AllZip (IsAnswer records now) (ids_seen ids) (answers_seen answers)
 each_answer records now ids answers same all =
     subst (λ (xs : List CertId). AllZip (IsAnswer records now) (ids_seen xs) (answers_seen answers)) same (each_told records now answers all)
-
--- THE CLOCK
-
-pub taken : {A : Type 0} (refusal : Option Refusal) (P : A → Type 0) (x : A) → IsDecidedBy refusal P (Ok x) → refusal ≡ None
-taken None P x is = refl
-taken (Some refusal) P x is = absurd (let bad : ⊥ = cc in bad)
-
-pub refused : {A : Type 0} (refusal : Option Refusal) (P : A → Type 0) (with_it : Refusal) → IsDecidedBy refusal P (Err with_it) → refusal ≡ Some with_it
-refused None P with_it is = absurd is
-refused (Some refusal) P with_it is = let same : refusal ≡ with_it = cc in ap (λ (r : Refusal). Some r) same
-
--- a moment that the clock takes is before its end
-pub in_range : (now last : ℕ) → first_of_all (clock_checks now last) ≡ None → now < clock_end
-in_range now last none = go (nat_le clock_end now) refl none
-  where
-    go : (late : Bool) → nat_le clock_end now ≡ late → first_of_all (clock_checks now last) ≡ None → now < clock_end
-    go true is none = absurd (let bad : ⊥ = cc in bad)
-    go false is none = grind (arith, nat_tests)
 
 -- THE BYTES
 

@@ -1,10 +1,8 @@
 -- What lists tell of one record, by what was looked up for it.
-use Rattle.std.proofs.Common.{◌≡◌, ℕ, Bool, true, false, not, ◌&&◌, cond, List, [], ◌∷◌, Option, None, Some, Result, Ok, Err, refl, sym, ap, subst, ◌∙◌, arith, inl, inr}
-use Rattle.std.specs.Prelude.{◌==◌, IfOk, nat_lt, option_and_then, option_map}
-use Rattle.std.specs.List.{find}
+use Rattle.std.proofs.Common.{◌≡◌, ℕ, Bool, true, false, not, ◌&&◌, cond, Option, None, Some, Result, Ok, Err, refl, sym, ap, subst, ◌∙◌}
+use Rattle.std.specs.Prelude.{IfOk, nat_lt, option_and_then, option_map}
 use Rattle.std.specs.Option.{ok_or}
-use Rattle.std.proofs.lemmas.Bool.{cases_Bool, false≢true}
-use Rattle.std.proofs.lemmas.Bool.Decides.{nat_tests}
+use Rattle.std.proofs.lemmas.Bool.{false≢true}
 use Rattle.reg_core.specs.Crls.{last_listing}
 use Rattle.reg_core.specs.Due.{deadline, is_open}
 use Rattle.reg_core.specs.Queries.{listing}
@@ -18,7 +16,7 @@ use Rattle.reg_core.specs.declared.rows.OrderRow.{OrderRow}
 use Rattle.reg_core.specs.declared.rows.RequestRow.{RequestRow}
 use Rattle.reg_core.specs.declared.rows.RevocationRow.{RevocationRow}
 use Rattle.reg_core.specs.declared.rows.SubscriberRow.{SubscriberRow}
-use Rattle.reg_lists.specs.Lists.{certificate_line, certificate_row, ending_row, open_row, order_row, overdue_row, request_line, revoked_row, status_at, subscriber_of_order}
+use Rattle.reg_lists.specs.Lists.{certificate_line, certificate_row, ending_row, open_row, order_row, overdue_row, request_line, status_at, subscriber_of_order}
 use Rattle.reg_lists.specs.declared.rows.CertificateLine.{CertificateLine}
 use Rattle.reg_lists.specs.declared.rows.OrderLine.{OrderLine}
 use Rattle.reg_lists.specs.declared.rows.RequestLine.{RequestLine}
@@ -32,23 +30,6 @@ use Rattle.reg_tables.proofs.OverdueLemmas.{not_good}
 pub present : {T E : Type 0} (r : Result T E) (found known : Option T) (why : E) → r ≡ ok_or found why → found ≡ known → IfOk r (λ row. Some row ≡ known)
 present {T = T} {E = E} r (Some row) known why is same = subst (λ (it : Result T E). IfOk it (λ row. Some row ≡ known)) (sym is) same
 present {T = T} {E = E} r None known why is same = subst (λ (it : Result T E). IfOk it (λ row. Some row ≡ known)) (sym is) tt
-
--- what is found passes the test
-found_passes : {A : Type 0} (p : A → Bool) (xs : List A) (a : A) → Some a ≡ find p xs → p a ≡ true
-found_passes p [] a found = absurd (let no : ⊥ = cc in no)
-found_passes p (x ∷ xs) a found = elim (cases_Bool (p x)) [
-  | inl passed ↦
-      let whole : Some a ≡ Some x = found ∙ ap (λ b. cond b (Some x) (find p xs)) passed in
-      let same : a ≡ x = cc in
-      ap p same ∙ passed
-  | inr failed ↦ found_passes p xs a (found ∙ ap (λ b. cond b (Some x) (find p xs)) failed)
-]
-
--- a certificate that is found by a serial number has that one
-pub found_serial : (rows : List CertRow) (serial : ℕ) (certificate : CertRow) → Some certificate ≡ certificate_in rows serial → certificate.serial ≡ serial
-found_serial rows serial certificate found =
-    let same : (certificate.serial == serial) ≡ true = found_passes (λ (row : CertRow). row.serial == serial) rows certificate found in
-    grind (arith, nat_tests)
 
 module _ (records : Records) where
   abbrev owner_of : OrderRow → Option SubscriberRow
@@ -113,12 +94,6 @@ module _ (records : Records) where
         let status = line_status (subscriber_of_order records certificate.order) line is in
         told ∙ ap (λ s. cond (is_good s) (Some (Certificate line)) None) status
         ∙ ap (λ it. cond (is_good (status_at records now certificate)) it None) (row_is line is)
-
-    -- of a revocation: that of its certificate
-    pub revoked_is : (revocation : RevocationRow) (line : CertificateLine) → Some certificate ≡ certificate_in records.certificates revocation.serial
-        → Some line ≡ certificate_line records now certificate → Some (Certificate line) ≡ revoked_row records now revocation
-    revoked_is revocation line found is =
-        row_is line is ∙ ap (option_and_then (certificate_row records now)) found
 
 both_so : {T : Type 0} (good before : Bool) (row : Option T) → before ≡ true → cond good row None ≡ cond (good && before) row None
 both_so true before row is = sym (ap (λ b. cond b row None) is)

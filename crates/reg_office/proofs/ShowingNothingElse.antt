@@ -36,109 +36,21 @@ use Rattle.reg_office.proofs.ShownByOcsp.{ocsp_tells}
 -- WHERE A REVOCATION COMES FROM
 
 -- a revocation that a command brought, or else the revocations stayed
-moved
-    : (before : Records) (now : ℕ) (command : Command) (outcome : Result Reply Fault) (after : Records)
-    → RevocationsMove before now command outcome after
-    → (after.revocations ≡ before.revocations)
+abbrev Moved : Records → ℕ → Command → Result Reply Fault → Records → Type 0
+Moved before now command outcome after =
+    (after.revocations ≡ before.revocations)
     ⊎ ((late : Bool)
     × (revocation : RevocationRow)
     × (outcome ≡ Ok (IsRevokedNow late))
     × (after.revocations ≡ before.revocations ++ revocation ∷ [])
     × IsRevocationBy before now command revocation)
+
+moved
+    : (before : Records) (now : ℕ) (command : Command) (outcome : Result Reply Fault) (after : Records)
+    → RevocationsMove before now command outcome after
+    → Moved before now command outcome after
 moved before now command (Ok (IsRevokedNow late)) after move = inr (late, move.0, refl, move.1, move.2)
 moved before now command outcome after move = inl move
-
-abbrev run_of
-    : (signs : Identity → List ℕ → List ℕ → Type 0) (identity : Identity)
-    → (start after : Records) (commands : List (ℕ × Command)) (outcomes : List (Result Reply Fault))
-    → SoundFor signs identity start
-    → Run (signed_by signs identity) start commands outcomes after
-    → SoundRun signs identity
-run_of signs identity start after commands outcomes sound ran = record {
-  start = start;
-  commands = commands;
-  outcomes = outcomes;
-  after = after;
-  sound = sound;
-  ran = ran;
-}
-
--- a revocation of the serial number that the run accepted
-abbrev Accepts
-    : {signs : Identity → List ℕ → List ℕ → Type 0} {identity : Identity} → SoundRun signs identity → ℕ → Type 0
-Accepts run serial =
-    (its : AcceptedRevocation run)
-    × IsSomeAnd (request_in its.before.requests its.id) (λ request. request.serial ≡ serial)
-
--- what a run accepted after its first command
-accepted_later
-    : (signs : Identity → List ℕ → List ℕ → Type 0) (identity : Identity)
-    → (start after : Records) (timed : ℕ × Command) (commands : List (ℕ × Command))
-    → (outcome : Result Reply Fault) (outcomes : List (Result Reply Fault))
-    → (sound : SoundFor signs identity start)
-    → (ran : Run (signed_by signs identity) start (timed ∷ commands) (outcome ∷ outcomes) after)
-    → (sound_next : SoundFor signs identity ran.0)
-    → (serial : ℕ)
-    → Accepts (run_of signs identity ran.0 after commands outcomes sound_next ran.2) serial
-    → Accepts (run_of signs identity start after (timed ∷ commands) (outcome ∷ outcomes) sound ran) serial
-accepted_later signs identity start after timed commands outcome outcomes sound ran sound_next serial accepts = (
-  record {
-    id = its.id;
-    at = its.at;
-    is_late = its.is_late;
-    front = timed ∷ its.front;
-    early = outcome ∷ its.early;
-    before = its.before;
-    ran_before = (ran.0, ran.1, its.ran_before);
-    next = its.next;
-    accepted = its.accepted;
-    rest = its.rest;
-    late = its.late;
-    ran_after = its.ran_after;
-    commands_are = ap (◌∷◌ timed) its.commands_are;
-    outcomes_are = ap (◌∷◌ outcome) its.outcomes_are;
-  },
-  accepts.1,
-)
-  where
-    its : AcceptedRevocation (run_of signs identity ran.0 after commands outcomes sound_next ran.2)
-    its = accepts.0
-
--- what it accepted as its first command
-accepted_first
-    : (signs : Identity → List ℕ → List ℕ → Type 0) (identity : Identity)
-    → (start after : Records) (timed : ℕ × Command) (commands : List (ℕ × Command))
-    → (outcome : Result Reply Fault) (outcomes : List (Result Reply Fault))
-    → (sound : SoundFor signs identity start)
-    → (ran : Run (signed_by signs identity) start (timed ∷ commands) (outcome ∷ outcomes) after)
-    → (late : Bool) (revocation : RevocationRow)
-    → outcome ≡ Ok (IsRevokedNow late)
-    → IsRevocationBy start timed.0 timed.1 revocation
-    → Accepts (run_of signs identity start after (timed ∷ commands) (outcome ∷ outcomes) sound ran) revocation.serial
-accepted_first signs identity start after timed commands outcome outcomes sound ran late revocation is by = (
-  record {
-    id = by.request.id;
-    at = timed.0;
-    is_late = late;
-    front = [];
-    early = [];
-    before = start;
-    ran_before = refl;
-    next = ran.0;
-    accepted = subst (λ (o : Result Reply Fault). Happens (signed_by signs identity) start timed.0 (Revoke by.request.id) o ran.0) is (subst (λ (command : Command). Happens (signed_by signs identity) start timed.0 command outcome ran.0) by.commanded ran.1);
-    rest = commands;
-    late = outcomes;
-    ran_after = ran.2;
-    commands_are = λ i. (timed.0, by.commanded i) ∷ commands;
-    outcomes_are = λ i. is i ∷ outcomes;
-  },
-  some_and_here
-      (λ request. request.serial ≡ revocation.serial)
-      (request_in start.requests by.request.id)
-      by.request
-      by.recorded
-      (sym by.of_serial),
-)
 
 -- a row that is found alone has the serial number
 only_one
@@ -155,102 +67,119 @@ only_one added found serial is = go (added.serial == serial) refl is
     go true test some = grind (arith, nat_tests)
     go false test some = absurd (let bad : ⊥ = cc in bad)
 
--- a revocation after a run stood when it began, or the run accepted it
-pub traced
-    : (signs : Identity → List ℕ → List ℕ → Type 0) (identity : Identity)
-    → ((since : ℕ) → RevocationsMoveExactly (sealed_until since signs identity))
-    → (start after : Records) (commands : List (ℕ × Command)) (outcomes : List (Result Reply Fault))
-    → (sound : SoundFor signs identity start)
-    → (ran : Run (signed_by signs identity) start commands outcomes after)
-    → (serial : ℕ) (revocation : RevocationRow)
-    → revocation_in after.revocations serial ≡ Some revocation
-    → WasRevoked (run_of signs identity start after commands outcomes sound ran) serial
-traced signs identity moves start after [] [] sound ran serial revocation is =
-    inl (some_here (revocation_in start.revocations serial) revocation (ap (λ r. revocation_in r.revocations serial) (sym ran) ∙ is))
-traced signs identity moves start after [] (outcome ∷ outcomes) sound ran serial revocation is = absurd ran
-traced signs identity moves start after (timed ∷ commands) [] sound ran serial revocation is = absurd ran
-traced signs identity moves start after (timed ∷ commands) (outcome ∷ outcomes) sound ran serial revocation is =
-    later (traced signs identity moves ran.0 after commands outcomes sound_next ran.2 serial revocation is)
-  where
-    sound_next : SoundFor signs identity ran.0
-    sound_next = step_keeps_sound_for signs identity start timed.0 timed.1 outcome ran.0 sound ran.1
+none_some : {A : Type 0} (x : A) → None ≡ Some x → ⊥
+none_some x same = cc
 
-    -- one that the first command brought
-    brought
-        : (found : RevocationRow)
-        → revocation_in ran.0.revocations serial ≡ Some found
-        → (late : Bool) (added : RevocationRow)
-        → outcome ≡ Ok (IsRevokedNow late)
-        → ran.0.revocations ≡ start.revocations ++ added ∷ []
-        → IsRevocationBy start timed.0 timed.1 added
-        → (old : Option RevocationRow)
-        → revocation_in start.revocations serial ≡ old
-        → WasRevoked (run_of signs identity start after (timed ∷ commands) (outcome ∷ outcomes) sound ran) serial
-    brought found stands late added answered entered by (Some old) stood =
-        inl (some_here (revocation_in start.revocations serial) old stood)
-    brought found stands late added answered entered by None stood =
-        inr
-        (subst
-        (Accepts (run_of signs identity start after (timed ∷ commands) (outcome ∷ outcomes) sound ran))
-        (only_one
-        added
-        found
-        serial
-        (sym (find_back (λ row. row.serial == serial) start.revocations (added ∷ []) stood)
-        ∙ ap (λ rows. revocation_in rows serial) (sym entered)
-        ∙ stands))
-        (accepted_first signs identity start after timed commands outcome outcomes sound ran late added answered by))
+module _ (signs : Identity → List ℕ → List ℕ → Type 0) (identity : Identity) (after : Records) where
+  abbrev run_of
+      : (start : Records) (commands : List (ℕ × Command)) (outcomes : List (Result Reply Fault))
+      → SoundFor signs identity start
+      → Run (signed_by signs identity) start commands outcomes after
+      → SoundRun signs identity
+  run_of start commands outcomes sound ran =
+      record { start = start; commands = commands; outcomes = outcomes; after = after; sound = sound; ran = ran }
+
+  -- a revocation of the serial number that the run accepted
+  abbrev Accepts : SoundRun signs identity → ℕ → Type 0
+  Accepts run serial =
+      (its : AcceptedRevocation run) × IsSomeAnd (request_in its.before.requests its.id) (λ request. request.serial ≡ serial)
+
+  -- A run: its first command, and those behind it.
+  module _ (start : Records) (timed : ℕ × Command) (commands : List (ℕ × Command)) (outcome : Result Reply Fault) (outcomes : List (Result Reply Fault))
+      (sound : SoundFor signs identity start) (ran : Run (signed_by signs identity) start (timed ∷ commands) (outcome ∷ outcomes) after) where
+    abbrev whole : SoundRun signs identity
+    whole = run_of start (timed ∷ commands) (outcome ∷ outcomes) sound ran
+
+    abbrev rest_of : SoundFor signs identity ran.0 → SoundRun signs identity
+    rest_of sound_next = run_of ran.0 commands outcomes sound_next ran.2
+
+    -- what it accepted after its first command
+    accepted_later : (sound_next : SoundFor signs identity ran.0) (serial : ℕ) → Accepts (rest_of sound_next) serial → Accepts whole serial
+    accepted_later sound_next serial (its, by_request) = (
+      record {
+        id = its.id;
+        at = its.at;
+        is_late = its.is_late;
+        front = timed ∷ its.front;
+        early = outcome ∷ its.early;
+        before = its.before;
+        ran_before = (ran.0, ran.1, its.ran_before);
+        next = its.next;
+        accepted = its.accepted;
+        rest = its.rest;
+        late = its.late;
+        ran_after = its.ran_after;
+        commands_are = ap (◌∷◌ timed) its.commands_are;
+        outcomes_are = ap (◌∷◌ outcome) its.outcomes_are;
+      },
+      by_request,
+    )
+
+    -- what it accepted as its first command
+    accepted_first : (late : Bool) (revocation : RevocationRow) → outcome ≡ Ok (IsRevokedNow late) → IsRevocationBy start timed.0 timed.1 revocation → Accepts whole revocation.serial
+    accepted_first late revocation is by =
+        let P : Result Reply Fault → Command → Type 0 = λ o command. Happens (signed_by signs identity) start timed.0 command o ran.0 in (
+          record {
+            id = by.request.id;
+            at = timed.0;
+            is_late = late;
+            front = [];
+            early = [];
+            before = start;
+            ran_before = refl;
+            next = ran.0;
+            accepted = subst (λ (o : Result Reply Fault). P o (Revoke by.request.id)) is (subst (P outcome) by.commanded ran.1);
+            rest = commands;
+            late = outcomes;
+            ran_after = ran.2;
+            commands_are = λ i. (timed.0, by.commanded i) ∷ commands;
+            outcomes_are = λ i. is i ∷ outcomes;
+          },
+          some_and_here (λ request. request.serial ≡ revocation.serial) (request_in start.requests by.request.id) by.request by.recorded (sym by.of_serial),
+        )
 
     -- one that stands after the first command
-    here
-        : (found : RevocationRow)
-        → revocation_in ran.0.revocations serial ≡ Some found
-        → (ran.0.revocations ≡ start.revocations)
-        ⊎ ((late : Bool)
-        × (added : RevocationRow)
-        × (outcome ≡ Ok (IsRevokedNow late))
-        × (ran.0.revocations ≡ start.revocations ++ added ∷ [])
-        × IsRevocationBy start timed.0 timed.1 added)
-        → WasRevoked (run_of signs identity start after (timed ∷ commands) (outcome ∷ outcomes) sound ran) serial
-    here found stands (inl same) =
-        inl
-        (some_here
-        (revocation_in start.revocations serial)
-        found
-        (ap (λ rows. revocation_in rows serial) (sym same) ∙ stands))
-    here found stands (inr its) =
-        brought found stands its.0 its.1 its.2 its.3 its.4 (revocation_in start.revocations serial) refl
+    here : (serial : ℕ) (found : RevocationRow) → revocation_in ran.0.revocations serial ≡ Some found → Moved start timed.0 timed.1 outcome ran.0
+        → (old : Option RevocationRow) → revocation_in start.revocations serial ≡ old → WasRevoked whole serial
+    here serial found stands move (Some old) stood = inl (some_here (revocation_in start.revocations serial) old stood)
+    here serial found stands (inl same) None stood =
+        absurd (none_some found (sym stood ∙ ap (λ rows. revocation_in rows serial) (sym same) ∙ stands))
+    here serial found stands (inr (late, added, answered, entered, by)) None stood =
+        let alone : revocation_in (added ∷ []) serial ≡ Some found =
+        sym (find_back (λ row. row.serial == serial) start.revocations (added ∷ []) stood) ∙ ap (λ rows. revocation_in rows serial) (sym entered) ∙ stands in
+        inr (subst (Accepts whole) (only_one added found serial alone) (accepted_first late added answered by))
 
-    later
-        : WasRevoked (run_of signs identity ran.0 after commands outcomes sound_next ran.2) serial
-        → WasRevoked (run_of signs identity start after (timed ∷ commands) (outcome ∷ outcomes) sound ran) serial
-    later (inl stood) =
-        let found : (known : RevocationRow) × (revocation_in ran.0.revocations serial ≡ Some known) = some_of (revocation_in ran.0.revocations serial) stood in
-        here
-        found.0
-        found.1
-        (moved
-        start
-        timed.0
-        timed.1
-        outcome
-        ran.0
-        (moves
-        sound.since
-        start
-        start
-        ran.0
-        []
-        []
-        timed.0
-        timed.1
-        outcome
-        (over_stored signs identity start sound)
-        refl
-        (happens_since sound.since signs identity start timed.0 timed.1 outcome ran.0 sound.reached ran.1)))
-    later (inr accepts) =
-        inr
-        (accepted_later signs identity start after timed commands outcome outcomes sound ran sound_next serial accepts)
+  -- a revocation after a run stood when it began, or the run accepted it
+  pub traced
+      : ((since : ℕ) → RevocationsMoveExactly (sealed_until since signs identity))
+      → (start : Records) (commands : List (ℕ × Command)) (outcomes : List (Result Reply Fault))
+      → (sound : SoundFor signs identity start)
+      → (ran : Run (signed_by signs identity) start commands outcomes after)
+      → (serial : ℕ) (revocation : RevocationRow)
+      → revocation_in after.revocations serial ≡ Some revocation
+      → WasRevoked (run_of start commands outcomes sound ran) serial
+  traced moves start [] [] sound ran serial revocation is =
+      inl (some_here (revocation_in start.revocations serial) revocation (ap (λ r. revocation_in r.revocations serial) (sym ran) ∙ is))
+  traced moves start [] (outcome ∷ outcomes) sound ran serial revocation is = absurd ran
+  traced moves start (timed ∷ commands) [] sound ran serial revocation is = absurd ran
+  traced moves start (timed ∷ commands) (outcome ∷ outcomes) sound ran serial revocation is =
+      later (traced moves ran.0 commands outcomes sound_next ran.2 serial revocation is)
+    where
+      sound_next : SoundFor signs identity ran.0
+      sound_next = step_keeps_sound_for signs identity start timed.0 timed.1 outcome ran.0 sound ran.1
+
+      move : RevocationsMove start timed.0 timed.1 outcome ran.0
+      move =
+          moves sound.since start start ran.0 [] [] timed.0 timed.1 outcome (over_stored signs identity start sound) refl
+          (happens_since sound.since signs identity start timed.0 timed.1 outcome ran.0 sound.reached ran.1)
+
+      later
+          : WasRevoked (run_of ran.0 commands outcomes sound_next ran.2) serial
+          → WasRevoked (run_of start (timed ∷ commands) (outcome ∷ outcomes) sound ran) serial
+      later (inl stood) =
+          let found : (known : RevocationRow) × (revocation_in ran.0.revocations serial ≡ Some known) = some_of (revocation_in ran.0.revocations serial) stood in
+          here start timed commands outcome outcomes sound ran serial found.0 found.1 (moved start timed.0 timed.1 outcome ran.0 move) (revocation_in start.revocations serial) refl
+      later (inr accepts) = inr (accepted_later start timed commands outcome outcomes sound ran sound_next serial accepts)
 
 -- WHERE THERE IS NONE
 
@@ -337,19 +266,7 @@ nowhere_shown signs identity history moves agree run serial not_revoked =
     shown (Some revocation) is =
         absurd
         (not_revoked
-        (traced
-        signs
-        identity
-        moves
-        run.start
-        run.after
-        run.commands
-        run.outcomes
-        run.sound
-        run.ran
-        serial
-        revocation
-        is))
+        (traced signs identity run.after moves run.start run.commands run.outcomes run.sound run.ran serial revocation is))
     shown None is = record {
       by_status = status_unrevoked run.after serial is;
       when_asked = λ moment told answered.

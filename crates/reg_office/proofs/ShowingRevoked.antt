@@ -99,19 +99,7 @@ shown_of signs identity agree run its sound certificate revocation found by tell
       subst
       (λ (entry : Entry). ListedThroughFirstPast run.after entry certificate.not_after tells.later)
       (λ i. record { serial = by.request.serial; at = by.at_now i; reason = by.with_reason i })
-      (listed_through
-      run.after
-      by.request.serial
-      revocation
-      certificate.not_after
-      its.before.crls
-      tells.later
-      sound.rows.crls.numbered
-      due
-      revoked
-      tells.issued
-      before
-      later);
+      (listed_through run.after by.request.serial revocation certificate.not_after sound.rows.crls.numbered due revoked its.before.crls tells.later tells.issued before later);
   signed_so = sound.signatures;
 }
   where

@@ -79,158 +79,83 @@ ToldOf records serial first not_after crl =
 abbrev pub NotPast : ℕ → ℕ → Crl → Type 0
 NotPast first not_after crl = first ≤ crl.number → crl.this_update ≤ not_after
 
--- the numbers of CRLs from one place on
-later_numbers
-    : (front rest all : List Crl)
-    → NumberedFrom (λ crl. crl.number) 1 all
-    → all ≡ front ++ rest
-    → NumberedFrom (λ crl. crl.number) (1 + length front) rest
-later_numbers front rest all numbered is =
-    numbered_back (λ crl. crl.number) 1 front rest (subst (NumberedFrom (λ crl. crl.number) 1) is numbered)
-
--- before a CRL none is past the end, where none in front of it is
-none_past_before
-    : (first not_after : ℕ) (all front : List Crl) (crl : Crl) (rest : List Crl)
-    → NumberedFrom (λ crl. crl.number) 1 all
-    → all ≡ front ++ crl ∷ rest
-    → AllByRecursion (NotPast first not_after) front
-    → NonePastBetween all first crl.number not_after
-none_past_before first not_after all front crl rest numbered is none =
-    subst
-    (λ crls. NonePastBetween crls first crl.number not_after)
-    (sym is)
-    (all_append
-    (λ other. first ≤ other.number → other.number < crl.number → other.this_update ≤ not_after)
-    front
-    (crl ∷ rest)
-    (all_weaker
-    (NotPast first not_after)
-    (λ other. first ≤ other.number → other.number < crl.number → other.this_update ≤ not_after)
-    (λ other holds can below. holds can)
-    front
-    none)
-    (all_weaker
-    (λ other. 1 + length front ≤ other.number)
-    (λ other. first ≤ other.number → other.number < crl.number → other.this_update ≤ not_after)
-    (λ other above can below. let own : crl.number ≡ 1 + length front = numbers.0 in omega arith)
-    (crl ∷ rest)
-    (numbered_above (λ other. other.number) (1 + length front) (crl ∷ rest) numbers)))
-  where
+module _ (records : Records) (serial first not_after : ℕ) (numbered : NumberedFrom (λ crl. crl.number) 1 records.crls) where
+  -- A CRL among those in front of it and those behind it.
+  module _ (front : List Crl) (crl : Crl) (rest : List Crl) (is : records.crls ≡ front ++ crl ∷ rest) where
+    -- the numbers of CRLs from one place on
     numbers : NumberedFrom (λ other. other.number) (1 + length front) (crl ∷ rest)
-    numbers = later_numbers front (crl ∷ rest) all numbered is
+    numbers = numbered_back (λ other. other.number) 1 front (crl ∷ rest) (subst (NumberedFrom (λ other. other.number) 1) is numbered)
 
--- after a CRL that is past the end none lists the revocation
-none_after_past
-    : (records : Records) (serial first not_after : ℕ) (front : List Crl) (crl : Crl) (rest : List Crl)
-    → NumberedFrom (λ crl. crl.number) 1 records.crls
-    → records.crls ≡ front ++ crl ∷ rest
-    → first ≤ crl.number
-    → not_after < crl.this_update
-    → AllByRecursion (ToldOf records serial first not_after) rest
-    → AllByRecursion (λ later. entry_in records later serial ≡ None) rest
-none_after_past records serial first not_after front crl rest numbered is can past told =
-    all_join
-    (λ later. (1 + length front) + 1 ≤ later.number)
-    (ToldOf records serial first not_after)
-    (λ later. entry_in records later serial ≡ None)
-    (λ later above its. no_entry records later serial (unlisted later above its (lists records later.number serial) refl))
-    rest
-    (numbered_above (λ other. other.number) ((1 + length front) + 1) rest numbers.1)
-    told
-  where
-    numbers : NumberedFrom (λ other. other.number) (1 + length front) (crl ∷ rest)
-    numbers = later_numbers front (crl ∷ rest) records.crls numbered is
+    -- before it none is past the end, where none in front of it is
+    none_past_before : AllByRecursion (NotPast first not_after) front → NonePastBetween records.crls first crl.number not_after
+    none_past_before none =
+        let P : Crl → Type 0 = λ other. first ≤ other.number → other.number < crl.number → other.this_update ≤ not_after in
+        let behind : AllByRecursion P (crl ∷ rest) =
+        all_weaker (λ other. 1 + length front ≤ other.number) P
+        (λ other above can below. let own : crl.number ≡ 1 + length front = numbers.0 in omega arith) (crl ∷ rest)
+        (numbered_above (λ other. other.number) (1 + length front) (crl ∷ rest) numbers) in
+        subst (λ crls. NonePastBetween crls first crl.number not_after) (sym is)
+        (all_append P front (crl ∷ rest) (all_weaker (NotPast first not_after) P (λ other holds can below. holds can) front none) behind)
 
-    -- what holds of all CRLs holds of this one
-    of_this : (n : ℕ) → NonePastBetween records.crls first n not_after → crl.number < n → crl.this_update ≤ not_after
-    of_this n none below =
-        (all_back
-        (λ other. first ≤ other.number → other.number < n → other.this_update ≤ not_after)
-        front
-        (crl ∷ rest)
-        (subst (AllByRecursion (λ other. first ≤ other.number → other.number < n → other.this_update ≤ not_after)) is none)).0
-        can
-        below
-
-    unlisted
-        : (later : Crl)
-        → (1 + length front) + 1 ≤ later.number
-        → ToldOf records serial first not_after later
-        → (listed : Bool)
-        → lists records later.number serial ≡ listed
-        → IsFalse (lists records later.number serial)
-    unlisted later above its false is_listed = is_listed
-    unlisted later above its true is_listed =
-        let own : crl.number ≡ 1 + length front = numbers.0 in
-        let within : crl.this_update ≤ not_after = of_this later.number (its.1.0 is_listed) (omega arith) in
-        absurd (omega arith)
-
--- from the CRLs in front on, of which none is past the end, each lists the revocation up to and including the first past
-pub listed_through
-    : (records : Records) (serial : ℕ) (revocation : RevocationRow) (not_after : ℕ) (front rest : List Crl)
-    → NumberedFrom (λ crl. crl.number) 1 records.crls
-    → ((n : ℕ) → AllByRecursion (IsDueEntry records n) (entries records n))
-    → revocation_in records.revocations serial ≡ Some revocation
-    → records.crls ≡ front ++ rest
-    → AllByRecursion (NotPast revocation.first not_after) front
-    → AllByRecursion (ToldOf records serial revocation.first not_after) rest
-    → ListedThroughFirstPast
-    records
-    (record { serial = serial; at = revocation.at; reason = revocation.reason })
-    not_after
-    rest
-listed_through records serial revocation not_after front [] numbered due revoked is none told = tt
-listed_through records serial revocation not_after front (crl ∷ rest) numbered due revoked is none told = (
-  entry_of_listed
-      records
-      crl
-      serial
-      revocation
-      (due crl.number)
-      revoked
-      (told.0.1.1 (none_past_before revocation.first not_after records.crls front crl rest numbered is none)),
-  go
-      (nat_lt not_after crl.this_update)
-      refl
-      (λ within.
-      listed_through
-      records
-      serial
-      revocation
-      not_after
-      (front ++ crl ∷ [])
-      rest
-      numbered
-      due
-      revoked
-      (is ∙ sym (append_assoc front (crl ∷ []) rest))
-      (all_push (NotPast revocation.first not_after) front crl none (λ can. within))
-      told.1),
-)
-  where
-    entry : Entry
-    entry = record { serial = serial; at = revocation.at; reason = revocation.reason }
-
-    go
-        : (past : Bool)
-        → nat_lt not_after crl.this_update ≡ past
-        → (crl.this_update ≤ not_after → ListedThroughFirstPast records entry not_after rest)
-        → MatchBool
-        past
-        (AllByRecursion (λ later. entry_in records later serial ≡ None) rest)
-        (ListedThroughFirstPast records entry not_after rest)
-    go true is_past more =
-        none_after_past
-        records
-        serial
-        revocation.first
-        not_after
-        front
-        crl
+    -- after it, where it is past the end, none lists the revocation
+    none_after_past : first ≤ crl.number → not_after < crl.this_update → AllByRecursion (ToldOf records serial first not_after) rest
+        → AllByRecursion (λ later. entry_in records later serial ≡ None) rest
+    none_after_past can past told =
+        all_join
+        (λ later. (1 + length front) + 1 ≤ later.number)
+        (ToldOf records serial first not_after)
+        (λ later. entry_in records later serial ≡ None)
+        (λ later above its. no_entry records later serial (unlisted later above its (lists records later.number serial) refl))
         rest
-        numbered
-        is
-        told.0.0
-        (let past : not_after < crl.this_update = grind (arith, nat_tests) in past)
-        told.1
-    go false is_past more = more (let within : crl.this_update ≤ not_after = grind (arith, nat_tests) in within)
+        (numbered_above (λ other. other.number) ((1 + length front) + 1) rest numbers.1)
+        told
+      where
+        -- what holds of all CRLs holds of this one
+        of_this : (n : ℕ) → NonePastBetween records.crls first n not_after → crl.number < n → crl.this_update ≤ not_after
+        of_this n none below =
+            let P : Crl → Type 0 = λ other. first ≤ other.number → other.number < n → other.this_update ≤ not_after in
+            (all_back P front (crl ∷ rest) (subst (AllByRecursion P) is none)).0 can below
+
+        unlisted
+            : (later : Crl)
+            → (1 + length front) + 1 ≤ later.number
+            → ToldOf records serial first not_after later
+            → (listed : Bool)
+            → lists records later.number serial ≡ listed
+            → IsFalse (lists records later.number serial)
+        unlisted later above its false is_listed = is_listed
+        unlisted later above its true is_listed =
+            let own : crl.number ≡ 1 + length front = numbers.0 in
+            let within : crl.this_update ≤ not_after = of_this later.number (its.1.0 is_listed) (omega arith) in
+            absurd (omega arith)
+
+module _ (records : Records) (serial : ℕ) (revocation : RevocationRow) (not_after : ℕ) (numbered : NumberedFrom (λ crl. crl.number) 1 records.crls)
+    (due : (n : ℕ) → AllByRecursion (IsDueEntry records n) (entries records n)) (revoked : revocation_in records.revocations serial ≡ Some revocation) where
+  abbrev entry : Entry
+  entry = record { serial = serial; at = revocation.at; reason = revocation.reason }
+
+  -- from the CRLs in front on, of which none is past the end, each lists the revocation up to and including the first past
+  pub listed_through : (front rest : List Crl) → records.crls ≡ front ++ rest
+      → AllByRecursion (NotPast revocation.first not_after) front
+      → AllByRecursion (ToldOf records serial revocation.first not_after) rest
+      → ListedThroughFirstPast records entry not_after rest
+  listed_through front [] is none told = tt
+  listed_through front (crl ∷ rest) is none told = (
+    entry_of_listed records crl serial revocation (due crl.number) revoked
+        (told.0.1.1 (none_past_before records serial revocation.first not_after numbered front crl rest is none)),
+    go (nat_lt not_after crl.this_update) refl
+        (λ within. listed_through (front ++ crl ∷ []) rest (is ∙ sym (append_assoc front (crl ∷ []) rest))
+        (all_push (NotPast revocation.first not_after) front crl none (λ can. within)) told.1),
+  )
+    where
+      go
+          : (past : Bool)
+          → nat_lt not_after crl.this_update ≡ past
+          → (crl.this_update ≤ not_after → ListedThroughFirstPast records entry not_after rest)
+          → MatchBool
+          past
+          (AllByRecursion (λ later. entry_in records later serial ≡ None) rest)
+          (ListedThroughFirstPast records entry not_after rest)
+      go true is_past more =
+          none_after_past records serial revocation.first not_after numbered front crl rest is told.0.0 (let past : not_after < crl.this_update = grind (arith, nat_tests) in past) told.1
+      go false is_past more = more (let within : crl.this_update ≤ not_after = grind (arith, nat_tests) in within)

@@ -7,7 +7,6 @@ use Rattle.sqlite.specs.State.{HasCleanDisk, Survives}
 use Rattle.reg_core.specs.Changes.{with_schedule}
 use Rattle.reg_core.specs.Crls.{CertList}
 use Rattle.reg_core.specs.Records.{Records}
-use Rattle.reg_core.specs.Sound.{SoundRows}
 use Rattle.reg_core.specs.declared.command.Command.{Command}
 use Rattle.reg_core.specs.declared.command.Reply.{Reply}
 use Rattle.reg_core.specs.declared.refusal.Fault.{Fault}
@@ -24,10 +23,6 @@ pub record IsStepped (signed : CertList → List ℕ → Type 0) (records : Reco
   pub after : Records
   pub happens : Happens signed records now command (Ok answer) after
   pub rests : IsAtRest after trees
-
--- the rows as a command leaves them that is accepted over the records that were shown
-abbrev pub Steps : {C : Type 0} → Ghosts C → Held C → (CertList → List ℕ → Type 0) → ℕ → Command → Trees → Type 0
-Steps g old signed now command trees = (records : Records) → ShowsKept g old records → SoundRows records → IsStepped signed records now command trees
 
 -- the same of an office: the records after the command are sound for who signs for the office
 pub record IsDone (signs : Identity → List ℕ → List ℕ → Type 0) (identity : Identity) (records : Records) (now : ℕ) (command : Command) (trees : Trees) : Type 0 where

@@ -1,5 +1,5 @@
 -- Who answers OCSP requests for an office.
-use Rattle.std.specs.Prelude.{ℕ, List, Option, Some, None, option_copied, option_map}
+use Rattle.std.specs.Prelude.{ℕ, Some, None, option_copied, option_map}
 use Rattle.reg_crl.specs.Signing.{Identity}
 use Rattle.reg_calls.specs.Signatories.{Responder, Signatory}
 use Rattle.reg_office.specs.declared.responder.Naming.{Naming}

@@ -3,27 +3,18 @@ use Rattle.std.specs.Prelude.{◌≡◌, ◌⊎◌}
 use Rattle.reg_core.specs.declared.refusal.Fault.{Fault}
 use Rattle.reg_core.specs.declared.refusal.Fault.TheVariants.{Refused, Memory, Store, Signer, Read, Write}
 
--- want of memory, or a failure of the store
-abbrev pub IsStoreFault : Fault → Type 0
-IsStoreFault fault = (fault ≡ Memory) ⊎ (fault ≡ Store)
-
 -- a refusal, want of memory, or a failure of the store
 abbrev pub IsTableFault : Fault → Type 0
-IsTableFault (Refused refusal) = Unit {0}
-IsTableFault Memory = Unit {0}
-IsTableFault Store = Unit {0}
 IsTableFault Signer = ⊥
 IsTableFault Read = ⊥
 IsTableFault Write = ⊥
+IsTableFault other = Unit {0}
 
 -- any of these, or a failure of the signer
 abbrev pub IsOfficeFault : Fault → Type 0
-IsOfficeFault (Refused refusal) = Unit {0}
-IsOfficeFault Memory = Unit {0}
-IsOfficeFault Store = Unit {0}
-IsOfficeFault Signer = Unit {0}
 IsOfficeFault Read = ⊥
 IsOfficeFault Write = ⊥
+IsOfficeFault other = Unit {0}
 
 -- want of memory, or a failure of the signer
 abbrev pub IsSigningFault : Fault → Type 0
@@ -31,9 +22,7 @@ IsSigningFault fault = (fault ≡ Memory) ⊎ (fault ≡ Signer)
 
 -- want of memory, or a failure of the store or of the signer: why a CRL is not made
 abbrev pub IsMakingFault : Fault → Type 0
-IsMakingFault (Refused refusal) = ⊥
 IsMakingFault Memory = Unit {0}
 IsMakingFault Store = Unit {0}
 IsMakingFault Signer = Unit {0}
-IsMakingFault Read = ⊥
-IsMakingFault Write = ⊥
+IsMakingFault other = ⊥

@@ -1,9 +1,8 @@
 -- A key behind the digest: how the CRLs of a register are signed.
-use Rattle.std.specs.Prelude.{◌≡◌, ℕ, ◌≤◌, List, Result}
+use Rattle.std.specs.Prelude.{◌≡◌, ℕ, List, Result}
 use Rattle.sha1.specs.Sha1.{sha1}
 use Rattle.sqlite_trees.specs.declared.store.Store.{Ghosts}
 use Rattle.sqlite.specs.Held.{Held}
-use Rattle.reg_core.specs.Crls.{next_number}
 use Rattle.reg_core.specs.Records.{Records}
 use Rattle.reg_core.specs.declared.command.Command.{Command}
 use Rattle.reg_core.specs.declared.command.Reply.{Reply}

@@ -1,11 +1,9 @@
 -- What is decided of the next CRL.
-use Rattle.std.specs.Prelude.{◌≡◌, ℕ, ◌+◌, None, Some, Result, Ok, Err}
+use Rattle.std.specs.Prelude.{◌≡◌, ℕ, ◌+◌, None}
 use Rattle.reg_core.specs.Crls.{next_number}
 use Rattle.reg_core.specs.Records.{Records}
 use Rattle.reg_core.specs.Step.{refusal}
 use Rattle.reg_core.specs.declared.command.Command.TheVariants.{Crl as IssueCrl}
-use Rattle.reg_core.specs.declared.refusal.Fault.{Fault}
-use Rattle.reg_core.specs.declared.refusal.Fault.TheVariants.{Refused, Memory, Store, Signer, Read, Write}
 use Rattle.reg_core.specs.declared.rows.CrlRow.{CrlRow}
 
 -- no refusal applies to a CRL at this moment, and it has the next number, this moment, and a nextUpdate one life later
@@ -13,13 +11,3 @@ pub record IsNextOf (records : Records) (now : ℕ) (next : CrlRow × ℕ) : Typ
   pub accepted : refusal records now IssueCrl ≡ None
   pub row_is : next.0 ≡ record { number = next_number records.crls; this_update = now }
   pub next_update : next.1 ≡ now + records.policy.crl_life
-
--- the next CRL of the records at this moment, or the refusal that applies
-abbrev pub IsNextRow : Records → ℕ → Result (CrlRow × ℕ) Fault → Type 0
-IsNextRow records now (Ok next) = IsNextOf records now next
-IsNextRow records now (Err (Refused why)) = refusal records now IssueCrl ≡ Some why
-IsNextRow records now (Err Memory) = Unit {0}
-IsNextRow records now (Err Store) = Unit {0}
-IsNextRow records now (Err Signer) = Unit {0}
-IsNextRow records now (Err Read) = Unit {0}
-IsNextRow records now (Err Write) = Unit {0}

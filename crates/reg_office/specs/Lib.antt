@@ -5,8 +5,8 @@ pub mod Beginning
 pub mod Commands
 pub mod Faults
 pub mod Following
-pub mod Happened
 pub mod Issuing
+pub mod Looking
 pub mod OpenedAgain
 pub mod Shown
 pub mod Stands

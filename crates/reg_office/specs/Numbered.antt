@@ -1,7 +1,8 @@
--- The lists whose rows are numbered: what stands at a number, and the list from a number on.
-use Rattle.std.specs.Prelude.{ℕ, Option, option_and_then}
+-- The lists whose rows are numbered: what stands at a number, and the list from a number on; and those of certificates.
+use Rattle.std.specs.Prelude.{ℕ, Option, Some, None, option_and_then}
 use Rattle.reg_core.specs.Records.{Records, order_in, request_in, subscriber_in}
-use Rattle.reg_lists.specs.Lists.{open_row, order_row, overdue_row, subscriber_row}
+use Rattle.reg_core.specs.declared.rows.CertRow.{CertRow}
+use Rattle.reg_lists.specs.Lists.{certificate_row, ending_row, open_row, order_row, overdue_row, subscriber_row}
 use Rattle.reg_lists.specs.declared.cursor.Cursor.{Cursor}
 use Rattle.reg_lists.specs.declared.cursor.Cursor.TheVariants as cursor
 use Rattle.reg_lists.specs.declared.rows.Row.{Row}
@@ -30,3 +31,13 @@ row_at records now OpenRequests id = option_and_then (open_row records now) (req
 row_at records now Overdue id = option_and_then (overdue_row records now) (request_in records.requests id)
 row_at records now Subscribers id = option_and_then subscriber_row (subscriber_in records.subscribers id)
 row_at records now Orders id = option_and_then (order_row records) (order_in records.orders id)
+
+-- the certificates from a serial number on, or those that are good and end before a moment
+abbrev pub certificates_after : Option ℕ → Option ℕ → Cursor
+certificates_after None after = cursor.Certificates after
+certificates_after (Some before) after = cursor.Ending before after
+
+-- the row of one, where that list has it
+abbrev pub certificate_listed : Records → ℕ → Option ℕ → CertRow → Option Row
+certificate_listed records now None certificate = certificate_row records now certificate
+certificate_listed records now (Some before) certificate = ending_row records now before certificate

@@ -1,11 +1,15 @@
 //! One command, by its kind.
 
-ghost use Rattle.std.specs.Prelude.{◌<◌};
+ghost use Rattle.std.specs.Prelude.{◌≢◌, ◌<◌};
 ghost use Rattle.reg_core.specs.Calendar.{clock_end};
+ghost use Rattle.reg_core.specs.declared.command.Command.TheVariants.{Crl as IssueCrl};
 ghost use Rattle.reg_office.specs.Commands.{IsCommandRun};
+ghost use Rattle.reg_core.specs.Step.{refusal};
+ghost use Rattle.reg_office.specs.Looking.{IsAcceptance, LooksAndDecides};
 
 use crate::certificates::register;
 use crate::crls::issue_crl;
+use crate::decision_head::Decided;
 use crate::orders::enter_order;
 use crate::requests::{decline, enter_request, revoke};
 use crate::subscribers::enter_subscriber;
@@ -31,6 +35,28 @@ pub(crate) fn run_command<C: Alter, S: Signer>(
     ensures { IsCommandRun C.Store S.signs S.identity S.failure_count store.old store.new signer.old signer.new now command.now result }
 {
     match *command {
+        Command::Crl => issue_crl(store, signer, alloc, now),
+        // No `?` here: it has no rule for a change that holds a reference at `'static`.
+        _ => match decide(store, now, command) {
+            Ok((reply, change)) => {
+                store.apply(now, &change)?;
+                Ok(reply)
+            }
+            Err(fault) => Err(fault),
+        },
+    }
+}
+
+/// What a command comes to that issues no CRL. Nothing has changed yet.
+///
+/// # Errors
+/// The refusals of the command, in their order; `Memory`, `Store`.
+fn decide<C: Alter>(store: &mut Store<C>, now: Moment, command: &Command) -> Result<Decided, Fault>
+    requires before_end { now < clock_end }
+    requires no_crl { command.now ≢ IssueCrl }
+    ensures { LooksAndDecides C.Store store.old store.new (λ records. refusal records now command.now) (IsAcceptance now command.now) result }
+{
+    match *command {
         Command::Subscriber { name } => enter_subscriber(store, now, name),
         Command::Order { subscriber, days } => enter_order(store, now, subscriber, days),
         Command::Register {
@@ -50,6 +76,6 @@ pub(crate) fn run_command<C: Alter, S: Signer>(
         Command::Request { serial, ground } => enter_request(store, now, serial, ground),
         Command::Decline { request } => decline(store, now, request),
         Command::Revoke { request } => revoke(store, now, request),
-        Command::Crl => issue_crl(store, signer, alloc, now),
+        Command::Crl => unreachable!(),
     }
 }

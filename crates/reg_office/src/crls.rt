@@ -1,30 +1,25 @@
 //! CRLs.
 
 ghost use Rattle.std.specs.Prelude.{◌≡◌, ◌≤◌, ◌<◌, ◌+◌, length, IsErrOf, IfOk, IfErr};
-ghost use Rattle.sqlite.specs.Held.{state};
-ghost use Rattle.sqlite.specs.State.{HasCleanDisk};
 ghost use Rattle.reg_calls.specs.Items.{items_of};
 ghost use Rattle.reg_core.specs.Calendar.{clock_end};
-ghost use Rattle.reg_core.specs.Records.{Records};
-ghost use Rattle.reg_core.specs.Sound.{SoundRows};
 ghost use Rattle.reg_core.specs.declared.command.Command.TheVariants.{Crl as IssueCrl};
-ghost use Rattle.reg_tables.specs.Kept.{ShowsKept};
-ghost use Rattle.reg_tables.specs.Stays.{Changed, Looked};
-ghost use Rattle.reg_office.specs.AfterStoppedCommand.{Steps};
-ghost use Rattle.reg_office.specs.Faults.{IsMakingFault, IsOfficeFault, IsSigningFault, IsTableFault};
-ghost use Rattle.reg_office.specs.Issuing.{IsNextRow};
-ghost use Rattle.reg_office.specs.Happened.{Happened};
-ghost use Rattle.reg_core.specs.Crls.{EntriesAscend, cert_list, content};
+ghost use Rattle.reg_tables.specs.Stays.{Looked};
+ghost use Rattle.reg_office.specs.Commands.{IsCommandRun};
+ghost use Rattle.reg_office.specs.Faults.{IsMakingFault, IsSigningFault, IsTableFault};
+ghost use Rattle.reg_office.specs.Issuing.{IsNextOf};
+ghost use Rattle.reg_core.specs.Step.{refusal};
+ghost use Rattle.reg_office.specs.Looking.{LooksAndDecides, LooksUp};
+ghost use Rattle.reg_core.specs.Crls.{EntriesAscend, cert_list, content, entries};
 ghost use Rattle.reg_core.specs.declared.refusal.Fault.TheVariants.{Signer as SignerFailed};
 ghost use Rattle.reg_crl.specs.Signing.{signed_by};
-ghost use Rattle.reg_tables.specs.Shows.{Shows};
 ghost use Rattle.reg_calls.specs.Answered.{IsGiven};
 
 use crate::decision_head::{head_at, latest_crl};
 use reg_core::{CrlRow, Entry, Fault, Moment, Refusal, Reply, decide_crl};
 use reg_crl::{SignFault, Signer, crl_tbs, crl_whole};
 use reg_der::Issuer;
-use reg_store::{Store, Table};
+use reg_store::{Store, StoreFault, Table};
 use sqlite::Alter;
 use std::alloc::Global;
 
@@ -83,15 +78,24 @@ fn signature_of<S: Signer>(
 /// The refusals of [`decide_crl`]; `Memory`, `Store`.
 fn next_row<C: Alter>(store: &mut Store<C>, now: Moment) -> Result<(CrlRow, Moment), Fault>
     requires { now < clock_end }
-    ensures decided { (records : Records) → Shows C.Store store.old records → HasCleanDisk (state C.Store store.new) → IsNextRow records now result }
-    ensures looked { Looked C.Store store.old store.new }
-    ensures faults { IfErr result IsTableFault }
+    ensures { LooksAndDecides C.Store store.old store.new (λ records. refusal records now IssueCrl) (λ records next. IsNextOf records now next) result }
 {
     let head = head_at(store, now, Table::Crls)?;
     let latest = latest_crl(store)?;
     let row = decide_crl(&head, latest)?;
     let next_update = now.plus(head.policy.crl_life());
     Ok((row, next_update))
+}
+
+/// The issuer, and the entries of the CRL with a number.
+fn listed<C: Alter>(store: &mut Store<C>, number: u64) -> Result<(Issuer, Vec<Entry>), StoreFault>
+    ensures looks { LooksUp C.Store store.old store.new (λ records. IfOk result (λ it. (it.0 ≡ records.issuer) × (it.1.items ≡ entries records number))) }
+    ensures ascending { IfOk result (λ it. EntriesAscend it.1.items) }
+    ensures few { IfOk result (λ it. length it.1.items ≤ 1000000) }
+{
+    let issuer = store.issuer()?;
+    let entries = store.entries(number)?;
+    Ok((issuer, entries))
 }
 
 /// The DER of the CRL of a row, signed, and how many entries it has.
@@ -105,17 +109,14 @@ fn made_crl<C: Alter, S: Signer>(
     row: &CrlRow,
     next_update: Moment,
 ) -> Result<(Vec<u8>, u64), Fault>
-    ensures signed { (records : Records) → ShowsKept C.Store store.old records → HasCleanDisk (state C.Store store.new)
-        → next_update ≡ row.now.this_update + records.policy.crl_life
+    ensures looks { LooksUp C.Store store.old store.new (λ records. next_update ≡ row.now.this_update + records.policy.crl_life
         → IfOk result (λ crl. signed_by S.signs (S.identity signer.old) (cert_list records row.now.number row.now.this_update) crl.0.items
-        × (crl.1 ≡ length (content records row.now.number))) }
-    ensures looked { Looked C.Store store.old store.new }
+        × (crl.1 ≡ length (content records row.now.number)))) }
     ensures same_identity { S.identity signer.new ≡ S.identity signer.old }
     ensures device { IsErrOf result SignerFailed → S.failure_count signer.old < S.failure_count signer.new }
     ensures faults { IfErr result IsMakingFault }
 {
-    let issuer = store.issuer()?;
-    let entries = store.entries(row.number)?;
+    let (issuer, entries) = listed(store, row.number)?;
     let der = signed_crl(alloc, signer, &issuer, row, next_update, &entries)?;
     let listed = entries.len() as u64;
     Ok((der, listed))
@@ -125,7 +126,6 @@ fn made_crl<C: Alter, S: Signer>(
 ///
 /// # Errors
 /// As of [`issue_crl`], up to where it has that signed.
-#[tactic(auto, using(reg_tables::proofs::Staying::looked_then))]
 pub(crate) fn next_message<C: Alter>(
     store: &mut Store<C>,
     alloc: Global,
@@ -134,26 +134,10 @@ pub(crate) fn next_message<C: Alter>(
 ) -> Result<Vec<u8>, Fault>
     requires before_end { now < clock_end }
     requires algorithm { length algorithm.now ≤ 1024 }
-    ensures looked { Looked C.Store store.old store.new }
+    ensures { Looked C.Store store.old store.new }
 {
     let (row, next_update) = next_row(store, now)?;
-    message_of(store, alloc, algorithm, &row, next_update)
-}
-
-/// What is signed in the CRL of a row.
-#[tactic(auto, using(reg_tables::proofs::Staying::looked_then))]
-fn message_of<C: Alter>(
-    store: &mut Store<C>,
-    alloc: Global,
-    algorithm: &[u8],
-    row: &CrlRow,
-    next_update: Moment,
-) -> Result<Vec<u8>, Fault>
-    requires { length algorithm.now ≤ 1024 }
-    ensures looked { Looked C.Store store.old store.new }
-{
-    let issuer = store.issuer()?;
-    let entries = store.entries(row.number)?;
+    let (issuer, entries) = listed(store, row.number)?;
     Ok(crl_tbs(
         alloc,
         &issuer,
@@ -177,12 +161,7 @@ pub(crate) fn issue_crl<C: Alter, S: Signer>(
     now: Moment,
 ) -> Result<Reply, Fault>
     requires { now < clock_end }
-    ensures step { (records : Records) → ShowsKept C.Store store.old records → SoundRows records → HasCleanDisk (state C.Store store.new)
-        → Happened C.Store store.new (signed_by S.signs (S.identity signer.old)) records now IssueCrl result }
-    ensures changed { Changed C.Store store.old store.new (Steps C.Store store.old (signed_by S.signs (S.identity signer.old)) now IssueCrl) result }
-    ensures faults { IfErr result IsOfficeFault }
-    ensures same_identity { S.identity signer.new ≡ S.identity signer.old }
-    ensures device { IsErrOf result SignerFailed → S.failure_count signer.old < S.failure_count signer.new }
+    ensures { IsCommandRun C.Store S.signs S.identity S.failure_count store.old store.new signer.old signer.new now IssueCrl result }
 {
     let (row, next_update) = next_row(store, now)?;
     let (der, entries) = made_crl(store, signer, alloc, &row, next_update)?;
@@ -199,8 +178,7 @@ pub(crate) fn bytes_of<C: Alter>(
     store: &mut Store<C>,
     number: Option<u64>,
 ) -> Result<Vec<u8>, Fault>
-    ensures found { (records : Records) → Shows C.Store store.old records → SoundRows records → HasCleanDisk (state C.Store store.new) → IsGiven records number (items_of result) }
-    ensures looked { Looked C.Store store.old store.new }
+    ensures looks { LooksUp C.Store store.old store.new (λ records. IsGiven records number (items_of result)) }
     ensures faults { IfErr result IsTableFault }
 {
     match number {
@@ -211,8 +189,7 @@ pub(crate) fn bytes_of<C: Alter>(
 
 /// The bytes of the CRL with a number.
 fn numbered<C: Alter>(store: &mut Store<C>, number: u64) -> Result<Vec<u8>, Fault>
-    ensures found { (records : Records) → Shows C.Store store.old records → HasCleanDisk (state C.Store store.new) → IsGiven records (Some number) (items_of result) }
-    ensures looked { Looked C.Store store.old store.new }
+    ensures looks { LooksUp C.Store store.old store.new (λ records. IsGiven records (Some number) (items_of result)) }
     ensures faults { IfErr result IsTableFault }
 {
     match store.crl(number)? {
@@ -223,8 +200,7 @@ fn numbered<C: Alter>(store: &mut Store<C>, number: u64) -> Result<Vec<u8>, Faul
 
 /// The bytes of the CRL that was issued last.
 fn latest<C: Alter>(store: &mut Store<C>) -> Result<Vec<u8>, Fault>
-    ensures found { (records : Records) → Shows C.Store store.old records → SoundRows records → HasCleanDisk (state C.Store store.new) → IsGiven records None (items_of result) }
-    ensures looked { Looked C.Store store.old store.new }
+    ensures looks { LooksUp C.Store store.old store.new (λ records. IsGiven records None (items_of result)) }
     ensures faults { IfErr result IsTableFault }
 {
     match store.latest_crl()? {

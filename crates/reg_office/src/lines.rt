@@ -1,6 +1,6 @@
 //! What lists tell of one record, from what is looked up for it.
 
-ghost use Rattle.std.specs.Prelude.{◌≡◌, Some, None, cond, nat_lt, option_map, IfErr, IfOk};
+ghost use Rattle.std.specs.Prelude.{◌≡◌, Some, None, cond, nat_lt, option_map, IfOk};
 ghost use Rattle.sqlite.specs.Held.{state};
 ghost use Rattle.sqlite.specs.State.{HasCleanDisk};
 ghost use Rattle.reg_core.specs.Due.{deadline};
@@ -12,63 +12,60 @@ ghost use Rattle.reg_lists.specs.declared.rows.Row.TheVariants as kind;
 ghost use Rattle.reg_tables.specs.Kept.{ShowsKept};
 ghost use Rattle.reg_tables.specs.Shows.{Shows};
 ghost use Rattle.reg_tables.specs.Stays.{Looked};
-ghost use Rattle.reg_office.specs.Faults.{IsStoreFault};
 
 use reg_core::{
-    CertRow, Fault, Listing, Moment, OrderRow, RequestRow, RevocationRow, Serial, Status,
-    SubscriberRow, status_of,
+    CertRow, Listing, Moment, OrderRow, RequestRow, RevocationRow, Serial, Status, SubscriberRow,
+    status_of,
 };
 use reg_lists::{CertificateLine, OrderLine, RequestLine, Row};
-use reg_store::Store;
+use reg_store::{Store, StoreFault};
 use sqlite::Alter;
 
 // ---- records that are there; `Store` where one is not, which no register has
 
 /// The subscriber with an id.
-pub(crate) fn subscriber_at<C: Alter>(store: &mut Store<C>, id: u64) -> Result<SubscriberRow, Fault>
+pub(crate) fn subscriber_at<C: Alter>(
+    store: &mut Store<C>,
+    id: u64,
+) -> Result<SubscriberRow, StoreFault>
     ensures found { (records : Records) → Shows C.Store store.old records → HasCleanDisk (state C.Store store.new) → IfOk result (λ row. Some row ≡ subscriber_in records.subscribers id) }
     ensures looked { Looked C.Store store.old store.new }
-    ensures faults { IfErr result IsStoreFault }
 {
     let subscriber = store.subscriber(id)?;
-    subscriber.ok_or(Fault::Store)
+    subscriber.ok_or(StoreFault::Store)
 }
 
 /// The order with an id.
-pub(crate) fn order_at<C: Alter>(store: &mut Store<C>, id: u64) -> Result<OrderRow, Fault>
+pub(crate) fn order_at<C: Alter>(store: &mut Store<C>, id: u64) -> Result<OrderRow, StoreFault>
     ensures found { (records : Records) → Shows C.Store store.old records → HasCleanDisk (state C.Store store.new) → IfOk result (λ row. Some row ≡ order_in records.orders id) }
     ensures looked { Looked C.Store store.old store.new }
-    ensures faults { IfErr result IsStoreFault }
 {
     let order = store.order(id)?;
-    order.ok_or(Fault::Store)
+    order.ok_or(StoreFault::Store)
 }
 
 /// The certificate with a serial number.
-fn certificate_at<C: Alter>(store: &mut Store<C>, serial: Serial) -> Result<CertRow, Fault>
+fn certificate_at<C: Alter>(store: &mut Store<C>, serial: Serial) -> Result<CertRow, StoreFault>
     ensures found { (records : Records) → Shows C.Store store.old records → HasCleanDisk (state C.Store store.new) → IfOk result (λ row. Some row ≡ certificate_in records.certificates serial) }
     ensures looked { Looked C.Store store.old store.new }
-    ensures faults { IfErr result IsStoreFault }
 {
     let certificate = store.cert(serial)?;
-    certificate.ok_or(Fault::Store)
+    certificate.ok_or(StoreFault::Store)
 }
 
 /// The request with an id.
-pub(crate) fn request_at<C: Alter>(store: &mut Store<C>, id: u64) -> Result<RequestRow, Fault>
+pub(crate) fn request_at<C: Alter>(store: &mut Store<C>, id: u64) -> Result<RequestRow, StoreFault>
     ensures found { (records : Records) → Shows C.Store store.old records → HasCleanDisk (state C.Store store.new) → IfOk result (λ row. Some row ≡ request_in records.requests id) }
     ensures looked { Looked C.Store store.old store.new }
-    ensures faults { IfErr result IsStoreFault }
 {
     let request = store.request(id)?;
-    request.ok_or(Fault::Store)
+    request.ok_or(StoreFault::Store)
 }
 
 /// Whose order it is that has an id.
-fn subscriber_of<C: Alter>(store: &mut Store<C>, id: u64) -> Result<SubscriberRow, Fault>
+fn subscriber_of<C: Alter>(store: &mut Store<C>, id: u64) -> Result<SubscriberRow, StoreFault>
     ensures found { (records : Records) → Shows C.Store store.old records → HasCleanDisk (state C.Store store.new) → IfOk result (λ subscriber. Some subscriber ≡ subscriber_of_order records id) }
     ensures looked { Looked C.Store store.old store.new }
-    ensures faults { IfErr result IsStoreFault }
 {
     let order = order_at(store, id)?;
     subscriber_at(store, order.subscriber)
@@ -81,31 +78,14 @@ fn listing_of<C: Alter>(
     store: &mut Store<C>,
     serial: Serial,
     revocation: &Option<RevocationRow>,
-) -> Result<Option<Listing>, Fault>
+) -> Result<Option<Listing>, StoreFault>
     ensures found { (records : Records) → ShowsKept C.Store store.old records → HasCleanDisk (state C.Store store.new) → revocation.now ≡ revocation_in records.revocations serial → IfOk result (λ found. found ≡ listing records serial) }
     ensures looked { Looked C.Store store.old store.new }
-    ensures faults { IfErr result IsStoreFault }
 {
     match revocation {
-        Some(_) => Ok(store.listing(serial)?),
+        Some(_) => store.listing(serial),
         None => Ok(None),
     }
-}
-
-/// What is told of a certificate, by its revocation.
-fn line_of<C: Alter>(
-    store: &mut Store<C>,
-    now: Moment,
-    certificate: CertRow,
-    revocation: Option<RevocationRow>,
-) -> Result<CertificateLine, Fault>
-    ensures found { (records : Records) → ShowsKept C.Store store.old records → HasCleanDisk (state C.Store store.new) → revocation ≡ revocation_in records.revocations certificate.serial → IfOk result (λ line. Some line ≡ certificate_line records now certificate) }
-    ensures looked { Looked C.Store store.old store.new }
-    ensures faults { IfErr result IsStoreFault }
-{
-    let subscriber = subscriber_of(store, certificate.order)?;
-    let listing = listing_of(store, certificate.serial, &revocation)?;
-    Ok(told_of(now, &certificate, revocation, subscriber, listing))
 }
 
 /// What is told of a certificate, from what was looked up for it.
@@ -137,13 +117,14 @@ fn certificate_line<C: Alter>(
     store: &mut Store<C>,
     now: Moment,
     certificate: CertRow,
-) -> Result<CertificateLine, Fault>
+) -> Result<CertificateLine, StoreFault>
     ensures found { (records : Records) → ShowsKept C.Store store.old records → HasCleanDisk (state C.Store store.new) → IfOk result (λ line. Some line ≡ certificate_line records now certificate) }
     ensures looked { Looked C.Store store.old store.new }
-    ensures faults { IfErr result IsStoreFault }
 {
     let revocation = store.revocation(certificate.serial)?;
-    line_of(store, now, certificate, revocation)
+    let subscriber = subscriber_of(store, certificate.order)?;
+    let listing = listing_of(store, certificate.serial, &revocation)?;
+    Ok(told_of(now, &certificate, revocation, subscriber, listing))
 }
 
 /// The row of a certificate in the list of all.
@@ -154,10 +135,9 @@ pub(crate) fn certificate_row<C: Alter>(
     store: &mut Store<C>,
     now: Moment,
     certificate: CertRow,
-) -> Result<Option<Row>, Fault>
+) -> Result<Option<Row>, StoreFault>
     ensures found { (records : Records) → ShowsKept C.Store store.old records → HasCleanDisk (state C.Store store.new) → IfOk result (λ row. row ≡ certificate_row records now certificate) }
     ensures looked { Looked C.Store store.old store.new }
-    ensures faults { IfErr result IsStoreFault }
 {
     let line = certificate_line(store, now, certificate)?;
     Ok(Some(Row::Certificate(line)))
@@ -172,10 +152,9 @@ pub(crate) fn ending_row<C: Alter>(
     now: Moment,
     before: Moment,
     certificate: CertRow,
-) -> Result<Option<Row>, Fault>
+) -> Result<Option<Row>, StoreFault>
     ensures found { (records : Records) → ShowsKept C.Store store.old records → HasCleanDisk (state C.Store store.new) → IfOk result (λ row. row ≡ ending_row records now before certificate) }
     ensures looked { Looked C.Store store.old store.new }
-    ensures faults { IfErr result IsStoreFault }
 {
     if ends_before(&certificate, before) {
         good_row(store, now, certificate)
@@ -196,10 +175,9 @@ fn good_row<C: Alter>(
     store: &mut Store<C>,
     now: Moment,
     certificate: CertRow,
-) -> Result<Option<Row>, Fault>
+) -> Result<Option<Row>, StoreFault>
     ensures found { (records : Records) → ShowsKept C.Store store.old records → HasCleanDisk (state C.Store store.new) → IfOk result (λ row. row ≡ cond (is_good (status_at records now certificate)) (certificate_row records now certificate) None) }
     ensures looked { Looked C.Store store.old store.new }
-    ensures faults { IfErr result IsStoreFault }
 {
     let line = certificate_line(store, now, certificate)?;
     Ok(row_where_good(line))
@@ -223,14 +201,12 @@ pub(crate) fn revoked_row<C: Alter>(
     store: &mut Store<C>,
     now: Moment,
     revocation: RevocationRow,
-) -> Result<Option<Row>, Fault>
-    ensures found { (records : Records) → ShowsKept C.Store store.old records → HasCleanDisk (state C.Store store.new) → Some revocation ≡ revocation_in records.revocations revocation.serial → IfOk result (λ row. row ≡ revoked_row records now revocation) }
+) -> Result<Option<Row>, StoreFault>
+    ensures found { (records : Records) → ShowsKept C.Store store.old records → HasCleanDisk (state C.Store store.new) → IfOk result (λ row. row ≡ revoked_row records now revocation) }
     ensures looked { Looked C.Store store.old store.new }
-    ensures faults { IfErr result IsStoreFault }
 {
     let certificate = certificate_at(store, revocation.serial)?;
-    let line = line_of(store, now, certificate, Some(revocation))?;
-    Ok(Some(Row::Certificate(line)))
+    certificate_row(store, now, certificate)
 }
 
 // ---- requests
@@ -243,10 +219,9 @@ pub(crate) fn open_row<C: Alter>(
     store: &mut Store<C>,
     now: Moment,
     request: RequestRow,
-) -> Result<Option<Row>, Fault>
+) -> Result<Option<Row>, StoreFault>
     ensures found { (records : Records) → Shows C.Store store.old records → HasCleanDisk (state C.Store store.new) → IfOk result (λ row. row ≡ open_row records now request) }
     ensures looked { Looked C.Store store.old store.new }
-    ensures faults { IfErr result IsStoreFault }
 {
     if request.declined {
         return Ok(None);
@@ -272,11 +247,10 @@ fn request_row<C: Alter>(
     store: &mut Store<C>,
     request: RequestRow,
     certificate: CertRow,
-) -> Result<Option<Row>, Fault>
+) -> Result<Option<Row>, StoreFault>
     ensures found { (records : Records) → Shows C.Store store.old records → HasCleanDisk (state C.Store store.new) → Some certificate ≡ certificate_in records.certificates request.serial
         → IfOk result (λ row. row ≡ option_map (λ line. kind.Request line) (request_line records request)) }
     ensures looked { Looked C.Store store.old store.new }
-    ensures faults { IfErr result IsStoreFault }
 {
     let due = due_of(&request)?;
     let subscriber = subscriber_of(store, certificate.order)?;
@@ -290,12 +264,11 @@ fn request_row<C: Alter>(
 
 /// The moment up to which a request is to be decided. `Store` where it was received past the clock's end, as no request of a
 /// register was.
-fn due_of(request: &RequestRow) -> Result<Moment, Fault>
+fn due_of(request: &RequestRow) -> Result<Moment, StoreFault>
     ensures due { IfOk result (λ due. due ≡ deadline request.now) }
-    ensures faults { IfErr result IsStoreFault }
 {
     if request.received >= Moment::CLOCK_END {
-        return Err(Fault::Store);
+        return Err(StoreFault::Store);
     }
     Ok(request.deadline())
 }
@@ -308,10 +281,9 @@ pub(crate) fn overdue_row<C: Alter>(
     store: &mut Store<C>,
     now: Moment,
     request: RequestRow,
-) -> Result<Option<Row>, Fault>
+) -> Result<Option<Row>, StoreFault>
     ensures found { (records : Records) → Shows C.Store store.old records → HasCleanDisk (state C.Store store.new) → IfOk result (λ row. row ≡ overdue_row records now request) }
     ensures looked { Looked C.Store store.old store.new }
-    ensures faults { IfErr result IsStoreFault }
 {
     let due = due_of(&request)?;
     if is_past(due, now) {
@@ -337,10 +309,9 @@ fn is_past(due: Moment, now: Moment) -> bool
 pub(crate) fn order_row<C: Alter>(
     store: &mut Store<C>,
     order: OrderRow,
-) -> Result<Option<Row>, Fault>
+) -> Result<Option<Row>, StoreFault>
     ensures found { (records : Records) → Shows C.Store store.old records → HasCleanDisk (state C.Store store.new) → IfOk result (λ row. row ≡ order_row records order) }
     ensures looked { Looked C.Store store.old store.new }
-    ensures faults { IfErr result IsStoreFault }
 {
     let subscriber = subscriber_at(store, order.subscriber)?;
     let certificate = store.cert_of_order(order.id)?;

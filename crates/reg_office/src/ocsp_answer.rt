@@ -5,14 +5,16 @@ ghost use Rattle.sqlite.specs.Held.{state};
 ghost use Rattle.sqlite.specs.State.{HasCleanDisk};
 ghost use Rattle.reg_core.specs.Checks.{clock_checks, first_of_all};
 ghost use Rattle.reg_core.specs.Records.{Records};
+ghost use Rattle.reg_core.specs.Sound.{SoundRows};
 ghost use Rattle.reg_ocsp.specs.Request.{CanBeAnswered};
 ghost use Rattle.reg_ocsp.specs.Response.{refusal_response};
 ghost use Rattle.reg_ocsp.specs.declared.response.RefusalStatus.TheVariants.{Malformed, Internal};
 ghost use Rattle.reg_ocsp.specs.Views.{ids_seen};
-ghost use Rattle.reg_tables.specs.Shows.{Shows};
+ghost use Rattle.reg_tables.specs.Kept.{ShowsKept};
 ghost use Rattle.reg_tables.specs.Stays.{Looked};
 ghost use Rattle.reg_calls.specs.Ocsp.{HasNoReading, IsOcspData, IsOcspReply, IsResponse, response_signed_by};
 ghost use Rattle.reg_office.specs.Beginning.{IsBegun, IsReadBegun, IsRefusedWhole};
+ghost use Rattle.reg_office.specs.Looking.{LooksUp};
 ghost use Rattle.reg_office.specs.Answering.{answers_by, failures_of, responder_named};
 
 use crate::ocsp_faults::ResponseFault;
@@ -49,7 +51,7 @@ pub(crate) fn ocsp<C: Alter, S: Signer>(
     request: &[u8],
 ) -> Result<Vec<u8>, Memory>
     ensures malformed { IfOk result (λ answer. (answer.items ≡ refusal_response Malformed) ↔ HasNoReading request.now) }
-    ensures answered { (records : Records) → Shows C.Store store.old records → HasCleanDisk (state C.Store store.new)
+    ensures answered { (records : Records) → ShowsKept C.Store store.old records → SoundRows records → HasCleanDisk (state C.Store store.new)
         → IfOk result (λ answer. IsOcspReply S.signs (answers_by S.identity (S.identity signer.old) responder.old) records now request.now answer.items) }
     ensures looked { Looked C.Store store.old store.new }
     ensures same_identity { S.identity signer.new ≡ S.identity signer.old }
@@ -78,7 +80,7 @@ fn answer<C: Alter, S: Signer>(
 ) -> Result<Vec<u8>, Memory>
     requires { IfSome (option_copied naming.certificate) (λ bytes. length bytes ≤ 65536) }
     ensures malformed { IfOk result (λ answer. (answer.items ≡ refusal_response Malformed) ↔ HasNoReading request.now) }
-    ensures answered { (records : Records) → Shows C.Store store.old records → HasCleanDisk (state C.Store store.new)
+    ensures answered { (records : Records) → ShowsKept C.Store store.old records → SoundRows records → HasCleanDisk (state C.Store store.new)
         → IfOk result (λ answer. IsOcspReply S.signs (responder_named (S.identity signer.old) naming.entry) records now request.now answer.items) }
     ensures looked { Looked C.Store store.old store.new }
     ensures same_identity { S.identity signer.new ≡ S.identity signer.old }
@@ -117,12 +119,12 @@ fn response<C: Alter, S: Signer>(
 ) -> Result<Vec<u8>, ResponseFault>
     requires short { IfSome (option_copied naming.certificate) (λ bytes. length bytes ≤ 65536) }
     requires answerable { CanBeAnswered (ids_seen asked.now.ids.items) (option_copied asked.now.nonce) }
-    ensures found { (records : Records) → Shows C.Store store.old records → HasCleanDisk (state C.Store store.new)
+    ensures found { (records : Records) → ShowsKept C.Store store.old records → SoundRows records → HasCleanDisk (state C.Store store.new)
         → IfOk result (λ bytes. IsResponse S.signs (responder_named (S.identity signer.old) naming.entry) records now (ids_seen asked.now.ids.items) (option_copied asked.now.nonce) bytes.items) }
     ensures whole { IfOk result (λ bytes. bytes.items ≢ refusal_response Malformed) }
-    ensures timely { (records : Records) → Shows C.Store store.old records → HasCleanDisk (state C.Store store.new)
+    ensures timely { (records : Records) → ShowsKept C.Store store.old records → SoundRows records → HasCleanDisk (state C.Store store.new)
         → OnOk result (first_of_all (clock_checks now records.last) ≡ None) }
-    ensures untimely { (records : Records) → Shows C.Store store.old records → HasCleanDisk (state C.Store store.new)
+    ensures untimely { (records : Records) → ShowsKept C.Store store.old records → SoundRows records → HasCleanDisk (state C.Store store.new)
         → IsErrOf result ResponseFault.Clock → IsSome (first_of_all (clock_checks now records.last)) }
     ensures looked { Looked C.Store store.old store.new }
     ensures same_identity { S.identity signer.new ≡ S.identity signer.old }
@@ -134,7 +136,6 @@ fn response<C: Alter, S: Signer>(
 }
 
 /// The ResponseData to what a request asks, by a key of who answers, or else by the issuer's.
-#[tactic(auto, using(reg_tables::proofs::Staying::looked_then))]
 fn ocsp_data<C: Alter>(
     alloc: Global,
     store: &mut Store<C>,
@@ -143,12 +144,12 @@ fn ocsp_data<C: Alter>(
     asked: &Asked<'_>,
 ) -> Result<Vec<u8>, ResponseFault>
     requires { CanBeAnswered (ids_seen asked.now.ids.items) (option_copied asked.now.nonce) }
-    ensures found { (records : Records) → Shows C.Store store.old records → HasCleanDisk (state C.Store store.new)
+    ensures found { (records : Records) → ShowsKept C.Store store.old records → SoundRows records → HasCleanDisk (state C.Store store.new)
         → IfOk result (λ bytes. IsOcspData (unwrap_or (option_copied own_key.entry) records.issuer.key) records now (ids_seen asked.now.ids.items) (option_copied asked.now.nonce) bytes.items) }
     ensures bounded { IfOk result (λ bytes. length bytes.items ≤ 2 ^ 27) }
-    ensures timely { (records : Records) → Shows C.Store store.old records → HasCleanDisk (state C.Store store.new)
+    ensures timely { (records : Records) → ShowsKept C.Store store.old records → SoundRows records → HasCleanDisk (state C.Store store.new)
         → OnOk result (first_of_all (clock_checks now records.last) ≡ None) }
-    ensures untimely { (records : Records) → Shows C.Store store.old records → HasCleanDisk (state C.Store store.new)
+    ensures untimely { (records : Records) → ShowsKept C.Store store.old records → SoundRows records → HasCleanDisk (state C.Store store.new)
         → IsErrOf result ResponseFault.Clock → IsSome (first_of_all (clock_checks now records.last)) }
     ensures looked { Looked C.Store store.old store.new }
     ensures faults { ¬ (IsErrOf result ResponseFault.Signer) }
@@ -168,11 +169,9 @@ fn data_at<C: Alter>(
     asked: &Asked<'_>,
 ) -> Result<Vec<u8>, ResponseFault>
     requires { CanBeAnswered (ids_seen asked.now.ids.items) (option_copied asked.now.nonce) }
-    ensures found { (records : Records) → Shows C.Store store.old records → HasCleanDisk (state C.Store store.new)
-        → issuer.now ≡ records.issuer → next ≡ now + records.policy.ocsp_life
-        → IfOk result (λ bytes. IsOcspData (unwrap_or (option_copied own_key.entry) records.issuer.key) records now (ids_seen asked.now.ids.items) (option_copied asked.now.nonce) bytes.items) }
+    ensures looks { LooksUp C.Store store.old store.new (λ records. issuer.now ≡ records.issuer → next ≡ now + records.policy.ocsp_life
+        → IfOk result (λ bytes. IsOcspData (unwrap_or (option_copied own_key.entry) records.issuer.key) records now (ids_seen asked.now.ids.items) (option_copied asked.now.nonce) bytes.items)) }
     ensures bounded { IfOk result (λ bytes. length bytes.items ≤ 2 ^ 27) }
-    ensures looked { Looked C.Store store.old store.new }
     ensures faults { IfErr result (λ fault. (fault ≡ ResponseFault.Memory) ⊎ (fault ≡ ResponseFault.Store)) }
 {
     let answers = answers(alloc, store, issuer, now, &asked.ids)?;
@@ -195,11 +194,11 @@ fn responding<C: Alter>(
     store: &mut Store<C>,
     now: Moment,
 ) -> Result<(Issuer, Moment), ResponseFault>
-    ensures found { (records : Records) → Shows C.Store store.old records → HasCleanDisk (state C.Store store.new)
+    ensures found { (records : Records) → ShowsKept C.Store store.old records → SoundRows records → HasCleanDisk (state C.Store store.new)
         → IfOk result (λ it. (it.0 ≡ records.issuer) × (it.1 ≡ now + records.policy.ocsp_life)) }
-    ensures timely { (records : Records) → Shows C.Store store.old records → HasCleanDisk (state C.Store store.new)
+    ensures timely { (records : Records) → ShowsKept C.Store store.old records → SoundRows records → HasCleanDisk (state C.Store store.new)
         → OnOk result (first_of_all (clock_checks now records.last) ≡ None) }
-    ensures untimely { (records : Records) → Shows C.Store store.old records → HasCleanDisk (state C.Store store.new)
+    ensures untimely { (records : Records) → ShowsKept C.Store store.old records → SoundRows records → HasCleanDisk (state C.Store store.new)
         → IsErrOf result ResponseFault.Clock → IsSome (first_of_all (clock_checks now records.last)) }
     ensures looked { Looked C.Store store.old store.new }
     ensures faults { ¬ (IsErrOf result ResponseFault.Signer) }
@@ -247,7 +246,7 @@ pub(crate) fn begin_ocsp<C: Alter, S: Signer>(
     now: Moment,
     request: &[u8],
 ) -> Result<Begun, Memory>
-    ensures begun { (records : Records) → Shows C.Store store.old records → HasCleanDisk (state C.Store store.new)
+    ensures begun { (records : Records) → ShowsKept C.Store store.old records → SoundRows records → HasCleanDisk (state C.Store store.new)
         → IfOk result (IsBegun S.signs (answers_by S.identity (S.identity signer.old) responder.old) records now request.now) }
     ensures looked { Looked C.Store store.old store.new }
     ensures same_identity { S.identity signer.new ≡ S.identity signer.old }
@@ -273,7 +272,7 @@ fn begin<C: Alter, S: Signer>(
     request: &[u8],
 ) -> Result<Begun, Memory>
     requires { IfSome (option_copied naming.certificate) (λ bytes. length bytes ≤ 65536) }
-    ensures begun { (records : Records) → Shows C.Store store.old records → HasCleanDisk (state C.Store store.new)
+    ensures begun { (records : Records) → ShowsKept C.Store store.old records → SoundRows records → HasCleanDisk (state C.Store store.new)
         → IfOk result (IsBegun S.signs (responder_named (S.identity signer.old) naming.entry) records now request.now) }
     ensures looked { Looked C.Store store.old store.new }
     ensures same_identity { S.identity signer.new ≡ S.identity signer.old }
@@ -313,11 +312,11 @@ fn begin_response<C: Alter, S: Signer>(
 ) -> Result<Begun, ResponseFault>
     requires short { IfSome (option_copied naming.certificate) (λ bytes. length bytes ≤ 65536) }
     requires answerable { CanBeAnswered (ids_seen asked.now.ids.items) (option_copied asked.now.nonce) }
-    ensures found { (records : Records) → Shows C.Store store.old records → HasCleanDisk (state C.Store store.new)
+    ensures found { (records : Records) → ShowsKept C.Store store.old records → SoundRows records → HasCleanDisk (state C.Store store.new)
         → IfOk result (IsReadBegun S.signs (responder_named (S.identity signer.old) naming.entry) records now (ids_seen asked.now.ids.items) (option_copied asked.now.nonce)) }
-    ensures timely { (records : Records) → Shows C.Store store.old records → HasCleanDisk (state C.Store store.new)
+    ensures timely { (records : Records) → ShowsKept C.Store store.old records → SoundRows records → HasCleanDisk (state C.Store store.new)
         → OnOk result (first_of_all (clock_checks now records.last) ≡ None) }
-    ensures untimely { (records : Records) → Shows C.Store store.old records → HasCleanDisk (state C.Store store.new)
+    ensures untimely { (records : Records) → ShowsKept C.Store store.old records → SoundRows records → HasCleanDisk (state C.Store store.new)
         → IsErrOf result ResponseFault.Clock → IsSome (first_of_all (clock_checks now records.last)) }
     ensures looked { Looked C.Store store.old store.new }
     ensures same_identity { S.identity signer.new ≡ S.identity signer.old }

@@ -1,43 +1,28 @@
 //! Orders.
 
-ghost use Rattle.std.specs.Prelude.{◌≡◌, ◌<◌, IfErr};
-ghost use Rattle.sqlite.specs.Held.{state};
-ghost use Rattle.sqlite.specs.State.{HasCleanDisk};
-ghost use Rattle.reg_core.specs.Calendar.{clock_end};
-ghost use Rattle.reg_core.specs.Records.{Records};
-ghost use Rattle.reg_core.specs.Sound.{SoundRows};
 ghost use Rattle.reg_core.specs.declared.command.Command.TheVariants.{Order as EnterOrder};
-ghost use Rattle.reg_tables.specs.Kept.{ShowsKept};
-ghost use Rattle.reg_tables.specs.Stays.{Changed};
-ghost use Rattle.reg_office.specs.AfterStoppedCommand.{Steps};
-ghost use Rattle.reg_office.specs.Faults.{IsTableFault};
-ghost use Rattle.reg_office.specs.Happened.{Happened, unsigned};
+ghost use Rattle.reg_core.specs.Step.{refusal};
+ghost use Rattle.reg_office.specs.Looking.{IsAcceptance, LooksAndDecides};
 
-use crate::decision_head::head_at;
-use reg_core::{Fault, Moment, Reply, decide_order};
+use crate::decision_head::{Decided, head_at};
+use reg_core::{Change, Fault, Moment, Reply, decide_order};
 use reg_store::{Store, Table};
 use sqlite::Alter;
 
-/// Enters a subscriber's order.
+/// Decides to enter a subscriber's order.
 ///
 /// # Errors
-/// The refusals of [`decide_order`]; `Memory`, `Store`. Nothing has changed then.
+/// The refusals of [`decide_order`]; `Memory`, `Store`.
 pub(crate) fn enter_order<C: Alter>(
     store: &mut Store<C>,
     now: Moment,
     subscriber: u64,
     days: u64,
-) -> Result<Reply, Fault>
-    requires { now < clock_end }
-    ensures step { (records : Records) → ShowsKept C.Store store.old records → SoundRows records → HasCleanDisk (state C.Store store.new)
-        → Happened C.Store store.new unsigned records now (EnterOrder subscriber days) result }
-    ensures changed { Changed C.Store store.old store.new (Steps C.Store store.old unsigned now (EnterOrder subscriber days)) result }
-    ensures faults { IfErr result IsTableFault }
+) -> Result<Decided, Fault>
+    ensures { LooksAndDecides C.Store store.old store.new (λ records. refusal records now (EnterOrder subscriber days)) (IsAcceptance now (EnterOrder subscriber days)) result }
 {
     let head = head_at(store, now, Table::Orders)?;
     let known = store.subscriber(subscriber)?;
     let row = decide_order(&head, known, days)?;
-    let id = row.id;
-    store.add_order(now, row)?;
-    Ok(Reply::Order { id })
+    Ok((Reply::Order { id: row.id }, Change::Order(row)))
 }

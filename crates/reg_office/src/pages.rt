@@ -1,22 +1,20 @@
 //! Pages of lists. A page looks at the first rows past a key, as many as it may, and has those of them that the list selects: so
 //! it costs no more than these, whatever the list.
 
-ghost use Rattle.std.specs.Prelude.{◌≡◌, ℕ, ◌+◌, ◌++◌, ◌∷◌, ◌-◌, ◌==◌, ◌&&◌, nat_lt, [], Some, None, cond, filter_map, length, min, option_map, slice_get, IfErr, IfOk, OnOk};
-ghost use Rattle.std.specs.List.{AllByRecursion};
+ghost use Rattle.std.specs.Prelude.{◌≡◌, ℕ, ◌+◌, ◌++◌, ◌∷◌, ◌-◌, ◌==◌, ◌&&◌, nat_lt, [], Some, None, cond, filter_map, length, min, option_map, slice_get, IfOk, OnOk};
 ghost use Rattle.sqlite.specs.Held.{state};
 ghost use Rattle.sqlite.specs.State.{HasCleanDisk};
-ghost use Rattle.reg_core.specs.Records.{Records, revocation_in};
-ghost use Rattle.reg_core.specs.Sound.{SoundRows};
-ghost use Rattle.reg_lists.specs.Lists.{certificate_row, ending_row, revoked_row};
-ghost use Rattle.reg_lists.specs.Pages.{IsPage, IsPaged};
+ghost use Rattle.reg_core.specs.Checks.{clock_checks, first_of_all};
+ghost use Rattle.reg_core.specs.Records.{Records};
+ghost use Rattle.reg_lists.specs.Lists.{revoked_row};
+ghost use Rattle.reg_lists.specs.Pages.{IsPage};
 ghost use Rattle.reg_lists.specs.declared.cursor.Cursor.TheVariants as cursor;
 ghost use Rattle.reg_lists.specs.declared.rows.Row.TheVariants as kind;
 ghost use Rattle.reg_tables.specs.Kept.{ShowsKept};
 ghost use Rattle.reg_tables.specs.Shows.{Shows};
 ghost use Rattle.reg_tables.specs.Stays.{Looked};
-ghost use Rattle.reg_office.specs.Faults.{IsStoreFault, IsTableFault};
-ghost use Rattle.reg_office.specs.Numbered.{cursor_of, row_at, numbered_table};
-ghost use Rattle.reg_office.specs.declared.pages.Numbered.TheVariants as numbered;
+ghost use Rattle.reg_office.specs.Looking.{LooksAndDecides, LooksUp};
+ghost use Rattle.reg_office.specs.Numbered.{certificate_listed, certificates_after, cursor_of, row_at, numbered_table};
 
 use crate::lines::{
     certificate_row, ending_row, open_row, order_at, order_row, overdue_row, request_at,
@@ -24,7 +22,7 @@ use crate::lines::{
 };
 use reg_core::{CertRow, CrlRow, Fault, Moment, RevocationRow, Serial, clock};
 use reg_lists::{Cursor, Page, Row};
-use reg_store::{Store, Table};
+use reg_store::{Store, StoreFault, Table};
 use sqlite::Alter;
 use std::alloc::Global;
 
@@ -48,13 +46,12 @@ pub(crate) fn page<C: Alter>(
     from: Cursor,
     most: u64,
 ) -> Result<Page, Fault>
-    ensures page { (records : Records) → ShowsKept C.Store store.old records → SoundRows records → HasCleanDisk (state C.Store store.new) → IsPaged records now most from result }
-    ensures looked { Looked C.Store store.old store.new }
-    ensures faults { IfErr result IsTableFault }
+    ensures { LooksAndDecides C.Store store.old store.new (λ records. first_of_all (clock_checks now records.last))
+        (λ records given. (first_of_all (clock_checks now records.last) ≡ None) × IsPage records now most from given) result }
 {
     let last = store.last()?;
     clock(now, last)?;
-    page_of(store, alloc, now, from, most)
+    Ok(page_of(store, alloc, now, from, most)?)
 }
 
 /// The page, whatever the clock says to its moment.
@@ -64,15 +61,15 @@ fn page_of<C: Alter>(
     now: Moment,
     from: Cursor,
     most: u64,
-) -> Result<Page, Fault>
-    ensures page { (records : Records) → ShowsKept C.Store store.old records → SoundRows records → HasCleanDisk (state C.Store store.new) → IfOk result (IsPage records now most from) }
-    ensures looked { Looked C.Store store.old store.new }
-    ensures faults { IfErr result IsStoreFault }
+) -> Result<Page, StoreFault>
+    ensures { LooksUp C.Store store.old store.new (λ records. IfOk result (IsPage records now most from)) }
 {
     match from {
         Cursor::Revoked(after) => revoked(store, alloc, now, after, most),
-        Cursor::Certificates(after) => certificates(store, alloc, now, after, most),
-        Cursor::Ending { before, after } => ending(store, alloc, now, before, after, most),
+        Cursor::Certificates(after) => certificates(store, alloc, now, None, after, most),
+        Cursor::Ending { before, after } => {
+            certificates(store, alloc, now, Some(before), after, most)
+        }
         Cursor::OpenRequests(after) => {
             page_by_ids(store, alloc, now, Numbered::OpenRequests, after, most)
         }
@@ -86,9 +83,8 @@ fn page_of<C: Alter>(
 }
 
 /// Puts a row behind others, where there is one.
-fn put(rows: &mut Vec<Row>, row: Option<Row>) -> Result<(), Fault>
+fn put(rows: &mut Vec<Row>, row: Option<Row>) -> Result<(), StoreFault>
     ensures ok { OnOk result (rows.new.items ≡ rows.old.items ++ filter_map (λ one. one) (row ∷ [])) }
-    ensures faults { IfErr result IsStoreFault }
 {
     match row {
         Some(row) => push(rows, row),
@@ -97,111 +93,81 @@ fn put(rows: &mut Vec<Row>, row: Option<Row>) -> Result<(), Fault>
 }
 
 /// Puts a row behind others.
-fn push(rows: &mut Vec<Row>, row: Row) -> Result<(), Fault>
+fn push(rows: &mut Vec<Row>, row: Row) -> Result<(), StoreFault>
     ensures ok { OnOk result (rows.new.items ≡ rows.old.items ++ row ∷ []) }
-    ensures faults { IfErr result IsStoreFault }
 {
     match rows.extend_from_slice(&[row]) {
         Ok(()) => Ok(()),
-        Err(_) => Err(Fault::Memory),
+        Err(_) => Err(StoreFault::Memory),
     }
 }
 
 // ---- the lists by serial numbers
 
-/// A page of the certificates.
+/// A page of the certificates, or of those that are good and end before a moment.
 fn certificates<C: Alter>(
     store: &mut Store<C>,
     alloc: Global,
     now: Moment,
+    before: Option<Moment>,
     after: Option<Serial>,
     most: u64,
-) -> Result<Page, Fault>
-    ensures page { (records : Records) → ShowsKept C.Store store.old records → SoundRows records → HasCleanDisk (state C.Store store.new) → IfOk result (IsPage records now most (cursor.Certificates after)) }
-    ensures looked { Looked C.Store store.old store.new }
-    ensures faults { IfErr result IsStoreFault }
+) -> Result<Page, StoreFault>
+    ensures { LooksUp C.Store store.old store.new (λ records. IfOk result (IsPage records now most (certificates_after before after))) }
 {
     let found = store.certs_after(after, most)?;
-    let rows = certificate_rows(store, alloc, now, &found)?;
+    let rows = certificate_rows(store, alloc, now, &before, &found)?;
     let last = last_certificate(&found, most);
-    let next = certificates_behind(last);
+    let next = certificates_behind(&before, last);
     Ok(Page { rows, next })
 }
 
-/// The list of the certificates behind a serial number, where there is one.
-fn certificates_behind(last: Option<Serial>) -> Option<Cursor>
-    ensures { result ≡ option_map (λ serial. cursor.Certificates (Some serial)) last }
+/// The list behind a serial number, where there is one.
+fn certificates_behind(before: &Option<Moment>, last: Option<Serial>) -> Option<Cursor>
+    ensures { result ≡ option_map (λ serial. certificates_after before.now (Some serial)) last }
 {
-    Some(Cursor::Certificates(Some(last?)))
+    let after = Some(last?);
+    match before {
+        None => Some(Cursor::Certificates(after)),
+        Some(before) => Some(Cursor::Ending {
+            before: *before,
+            after,
+        }),
+    }
 }
 
-/// The rows of these certificates.
+/// The rows of these certificates, or of those that are good and end before a moment.
 fn certificate_rows<C: Alter>(
     store: &mut Store<C>,
     alloc: Global,
     now: Moment,
+    before: &Option<Moment>,
     found: &[CertRow],
-) -> Result<Vec<Row>, Fault>
-    ensures found { (records : Records) → ShowsKept C.Store store.old records → HasCleanDisk (state C.Store store.new) → IfOk result (λ rows. rows.items ≡ filter_map (certificate_row records now) found.now) }
-    ensures looked { Looked C.Store store.old store.new }
-    ensures faults { IfErr result IsStoreFault }
+) -> Result<Vec<Row>, StoreFault>
+    ensures { LooksUp C.Store store.old store.new (λ records. IfOk result (λ rows. rows.items ≡ filter_map (certificate_listed records now before.now) found.now)) }
 {
     let mut rows = Vec::new(alloc);
     for certificate in found {
-        let row = certificate_row(store, now, *certificate)?;
+        let row = certificate_listed(store, now, before, *certificate)?;
         put(&mut rows, row)?;
     }
     Ok(rows)
 }
 
-/// A page of the good certificates that end before a moment.
-fn ending<C: Alter>(
+/// The row of a certificate, where the list has it.
+fn certificate_listed<C: Alter>(
     store: &mut Store<C>,
-    alloc: Global,
     now: Moment,
-    before: Moment,
-    after: Option<Serial>,
-    most: u64,
-) -> Result<Page, Fault>
-    ensures page { (records : Records) → ShowsKept C.Store store.old records → SoundRows records → HasCleanDisk (state C.Store store.new) → IfOk result (IsPage records now most (cursor.Ending before after)) }
+    before: &Option<Moment>,
+    certificate: CertRow,
+) -> Result<Option<Row>, StoreFault>
+    ensures found { (records : Records) → ShowsKept C.Store store.old records → HasCleanDisk (state C.Store store.new) → IfOk result (λ row. row ≡ certificate_listed records now before.now certificate) }
     ensures looked { Looked C.Store store.old store.new }
-    ensures faults { IfErr result IsStoreFault }
 {
-    let found = store.certs_after(after, most)?;
-    let rows = ending_rows(store, alloc, now, before, &found)?;
-    let last = last_certificate(&found, most);
-    let next = ending_behind(before, last);
-    Ok(Page { rows, next })
-}
-
-/// The list of the good certificates that end before a moment, behind a serial number, where there is one.
-fn ending_behind(before: Moment, last: Option<Serial>) -> Option<Cursor>
-    ensures { result ≡ option_map (λ serial. cursor.Ending before (Some serial)) last }
-{
-    Some(Cursor::Ending {
-        before,
-        after: Some(last?),
-    })
-}
-
-/// The rows of those of these certificates that are good and end before a moment.
-fn ending_rows<C: Alter>(
-    store: &mut Store<C>,
-    alloc: Global,
-    now: Moment,
-    before: Moment,
-    found: &[CertRow],
-) -> Result<Vec<Row>, Fault>
-    ensures found { (records : Records) → ShowsKept C.Store store.old records → HasCleanDisk (state C.Store store.new) → IfOk result (λ rows. rows.items ≡ filter_map (ending_row records now before) found.now) }
-    ensures looked { Looked C.Store store.old store.new }
-    ensures faults { IfErr result IsStoreFault }
-{
-    let mut rows = Vec::new(alloc);
-    for certificate in found {
-        let row = ending_row(store, now, before, *certificate)?;
-        put(&mut rows, row)?;
+    match before {
+        None => certificate_row(store, now, certificate),
+        Some(before) => ending_row(store, now, *before, certificate),
     }
-    Ok(rows)
 }
 
 /// The serial number of the last of these certificates, where they are as many as a page may look at.
@@ -224,10 +190,8 @@ fn revoked<C: Alter>(
     now: Moment,
     after: Option<Serial>,
     most: u64,
-) -> Result<Page, Fault>
-    ensures page { (records : Records) → ShowsKept C.Store store.old records → SoundRows records → HasCleanDisk (state C.Store store.new) → IfOk result (IsPage records now most (cursor.Revoked after)) }
-    ensures looked { Looked C.Store store.old store.new }
-    ensures faults { IfErr result IsStoreFault }
+) -> Result<Page, StoreFault>
+    ensures { LooksUp C.Store store.old store.new (λ records. IfOk result (IsPage records now most (cursor.Revoked after))) }
 {
     let found = store.revocations_after(after, most)?;
     let rows = revoked_rows(store, alloc, now, &found)?;
@@ -249,12 +213,8 @@ fn revoked_rows<C: Alter>(
     alloc: Global,
     now: Moment,
     found: &[RevocationRow],
-) -> Result<Vec<Row>, Fault>
-    ensures found { (records : Records) → ShowsKept C.Store store.old records → HasCleanDisk (state C.Store store.new)
-        → AllByRecursion (λ row. Some row ≡ revocation_in records.revocations row.serial) found.now
-        → IfOk result (λ rows. rows.items ≡ filter_map (revoked_row records now) found.now) }
-    ensures looked { Looked C.Store store.old store.new }
-    ensures faults { IfErr result IsStoreFault }
+) -> Result<Vec<Row>, StoreFault>
+    ensures { LooksUp C.Store store.old store.new (λ records. IfOk result (λ rows. rows.items ≡ filter_map (revoked_row records now) found.now)) }
 {
     let mut rows = Vec::new(alloc);
     for revocation in found {
@@ -280,10 +240,13 @@ fn last_revocation(found: &[RevocationRow], most: u64) -> Option<Serial>
 // ---- the CRLs
 
 /// A page of the CRLs.
-fn crls<C: Alter>(store: &mut Store<C>, alloc: Global, after: u64, most: u64) -> Result<Page, Fault>
-    ensures page { (records : Records) → ShowsKept C.Store store.old records → HasCleanDisk (state C.Store store.new) → (now : ℕ) → IfOk result (IsPage records now most (cursor.Crls after)) }
-    ensures looked { Looked C.Store store.old store.new }
-    ensures faults { IfErr result IsStoreFault }
+fn crls<C: Alter>(
+    store: &mut Store<C>,
+    alloc: Global,
+    after: u64,
+    most: u64,
+) -> Result<Page, StoreFault>
+    ensures { LooksUp C.Store store.old store.new (λ records. (now : ℕ) → IfOk result (IsPage records now most (cursor.Crls after))) }
 {
     let found = store.crls_after(after, most)?;
     let rows = crl_rows(alloc, &found)?;
@@ -300,9 +263,8 @@ fn crls_behind(last: Option<u64>) -> Option<Cursor>
 }
 
 /// The rows of these CRLs.
-fn crl_rows(alloc: Global, found: &[CrlRow]) -> Result<Vec<Row>, Fault>
+fn crl_rows(alloc: Global, found: &[CrlRow]) -> Result<Vec<Row>, StoreFault>
     ensures found { IfOk result (λ rows. rows.items ≡ filter_map (λ crl. Some (kind.Crl crl)) found.now) }
-    ensures faults { IfErr result IsStoreFault }
 {
     let mut rows = Vec::new(alloc);
     for crl in found {
@@ -334,10 +296,8 @@ fn page_by_ids<C: Alter>(
     list: Numbered,
     after: u64,
     most: u64,
-) -> Result<Page, Fault>
-    ensures page { (records : Records) → ShowsKept C.Store store.old records → SoundRows records → HasCleanDisk (state C.Store store.new) → IfOk result (IsPage records now most (cursor_of list after)) }
-    ensures looked { Looked C.Store store.old store.new }
-    ensures faults { IfErr result IsStoreFault }
+) -> Result<Page, StoreFault>
+    ensures { LooksUp C.Store store.old store.new (λ records. IfOk result (IsPage records now most (cursor_of list after))) }
 {
     let held = store.held(table_of(list))?;
     let end = end_of(held, after, most);
@@ -401,53 +361,23 @@ fn row_at<C: Alter>(
     now: Moment,
     list: Numbered,
     id: u64,
-) -> Result<Option<Row>, Fault>
+) -> Result<Option<Row>, StoreFault>
     ensures found { (records : Records) → Shows C.Store store.old records → HasCleanDisk (state C.Store store.new) → IfOk result (λ row. row ≡ row_at records now list id) }
     ensures looked { Looked C.Store store.old store.new }
-    ensures faults { IfErr result IsStoreFault }
 {
     match list {
-        Numbered::OpenRequests => open_request_at(store, now, id),
-        Numbered::Overdue => overdue_request_at(store, now, id),
+        Numbered::OpenRequests => {
+            let open = request_at(store, id)?;
+            open_row(store, now, open)
+        }
+        Numbered::Overdue => {
+            let late = request_at(store, id)?;
+            overdue_row(store, now, late)
+        }
         Numbered::Subscribers => Ok(Some(Row::Subscriber(subscriber_at(store, id)?))),
-        Numbered::Orders => order_row_at(store, id),
+        Numbered::Orders => {
+            let order = order_at(store, id)?;
+            order_row(store, order)
+        }
     }
-}
-
-/// The row of the request with an id, where it is open.
-fn open_request_at<C: Alter>(
-    store: &mut Store<C>,
-    now: Moment,
-    id: u64,
-) -> Result<Option<Row>, Fault>
-    ensures found { (records : Records) → Shows C.Store store.old records → HasCleanDisk (state C.Store store.new) → IfOk result (λ row. row ≡ row_at records now numbered.OpenRequests id) }
-    ensures looked { Looked C.Store store.old store.new }
-    ensures faults { IfErr result IsStoreFault }
-{
-    let request = request_at(store, id)?;
-    open_row(store, now, request)
-}
-
-/// The row of the request with an id, where it is overdue.
-fn overdue_request_at<C: Alter>(
-    store: &mut Store<C>,
-    now: Moment,
-    id: u64,
-) -> Result<Option<Row>, Fault>
-    ensures found { (records : Records) → Shows C.Store store.old records → HasCleanDisk (state C.Store store.new) → IfOk result (λ row. row ≡ row_at records now numbered.Overdue id) }
-    ensures looked { Looked C.Store store.old store.new }
-    ensures faults { IfErr result IsStoreFault }
-{
-    let request = request_at(store, id)?;
-    overdue_row(store, now, request)
-}
-
-/// The row of the order with an id.
-fn order_row_at<C: Alter>(store: &mut Store<C>, id: u64) -> Result<Option<Row>, Fault>
-    ensures found { (records : Records) → Shows C.Store store.old records → HasCleanDisk (state C.Store store.new) → (now : ℕ) → IfOk result (λ row. row ≡ row_at records now numbered.Orders id) }
-    ensures looked { Looked C.Store store.old store.new }
-    ensures faults { IfErr result IsStoreFault }
-{
-    let order = order_at(store, id)?;
-    order_row(store, order)
 }

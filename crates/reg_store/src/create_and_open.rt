@@ -20,6 +20,7 @@ use reg_core::Policy;
 use reg_der::Issuer;
 use reg_tables::StoreFault;
 use sqlite::{Alter, Connection};
+use std::alloc::Global;
 
 /// A connection over which no store was had: why, and the connection, in no transaction and with its tables as they
 /// were.
@@ -69,7 +70,7 @@ impl<S: Alter> Store<S> {
     /// than those of the version; `NewVersion` for tables of a newer version; `Memory`; `Store` where the database fails,
     /// or where an older register has a row that no register writes. The connection comes back with its tables as they
     /// were.
-    pub fn open(connection: Connection<S>) -> Result<Store<S>, Unopened<S>>
+    pub fn open(alloc: Global, connection: Connection<S>) -> Result<Store<S>, Unopened<S>>
         requires { connection.in_transaction ≡ false }
         ensures ok { (records : Records) → Shows S.Store connection records → IfOk result (λ store. Shows S.Store store records) }
         ensures kept { (records : Records) → ShowsKept S.Store connection records → IfOk result (λ store. ShowsKept S.Store store records) }
@@ -90,7 +91,7 @@ impl<S: Alter> Store<S> {
         ensures faults { IfErr result (λ unopened. unopened.fault ≢ StoreFault.NotEmpty) }
     {
         let mut connection = connection;
-        match reg_opening::open(&mut connection) {
+        match reg_opening::open(alloc, &mut connection) {
             Ok(()) => Ok(Store { connection }),
             Err(fault) => Err(Unopened { fault, connection }),
         }

@@ -1,21 +1,20 @@
-use Rattle.std.proofs.Common.{sym, ◌∙◌}
-use Rattle.sqlite.specs.Held.{state}
+use Rattle.std.proofs.Common.{None, refl, sym, ◌∙◌}
+use Rattle.reg_core.specs.Crls.{latest, row_of}
 use Rattle.reg_calls.specs.Items.{items_of}
-use Rattle.reg_tables.proofs.Staying.{looked_shows, looked_then}
-use Rattle.reg_office.proofs.Composing.{was_clean}
-use Rattle.reg_office.proofs.Issuing.{given_latest, latest_in}
+use Rattle.reg_office.proofs.Issuing.{given_latest, latest_in, none_mapped, not_given}
+use Rattle.reg_office.proofs.Looking.{and_so, by_none, by_shown, so}
 use Rattle.reg_office.proofs.crls.latest.Goals as goal
 
-pub returns-in-Some-clause-found : goal.returns-in-Some-clause-found
-returns-in-Some-clause-found g c records shown sound clean =
-    let s = g.C.Store in
-    let first = c.latest_crl.new.self in
-    let second = c.numbered.new.store in
-    let shown_1 = looked_shows c.latest_crl.ensures.looked records shown in
-    let clean_1 = was_clean (state s first) (state s second) c.numbered.ensures.looked.survives.clean clean in
-    let latest_is = sym (c.in_ok-latest.ensures.found records shown clean_1) ∙ c.in-Some.is in
-    let same = (latest_in 1 records.crls c.in-Some.latest sound.crls.numbered latest_is).0 in
-    given_latest records c.in-Some.latest.number (items_of c.numbered.result) same (c.numbered.ensures.found records shown_1 clean)
+pub returns-in_err-latest-clause-looks : goal.returns-in_err-latest-clause-looks
+returns-in_err-latest-clause-looks g c = by_none c.latest_crl.ensures.looked (λ records. not_given records None c.from_residual.result c.in_err-latest.field-0.0 c.from_residual.ensures.1)
 
-pub returns-in-Some-clause-looked : goal.returns-in-Some-clause-looked
-returns-in-Some-clause-looked g c = looked_then c.latest_crl.ensures.looked c.numbered.ensures.looked
+pub returns-in-Some-clause-looks : goal.returns-in-Some-clause-looks
+returns-in-Some-clause-looks g c =
+    so (and_so (by_shown c.latest_crl.ensures.looked c.in_ok-latest.ensures.found) c.numbered.ensures.looks)
+    (λ records sound it.
+    let same = (latest_in 1 records.crls c.in-Some.latest sound.crls.numbered (sym it.0 ∙ c.in-Some.is)).0 in
+    given_latest records c.in-Some.latest.number (items_of c.numbered.result) same it.1)
+
+pub returns-in-None-clause-looks : goal.returns-in-None-clause-looks
+returns-in-None-clause-looks g c =
+    so (by_shown c.latest_crl.ensures.looked c.in_ok-latest.ensures.found) (λ records sound it. (refl, none_mapped row_of (latest records.crls) (sym it ∙ c.in-None.is)))

@@ -6,7 +6,7 @@ use Rattle.reg_der.specs.Issuers.{with_issuer}
 use Rattle.reg_tables.specs.Kept.{ShowsKept}
 use Rattle.reg_tables.proofs.Staying.{kept_shows}
 use Rattle.reg_writing.specs.AfterStop.{IsAtRest}
-use Rattle.reg_office.proofs.Changing.{looked_failed, changed_failed, changed_made, changed_more}
+use Rattle.reg_office.proofs.Changing.{looked_failed, changed_after}
 use Rattle.reg_office.proofs.Composing.{after_looked, was_clean}
 use Rattle.reg_office.proofs.identifiers.set_key_identifier.Goals as goal
 
@@ -31,7 +31,7 @@ returns-in_err-issuer-clause-changed g c = looked_failed c.from_residual.result 
 pub returns-clause-changed : goal.returns-clause-changed
 returns-clause-changed g c =
     let s = g.C.Store in
-    Rattle.reg_office.proofs.Changing.changed_after c.identified.ensures.looked c.set_issuer.ensures.changed
+    changed_after _ c.identified.ensures.looked c.set_issuer.ensures.changed
     (λ clean trees changed records kept.
     let kept_1 = after_looked c.identified.ensures.looked records kept in
     let clean_1 = was_clean (state s c.identified.new.store) (state s c.set_issuer.new.self) c.set_issuer.ensures.changed.survives.clean clean in

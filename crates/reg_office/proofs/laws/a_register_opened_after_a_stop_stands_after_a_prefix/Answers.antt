@@ -1,10 +1,9 @@
 -- What a stop may leave of a run is shown by the register that is opened again.
-use Rattle.std.proofs.Common.{[]}
 use Rattle.std.proofs.Math.Logic.{∥∥₁_map}
 use Rattle.sqlite.specs.Held.{state}
 use Rattle.reg_office.specs.OpenedAgain.{StandsPartlyRun}
 use Rattle.reg_office.proofs.OpenedAgain.{stands_partly_run}
-use Rattle.reg_office.proofs.Stopping.{Settles, reached_all, reached_none}
+use Rattle.reg_office.proofs.Stopping.{Settles, partly_run}
 use Rattle.reg_office.proofs.laws.a_register_opened_after_a_stop_stands_after_a_prefix.Goals as goal
 
 pub returns : goal.returns
@@ -12,11 +11,8 @@ returns g c = λ old new again identity records commands outcomes stands up live
     let s = g.C.Store in
     let signs = g.S.Signer.signs in
     let settles : Settles s = λ held found is_open leaves. g.met.C.Store.settled held.store found is_open leaves in
-    let reached =
-    reached_all s signs identity old new records [] [] commands outcomes settles
-    (λ was. reached_none s signs identity old records settles stands up live was)
-    runs opened.honest in
     ∥∥₁_map opened.found (λ may.
     let stands_part : StandsPartlyRun s signs again identity records commands outcomes =
-    stands_partly_run s signs again identity opened.opens opened.live records commands outcomes (reached.found (state s again).committed.trees may) in
+    stands_partly_run s signs again identity opened.opens opened.live records commands outcomes
+    (partly_run s signs identity old new records commands outcomes (state s again).committed.trees settles stands up live runs opened.honest may) in
     stands_part)

@@ -7,7 +7,7 @@ use Rattle.reg_store.proofs.OpenedAgain.{keeps_again}
 use Rattle.reg_office.specs.OpenedAgain.{StandsDone}
 use Rattle.reg_office.specs.Stands.{Stands}
 use Rattle.reg_office.proofs.OpenedAgain.{stands_done}
-use Rattle.reg_office.proofs.Resting.{clean_first}
+use Rattle.reg_office.proofs.Composing.{was_clean}
 use Rattle.reg_office.proofs.laws.a_register_opened_after_a_stop_stands_before_or_after.Goals as goal
 
 pub returns : goal.returns
@@ -15,7 +15,7 @@ returns g c = λ old new again identity records now command stands up live survi
     let s = g.C.Store in
     let signs = g.S.Signer.signs in
     let trees = (state s again).committed.trees in
-    let first : HasCleanDisk (state s old) = clean_first (state s old) (state s new) survives.clean opened.honest in
+    let first : HasCleanDisk (state s old) = was_clean (state s old) (state s new) survives.clean opened.honest in
     ∥∥₁_map opened.found (λ may.
     let shown : Stands s signs again identity records ⊎ StandsDone s signs again identity records now command = elim (survives.crash opened.honest trees may) [
       | inl before ↦ inl (record {

@@ -10,7 +10,7 @@ returns-in-Err-Malformed-clause-malformed g c =
     ok_then c.refused.result c.refused.ensures (λ answer is. (λ same. (c.in-Err-Malformed.ensures.malformed (ap Err c.in-Err-Malformed.field-0-is)), λ none. is))
 
 pub returns-in-Err-Malformed-clause-answered : goal.returns-in-Err-Malformed-clause-answered
-returns-in-Err-Malformed-clause-answered g c records shows clean =
+returns-in-Err-Malformed-clause-answered g c records shows sound clean =
     ok_then c.refused.result c.refused.ensures (λ answer is. inl ((c.in-Err-Malformed.ensures.malformed (ap Err c.in-Err-Malformed.field-0-is)), is))
 
 pub returns-in-Err-Clock-clause-malformed : goal.returns-in-Err-Clock-clause-malformed

@@ -8,10 +8,10 @@ use Rattle.reg_office.proofs.Beginning.{left_draft}
 use Rattle.reg_office.proofs.ocsp_answer.begin_response.Goals as goal
 
 pub returns-in-Some-clause-found : goal.returns-in-Some-clause-found
-returns-in-Some-clause-found g c records shows clean =
+returns-in-Some-clause-found g c records shows sound clean =
     let who = responder_named (g.S.Signer.identity c.args.signer.now) c.args.naming in
     let ids = ids_seen c.args.asked.now.ids.items in
     let nonce = option_copied c.args.asked.now.nonce in
     let P : List ℕ → Type 0 = λ message. IsOcspData (responder_key who records) records c.args.now ids nonce message in
     left_draft who records c.args.now ids nonce _ _ _ c.in_ok-left.ensures c.in-Some.is
-    (subst P (sym c.deref.ensures.value) (c.in_ok-message.ensures.found records shows clean))
+    (subst P (sym c.deref.ensures.value) (c.in_ok-message.ensures.found records shows sound clean))

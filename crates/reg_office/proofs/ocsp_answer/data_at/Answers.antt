@@ -4,6 +4,8 @@ use Rattle.reg_core.specs.Issuer as core
 use Rattle.reg_ocsp.specs.Response.{response_data}
 use Rattle.reg_ocsp.specs.Views.{answered, answers_seen}
 use Rattle.reg_ocsp.proofs.Answering.{answers_fit}
+use Rattle.reg_office.proofs.Composing.{gives_none}
+use Rattle.reg_office.proofs.Looking.{by_none, so}
 use Rattle.reg_office.proofs.Responding.{each_answer}
 use Rattle.reg_office.proofs.ocsp_answer.data_at.Goals as goal
 
@@ -11,9 +13,15 @@ pub response_data_by-requires : goal.response_data_by-requires
 response_data_by-requires g c =
     answers_fit c.deref-2.result.now c.args.asked.now.ids.items (option_copied c.args.asked.now.nonce) (ap answered c.deref-2.ensures.value ∙ c.in_ok-answers.ensures.ids ∙ c.deref.ensures.value) c.requires
 
-pub returns-clause-found : goal.returns-clause-found
-returns-clause-found g c records shows clean issuer next =
-    let told = c.in_ok-answers.ensures.found records shows clean issuer in
+pub returns-in_err-answers-clause-looks : goal.returns-in_err-answers-clause-looks
+returns-in_err-answers-clause-looks g c = by_none c.answers.ensures.looks.looked (λ records issuer next. gives_none _ c.from_residual.result c.from_residual.ensures.0)
+
+pub returns-in_err-response_data_by-clause-looks : goal.returns-in_err-response_data_by-clause-looks
+returns-in_err-response_data_by-clause-looks g c =
+    by_none c.answers.ensures.looks.looked (λ records issuer next. gives_none _ c.from_residual-in_err-response_data_by.result c.from_residual-in_err-response_data_by.ensures.0)
+
+pub returns-clause-looks : goal.returns-clause-looks
+returns-clause-looks g c = so c.in_ok-answers.ensures.looks (λ records sound told issuer next.
     let asked : answered c.in_ok-answers.answers.items ≡ c.args.asked.now.ids.items = c.in_ok-answers.ensures.ids ∙ c.deref.ensures.value in
     let own = option_copied c.args.own_key in
     let key_is : c.key_of-key.result.now ≡ unwrap_or own records.issuer.key =
@@ -23,6 +31,6 @@ returns-clause-found g c records shows clean issuer next =
     data_is ∙ (λ i. response_data (key_is i) c.args.now (next i) (answers_seen (c.deref-2.ensures.value i)) (option_copied c.args.asked.now.nonce)) in
     record {
       answers = answers_seen c.in_ok-answers.answers.items;
-      each = each_answer records c.args.now c.args.asked.now.ids.items c.in_ok-answers.answers.items asked told;
+      each = each_answer records c.args.now c.args.asked.now.ids.items c.in_ok-answers.answers.items asked (told issuer);
       spelled = spelled;
-    }
+    })

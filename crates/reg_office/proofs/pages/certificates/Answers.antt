@@ -1,26 +1,23 @@
-use Rattle.std.proofs.Common.{Some}
-use Rattle.sqlite.specs.Held.{state}
-use Rattle.reg_core.specs.declared.rows.CertRow.{CertRow}
-use Rattle.reg_lists.specs.Lists.{certificate_row, key_of}
-use Rattle.reg_lists.specs.declared.cursor.Cursor.TheVariants.{Certificates}
 use Rattle.reg_tables.proofs.Staying.{kept_shows, looked_then}
-use Rattle.reg_office.proofs.Composing.{after_looked, was_clean}
-use Rattle.reg_office.proofs.Paging.{keyed_page}
+use Rattle.reg_office.proofs.Looking.{and_so, not_found, so}
+use Rattle.reg_office.proofs.Paging.{certificates_page}
 use Rattle.reg_office.proofs.pages.certificates.Goals as goal
 
-pub returns-clause-page : goal.returns-clause-page
-returns-clause-page g c records kept sound clean =
-    let s = g.C.Store in
-    let clean_1 = was_clean (state s c.certs_after.new.self) (state s c.certificate_rows.new.store) c.certificate_rows.ensures.looked.survives.clean clean in
-    let found = c.in_ok-found.ensures.found records (kept_shows s c.args.store.now records kept) sound clean_1 in
-    let rows = c.in_ok-rows.ensures.found records (after_looked c.certs_after.ensures.looked records kept) clean in
-    let is = keyed_page (λ (row : CertRow). row.serial) (certificate_row records c.args.now) (λ serial. Certificates (Some serial)) (key_of c.args.after) c.args.most records.certificates
-    c.in_ok-found.found.items c.deref.result.now c.deref-2.result.now c.in_ok-rows.rows.items c.last_certificate-last.result c.certificates_behind-next.result found c.deref.ensures.value c.deref-2.ensures.value rows
+pub returns-in_err-found : goal.returns-in_err-found
+returns-in_err-found g c = not_found _ c.from_residual.result c.from_residual.ensures.0 c.certs_after.ensures.looked
+
+pub returns-in_err-rows : goal.returns-in_err-rows
+returns-in_err-rows g c = not_found _ c.from_residual-in_err-rows.result c.from_residual-in_err-rows.ensures.0 (looked_then c.certs_after.ensures.looked c.certificate_rows.ensures.looked)
+
+pub returns : goal.returns
+returns g c =
+    let found = c.in_ok-found.ensures.found in
+    so
+    (and_so
+    (record { looked = c.certs_after.ensures.looked; found = λ records kept sound clean. found records (kept_shows g.C.Store c.args.store.now records kept) sound clean })
+    c.in_ok-rows.ensures)
+    (λ records sound it.
+    let is = certificates_page records c.args.now c.args.most c.args.before c.args.after
+    c.in_ok-found.found.items c.deref.result.now c.deref-2.result.now c.in_ok-rows.rows.items c.last_certificate-last.result c.certificates_behind-next.result it.0 c.deref.ensures.value c.deref-2.ensures.value it.1
     c.last_certificate-last.ensures c.certificates_behind-next.ensures in
-    record { rows = is.0; next = is.1 }
-
-pub returns-in_err-rows-clause-looked : goal.returns-in_err-rows-clause-looked
-returns-in_err-rows-clause-looked g c = looked_then c.certs_after.ensures.looked c.certificate_rows.ensures.looked
-
-pub returns-clause-looked : goal.returns-clause-looked
-returns-clause-looked g c = looked_then c.certs_after.ensures.looked c.certificate_rows.ensures.looked
+    record { rows = is.0; next = is.1 })

@@ -1,10 +1,18 @@
-use Rattle.reg_tables.proofs.Staying.{kept_shows}
+use Rattle.reg_office.proofs.Composing.{gives_none}
+use Rattle.reg_office.proofs.Looking.{by_none, by_shown, so}
 use Rattle.reg_office.proofs.Paging.{crls_page}
 use Rattle.reg_office.proofs.pages.crls.Goals as goal
 
-pub returns-clause-page : goal.returns-clause-page
-returns-clause-page g c records kept clean now =
-    let found = c.in_ok-found.ensures.found records (kept_shows g.C.Store c.args.store.now records kept) clean in
+pub returns-in_err-found : goal.returns-in_err-found
+returns-in_err-found g c = by_none c.crls_after.ensures.looked (λ records now. gives_none _ c.from_residual.result c.from_residual.ensures.0)
+
+pub returns-in_err-rows : goal.returns-in_err-rows
+returns-in_err-rows g c = by_none c.crls_after.ensures.looked (λ records now. gives_none _ c.from_residual-in_err-rows.result c.from_residual-in_err-rows.ensures.0)
+
+pub returns : goal.returns
+returns g c =
+    so (by_shown c.crls_after.ensures.looked c.in_ok-found.ensures.found)
+    (λ records sound it now.
     let is = crls_page records c.args.after c.args.most c.in_ok-found.found.items c.deref.result.now c.deref-2.result.now c.in_ok-rows.rows.items c.last_crl-last.result c.crls_behind-next.result
-    found c.deref.ensures.value c.deref-2.ensures.value c.in_ok-rows.ensures.found c.last_crl-last.ensures c.crls_behind-next.ensures now in
-    record { rows = is.0; next = is.1 }
+    it c.deref.ensures.value c.deref-2.ensures.value c.in_ok-rows.ensures.found c.last_crl-last.ensures c.crls_behind-next.ensures now in
+    record { rows = is.0; next = is.1 })

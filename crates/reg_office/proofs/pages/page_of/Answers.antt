@@ -1,25 +1,26 @@
+use Rattle.reg_office.proofs.Looking.{so}
 use Rattle.reg_office.proofs.pages.page_of.Goals as goal
 
-pub returns-in-Revoked-clause-page : goal.returns-in-Revoked-clause-page
-returns-in-Revoked-clause-page g c records kept sound clean = rw c.in-Revoked.is (c.revoked.ensures.page records kept sound clean)
+pub returns-in-Revoked : goal.returns-in-Revoked
+returns-in-Revoked g c = so c.revoked.ensures (λ records sound it. rw c.in-Revoked.is it)
 
-pub returns-in-Certificates-clause-page : goal.returns-in-Certificates-clause-page
-returns-in-Certificates-clause-page g c records kept sound clean = rw c.in-Certificates.is (c.certificates.ensures.page records kept sound clean)
+pub returns-in-Certificates : goal.returns-in-Certificates
+returns-in-Certificates g c = so c.certificates.ensures (λ records sound it. rw c.in-Certificates.is it)
 
-pub returns-in-Ending-clause-page : goal.returns-in-Ending-clause-page
-returns-in-Ending-clause-page g c records kept sound clean = rw c.in-Ending.is (c.ending.ensures.page records kept sound clean)
+pub returns-in-Ending : goal.returns-in-Ending
+returns-in-Ending g c = so c.certificates-in-Ending.ensures (λ records sound it. rw c.in-Ending.is it)
 
-pub returns-in-OpenRequests-clause-page : goal.returns-in-OpenRequests-clause-page
-returns-in-OpenRequests-clause-page g c records kept sound clean = rw c.in-OpenRequests.is (c.page_by_ids.ensures.page records kept sound clean)
+pub returns-in-OpenRequests : goal.returns-in-OpenRequests
+returns-in-OpenRequests g c = so c.page_by_ids.ensures (λ records sound it. rw c.in-OpenRequests.is it)
 
-pub returns-in-Overdue-clause-page : goal.returns-in-Overdue-clause-page
-returns-in-Overdue-clause-page g c records kept sound clean = rw c.in-Overdue.is (c.page_by_ids-in-Overdue.ensures.page records kept sound clean)
+pub returns-in-Overdue : goal.returns-in-Overdue
+returns-in-Overdue g c = so c.page_by_ids-in-Overdue.ensures (λ records sound it. rw c.in-Overdue.is it)
 
-pub returns-in-Subscribers-clause-page : goal.returns-in-Subscribers-clause-page
-returns-in-Subscribers-clause-page g c records kept sound clean = rw c.in-Subscribers.is (c.page_by_ids-in-Subscribers.ensures.page records kept sound clean)
+pub returns-in-Subscribers : goal.returns-in-Subscribers
+returns-in-Subscribers g c = so c.page_by_ids-in-Subscribers.ensures (λ records sound it. rw c.in-Subscribers.is it)
 
-pub returns-in-Orders-clause-page : goal.returns-in-Orders-clause-page
-returns-in-Orders-clause-page g c records kept sound clean = rw c.in-Orders.is (c.page_by_ids-in-Orders.ensures.page records kept sound clean)
+pub returns-in-Orders : goal.returns-in-Orders
+returns-in-Orders g c = so c.page_by_ids-in-Orders.ensures (λ records sound it. rw c.in-Orders.is it)
 
-pub returns-in-Crls-clause-page : goal.returns-in-Crls-clause-page
-returns-in-Crls-clause-page g c records kept sound clean = rw c.in-Crls.is (c.crls.ensures.page records kept clean c.args.now)
+pub returns-in-Crls : goal.returns-in-Crls
+returns-in-Crls g c = so c.crls.ensures (λ records sound it. rw c.in-Crls.is (it c.args.now))

@@ -1,24 +1,25 @@
-use Rattle.std.proofs.Common.{rules, subst}
+use Rattle.std.proofs.Common.{refl, sym, subst, Option, ◌∙◌}
 use Rattle.std.specs.Option.{IsSome}
-use Rattle.sqlite.specs.Held.{state}
-use Rattle.reg_tables.proofs.Staying.{kept_shows, looked_then}
 use Rattle.reg_core.specs.declared.rows.CertRow.{CertRow}
-use Rattle.std.proofs.Common.{Option}
-use Rattle.reg_office.proofs.Composing.{after_looked, was_clean}
+use Rattle.reg_tables.proofs.Staying.{looked_then}
+use Rattle.reg_office.proofs.Asking.{unknown_serial}
+use Rattle.reg_office.proofs.Looking.{and_so, by_kept, by_shown, decided_against, decided_for, not_decided, so}
 use Rattle.reg_office.proofs.queries.listing.Goals as goal
 
-pub returns-clause-found : goal.returns-clause-found
-returns-clause-found g c records kept clean =
-    let s = g.C.Store in
-    let first = c.cert.new.self in
-    let clean_1 = was_clean (state s first) (state s c.listing.new.self) c.listing.ensures.looked.survives.clean clean in
-    let kept_1 = after_looked c.cert.ensures.looked records kept in
-    let certificate_is = c.in_ok-cert.ensures.found records (kept_shows s c.args.store.now records kept) clean_1 in
-    let known : IsSome c.in_ok-cert.field-0 = search rules in
-    (subst (λ (o : Option CertRow). IsSome o) certificate_is known, c.in_ok-listing.ensures.found records kept_1 clean)
+pub returns-in_err-cert : goal.returns-in_err-cert
+returns-in_err-cert g c = not_decided c.from_residual.result c.in_err-cert.field-0.0 c.from_residual.ensures.1 c.cert.ensures.looked
 
-pub returns-in_err-listing-clause-looked : goal.returns-in_err-listing-clause-looked
-returns-in_err-listing-clause-looked g c = looked_then c.cert.ensures.looked c.listing.ensures.looked
+pub returns-in-None : goal.returns-in-None
+returns-in-None g c =
+    decided_against _ _ refl
+    (so (by_shown c.cert.ensures.looked c.in_ok-cert.ensures.found) (λ records sound it. unknown_serial records c.args.serial (sym it ∙ c.in-None.is)))
 
-pub returns-clause-looked : goal.returns-clause-looked
-returns-clause-looked g c = looked_then c.cert.ensures.looked c.listing.ensures.looked
+pub returns-in_err-listing-in-Some : goal.returns-in_err-listing-in-Some
+returns-in_err-listing-in-Some g c =
+    not_decided c.from_residual-in_err-listing-in-Some.result c.in_err-listing-in-Some.field-0.0 c.from_residual-in_err-listing-in-Some.ensures.1 (looked_then c.cert.ensures.looked c.listing.ensures.looked)
+
+pub returns-in_ok-listing-in-Some : goal.returns-in_ok-listing-in-Some
+returns-in_ok-listing-in-Some g c =
+    decided_for _
+    (so (and_so (by_shown c.cert.ensures.looked c.in_ok-cert.ensures.found) (by_kept c.listing.ensures.looked c.in_ok-listing-in-Some.ensures.found))
+    (λ records sound it. (subst (λ (o : Option CertRow). IsSome o) (sym c.in-Some.is ∙ it.0) refl, it.1)))

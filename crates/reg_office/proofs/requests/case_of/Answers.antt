@@ -1,30 +1,21 @@
-use Rattle.std.proofs.Common.{sym, ◌∙◌}
-use Rattle.sqlite.specs.Held.{state}
-use Rattle.reg_tables.proofs.Staying.{looked_shows, looked_then}
-use Rattle.reg_office.proofs.Composing.{was_clean}
+use Rattle.std.proofs.Common.{refl, sym, ◌∙◌}
+use Rattle.reg_tables.proofs.Staying.{looked_then}
+use Rattle.reg_office.proofs.Looking.{and_so, by_shown, not_found, so}
 use Rattle.reg_office.proofs.requests.case_of.Goals as goal
 
-pub returns-in_ok-revocation-in-Some-clause-found : goal.returns-in_ok-revocation-in-Some-clause-found
-returns-in_ok-revocation-in-Some-clause-found g c records shown clean =
-    let s = g.C.Store in
-    let first = c.request.new.self in
-    let second = c.cert.new.self in
-    let third = c.revocation.new.self in
-    let shown_1 = looked_shows c.request.ensures.looked records shown in
-    let shown_2 = looked_shows c.cert.ensures.looked records shown_1 in
-    let clean_2 = was_clean (state s second) (state s third) c.revocation.ensures.looked.survives.clean clean in
-    let clean_1 = was_clean (state s first) (state s second) c.cert.ensures.looked.survives.clean clean_2 in
-    record {
-      request = sym c.in-Some.is ∙ c.in_ok-request.ensures.found records shown clean_1;
-      certificate = c.in_ok-certificate-in-Some.ensures.found records shown_1 clean_2;
-      revocation = c.in_ok-revocation-in-Some.ensures.found records shown_2 clean;
-    }
+pub returns-in_err-request : goal.returns-in_err-request
+returns-in_err-request g c = not_found _ c.from_residual.result c.from_residual.ensures.0 c.request.ensures.looked
 
-pub returns-in_err-certificate-in-Some-clause-looked : goal.returns-in_err-certificate-in-Some-clause-looked
-returns-in_err-certificate-in-Some-clause-looked g c = looked_then c.request.ensures.looked c.cert.ensures.looked
+pub returns-in-None : goal.returns-in-None
+returns-in-None g c =
+    so (by_shown c.request.ensures.looked c.in_ok-request.ensures.found)
+    (λ records sound it. record { request = sym c.in-None.is ∙ it; certificate = refl; revocation = refl })
 
-pub returns-in_err-revocation-in-Some-clause-looked : goal.returns-in_err-revocation-in-Some-clause-looked
-returns-in_err-revocation-in-Some-clause-looked g c = looked_then (looked_then c.request.ensures.looked c.cert.ensures.looked) c.revocation.ensures.looked
+pub returns-in_err-certificate-in-Some : goal.returns-in_err-certificate-in-Some
+returns-in_err-certificate-in-Some g c =
+    not_found _ c.from_residual-in_err-certificate-in-Some.result c.from_residual-in_err-certificate-in-Some.ensures.0 (looked_then c.request.ensures.looked c.certificate_of.ensures.looked)
 
-pub returns-in_ok-revocation-in-Some-clause-looked : goal.returns-in_ok-revocation-in-Some-clause-looked
-returns-in_ok-revocation-in-Some-clause-looked g c = looked_then (looked_then c.request.ensures.looked c.cert.ensures.looked) c.revocation.ensures.looked
+pub returns-in_ok-certificate-in-Some : goal.returns-in_ok-certificate-in-Some
+returns-in_ok-certificate-in-Some g c =
+    so (and_so (by_shown c.request.ensures.looked c.in_ok-request.ensures.found) c.in_ok-certificate-in-Some.ensures)
+    (λ records sound it. record { request = sym c.in-Some.is ∙ it.0; certificate = it.1.0; revocation = it.1.1 })

@@ -1,16 +1,13 @@
-use Rattle.std.proofs.Common.{◌≡◌, ◌∙◌, arith}
-use Rattle.sqlite.specs.Held.{state}
-use Rattle.sqlite.specs.State.{HasCleanDisk}
+use Rattle.std.proofs.Common.{◌≡◌, ◌∙◌}
 use Rattle.reg_core.specs.Status.{status_by}
-use Rattle.reg_tables.proofs.Staying.{looked_shows}
+use Rattle.reg_office.proofs.Looking.{not_found, so}
 use Rattle.reg_office.proofs.statuses.status_at.Goals as goal
 
+pub returns-in_err-certificate : goal.returns-in_err-certificate
+returns-in_err-certificate g c = not_found _ c.from_residual.result c.from_residual.ensures.0 c.certificate_of.ensures.looked
+
 -- What is told comes first, so that another status is refused by it.
-pub returns-clause-found : goal.returns-clause-found
-returns-clause-found g c records shows clean =
-    let told : c.status_of.result ≡ status_by c.args.now c.in_ok-certificate.certificate c.in_ok-revocation.revocation = c.status_of.ensures in
-    let mid_clean : HasCleanDisk (state g.C.Store c.cert.new.self) = omega (arith, c.revocation.ensures.looked.survives.clean) in
-    let mid = looked_shows c.cert.ensures.looked records shows in
-    let certificate = c.in_ok-certificate.ensures.found records shows mid_clean in
-    let revocation = c.in_ok-revocation.ensures.found records mid clean in
-    told ∙ (λ i. status_by c.args.now (certificate i) (revocation i))
+pub returns : goal.returns
+returns g c =
+    let told : c.status_of.result ≡ status_by c.args.now c.in_ok-certificate.certificate c.in_ok-certificate.revocation = c.status_of.ensures in
+    so c.in_ok-certificate.ensures (λ records sound it. told ∙ (λ i. status_by c.args.now (it.0 i) (it.1 i)))

@@ -1,99 +1,24 @@
-use Rattle.std.proofs.Common.{ap, Ok, Err}
-use Rattle.sqlite.specs.Held.{state}
-use Rattle.reg_tables.proofs.Staying.{kept_shows}
-use Rattle.reg_office.specs.Happened.{unsigned}
-use Rattle.reg_core.specs.declared.rows.SubscriberRow.{SubscriberRow}
-use Rattle.reg_core.specs.declared.command.Command.TheVariants.{Subscriber}
-use Rattle.reg_laws.proofs.Accepted.{accepted_clock}
-use Rattle.reg_laws.proofs.Decided.{subscriber_decided}
-use Rattle.reg_office.proofs.Resting.{stepped}
+use Rattle.std.proofs.Common.{Ok, Err}
 use Rattle.reg_tables.proofs.Staying.{looked_then}
-use Rattle.reg_office.proofs.Changing.{looked_failed, changed_failed, changed_made}
-use Rattle.reg_office.proofs.Composing.{accepted, after_look, after_looked, fails, refuses, stops, was_clean}
+use Rattle.reg_office.proofs.Deciding.{subscriber_to_do}
+use Rattle.reg_office.proofs.Looking.{and_so, by_shown, decided_against, decided_for, not_decided, so}
 use Rattle.reg_office.proofs.subscribers.enter_subscriber.Goals as goal
 
-pub returns-in_err-head-clause-step : goal.returns-in_err-head-clause-step
-returns-in_err-head-clause-step g c records kept sound clean =
-    let s = g.C.Store in
-    let kept_1 = after_looked c.head_at.ensures.looked records kept in
-    fails s c.head_at.new.store unsigned records c.args.now _ c.from_residual.result c.in_err-head.field-0.0 c.requires c.from_residual.ensures.1 c.in_err-head.ensures.faults kept_1
+pub returns-in_err-head : goal.returns-in_err-head
+returns-in_err-head g c = not_decided c.from_residual.result c.in_err-head.field-0.0 c.from_residual.ensures.1 c.head_at.ensures.looked
 
-pub returns-in_err-by_name-clause-step : goal.returns-in_err-by_name-clause-step
-returns-in_err-by_name-clause-step g c records kept sound clean =
-    let s = g.C.Store in
-    let kept_1 = after_looked c.head_at.ensures.looked records kept in
-    let kept_2 = after_looked c.subscriber_by_name.ensures.looked records kept_1 in
-    stops s c.subscriber_by_name.new.self unsigned records c.args.now _ c.from_residual-in_err-by_name.result c.in_err-by_name.field-0.0 c.requires c.from_residual-in_err-by_name.ensures.1 kept_2
+pub returns-in_err-by_name : goal.returns-in_err-by_name
+returns-in_err-by_name g c =
+    not_decided c.from_residual-in_err-by_name.result c.in_err-by_name.field-0.0 c.from_residual-in_err-by_name.ensures.1 (looked_then c.head_at.ensures.looked c.subscriber_by_name.ensures.looked)
 
-pub returns-in_err-row-clause-step : goal.returns-in_err-row-clause-step
-returns-in_err-row-clause-step g c records kept sound clean =
-    let s = g.C.Store in
-    let kept_1 = after_looked c.head_at.ensures.looked records kept in
-    let kept_2 = after_looked c.subscriber_by_name.ensures.looked records kept_1 in
-    let clean_1 = was_clean (state s c.head_at.new.store) (state s c.subscriber_by_name.new.self) c.subscriber_by_name.ensures.looked.survives.clean clean in
-    let head_is = c.in_ok-head.ensures.found records (kept_shows s c.args.store.now records kept) clean_1 in
-    let by_name_is = c.in_ok-by_name.ensures.found records (kept_shows s c.head_at.new.store records kept_1) clean in
-    refuses s c.subscriber_by_name.new.self unsigned records c.args.now _ c.from_residual-in_err-row.result c.in_err-row.field-0.0 c.from_residual-in_err-row.ensures.1
-    (subscriber_decided unsigned records c.args.now c.in_ok-head.head c.args.name c.in_ok-by_name.by_name (Err c.in_err-row.field-0.0) head_is by_name_is c.in_err-row.ensures)
-    kept_2
+pub returns-in_err-row : goal.returns-in_err-row
+returns-in_err-row g c =
+    decided_against c.from_residual-in_err-row.result c.in_err-row.field-0.0 c.from_residual-in_err-row.ensures.1
+    (so (and_so c.in_ok-head.ensures (by_shown c.subscriber_by_name.ensures.looked c.in_ok-by_name.ensures.found))
+    (λ records sound it. subscriber_to_do records c.args.now c.in_ok-head.head c.args.name c.in_ok-by_name.by_name (Err c.in_err-row.field-0.0) it.0 it.1 c.in_err-row.ensures))
 
-pub returns-in_err-add_subscriber-clause-step : goal.returns-in_err-add_subscriber-clause-step
-returns-in_err-add_subscriber-clause-step g c records kept sound clean =
-    let s = g.C.Store in
-    let kept_1 = after_looked c.head_at.ensures.looked records kept in
-    let kept_2 = after_looked c.subscriber_by_name.ensures.looked records kept_1 in
-    let left = after_look s c.subscriber_by_name.new.self c.add_subscriber.new.self records c.add_subscriber.ensures.changed.survives.clean c.in_err-add_subscriber.ensures.changed.err kept_2 in
-    stops s c.add_subscriber.new.self unsigned records c.args.now _ c.from_residual-in_err-add_subscriber.result c.in_err-add_subscriber.field-0.0 c.requires c.from_residual-in_err-add_subscriber.ensures.1 left
-
-pub returns-clause-step : goal.returns-clause-step
-returns-clause-step g c records kept sound clean =
-    let s = g.C.Store in
-    let kept_1 = after_looked c.head_at.ensures.looked records kept in
-    let kept_2 = after_looked c.subscriber_by_name.ensures.looked records kept_1 in
-    let clean_2 = was_clean (state s c.subscriber_by_name.new.self) (state s c.add_subscriber.new.self) c.add_subscriber.ensures.changed.survives.clean clean in
-    let clean_1 = was_clean (state s c.head_at.new.store) (state s c.subscriber_by_name.new.self) c.subscriber_by_name.ensures.looked.survives.clean clean_2 in
-    let head_is = c.in_ok-head.ensures.found records (kept_shows s c.args.store.now records kept) clean_1 in
-    let by_name_is = c.in_ok-by_name.ensures.found records (kept_shows s c.head_at.new.store records kept_1) clean_2 in
-    let says = subscriber_decided unsigned records c.args.now c.in_ok-head.head c.args.name c.in_ok-by_name.by_name (Ok c.in_ok-row.row) head_is by_name_is c.in_ok-row.ensures in
-    let clock = accepted_clock records c.args.now (Subscriber c.args.name) says.accepts.accepted in
-    accepted s c.add_subscriber.new.self unsigned records c.args.now _ _ _ says.accepts
-    (c.in_ok-add_subscriber.ensures.ok records kept_2 sound clock.not_back (ap (λ (row : SubscriberRow). row.id) says.row_is))
-
-pub returns-in_err-head-clause-changed : goal.returns-in_err-head-clause-changed
-returns-in_err-head-clause-changed g c = looked_failed c.from_residual.result c.from_residual.ensures.0 c.head_at.ensures.looked
-
-pub returns-in_err-by_name-clause-changed : goal.returns-in_err-by_name-clause-changed
-returns-in_err-by_name-clause-changed g c = looked_failed c.from_residual-in_err-by_name.result c.from_residual-in_err-by_name.ensures.0 (looked_then c.head_at.ensures.looked c.subscriber_by_name.ensures.looked)
-
-pub returns-in_err-row-clause-changed : goal.returns-in_err-row-clause-changed
-returns-in_err-row-clause-changed g c = looked_failed c.from_residual-in_err-row.result c.from_residual-in_err-row.ensures.0 (looked_then c.head_at.ensures.looked c.subscriber_by_name.ensures.looked)
-
-pub returns-clause-changed : goal.returns-clause-changed
-returns-clause-changed g c =
-    let s = g.C.Store in
-    changed_made (looked_then c.head_at.ensures.looked c.subscriber_by_name.ensures.looked) c.in_ok-add_subscriber.ensures.changed
-    (λ clean trees changed records kept sound.
-    let kept_1 = after_looked c.head_at.ensures.looked records kept in
-    let kept_2 = after_looked c.subscriber_by_name.ensures.looked records kept_1 in
-    let clean_2 = was_clean (state s c.subscriber_by_name.new.self) (state s c.add_subscriber.new.self) c.add_subscriber.ensures.changed.survives.clean clean in
-    let clean_1 = was_clean (state s c.head_at.new.store) (state s c.subscriber_by_name.new.self) c.subscriber_by_name.ensures.looked.survives.clean clean_2 in
-    let head_is = c.in_ok-head.ensures.found records (kept_shows s c.args.store.now records kept) clean_1 in
-    let by_name_is = c.in_ok-by_name.ensures.found records (kept_shows s c.head_at.new.store records kept_1) clean_2 in
-    let says = subscriber_decided unsigned records c.args.now c.in_ok-head.head c.args.name c.in_ok-by_name.by_name (Ok c.in_ok-row.row) head_is by_name_is c.in_ok-row.ensures in
-    let clock = accepted_clock records c.args.now (Subscriber c.args.name) says.accepts.accepted in
-    stepped unsigned records c.args.now (Subscriber c.args.name) _ _ trees says.accepts (changed records kept_2 sound clock.not_back (ap (λ (row : SubscriberRow). row.id) says.row_is)))
-
-pub returns-in_err-add_subscriber-clause-changed : goal.returns-in_err-add_subscriber-clause-changed
-returns-in_err-add_subscriber-clause-changed g c =
-    let s = g.C.Store in
-    changed_failed c.from_residual-in_err-add_subscriber.result c.from_residual-in_err-add_subscriber.ensures.0 (looked_then c.head_at.ensures.looked c.subscriber_by_name.ensures.looked) c.in_err-add_subscriber.ensures.changed
-    (λ clean trees changed records kept sound.
-    let kept_1 = after_looked c.head_at.ensures.looked records kept in
-    let kept_2 = after_looked c.subscriber_by_name.ensures.looked records kept_1 in
-    let clean_2 = was_clean (state s c.subscriber_by_name.new.self) (state s c.add_subscriber.new.self) c.add_subscriber.ensures.changed.survives.clean clean in
-    let clean_1 = was_clean (state s c.head_at.new.store) (state s c.subscriber_by_name.new.self) c.subscriber_by_name.ensures.looked.survives.clean clean_2 in
-    let head_is = c.in_ok-head.ensures.found records (kept_shows s c.args.store.now records kept) clean_1 in
-    let by_name_is = c.in_ok-by_name.ensures.found records (kept_shows s c.head_at.new.store records kept_1) clean_2 in
-    let says = subscriber_decided unsigned records c.args.now c.in_ok-head.head c.args.name c.in_ok-by_name.by_name (Ok c.in_ok-row.row) head_is by_name_is c.in_ok-row.ensures in
-    let clock = accepted_clock records c.args.now (Subscriber c.args.name) says.accepts.accepted in
-    stepped unsigned records c.args.now (Subscriber c.args.name) _ _ trees says.accepts (changed records kept_2 sound clock.not_back (ap (λ (row : SubscriberRow). row.id) says.row_is)))
+pub returns : goal.returns
+returns g c =
+    decided_for _
+    (so (and_so c.in_ok-head.ensures (by_shown c.subscriber_by_name.ensures.looked c.in_ok-by_name.ensures.found))
+    (λ records sound it. subscriber_to_do records c.args.now c.in_ok-head.head c.args.name c.in_ok-by_name.by_name (Ok c.in_ok-row.row) it.0 it.1 c.in_ok-row.ensures))

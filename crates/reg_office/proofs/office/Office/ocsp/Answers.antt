@@ -1,6 +1,5 @@
 use Rattle.std.proofs.Common.{sym, subst}
 use Rattle.reg_crl.specs.Signing.{Identity}
-use Rattle.reg_tables.proofs.Staying.{kept_shows}
 use Rattle.reg_office.specs.Stands.{Stands}
 use Rattle.reg_office.proofs.Standing.{stands_looked}
 use Rattle.reg_office.proofs.office.Office.ocsp.Goals as goal
@@ -14,4 +13,4 @@ returns-clause-stands g c records stands =
 
 pub returns-clause-answered : goal.returns-clause-answered
 returns-clause-answered g c records stands clean =
-    c.ocsp.ensures.answered records (kept_shows g.C.Store c.args.self.now.store records stands.shown) clean
+    c.ocsp.ensures.answered records stands.shown stands.sound.rows clean

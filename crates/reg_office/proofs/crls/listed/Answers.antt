@@ -1,0 +1,13 @@
+use Rattle.reg_tables.proofs.Staying.{looked_then}
+use Rattle.reg_office.proofs.Looking.{and_so, by_kept, by_shown, not_found}
+use Rattle.reg_office.proofs.crls.listed.Goals as goal
+
+pub returns-in_err-issuer-clause-looks : goal.returns-in_err-issuer-clause-looks
+returns-in_err-issuer-clause-looks g c = not_found _ c.from_residual.result c.from_residual.ensures.0 c.issuer.ensures.looked
+
+pub returns-in_err-entries-clause-looks : goal.returns-in_err-entries-clause-looks
+returns-in_err-entries-clause-looks g c =
+    not_found _ c.from_residual-in_err-entries.result c.from_residual-in_err-entries.ensures.0 (looked_then c.issuer.ensures.looked c.entries.ensures.looked)
+
+pub returns-clause-looks : goal.returns-clause-looks
+returns-clause-looks g c = and_so (by_shown c.issuer.ensures.looked c.in_ok-issuer.ensures.found) (by_kept c.entries.ensures.looked c.in_ok-entries.ensures.found)

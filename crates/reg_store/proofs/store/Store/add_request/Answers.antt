@@ -1,7 +1,0 @@
-use Rattle.reg_store.proofs.store.Store.add_request.Goals as goal
-
-pub returns-clause-ok : goal.returns-clause-ok
-returns-clause-ok g c = c.apply.ensures.ok
-
-pub returns-clause-days : goal.returns-clause-days
-returns-clause-days g c = c.apply.ensures.days
