@@ -1,8 +1,7 @@
 -- Exchanges, one after the other.
-use Rattle.std.proofs.Common.{◌≡◌, ℕ, ◌+◌, List, [], ◌∷◌, ◌++◌, ◌⊎◌, refl, arith, inl, inr}
+use Rattle.std.proofs.Common.{◌≡◌, ℕ, ◌+◌, List, [], ◌∷◌, ◌++◌, refl, arith, inl, inr}
 use Rattle.reg_wire.proofs.PublicLaws.{answered_append}
-use Rattle.std.specs.Prelude.{Result, Ok, Err, OnOk, OnErr, take, drop}
-use Rattle.reg_wire.specs.Mark.{FirstMark}
+use Rattle.std.specs.Prelude.{Result, Ok, Err, OnOk, OnErr, take}
 use Rattle.reg_hub.specs.CounterLines.{Deferring, Telling, TellingLater}
 use Rattle.reg_hub.specs.Exchange.{Input, request, line, Outcome, said, later, asked_in, Handles, Exchanged}
 
@@ -80,11 +79,3 @@ module _ {S T : Type 0} (answers : S → List ℕ → Outcome T → S → Type 0
       → OnOk r (TellingLater tells defers s t before after unsent unsent') → OnErr r (P × (t ≡ s)) → Exchanged answers tells defers s t made made
   exchanged_told_later P (Ok u) s t made before after unsent unsent' told stopped = exchanged_later s t made before after unsent unsent' told
   exchanged_told_later P (Err e) s t made before after unsent unsent' told stopped = exchanged_none s t made made stopped.1 refl
-
--- the first line of what came was answered, or looked at once more
-pub told_or_looked : {H : Type 0} (tells : H → List ℕ → List ℕ → H → Type 0) (defers : H → List ℕ → H → Type 0) (s t : H)
-    (before after unsent unsent' : List ℕ) (end : ℕ) → FirstMark (10 ∷ []) before end → unsent ≡ []
-    → (tells s (take end before) unsent' t × (after ≡ drop end before)) ⊎ (defers s (take end before) t × (after ≡ before) × (unsent' ≡ unsent))
-    → TellingLater tells defers s t before after unsent unsent'
-told_or_looked tells defers s t before after unsent unsent' end first none (inl (told, rest)) = inl (inl (end, first, none, told, rest))
-told_or_looked tells defers s t before after unsent unsent' end first none (inr (looked, same, held)) = inr (inl (end, first, looked), same, held)

@@ -32,11 +32,7 @@ pub gathers_taken : (a b : Option (List ℕ)) (x y : List ℕ) (t : Taken) (ende
 gathers_taken a b x y taken.Lost ended is took =
     let (kept, lost, parted, after) = took.held in
     record { kept = kept; lost = lost; consumed = subst (Consumes a b) parted took.consumed; held = after; whole = inr (is refl) }
-gathers_taken a b x y taken.Whole ended is took = gathers_all a b x y took.came ended took.consumed took.held
-gathers_taken a b x y taken.Waits ended is took = gathers_all a b x y took.came ended took.consumed took.held
-gathers_taken a b x y taken.More ended is took = gathers_all a b x y took.came ended took.consumed took.held
-gathers_taken a b x y taken.Ended ended is took = gathers_all a b x y took.came ended took.consumed took.held
-gathers_taken a b x y taken.Broken ended is took = gathers_all a b x y took.came ended took.consumed took.held
+gathers_taken a b x y other ended is took = gathers_all a b x y took.came ended took.consumed took.held
 
 -- what goes on has not ended
 pub goes_on : (ended : Bool) → ended ≡ false → ended ≡ true → ⊥

@@ -23,11 +23,7 @@ adds_then x y z first came taken.Lost before (kept, lost, parted, after) = (
   ap (λ (l : List ℕ). first ++ l) parted ∙ sym (append_assoc first kept lost),
   after ∙ ap (λ (l : List ℕ). l ++ kept) before ∙ append_assoc x first kept,
 )
-adds_then x y z first came taken.Whole before after = after ∙ ap (λ (l : List ℕ). l ++ came) before ∙ append_assoc x first came
-adds_then x y z first came taken.Waits before after = after ∙ ap (λ (l : List ℕ). l ++ came) before ∙ append_assoc x first came
-adds_then x y z first came taken.More before after = after ∙ ap (λ (l : List ℕ). l ++ came) before ∙ append_assoc x first came
-adds_then x y z first came taken.Ended before after = after ∙ ap (λ (l : List ℕ). l ++ came) before ∙ append_assoc x first came
-adds_then x y z first came taken.Broken before after = after ∙ ap (λ (l : List ℕ). l ++ came) before ∙ append_assoc x first came
+adds_then x y z first came other before after = after ∙ ap (λ (l : List ℕ). l ++ came) before ∙ append_assoc x first came
 
 -- some were taken in, and then others
 pub takes_then : (a b c : Option (List ℕ)) (x y z : List ℕ) (t : Taken) → TakesIn a b x y taken.More → TakesIn b c y z t → TakesIn a c x z t

@@ -1,5 +1,4 @@
 pub mod Exchanges
 pub mod Gatherings
 pub mod Holdings
-pub mod Notings
 pub mod WholeConnections

@@ -141,9 +141,7 @@ module _ {S H : Type 0} (contents remaining : S → Option (List ℕ)) (tells : 
 pub finishes_once : {H T : Type 0} (finishes : H → T → List ℕ → Type 0) (s : H) (before after : Stage T)
     → Finishing (finishes s) before after → Finishing (FinishesOnce finishes) before after
 finishes_once finishes s (stage.Waiting ticket link exact) after (text, finished, holds) = (text, (s, finished), holds)
-finishes_once finishes s (stage.Asking collected) after same = same
-finishes_once finishes s (stage.Answering unsent exact) after same = same
-finishes_once finishes s stage.Leaving after same = same
+finishes_once finishes s other after same = same
 
 module _ {H T : Type 0} (answers : H → List ℕ → Outcome T → H → Type 0) (finishes : T → List ℕ → Type 0) where
   -- what was answered or left still was, where more came
@@ -214,9 +212,7 @@ module _ {H T : Type 0} (answers : H → List ℕ → Outcome T → H → Type 0
 
       go : (at : Stage T) → IsAnsweredOnce answers finishes came gone at ended → IsAnsweredOnce answers finishes came gone at ended'
       go (stage.Asking collected) it = (it.0, it.1, it.2, over it.1 it.3)
-      go (stage.Waiting ticket link exact) it = it
-      go (stage.Answering unsent exact) it = it
-      go stage.Leaving it = it
+      go other it = it
 
   -- who asked was answered, or waits
   outcome_on : (after : Stage T) (asked dropped came gone : List ℕ) (ended : Bool) (s t : H) (outcome : Outcome T) → gone ≡ [] → came ≡ asked ++ dropped
@@ -232,32 +228,20 @@ module _ {H T : Type 0} (answers : H → List ℕ → Outcome T → H → Type 0
       → Answering answers s t before after → (ended ≡ true → ended' ≡ true) → IsAnsweredOnce answers finishes came gone after ended'
   answering_on s t (stage.Asking collected) after came gone ended ended' was (outcome, by, held) ends =
       outcome_on after (collected_bytes collected) was.1 came gone ended' s t outcome was.0 was.2 by held
-  answering_on s t (stage.Waiting ticket link exact) after came gone ended ended' was same ends =
-      same_on (stage.Waiting ticket link exact) after came gone ended ended' same ends was
-  answering_on s t (stage.Answering unsent exact) after came gone ended ended' was same ends =
-      same_on (stage.Answering unsent exact) after came gone ended ended' same ends was
-  answering_on s t stage.Leaving after came gone ended ended' was same ends = same_on stage.Leaving after came gone ended ended' same ends was
+  answering_on s t other after came gone ended ended' was same ends = same_on other after came gone ended ended' same ends was
 
   -- what was left was finished
   pub finishing_on : (before after : Stage T) (came gone : List ℕ) (ended ended' : Bool) → IsAnsweredOnce answers finishes came gone before ended
       → Finishing finishes before after → (ended ≡ true → ended' ≡ true) → IsAnsweredOnce answers finishes came gone after ended'
   finishing_on (stage.Waiting ticket link exact) after came gone ended ended' (none, (asked, dropped, came_so, by)) (text, finished, holds) ends =
       answered_by after came gone text ended' none (asked, dropped, came_so, inr (ticket, finished, by)) holds
-  finishing_on (stage.Asking collected) after came gone ended ended' was same ends =
-      same_on (stage.Asking collected) after came gone ended ended' same ends was
-  finishing_on (stage.Answering unsent exact) after came gone ended ended' was same ends =
-      same_on (stage.Answering unsent exact) after came gone ended ended' same ends was
-  finishing_on stage.Leaving after came gone ended ended' was same ends = same_on stage.Leaving after came gone ended ended' same ends was
+  finishing_on other after came gone ended ended' was same ends = same_on other after came gone ended ended' same ends was
 
   -- a signature was asked for, or nothing was done
   pub resting_on : (before after : Stage T) (came gone : List ℕ) (ended ended' : Bool) → IsAnsweredOnce answers finishes came gone before ended
       → WaitsOn before after → (ended ≡ true → ended' ≡ true) → IsAnsweredOnce answers finishes came gone after ended'
   resting_on (stage.Waiting ticket link exact) after came gone ended ended' was waits ends = waiting_on after came gone ticket ended' was.0 was.1 waits
-  resting_on (stage.Asking collected) after came gone ended ended' was same ends =
-      same_on (stage.Asking collected) after came gone ended ended' same ends was
-  resting_on (stage.Answering unsent exact) after came gone ended ended' was same ends =
-      same_on (stage.Answering unsent exact) after came gone ended ended' same ends was
-  resting_on stage.Leaving after came gone ended ended' was same ends = same_on stage.Leaving after came gone ended ended' same ends was
+  resting_on other after came gone ended ended' was same ends = same_on other after came gone ended ended' same ends was
 
 module _ {S H T : Type 0} (contents remaining : S → Option (List ℕ)) (answers : H → List ℕ → Outcome T → H → Type 0)
     (finishes : T → List ℕ → Type 0) where

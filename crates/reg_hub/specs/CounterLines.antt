@@ -46,9 +46,7 @@ abbrev pub ends_by : Taken → Bool
 ends_by taken.Whole = false
 ends_by taken.Waits = false
 ends_by taken.More = false
-ends_by taken.Ended = true
-ends_by taken.Broken = true
-ends_by taken.Lost = true
+ends_by other = true
 
 -- The next bytes of a reply went out, and then what came next was held; of a counter that has ended nothing more is held.
 pub record Advances {S : Type 0} (contents remaining : S → Option (List ℕ)) (s t : S) (before after unsent unsent' : List ℕ) (ended ended' : Bool)

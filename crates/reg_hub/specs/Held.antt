@@ -11,11 +11,7 @@ use Rattle.reg_hub.specs.declared.unsent.Sent.TheVariants as sent
 -- bytes that came were held behind the others; the last of them may have been lost, where there was no memory for them
 abbrev pub AddsTo : List ℕ → List ℕ → List ℕ → Taken → Type 0
 AddsTo before came after taken.Lost = (kept : List ℕ) × (lost : List ℕ) × (came ≡ kept ++ lost) × (after ≡ before ++ kept)
-AddsTo before came after taken.Whole = after ≡ before ++ came
-AddsTo before came after taken.Waits = after ≡ before ++ came
-AddsTo before came after taken.More = after ≡ before ++ came
-AddsTo before came after taken.Ended = after ≡ before ++ came
-AddsTo before came after taken.Broken = after ≡ before ++ came
+AddsTo before came after other = after ≡ before ++ came
 
 -- what was taken from the reader is held, in its order and whole
 pub record TakesIn (input left : Option (List ℕ)) (before after : List ℕ) (taken : Taken) : Type 0 where
@@ -26,18 +22,12 @@ pub record TakesIn (input left : Option (List ℕ)) (before after : List ℕ) (t
 -- a whole request is held
 abbrev pub IsWholeAt : List ℕ → Taken → Type 0
 IsWholeAt bytes taken.Whole = ∥ IsWholeRequest bytes ∥₁
-IsWholeAt bytes taken.Waits = Unit {0}
-IsWholeAt bytes taken.More = Unit {0}
-IsWholeAt bytes taken.Ended = Unit {0}
-IsWholeAt bytes taken.Broken = Unit {0}
-IsWholeAt bytes taken.Lost = Unit {0}
+IsWholeAt bytes other = Unit {0}
 
 -- where all was taken nothing is left
 abbrev pub IsSentAt : List ℕ → Sent → Type 0
 IsSentAt after sent.All = after ≡ []
-IsSentAt after sent.Waits = Unit {0}
-IsSentAt after sent.More = Unit {0}
-IsSentAt after sent.Broken = Unit {0}
+IsSentAt after other = Unit {0}
 
 -- the next bytes of what is left were appended to what the writer holds
 pub record SendsOn (old new : Option (List ℕ)) (before after : List ℕ) (rests : Sent) : Type 0 where

@@ -13,23 +13,17 @@ use Rattle.reg_hub.specs.declared.http_peer.Stage.TheVariants as stage
 -- the bytes of a request that came
 abbrev pub HasAsked : {T : Type 0} → Stage T → List ℕ → Type 0
 HasAsked (stage.Asking collected) bytes = bytes ≡ collected_bytes collected
-HasAsked (stage.Waiting ticket link exact) bytes = ⊥
-HasAsked (stage.Answering unsent exact) bytes = ⊥
-HasAsked stage.Leaving bytes = ⊥
+HasAsked other bytes = ⊥
 
 -- an answer of which this is left
 abbrev pub HoldsAnswer : {T : Type 0} → Stage T → List ℕ → Type 0
-HoldsAnswer (stage.Asking collected) text = ⊥
-HoldsAnswer (stage.Waiting ticket link exact) text = ⊥
 HoldsAnswer (stage.Answering unsent exact) text = text ≡ unsent_of unsent
-HoldsAnswer stage.Leaving text = ⊥
+HoldsAnswer other text = ⊥
 
 -- an answer of which this is left to be signed
 abbrev pub Waits : {T : Type 0} → Stage T → T → Type 0
-Waits (stage.Asking collected) ticket = ⊥
 Waits (stage.Waiting kept link exact) ticket = kept ≡ ticket
-Waits (stage.Answering unsent exact) ticket = ⊥
-Waits stage.Leaving ticket = ⊥
+Waits other ticket = ⊥
 
 -- what came of a request: its text is held; or what was left of it is
 abbrev pub IsHeld : {T : Type 0} → Outcome T → Stage T → Type 0
@@ -40,23 +34,17 @@ IsHeld later after = ⊥
 -- who asked is answered by what the handler says to what came, or waits for what it left; who did not is as it was
 abbrev pub Answering : {H T : Type 0} → (H → List ℕ → Outcome T → H → Type 0) → H → H → Stage T → Stage T → Type 0
 Answering {T = T} answers s t (stage.Asking collected) after = (outcome : Outcome T) × answers s (collected_bytes collected) outcome t × IsHeld outcome after
-Answering answers s t (stage.Waiting ticket link exact) after = after ≡ stage.Waiting ticket link exact
-Answering answers s t (stage.Answering unsent exact) after = after ≡ stage.Answering unsent exact
-Answering answers s t stage.Leaving after = after ≡ stage.Leaving
+Answering answers s t other after = after ≡ other
 
 -- who waited is answered by a text that finishes what was left of its own answer; who did not is as it was
 abbrev pub Finishing : {T : Type 0} → (T → List ℕ → Type 0) → Stage T → Stage T → Type 0
-Finishing finishes (stage.Asking collected) after = after ≡ stage.Asking collected
 Finishing finishes (stage.Waiting ticket link exact) after = (text : List ℕ) × finishes ticket text × HoldsAnswer after text
-Finishing finishes (stage.Answering unsent exact) after = after ≡ stage.Answering unsent exact
-Finishing finishes stage.Leaving after = after ≡ stage.Leaving
+Finishing finishes other after = after ≡ other
 
 -- who waits still waits for the same; who does not is as it was
 abbrev pub WaitsOn : {T : Type 0} → Stage T → Stage T → Type 0
-WaitsOn (stage.Asking collected) after = after ≡ stage.Asking collected
 WaitsOn (stage.Waiting ticket link exact) after = Waits after ticket
-WaitsOn (stage.Answering unsent exact) after = after ≡ stage.Answering unsent exact
-WaitsOn stage.Leaving after = after ≡ stage.Leaving
+WaitsOn other after = after ≡ other
 
 -- what is held of a request is what was, and the next bytes of the connection behind it; for want of memory the last may be lost, and then no
 -- more of it is waited for. Where none is, none is held.
@@ -68,17 +56,14 @@ TakesMore remaining s t before after ended ended' =
 
 -- who has its answer
 abbrev pub HasLeft : {T : Type 0} → Stage T → Type 0
-HasLeft (stage.Asking collected) = ⊥
-HasLeft (stage.Waiting ticket link exact) = ⊥
-HasLeft (stage.Answering unsent exact) = ⊥
 HasLeft stage.Leaving = Unit {0}
+HasLeft other = ⊥
 
 -- an answer of which this is left; where nothing is, its peer may have it
 abbrev pub HoldsRest : {T : Type 0} → Stage T → List ℕ → Type 0
-HoldsRest (stage.Asking collected) rest = ⊥
-HoldsRest (stage.Waiting ticket link exact) rest = ⊥
 HoldsRest (stage.Answering unsent exact) rest = rest ≡ unsent_of unsent
 HoldsRest stage.Leaving rest = rest ≡ []
+HoldsRest other rest = ⊥
 
 -- what went out of an answer are its next bytes, and the rest is held
 abbrev pub Sends : {S T : Type 0} → (S → Option (List ℕ)) → S → S → Stage T → Stage T → Type 0

@@ -131,12 +131,10 @@ impl<H: Handler> Awaited<H> {
     /// Has the connection watched.
     fn wait_for(&mut self, watcher: &Watcher, way: Way, interest: Interest) {
         self.way = way;
-        let was_watched = self.is_registered;
-        self.is_registered = true;
         let Some(link) = &mut self.link else {
             return;
         };
-        if watcher.watch(link, LINE, interest, was_watched).is_err() {
+        if !watcher.watch_on(link, LINE, interest, &mut self.is_registered) {
             self.way = Way::Lost;
         }
     }

@@ -26,7 +26,7 @@ const MOST_COUNTER_PEERS: usize = 8;
 #[derive(Drop)]
 pub(crate) struct CounterPeers<H: Handler> {
     listener: Option<UnixListener>,
-    places: Places<CounterPeer<UnixStream>>,
+    pub(crate) places: Places<CounterPeer<UnixStream>>,
     /// The line that waits for a signature, if one does. Until it is told no other line is.
     awaited: Option<Awaited<H>>,
     /// Whether the listener may have one more connection.
@@ -57,11 +57,6 @@ impl<H: Handler> CounterPeers<H> {
             has_counter_peers: true,
             has_lines: false,
         })
-    }
-
-    /// How many there are.
-    pub(crate) fn taken(&self) -> usize {
-        self.places.taken()
     }
 
     /// Whether something is to be done without waiting: a line to be answered, or a counter to be accepted.
@@ -180,7 +175,13 @@ impl<H: Handler> CounterPeers<H> {
         shared: &Shared,
         interest: Interest,
     ) {
-        if watch(&mut counter_peer, place, shared, interest) {
+        let is_watched = shared.watcher.watch_on(
+            &mut counter_peer.link,
+            place.saturating_add(FIRST_COUNTER_PEER),
+            interest,
+            &mut counter_peer.is_registered,
+        );
+        if is_watched {
             self.places.put(place, counter_peer);
         } else {
             self.let_go(place, counter_peer);
@@ -215,6 +216,7 @@ impl<H: Handler> CounterPeers<H> {
     }
 
     /// Goes on with a line that waits for a signature.
+    #[tactic(auto, using(crate::proofs::Exchanges::exchanged_none))]
     fn go_on(
         &mut self,
         mut awaited: Awaited<H>,
@@ -248,6 +250,7 @@ impl<H: Handler> CounterPeers<H> {
     }
 
     /// Answers one line of each counter.
+    #[tactic(auto, using(crate::proofs::Exchanges::exchanged_none))]
     fn tell_lines(&mut self, shared: &mut Shared, handler: &mut H, now: u64) -> Result<(), HubFault>
         ensures { (made : ℕ) → Exchanged H.answers H.tells H.defers handler.old handler.new made made }
     {
@@ -265,6 +268,7 @@ impl<H: Handler> CounterPeers<H> {
     }
 
     /// Answers one line of the counter at a place, unless a line waits for a signature: this one, or one before it.
+    #[tactic(auto, using(crate::proofs::Exchanges::exchanged_none))]
     fn tell_at(
         &mut self,
         place: usize,
@@ -306,24 +310,4 @@ impl<H: Handler> CounterPeers<H> {
         self.settle(place, counter_peer, shared);
         told
     }
-}
-
-/// Has the counter at a place watched; whether it could be.
-fn watch(
-    counter_peer: &mut CounterPeer<UnixStream>,
-    place: usize,
-    shared: &Shared,
-    interest: Interest,
-) -> bool
-    ensures registered { counter_peer.new.is_registered ≡ true }
-    ensures kept { (counter_peer.new.link ≡ counter_peer.old.link) × (counter_peer.new.came ≡ counter_peer.old.came) × (counter_peer.new.unsent ≡ counter_peer.old.unsent)
-        × (counter_peer.new.has_ended ≡ counter_peer.old.has_ended) }
-{
-    let was_watched = counter_peer.is_registered;
-    counter_peer.is_registered = true;
-    let token = place.saturating_add(FIRST_COUNTER_PEER);
-    shared
-        .watcher
-        .watch(&mut counter_peer.link, token, interest, was_watched)
-        .is_ok()
 }

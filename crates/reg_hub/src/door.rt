@@ -97,7 +97,7 @@ impl Door {
         ensures { self.old.accepted ≤ most → self.new.accepted ≤ most }
     {
         self.accept_next(most, http_peers, shared)?;
-        if self.next.is_some() && !http_peers.has_room() {
+        if self.next.is_some() && !http_peers.places.has_room() {
             http_peers.make_room(shared);
             return Ok(false);
         }
@@ -156,7 +156,7 @@ impl Door {
                 self.look_again(&shared.watcher);
                 Ok(())
             }
-            _ if http_peers.taken() == 0 => Err(HubFault),
+            _ if http_peers.places.taken() == 0 => Err(HubFault),
             _ => {
                 http_peers.make_room(shared);
                 Ok(())

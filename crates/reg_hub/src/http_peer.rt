@@ -96,6 +96,11 @@ fn after_sending(sent: Sent, is_last: bool) -> After
     }
 }
 
+/// The connection on which a signature was asked for, where that has come.
+fn if_come(link: Option<Asking>, has_come: bool) -> Option<Asking> {
+    if has_come { link } else { None }
+}
+
 /// Drops what has come, for so many reads.
 fn drop_all<R: Read>(reader: &mut R, room: &mut [u8]) -> Taken
     ensures { IsDropped (R.remaining reader.old) (R.remaining reader.new) }
@@ -303,6 +308,7 @@ impl<S: Link, H: Handler> HttpPeer<S, H> {
     /// # Errors
     ///
     /// [`HubFault`], and nothing was answered.
+    #[tactic(auto, using(crate::proofs::Exchanges::exchanged_none))]
     pub fn answer(&mut self, handler: &mut H, made: &mut u64, now: u64) -> Result<bool, HubFault>
         ensures exchanged { Exchanged H.answers H.tells H.defers handler.old handler.new made.old made.new }
         ensures one { made.new ≤ made.old + 1 }
@@ -317,19 +323,28 @@ impl<S: Link, H: Handler> HttpPeer<S, H> {
             Stage::Leaving => return Ok(false),
         };
         let is_exact = self.is_exact();
-        self.until = now.saturating_add(PATIENCE);
         match given {
             Given::Whole(text) => {
-                // Where nothing is sent, there is no answer that unread bytes could cost.
-                let is_last = is_exact || text.is_empty();
-                self.stage = Stage::Answering(Unsent::new(text), is_last);
+                self.hold_answer(text, is_exact, now);
                 Ok(false)
             }
             Given::Left(ticket) => {
+                self.until = now.saturating_add(PATIENCE);
                 self.stage = Stage::Waiting(ticket, None, is_exact);
                 Ok(true)
             }
         }
+    }
+
+    /// Holds its answer, which goes out from now on, to a request that was exact or was not.
+    fn hold_answer(&mut self, text: Vec<u8>, is_exact: bool, now: u64)
+        ensures holds { HoldsAnswer self.new.stage text.items }
+        ensures kept { (self.new.link ≡ self.old.link) × (self.new.fault ≡ self.old.fault) }
+    {
+        // Where nothing is sent, there is no answer that unread bytes could cost.
+        let is_last = is_exact || text.is_empty();
+        self.stage = Stage::Answering(Unsent::new(text), is_last);
+        self.until = now.saturating_add(PATIENCE);
     }
 
     /// Asks for the signature of what is left of its answer, and waits for nothing: the connection on which it will come is watched under a
@@ -374,11 +389,8 @@ impl<S: Link, H: Handler> HttpPeer<S, H> {
     {
         match mem::replace(&mut self.stage, Stage::Leaving) {
             Stage::Waiting(ticket, link, is_exact) => {
-                let text = handler.finish(ticket, if has_come { link } else { None });
-                let is_last = is_exact || text.is_empty();
-                let unsent = Unsent::new(text);
-                self.stage = Stage::Answering(unsent, is_last);
-                self.until = now.saturating_add(PATIENCE);
+                let finished = handler.finish(ticket, if_come(link, has_come));
+                self.hold_answer(finished, is_exact, now);
             }
             Stage::Asking(collected) => self.stage = Stage::Asking(collected),
             Stage::Answering(unsent, is_last) => self.stage = Stage::Answering(unsent, is_last),

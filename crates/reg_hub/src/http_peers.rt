@@ -1,9 +1,8 @@
 //! The peers at their places.
 
-ghost use Rattle.std.specs.Prelude.{◌≡◌, ◌+◌, ◌-◌, ◌^◌, min, [], IfOk, true};
+ghost use Rattle.std.specs.Prelude.{◌≡◌, ◌+◌, ◌-◌, ◌^◌, min, [], IfOk};
 ghost use Rattle.reg_hub.specs.Notes.{Notes};
 
-use crate::due::Due;
 use crate::handler::{Handler, PeerFault};
 use crate::http_peer::{HttpPeer, Next};
 use crate::losses::Loss;
@@ -30,9 +29,9 @@ pub(crate) const SWEEP: u64 = 250;
 /// The peers, each at its place.
 #[derive(Drop)]
 pub(crate) struct HttpPeers<H: Handler> {
-    places: Places<HttpPeer<TcpStream, H>>,
+    pub(crate) places: Places<HttpPeer<TcpStream, H>>,
     /// Who is to be answered in this turn.
-    pub(crate) due: Due,
+    pub(crate) due: Vec<usize>,
     /// How many bytes of their answers are not sent yet.
     unsent: usize,
     /// When their times were looked at last.
@@ -42,9 +41,9 @@ pub(crate) struct HttpPeers<H: Handler> {
 impl<H: Handler> HttpPeers<H> {
     /// So many places, and nobody there yet.
     pub(crate) fn new(alloc: Global, count: usize) -> Result<HttpPeers<H>, AllocError>
-        ensures { IfOk result (λ http_peers. http_peers.due.places.items ≡ []) }
+        ensures { IfOk result (λ http_peers. http_peers.due.items ≡ []) }
     {
-        let due = Due::new(alloc, count)?;
+        let due = Vec::with_capacity(alloc, count)?;
         let places = Places::new(alloc, count)?;
         Ok(HttpPeers {
             places,
@@ -52,21 +51,6 @@ impl<H: Handler> HttpPeers<H> {
             unsent: 0,
             swept: 0,
         })
-    }
-
-    /// How many there are.
-    pub(crate) fn taken(&self) -> usize {
-        self.places.taken()
-    }
-
-    /// Whether there is a place for one more.
-    pub(crate) fn has_room(&self) -> bool {
-        self.places.has_room()
-    }
-
-    /// Lifts the peer at a place out of it.
-    pub(crate) fn lift(&mut self, place: usize) -> Option<HttpPeer<TcpStream, H>> {
-        self.places.lift(place)
     }
 
     /// Counts the bytes of an answer that are not sent yet: so many before, and so many now.
@@ -100,11 +84,6 @@ impl<H: Handler> HttpPeers<H> {
         }
     }
 
-    /// Puts back a peer that was lifted out of a place, and waits for its answer.
-    pub(crate) fn put_back(&mut self, place: usize, http_peer: HttpPeer<TcpStream, H>) {
-        self.places.put(place, http_peer);
-    }
-
     /// Goes on with a peer that was lifted out of a place, and puts it back unless it is to be let go.
     pub(crate) fn settle(
         &mut self,
@@ -126,10 +105,14 @@ impl<H: Handler> HttpPeers<H> {
 
     /// Puts back a peer that is to be answered.
     fn put_due(&mut self, place: usize, http_peer: HttpPeer<TcpStream, H>)
-        ensures { Notes place self.old.due.places.items self.new.due.places.items }
+        ensures { Notes place self.old.due.items self.new.due.items }
     {
         self.places.put(place, http_peer);
-        self.due.add(place);
+        match self.due.push(place) {
+            Ok(()) => {}
+            // Where there is no memory for it, the end of its time comes again.
+            Err(_) => {}
+        }
     }
 
     /// Has a peer watched.
@@ -140,7 +123,13 @@ impl<H: Handler> HttpPeers<H> {
         shared: &mut Shared,
         interest: Interest,
     ) {
-        if watch(&mut http_peer, place, shared, interest) {
+        let is_watched = shared.watcher.watch_on(
+            &mut http_peer.link,
+            place.saturating_add(FIRST_HTTP_PEER),
+            interest,
+            &mut http_peer.is_registered,
+        );
+        if is_watched {
             self.places.put(place, http_peer);
         } else {
             self.let_go(place, http_peer, shared, PeerFault::Broken);
@@ -166,25 +155,6 @@ impl<H: Handler> HttpPeers<H> {
         drop(http_peer);
         self.places.free(place);
     }
-}
-
-/// Has the peer at a place watched; whether it could be.
-fn watch<H: Handler>(
-    http_peer: &mut HttpPeer<TcpStream, H>,
-    place: usize,
-    shared: &Shared,
-    interest: Interest,
-) -> bool
-    ensures registered { http_peer.new.is_registered ≡ true }
-    ensures kept { (http_peer.new.link ≡ http_peer.old.link) × (http_peer.new.stage ≡ http_peer.old.stage) × (http_peer.new.fault ≡ http_peer.old.fault) }
-{
-    let was_watched = http_peer.is_registered;
-    http_peer.is_registered = true;
-    let token = place.saturating_add(FIRST_HTTP_PEER);
-    shared
-        .watcher
-        .watch(&mut http_peer.link, token, interest, was_watched)
-        .is_ok()
 }
 
 /// Who is let go.
@@ -289,10 +259,10 @@ impl<H: Handler> HttpPeers<H> {
 
     /// Lets those go that are due.
     pub(crate) fn leave_due(&mut self, shared: &mut Shared)
-        ensures { self.new.due.places.items ≡ [] }
+        ensures { self.new.due.items ≡ [] }
     {
-        for index in 0..self.due.count() {
-            if let Some(place) = self.due.at(index) {
+        for index in 0..self.due.len() {
+            if let Some(place) = self.due.get(index).copied() {
                 self.leave(place, shared);
             }
         }

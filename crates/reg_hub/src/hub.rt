@@ -94,14 +94,14 @@ impl<H: Handler> Hub<H> {
 
     /// How many peers there are.
     pub fn http_peers(&self) -> usize {
-        self.http_peers.taken()
+        self.http_peers.places.taken()
     }
 
     /// How many connections there are.
     fn crowd(&self) -> Crowd {
         Crowd {
-            peers: self.http_peers.taken(),
-            counters: self.counter_peers.taken(),
+            peers: self.http_peers.places.taken(),
+            counters: self.counter_peers.places.taken(),
             accepted: self.door.accepted,
         }
     }
@@ -143,6 +143,7 @@ impl<H: Handler> Hub<H> {
     /// # Errors
     ///
     /// [`HubFault`], where the handler or the sockets are.
+    #[tactic(auto, using(crate::proofs::Exchanges::exchanged_none))]
     pub fn turn<C: Clock>(
         &mut self,
         clock: &C,
@@ -176,7 +177,7 @@ impl<H: Handler> Hub<H> {
         self.http_peers.leave_all(&mut self.shared);
         for _ in 0..u64::MAX {
             self.shared.losses.tell(handler);
-            if self.http_peers.taken() == 0 {
+            if self.http_peers.places.taken() == 0 {
                 return Ok(());
             }
             let now = self.look(clock, most, Duration::MAX)?;
@@ -216,7 +217,7 @@ impl<H: Handler> Hub<H> {
         if let Some(millis) = for_signatures {
             return Duration::from_millis(millis);
         }
-        if self.http_peers.taken() == 0 {
+        if self.http_peers.places.taken() == 0 {
             return Duration::from_secs(3_600);
         }
         Duration::from_millis(SWEEP)
@@ -272,7 +273,7 @@ impl<H: Handler> Hub<H> {
         ensures exchanged { Exchanged H.answers H.tells H.defers handler.old handler.new made.old made.new }
         ensures within { made.new ≤ most }
     {
-        for index in 0..self.http_peers.due.count() {
+        for index in 0..self.http_peers.due.len() {
             if *made == most {
                 return Ok(());
             }
@@ -286,6 +287,7 @@ impl<H: Handler> Hub<H> {
     }
 
     /// Answers one of those that are due.
+    #[tactic(auto, using(crate::proofs::Exchanges::exchanged_none))]
     fn answer_due(
         &mut self,
         index: usize,
@@ -296,13 +298,14 @@ impl<H: Handler> Hub<H> {
         ensures exchanged { Exchanged H.answers H.tells H.defers handler.old handler.new made.old made.new }
         ensures one { made.new ≤ made.old + 1 }
     {
-        match self.http_peers.due.at(index) {
+        match self.http_peers.due.get(index).copied() {
             Some(place) => self.answer_at(place, handler, made, now),
             None => Ok(()),
         }
     }
 
     /// Answers the peer at a place, if it asks, and sends on its answer. What is left to be signed of it waits for its turn.
+    #[tactic(auto, using(crate::proofs::Exchanges::exchanged_none))]
     fn answer_at(
         &mut self,
         place: usize,
@@ -313,7 +316,7 @@ impl<H: Handler> Hub<H> {
         ensures exchanged { Exchanged H.answers H.tells H.defers handler.old handler.new made.old made.new }
         ensures one { made.new ≤ made.old + 1 }
     {
-        let Some(mut http_peer) = self.http_peers.lift(place) else {
+        let Some(mut http_peer) = self.http_peers.places.lift(place) else {
             return Ok(());
         };
         let before = http_peer.unsent();
@@ -355,7 +358,7 @@ impl<H: Handler> Hub<H> {
     fn leave(&mut self, place: usize, http_peer: HttpPeer<TcpStream, H>, handler: &H, now: u64) {
         let number = http_peer.number;
         let asker = Asker { place, number };
-        self.http_peers.put_back(place, http_peer);
+        self.http_peers.places.put(place, http_peer);
         // Where there is no memory for it, nothing signs.
         if !self.signings.add(asker, now) {
             self.finish_one(asker, false, handler, now);

@@ -40,8 +40,11 @@ impl Losses {
     pub(crate) fn note(&mut self, loss: Loss)
         ensures { Notes loss self.old.untold.items self.new.untold.items }
     {
-        // Where there is no memory for it, it is not told.
-        let _ = self.untold.push(loss);
+        match self.untold.push(loss) {
+            Ok(()) => {}
+            // Where there is no memory for it, it is not told.
+            Err(_) => {}
+        }
     }
 
     /// Tells the handler of each.

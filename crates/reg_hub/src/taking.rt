@@ -12,7 +12,7 @@ const MOST_READS: usize = 32;
 
 /// Where a taking in came to rest.
 #[derive(Clone, Copy, Debug, PartialEq, Eq)]
-pub enum Taken {
+pub(crate) enum Taken {
     /// The bytes begin with a whole request.
     Whole,
     /// Nothing more has come yet.
@@ -28,7 +28,7 @@ pub enum Taken {
 }
 
 /// Takes in what has come, until it is a whole request, or for so many reads.
-pub fn take_in<R: Read>(reader: &mut R, collected: &mut Collected, room: &mut [u8]) -> Taken
+pub(crate) fn take_in<R: Read>(reader: &mut R, collected: &mut Collected, room: &mut [u8]) -> Taken
     ensures took { TakesIn (R.remaining reader.old) (R.remaining reader.new) (collected_bytes collected.old) (collected_bytes collected.new) result }
     ensures whole { IsWholeAt (collected_bytes collected.new) result }
 {

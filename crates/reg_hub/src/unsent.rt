@@ -12,7 +12,7 @@ const MOST_WRITES: usize = 4;
 
 /// Where a sending came to rest.
 #[derive(Clone, Copy, Debug, PartialEq, Eq)]
-pub enum Sent {
+pub(crate) enum Sent {
     /// All of the text was taken.
     All,
     /// The peer takes no more yet.
@@ -25,7 +25,7 @@ pub enum Sent {
 
 /// A text of which a front was sent.
 #[derive(Drop)]
-pub struct Unsent {
+pub(crate) struct Unsent {
     pub(crate) text: Vec<u8>,
     pub(crate) sent: usize,
     ghost within: { sent ≤ length text.items },
@@ -37,7 +37,7 @@ impl Unsent {
     ghost use Rattle.reg_hub.specs.Unsent.{unsent_of};
 
     /// The whole of a text.
-    pub fn new(text: Vec<u8>) -> Unsent
+    pub(crate) fn new(text: Vec<u8>) -> Unsent
         ensures { unsent_of result ≡ text.items }
     {
         Unsent { text, sent: 0 }
@@ -52,14 +52,14 @@ impl Unsent {
     }
 
     /// How many bytes are left.
-    pub fn len(&self) -> usize
+    pub(crate) fn len(&self) -> usize
         ensures { result ≡ length (unsent_of self.now) }
     {
         self.text.len() - self.sent
     }
 
     /// Sends what is left, as far as the writer takes it, or for so many writes.
-    pub fn send_on<W: Write>(&mut self, writer: &mut W) -> Sent
+    pub(crate) fn send_on<W: Write>(&mut self, writer: &mut W) -> Sent
         ensures { SendsOn (W.contents writer.old) (W.contents writer.new) (unsent_of self.old) (unsent_of self.new) result }
     {
         for _ in 0..MOST_WRITES {

@@ -1,6 +1,6 @@
 //! What tells which connections are ready.
 
-ghost use Rattle.std.specs.Prelude.{◌≡◌, [], IfOk, slice_get, vec_len};
+ghost use Rattle.std.specs.Prelude.{◌≡◌, [], IfOk, slice_get, true, vec_len};
 
 use crate::handler::HubFault;
 use mio::event::Source;
@@ -77,6 +77,22 @@ impl Watcher {
         } else {
             registry.register(source, Token(token), interest)
         }
+    }
+
+    /// Has a connection watched as above, where it is noted whether it was; whether it could be.
+    pub(crate) fn watch_on<S: Source>(
+        &self,
+        source: &mut S,
+        token: usize,
+        interest: Interest,
+        is_registered: &mut bool,
+    ) -> bool
+        ensures kept { S.keeps source.old source.new }
+        ensures registered { is_registered.new ≡ true }
+    {
+        let was_watched = *is_registered;
+        *is_registered = true;
+        self.watch(source, token, interest, was_watched).is_ok()
     }
 
     /// Waits until something is ready, no longer than this.

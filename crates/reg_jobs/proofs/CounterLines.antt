@@ -1,5 +1,5 @@
 -- What a line of a counter comes to over an office that keeps records, by what it says.
-use Rattle.std.proofs.Common.{◌≡◌, ◌⊎◌, ℕ, List, [], Err, inl, inr, refl, sym, subst}
+use Rattle.std.proofs.Common.{◌≡◌, ℕ, List, [], Err, inl, inr, subst}
 use Rattle.reg_core.specs.Records.{Records}
 use Rattle.reg_core.specs.declared.refusal.Fault.TheVariants as fault
 use Rattle.reg_calls.specs.Leads.{Leads}
@@ -8,10 +8,9 @@ use Rattle.reg_calls.specs.CallSteps.{Signs}
 use Rattle.reg_faces.proofs.ComposedCalls.{follows, stays}
 use Rattle.reg_jobs.specs.Copies.{TellsCopy}
 use Rattle.reg_jobs.specs.CounterWords.{TellsWord, WordAt, word_in}
-use Rattle.reg_jobs.specs.Exchanges.{EntryAt, Replied}
-use Rattle.reg_jobs.specs.Schedules.{SetAt}
+use Rattle.reg_jobs.specs.Exchanges.{Replied}
 use Rattle.reg_jobs.specs.declared.words.CounterWord.{CounterWord}
-use Rattle.reg_jobs.specs.declared.words.CounterWord.TheVariants.{Why, Copy, Schedule, Line}
+use Rattle.reg_jobs.specs.declared.words.CounterWord.TheVariants.{Copy}
 
 module _ {S : Type 0} (is_clean : S → Type 0) (stands : Signatory → S → Records → Type 0) (signs : Signs) (now : ℕ) (s t : S) (line text : List ℕ) where
   -- the records that stand before a line and after it
@@ -19,8 +18,8 @@ module _ {S : Type 0} (is_clean : S → Type 0) (stands : Signatory → S → Re
   Tells = Leads is_clean stands (λ identity before after. WordAt signs now identity before line text after) s t
 
   -- what is told of a word that was read
-  tells_as : (word : CounterWord) → word ≡ word_in line → Leads is_clean stands (λ identity before after. TellsWord signs now identity before line word text after) s t
-      → Tells
+  pub tells_as : (word : CounterWord) → word ≡ word_in line
+      → Leads is_clean stands (λ identity before after. TellsWord signs now identity before line word text after) s t → Tells
   tells_as word is moved =
       follows is_clean stands
       (λ identity before after. TellsWord signs now identity before line word text after)
@@ -30,12 +29,9 @@ module _ {S : Type 0} (is_clean : S → Type 0) (stands : Signatory → S → Re
       t
       moved
 
-  pub why_told : (word : CounterWord) → word ≡ Why → word ≡ word_in line → t ≡ s → Tells
-  why_told word why is same = tells_as Why (subst (λ w. w ≡ word_in line) why is) (stays is_clean stands s t same)
-
-  pub copied : (word : CounterWord) → word ≡ Copy → word ≡ word_in line → t ≡ s → TellsCopy (λ bytes. Unit {0}) text → Tells
-  copied word copy is same told =
-      tells_as Copy (subst (λ w. w ≡ word_in line) copy is)
+  pub copied : Copy ≡ word_in line → t ≡ s → TellsCopy (λ bytes. Unit {0}) text → Tells
+  copied is same told =
+      tells_as Copy is
       (follows is_clean stands
       (λ identity before after. after ≡ before)
       (λ identity before after. TellsCopy (λ bytes. Unit {0}) text × (after ≡ before))
@@ -43,14 +39,6 @@ module _ {S : Type 0} (is_clean : S → Type 0) (stands : Signatory → S → Re
       s
       t
       (stays is_clean stands s t same))
-
-  pub rescheduled : (word : CounterWord) (steps : List (ℕ × ℕ)) → word ≡ Schedule steps → word ≡ word_in line
-      → Leads is_clean stands (λ identity before after. SetAt steps before text after) s t → Tells
-  rescheduled word steps schedule is moved = tells_as (Schedule steps) (subst (λ w. w ≡ word_in line) schedule is) moved
-
-  pub entered : (word : CounterWord) → word ≡ Line → word ≡ word_in line
-      → Leads is_clean stands (λ identity before after. EntryAt signs now identity before line text after) s t → Tells
-  entered word other is moved = tells_as Line (subst (λ w. w ≡ word_in line) other is) moved
 
   -- there was no memory to read it
   pub unread : t ≡ s → Replied (Err fault.Memory) [] text → Tells

@@ -22,11 +22,8 @@ opened fault why is other =
     subst P (sym is) (go fault other)
   where
     go : (f : StoreFault) → f ≢ stored.NotEmpty → IsOpening (store_failure f)
-    go stored.Memory not = tt
-    go stored.Store not = tt
     go stored.NotEmpty not = absurd (not refl)
-    go stored.NotARegister not = tt
-    go stored.NewVersion not = tt
+    go other not = tt
 
 -- a register that can't be made
 pub unmade : (fault : StoreFault) (why : Failure) → why ≡ store_failure fault → (fault ≡ stored.NotEmpty) ⊎ IsDatabaseFault fault → IsMaking why

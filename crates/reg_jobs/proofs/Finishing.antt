@@ -1,6 +1,6 @@
 -- An answer that was left to be signed, once it is finished: an exchange over the records of where it was begun.
-use Rattle.std.proofs.Common.{◌≡◌, ◌≢◌, ℕ, List, [], Global, Vec, ap, inl, inr, refl, sym, subst, ◌∙◌}
-use Rattle.std.specs.Prelude.{Option, Some, None, Result, Ok, Err, IfErr, IfOk, IfSome, OnOk, Bool, true, false, not, is_none, is_some, option_map}
+use Rattle.std.proofs.Common.{◌≡◌, ◌≢◌, ℕ, List, [], Global, Vec, ap, inl, refl, sym, subst, ◌∙◌}
+use Rattle.std.specs.Prelude.{Option, Some, None, Result, Ok, Err, IfErr, IfOk, OnOk, Bool, true, false, not, is_none, is_some, option_map}
 use Rattle.reg_core.specs.Records.{Records}
 use Rattle.reg_core.specs.declared.memory.Memory.{Memory as NoMemory}
 use Rattle.reg_core.specs.declared.refusal.Fault.{Fault}
@@ -95,10 +95,7 @@ module _ (signs : Signs) (gave : List ℕ → List ℕ → Type 0)
       wrote = wrote;
     }
     ends_of came left written draft given (Err fault.Memory) it stated ended = (it.took, it.takes)
-    ends_of came left written draft given (Err fault.Read) it stated ended = absurd ended
-    ends_of came left written draft given (Err fault.Store) it stated ended = absurd ended
-    ends_of came left written draft given (Err fault.Signer) it stated ended = absurd ended
-    ends_of came left written draft given (Err (fault.Refused why)) it stated ended = absurd ended
+    ends_of came left written draft given (Err other) it stated ended = absurd ended
 
     silent_of : (result : Result (Unit {0}) Fault) → after ≡ before → IfErr result (λ why. why ≢ fault.Write → after ≡ before)
     silent_of (Ok done) same = tt
@@ -160,11 +157,6 @@ asked_at told path Was Is (Err error) same was is = tt
 
 -- What was given at the path that was told, was given.
 module _ (gave : List ℕ → List ℕ → List ℕ → Type 0) (told : Option (List ℕ)) where
-  pub given_somewhere : (message : List ℕ) (answer : Option (Vec ℕ Global)) → IfSome answer (λ it. GaveAt gave told message it.items)
-      → IfSome answer (λ it. WasGiven gave message it.items)
-  given_somewhere message (Some it) given = (given.0, given.2)
-  given_somewhere message None given = given
-
   signed_somewhere : (draft : Drafted) (signature : Option (List ℕ)) → IsSignatureOf (GaveAt gave told) draft signature
       → IsSignatureOf (WasGiven gave) draft signature
   signed_somewhere draft (Some signature) (given, form) = ((given.0, given.2), form)

@@ -8,7 +8,6 @@ pub mod Looks
 pub mod NextLines
 pub mod PageByPage
 pub mod Peers
-pub mod Pieces
 pub mod Setting
 pub mod StepWords
 pub mod Talking

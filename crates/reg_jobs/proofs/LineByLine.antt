@@ -1,29 +1,27 @@
 -- A script that is run line by line.
-use Rattle.std.proofs.Common.{◌≡◌, ◌≢◌, ℕ, ◌+◌, ◌-◌, ◌<◌, ◌≤◌, Bool, true, false, List, [], ◌∷◌, ◌++◌, length, take, drop, IsFalse, IsTrue, Option, Result, Ok, Err, refl, sym, ap, ◌∙◌, subst, arith, inl, inr, length-append, length-take, length-drop, append-nil, append_assoc}
+use Rattle.std.proofs.Common.{◌≡◌, ◌≢◌, ℕ, ◌+◌, ◌-◌, ◌<◌, ◌≤◌, Bool, List, [], ◌∷◌, ◌++◌, length, take, drop, IsFalse, IsTrue, Option, Result, Ok, Err, refl, sym, ap, ◌∙◌, subst, arith, inl, inr, length-append, length-take, length-drop, append-nil, append_assoc}
 use Rattle.std.specs.Io.KnownBytes.{Appends, Consumes}
 use Rattle.std.specs.List.{AllByRecursion, concat}
-use Rattle.std.proofs.lemmas.Bool.{false≢true}
 use Rattle.std.proofs.KnownBytes.{Appends-nil, Appends-trans, Consumes-nil, Consumes-trans}
 use Rattle.reg_core.specs.Records.{Records}
 use Rattle.reg_core.specs.declared.refusal.Fault.TheVariants as fault
 use Rattle.reg_calls.specs.Signatories.{Signatory}
 use Rattle.reg_calls.specs.CallSteps.{Signs}
 use Rattle.reg_calls.specs.Leads.{Leads}
+use Rattle.reg_faces.proofs.ComposedCalls.{runs}
 use Rattle.reg_endings.specs.declared.failure.Failure.{Failure}
 use Rattle.reg_endings.specs.declared.failure.Failure.TheVariants as failure
 use Rattle.reg_lines.specs.Accepted.{IsAccepted}
 use Rattle.reg_lines.proofs.Pieces.{turned, concat_push}
 use Rattle.reg_lines.proofs.StepLemmas.{whole_at}
-use Rattle.reg_jobs.proofs.Pieces.{whole_push}
-use Rattle.reg_jobs.proofs.Talking.{all_push}
+use Rattle.reg_jobs.proofs.Talking.{all_push, whole_push}
 use Rattle.reg_jobs.specs.Asking.{AreWhole, IsCut, IsOfTalk}
-use Rattle.reg_jobs.specs.Exchanges.{Entry, LineRuns}
-use Rattle.reg_jobs.specs.Lined.{AreLines, EndsOrNot, IsLine, LastEnds, LineBy, LinesEnd, TellEnds, TellsLast, TellsNot, TellsWhole}
+use Rattle.reg_jobs.specs.Lined.{AreLines, EndsOrNot, IsLine, LastEnds, LineBy, LinesEnd, TellEnds, TellsBy, TellsLast, TellsNot, TellsWhole}
 use Rattle.reg_wire.proofs.PublicLaws.{answered_push, cut_at_mark, front_of_second, held_now, no_byte}
-use Rattle.reg_wire.specs.Fill.{FillsShort, FillsTo}
+use Rattle.reg_wire.specs.Fill.{FillsTo}
 use Rattle.reg_wire.specs.Put.{AppendsFront}
 use Rattle.reg_wire.specs.RunsOfAnswers.{Answered}
-use Rattle.reg_wire.specs.declared.fill.Reached.TheVariants.{Mark, Full, End}
+use Rattle.reg_wire.specs.declared.fill.Reached.TheVariants.{Mark, End}
 
 -- ---- lines
 
@@ -102,15 +100,6 @@ module _ {H : Type 0} (tells : H → List ℕ → List ℕ → H → Type 0) (is
   last_told s t out out' line (Ok done) lax told = (lax, told)
   last_told s t out out' line (Err why) lax told = inr (lax, told)
 
-  pub tells_none : (s : H) (input left out : Option (List ℕ)) (before after : List ℕ) (held : ℕ)
-      → FillsTo (10 ∷ []) input left before after held (End 0) → TellsLast tells is_strict s s out out input left (take held before)
-  tells_none s input left out before after held to = record {
-    took = to.took;
-    consumed = to.fills.consumed;
-    at_end = to.rests.2;
-    told = inl (sym (held_now (10 ∷ []) input left before after held (End 0) to), refl, refl);
-  }
-
   last_some : (after : List ℕ) (now : ℕ) → now < length after → now ≢ 0 → 0 < length (take now after)
   last_some after now room some = omega (arith, length-take now after)
 
@@ -156,15 +145,10 @@ module _ {H : Type 0} (tells : H → List ℕ → List ℕ → H → Type 0) (is
         ];
       }
 
-  pub reads_full : (s : H) (input left out : Option (List ℕ)) (before after : List ℕ) (held : ℕ)
-      → FillsTo (10 ∷ []) input left before after held Full → TellsNot tells is_strict s s out out input left (take held before) (failure.Fault fault.Read)
-  reads_full s input left out before after held to =
-      record { took = to.took; consumed = to.fills.consumed; failed = inl (inl refl, refl, refl) }
-
-  pub reads_short : (s : H) (input left out : Option (List ℕ)) (before after : List ℕ) (held : ℕ)
-      → FillsShort (10 ∷ []) input left before after held → TellsNot tells is_strict s s out out input left (take held before) (failure.Fault fault.Read)
-  reads_short s input left out before after held to =
-      record { took = to.took; consumed = to.fills.consumed; failed = inl (inl refl, refl, refl) }
+  -- a reading that fails
+  pub reads_not : (s : H) (input left out : Option (List ℕ)) (held took : List ℕ) → Consumes input left took
+      → TellsNot tells is_strict s s out out input left held (failure.Fault fault.Read)
+  reads_not s input left out held took consumed = record { took = took; consumed = consumed; failed = inl (inl refl, refl, refl) }
 
   -- ---- one line after the other
 
@@ -342,18 +326,21 @@ module _ {H : Type 0} (tells : H → List ℕ → List ℕ → H → Type 0) (is
   going_checked s t input between left out out' held (Err why) g none (is, took, consumed) =
       stopped s t t input between left out out' out' held took why g consumed (inl is) refl refl
 
--- ---- lines at the moment of the clock, or at their own
+-- ---- over an office that keeps records
 
-module _ {S : Type 0} (is_clean : S → Type 0) (stands : Signatory → S → Records → Type 0) (signs : Signs) (told : ℕ → Type 0) (s t : S)
-    (lines replies : List (List ℕ)) where
-  -- a run of lines, each by this
-  abbrev pub Runs : (Signatory → Records → List ℕ → List ℕ → Records → Type 0) → Type 0
-  Runs line = Leads is_clean stands (λ identity before after. Answered (line identity) before lines replies after) s t
-
-  pub clocked : (is_clocked : Bool) → is_clocked ≡ true → Runs (Entry signs told) → Runs (LineBy is_clocked signs told)
-  clocked true is moved = moved
-  clocked false is moved = absurd (false≢true is)
-
-  pub unclocked : (is_clocked : Bool) → is_clocked ≡ false → Runs (LineRuns signs) → Runs (LineBy is_clocked signs told)
-  unclocked true is moved = absurd (false≢true (sym is))
-  unclocked false is moved = moved
+-- lines that it was told, one after the other; it stands in something else
+pub lines_run : {S V : Type 0} (is_clean : S → Type 0) (stands : Signatory → S → Records → Type 0) (is_clocked : Bool) (signs : Signs)
+    (told : ℕ → Type 0) (s t : V) (lines replies : List (List ℕ)) (office : V → S)
+    → Answered (TellsBy (λ v. is_clean (office v)) (λ identity v records. stands identity (office v) records) is_clocked signs told) s lines replies t
+    → Leads is_clean stands (λ identity before after. Answered (LineBy is_clocked signs told identity) before lines replies after) (office s) (office t)
+unfolding TellsBy
+lines_run is_clean stands is_clocked signs told s t lines replies office run =
+    runs (λ v. is_clean (office v)) (λ identity v records. stands identity (office v) records)
+    (TellsBy (λ v. is_clean (office v)) (λ identity v records. stands identity (office v) records) is_clocked signs told)
+    (LineBy is_clocked signs told)
+    (λ s line text t moved. moved)
+    s
+    t
+    lines
+    replies
+    run

@@ -1,5 +1,5 @@
 -- Requests for lists over an office that keeps records.
-use Rattle.std.proofs.Common.{◌≡◌, ◌⊎◌, ℕ, Bool, true, false, List, [], ◌∷◌, Option, None, Some, Result, Ok, Err, inl, inr, refl, sym, ap, subst, ◌∙◌}
+use Rattle.std.proofs.Common.{◌≡◌, ◌⊎◌, ℕ, Bool, true, false, List, [], Some, Result, Ok, Err, inl, inr, refl, sym, ap, subst}
 use Rattle.std.specs.Prelude.{MatchBool}
 use Rattle.std.specs.Io.KnownBytes.{Consumes}
 use Rattle.reg_core.specs.Records.{Records}
@@ -12,10 +12,9 @@ use Rattle.reg_faces.proofs.ComposedCalls.{follows, stays}
 use Rattle.reg_heads.specs.Frame.{Framed, Part}
 use Rattle.reg_heads.specs.Response.{IsText, Response}
 use Rattle.reg_hub.specs.Exchange.{Outcome, said}
-use Rattle.reg_http.specs.Lists.{asks_list, given_told, list_asked, no_page_response}
+use Rattle.reg_http.specs.Lists.{asks_list, given_told, list_asked}
 use Rattle.reg_http.specs.declared.lists.ListAsked.{ListAsked}
-use Rattle.reg_http.specs.declared.lists.ListAsked.TheVariants.{Nothing, Page as APage}
-use Rattle.reg_http.specs.declared.lists.NoPage.{NoPage}
+use Rattle.reg_http.specs.declared.lists.ListAsked.TheVariants.{Page as APage}
 use Rattle.reg_lists.specs.Pages.{Pages}
 use Rattle.reg_lists.specs.declared.cursor.Cursor.{Cursor}
 use Rattle.reg_lists.specs.declared.rows.Page.{Page}
@@ -34,13 +33,6 @@ untold records now asked written why (inr is) = subst (λ it. SaysList records n
 
 -- What stands in an office before and after, and the moment.
 module _ {S : Type 0} (is_clean : S → Type 0) (stands : Signatory → S → Records → Type 0) (now : ℕ) where
-  -- what is said of no page
-  pub nothing_told : (s t : S) (why : NoPage) (response : Response) (written : List ℕ) → t ≡ s → response ≡ no_page_response why → IsText response now written
-      → Leads is_clean stands (λ identity before after. SaysList before now (Nothing why) written (Ok tt) × (after ≡ before)) s t
-  nothing_told s t why response written same is text =
-      follows is_clean stands (λ identity before after. after ≡ before) (λ identity before after. SaysList before now (Nothing why) written (Ok tt) × (after ≡ before))
-      (λ identity before after stayed. ((response, is, text), stayed)) s t (stays is_clean stands s t same)
-
   -- a page, or why there is none
   pub page_told : (s t : S) (from : Cursor) (most : ℕ) (given : Result Page Fault) (response : Response) (written : List ℕ)
       → Leads is_clean stands (λ identity before after. Pages before now most from given after) s t → response ≡ given_told from given → IsText response now written
@@ -48,20 +40,6 @@ module _ {S : Type 0} (is_clean : S → Type 0) (stands : Signatory → S → Re
   page_told s t from most given response written moved is text =
       follows is_clean stands (λ identity before after. Pages before now most from given after) (λ identity before after. SaysList before now (APage from most) written (Ok tt) × (after ≡ before))
       (λ identity before after paged. ((response, (given, paged.0.1, is), text), paged.1)) s t moved
-
-  -- an office that was not asked, or was asked for a page, and nothing that could be told of it
-  pub none_told : (s t : S) (asked : ListAsked) (written : List ℕ) (why : Fault) → t ≡ s → IsUntold why
-      → Leads is_clean stands (λ identity before after. SaysList before now asked written (Err why) × (after ≡ before)) s t
-  none_told s t asked written why same is =
-      follows is_clean stands (λ identity before after. after ≡ before) (λ identity before after. SaysList before now asked written (Err why) × (after ≡ before))
-      (λ identity before after stayed. (untold before now asked written why is, stayed)) s t (stays is_clean stands s t same)
-
-  pub page_untold : (s t : S) (from : Cursor) (most : ℕ) (given : Result Page Fault) (asked : ListAsked) (written : List ℕ) (why : Fault)
-      → Leads is_clean stands (λ identity before after. Pages before now most from given after) s t → IsUntold why
-      → Leads is_clean stands (λ identity before after. SaysList before now asked written (Err why) × (after ≡ before)) s t
-  page_untold s t from most given asked written why moved is =
-      follows is_clean stands (λ identity before after. Pages before now most from given after) (λ identity before after. SaysList before now asked written (Err why) × (after ≡ before))
-      (λ identity before after paged. (untold before now asked written why is, paged.1)) s t moved
 
   -- a whole request, and what was said to it
   pub asked_ends : (s t : S) (request written took left : List ℕ) (part : Part) (asked : ListAsked) (result : Result (Unit {0}) Fault)
@@ -96,24 +74,19 @@ module _ {S : Type 0} (is_clean : S → Type 0) (stands : Signatory → S → Re
       (λ identity before after ended. record { written = written; result = result; ends = ended; responded = responded }) s t moved
 
   module _ (signs : Signs) (request : List ℕ) where
-    -- what a request of an open desk comes to: of one for a list
-    of_list : (identity : Signatory) (before : Records) (text : List ℕ) (after : Records) → asks_list request ≡ true → ListedAt now before request text after
+    -- what a request of an open desk comes to, by whether it asks for a list
+    comes : (identity : Signatory) (before : Records) (text : List ℕ) (after : Records) (asks : Bool) → asks_list request ≡ asks
+        → MatchBool asks (ListedAt now before request text after) (ExchangeAt signs now identity before request text after)
         → OpenExchangeAt signs now identity before request text after
-    of_list identity before text after asks listed =
-        subst (λ b. MatchBool b (ListedAt now before request text after) (ExchangeAt signs now identity before request text after)) (sym asks) listed
-
-    -- and of any other
-    of_other : (identity : Signatory) (before : Records) (text : List ℕ) (after : Records) → asks_list request ≡ false
-        → ExchangeAt signs now identity before request text after → OpenExchangeAt signs now identity before request text after
-    of_other identity before text after asks exchanged =
-        subst (λ b. MatchBool b (ListedAt now before request text after) (ExchangeAt signs now identity before request text after)) (sym asks) exchanged
+    comes identity before text after asks is came =
+        subst (λ b. MatchBool b (ListedAt now before request text after) (ExchangeAt signs now identity before request text after)) (sym is) came
 
     -- the answer of an open desk: to a request for a list
     pub as_list : (s t : S) (text : List ℕ) → asks_list request ≡ true → Leads is_clean stands (λ identity before after. ListedAt now before request text after) s t
         → Leads is_clean stands (λ identity before after. OpenExchangeAt signs now identity before request text after) s t
     as_list s t text asks moved =
         follows is_clean stands (λ identity before after. ListedAt now before request text after) (λ identity before after. OpenExchangeAt signs now identity before request text after)
-        (λ identity before after listed. of_list identity before text after asks listed) s t moved
+        (λ identity before after listed. comes identity before text after true asks listed) s t moved
 
     -- and to any other, which may be left to be signed
     pub as_other : {T : Type 0} (s t : S) (finishes : T → List ℕ → Type 0) (outcome : Outcome T) → asks_list request ≡ false
@@ -123,7 +96,7 @@ module _ {S : Type 0} (is_clean : S → Type 0) (stands : Signatory → S → Re
         weaker_moves is_clean stands s t finishes
         (λ identity before after text. ExchangeAt signs now identity before request text after)
         (λ identity before after text. OpenExchangeAt signs now identity before request text after)
-        (λ identity before after text exchanged. of_other identity before text after asks exchanged)
+        (λ identity before after text exchanged. comes identity before text after false asks exchanged)
         outcome
         moved
 

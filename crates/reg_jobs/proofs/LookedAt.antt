@@ -1,5 +1,5 @@
 -- A line that is looked at, and then told, over an office that keeps records.
-use Rattle.std.proofs.Common.{◌≡◌, ℕ, List, refl, subst}
+use Rattle.std.proofs.Common.{◌≡◌, ℕ, List, subst}
 use Rattle.std.specs.Prelude.{Result, Ok, Err}
 use Rattle.reg_core.specs.Records.{Records}
 use Rattle.reg_core.specs.declared.memory.Memory.{Memory as NoMemory}

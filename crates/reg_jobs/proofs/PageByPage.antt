@@ -1,16 +1,14 @@
 -- A list that is given page by page.
-use Rattle.std.proofs.Common.{◌≡◌, ℕ, suc, List, [], ◌∷◌, ◌++◌, append_assoc, append-nil, Option, None, Some, Result, Ok, Err, refl, sym, ap, subst, ◌∙◌}
+use Rattle.std.proofs.Common.{◌≡◌, ℕ, suc, List, [], ◌∷◌, ◌++◌, append_assoc, append-nil, Option, None, Some, Ok, refl, sym, ap, subst, ◌∙◌}
 use Rattle.std.specs.List.{flat_map}
 use Rattle.reg_core.specs.Checks.{clock_checks, first_of_all}
 use Rattle.reg_core.specs.Records.{Records}
-use Rattle.reg_core.specs.declared.refusal.Fault.{Fault}
-use Rattle.reg_core.specs.declared.refusal.Fault.TheVariants as fault
 use Rattle.reg_calls.specs.Leads.{Leads}
 use Rattle.reg_calls.specs.Signatories.{Signatory}
 use Rattle.reg_faces.proofs.ComposedCalls.{chains, follows, stays}
 use Rattle.reg_lists.specs.Lists.{rows_from}
-use Rattle.reg_lists.specs.Pages.{IsWholeList, IsPaged, IsPagedSoundly, GivesWholeList, Pages}
-use Rattle.reg_lists.specs.Texts.{list_text, opening_text, row_text}
+use Rattle.reg_lists.specs.Pages.{IsPagedSoundly, Pages}
+use Rattle.reg_lists.specs.Texts.{opening_text, row_text}
 use Rattle.reg_lists.specs.declared.cursor.Cursor.{Cursor}
 use Rattle.reg_lists.specs.declared.rows.Page.{Page}
 use Rattle.reg_lists.specs.declared.rows.Row.{Row}
@@ -41,15 +39,6 @@ text_more form from done rows text more is longer =
 pub text_begun : (form : Form) (from : Cursor) (text : List ℕ) → text ≡ opening_text form from → IsText form from [] text
 text_begun form from text is = is ∙ sym (append-nil (opening_text form from))
 
--- a page that is not given is a list that is not given
-listed_fault : (records : Records) (now most : ℕ) (at from : Cursor) (form : Form) (why : Fault) → IsPaged records now most at (Err why) → IsWholeList records now form from (Err why)
-listed_fault records now most at from form (fault.Refused refusal) paged = paged
-listed_fault records now most at from form fault.Memory paged = tt
-listed_fault records now most at from form fault.Store paged = tt
-listed_fault records now most at from form fault.Signer paged = absurd paged
-listed_fault records now most at from form fault.Read paged = absurd paged
-listed_fault records now most at from form fault.Write paged = absurd paged
-
 -- What stands in a register before and after.
 module _ {S : Type 0} (is_clean : S → Type 0) (stands : Signatory → S → Records → Type 0) (now m : ℕ) (from : Cursor) where
   -- nothing yet
@@ -78,36 +67,3 @@ module _ {S : Type 0} (is_clean : S → Type 0) (stands : Signatory → S → Re
       s
       u
       (chains is_clean stands (IsGoing now from done (Some at)) (λ identity before after. Pages before now (suc m) at (Ok given) after) s t u first next)
-
-  -- a page that is not given
-  pub not_given : (form : Form) (s t u : S) (done : List Row) (at : Cursor) (why : Fault) → Leads is_clean stands (IsGoing now from done (Some at)) s t
-      → Leads is_clean stands (λ identity before after. Pages before now (suc m) at (Err why) after) t u
-      → Leads is_clean stands (λ identity before after. GivesWholeList before now form from (Err why) after) s u
-  not_given form s t u done at why first next =
-      follows is_clean stands
-      (λ identity before after. (middle : Records) × IsGoing now from done (Some at) identity before middle × Pages middle now (suc m) at (Err why) after)
-      (λ identity before after. GivesWholeList before now form from (Err why) after)
-      (λ identity before after made.
-      let paged : IsPagedSoundly before now (suc m) at (Err why) = subst (λ records. IsPagedSoundly records now (suc m) at (Err why)) made.1.0 made.2.0 in
-      (listed_fault before now (suc m) at from form why paged.1, made.2.1 ∙ made.1.0))
-      s
-      u
-      (chains is_clean stands (IsGoing now from done (Some at)) (λ identity before after. Pages before now (suc m) at (Err why) after) s t u first next)
-
-  -- want of memory, or a register that never ends
-  pub lacking : (form : Form) (s t : S) (done : List Row) (next : Option Cursor) (why : Fault) → ((records : Records) → IsWholeList records now form from (Err why))
-      → Leads is_clean stands (IsGoing now from done next) s t → Leads is_clean stands (λ identity before after. GivesWholeList before now form from (Err why) after) s t
-  lacking form s t done next why any going =
-      follows is_clean stands (IsGoing now from done next) (λ identity before after. GivesWholeList before now form from (Err why) after) (λ identity before after made. (any before, made.0)) s t going
-
-  -- all of them
-  pub all_given : (form : Form) (s t : S) (done : List Row) (text : List ℕ) → Leads is_clean stands (IsGoing now from done None) s t → IsText form from done text
-      → Leads is_clean stands (λ identity before after. GivesWholeList before now form from (Ok text) after) s t
-  all_given form s t done text going is =
-      follows is_clean stands (IsGoing now from done None) (λ identity before after. GivesWholeList before now form from (Ok text) after)
-      (λ identity before after made.
-      let rows : done ≡ rows_from before now from = sym (made.1 ∙ append-nil done) in
-      ((made.2 refl, is ∙ ap (λ l. opening_text form from ++ flat_map (row_text form) l) rows), made.0))
-      s
-      t
-      going

@@ -8,7 +8,6 @@ use Rattle.reg_calls.specs.Signatories.{Signatory}
 use Rattle.reg_faces.specs.Faces.{Lines}
 use Rattle.reg_calls.specs.CallSteps.{Signs, Runs, Asks, Ocsps, Crls}
 use Rattle.reg_calls.specs.Leads.{Leads}
-use Rattle.reg_faces.proofs.Exchanges.{read_is_not_write, memory_is_not_write}
 use Rattle.reg_faces.proofs.ComposedCalls.{follows, runs, stays}
 use Rattle.reg_http.specs.Served.{ServingEnds}
 use Rattle.reg_hub.specs.Exchange.{Input, request, line, Outcome, said, pending, later, Handles}
@@ -24,13 +23,8 @@ module _ {S E W : Type 0} (answers : S → Meaning → Answer → S → Type 0) 
   script_bytes : (s t : S) (reader reader' : E) (writer writer' : W) (result : Result (Unit {0}) Fault)
       → ScriptEnds answers (λ r. Some (remaining r)) (λ w. Some (contents w)) s t reader reader' writer writer' result
       → ScriptEnds answers (λ bytes. Some bytes) (λ bytes. Some bytes) s t (remaining reader) (remaining reader') (contents writer) (contents writer') result
-  script_bytes s t reader reader' writer writer' (Ok done) ended = ended
-  script_bytes s t reader reader' writer writer' (Err fault.Read) ended = ended
-  script_bytes s t reader reader' writer writer' (Err fault.Write) ended = ended
   script_bytes s t reader reader' writer writer' (Err fault.Memory) ended = (ended.0, ap remaining ended.1, ap contents ended.2)
-  script_bytes s t reader reader' writer writer' (Err fault.Store) ended = ended
-  script_bytes s t reader reader' writer writer' (Err fault.Signer) ended = ended
-  script_bytes s t reader reader' writer writer' (Err (fault.Refused why)) ended = ended
+  script_bytes s t reader reader' writer writer' other ended = ended
 
 -- What stands in an office before and after, who signs, and the moment.
 module _ {S : Type 0} (is_clean : S → Type 0) (stands : Signatory → S → Records → Type 0) (signs : Signs) (now : ℕ) where
@@ -65,30 +59,6 @@ module _ {S : Type 0} (is_clean : S → Type 0) (stands : Signatory → S → Re
       go before after (Ok done) wrote = tt
       go before after (Err why) wrote = λ not. absurd (wrote not)
 
-  -- one that ended before it
-  quiet : (s t : S) (came left written text : List ℕ) (why : Fault)
-      → ((identity : Signatory) (before after other : Records) → Ended came left written (Err why) identity before after → Ended came left written (Err why) identity before other)
-      → Responded (Err why) written text
-      → Leads is_clean stands (Ended came left written (Err why)) s t → t ≡ s
-      → Leads is_clean stands (λ identity before after. ExchangeAt signs now identity before came text after) s t
-  quiet s t came left written text why any responded moved still = (
-    moved.0,
-    (λ identity before stood clean.
-        let (after, ended, stands_now) = moved.1 identity before stood clean in
-        let P : S → Type 0 = λ v. stands identity v before in (
-          before,
-          record {
-            left = left;
-            written = written;
-            result = Err why;
-            ends = any identity before after before ended;
-            silent = λ not. refl;
-            responded = responded;
-          },
-          subst P (sym still) stood,
-        )),
-  )
-
   -- one exchange
   pub exchange_moves : (s t : S) (came left written text : List ℕ) (result : Result (Unit {0}) Fault)
       → Responded result written text
@@ -98,16 +68,16 @@ module _ {S : Type 0} (is_clean : S → Type 0) (stands : Signatory → S → Re
   exchange_moves s t came left written text (Ok done) responded moved silent = spoken s t came left written text (Ok done) tt responded moved
   exchange_moves s t came left written text (Err fault.Write) responded moved silent =
       spoken s t came left written text (Err fault.Write) (λ not. not refl) responded moved
-  exchange_moves s t came left written text (Err fault.Read) responded moved silent =
-      quiet s t came left written text fault.Read (λ identity before after other ended. ended) responded moved (silent read_is_not_write)
-  exchange_moves s t came left written text (Err fault.Memory) responded moved silent =
-      quiet s t came left written text fault.Memory (λ identity before after other ended. ended) responded moved (silent memory_is_not_write)
-  exchange_moves s t came left written text (Err fault.Store) responded moved silent =
-      quiet s t came left written text fault.Store (λ identity before after other ended. ended) responded moved (silent (λ same. cc same))
-  exchange_moves s t came left written text (Err fault.Signer) responded moved silent =
-      quiet s t came left written text fault.Signer (λ identity before after other ended. ended) responded moved (silent (λ same. cc same))
-  exchange_moves s t came left written text (Err (fault.Refused why)) responded moved silent =
-      quiet s t came left written text (fault.Refused why) (λ identity before after other ended. ended) responded moved (silent (λ same. cc same))
+  exchange_moves s t came left written text (Err why) responded moved silent = (
+    moved.0,
+    (λ identity before stood clean.
+        let (after, ended, stands_now) = moved.1 identity before stood clean in
+        let P : S → Type 0 = λ v. stands identity v before in (
+          before,
+          record { left = left; written = written; result = Err why; ends = ended; silent = λ not. refl; responded = responded },
+          subst P (sym (silent (λ same. cc same))) stood,
+        )),
+  )
 
   -- the same, from a writer
   pub exchange_over : {V : Type 0} (items : V → List ℕ) (old new : V) (s t : S) (came left text : List ℕ) (result : Result (Unit {0}) Fault)

@@ -1,5 +1,5 @@
 -- A schedule that a line of a counter sets, over an office that keeps records.
-use Rattle.std.proofs.Common.{◌≡◌, ◌⊎◌, ℕ, List, [], ◌∷◌, ◌++◌, Result, Ok, Err, inl, inr, refl, subst}
+use Rattle.std.proofs.Common.{◌≡◌, ◌⊎◌, ℕ, List, [], ◌∷◌, ◌++◌, Result, Err, inl, inr, refl, subst}
 use Rattle.reg_core.specs.Records.{Records}
 use Rattle.reg_core.specs.Schedule.{IsSchedule}
 use Rattle.reg_calls.specs.Leads.{Leads}

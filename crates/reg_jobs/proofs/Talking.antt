@@ -10,9 +10,14 @@ use Rattle.reg_endings.specs.declared.failure.Failure.{Failure}
 use Rattle.reg_endings.specs.declared.failure.Failure.TheVariants as failure
 use Rattle.reg_lines.specs.Accepted.{IsAccepted}
 use Rattle.reg_lines.proofs.Pieces.{concat_push}
-use Rattle.reg_jobs.specs.Asking.{IsCut, IsInput, Talked, Talks, TalksOnce}
+use Rattle.reg_lines.specs.Script.{IsWholeLine}
+use Rattle.reg_jobs.specs.Asking.{AreWhole, IsCut, IsInput, Talked, Talks, TalksOnce}
 use Rattle.reg_jobs.specs.declared.at_job.Step.TheVariants as step
-use Rattle.reg_jobs.proofs.Pieces.{whole_push}
+
+-- one line more that ends with its LF
+pub whole_push : (lines : List (List ℕ)) (line : List ℕ) → AreWhole lines → IsWholeLine line → AreWhole (lines ++ line ∷ [])
+whole_push [] line all one = (one, tt)
+whole_push (first ∷ rest) line all one = (all.0, whole_push rest line all.1 one)
 
 -- all replies so far, and one more
 pub all_push : (replies : List (List ℕ)) (reply : List ℕ)

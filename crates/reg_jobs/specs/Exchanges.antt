@@ -21,11 +21,7 @@ use Rattle.reg_lines.specs.Script.{ScriptEnds}
 abbrev pub Responded : Result (Unit {0}) Fault → List ℕ → List ℕ → Type 0
 Responded (Ok done) written text = text ≡ written
 Responded (Err fault.Read) written text = text ≡ []
-Responded (Err fault.Memory) written text = (text ≡ memory_text) ⊎ (text ≡ [])
-Responded (Err fault.Write) written text = (text ≡ memory_text) ⊎ (text ≡ [])
-Responded (Err fault.Store) written text = (text ≡ memory_text) ⊎ (text ≡ [])
-Responded (Err fault.Signer) written text = (text ≡ memory_text) ⊎ (text ≡ [])
-Responded (Err (fault.Refused why)) written text = (text ≡ memory_text) ⊎ (text ≡ [])
+Responded (Err other) written text = (text ≡ memory_text) ⊎ (text ≡ [])
 
 -- One HTTP exchange (RFC 9112) at a moment: the bytes that came from the peer, and the text that answers them. Where they were no whole
 -- request, or there was no memory for it, the records are as they were.
@@ -42,10 +38,7 @@ abbrev pub SaysList : Records → ℕ → ListAsked → List ℕ → Result (Uni
 SaysList records now asked written (Ok done) = (response : Response) × RespondsList records now asked response × IsText response now written
 SaysList records now asked written (Err fault.Memory) = Unit {0}
 SaysList records now asked written (Err fault.Write) = Unit {0}
-SaysList records now asked written (Err fault.Read) = ⊥
-SaysList records now asked written (Err fault.Store) = ⊥
-SaysList records now asked written (Err fault.Signer) = ⊥
-SaysList records now asked written (Err (fault.Refused why)) = ⊥
+SaysList records now asked written (Err other) = ⊥
 
 -- the bytes that came were a whole request, which asks this of lists; or there was no memory for it, or no whole request
 abbrev pub ListEnds : ℕ → Records → List ℕ → List ℕ → Result (Unit {0}) Fault → Records → Type 0

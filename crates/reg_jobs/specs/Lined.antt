@@ -4,6 +4,7 @@ use Rattle.std.specs.Io.KnownBytes.{Appends, Consumes, IsAtEnd}
 use Rattle.std.specs.List.{AllByRecursion, concat}
 use Rattle.reg_core.specs.Records.{Records}
 use Rattle.reg_core.specs.declared.refusal.Fault.TheVariants as fault
+use Rattle.reg_calls.specs.Leads.{Leads}
 use Rattle.reg_calls.specs.Signatories.{Signatory}
 use Rattle.reg_calls.specs.CallSteps.{Signs}
 use Rattle.reg_endings.specs.declared.failure.Failure.{Failure}
@@ -18,6 +19,12 @@ use Rattle.reg_wire.specs.Put.{AppendsFront}
 abbrev pub LineBy : Bool → Signs → (ℕ → Type 0) → Signatory → Records → List ℕ → List ℕ → Records → Type 0
 LineBy true signs told = Entry signs told
 LineBy false signs told = LineRuns signs
+
+-- the same over an office that keeps records: before and after
+unfoldable pub TellsBy : {S : Type 0} → (S → Type 0) → (Signatory → S → Records → Type 0) → Bool → Signs → (ℕ → Type 0)
+    → S → List ℕ → List ℕ → S → Type 0
+TellsBy is_clean stands is_clocked signs told s line text t =
+    Leads is_clean stands (λ identity before after. LineBy is_clocked signs told identity before line text after) s t
 
 -- a line that is run, where a script is strict or is not: it ends with its LF; where it is not, a last one may have none
 abbrev pub IsLine : Bool → List ℕ → Type 0
@@ -34,7 +41,7 @@ abbrev pub Passed : Bool → List ℕ → Result (Unit {0}) Failure → Type 0
 Passed is_strict reply (Ok done) = IsTrue is_strict → IsAccepted reply
 Passed is_strict reply (Err why) = (why ≡ failure.Refused) × IsTrue is_strict × ¬ IsAccepted reply
 
--- A handler that is told lines, and what was written: before and after.
+-- An office that is told lines, and what was written: before and after.
 module _ {H : Type 0} (tells : H → List ℕ → List ℕ → H → Type 0) (is_strict : Bool) (s t : H) (out out' : Option (List ℕ)) where
   -- it ends after this line was told and this reply came
   abbrev pub Fails : List ℕ → List ℕ → Failure → Type 0

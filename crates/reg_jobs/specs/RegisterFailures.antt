@@ -1,6 +1,6 @@
 -- Which failures a register may come to.
 use Rattle.reg_core.specs.declared.refusal.Fault.{Fault}
-use Rattle.reg_core.specs.declared.refusal.Fault.TheVariants.{Refused, Memory, Store, Signer, Read, Write}
+use Rattle.reg_core.specs.declared.refusal.Fault.TheVariants.{Memory, Store}
 use Rattle.reg_endings.specs.declared.failure.Failure.{Failure}
 use Rattle.reg_endings.specs.declared.failure.Failure.TheVariants as failure
 
@@ -8,39 +8,19 @@ use Rattle.reg_endings.specs.declared.failure.Failure.TheVariants as failure
 abbrev pub IsOfStore : Fault → Type 0
 IsOfStore Memory = Unit {0}
 IsOfStore Store = Unit {0}
-IsOfStore (Refused why) = ⊥
-IsOfStore Signer = ⊥
-IsOfStore Read = ⊥
-IsOfStore Write = ⊥
+IsOfStore other = ⊥
 
 -- of one that is made: such a fault, or a file that has tables already
 abbrev pub IsMaking : Failure → Type 0
 IsMaking (failure.Fault fault) = IsOfStore fault
 IsMaking failure.NotEmpty = Unit {0}
-IsMaking failure.NotARegister = ⊥
-IsMaking failure.NewVersion = ⊥
-IsMaking failure.OldVersion = ⊥
-IsMaking failure.BadIssuer = ⊥
-IsMaking failure.BadPolicy = ⊥
-IsMaking failure.BadSigner = ⊥
-IsMaking failure.BadResponder = ⊥
-IsMaking failure.Refused = ⊥
-IsMaking failure.NoLineEnd = ⊥
-IsMaking failure.RefusedNoLineEnd = ⊥
-IsMaking failure.Broken = ⊥
+IsMaking other = ⊥
 
 -- of one that is opened: such a fault, a file that holds no register of a version up to this program's, `bad-signer` or `bad-responder`
 abbrev pub IsOpening : Failure → Type 0
 IsOpening (failure.Fault fault) = IsOfStore fault
-IsOpening failure.NotEmpty = ⊥
 IsOpening failure.NotARegister = Unit {0}
 IsOpening failure.NewVersion = Unit {0}
-IsOpening failure.OldVersion = ⊥
-IsOpening failure.BadIssuer = ⊥
-IsOpening failure.BadPolicy = ⊥
 IsOpening failure.BadSigner = Unit {0}
 IsOpening failure.BadResponder = Unit {0}
-IsOpening failure.Refused = ⊥
-IsOpening failure.NoLineEnd = ⊥
-IsOpening failure.RefusedNoLineEnd = ⊥
-IsOpening failure.Broken = ⊥
+IsOpening other = ⊥

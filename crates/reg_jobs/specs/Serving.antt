@@ -62,22 +62,7 @@ abbrev pub Served : ℕ → ℕ → List Input → Option (List ℕ) → Option 
 Served port requests inputs out out' (Ok done) = (asked_in inputs ≡ requests) × Appends out out' (listening port)
 Served port requests inputs out out' (Err (failure.Fault fault.Read)) = (asked_in inputs ≢ requests) × Appends out out' (listening port)
 Served port requests inputs out out' (Err (failure.Fault fault.Write)) = (inputs ≡ []) × AppendsFront out out' (listening port)
-Served port requests inputs out out' (Err (failure.Fault fault.Memory)) = ⊥
-Served port requests inputs out out' (Err (failure.Fault fault.Store)) = ⊥
-Served port requests inputs out out' (Err (failure.Fault fault.Signer)) = ⊥
-Served port requests inputs out out' (Err (failure.Fault (fault.Refused why))) = ⊥
-Served port requests inputs out out' (Err failure.NotEmpty) = ⊥
-Served port requests inputs out out' (Err failure.NotARegister) = ⊥
-Served port requests inputs out out' (Err failure.NewVersion) = ⊥
-Served port requests inputs out out' (Err failure.OldVersion) = ⊥
-Served port requests inputs out out' (Err failure.BadIssuer) = ⊥
-Served port requests inputs out out' (Err failure.BadPolicy) = ⊥
-Served port requests inputs out out' (Err failure.BadSigner) = ⊥
-Served port requests inputs out out' (Err failure.BadResponder) = ⊥
-Served port requests inputs out out' (Err failure.Refused) = ⊥
-Served port requests inputs out out' (Err failure.NoLineEnd) = ⊥
-Served port requests inputs out out' (Err failure.RefusedNoLineEnd) = ⊥
-Served port requests inputs out out' (Err failure.Broken) = ⊥
+Served port requests inputs out out' (Err other) = ⊥
 
 -- the port was not bound and nothing was written; or it was, and that was served there
 abbrev pub ServedAt : {W : Type 0} → (W → Option (List ℕ)) → W → W → (List ℕ → ℕ → Type 0) → ℕ → ℕ → List Input → Result (Unit {0}) Failure → Type 0
@@ -90,7 +75,8 @@ abbrev pub endless : ℕ
 endless = 18446744073709551615
 
 -- the same with a counter, whose socket was laid too
-abbrev pub OpenedAt : {W : Type 0} → (W → Option (List ℕ)) → W → W → (List ℕ → ℕ → Type 0) → (List ℕ → Type 0) → ℕ → List ℕ → List Input → Result (Unit {0}) Failure → Type 0
+abbrev pub OpenedAt : {W : Type 0} → (W → Option (List ℕ)) → W → W → (List ℕ → ℕ → Type 0) → (List ℕ → Type 0) → ℕ → List ℕ → List Input
+    → Result (Unit {0}) Failure → Type 0
 OpenedAt contents writer writer' bound laid port counter inputs result =
     (Unbound inputs result × (writer' ≡ writer))
     ⊎ (bound loopback port × laid counter × Served port endless inputs (contents writer) (contents writer') result)

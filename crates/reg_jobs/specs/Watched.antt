@@ -12,7 +12,7 @@ use Rattle.reg_core.specs.declared.command.Query.TheVariants.{Counts as AskCount
 use Rattle.reg_core.specs.declared.command.Reply.{Reply}
 use Rattle.reg_core.specs.declared.command.Reply.TheVariants.{Counts as CountsAre, NextCrl as NextCrlIs, Overdue as OverdueAre}
 use Rattle.reg_core.specs.declared.refusal.Fault.{Fault}
-use Rattle.reg_core.specs.declared.refusal.Fault.TheVariants.{Refused, Memory, Store, Signer, Read, Write}
+use Rattle.reg_core.specs.declared.refusal.Fault.TheVariants.{Refused, Store}
 use Rattle.reg_calls.specs.Signatories.{Signatory}
 use Rattle.reg_calls.specs.CallSteps.{Signs}
 use Rattle.reg_heads.specs.Frame.{Framed, asked}
@@ -73,20 +73,12 @@ overdue_in (Err fault) = Err fault
 abbrev pub HasCountsAt : Records → ℕ → Result Counts Fault → Type 0
 HasCountsAt records now (Ok counts) = answer records now AskCounts ≡ Ok (CountsAre counts)
 HasCountsAt records now (Err (Refused refusal)) = answer records now AskCounts ≡ Err refusal
-HasCountsAt records now (Err Memory) = Unit {0}
-HasCountsAt records now (Err Store) = Unit {0}
-HasCountsAt records now (Err Signer) = Unit {0}
-HasCountsAt records now (Err Read) = Unit {0}
-HasCountsAt records now (Err Write) = Unit {0}
+HasCountsAt records now (Err other) = Unit {0}
 
 abbrev pub HasDue : Records → ℕ → Result (Option ℕ) Fault → Type 0
 HasDue records now (Ok due) = answer records now AskNextCrl ≡ Ok (NextCrlIs due)
 HasDue records now (Err (Refused refusal)) = answer records now AskNextCrl ≡ Err refusal
-HasDue records now (Err Memory) = Unit {0}
-HasDue records now (Err Store) = Unit {0}
-HasDue records now (Err Signer) = Unit {0}
-HasDue records now (Err Read) = Unit {0}
-HasDue records now (Err Write) = Unit {0}
+HasDue records now (Err other) = Unit {0}
 
 abbrev pub HasOverdue : Records → ℕ → Result ℕ Fault → Type 0
 HasOverdue records now (Ok count) = (overdue : Option Overdue) × (answer records now AskOverdue ≡ Ok (OverdueAre overdue)) × (count ≡ many_in overdue)
@@ -96,11 +88,7 @@ HasOverdue records now (Err fault) = Unit {0}
 abbrev pub HasFound : Records → ℕ → Result Numbers Fault → Type 0
 HasFound records now (Ok numbers) = HasCountsAt records now (Ok numbers.counts) × HasDue records now (Ok numbers.due) × IsStanding records numbers.standing
 HasFound records now (Err (Refused refusal)) = (answer records now AskCounts ≡ Err refusal) ⊎ (answer records now AskNextCrl ≡ Err refusal)
-HasFound records now (Err Memory) = Unit {0}
-HasFound records now (Err Store) = Unit {0}
-HasFound records now (Err Signer) = Unit {0}
-HasFound records now (Err Read) = Unit {0}
-HasFound records now (Err Write) = Unit {0}
+HasFound records now (Err other) = Unit {0}
 
 -- its requests for revocation at a moment
 abbrev pub HasRequests : Records → ℕ → Result Requests Fault → Type 0

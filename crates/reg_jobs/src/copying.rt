@@ -9,6 +9,7 @@ ghost use Rattle.reg_jobs.specs.RegisterFailures.{IsOfStore};
 use crate::front::Front;
 use crate::logging::micros_since;
 use crate::place::Place;
+use crate::reasons::front_and_end;
 use crate::telling::say;
 use reg_causes::Cause;
 use reg_core::{Decimal, Fault};
@@ -106,21 +107,12 @@ fn told_uncopied(alloc: Global, why: Uncopied, noted: &mut Vec<u8>) -> Vec<u8>
     ensures { (result.items ≡ fault_line why.fault ++ 10 ∷ []) ⊎ (result.items ≡ []) }
 {
     noted.clear();
-    let reply = match with_end(alloc, why.fault.line().as_bytes()) {
+    let reply = match front_and_end(alloc, b"", why.fault.line().as_bytes()) {
         Ok(text) => text,
         Err(_) => return Vec::new(alloc),
     };
     note_cause(alloc, why.cause, &reply, noted);
     reply
-}
-
-/// A text with an LF behind it.
-fn with_end(alloc: Global, line: &[u8]) -> Result<Vec<u8>, AllocError>
-    ensures { IfOk result (λ text. text.items ≡ line.now ++ 10 ∷ []) }
-{
-    let mut text = Vec::from_slice(alloc, line)?;
-    text.push(b'\n')?;
-    Ok(text)
 }
 
 /// Notes the words of a cause; where none is known, or there is no memory for them, the reply itself.
@@ -136,7 +128,7 @@ fn note_cause(alloc: Global, cause: Option<Cause>, reply: &[u8], noted: &mut Vec
 /// The words of a cause with an LF behind them, where it is known and there is memory for them.
 fn cause_text(alloc: Global, cause: Option<Cause>) -> Option<Vec<u8>> {
     let line = cause?.line();
-    with_end(alloc, line.as_bytes().strip_prefix(b"  ")?).ok()
+    front_and_end(alloc, b"", line.as_bytes().strip_prefix(b"  ")?).ok()
 }
 
 /// Copies the register at a path, which no program has open, to another path, and tells it. It only reads what lies at the first.

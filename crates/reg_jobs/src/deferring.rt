@@ -3,9 +3,9 @@
 ghost use Rattle.std.specs.Prelude.{◌≡◌, [], None, IfOk, IfSome, OnErr, option_copied};
 ghost use Rattle.reg_calls.specs.Leads.{Leads};
 ghost use Rattle.reg_jobs.specs.Deferring.{IsKnown, socket_for};
-ghost use Rattle.reg_jobs.specs.Given.{AtTold, GaveAt, WasGiven};
-ghost use Rattle.reg_jobs.specs.WhoSigns.{answer_socket, crl_socket};
-ghost use Rattle.reg_jobs.specs.CounterWords.{Word, WordAt};
+ghost use Rattle.reg_jobs.specs.Given.{AtTold, GaveAt};
+ghost use Rattle.reg_jobs.specs.WhoSigns.{crl_socket};
+ghost use Rattle.reg_jobs.specs.CounterWords.{Word};
 ghost use Rattle.reg_signer.specs.Asking.{IsAsking};
 
 use crate::desks::OpenDesk;
@@ -13,12 +13,11 @@ use crate::entering::tell_counted;
 use crate::front::Front;
 use crate::leaving::heard_for;
 use crate::place::Place;
+use crate::watching::ask_at;
 use reg_calls::{Begun, OfficeOfRecords};
-use reg_core::{Fault, Moment, Outcome, Query, Refusal};
+use reg_core::{Fault, Memory, Moment, Outcome, Query, Refusal};
 use reg_hub::{Deferred, HubFault};
-use reg_ocsp::Draft;
 use reg_signer::{Asking, Primed};
-use reg_watch::Tally;
 use reg_words::{Answerer, KeyHolder};
 use std::alloc::Global;
 use std::io;
@@ -99,32 +98,7 @@ pub(crate) fn wanted_by(line: &[u8]) -> Option<Wanted> {
     }
 }
 
-/// Looks at a line that wants a signature, at the moment of the clock: what is to be signed for it. Nothing changes.
-fn look_now<P: Place, F: Front>(
-    alloc: Global,
-    office: &mut P::Opened,
-    front: &F,
-    wanted: Wanted,
-    began: u64,
-    line: &[u8],
-) -> Option<Deferred<Looked>>
-    ensures { Leads P.Opened.is_clean P.Opened.stands (λ identity before after. after ≡ before) office.old office.new }
-{
-    match front.moment() {
-        Ok(moment) => {
-            let looked = Looked {
-                wanted,
-                moment,
-                began,
-                is_left_alone: false,
-            };
-            look_at::<P>(alloc, office, looked, line)
-        }
-        Err(_) => None,
-    }
-}
-
-/// Looks at a line that wants a signature.
+/// Looks at a line that wants a signature: what is to be signed for it. Nothing changes.
 fn look_at<P: Place>(
     alloc: Global,
     office: &mut P::Opened,
@@ -151,7 +125,8 @@ fn look_at_request<O: OfficeOfRecords>(
     let Some(request) = request_of(alloc, line) else {
         return None;
     };
-    look_at_answer(alloc, office, looked, &request)
+    let begun = office.begin_ocsp(alloc, looked.moment, &request);
+    deferred_for(message_of(alloc, begun), looked)
 }
 
 /// A line that was looked at, and what is to be signed for it, where something is.
@@ -173,33 +148,16 @@ fn request_of(alloc: Global, line: &[u8]) -> Option<Vec<u8>> {
     }
 }
 
-/// Looks at a line with an OCSP request, for the answer to which something is to be signed by what holds a key.
-fn look_at_answer<O: OfficeOfRecords>(
-    alloc: Global,
-    office: &mut O,
-    looked: Looked,
-    request: &[u8],
-) -> Option<Deferred<Looked>>
-    ensures { Leads O.is_clean O.stands (λ identity before after. after ≡ before) office.old office.new }
-{
-    let Ok(begun) = office.begin_ocsp(alloc, looked.moment, request) else {
-        return None;
-    };
+/// What is to be signed for an answer that was begun by what holds a key. `None` where nothing is, and for want of memory.
+fn message_of(alloc: Global, begun: Result<Begun, Memory>) -> Option<Vec<u8>> {
     match begun {
-        Begun::Left(draft) => deferred_for(message_of(alloc, &draft), looked),
-        Begun::Whole(_) => None,
-    }
-}
-
-/// What is to be signed for an answer. `None` for want of memory.
-fn message_of(alloc: Global, draft: &Draft) -> Option<Vec<u8>> {
-    match Vec::from_slice(alloc, draft.message()) {
-        Ok(message) => Some(message),
+        Ok(Begun::Left(draft)) => Vec::from_slice(alloc, draft.message()).ok(),
+        Ok(Begun::Whole(_)) => None,
         Err(_) => None,
     }
 }
 
-/// The socket of what signs this, where what holds a key does.
+/// The socket of what signs this, where what holds a key does: OCSP answers, the responder's, or else the one that signs CRLs.
 pub(crate) fn socket_of<'w>(
     signer: &Option<KeyHolder<'w>>,
     answerer: &Answerer<'w>,
@@ -209,17 +167,10 @@ pub(crate) fn socket_of<'w>(
 {
     match wanted {
         Wanted::Crl => crls_at(signer),
-        Wanted::Answer => answers_at(signer, answerer),
-    }
-}
-
-/// The socket of what signs OCSP answers, where what holds a key does: the responder's, or else the one that signs CRLs.
-fn answers_at<'w>(signer: &Option<KeyHolder<'w>>, answerer: &Answerer<'w>) -> Option<&'w str>
-    ensures { answer_socket signer.now answerer.now ≡ option_copied result }
-{
-    match answerer {
-        Answerer::Delegate { holder, .. } => Some(holder.socket.as_str()),
-        Answerer::Issuer { .. } => crls_at(signer),
+        Wanted::Answer => match answerer {
+            Answerer::Delegate { holder, .. } => Some(holder.socket.as_str()),
+            Answerer::Issuer { .. } => crls_at(signer),
+        },
     }
 }
 
@@ -333,7 +284,7 @@ fn recalled<P: Place, F: Front>(
 fn is_past<O: OfficeOfRecords>(alloc: Global, office: &mut O, now: Moment) -> bool
     ensures { Leads O.is_clean O.stands (λ identity before after. after ≡ before) office.old office.new }
 {
-    let asked = office.ask(alloc, now, &Query::NextCrl);
+    let asked = ask_at(alloc, office, now, &Query::NextCrl);
     is_clock_back(&asked)
 }
 
@@ -343,39 +294,6 @@ fn is_clock_back(outcome: &Outcome) -> bool {
         Err(Fault::Refused(Refusal::ClockBack { .. })) => true,
         _ => false,
     }
-}
-
-/// Answers a line with what is known of the signature that it wants: who signs asks nobody. It is counted as any line is.
-fn tell_primed<P: Place, F: Front>(
-    alloc: Global,
-    office: &mut P::Opened,
-    front: &F,
-    file: &str,
-    tally: &mut Tally,
-    looked: Looked,
-    known: Known,
-    line: &[u8],
-    noted: &mut Vec<u8>,
-) -> Vec<u8>
-    requires { IfSome known.primed.answer (λ answer. WasGiven P.gave known.primed.message.items answer.items) }
-    ensures { Leads P.Opened.is_clean P.Opened.stands
-        (λ identity before after. WordAt P.Opened.signs known.moment identity before line.now result.items after) office.old office.new }
-{
-    let Known { moment, primed } = known;
-    P::prime(office, looked.wanted, Some(primed));
-    let reply = tell_counted::<P, F>(
-        alloc,
-        office,
-        front,
-        file,
-        tally,
-        looked.began,
-        moment,
-        line,
-        noted,
-    );
-    P::prime(office, looked.wanted, None);
-    reply
 }
 
 /// What a line has signed.
@@ -393,14 +311,16 @@ impl<'a, 'w, P: Place, F: Front> OpenDesk<'a, 'w, P, F> {
         if wanted == Wanted::Answer && is_left_alone(self.alone_since, began) {
             return Some(unasked(self.alloc, began));
         }
-        look_now::<P, F>(
-            self.alloc,
-            &mut self.office,
-            self.front,
+        let Ok(moment) = self.front.moment() else {
+            return None;
+        };
+        let looked = Looked {
             wanted,
+            moment,
             began,
-            line,
-        )
+            is_left_alone: false,
+        };
+        look_at::<P>(self.alloc, &mut self.office, looked, line)
     }
 
     /// Since when who signs OCSP answers is left alone by lines from now on, once it was asked for one, or for a CRL.
@@ -412,7 +332,7 @@ impl<'a, 'w, P: Place, F: Front> OpenDesk<'a, 'w, P, F> {
         alone_since(looked, has_come, self.front.micros())
     }
 
-    /// Answers a line with what is known of the signature that it wants.
+    /// Answers a line with what is known of the signature that it wants: who signs asks nobody. It is counted as any line is.
     pub(crate) fn tell_known(
         &mut self,
         line: &[u8],
@@ -424,19 +344,22 @@ impl<'a, 'w, P: Place, F: Front> OpenDesk<'a, 'w, P, F> {
         ensures { Leads P.Opened.is_clean P.Opened.stands
             (λ identity before after. Word P.Opened.signs F.told identity before line.now result.items after) self.old.office self.new.office }
     {
+        let Known { moment, primed } = known;
+        P::prime(&mut self.office, looked.wanted, Some(primed));
         let mut tally = self.tally.get();
-        let reply = tell_primed::<P, F>(
+        let reply = tell_counted::<P, F>(
             self.alloc,
             &mut self.office,
             self.front,
             self.file,
             &mut tally,
-            looked,
-            known,
+            looked.began,
+            moment,
             line,
             noted,
         );
         self.tally.set(tally);
+        P::prime(&mut self.office, looked.wanted, None);
         reply
     }
 }

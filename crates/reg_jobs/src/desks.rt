@@ -1,6 +1,6 @@
 //! A desk, as it answers who comes: peers, and lines at a counter.
 
-ghost use Rattle.std.specs.Prelude.{◌≡◌, ℕ, List, Some, IfOk, MatchOption, OnErr};
+ghost use Rattle.std.specs.Prelude.{◌≡◌, Some, IfOk, MatchOption, OnErr};
 
 use crate::deferring::{Looked, known_of, reach_for, wanted_by};
 use crate::entering::tell_counted_now;
@@ -67,7 +67,8 @@ impl<'a, 'w, P: Place, F: Front> Handler for ServedDesk<'a, 'w, P, F> {
     type Line = NoTicket;
 
     ghost answers = { λ s request outcome t. Leads P.Opened.is_clean P.Opened.stands
-        (λ identity before after. Meets (FinishesUnsigned (WasGiven P.gave)) (λ text. Exchange P.Opened.signs F.told identity before request text after) outcome)
+        (λ identity before after. Meets (FinishesUnsigned (WasGiven P.gave))
+        (λ text. Exchange P.Opened.signs F.told identity before request text after) outcome)
         s.office t.office };
 
     ghost tells = { NoEntry };

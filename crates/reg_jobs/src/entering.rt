@@ -8,6 +8,7 @@ ghost use Rattle.reg_lines.specs.Script.{ScriptEnds};
 ghost use Rattle.reg_jobs.specs.CounterWords.{Word, WordAt};
 ghost use Rattle.reg_jobs.specs.Counted.{CountsLine, SignatureFailed};
 ghost use Rattle.reg_jobs.specs.Exchanges.{Entry, EntryAt, LineRuns, Replied, line_at};
+ghost use Rattle.reg_jobs.specs.Lined.{TellsBy};
 ghost use Rattle.reg_jobs.specs.Schedules.{SetAt, SetsSteps, set_line};
 
 use crate::copying::tell_copy;
@@ -57,8 +58,25 @@ pub(crate) fn tell_counted_now<P: Place, F: Front>(
     }
 }
 
+/// Answers a line of a script, at the moment of the clock or as it is.
+pub(crate) fn tell_by<O: OfficeOfRecords, F: Front>(
+    alloc: Global,
+    office: &mut O,
+    front: &F,
+    is_clocked: bool,
+    line: &[u8],
+) -> Result<Vec<u8>, HubFault>
+    ensures ok { IfOk result (λ text. TellsBy O.is_clean O.stands is_clocked O.signs F.told office.old line.now text.items office.new) }
+    ensures err { OnErr result (office.new ≡ office.old) }
+{
+    if is_clocked {
+        return tell_clocked(alloc, office, front, line);
+    }
+    Ok(tell_alone(alloc, office, line))
+}
+
 /// Answers a line, at the moment of the clock.
-pub(crate) fn tell_clocked<O: OfficeOfRecords, F: Front>(
+fn tell_clocked<O: OfficeOfRecords, F: Front>(
     alloc: Global,
     office: &mut O,
     front: &F,
@@ -196,7 +214,7 @@ fn tell_at<O: OfficeOfRecords>(alloc: Global, office: &mut O, now: Moment, line:
 }
 
 /// Answers a line as it is.
-pub(crate) fn tell_alone<O: OfficeOfRecords>(alloc: Global, office: &mut O, line: &[u8]) -> Vec<u8>
+fn tell_alone<O: OfficeOfRecords>(alloc: Global, office: &mut O, line: &[u8]) -> Vec<u8>
     ensures { Leads O.is_clean O.stands (λ identity before after. LineRuns O.signs identity before line.now result.items after)
         office.old office.new }
 {

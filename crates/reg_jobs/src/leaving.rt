@@ -4,12 +4,10 @@ ghost use Rattle.std.specs.Prelude.{◌≡◌, ◌≤◌, [], IfOk, IfSome, leng
 ghost use Rattle.reg_calls.specs.Items.{items_of};
 ghost use Rattle.reg_jobs.specs.Counted.{CountsFinished};
 ghost use Rattle.reg_jobs.specs.Deferring.{socket_for};
-ghost use Rattle.reg_jobs.specs.Exchanges.{Responded};
 ghost use Rattle.reg_jobs.specs.Given.{AtTold, GaveAt};
 ghost use Rattle.reg_jobs.specs.Leaving.{FinishesUnsigned, FinishedOf, IsSignatureOf, IsFinishedText};
 ghost use Rattle.reg_jobs.specs.WhoSigns.{answer_socket};
 ghost use Rattle.reg_signer.specs.Asking.{IsAsking};
-ghost use Rattle.reg_signer.specs.Forms.{HasForm};
 ghost use Rattle.reg_watch.specs.Exchanges.{request_route};
 
 use crate::deferring::{Wanted, socket_of};

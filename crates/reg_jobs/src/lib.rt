@@ -17,7 +17,6 @@ mod open_job;
 mod paging;
 mod place;
 mod reasons;
-mod scripting;
 mod sealing;
 mod serve_job;
 mod telling;

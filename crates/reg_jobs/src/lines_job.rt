@@ -1,22 +1,19 @@
 //! The job `script` line by line: each line at the moment of the clock, or all of them up to the first refusal.
 
 ghost use Rattle.std.specs.Prelude.{◌≡◌, ℕ, ◌≤◌, ◌<◌, List, length, take};
-ghost use Rattle.reg_calls.specs.Leads.{Leads};
 ghost use Rattle.reg_jobs.specs.Ends.{LinesAt};
-ghost use Rattle.reg_jobs.specs.Exchanges.{Entry, LineRuns};
-ghost use Rattle.reg_jobs.specs.Lined.{EndsOrNot, LastEnds, LinesEnd, NextEnds, Passed, TellEnds};
+ghost use Rattle.reg_jobs.specs.Lined.{EndsOrNot, LastEnds, LinesEnd, NextEnds, Passed, TellEnds, TellsBy};
 ghost use Rattle.reg_wire.specs.RunsOfAnswers.{Answered};
 
+use crate::entering::tell_by;
 use crate::front::Front;
 use crate::place::Place;
 use crate::reasons::{Reason, keep_reason};
-use crate::scripting::{ClockedDesk, LinedDesk};
 use crate::sealing::Sealing;
 use crate::telling::say;
 use reg_calls::OfficeOfRecords;
 use reg_core::Fault;
 use reg_endings::Failure;
-use reg_hub::Handler;
 use reg_lines::{LONGEST_LINE, MOST_LINES, is_accepted};
 use reg_wire::{Reached, fill_to_mark};
 use reg_words::{Answerer, KeyHolder, Way};
@@ -49,106 +46,66 @@ pub fn script_by_lines<P: Place, F: Front, R: Read, W: Write>(
 {
     let answerer = Answerer::Issuer { certificate: None };
     let office = place.open_to_sign(path, signer, &answerer)?;
-    let sealing = Sealing {
+    let mut opened = Sealing {
         office,
         front,
         is_sealed: signer.is_none(),
         refused: None,
     };
-    if way.is_clocked {
-        let mut opened = ClockedDesk {
-            office: sealing,
-            alloc,
-            front,
-        };
-        let ran = run_clocked(alloc, &mut opened, way.is_strict, reader, writer);
-        let mut office = opened.office.office;
-        keep_reason::<P>(&mut office, opened.office.refused, reason);
-        place.close(path, office);
-        return ran;
-    }
-    let mut lined = LinedDesk {
-        office: sealing,
-        alloc,
-    };
-    let ran = run_unclocked(alloc, &mut lined, way.is_strict, reader, writer);
-    let mut office = lined.office.office;
-    keep_reason::<P>(&mut office, lined.office.refused, reason);
+    let ran = tell_all(alloc, &mut opened, front, &way, reader, writer);
+    let mut office = opened.office;
+    keep_reason::<P>(&mut office, opened.refused, reason);
     place.close(path, office);
     ran
 }
 
-/// Runs each line at the moment of the clock.
-fn run_clocked<O: OfficeOfRecords, F: Front, R: Read, W: Write>(
+/// The room for a line: the longest one fits, with the moment before it where the clock tells that.
+fn room_of(is_clocked: bool) -> usize
+    ensures { 0 < result }
+{
+    if is_clocked { CLOCKED_ROOM } else { ROOM }
+}
+
+/// Tells each line of an input, and says its reply.
+fn tell_all<O: OfficeOfRecords, F: Front, R: Read, W: Write>(
     alloc: Global,
-    opened: &mut ClockedDesk<'_, O, F>,
-    is_strict: bool,
+    office: &mut O,
+    front: &F,
+    way: &Way,
     reader: &mut R,
     writer: &mut W,
 ) -> Result<(), Failure>
     ensures { (lines replies : List (List ℕ))
-        × Leads O.is_clean O.stands (λ identity before after. Answered (Entry O.signs F.told identity) before lines replies after)
-        opened.old.office opened.new.office
-        × LinesEnd is_strict lines replies (R.remaining reader.old) (R.remaining reader.new)
+        × Answered (TellsBy O.is_clean O.stands way.now.is_clocked O.signs F.told) office.old lines replies office.new
+        × LinesEnd way.now.is_strict lines replies (R.remaining reader.old) (R.remaining reader.new)
         (W.contents writer.old) (W.contents writer.new) result }
 {
-    tell_all(alloc, opened, CLOCKED_ROOM, is_strict, reader, writer)
-}
-
-/// Runs each line at its own moment.
-fn run_unclocked<O: OfficeOfRecords, R: Read, W: Write>(
-    alloc: Global,
-    lined: &mut LinedDesk<O>,
-    is_strict: bool,
-    reader: &mut R,
-    writer: &mut W,
-) -> Result<(), Failure>
-    ensures { (lines replies : List (List ℕ))
-        × Leads O.is_clean O.stands (λ identity before after. Answered (LineRuns O.signs identity) before lines replies after)
-        lined.old.office lined.new.office
-        × LinesEnd is_strict lines replies (R.remaining reader.old) (R.remaining reader.new)
-        (W.contents writer.old) (W.contents writer.new) result }
-{
-    tell_all(alloc, lined, ROOM, is_strict, reader, writer)
-}
-
-/// Tells each line of an input, with room for so many bytes of one, and says its reply.
-fn tell_all<H: Handler, R: Read, W: Write>(
-    alloc: Global,
-    handler: &mut H,
-    room: usize,
-    is_strict: bool,
-    reader: &mut R,
-    writer: &mut W,
-) -> Result<(), Failure>
-    requires { 0 < room }
-    ensures { (lines replies : List (List ℕ)) × Answered H.tells handler.old lines replies handler.new
-        × LinesEnd is_strict lines replies (R.remaining reader.old) (R.remaining reader.new)
-        (W.contents writer.old) (W.contents writer.new) result }
-{
+    let room = room_of(way.is_clocked);
     match vec![in alloc; 0; room] {
-        Ok(mut buffer) => tell_lines(alloc, handler, is_strict, reader, writer, &mut buffer),
+        Ok(mut buffer) => tell_lines(alloc, office, front, way, reader, writer, &mut buffer),
         Err(_) => Err(Failure::Fault(Fault::Memory)),
     }
 }
 
 /// Tells each line of an input, and says its reply: as many lines as a script may have.
-fn tell_lines<H: Handler, R: Read, W: Write>(
+fn tell_lines<O: OfficeOfRecords, F: Front, R: Read, W: Write>(
     alloc: Global,
-    handler: &mut H,
-    is_strict: bool,
+    office: &mut O,
+    front: &F,
+    way: &Way,
     reader: &mut R,
     writer: &mut W,
     buffer: &mut [u8],
 ) -> Result<(), Failure>
     requires { 0 < length buffer.old }
-    ensures { (lines replies : List (List ℕ)) × Answered H.tells handler.old lines replies handler.new
-        × LinesEnd is_strict lines replies (R.remaining reader.old) (R.remaining reader.new)
+    ensures { (lines replies : List (List ℕ))
+        × Answered (TellsBy O.is_clean O.stands way.now.is_clocked O.signs F.told) office.old lines replies office.new
+        × LinesEnd way.now.is_strict lines replies (R.remaining reader.old) (R.remaining reader.new)
         (W.contents writer.old) (W.contents writer.new) result }
 {
     let mut held = 0;
     for _ in 0..MOST_LINES {
-        match tell_next(alloc, handler, is_strict, reader, writer, buffer, held) {
+        match tell_next(alloc, office, front, way, reader, writer, buffer, held) {
             Ok(Some(left)) => held = left,
             Ok(None) => return Ok(()),
             Err(why) => return Err(why),
@@ -162,22 +119,23 @@ fn tell_lines<H: Handler, R: Read, W: Write>(
 
 /// Tells the next line. `Some` tells how many bytes are held after it, at the front of the buffer; `None` that the input is
 /// at its end.
-fn tell_next<H: Handler, R: Read, W: Write>(
+fn tell_next<O: OfficeOfRecords, F: Front, R: Read, W: Write>(
     alloc: Global,
-    handler: &mut H,
-    is_strict: bool,
+    office: &mut O,
+    front: &F,
+    way: &Way,
     reader: &mut R,
     writer: &mut W,
     buffer: &mut [u8],
     held: usize,
 ) -> Result<Option<usize>, Failure>
     requires { held ≤ length buffer.old }
-    ensures { NextEnds H.tells is_strict handler.old handler.new (W.contents writer.old) (W.contents writer.new)
-        (R.remaining reader.old) (R.remaining reader.new) (take held buffer.old) buffer.new result }
+    ensures { NextEnds (TellsBy O.is_clean O.stands way.now.is_clocked O.signs F.told) way.now.is_strict office.old office.new
+        (W.contents writer.old) (W.contents writer.new) (R.remaining reader.old) (R.remaining reader.new) (take held buffer.old) buffer.new result }
 {
     match fill_to_mark(reader, buffer, held, b"\n") {
         Ok(Reached::Mark { end, held }) => {
-            match tell_line(alloc, handler, is_strict, writer, &buffer[..end]) {
+            match tell_line(alloc, office, front, way, writer, &buffer[..end]) {
                 Ok(()) => {
                     buffer.rotate_left(end);
                     Ok(Some(held - end))
@@ -188,8 +146,9 @@ fn tell_next<H: Handler, R: Read, W: Write>(
         Ok(Reached::End { held: 0 }) => Ok(None),
         Ok(Reached::End { held }) => match tell_last(
             alloc,
-            handler,
-            is_strict,
+            office,
+            front,
+            way,
             writer,
             &buffer[..held],
         ) {
@@ -205,19 +164,21 @@ fn tell_next<H: Handler, R: Read, W: Write>(
 ///
 /// # Errors
 /// `NoLineEnd` where it is strict, and the line did not run; else as of [`tell_line`].
-fn tell_last<H: Handler, W: Write>(
+fn tell_last<O: OfficeOfRecords, F: Front, W: Write>(
     alloc: Global,
-    handler: &mut H,
-    is_strict: bool,
+    office: &mut O,
+    front: &F,
+    way: &Way,
     writer: &mut W,
     line: &[u8],
 ) -> Result<(), Failure>
-    ensures { LastEnds H.tells is_strict handler.old handler.new (W.contents writer.old) (W.contents writer.new) line.now result }
+    ensures { LastEnds (TellsBy O.is_clean O.stands way.now.is_clocked O.signs F.told) way.now.is_strict office.old office.new
+        (W.contents writer.old) (W.contents writer.new) line.now result }
 {
-    if is_strict {
+    if way.is_strict {
         return Err(Failure::NoLineEnd);
     }
-    tell_line(alloc, handler, is_strict, writer, line)
+    tell_line(alloc, office, front, way, writer, line)
 }
 
 /// Tells a line, and says its reply.
@@ -225,25 +186,25 @@ fn tell_last<H: Handler, W: Write>(
 /// # Errors
 /// `Refused` at a reply that is a refusal or a fault, where it is strict; `Read` where the clock can't be read, and the line did not
 /// run; `Memory` where there was none for the reply, and `Write`: the line ran.
-fn tell_line<H: Handler, W: Write>(
+fn tell_line<O: OfficeOfRecords, F: Front, W: Write>(
     alloc: Global,
-    handler: &mut H,
-    is_strict: bool,
+    office: &mut O,
+    front: &F,
+    way: &Way,
     writer: &mut W,
     line: &[u8],
 ) -> Result<(), Failure>
-    ensures { TellEnds H.tells is_strict handler.old handler.new (W.contents writer.old) (W.contents writer.new) line.now result }
+    ensures { TellEnds (TellsBy O.is_clean O.stands way.now.is_clocked O.signs F.told) way.now.is_strict office.old office.new
+        (W.contents writer.old) (W.contents writer.new) line.now result }
 {
-    // A script notes nothing of a line for those behind it.
-    let mut noted = Vec::new(alloc);
-    let Ok(reply) = handler.tell(line, &mut noted) else {
+    let Ok(reply) = tell_by(alloc, office, front, way.is_clocked, line) else {
         return Err(Failure::Fault(Fault::Read));
     };
     if reply.is_empty() {
         return Err(Failure::Fault(Fault::Memory));
     }
     match say(writer, &reply) {
-        Ok(()) => passed(is_strict, &reply),
+        Ok(()) => passed(way.is_strict, &reply),
         Err(why) => Err(why),
     }
 }

@@ -62,7 +62,8 @@ fn given_list<P: Place>(
     from: Cursor,
     form: Form,
 ) -> Result<Vec<u8>, Fault>
-    ensures { Leads P.Opened.is_clean P.Opened.stands (λ identity before after. GivesWholeList before now form from (items_of result) after) register.old register.new }
+    ensures { Leads P.Opened.is_clean P.Opened.stands (λ identity before after. GivesWholeList before now form from (items_of result) after)
+        register.old register.new }
 {
     let first = from;
     let mut text = opening(alloc, form, first)?;

@@ -1,6 +1,6 @@
 //! The job `open`: a register that is kept open, for peers and for lines at a counter.
 
-ghost use Rattle.std.specs.Prelude.{◌≡◌, ◌⊎◌, ℕ, List, OnOk, IfErr};
+ghost use Rattle.std.specs.Prelude.{◌≡◌, ◌⊎◌, List, OnOk, IfErr};
 ghost use Rattle.reg_calls.specs.Leads.{Leads};
 ghost use Rattle.reg_hub.specs.Exchange.{Input, Outcome};
 ghost use Rattle.reg_jobs.specs.Ends.{OpenAt};
@@ -34,7 +34,8 @@ pub fn hold_open<'w, P: Place, F: Front, W: Write>(
     counter: &str,
     writer: &mut W,
 ) -> Result<(), Failure>
-    ensures { OpenAt W.contents writer.old writer.new P.Place P.Opened.OfficeOfRecords.own place.old place.new F.Front path.now signer.now answerer.now port counter.now result }
+    ensures { OpenAt W.contents writer.old writer.new P.Place P.Opened.OfficeOfRecords.own place.old place.new F.Front
+        path.now signer.now answerer.now port counter.now result }
 {
     let office = place.open_to_sign(path, signer, answerer)?;
     let alloc = rt.alloc();

@@ -160,7 +160,11 @@ pub(crate) fn reason_line(alloc: Global, front: &[u8], reason: Option<Reason>) -
 }
 
 /// A text, words behind it and an LF.
-fn front_and_end(alloc: Global, front: &[u8], words: &[u8]) -> Result<Vec<u8>, AllocError>
+pub(crate) fn front_and_end(
+    alloc: Global,
+    front: &[u8],
+    words: &[u8],
+) -> Result<Vec<u8>, AllocError>
     ensures { IfOk result (λ text. text.items ≡ front.now ++ words.now ++ 10 ∷ []) }
 {
     let mut text = Vec::from_slice(alloc, front)?;

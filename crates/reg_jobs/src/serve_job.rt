@@ -1,6 +1,6 @@
 //! The job `serve`: HTTP on the loopback interface, many peers at once.
 
-ghost use Rattle.std.specs.Prelude.{◌≡◌, ◌≢◌, ◌⊎◌, ◌++◌, ◌∷◌, [], ℕ, List, decimal, OnOk, IfErr, MatchResult};
+ghost use Rattle.std.specs.Prelude.{◌≡◌, ◌≢◌, ◌⊎◌, ◌++◌, ◌∷◌, [], List, decimal, OnOk, IfErr, MatchResult};
 ghost use Rattle.reg_calls.specs.Leads.{Leads};
 ghost use Rattle.reg_hub.specs.Exchange.{Input, Outcome, Handles, asked_in};
 ghost use Rattle.reg_jobs.specs.Ends.{SaysText, ServeAt};
@@ -36,7 +36,8 @@ pub fn serve<'w, P: Place, F: Front, W: Write>(
     requests: u32,
     writer: &mut W,
 ) -> Result<(), Failure>
-    ensures { ServeAt W.contents writer.old writer.new P.Place P.Opened.OfficeOfRecords.own place.old place.new F.Front path.now signer.now answerer.now port requests result }
+    ensures { ServeAt W.contents writer.old writer.new P.Place P.Opened.OfficeOfRecords.own place.old place.new F.Front
+        path.now signer.now answerer.now port requests result }
 {
     let office = place.open_to_sign(path, signer, answerer)?;
     let alloc = rt.alloc();
@@ -110,7 +111,8 @@ pub(crate) fn serve_hub<H: Handler, W: Write>(
     requests: u64,
     writer: &mut W,
 ) -> Result<(), Failure>
-    ensures { (inputs : List Input) × (outcomes : List (Outcome H.Ticket)) × Answered (Handles H.answers H.tells H.defers) handler.old inputs outcomes handler.new
+    ensures { (inputs : List Input) × (outcomes : List (Outcome H.Ticket))
+        × Answered (Handles H.answers H.tells H.defers) handler.old inputs outcomes handler.new
         × Served port requests inputs (W.contents writer.old) (W.contents writer.new) result }
 {
     let served = serve_over(rt, &mut hub, handler, port, requests, writer);
@@ -127,7 +129,8 @@ fn serve_over<H: Handler, W: Write>(
     requests: u64,
     writer: &mut W,
 ) -> Result<(), Failure>
-    ensures { (inputs : List Input) × (outcomes : List (Outcome H.Ticket)) × Answered (Handles H.answers H.tells H.defers) handler.old inputs outcomes handler.new
+    ensures { (inputs : List Input) × (outcomes : List (Outcome H.Ticket))
+        × Answered (Handles H.answers H.tells H.defers) handler.old inputs outcomes handler.new
         × Served port requests inputs (W.contents writer.old) (W.contents writer.new) result }
 {
     match tell_port(writer, port) {
@@ -164,7 +167,8 @@ fn answer_all<H: Handler>(
     handler: &mut H,
     requests: u64,
 ) -> Result<(), Failure>
-    ensures { (inputs : List Input) × (outcomes : List (Outcome H.Ticket)) × Answered (Handles H.answers H.tells H.defers) handler.old inputs outcomes handler.new
+    ensures { (inputs : List Input) × (outcomes : List (Outcome H.Ticket))
+        × Answered (Handles H.answers H.tells H.defers) handler.old inputs outcomes handler.new
         × MatchResult result (λ done. asked_in inputs ≡ requests)
         (λ why. (why ≡ Failure.Fault Fault.Read) × (asked_in inputs ≢ requests)) }
 {

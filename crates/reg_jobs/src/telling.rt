@@ -1,6 +1,6 @@
 //! What a job says.
 
-ghost use Rattle.std.specs.Prelude.{◌++◌, ◌∷◌, []};
+ghost use Rattle.std.specs.Prelude.{◌∷◌, []};
 ghost use Rattle.reg_causes.specs.Causes.{cause_line};
 ghost use Rattle.reg_endings.specs.Endings.{failure_line};
 ghost use Rattle.reg_jobs.specs.Ends.{SaysText};
@@ -44,7 +44,14 @@ pub fn tell<W: Write>(errors: &mut W, failure: &Failure)
     ensures { IsToldLine (W.contents errors.old) (W.contents errors.new) (failure_line failure.now) }
 {
     let line = failure.line();
-    match write_whole(errors, line.as_bytes()) {
+    tell_line(errors, line.as_bytes());
+}
+
+/// Tells a line, and ends it.
+fn tell_line<W: Write>(errors: &mut W, line: &[u8])
+    ensures { IsToldLine (W.contents errors.old) (W.contents errors.new) line.now }
+{
+    match write_whole(errors, line) {
         Ok(()) => end_line(errors),
         Err(_) => {}
     }
@@ -90,10 +97,7 @@ fn tell_cause<W: Write>(errors: &mut W, cause: Cause)
     ensures { IsToldLine (W.contents errors.old) (W.contents errors.new) (cause_line cause) }
 {
     let line = cause.line();
-    match write_whole(errors, line.as_bytes()) {
-        Ok(()) => end_line(errors),
-        Err(_) => {}
-    }
+    tell_line(errors, line.as_bytes());
 }
 
 /// Ends a line.

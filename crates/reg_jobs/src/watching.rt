@@ -1,10 +1,13 @@
 //! What an open desk tells of itself, at two routes of its own: `/health` and `/metrics`.
 
-ghost use Rattle.std.specs.Prelude.{◌≡◌, ◌≤◌, [], Ok, IfOk, IfSome, vec_capacity};
+ghost use Rattle.std.specs.Prelude.{◌≡◌, ◌≤◌, [], IfOk, IfSome, vec_capacity};
+ghost use Rattle.reg_calls.specs.Answered.{IsAnswered};
 ghost use Rattle.reg_calls.specs.Leads.{Leads};
 ghost use Rattle.reg_heads.specs.Response.{Response, shown};
 ghost use Rattle.reg_http.specs.Asked.{path_of as path_in};
-ghost use Rattle.reg_jobs.specs.Watched.{AsksItself, HasCountsAt, HasDue, HasFound, HasOverdue, HasRequests, IsRecounted, Recounts, TellsItself, Writes, ask_at as ask_told, ask_of as ask_in, by_get, counts_in, due_in, health_response, many_in, metrics_response, only_get as only_get_told, overdue_in, health_status as status_told, told_by};
+ghost use Rattle.reg_jobs.specs.Watched.{AsksItself, HasFound, HasRequests, IsRecounted, Recounts, TellsItself, Writes, ask_at as asked_by, ask_of as ask_in};
+ghost use Rattle.reg_jobs.specs.Watched.{by_get, counts_in, due_in, health_response, health_status as status_told, many_in, metrics_response};
+ghost use Rattle.reg_jobs.specs.Watched.{only_get as only_get_told, overdue_in, told_by};
 ghost use Rattle.reg_watch.specs.Metrics.{metrics_text};
 
 use crate::place::Place;
@@ -63,7 +66,7 @@ pub(crate) fn asked_itself(alloc: Global, request: &[u8]) -> Result<Option<Ask>,
 fn ask_of(method: &str, target: &str) -> Option<Ask>
     ensures { result ≡ ask_in method.now target.now }
 {
-    match ask_at(path_of(target)) {
+    match ask_by(path_of(target)) {
         Some(ask) => Some(with_method(method, ask)),
         None => None,
     }
@@ -80,8 +83,8 @@ fn path_of(target: &str) -> &str
 }
 
 /// What a path asks of it.
-fn ask_at(path: &str) -> Option<Ask>
-    ensures { result ≡ ask_told path.now }
+fn ask_by(path: &str) -> Option<Ask>
+    ensures { result ≡ asked_by path.now }
 {
     if path == "/health" {
         Some(Ask::Health)
@@ -156,34 +159,16 @@ fn tell_metrics<P: Place>(
 fn found_at<P: Place>(alloc: Global, office: &mut P::Opened, now: Moment) -> Found
     ensures { Leads P.Opened.is_clean P.Opened.stands (λ identity before after. HasFound before now result × (after ≡ before)) office.old office.new }
 {
-    match counts_at(alloc, office, now) {
-        Ok(counts) => found_with::<P>(alloc, office, now, counts),
-        Err(fault) => Err(fault),
-    }
-}
-
-/// The same, with these counts.
-fn found_with<P: Place>(alloc: Global, office: &mut P::Opened, now: Moment, counts: Counts) -> Found
-    ensures { Leads P.Opened.is_clean P.Opened.stands
-        (λ identity before after. (HasCountsAt before now (Ok counts) → HasFound before now result) × (after ≡ before)) office.old office.new }
-{
-    match due_at(alloc, office, now) {
-        Ok(due) => found_due::<P>(office, now, counts, due),
-        Err(fault) => Err(fault),
-    }
-}
-
-/// The same, with the moment at which the next CRL is due.
-fn found_due<P: Place>(
-    office: &mut P::Opened,
-    now: Moment,
-    counts: Counts,
-    due: Option<Moment>,
-) -> Found
-    ensures { Leads P.Opened.is_clean P.Opened.stands
-        (λ identity before after. (HasCountsAt before now (Ok counts) → HasDue before now (Ok due) → HasFound before now result) × (after ≡ before))
-        office.old office.new }
-{
+    let counted = ask_at(alloc, office, now, &Query::Counts);
+    let counts = match counts_of(counted) {
+        Ok(counts) => counts,
+        Err(fault) => return Err(fault),
+    };
+    let asked = ask_at(alloc, office, now, &Query::NextCrl);
+    let due = match due_of(asked) {
+        Ok(due) => due,
+        Err(fault) => return Err(fault),
+    };
     match P::standing(office) {
         Ok(standing) => Ok(Numbers {
             counts,
@@ -194,33 +179,16 @@ fn found_due<P: Place>(
     }
 }
 
-/// How many certificates have each status.
-fn counts_at<O: OfficeOfRecords>(
+/// Asks a query at a moment.
+pub(crate) fn ask_at<O: OfficeOfRecords>(
     alloc: Global,
     office: &mut O,
     now: Moment,
-) -> Result<Counts, Fault>
-    ensures { Leads O.is_clean O.stands (λ identity before after. HasCountsAt before now result × (after ≡ before)) office.old office.new }
+    query: &Query,
+) -> Outcome
+    ensures { Leads O.is_clean O.stands (λ identity before after. IsAnswered before now query.now result × (after ≡ before)) office.old office.new }
 {
-    counts_of(office.ask(alloc, now, &Query::Counts))
-}
-
-/// When the next CRL is due.
-fn due_at<O: OfficeOfRecords>(
-    alloc: Global,
-    office: &mut O,
-    now: Moment,
-) -> Result<Option<Moment>, Fault>
-    ensures { Leads O.is_clean O.stands (λ identity before after. HasDue before now result × (after ≡ before)) office.old office.new }
-{
-    due_of(office.ask(alloc, now, &Query::NextCrl))
-}
-
-/// How many requests for revocation are overdue.
-fn overdue_at<O: OfficeOfRecords>(alloc: Global, office: &mut O, now: Moment) -> Result<u64, Fault>
-    ensures { Leads O.is_clean O.stands (λ identity before after. HasOverdue before now result × (after ≡ before)) office.old office.new }
-{
-    overdue_of(office.ask(alloc, now, &Query::Overdue))
+    office.ask(alloc, now, query)
 }
 
 /// The counts that an outcome tells.
@@ -297,29 +265,14 @@ fn requests_at<P: Place>(
 ) -> Result<Requests, Fault>
     ensures { Leads P.Opened.is_clean P.Opened.stands (λ identity before after. HasRequests before now result × (after ≡ before)) office.old office.new }
 {
-    match overdue_at(alloc, office, now) {
-        Ok(overdue) => requests_with::<P>(office, now, overdue),
-        Err(fault) => Err(fault),
-    }
-}
-
-/// The same, of which so many are overdue.
-fn requests_with<P: Place>(
-    office: &mut P::Opened,
-    now: Moment,
-    overdue: u64,
-) -> Result<Requests, Fault>
-    ensures { Leads P.Opened.is_clean P.Opened.stands
-        (λ identity before after. (HasOverdue before now (Ok overdue) → HasRequests before now result) × (after ≡ before)) office.old office.new }
-{
-    match P::open_count(office, now) {
-        Ok(waiting) => Ok(Requests {
-            at: now,
-            waiting,
-            overdue,
-        }),
-        Err(fault) => Err(fault),
-    }
+    let asked = ask_at(alloc, office, now, &Query::Overdue);
+    let overdue = overdue_of(asked)?;
+    let waiting = P::open_count(office, now)?;
+    Ok(Requests {
+        at: now,
+        waiting,
+        overdue,
+    })
 }
 
 /// The answer that tells whether all is well: 200, or 503.

@@ -1,4 +1,4 @@
-use Rattle.std.proofs.Common.{◌∙◌, inl, inr, refl}
+use Rattle.std.proofs.Common.{inl, inr, refl}
 use Rattle.reg_jobs.proofs.at_job.at_rows.Goals as goal
 
 pub returns-in-Ok : goal.returns-in-Ok

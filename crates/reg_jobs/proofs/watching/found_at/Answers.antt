@@ -1,24 +1,22 @@
-use Rattle.std.proofs.Common.{Ok, Err}
-use Rattle.reg_jobs.specs.Watched.{HasCountsAt, HasFound}
-use Rattle.reg_jobs.proofs.Looks.{found_not_counts, looks_as, looks_then}
+use Rattle.reg_jobs.proofs.Looks.{all_found, no_counts, no_due, no_standing}
 use Rattle.reg_jobs.proofs.watching.found_at.Goals as goal
-
-pub returns-in-Ok : goal.returns-in-Ok
-returns-in-Ok g c =
-    looks_as g.P.Opened.OfficeOfRecords.is_clean g.P.Opened.OfficeOfRecords.stands
-    (λ records. HasCountsAt records c.args.now (Ok c.in-Ok.counts) × (HasCountsAt records c.args.now (Ok c.in-Ok.counts) → HasFound records c.args.now c.found_with.result))
-    (λ records. HasFound records c.args.now c.found_with.result)
-    (λ records both. both.1 both.0)
-    _
-    _
-    (looks_then g.P.Opened.OfficeOfRecords.is_clean g.P.Opened.OfficeOfRecords.stands _ _ _ _ _ c.in-Ok.ensures c.found_with.ensures)
 
 pub returns-in-Err : goal.returns-in-Err
 returns-in-Err g c =
-    looks_as g.P.Opened.OfficeOfRecords.is_clean g.P.Opened.OfficeOfRecords.stands
-    (λ records. HasCountsAt records c.args.now (Err c.in-Err.fault))
-    (λ records. HasFound records c.args.now (Err c.in-Err.fault))
-    (λ records. found_not_counts records c.args.now c.in-Err.fault)
-    _
-    _
-    c.in-Err.ensures
+    no_counts g.P.Opened.OfficeOfRecords.is_clean g.P.Opened.OfficeOfRecords.stands c.args.now _ _ c.ask_at-counted.result _
+    c.in-Err.ensures c.ask_at-counted.ensures
+
+pub returns-in-Err-due_of : goal.returns-in-Err-due_of
+returns-in-Err-due_of g c =
+    no_due g.P.Opened.OfficeOfRecords.is_clean g.P.Opened.OfficeOfRecords.stands c.args.now _ _ _ c.ask_at-counted.result c.ask_at-asked.result _
+    c.in-Err-due_of.ensures c.ask_at-counted.ensures c.ask_at-asked.ensures
+
+pub returns-in-Err-standing : goal.returns-in-Err-standing
+returns-in-Err-standing g c =
+    no_standing g.P.Opened.OfficeOfRecords.is_clean g.P.Opened.OfficeOfRecords.stands c.args.now _ _ _ _ c.ask_at-counted.result c.ask_at-asked.result _
+    c.in-Err-standing.ensures.faults c.ask_at-counted.ensures c.ask_at-asked.ensures c.in-Err-standing.ensures.moves
+
+pub returns-in-Ok-standing : goal.returns-in-Ok-standing
+returns-in-Ok-standing g c =
+    all_found g.P.Opened.OfficeOfRecords.is_clean g.P.Opened.OfficeOfRecords.stands c.args.now _ _ _ _ c.ask_at-counted.result c.ask_at-asked.result _ _ _
+    c.in-Ok.ensures c.in-Ok-due_of.ensures c.ask_at-counted.ensures c.ask_at-asked.ensures c.in-Ok-standing.ensures.moves

@@ -1,4 +1,4 @@
-use Rattle.std.proofs.Common.{Ok, Err, inl, inr, refl}
+use Rattle.std.proofs.Common.{Ok, inl, inr, refl}
 use Rattle.reg_jobs.specs.Watched.{HasRequests, Recounts}
 use Rattle.reg_jobs.proofs.Looks.{looks_as}
 use Rattle.reg_jobs.proofs.watching.recount_now.Goals as goal

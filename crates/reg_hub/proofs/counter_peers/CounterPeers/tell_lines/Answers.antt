@@ -1,12 +1,5 @@
-use Rattle.std.proofs.Common.{refl}
-use Rattle.reg_hub.proofs.Exchanges.{exchanged_none, exchanged_then}
+use Rattle.reg_hub.proofs.Exchanges.{exchanged_then}
 use Rattle.reg_hub.proofs.counter_peers.CounterPeers.tell_lines.Goals as goal
-
-pub returns-then-not-self : goal.returns-then-not-self
-returns-then-not-self g c made = exchanged_none g.H.Handler.answers g.H.Handler.tells g.H.Handler.defers _ _ made made refl refl
-
-pub loop-place-init : goal.loop-place-init
-loop-place-init g c made = exchanged_none g.H.Handler.answers g.H.Handler.tells g.H.Handler.defers _ _ made made refl refl
 
 pub returns-in-Err : goal.returns-in-Err
 returns-in-Err g c made =
