@@ -1,5 +1,5 @@
 -- A schedule or a key identifier that is set, as a step of the records.
-use Rattle.std.proofs.Common.{◌≡◌, ◌∙◌, ℕ, List, Result, Ok, Err, OnOk, OnErr, refl, sym, subst}
+use Rattle.std.proofs.Common.{◌≡◌, ◌∙◌, Result, Ok, Err, OnOk, OnErr, sym, subst}
 use Rattle.sqlite.specs.Held.{Held, state}
 use Rattle.sqlite.specs.State.{HasCleanDisk}
 use Rattle.sqlite_trees.specs.Tree.{Trees}
@@ -11,8 +11,8 @@ use Rattle.reg_calls.specs.CallSteps.{Signs}
 use Rattle.reg_office.proofs.Leaving.{leaves_more, leaves_settled}
 use Rattle.reg_office.proofs.Standing.{stands_on}
 use Rattle.reg_office.proofs.Stopping.{Settles}
-use Rattle.reg_office.specs.AfterStoppedCommand.{IsOneMore, LeavesTold}
-use Rattle.reg_office.specs.Calls.{LeadsOver, StandsFor}
+use Rattle.reg_office.specs.AfterStoppedCommand.{IsOneMore}
+use Rattle.reg_office.specs.Calls.{LeadsOver}
 use Rattle.reg_office.specs.Stands.{Stands}
 use Rattle.reg_tables.specs.Stays.{Changed, IsRegister, Stays}
 use Rattle.reg_tables.specs.declared.fault.StoreFault.{StoreFault}
@@ -49,17 +49,4 @@ module _ {C : Type 0} (g : Ghosts C) (signs : Signs) (who who' : Signatory) (old
           unset why before,
           (same ∙ is, stands_on g signs old new those.crls before changed.survives.clean err stands, leaves_more g signs those.crls old new before Made changed.survives may leaves),
         )),
-  )
-
--- What stands in a store that is the same, for the same who sign.
-module _ {C : Type 0} (g : Ghosts C) (signs : Signs) (who who' : Signatory) (old new : Held C) where
-  pub same_moves : new ≡ old → who' ≡ who → LeadsOver g signs (λ those before after. after ≡ before) (old, who) (new, who')
-  same_moves store same = (
-    (λ clean.
-        let P : Held C → Type 0 = λ held. HasCleanDisk (state g held) in
-        subst P store clean),
-    (λ those before stood clean.
-        let P : Held C → Type 0 = λ held. Stands g signs held those.crls before × LeavesTold g signs held those.crls before in
-        let (stands, leaves) = subst P (sym store) (stood.1, stood.2) in
-        (before, refl, (same ∙ stood.0, stands, leaves))),
   )

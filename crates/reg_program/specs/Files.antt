@@ -1,9 +1,9 @@
 -- What is known of a register in a file.
 use Rattle.std.specs.Prelude.{◌≡◌, ◌≤◌, ◌⊎◌, Some, None}
 use Rattle.sqlite.specs.Files.{file_state, over_files, IsOpened}
-use Rattle.sqlite.specs.Held.{Held, IsNew}
+use Rattle.sqlite.specs.Held.{Held, IsNew, state}
 use Rattle.sqlite.specs.Start.{FindsIn}
-use Rattle.sqlite.specs.State.{HasCleanDisk}
+use Rattle.sqlite.specs.State.{HasCleanDisk, IsLive, Opens}
 use Rattle.sqlite_trees.specs.declared.store.Store.{Ghosts}
 use Rattle.sqlite_wal.specs.Recovery.{Image}
 use Rattle.sqlite_disk.specs.declared.Disk as disk
@@ -24,12 +24,15 @@ use Rattle.reg_table_audit.specs.ReadableValues.{HasAllowedDays}
 use Rattle.reg_verdict.specs.Presumed.{IsPresumed}
 use Rattle.reg_verdict.specs.Verdicts.{CountedBy, DeniedBy, IsSound, TellsOf}
 use Rattle.reg_findings.specs.declared.verdict.Verdict.{Verdict}
+use Rattle.reg_calls.specs.CallSteps.{Signs}
 use Rattle.reg_calls.specs.Signatories.{Signatory}
+use Rattle.reg_crl.specs.Signing.{Identity}
 use Rattle.reg_endings.specs.declared.failure.Failure.{Failure}
 use Rattle.reg_endings.specs.declared.failure.Failure.TheVariants as failure
 use Rattle.reg_files.specs.declared.reading.Unread.{Unread}
 use Rattle.reg_files.specs.declared.reading.Unread.TheVariants as unread
-use Rattle.reg_office.specs.AfterStoppedCommand.{LeavesThese}
+use Rattle.reg_office.specs.AfterStoppedCommand.{LeavesThese, LeavesTold}
+use Rattle.reg_office.specs.Stands.{Stands}
 use Rattle.reg_jobs.specs.WhoSigns.{EmbedsOwn, Follows, IsAnswering, IsSigning, OfCrls, Signing, answerer_of, crls_told}
 use Rattle.reg_words.specs.declared.job.Answerer.{Answerer}
 use Rattle.reg_words.specs.declared.job.Answerer.TheVariants.{Issuer, Delegate}
@@ -38,29 +41,45 @@ use Rattle.reg_words.specs.declared.job.Answerer.TheVariants.{Issuer, Delegate}
 abbrev pub Showed : {C : Type 0} → Ghosts C → Held C → Records → Type 0
 Showed g held records = ShowsKept g held records ⊎ ((version : OlderVersion) × ShowsOlder version g held records × SoundRows records)
 
+-- A connection to a database.
+module _ {C : Type 0} (g : Ghosts C) (connection : Held C) where
+  -- its database is whole where its store returned what was written
+  abbrev pub IsWhole : Type 0
+  IsWhole = HasCleanDisk (state g connection) → Opens (state g connection) × IsLive (state g connection)
+
+  -- What a register holds that was opened over it shows the records that it showed, also those that its tables showed as ones of an
+  -- older version. Who signs CRLs is as it was told, or as the latest CRL tells where nothing will be signed; over the issuer's key, and
+  -- under the algorithm of the latest CRL, or behind one that the digest sealed. A certificate that stands with OCSP answers by the
+  -- issuer's key is of that key. A stop leaves the records that it showed.
+  pub record OpensOver (signing : OfCrls) (register : Held C) (who : Signatory) : Type 0 where
+    pub kept : (records : Records) → ShowsKept g connection records → ShowsKept g register records
+    pub migrated : (version : OlderVersion) (records : Records) → ShowsOlder version g connection records → SoundRows records → ShowsKept g register records
+    pub clean : doubt (state g connection).is_clean ≤ doubt (state g register).is_clean
+    pub told : (records : Records) → Showed g connection records → HasCleanDisk (state g register) → IsSigning signing records.issuer.key who.crls
+    pub follows : (records : Records) → Showed g connection records → SoundRows records → HasCleanDisk (state g register)
+        → Follows records who.crls.algorithm
+    pub embeds : (records : Records) → Showed g connection records → HasCleanDisk (state g register) → EmbedsOwn records.issuer.key who.answers
+    pub leaves : IsWhole → (records : Records) → ShowsKept g connection records → LeavesThese g register records
+
+  -- In what a register holds that was made over it these records stand, and a stop leaves them, or one change more; it had no table, index
+  -- or view.
+  pub record MakesOver (signs : Signs) (register : Held C) (who : Identity) (records : Records) : Type 0 where
+    pub stands : Stands g signs register who records
+    pub leaves : IsWhole → LeavesTold g signs register who records
+    pub empty : connection.schema ≡ no_schema
+    pub clean : doubt (state g connection).is_clean ≤ doubt (state g register).is_clean
+
 module _ {D : Type 0} {g : disk.Ghosts D} where
   -- a connection that is new and in no transaction, to a database that is whole where the disk returned what was written
   pub record IsConnection (connection : Held (FileStore D g)) : Type 0 where
     pub fresh : IsNew connection
     pub whole : HasCleanDisk (file_state connection) → IsOpened connection
 
-  -- What a register holds was opened by a connection, and shows the records that the connection showed, also those that its
-  -- tables showed as ones of an older version. Who signs CRLs is as it was told, or as the latest CRL tells where nothing will be
-  -- signed; over the issuer's key, and under the algorithm of the latest CRL, or behind one that the digest sealed. A certificate that
-  -- stands with OCSP answers by the issuer's key is of that key. A stop leaves the records that the connection showed.
+  -- what a register holds was opened over a connection to a file
   pub record IsOpenedFrom (signing : OfCrls) (register : Held (FileStore D g)) (who : Signatory) : Type 0 where
     pub connection : Held (FileStore D g)
     pub connects : IsConnection connection
-    pub kept : (records : Records) → ShowsKept over_files connection records → ShowsKept over_files register records
-    pub migrated : (version : OlderVersion) (records : Records) → ShowsOlder version over_files connection records → SoundRows records → ShowsKept over_files register records
-    pub clean : doubt (file_state connection).is_clean ≤ doubt (file_state register).is_clean
-    pub told : (records : Records) → Showed over_files connection records → HasCleanDisk (file_state register)
-        → IsSigning signing records.issuer.key who.crls
-    pub follows : (records : Records) → Showed over_files connection records → SoundRows records → HasCleanDisk (file_state register)
-        → Follows records who.crls.algorithm
-    pub embeds : (records : Records) → Showed over_files connection records → HasCleanDisk (file_state register)
-        → EmbedsOwn records.issuer.key who.answers
-    pub leaves : (records : Records) → ShowsKept over_files connection records → LeavesThese over_files register records
+    pub opens : OpensOver over_files connection signing register who
 
   -- the same for all that it was opened for: OCSP requests are answered in it as it was told
   pub record IsOpenedFor (signing : Signing) (register : Held (FileStore D g)) (who : Signatory) : Type 0 where

@@ -1,8 +1,8 @@
 //! How far an audit is, told on standard error.
 
 use crate::machine::Machine;
+use crate::progress::seconds;
 use reg_table_audit::Watch;
-use std::time::Clock;
 
 /// Who watches an audit: at most once a second it tells how many rows were read and how many CRLs compared, where that is to
 /// be told.
@@ -54,13 +54,5 @@ impl Watch for AuditProgress {
     fn crl_compared(&mut self) {
         self.crls = self.crls.saturating_add(1);
         self.tell();
-    }
-}
-
-/// The seconds of the machine's clock since an arbitrary start; 0 where it can't be read.
-fn seconds(rt: &HostRuntime) -> u64 {
-    match rt.monotonic() {
-        Ok(time) => time.as_secs(),
-        Err(_) => 0,
     }
 }

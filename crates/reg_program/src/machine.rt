@@ -39,38 +39,17 @@ impl<'a> Machine<'a> {
 
     /// The same machine, whose log is standard error where exchanges are to be told.
     pub fn with_log(self, has_log: bool) -> Machine<'a> {
-        Machine {
-            rt: self.rt,
-            host: self.host,
-            noted: self.noted,
-            has_log,
-            log_file: self.log_file,
-            is_watched: self.is_watched,
-        }
+        Machine { has_log, ..self }
     }
 
     /// The same machine, whose log is also the file at a path, where one is told.
     pub fn with_log_file(self, log_file: Option<&'a str>) -> Machine<'a> {
-        Machine {
-            rt: self.rt,
-            host: self.host,
-            noted: self.noted,
-            has_log: self.has_log,
-            log_file,
-            is_watched: self.is_watched,
-        }
+        Machine { log_file, ..self }
     }
 
     /// The same machine, which tells on standard error how far an audit is, where it is watched.
     pub fn with_watch(self, is_watched: bool) -> Machine<'a> {
-        Machine {
-            rt: self.rt,
-            host: self.host,
-            noted: self.noted,
-            has_log: self.has_log,
-            log_file: self.log_file,
-            is_watched,
-        }
+        Machine { is_watched, ..self }
     }
 }
 

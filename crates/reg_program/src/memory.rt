@@ -7,6 +7,8 @@ ghost use Rattle.reg_lines.specs.Script.{ScriptEnds};
 ghost use Rattle.reg_jobs.specs.Ends.{ScriptInMemory};
 ghost use Rattle.sqlite.specs.Steps.{over_memory};
 ghost use Rattle.reg_office.specs.AfterStoppedCommand.{LeavesTold};
+ghost use Rattle.reg_office.specs.Answering.{signatory_of};
+ghost use Rattle.reg_office.specs.Calls.{LeadsOver};
 ghost use Rattle.reg_office.specs.Stands.{Stands};
 ghost use Rattle.reg_office.specs.declared.responder.Responder.TheVariants.{Issuer as ByIssuer};
 ghost use Rattle.reg_jobs.specs.Digest.{digest_alone, digests};
@@ -14,15 +16,15 @@ ghost use Rattle.reg_jobs.specs.RegisterFailures.{IsMaking};
 ghost use Rattle.reg_jobs.specs.Sample.{sample_records};
 ghost use Rattle.reg_signer.specs.Both.{digest};
 
+use crate::open_and_make::made_over;
 use reg_core::{Fault, Policy};
-use reg_crl::DigestSeal;
+use reg_crl::{DigestSeal, Signer};
 use reg_der::Issuer;
 use reg_endings::Failure;
 use reg_faces::run_script;
 use reg_jobs::ended;
 use reg_office::Office;
-use reg_store::Store;
-use sqlite::{Connection, MemStore};
+use sqlite::{Alter, Connection, MemStore};
 use std::alloc::Global;
 use std::io::{Read, Write};
 
@@ -61,6 +63,21 @@ fn run_in_memory<R: Read, W: Write>(
     ensures { (after : Records) × ScriptEnds (Lines digests digest_alone) R.remaining W.contents sample_records after
         reader.old reader.new writer.old writer.new result }
 {
+    run_over(alloc, reader, writer, office)
+}
+
+/// The same over any office in a store.
+fn run_over<C: Alter, S: Signer, R: Read, W: Write>(
+    alloc: Global,
+    reader: &mut R,
+    writer: &mut W,
+    office: &mut Office<C, S>,
+) -> Result<(), Fault>
+    ensures { LeadsOver C.Store S.signs
+        (λ who before after. ScriptEnds (Lines S.signs who) R.remaining W.contents before after reader.old reader.new writer.old writer.new result)
+        (office.old.store, signatory_of S.identity (S.identity office.old.signer) office.old.responder)
+        (office.new.store, signatory_of S.identity (S.identity office.new.signer) office.new.responder) }
+{
     run_script(alloc, reader, writer, office)
 }
 
@@ -80,8 +97,8 @@ fn office_in_memory(alloc: Global) -> Result<MemoryOffice, Failure>
     let Ok(connection) = Connection::open_in_memory(alloc) else {
         return Err(Failure::Fault(Fault::Memory));
     };
-    match Store::create(connection, issuer, Policy::usual()) {
-        Ok(store) => Ok(Office::new(store, DigestSeal)),
-        Err(unopened) => Err(Failure::from(unopened.fault)),
+    match made_over(connection, issuer, Policy::usual(), DigestSeal) {
+        Ok(office) => Ok(office),
+        Err((why, _connection)) => Err(why),
     }
 }

@@ -1,23 +1,15 @@
 //! A register in a file is opened, made and closed.
 
-ghost use Rattle.std.specs.Prelude.{◌≡◌, ◌≤◌, ◌⊎◌, None, Some, false, IfOk, IfErr, MatchBool, MatchResult, OnOk, option_map};
-ghost use Rattle.sqlite.specs.Files.{file_state, IsOpened};
-ghost use Rattle.sqlite.specs.Held.{state, IsNew};
-ghost use Rattle.sqlite.specs.State.{HasCleanDisk, IsLive, Opens};
-ghost use Rattle.sqlite_trees.specs.View.{doubt};
-ghost use Rattle.reg_core.specs.Records.{Records, no_records};
-ghost use Rattle.reg_core.specs.Sound.{SoundRows};
-ghost use Rattle.reg_migration.specs.Older.{ShowsOlder};
-ghost use Rattle.reg_migration.specs.declared.version.OlderVersion.{OlderVersion};
+ghost use Rattle.std.specs.Prelude.{◌≡◌, ◌⊎◌, None, Some, false, IfOk, IfErr, OnOk, option_map};
+ghost use Rattle.sqlite.specs.Files.{over_files};
+ghost use Rattle.reg_core.specs.Records.{no_records};
 ghost use Rattle.reg_jobs.specs.RegisterFailures.{IsMaking, IsOpening};
-ghost use Rattle.reg_program.specs.Files.{HasCertificate, IsMissed, IsOpenedFor, IsOpenedFrom, IsMadeFrom, Showed};
-ghost use Rattle.reg_jobs.specs.WhoSigns.{EmbedsOwn, Follows, IsSigning, crls_told};
+ghost use Rattle.reg_program.specs.Files.{HasCertificate, IsConnection, IsMissed, IsOpenedFor, IsOpenedFrom, IsMadeFrom, MakesOver, OpensOver};
+ghost use Rattle.reg_jobs.specs.WhoSigns.{crls_told};
 ghost use Rattle.reg_calls.specs.Signatories.{Signatory};
-ghost use Rattle.reg_office.specs.Answering.{answers_by, signatory_of};
-ghost use Rattle.reg_office.specs.AfterStoppedCommand.{LeavesThese, LeavesTold};
-ghost use Rattle.reg_office.specs.Stands.{Stands};
-ghost use Rattle.reg_tables.specs.Kept.{ShowsKept};
-ghost use Rattle.reg_tables.specs.Schema.{no_schema};
+ghost use Rattle.reg_office.specs.Answering.{signatory_of};
+ghost use Rattle.reg_office.specs.Calls.{StandsFor};
+ghost use Rattle.reg_office.specs.declared.responder.Responder.TheVariants.{Issuer as ByIssuer};
 
 use crate::answering::responder_told;
 use crate::files::{FileConnection, Files};
@@ -53,8 +45,7 @@ fn begun<S: Files>(machine: &Machine<'_, S>, path: &str) -> Result<(), Failure>
 /// The file at a path as a database. Where it is not opened, the cause is noted.
 fn open_noted<S: Files>(machine: &Machine<'_, S>, path: &str) -> Result<FileConnection, Failure>
     ensures opened { OnOk result (S.opened path.now) }
-    ensures whole { IfOk result (λ connection. HasCleanDisk (file_state connection) → IsOpened connection) }
-    ensures fresh { IfOk result IsNew }
+    ensures connects { IfOk result IsConnection }
     ensures idle { IfOk result (λ connection. connection.in_transaction ≡ false) }
     ensures missed { IfErr result (IsMissed (S.missed path.now)) }
     ensures faults { IfErr result (λ why. (why ≡ Failure.Fault Fault.Memory) ⊎ (why ≡ Failure.Fault Fault.Store)) }
@@ -78,7 +69,30 @@ pub(crate) fn make_register<S: Files>(
     ensures err { IfErr result IsMaking }
 {
     let connection = open_noted(machine, path)?;
-    settled(made_over(connection, issuer, policy, KeyOrDigest::digest()))
+    make_in(connection, issuer, policy, KeyOrDigest::digest())
+}
+
+/// Makes a register in the database of a connection, which is closed where that fails.
+fn make_in<D: Disk + Drop, S: Signer + Drop>(
+    connection: Connection<FileStore<D>>,
+    issuer: Issuer,
+    policy: Policy,
+    signer: S,
+) -> Result<Office<FileStore<D>, S>, Failure>
+    requires idle { connection.in_transaction ≡ false }
+    requires connects { IsConnection connection }
+    ensures ok { IfOk result (λ office. IsMadeFrom office.store) }
+    ensures stands { IfOk result (λ office. (who : Signatory)
+        × StandsFor over_files S.signs (office.store, signatory_of S.identity (S.identity office.signer) office.responder) who (no_records issuer policy)) }
+    ensures err { IfErr result IsMaking }
+{
+    match made_over(connection, issuer, policy, signer) {
+        Ok(office) => Ok(office),
+        Err((why, connection)) => {
+            close(connection);
+            Err(why)
+        }
+    }
 }
 
 /// Opens the register of a file for what is told. Certificates are read first.
@@ -93,23 +107,24 @@ pub(crate) fn open_told<S: Files>(
     ensures missed { IfErr result (λ why. HasCertificate answerer.now ⊎ IsMissed (S.missed path.now) why ⊎ S.opened path.now) }
     ensures err { IfErr result IsOpening }
 {
-    let host = machine.host();
-    let responder = responder_told(&host, answerer)?;
-    if is_silent(signer, answerer) {
-        return open_register(machine, path, None, responder);
-    }
-    open_register(machine, path, Some(signer), responder)
+    let responder = responder_told(&machine.host(), answerer)?;
+    open_register(machine, path, crls_signer(signer, answerer), responder)
 }
 
-/// Whether nobody signs CRLs: a responder answers, and nothing holds the issuer's key.
-fn is_silent(signer: &Option<KeyHolder<'_>>, answerer: &Answerer<'_>) -> bool
-    ensures { MatchBool result (crls_told (Some (signer.now, answerer.now)) ≡ None) (crls_told (Some (signer.now, answerer.now)) ≡ Some signer.now) }
+/// What signs CRLs: `None` where nobody does, since a responder answers and nothing holds the issuer's key.
+fn crls_signer<'s, 'n>(
+    signer: &'s Option<KeyHolder<'n>>,
+    answerer: &Answerer<'_>,
+) -> Option<&'s Option<KeyHolder<'n>>>
+    ensures { option_map (λ told. told.now) result ≡ crls_told (Some (signer.now, answerer.now)) }
 {
     match answerer {
-        Answerer::Issuer { .. } => false,
-        Answerer::Delegate { .. } => signer.is_none(),
+        Answerer::Issuer { .. } => Some(signer),
+        Answerer::Delegate { .. } if signer.is_none() => None,
+        Answerer::Delegate { .. } => Some(signer),
     }
 }
+
 /// Opens the register of a file for these signatures of CRLs, `None` where none will be signed, and with who answers OCSP requests.
 pub(crate) fn open_register<S: Files>(
     machine: &Machine<'_, S>,
@@ -124,26 +139,56 @@ pub(crate) fn open_register<S: Files>(
     ensures missed { IfErr result (λ why. IsMissed (S.missed path.now) why ⊎ S.opened path.now) }
     ensures err { IfErr result IsOpening }
 {
+    let connection = open_begun(machine, path)?;
+    open_in(&machine.host(), connection, signing, responder)
+}
+
+/// The file at a path as a database that was begun there.
+fn open_begun<S: Files>(machine: &Machine<'_, S>, path: &str) -> Result<FileConnection, Failure>
+    ensures reached { OnOk result (S.begun path.now × S.opened path.now) }
+    ensures connects { IfOk result IsConnection }
+    ensures idle { IfOk result (λ connection. connection.in_transaction ≡ false) }
+    ensures missed { IfErr result (IsMissed (S.missed path.now)) }
+    ensures faults { IfErr result IsOpening }
+{
     // To open a path where no database is would make one.
     begun(machine, path)?;
-    let connection = open_noted(machine, path)?;
-    let host = machine.host();
-    settled(office_over(&host, connection, signing, responder))
+    open_noted(machine, path)
+}
+
+/// Opens the register in the database of a connection, which is closed where that fails.
+fn open_in<D: Disk + Drop>(
+    machine: &Machine<'_>,
+    connection: Connection<FileStore<D>>,
+    signing: Option<&Option<KeyHolder<'_>>>,
+    responder: Responder<FileSigner>,
+) -> Result<Office<FileStore<D>, FileSigner>, Failure>
+    requires idle { connection.in_transaction ≡ false }
+    requires connects { IsConnection connection }
+    ensures ok { IfOk result (λ office. IsOpenedFrom (option_map (λ told. told.now) signing.entry) office.store
+        (signatory_of ⟦<FileSigner as Signer>⟧.identity (⟦<FileSigner as Signer>⟧.identity office.signer) office.responder)) }
+    ensures responder { IfOk result (λ office. office.responder ≡ responder) }
+    ensures err { IfErr result IsOpening }
+{
+    match office_over(machine, connection, signing, responder) {
+        Ok(office) => Ok(office),
+        Err((why, connection)) => {
+            close(connection);
+            Err(why)
+        }
+    }
 }
 
 /// The office over a register that is made in a database; where it can't be made, why, and the connection back.
-fn made_over<C: Alter, S: Signer + Drop>(
+pub(crate) fn made_over<C: Alter, S: Signer + Drop>(
     connection: Connection<C>,
     issuer: Issuer,
     policy: Policy,
     signer: S,
 ) -> Result<Office<C, S>, (Failure, Connection<C>)>
     requires { connection.in_transaction ≡ false }
-    ensures stands { IfOk result (λ office. Stands C.Store S.signs office.store (S.identity office.signer) (no_records issuer policy)) }
-    ensures leaves { IfOk result (λ office. (HasCleanDisk (state C.Store connection) → Opens (state C.Store connection) × IsLive (state C.Store connection))
-        → LeavesTold C.Store S.signs office.store (S.identity office.signer) (no_records issuer policy)) }
-    ensures empty { IfOk result (λ office. connection.schema ≡ no_schema) }
-    ensures clean { IfOk result (λ office. doubt (state C.Store connection).is_clean ≤ doubt (state C.Store office.store).is_clean) }
+    ensures made { IfOk result (λ office. MakesOver C.Store connection S.signs office.store (S.identity office.signer) (no_records issuer policy)) }
+    ensures alone { IfOk result (λ office. office.responder ≡ ByIssuer None) }
     ensures err { IfErr result (λ left. IsMaking left.0) }
 {
     policy.promise();
@@ -162,22 +207,12 @@ fn office_over<C: Alter>(
     responder: Responder<FileSigner>,
 ) -> Result<Office<C, FileSigner>, (Failure, Connection<C>)>
     requires { connection.in_transaction ≡ false }
-    ensures kept { IfOk result (λ office. (records : Records) → ShowsKept C.Store connection records → ShowsKept C.Store office.store records) }
-    ensures migrated { IfOk result (λ office. (version : OlderVersion) → (records : Records) → ShowsOlder version C.Store connection records → SoundRows records
-        → ShowsKept C.Store office.store records) }
-    ensures clean { IfOk result (λ office. doubt (state C.Store connection).is_clean ≤ doubt (state C.Store office.store).is_clean) }
-    ensures told { IfOk result (λ office. (records : Records) → Showed C.Store connection records → HasCleanDisk (state C.Store office.store)
-        → IsSigning (option_map (λ told. told.now) signing.entry) records.issuer.key (⟦<FileSigner as Signer>⟧.identity office.signer)) }
-    ensures follows { IfOk result (λ office. (records : Records) → Showed C.Store connection records → SoundRows records
-        → HasCleanDisk (state C.Store office.store) → Follows records (⟦<FileSigner as Signer>⟧.identity office.signer).algorithm) }
-    ensures embeds { IfOk result (λ office. (records : Records) → Showed C.Store connection records → HasCleanDisk (state C.Store office.store)
-        → EmbedsOwn records.issuer.key (answers_by ⟦<FileSigner as Signer>⟧.identity (⟦<FileSigner as Signer>⟧.identity office.signer) office.responder)) }
-    ensures leaves { IfOk result (λ office. (HasCleanDisk (state C.Store connection) → Opens (state C.Store connection) × IsLive (state C.Store connection))
-        → (records : Records) → ShowsKept C.Store connection records → LeavesThese C.Store office.store records) }
+    ensures opened { IfOk result (λ office. OpensOver C.Store connection (option_map (λ told. told.now) signing.entry) office.store
+        (signatory_of ⟦<FileSigner as Signer>⟧.identity (⟦<FileSigner as Signer>⟧.identity office.signer) office.responder)) }
     ensures responder { IfOk result (λ office. office.responder ≡ responder) }
     ensures err { IfErr result (λ left. IsOpening left.0) }
 {
-    match Store::open(connection) {
+    match Store::open(machine.rt.alloc(), connection) {
         Ok(store) => {
             let mut store = store;
             match signer_for(machine, &mut store, signing, &responder) {
@@ -186,21 +221,6 @@ fn office_over<C: Alter>(
             }
         }
         Err(unopened) => Err((Failure::from(unopened.fault), unopened.connection)),
-    }
-}
-
-/// What was found, with the connection closed where it is no office.
-fn settled<D: Disk + Drop, S: Signer>(
-    found: Result<Office<FileStore<D>, S>, (Failure, Connection<FileStore<D>>)>,
-) -> Result<Office<FileStore<D>, S>, Failure>
-    ensures { MatchResult found (λ office. result ≡ Ok office) (λ left. result ≡ Err left.0) }
-{
-    match found {
-        Ok(office) => Ok(office),
-        Err((why, connection)) => {
-            close(connection);
-            Err(why)
-        }
     }
 }
 

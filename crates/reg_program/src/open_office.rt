@@ -12,12 +12,12 @@ ghost use Rattle.reg_jobs.specs.Schedules.{Reschedules};
 ghost use Rattle.reg_jobs.specs.Reasons.{HasLongest};
 ghost use Rattle.reg_jobs.specs.Watched.{HasOpen, HasStanding};
 ghost use Rattle.reg_office.specs.Answering.{signatory_of};
-ghost use Rattle.reg_office.specs.Calls.{StandsFor};
 ghost use Rattle.reg_tables.specs.Shows.{Shows};
 ghost use Rattle.reg_tables.specs.Stays.{IsDatabaseFault, Looked};
 
 use crate::place::FileOffice;
 use crate::signing::FileSigner;
+use reg_calls::OfficeOfRecords;
 use reg_core::{Fault, Label, Moment, Schedule};
 use reg_crl::Signer;
 use reg_jobs::Wanted;
@@ -35,8 +35,7 @@ pub(crate) fn reschedule<C: Alter, S: Signer>(
     office: &mut Office<C, S>,
     schedule: Schedule,
 ) -> Result<(), StoreFault>
-    ensures moves { Leads (λ office. HasCleanDisk (state C.Store office.store))
-        (λ who office records. StandsFor C.Store S.signs (office.store, signatory_of S.identity (S.identity office.signer) office.responder) who records)
+    ensures moves { Leads ⟦<Office<C, S> as OfficeOfRecords>⟧.is_clean ⟦<Office<C, S> as OfficeOfRecords>⟧.stands
         (λ identity. Reschedules schedule result) office.old office.new }
     ensures faults { IfErr result IsDatabaseFault }
 {
@@ -49,8 +48,7 @@ pub(crate) fn identify<C: Alter, S: Signer>(
     office: &mut Office<C, S>,
     octets: Label,
 ) -> Result<(), StoreFault>
-    ensures moves { Leads (λ office. HasCleanDisk (state C.Store office.store))
-        (λ who office records. StandsFor C.Store S.signs (office.store, signatory_of S.identity (S.identity office.signer) office.responder) who records)
+    ensures moves { Leads ⟦<Office<C, S> as OfficeOfRecords>⟧.is_clean ⟦<Office<C, S> as OfficeOfRecords>⟧.stands
         (λ identity. Identifies octets result) office.old office.new }
     ensures faults { IfErr result IsDatabaseFault }
 {
@@ -65,8 +63,7 @@ pub(crate) fn page_over<C: Alter, S: Signer>(
     from: Cursor,
     most: u64,
 ) -> Result<Page, Fault>
-    ensures { Leads (λ office. HasCleanDisk (state C.Store office.store))
-        (λ who office records. StandsFor C.Store S.signs (office.store, signatory_of S.identity (S.identity office.signer) office.responder) who records)
+    ensures { Leads ⟦<Office<C, S> as OfficeOfRecords>⟧.is_clean ⟦<Office<C, S> as OfficeOfRecords>⟧.stands
         (λ identity before after. Pages before now most from result after) office.old office.new }
 {
     office.page(alloc, now, from, most)
@@ -74,8 +71,7 @@ pub(crate) fn page_over<C: Alter, S: Signer>(
 
 /// What stands in an office beside its counts.
 pub(crate) fn standing_of<C: Alter, S: Signer>(office: &mut Office<C, S>) -> Result<Standing, Fault>
-    ensures moves { Leads (λ office. HasCleanDisk (state C.Store office.store))
-        (λ who office records. StandsFor C.Store S.signs (office.store, signatory_of S.identity (S.identity office.signer) office.responder) who records)
+    ensures moves { Leads ⟦<Office<C, S> as OfficeOfRecords>⟧.is_clean ⟦<Office<C, S> as OfficeOfRecords>⟧.stands
         (λ identity before after. HasStanding before result × (after ≡ before)) office.old office.new }
     ensures faults { IfErr result IsOfStore }
 {
@@ -104,8 +100,7 @@ pub(crate) fn open_count_of<C: Alter, S: Signer>(
     office: &mut Office<C, S>,
     now: Moment,
 ) -> Result<u64, Fault>
-    ensures moves { Leads (λ office. HasCleanDisk (state C.Store office.store))
-        (λ who office records. StandsFor C.Store S.signs (office.store, signatory_of S.identity (S.identity office.signer) office.responder) who records)
+    ensures moves { Leads ⟦<Office<C, S> as OfficeOfRecords>⟧.is_clean ⟦<Office<C, S> as OfficeOfRecords>⟧.stands
         (λ identity before after. HasOpen before now result × (after ≡ before)) office.old office.new }
     ensures faults { IfErr result IsOfStore }
 {
@@ -129,8 +124,7 @@ pub(crate) fn longest_of<C: Alter, S: Signer>(
     order: u64,
     not_before: Moment,
 ) -> Result<Option<u64>, Fault>
-    ensures { Leads (λ office. HasCleanDisk (state C.Store office.store))
-        (λ who office records. StandsFor C.Store S.signs (office.store, signatory_of S.identity (S.identity office.signer) office.responder) who records)
+    ensures { Leads ⟦<Office<C, S> as OfficeOfRecords>⟧.is_clean ⟦<Office<C, S> as OfficeOfRecords>⟧.stands
         (λ identity before after. HasLongest before order not_before result × (after ≡ before)) office.old office.new }
 {
     longest_in(&mut office.store, order, not_before)
@@ -159,8 +153,7 @@ pub(crate) fn message_in<C: Alter, S: Signer>(
     alloc: Global,
     now: Moment,
 ) -> Option<Vec<u8>>
-    ensures { Leads (λ office. HasCleanDisk (state C.Store office.store))
-        (λ who office records. StandsFor C.Store S.signs (office.store, signatory_of S.identity (S.identity office.signer) office.responder) who records)
+    ensures { Leads ⟦<Office<C, S> as OfficeOfRecords>⟧.is_clean ⟦<Office<C, S> as OfficeOfRecords>⟧.stands
         (λ identity before after. after ≡ before) office.old office.new }
 {
     office.crl_message(alloc, now)

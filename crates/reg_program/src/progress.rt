@@ -98,7 +98,7 @@ pub(crate) fn tell_opening(rt: &HostRuntime, job: &Job<'_>) {
 }
 
 /// The seconds of the machine's clock since an arbitrary start; 0 where it can't be read.
-fn seconds(rt: &HostRuntime) -> u64 {
+pub(crate) fn seconds(rt: &HostRuntime) -> u64 {
     match rt.monotonic() {
         Ok(time) => time.as_secs(),
         Err(_) => 0,

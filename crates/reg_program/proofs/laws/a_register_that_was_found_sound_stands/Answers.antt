@@ -25,7 +25,7 @@ returns g c = λ found.
           let it = says.sound records columns (by_connection found records columns shown) found.clean found.sound in
           let there = subst (λ db. AreBoth db records columns) (sym opens.same) shown in
           record {
-            shown = opened.kept records (columns, record { saved = λ clean up. (opened.connects.whole clean).0.clean; tables = λ clean up. there }, it.1);
+            shown = opened.opens.kept records (columns, record { saved = λ clean up. (opened.connects.whole clean).0.clean; tables = λ clean up. there }, it.1);
             sound = record { since = since; reached = reached; rows = it.0.rows; signatures = signed };
           };
     }

@@ -8,8 +8,8 @@ pub returns : goal.returns
 returns g c = record {
   begins = λ signing office opened records kept sound. (
     refl,
-    record { shown = opened.kept records kept; sound = sound },
-    λ clean trees may register. inl (opened.leaves records kept clean trees may),
+    record { shown = opened.opens.kept records kept; sound = sound },
+    λ clean trees may register. inl (opened.opens.leaves opened.connects.whole records kept clean trees may),
   );
   leaves = λ office who records stood. opens_told over_files g.S.Signer.signs office.0 who.crls records stood.1.sound stood.2;
 }

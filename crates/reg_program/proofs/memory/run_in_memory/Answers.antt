@@ -8,7 +8,7 @@ use Rattle.reg_program.proofs.memory.run_in_memory.Goals as goal
 
 pub returns : goal.returns
 returns g c =
-    let clean = always_clean c.run_script.new.office.store in
+    let clean = always_clean c.run_over.new.office.store in
     let alone = ap (signatory_of (λ seal. digest) digest) c.requires.alone in
-    let (after, ran, stands) = c.run_script.ensures.ends.1 digest_alone sample_records (alone, c.requires.stands, c.requires.leaves) clean in
+    let (after, ran, stands) = c.run_over.ensures.1 digest_alone sample_records (alone, c.requires.stands, c.requires.leaves) clean in
     (after, ran)

@@ -1,20 +1,25 @@
 use Rattle.std.proofs.Common.{subst, sym}
 use Rattle.reg_core.specs.Records.{no_records}
 use Rattle.reg_jobs.proofs.Fates.{unmade}
+use Rattle.reg_office.proofs.Following.{created_sound_for}
 use Rattle.reg_office.proofs.Leaving.{leaves_made}
-use Rattle.reg_office.specs.AfterStoppedCommand.{LeavesTold}
-use Rattle.reg_program.proofs.Opened.{made_stands}
+use Rattle.reg_program.specs.Files.{MakesOver}
 use Rattle.reg_program.proofs.open_and_make.made_over.Goals as goal
 
-pub returns-in-Ok-clause-stands : goal.returns-in-Ok-clause-stands
-returns-in-Ok-clause-stands g c = made_stands g.C.Store g.S.Signer.signs _ _ _ _ _ c.promise.ensures c.new.ensures.store c.in-Ok.ensures.ok
-
-pub returns-in-Ok-clause-leaves : goal.returns-in-Ok-clause-leaves
-returns-in-Ok-clause-leaves g c whole =
-    subst (λ held. LeavesTold g.C.Store g.S.Signer.signs held (g.S.Signer.identity c.new.result.signer) (no_records c.args.issuer c.args.policy)) (sym c.new.ensures.store)
-    (leaves_made g.C.Store c.args.connection c.in-Ok.store (no_records c.args.issuer c.args.policy) _
-    (λ held trees is_open leaves. g.met.C.Store.settled held.store trees is_open leaves)
-    whole c.in-Ok.ensures.survives g.S.Signer.signs (g.S.Signer.identity c.new.result.signer) c.in-Ok.ensures.empty (λ trees made. made.1))
+pub returns-in-Ok-clause-made : goal.returns-in-Ok-clause-made
+returns-in-Ok-clause-made g c =
+    let store = g.C.Store in
+    let signs = g.S.Signer.signs in
+    let who = g.S.Signer.identity c.new.result.signer in
+    let records = no_records c.args.issuer c.args.policy in
+    subst (λ held. MakesOver store c.args.connection signs held who records) (sym c.new.ensures.store) (record {
+      stands = record { shown = c.in-Ok.ensures.ok; sound = created_sound_for signs who c.args.issuer c.args.policy c.promise.ensures };
+      leaves = λ whole.
+          leaves_made store c.args.connection c.in-Ok.store records _ (λ held trees is_open leaves. g.met.C.Store.settled held.store trees is_open leaves)
+          whole c.in-Ok.ensures.survives signs who c.in-Ok.ensures.empty (λ trees made. made.1);
+      empty = c.in-Ok.ensures.empty;
+      clean = c.in-Ok.ensures.survives.clean;
+    })
 
 pub returns-in-Err-clause-err : goal.returns-in-Err-clause-err
 returns-in-Err-clause-err g c = unmade _ _ c.from.ensures c.in-Err.ensures.faults

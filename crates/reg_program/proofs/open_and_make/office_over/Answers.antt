@@ -5,48 +5,31 @@ use Rattle.reg_program.proofs.Holding.{holds, shown, survives, was_clean}
 use Rattle.reg_program.proofs.Opened.{embeds_as}
 use Rattle.reg_program.proofs.open_and_make.office_over.Goals as goal
 
-pub returns-in-Ok-signer_for-clause-kept : goal.returns-in-Ok-signer_for-clause-kept
-returns-in-Ok-signer_for-clause-kept g c records shows =
-    holds g.C.Store c.args.connection c.in-Ok.store c.signer_for.new.store c.answering.result.store c.answering.ensures.store records
-    c.signer_for.ensures.looked.survives.clean c.signer_for.ensures.looked.same (c.in-Ok.ensures.kept records shows)
-
-pub returns-in-Ok-signer_for-clause-migrated : goal.returns-in-Ok-signer_for-clause-migrated
-returns-in-Ok-signer_for-clause-migrated g c version records older sound =
-    holds g.C.Store c.args.connection c.in-Ok.store c.signer_for.new.store c.answering.result.store c.answering.ensures.store records
-    c.signer_for.ensures.looked.survives.clean c.signer_for.ensures.looked.same (c.in-Ok.ensures.migrated version records older sound)
-
-pub returns-in-Ok-signer_for-clause-told : goal.returns-in-Ok-signer_for-clause-told
-returns-in-Ok-signer_for-clause-told g c records showed clean =
-    let shows = shown g.C.Store c.args.connection c.in-Ok.store c.signer_for.new.store c.answering.result.store c.answering.ensures.store records
-    (c.in-Ok.ensures.kept records) (λ version. c.in-Ok.ensures.migrated version records) showed in
-    let is_clean = was_clean g.C.Store c.args.connection c.in-Ok.store c.signer_for.new.store c.answering.result.store c.answering.ensures.store clean in
-    rw (sym c.answering.ensures.signer) at (c.in-Ok-signer_for.ensures.told records shows is_clean)
-
-pub returns-in-Ok-signer_for-clause-follows : goal.returns-in-Ok-signer_for-clause-follows
-returns-in-Ok-signer_for-clause-follows g c records showed sound clean crl is other under =
-    let shows = shown g.C.Store c.args.connection c.in-Ok.store c.signer_for.new.store c.answering.result.store c.answering.ensures.store records
-    (c.in-Ok.ensures.kept records) (λ version. c.in-Ok.ensures.migrated version records) showed in
-    let is_clean = was_clean g.C.Store c.args.connection c.in-Ok.store c.signer_for.new.store c.answering.result.store c.answering.ensures.store clean in
-    rw (sym c.answering.ensures.signer) at (c.in-Ok-signer_for.ensures.follows records shows sound is_clean crl is other under)
-
-pub returns-in-Ok-signer_for-clause-clean : goal.returns-in-Ok-signer_for-clause-clean
-returns-in-Ok-signer_for-clause-clean g c =
-    (survives g.C.Store c.args.connection c.in-Ok.store c.signer_for.new.store c.answering.result.store c.answering.ensures.store
-    _ c.in-Ok.ensures.survives c.signer_for.ensures.looked.survives).clean
-
-pub returns-in-Ok-signer_for-clause-leaves : goal.returns-in-Ok-signer_for-clause-leaves
-returns-in-Ok-signer_for-clause-leaves g c whole records kept =
-    leaves_opened g.C.Store c.args.connection c.answering.result.store records _
-    (λ held trees is_open leaves. g.met.C.Store.settled held.store trees is_open leaves)
-    whole
-    (survives g.C.Store c.args.connection c.in-Ok.store c.signer_for.new.store c.answering.result.store c.answering.ensures.store
-    _ c.in-Ok.ensures.survives c.signer_for.ensures.looked.survives)
-    kept
-    (λ trees clean up shows. opened_rests g.C.Store c.args.connection records trees clean up shows)
-
-pub returns-in-Ok-signer_for-clause-embeds : goal.returns-in-Ok-signer_for-clause-embeds
-returns-in-Ok-signer_for-clause-embeds g c records showed clean =
-    let shows = shown g.C.Store c.args.connection c.in-Ok.store c.signer_for.new.store c.answering.result.store c.answering.ensures.store records
-    (c.in-Ok.ensures.kept records) (λ version. c.in-Ok.ensures.migrated version records) showed in
-    let is_clean = was_clean g.C.Store c.args.connection c.in-Ok.store c.signer_for.new.store c.answering.result.store c.answering.ensures.store clean in
-    embeds_as _ records.issuer.key _ _ _ c.answering.ensures.responder (c.in-Ok-signer_for.ensures.embeds records shows is_clean)
+pub returns-in-Ok-signer_for-clause-opened : goal.returns-in-Ok-signer_for-clause-opened
+returns-in-Ok-signer_for-clause-opened g c =
+    let store = g.C.Store in
+    let opened = c.in-Ok.ensures in
+    let answering = c.answering.ensures in
+    let looked = c.signer_for.ensures.looked in
+    let signs = c.in-Ok-signer_for.ensures in
+    let clean = was_clean store c.args.connection c.in-Ok.store c.signer_for.new.store c.answering.result.store answering.store in
+    let shows = shown store c.args.connection c.in-Ok.store c.signer_for.new.store c.answering.result.store answering.store in
+    let stays = holds store c.args.connection c.in-Ok.store c.signer_for.new.store c.answering.result.store answering.store in
+    let outlives = survives store c.args.connection c.in-Ok.store c.signer_for.new.store c.answering.result.store answering.store
+    _ opened.survives looked.survives in
+    record {
+      kept = λ records before. stays records looked.survives.clean looked.same (opened.kept records before);
+      migrated = λ version records older sound. stays records looked.survives.clean looked.same (opened.migrated version records older sound);
+      clean = outlives.clean;
+      told = λ records showed is_clean.
+          rw (sym answering.signer) at (signs.told records (shows records (opened.kept records) (λ version. opened.migrated version records) showed) (clean is_clean));
+      follows = λ records showed sound is_clean crl is other under.
+          rw (sym answering.signer) at
+          (signs.follows records (shows records (opened.kept records) (λ version. opened.migrated version records) showed) sound (clean is_clean) crl is other under);
+      embeds = λ records showed is_clean. embeds_as _ records.issuer.key _ _ _ answering.responder
+          (signs.embeds records (shows records (opened.kept records) (λ version. opened.migrated version records) showed) (clean is_clean));
+      leaves = λ whole records before.
+          leaves_opened store c.args.connection c.answering.result.store records _
+          (λ held trees is_open leaves. g.met.C.Store.settled held.store trees is_open leaves)
+          whole outlives before (λ trees undoubted up showed. opened_rests store c.args.connection records trees undoubted up showed);
+    }

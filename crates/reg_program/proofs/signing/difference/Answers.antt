@@ -1,3 +1,4 @@
+use Rattle.std.proofs.Common.{inl, inr, refl}
 use Rattle.std.proofs.lemmas.Bool.{iff_false}
 use Rattle.reg_program.proofs.signing.difference.Goals as goal
 
@@ -5,7 +6,7 @@ pub returns-then-may_follow : goal.returns-then-may_follow
 returns-then-may_follow c = c.may_follow.ensures.0 c.if-may_follow.true
 
 pub returns-then-is_known : goal.returns-then-is_known
-returns-then-is_known c = (iff_false c.may_follow.ensures c.if-may_follow.false, c.is_known.ensures.0 c.if-is_known.true)
+returns-then-is_known c = (iff_false c.may_follow.ensures c.if-may_follow.false, inl (refl, c.is_known.ensures.0 c.if-is_known.true))
 
 pub returns-else-is_known : goal.returns-else-is_known
-returns-else-is_known c = (iff_false c.may_follow.ensures c.if-may_follow.false, iff_false c.is_known.ensures c.if-is_known.false)
+returns-else-is_known c = (iff_false c.may_follow.ensures c.if-may_follow.false, inr (refl, iff_false c.is_known.ensures c.if-is_known.false))
