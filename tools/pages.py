@@ -1,12 +1,10 @@
 #!/usr/bin/env python3
-"""Says what the pages name that is not there: files and functions of docs/PROOFS.md and docs/ARCHITECTURE.md, definitions of docs/PROOFS.md, crates and what they
-stand on in docs/ARCHITECTURE.md, links to headings, and what docs/MODEL.md counts; and which name two crates give to definitions of theirs, since a page says a definition by its name. Prints a line for
-each, and nothing where all is there; the exit status is 1 where something is not."""
+"""Reports what the pages name that is not there: files and functions of docs/PROOFS.md and docs/ARCHITECTURE.md, definitions of docs/PROOFS.md, crates and
+what they stand on in docs/ARCHITECTURE.md, files and definitions of the chain in docs/MODEL.md, and links to headings. Also reports a name that two crates
+give to definitions, because the pages refer to a definition by its name. Prints a line for each, and exits with 1 if there is one."""
 import re
 import sys
 from pathlib import Path
-
-import chain
 
 TOP = Path(__file__).resolve().parent.parent
 PAGES = ["README.md", "SECURITY.md", "CHANGELOG.md", *sorted(str(it.relative_to(TOP)) for it in (TOP / "docs").glob("*.md"))]
@@ -139,8 +137,16 @@ def look_at_crates():
 
 
 def look_at_chain():
-    for it in chain.wrong():
-        miss("docs/MODEL.md", it)
+    """`| 7 | crate `File`, `file.rt` | ..` of docs/MODEL.md, and `| .. | crate `File.Definition` |`."""
+    page = "docs/MODEL.md"
+    section = text(page).split("## The chain")[1].split("\n## ")[0]
+    for crate, names in re.findall(r"(reg_\w+) ((?:`[\w.]+`(?:, )?)+)", section):
+        for name in re.findall(r"`([\w.]+)`", names):
+            file, _, rest = name.partition(".")
+            path = TOP / "crates" / crate / (f"src/{name}" if rest == "rt" else f"specs/{file}.antt")
+            has_definition = rest in ("", "rt") or path.exists() and re.search(rf"\b{rest}\b", path.read_text(encoding="utf-8"))
+            if not path.exists() or not has_definition:
+                miss(page, f"no {name} in {crate}")
 
 
 def look_at_names():
