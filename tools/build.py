@@ -31,32 +31,6 @@ TIMES = f"{TOP}/tools/build-times.txt"
 SECONDS_OF_A_LINE = 0.05
 # How often it is told how far the build is, in seconds.
 TELL_EVERY = 60
-# rt, which sums the text of a library once for each way that leads down to it: hundreds of times, for the program. So it sums each
-# once, and anew after each of its own long calls, since the text may have changed meanwhile.
-RT_SUMMING_ONCE = """
-import os, runpy, sys
-sys.dont_write_bytecode = True
-del sys.argv[0]
-sys.path.insert(0, os.path.dirname(os.path.realpath(sys.argv[0])))
-import rtlib
-sums = {}
-def once(stamp):
-    def summed(crate):
-        if crate.folder not in sums:
-            sums[crate.folder] = stamp(crate)
-        return sums[crate.folder]
-    return summed
-def anew(call):
-    def called(*words, **how):
-        try:
-            return call(*words, **how)
-        finally:
-            sums.clear()
-    return called
-if hasattr(rtlib.Crate, "stamp") and hasattr(rtlib.Crate, "call"):
-    rtlib.Crate.stamp, rtlib.Crate.call = once(rtlib.Crate.stamp), anew(rtlib.Crate.call)
-runpy.run_path(sys.argv[0], run_name="__main__")
-"""
 
 
 class Crate:
@@ -141,7 +115,7 @@ class Built:
 
 def rt_command(jobs, is_first, *words):
     """Returns the words of a run of rt. What the longest chain does not wait for gives way to it."""
-    return [*([] if is_first else ["nice", "-n", "10"]), sys.executable, "-c", RT_SUMMING_ONCE, RT, words[0], "--jobs", str(jobs), *words[1:]]
+    return [*([] if is_first else ["nice", "-n", "10"]), RT, words[0], "--jobs", str(jobs), *words[1:]]
 
 
 def build_library(crates, crate, jobs, is_first):
