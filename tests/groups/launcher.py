@@ -1,0 +1,230 @@
+"""`./desk` in a small repository of its own, beside a toolchain that is played by shell scripts: when it runs the unproved program, which it keeps, and when
+it builds the proved one. Both programs are scripts that print which one they are, and their words."""
+
+import os
+import shutil
+import stat
+
+from lib import program
+from lib.trial import each, test
+
+UNPROVED = "nothing was proved"
+# What the scripts of the toolchain do. `tries` has a line for each run of `rt try`; a file `no-bitcode` or `broken` beside them changes what it does.
+RT = """
+case $1 in
+version) cat "$kit/version" ;;
+try)
+    echo "$*" >>"$kit/tries"
+    [ ! -e "$kit/broken" ] || { echo 'error: no such name'; exit 1; }
+    if [ "$*" = 'try -- --version' ]; then
+        [ ! -e "$kit/no-bitcode" ] || exit 0
+        mkdir "$TMPDIR/room"
+        echo bitcode >"$TMPDIR/room/module.bc"
+        : >"$TMPDIR/room/module.o"
+        exec sleep 60
+    fi
+    echo "tried $*"
+    exit 7
+    ;;
+esac
+"""
+LAST = 'for it; do [ "${was:-}" != -o ] || made=$it; was=$it; done\n'
+CLANG = LAST + 'grep -q bitcode "$kit"/../top/out/*/whole.bc && echo code >"$made"\n'
+LINK = LAST + """
+cat >"$made" <<'END'
+#!/bin/sh
+case $* in
+--version) echo 'desk 0' ;;
+*) echo unproved "$@" ;;
+esac
+END
+chmod +x "$made"
+"""
+# What stands for tools/build.py.
+BUILD = """#!/bin/sh
+made=$(dirname "$0")/../crates/reg_desk/out
+mkdir -p "$made"
+printf '#!/bin/sh\\necho proved "$@"\\n' >"$made/reg_desk"
+chmod +x "$made/reg_desk"
+"""
+
+
+def put(path, text, is_program=False):
+    path.parent.mkdir(parents=True, exist_ok=True)
+    path.write_text(text)
+    if is_program:
+        path.chmod(path.stat().st_mode | stat.S_IXUSR | stat.S_IXGRP | stat.S_IXOTH)
+
+
+class Repository:
+    """The folder `top` with the launcher and two sources, and the folder `kit` with a toolchain."""
+
+    def __init__(self, t):
+        self.t, self.top, self.kit = t, t.room / "top", t.room / "kit"
+        for it in ("desk", "tools/look.py", "tools/current.sh", "tools/large-pages.sh"):
+            (self.top / it).parent.mkdir(parents=True, exist_ok=True)
+            shutil.copy2(program.TOP / it, self.top / it)
+        put(self.top / "tools/build.py", BUILD, is_program=True)
+        put(self.top / "crates.txt", "reg_desk:\n")
+        put(self.top / "crates/reg_desk/src/main.rt", "fn main() {}\n")
+        put(self.top / "crates/reg_desk/proofs/main.antt", "-- a proof\n")
+        put(self.kit / "version", "kit 1\n")
+        for name, does in (("bin/rt", RT), ("bin/rattle-link", LINK), ("toolchain/bin/clang", CLANG)):
+            put(self.kit / name, f"#!/bin/sh\nkit={self.kit}\n{does}", is_program=True)
+        self.env = {**os.environ, "PATH": f"{self.kit}/bin:{os.environ['PATH']}"}
+        for it in ("DESK", "DESK_PATIENCE", "LD_PRELOAD"):
+            self.env.pop(it, None)
+
+    def run(self, *words):
+        """The status, standard output, and standard error."""
+        ran = self.t.tried(*words, env=self.env, timeout=60 * program.PATIENCE)
+        return ran.returncode, ran.stdout.decode(), ran.stderr.decode()
+
+    def desk(self, *words):
+        return self.run(self.top / "desk", *words)
+
+    def builds(self):
+        """How many unproved programs were built."""
+        tries = self.kit / "tries"
+        return tries.read_text().splitlines().count("try -- --version") if tries.exists() else 0
+
+    def looks(self, words, builds):
+        """Wants that the unproved program is run by these words, that ./desk says so, and that so many were built by then."""
+        status, out, err = self.desk(*words)
+        self.t.same((status, out), (0, f"unproved {' '.join(words)}\n"), "status and standard output")
+        self.t.has(err, UNPROVED, "standard error")
+        self.t.same(self.builds(), builds, "unproved programs that were built")
+
+
+@test(seconds=3)
+def a_look_is_built_once_and_kept(t):
+    it = Repository(t)
+    status, out, err = it.desk("look")
+    t.same((status, out, it.builds()), (0, "", 1), "status, standard output and builds")
+    t.has(err, UNPROVED)
+    t.same(sorted(path.name for path in (it.top / "out").iterdir()), ["desk-unproved", "desk-unproved.stamp"], "what is kept")
+    it.looks(["script"], 1)
+    it.looks(["script"], 1)
+    t.same(it.desk("look")[0], 0)
+    t.same(it.builds(), 1, "unproved programs that were built")
+
+
+@test(seconds=2)
+def a_first_script_keeps_its_look(t):
+    it = Repository(t)
+    it.looks(["script"], 1)
+    it.looks(["--help"], 1)
+
+
+# Each row is words.
+LOOKS = (
+    ("--help",), ("-h",), ("-V",), ("script",), ("script", "--why"), ("--why", "script"), ("script", "--strict", "--clock"), ("init", "--help"),
+    ("key-id", "-h"), ("--why", "audit", "--help"),
+)  # fmt: skip
+OTHERS = (
+    (), ("script", "ca.db"), ("script", "ca"), ("script", "--clock", "ca.db"), ("script", "--", "ca.db"), ("script", "--", "--help"), ("script", ""),
+    ("script", "ca.db", "--help"), ("script", "/ca.db", "-V"), ("ca.db", "--help"), ("script", "--signer=ca.sign"), ("script", "-"), ("--why", "audit", "ca.db"),
+    ("init", "ca.db", "--name", "--help"), ("import", "ca.db", "--now", "-h"), ("crl", "ca.db"), ("serve", "ca.db", "--port", "8080", "--requests", "1"),
+    ("open", "ca.db", "--port=8080", "--counter=ca.counter", "--unsigned"), ("at", "ca.counter"), ("schedule", "ca.db", "1970-01-01T00:00:00Z=398"),
+    ("key-id", "ca.db", "00"), ("list", "ca.db", "revoked"), ("copy", "ca.db", "ca.copy"), ("audit", "ca.db"), ("look", "ca.db"),
+)  # fmt: skip
+
+
+@test(seconds=4)
+def words_that_touch_no_file_are_run_unproved(t):
+    it = Repository(t)
+    for words in LOOKS:
+        it.looks(words, 1)
+
+
+@test(seconds=3)
+def words_that_might_name_a_file_wait_for_the_proved_program(t):
+    it = Repository(t)
+    it.looks(["script"], 1)
+    for words in OTHERS:
+        (it.top / "crates/reg_desk/out/reg_desk").unlink(missing_ok=True)
+        status, out, err = it.desk(*words)
+        t.same((status, out), (0, " ".join(["proved", *words]) + "\n"), f"status and standard output of {words}")
+        t.true(UNPROVED not in err, f"nothing of an unproved program on standard error of {words}: {err!r}")
+    t.same(it.builds(), 1, "unproved programs that were built")
+
+
+@test(seconds=2)
+def a_proved_program_is_taken_first(t):
+    it = Repository(t)
+    it.looks(["script"], 1)
+    t.same(it.desk("build")[0], 0)
+    t.same(it.desk("script"), (0, "proved script\n", ""), "status, standard output and standard error")
+    later = (it.top / "crates/reg_desk/out/reg_desk").stat().st_mtime + 10
+    os.utime(it.top / "crates/reg_desk/proofs/main.antt", (later, later))
+    it.looks(["script"], 1)
+
+
+@test(seconds=4)
+def a_changed_source_or_toolchain_is_built_anew(t):
+    it = Repository(t)
+    it.looks(["script"], 1)
+    put(it.top / "crates/reg_desk/proofs/main.antt", "-- another proof\n")
+    it.looks(["script"], 1)
+    put(it.top / "crates/reg_desk/src/main.rt", "fn main() { }\n")
+    it.looks(["script"], 2)
+    put(it.kit / "version", "kit 2\n")
+    it.looks(["script"], 3)
+    put(it.top / "crates.txt", "reg_desk: std\n")
+    it.looks(["script"], 4)
+    (it.top / "out/desk-unproved").unlink()
+    it.looks(["script"], 5)
+
+
+@each({
+    "rt try leaves no bitcode": (lambda kit: put(kit / "no-bitcode", ""), "rt try leaves no bitcode"),
+    "there is no clang": (lambda kit: (kit / "toolchain/bin/clang").unlink(), "clang does not start"),
+    "clang takes other options": (lambda kit: put(kit / "toolchain/bin/clang", "#!/bin/sh\necho unknown option\nexit 1\n"), "unknown option"),
+    "the program does not start": (lambda kit: put(kit / "bin/rattle-link", "#!/bin/sh\nfor made; do [ \"$was\" != -o ] || : >\"$made\"; was=$made; done\n"), "does not start"),
+}, seconds=3)  # fmt: skip
+def another_toolchain_leaves_rt_try(t, change, why):
+    it = Repository(t)
+    change(it.kit)
+    for _ in range(2):
+        status, out, err = it.desk("script", "--why")
+        t.same((status, out), (7, "tried try -- script --why\n"), "status and standard output, which are those of rt try")
+        t.has(err, why, "the reason")
+        t.has(err, UNPROVED)
+    t.same(list((it.top / "out").iterdir()), [], "what is kept")
+    t.same(it.desk("look")[:2], (3, ""), "status and standard output of ./desk look")
+
+
+@test
+def a_program_that_does_not_compile_is_told_once(t):
+    it = Repository(t)
+    put(it.kit / "broken", "")
+    status, out, err = it.desk("script")
+    t.same((status, out, it.builds()), (126, "", 1), "status, standard output and builds")
+    t.has(err, "error: no such name")
+
+
+@test(seconds=5)
+def the_tests_take_the_unproved_program_and_say_so(t):
+    it = Repository(t)
+    tests = it.top / "tests"
+    for name in ("run", "faults.c"):
+        (tests / name).parent.mkdir(exist_ok=True)
+        shutil.copy2(program.TESTS / name, tests / name)
+    shutil.copytree(program.TESTS / "lib", tests / "lib", ignore=shutil.ignore_patterns("__pycache__"))
+    for name in ("groups", "desk"):
+        (tests / name).mkdir()
+    put(tests / "cases/one.args", "script\n")
+    put(tests / "cases/one", "")
+    put(tests / "cases/one.stdout", "unproved script\n")
+    status, out, err = it.run(tests / "run", "--proved")
+    t.same((status, out, it.builds()), (1, "", 0), "of the proved program alone, which is not there")
+    t.has(err, "not built")
+    status, out, _ = it.run(tests / "run")
+    t.same((status, out.splitlines()[-1], it.builds()), (0, "1 passed, 0 failed, 0 skipped", 1), "status, last line and builds")
+    t.true(out.splitlines()[-2].endswith("; the program that was tested is unproved"), f"the line before the last: {out!r}")
+    put(tests / "cases/one.stdout", "proved script\n")
+    t.same(it.desk("build")[0], 0)
+    for words in ((), ("--proved",)):
+        status, out, _ = it.run(tests / "run", *words)
+        t.same((status, out.splitlines()[-1]), (0, "1 passed, 0 failed, 0 skipped"), "status and last line")
+        t.true("unproved" not in out, f"the proved program is not told as unproved: {out!r}")
