@@ -14,10 +14,15 @@ A line of an index has no notBefore. With --certs it is read from the certificat
 10,000 takes a minute or so), with --days N it is N days before notAfter, which is what `openssl ca -days N` made. Where that lies after today, the
 certificate was made for more than N days: it is told, and left out, as its notBefore is not known.
 
+Nothing is written as long as a revocation of the index would be lost, as that of a certificate of 731 days, unless --leave-out FILE lists its serial
+number: one in hexadecimal on each line, and a reason behind it if you like. Standard error says how many revocations were read, entered and left out.
+With --old-crl CRL, the latest CRL that openssl issued (PEM or DER), the script names each of its entries that the register's first CRL would lack;
+these have to be listed too.
+
 A certificate on hold is neither good nor revoked, and a register has no hold: --hold says what becomes of it. Without it nothing is written
 where the index has one.
 
-Exit status: 0 where all was carried over or told, 1 where nothing was written, 2 where the words can't be read.
+Exit status: 0 where the script was written, 1 where nothing was written, 2 where the words can't be read.
 """
 import argparse
 import datetime
@@ -49,6 +54,8 @@ MOST_ROWS = 1_000_000
 
 Line = namedtuple("Line", "number state not_after revoked reason serial subject")
 Cert = namedtuple("Cert", "line not_before registered")
+# An entry of a CRL, its moment as openssl prints it.
+Entry = namedtuple("Entry", "serial revoked")
 
 
 class Unreadable(Exception):
@@ -119,6 +126,10 @@ def name_of(subject, taken):
     return name
 
 
+def is_hold(line):
+    return line.reason.partition(",")[0].lower() in HOLDS
+
+
 class Mover:
     """What is carried over, and what is told of it."""
 
@@ -129,33 +140,36 @@ class Mover:
     def tell(self, line, text):
         self.told.append((line.number, f"line {line.number}, serial number {line.serial}: {text}"))
 
+    def leave_out(self, line, why):
+        """Reports why a certificate is not registered, and that its revocation would be lost with it."""
+        self.tell(line, f"left out: {why}" + ("" if line.revoked is None else "; its revocation would be lost"))
+
     def cert_of(self, line, seen):
         """The certificate of a line, or None, with why it can't be registered told."""
         serial = int(line.serial, 16)
         if not 1 <= serial <= GREATEST_SERIAL:
-            return self.tell(line, "left out: serial numbers are 1 to 2^159 - 1")
+            return self.leave_out(line, "serial numbers are 1 to 2^159 - 1")
         if serial in seen:
-            return self.tell(line, "left out: another line has the serial number")
+            return self.leave_out(line, "another line has the serial number")
         not_before = started(self.words.certs, line.serial) if self.words.certs else line.not_after - self.words.days * DAY
         days = (line.not_after - not_before) // DAY + 1
         if not self.words.certs and not_before > self.words.now:
-            return self.tell(line, self.begins_unknown(line, not_before))
+            return self.leave_out(line, self.begins_unknown(not_before))
         if not_before > line.not_after:
-            return self.tell(line, "left out: it ends before it begins")
+            return self.leave_out(line, "it ends before it begins")
         if days > LONGEST_DAYS:
-            return self.tell(line, f"left out: valid for {days} days, both ends counted, and no register takes more than {LONGEST_DAYS}")
+            return self.leave_out(line, f"valid for {days} days, both ends counted, and no register takes more than {LONGEST_DAYS}")
         if not_before < 0 or line.not_after > LAST_MOMENT:
-            return self.tell(line, "left out: it begins before 1970, or ends after 9999-12-21")
+            return self.leave_out(line, "it begins before 1970, or ends after 9999-12-21")
         seen.add(serial)
         # Registered when it began; before that, where it was revoked before that or has not begun yet.
         at = min(not_before, self.words.now) if line.revoked is None else min(not_before, self.words.now, max(line.revoked, 0))
         return Cert(line, not_before, at)
 
-    def begins_unknown(self, line, not_before):
-        """What is told of a certificate that was made for more days than --days says; where it is revoked, no CRL of the register lists it."""
-        loss = "" if line.revoked is None else "it is revoked, and the register does not say so; "
+    def begins_unknown(self, not_before):
+        """What is told of a certificate that was made for more days than --days says."""
         begins = f"{self.words.days} days before its end are {moment(not_before)}, which is still to come"
-        return f"left out: its notBefore is not known, {begins}; {loss}say --certs, or the days that it was made for"
+        return f"its notBefore is not known, {begins}: say --certs, or the days that it was made for"
 
     def revocation_of(self, cert):
         """When a certificate is revoked and on which ground, or None."""
@@ -166,7 +180,7 @@ class Mover:
         at, ground = max(line.revoked, 0), GROUNDS.get(word)
         if min(at, self.words.now) > line.not_after:
             return self.tell(line, "not revoked: it had ended before, and what has ended is revoked no more")
-        if word in HOLDS:
+        if is_hold(line):
             if self.words.hold == "good":
                 return self.tell(line, "it was on hold, and is good in the register")
             self.tell(line, "it was on hold, and is revoked for good in the register, with no reason")
@@ -194,6 +208,30 @@ class Mover:
                 events.append((revoked[0], 1, line.number, cert, revoked[1]))
         events.sort(key=lambda event: event[:3])
         return events
+
+
+class Revocations:
+    """The revocations that were read, by serial number, and which of them the script enters."""
+
+    def __init__(self, lines, events, entries, words):
+        self.read = {int(line.serial, 16): line for line in reversed(lines) if line.revoked is not None}
+        self.entered = {int(event[3].line.serial, 16) for event in events if event[1] == 1}
+        self.lacking = [entry for entry in entries if entry.serial not in self.entered]
+        # The operator leaves these out, by --leave-out or --hold good.
+        self.chosen = set(words.leave_out) | {serial for serial, line in self.read.items() if is_hold(line) and words.hold == "good"}
+
+    def lost(self):
+        """The serial numbers of revocations that are neither entered nor left out by the operator."""
+        return sorted({*self.read, *(entry.serial for entry in self.lacking)} - self.entered - self.chosen)
+
+    def lines(self):
+        """A line for each entry that the register's first CRL would lack, and one with the number of revocations."""
+        for entry in self.lacking:
+            unknown = "" if entry.serial in self.read else "; the index has no revocation of it"
+            yield f"serial number {entry.serial:X}, revoked {entry.revoked}: on the old CRL, and missing from the first new one{unknown}"
+        for serial in sorted(self.chosen & self.entered):
+            yield f"serial number {serial:X}: entered, although --leave-out lists it"
+        yield f"{len(self.read)} revocations read, {len(self.read.keys() & self.entered)} entered, {len(self.read.keys() - self.entered)} left out"
 
 
 def script(events, crls, now):
@@ -225,6 +263,8 @@ def read_words():
     start.add_argument("--days", type=int, metavar="N", help="each certificate was made for N days (1 to 397)")
     parser.add_argument("--hold", choices=["revoke", "good"], help="what becomes of a certificate on hold")
     parser.add_argument("--crlnumber", metavar="FILE", help="openssl's file of the next CRL number: the register's next CRL gets that number")
+    parser.add_argument("--leave-out", metavar="FILE", help="serial numbers of revocations that are lost on purpose, one a line")
+    parser.add_argument("--old-crl", metavar="CRL", help="openssl's latest CRL: names each entry that the register's first CRL would lack")
     parser.add_argument("--now", metavar="MOMENT", help="no line is later than this (the machine's clock)")
     words = parser.parse_args()
     if words.days is not None and not 1 <= words.days < LONGEST_DAYS:
@@ -239,6 +279,33 @@ def read_words():
     return words
 
 
+def read_leave_out(path):
+    """The serial numbers of a file of --leave-out."""
+    serials = []
+    with open(path, encoding="utf-8") as file:
+        for number, text in enumerate(file, 1):
+            word = (text.split() or ["#"])[0]
+            if word.startswith("#"):
+                continue
+            if not re.fullmatch(r"[0-9A-Fa-f]+", word):
+                raise Unreadable(f"{path}:{number}: '{word}' is no serial number")
+            serials.append(int(word, 16))
+    return serials
+
+
+def read_crl(path):
+    """The number of a CRL, or None where it has none, and its entries, as openssl prints them."""
+    for form in ("PEM", "DER"):
+        got = subprocess.run(["openssl", "crl", "-inform", form, "-in", path, "-noout", "-text"], capture_output=True, text=True, check=False)
+        if got.returncode == 0:
+            break
+    else:
+        raise Unreadable(f"openssl can't read the CRL {path}")
+    number = re.search(r"X509v3 CRL Number: \n\s*(0x[0-9A-F]+|\d+)", got.stdout)
+    found = re.findall(r"^ *Serial Number: ([0-9A-F]+)\n *Revocation Date: (.*)$", got.stdout, re.MULTILINE)
+    return int(number[1], 0) if number else None, [Entry(int(serial, 16), date) for serial, date in found]
+
+
 def earlier_crls(path):
     """How many CRLs openssl has issued, by its file of the next number."""
     with open(path, encoding="ascii") as file:
@@ -248,33 +315,51 @@ def earlier_crls(path):
     return issued
 
 
+def read_all(words):
+    """The lines of the index, how many CRLs the script issues first, and the number and the entries of the old CRL."""
+    lines = read_index(words.index)
+    words.leave_out = read_leave_out(words.leave_out) if words.leave_out else []
+    crls = earlier_crls(words.crlnumber) if words.crlnumber else 0
+    held = [line for line in lines if is_hold(line)]
+    if held and words.hold is None:
+        raise Unreadable(f"{len(held)} certificates are on hold, the first at line {held[0].number}: say --hold revoke or --hold good")
+    odd = [line for line in lines if not is_hold(line) and line.reason.partition(",")[0].lower() not in GROUNDS]
+    if odd:
+        raise Unreadable(f"{words.index}:{odd[0].number}: the reason '{odd[0].reason}' is none of openssl's")
+    if len(lines) > MOST_ROWS:
+        raise Unreadable(f"{words.index}: a register has 1,000,000 certificates at most")
+    return lines, crls, *(read_crl(words.old_crl) if words.old_crl else (None, []))
+
+
+def tell(texts):
+    for text in texts:
+        print(text, file=sys.stderr)
+
+
 def main():
     words = read_words()
     mover = Mover(words)
     try:
-        lines = read_index(words.index)
-        crls = earlier_crls(words.crlnumber) if words.crlnumber else 0
-        held = [line for line in lines if line.reason.partition(",")[0].lower() in HOLDS]
-        if held and words.hold is None:
-            raise Unreadable(f"{len(held)} certificates are on hold, the first at line {held[0].number}: say --hold revoke or --hold good")
-        odd = [line for line in lines if line.reason.partition(",")[0].lower() not in HOLDS | set(GROUNDS)]
-        if odd:
-            raise Unreadable(f"{words.index}:{odd[0].number}: the reason '{odd[0].reason}' is none of openssl's")
-        if len(lines) > MOST_ROWS:
-            raise Unreadable(f"{words.index}: a register has 1,000,000 certificates at most")
+        lines, crls, number, entries = read_all(words)
         events = mover.events(lines)
     except (OSError, ValueError, Unreadable) as fault:
         sys.exit(f"from-openssl-index: {fault}; nothing was written")
+    tell(text for _, text in sorted(mover.told))
+    if number is not None and number > crls:
+        tell([f"the old CRL has number {number}, and the first new one would have {crls + 1}: say --crlnumber"])
+    revocations = Revocations(lines, events, entries, words)
+    tell(revocations.lines())
+    if lost := revocations.lost():
+        serials = "".join(f"\n{serial:X}" for serial in lost)
+        sys.exit(f"from-openssl-index: {len(lost)} revocations would be lost; nothing was written. To lose them, list them in a file of --leave-out:{serials}")
     written = 0
     for text in script(events, crls, words.now):
         print(text)
         written += 1
-    for _, text in sorted(mover.told):
-        print(text, file=sys.stderr)
     carried = sum(1 for event in events if event[1] == 0)
-    print(f"{len(lines)} lines of the index, {carried} certificates, {len(events) - carried} revocations, {written} lines of the script", file=sys.stderr)
+    tell([f"{len(lines)} lines of the index, {carried} certificates, {len(events) - carried} revocations, {written} lines of the script"])
     if written > MOST_ROWS:
-        print("a script has 1,000,000 lines at most: split it, and run its parts one after the other", file=sys.stderr)
+        tell(["a script has 1,000,000 lines at most: split it, and run its parts one after the other"])
 
 
 main()

@@ -139,14 +139,20 @@ def an_index_of_many_lines(t):
     it = make_ca(t, index_of(certs, now))
     written, told = moved(t, "index.txt", "--days", "365", status=1)
     t.same((written, "are on hold" in told[0]), ("", True), "certificates on hold are refused unless it is said what becomes of them")
-    script, told = moved(t, "index.txt", "--days", "365", "--hold", "revoke", "--crlnumber", "crlnumber", "--now", moment_of(now))
+    words = ("index.txt", "--days", "365", "--hold", "revoke", "--crlnumber", "crlnumber", "--now", moment_of(now))
+    late = sorted(cert["serial"] for cert in certs if is_late(cert))
+    written, told = moved(t, *words, status=1)
+    t.same((written, told[-len(late) :]), ("", [f"{serial:X}" for serial in late]), "revocations that would be lost")
+    (t.room / "lost").write_text("# Revoked after their end.\n" + "".join(f"{serial:x} had ended\n" for serial in late))
+    script, told = moved(t, *words, "--leave-out", "lost")
     for word in ("on hold", "CACompromise", "invalidity", "still to come", "ended before"):
         t.true(any(word in line for line in told), f"nothing is told of {word}")
     lines = script.splitlines()
     moments = [line[:20] for line in lines]
     t.same((moments == sorted(moments), moments[-1] <= moment_of(now)), (True, True), "moments rise, and none is past now")
     revoked = sum(1 for cert in certs if status_of(cert, now).startswith("revoked"))
-    t.same(told[-1], f"{LINES} lines of the index, {LINES} certificates, {revoked} revocations, {len(lines)} lines of the script")
+    t.same(told[-2:], [f"{revoked + len(late)} revocations read, {revoked} entered, {len(late)} left out",
+                       f"{LINES} lines of the index, {LINES} certificates, {revoked} revocations, {len(lines)} lines of the script"])
     file = it.register(authority.in_memory(t) / "ca.db")
     replies = t.done("script", file, given=script).splitlines()
     t.same((len(replies), [reply for reply in replies if re.match("[EF][0-9]", reply)]), (len(lines), []), "no line of the script is refused")
@@ -192,22 +198,100 @@ def its_ocsp_is_that_of_openssl(t, file, it, certs, now):
     t.same((len(unanswered) > 0, {ours[serial][0] for serial in unanswered}), (True, {"good"}), "what openssl leaves unanswered")
 
 
+def issue(t, *certs):
+    """Has `openssl ca` issue a certificate for each name, of so many days; their serial numbers are 1000, 1001, ..."""
+    for name, days in certs:
+        key = authority.KEYS["ecdsa-sha256"]
+        t.tool("openssl", "req", "-newkey", *key, "-nodes", "-keyout", "x.key", "-out", "x.csr", "-subj", f"/CN={name} & sons")
+        t.tool("openssl", "ca", "-config", "ca.cnf", "-batch", "-in", "x.csr", "-out", "x.pem", "-days", days, "-notext")
+
+
+def revoke(t, serial, reason):
+    t.tool("openssl", "ca", "-config", "ca.cnf", "-revoke", f"newcerts/{serial}.pem", "-crl_reason", reason)
+
+
+def is_refused_by(t, crl, serial):
+    """Whether openssl refuses a certificate as revoked by this CRL."""
+    told = t.tried("openssl", "verify", "-crl_check", "-CAfile", "ca.pem", "-CRLfile", crl, f"newcerts/{serial}.pem")
+    t.same(told.returncode == 0, b"certificate revoked" not in told.stderr, f"openssl verify of {serial} told {told.stderr!r}")
+    return told.returncode != 0
+
+
+@test(seconds=4)
+def a_revocation_that_the_register_can_t_take(t):
+    """A certificate of 731 days whose key was compromised: openssl's CRL lists it, and the register can't. Nothing is written until the operator lists it."""
+    it = make_ca(t)
+    issue(t, ("a", 90), ("b", 730), ("c", 30))
+    revoke(t, "1000", "superseded")
+    revoke(t, "1001", "keyCompromise")
+    revoke(t, "1002", "cessationOfOperation")
+    t.tool("openssl", "ca", "-config", "ca.cnf", "-gencrl", "-out", "theirs.pem")
+    # The index that comes to be moved has lost a revocation that was published.
+    kept = [line for line in (t.room / "index.txt").read_text().splitlines(keepends=True) if "\t1002\t" not in line]
+    (t.room / "kept.txt").write_text("".join(kept))
+    words = ("kept.txt", "--certs", "newcerts", "--crlnumber", "crlnumber")
+    written, told = moved(t, *words, status=1)
+    t.same(written, "", "nothing is written")
+    t.same(told[0], "line 2, serial number 1001: left out: valid for 731 days, both ends counted, and no register takes more than 398; "
+                    "its revocation would be lost")
+    t.same(told[1:], ["2 revocations read, 1 entered, 1 left out",
+                      "from-openssl-index: 1 revocations would be lost; nothing was written. To lose them, list them in a file of --leave-out:", "1001"])
+    words = (*words, "--old-crl", "theirs.pem")
+    written, told = moved(t, *words, status=1)
+    t.same((written, told[-2:]), ("", ["1001", "1002"]), "and what the old CRL alone has")
+    lacks = [line.partition(": ")[2] for line in told if "old CRL" in line]
+    said = "on the old CRL, and missing from the first new one"
+    t.same(lacks, [said, f"{said}; the index has no revocation of it"], "each entry that the first new CRL would lack")
+    t.same([line.split(",")[0] for line in told if "old CRL" in line], ["serial number 1001", "serial number 1002"])
+    (t.room / "lost").write_text("1001 stays with openssl until it has ended\n")
+    written, told = moved(t, *words, "--leave-out", "lost", status=1)
+    t.same((written, told[-1]), ("", "1002"), "one of two is listed")
+    (t.room / "lost").write_text("# Both.\n\n1001 stays with openssl until it has ended\n1002\n1000\n")
+    t.tool("openssl", "crl", "-in", "theirs.pem", "-outform", "DER", "-out", "theirs.crl")
+    script, told = moved(t, *words[:-1], "theirs.crl", "--leave-out", "lost")
+    t.same(told[-3:-1], ["serial number 1000: entered, although --leave-out lists it", "2 revocations read, 1 entered, 1 left out"])
+    t.same([line for line in told if "crlnumber" in line], [], "the first new CRL has the next number")
+    it.signer()
+    it.register()
+    t.same([reply for reply in t.done("script", "ca.db", *it.signing(), given=script).splitlines() if reply[0] in "EF"], [], "refusals")
+    t.same(t.done("script", "ca.db", "--clock", *it.signing(), given="crl\n"), "crl 43 entries 1\n")
+    (t.room / "ours.pem").write_bytes(t.tool("openssl", "crl", given=t.done("crl", "ca.db").encode("latin-1")))
+    t.same([is_refused_by(t, "theirs.pem", serial) for serial in ("1000", "1001", "1002")], [True, True, True], "by openssl's latest CRL")
+    t.same([is_refused_by(t, "ours.pem", serial) for serial in ("1000", "1001", "1002")], [True, False, False], "by the register's first one")
+
+
+@test(seconds=2)
+def a_number_that_the_first_crl_would_take_again(t):
+    make_ca(t)
+    issue(t, ("a", 90))
+    revoke(t, "1000", "superseded")
+    t.tool("openssl", "ca", "-config", "ca.cnf", "-gencrl", "-out", "theirs.pem")
+    words = ("index.txt", "--certs", "newcerts", "--old-crl", "theirs.pem")
+    _, told = moved(t, *words)
+    t.same(told[:-1], ["the old CRL has number 42, and the first new one would have 1: say --crlnumber", "1 revocations read, 1 entered, 0 left out"])
+    _, told = moved(t, *words, "--crlnumber", "crlnumber")
+    t.same(told[:-1], ["1 revocations read, 1 entered, 0 left out"])
+    for name, text, wanted in (("lost", "05\nx5\n", "lost:2: 'x5' is no serial number"), ("no.crl", "nothing", "openssl can't read the CRL no.crl")):
+        (t.room / name).write_text(text)
+        written, told = moved(t, *words[:-1], "theirs.pem" if name == "lost" else name, "--leave-out", "lost", status=1)
+        t.same((written, told), ("", [f"from-openssl-index: {wanted}; nothing was written"]))
+        (t.room / "lost").write_text("")
+
+
 @test(seconds=4)
 def a_small_ca_that_openssl_made(t):
     """With notBefore from its certificates; what can't be carried over is told, a line each."""
     it = make_ca(t)
-    for name, days in (("a", 90), ("b", 365), ("c", 30), ("d", 3650)):
-        key = authority.KEYS["ecdsa-sha256"]
-        t.tool("openssl", "req", "-newkey", *key, "-nodes", "-keyout", "x.key", "-out", "x.csr", "-subj", f"/CN={name} & sons")
-        t.tool("openssl", "ca", "-config", "ca.cnf", "-batch", "-in", "x.csr", "-out", "x.pem", "-days", days, "-notext")
-    t.tool("openssl", "ca", "-config", "ca.cnf", "-revoke", "newcerts/1001.pem", "-crl_reason", "superseded")
+    issue(t, ("a", 90), ("b", 365), ("c", 30), ("d", 3650))
+    revoke(t, "1001", "superseded")
     lines = (t.room / "index.txt").read_text()
     first = lines.splitlines()[0]
     # What no openssl wrote: a serial number that comes twice, and one that is too great.
     (t.room / "odd.txt").write_text(lines + first + "\n" + first.replace("\t1000\t", "\t" + "F" * 40 + "\t") + "\n")
     script, told = moved(t, "odd.txt", "--certs", "newcerts")
     wanted = ["line 4, serial number 1003", "line 5, serial number 1000", "line 6, serial number " + "F" * 40]
-    t.same([line.split(": ")[0] for line in told[:-1]], wanted)
+    t.same([line.split(": ")[0] for line in told[:-2]], wanted)
+    t.same(told[-2], "1 revocations read, 1 entered, 0 left out")
     t.has(told[0], "3651 days")
     it.register()
     replies = t.done("script", "ca.db", given=script).splitlines()
@@ -261,14 +345,17 @@ def a_certificate_whose_assumed_start_lies_after_today(t):
     lines = ["V\t260301000000Z\t\t05\tunknown\t/CN=a\n", "V\t261130000000Z\t\t06\tunknown\t/CN=b\n",
              "R\t261130000001Z\t251101000000Z,superseded\t07\tunknown\t/CN=c\n", "V\t260301000001Z\t\t08\tunknown\t/CN=d\n"]
     (t.room / "index.txt").write_text("".join(lines))
-    script, told = moved(t, "index.txt", "--days", "90", "--now", "2025-12-01T00:00:00Z")
+    written, told = moved(t, "index.txt", "--days", "90", "--now", "2025-12-01T00:00:00Z", status=1)
+    t.same((written, told[-1]), ("", "7"), "one of them is revoked")
+    (t.room / "lost").write_text("07\n")
+    script, told = moved(t, "index.txt", "--days", "90", "--now", "2025-12-01T00:00:00Z", "--leave-out", "lost")
     unknown = "left out: its notBefore is not known, 90 days before its end are"
-    said = "say --certs, or the days that it was made for"
+    said = "which is still to come: say --certs, or the days that it was made for"
     # The first begins today, and the last a second later.
-    t.same(told, [f"line 2, serial number 06: {unknown} 2026-09-01T00:00:00Z, which is still to come; {said}",
-                  f"line 3, serial number 07: {unknown} 2026-09-01T00:00:01Z, which is still to come; "
-                  f"it is revoked, and the register does not say so; {said}",
-                  f"line 4, serial number 08: {unknown} 2025-12-01T00:00:01Z, which is still to come; {said}",
+    t.same(told, [f"line 2, serial number 06: {unknown} 2026-09-01T00:00:00Z, {said}",
+                  f"line 3, serial number 07: {unknown} 2026-09-01T00:00:01Z, {said}; its revocation would be lost",
+                  f"line 4, serial number 08: {unknown} 2025-12-01T00:00:01Z, {said}",
+                  "1 revocations read, 0 entered, 1 left out",
                   "4 lines of the index, 1 certificates, 0 revocations, 3 lines of the script"])
     t.same(script.splitlines()[-1], "2025-12-01T00:00:00Z register 1 05 2025-12-01T00:00:00Z 2026-03-01T00:00:00Z")
     Authority(t).register()
@@ -277,4 +364,4 @@ def a_certificate_whose_assumed_start_lies_after_today(t):
     t.same(t.done("script", "ca.db", given=asks), "good\nunknown\nunknown\nunknown\n")
     # Said as it was made for, each is carried over.
     script, told = moved(t, "index.txt", "--days", "365", "--now", "2025-12-01T00:00:00Z")
-    t.same(told, ["4 lines of the index, 4 certificates, 1 revocations, 14 lines of the script"])
+    t.same(told, ["1 revocations read, 1 entered, 0 left out", "4 lines of the index, 4 certificates, 1 revocations, 14 lines of the script"])

@@ -284,8 +284,8 @@ def coming_from_openssl_ca(t):
         openssl("ca", "-config", "demoCA/ca.cnf", "-batch", "-in", "x.csr", "-out", f"{name}.pem", "-days", "90", "-notext")
     openssl("ca", "-config", "demoCA/ca.cnf", "-revoke", "a.pem", "-crl_reason", "superseded")
     for _ in range(3):
-        openssl("ca", "-config", "demoCA/ca.cnf", "-gencrl", "-out", "theirs.pem")
-    lines = [*block("Coming from openssl ca", "/usr/lib/durshavon/from-openssl-index.py"), *office(str(program.free_port()))]
+        openssl("ca", "-config", "demoCA/ca.cnf", "-gencrl", "-out", "demoCA/crl.pem")
+    lines = [*block("Coming from openssl ca", "FILES="), *office(str(program.free_port()))]
     told = typed(t, top, lines)
     ends_well(t, told, crls=2, answers=1, replies=("created\n", "crl 4 entries 1\n", "5: revoked\n", "crl 5 entries 1\n"))
     # The CRLs that the moved script issues are signed too: no digest stands in the register.
