@@ -9,6 +9,8 @@ It stands before any command that signs standard input, and gives it what it was
 (`examples/signer.py --only-ours ca.pem` looks at the same by itself.) What it refuses has no signature: the exit status is 1, standard
 error says why, and the desk says `F3 signer`, or answers internalError.
 
+It also has openssl verify the command's signature by the certificate, and prints none that does not verify, as that of another key.
+
 It is let through exactly in the form in which the desk writes it, in DER (X.690 10, 11) and to its last octet:
 
     TBSCertList (RFC 5280 5.1.2)    version 2, the key's algorithm, the issuer's name, the two moments, entries of a serial number, a
@@ -31,6 +33,7 @@ import itertools
 import re
 import subprocess
 import sys
+import tempfile
 from collections import namedtuple
 
 INTEGER, BITS, OCTETS, IDENTIFIER, SEQUENCE = 0x02, 0x03, 0x04, 0x06, 0x30
@@ -45,6 +48,8 @@ ALGORITHMS = {
     bytes.fromhex("300D06092A864886F70D0101010500"): bytes.fromhex("300D06092A864886F70D01010B0500"),
     bytes.fromhex("300506032B6570"): bytes.fromhex("300506032B6570"),
 }
+# The digest of each of these, as openssl names it; Ed25519 has none.
+DIGESTS = dict(zip(ALGORITHMS.values(), ("-sha256", "-sha384", "-sha256", None)))
 # id-sha1 and id-sha256, their parameters left out or NULL (RFC 3370 2.1, RFC 5754 2.2).
 HASHES = {
     hashlib.sha1: [bytes.fromhex("300706052B0E03021A"), bytes.fromhex("300906052B0E03021A0500")],
@@ -328,6 +333,25 @@ def read_certificate(path, whose="CA"):
         sys.exit(f"{path}: no certificate of a {whose}: {why}")
 
 
+# The signature
+
+
+def is_verified(signature, message, issuer):
+    """Whether openssl verifies a signature of a message by the key of an issuer or a responder."""
+    with tempfile.TemporaryDirectory() as folder:
+        paths = [f"{folder}/{name}" for name in ("key", "message", "signature")]
+        pem = b"-----BEGIN PUBLIC KEY-----\n" + base64.encodebytes(issuer.public) + b"-----END PUBLIC KEY-----\n"
+        for path, octets in zip(paths, (pem, message, signature)):
+            with open(path, "wb") as file:
+                file.write(octets)
+        key, asked, signed = paths
+        if digest := DIGESTS[issuer.algorithm]:
+            words = ["dgst", digest, "-verify", key, "-signature", signed, asked]
+        else:
+            words = ["pkeyutl", "-verify", "-rawin", "-pubin", "-inkey", key, "-in", asked, "-sigfile", signed]
+        return subprocess.run(["openssl", *words], capture_output=True, check=False).returncode == 0
+
+
 def main():
     words, responder = sys.argv[1:], None
     if words[:1] == ["--responder"] and len(words) > 1:
@@ -341,7 +365,12 @@ def main():
         check(message, issuer, responder)
     except Refused as why:
         sys.exit(f"refused to have {len(message)} bytes signed: {why}")
-    sys.exit(subprocess.run(words[1:], input=message, check=False).returncode)
+    ran = subprocess.run(words[1:], input=message, stdout=subprocess.PIPE, check=False)
+    if ran.returncode:
+        sys.exit(ran.returncode)
+    if not is_verified(ran.stdout, message, responder or issuer):
+        sys.exit(f"{words[1]} gave no signature that openssl verifies by the certificate: is its key another?")
+    sys.stdout.buffer.write(ran.stdout)
 
 
 if __name__ == "__main__":

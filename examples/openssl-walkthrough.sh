@@ -7,6 +7,7 @@ set -eu
 desk="$(pwd)/desk"
 tool="$(pwd)/examples/issuer-words.sh"
 signer="$(pwd)/examples/signer.py"
+only_ours="$(pwd)/examples/only_ours.py"
 work=$(mktemp -d /tmp/desk-walkthrough.XXXXXX)
 cd "$work"
 port=${1:-8085}
@@ -26,11 +27,11 @@ openssl req -newkey ec -pkeyopt ec_paramgen_curve:P-256 -nodes -keyout acme.key 
 openssl x509 -req -in acme.csr -CA ca.pem -CAkey ca.key -set_serial 5 -days 90 -out acme.pem 2>/dev/null
 openssl x509 -in acme.pem -noout -serial -dates
 
-step "What holds its key signs behind a socket: any tool that signs standard input"
+step "A signer has its key, behind a socket: any tool that signs standard input, behind a check that it is a CRL or an OCSP answer of this CA"
 if command -v socat >/dev/null; then
-    socat -t 10 UNIX-LISTEN:ca.sign,fork,mode=600 EXEC:'openssl dgst -sha256 -sign ca.key' &
+    socat -t 10 UNIX-LISTEN:ca.sign,fork,mode=600 EXEC:"$only_ours ca.pem openssl dgst -sha256 -sign ca.key" &
 else
-    "$signer" ca.key ca.sign &
+    "$signer" --only-ours ca.pem ca.key ca.sign &
 fi
 holder=$!
 for _ in 1 2 3 4 5 6 7 8 9 10; do [ -S ca.sign ] || sleep 0.3; done

@@ -9,7 +9,8 @@ back, and the connection ends. One line of socat does the same, and starts opens
 This program keeps the key in memory: a key that matters belongs into hardware (examples/pkcs11-signer.sh).
 Whoever can connect to the socket can have anything signed: it is made with mode 600, and belongs into a folder that the desk's user
 alone can enter. With --only-ours it signs CRLs and answers of OCSP of the CA whose certificate is given, and nothing else: what is refused
-is told on standard error, and its connection ends with no signature (examples/only_ours.py has what is looked at). With --responder beside it
+is told on standard error, and its connection ends with no signature (examples/only_ours.py has what is looked at). It also checks at its start
+that the key is that of the certificate, and verifies each signature by the certificate before it gives it away. With --responder beside it
 it has a responder's key, and signs that responder's answers about the CA's certificates alone.
 
 With P-256 it draws nonces before their messages come, by the system's libcrypto (OpenSSL), since nearly all of a signature's work
@@ -36,6 +37,7 @@ import signal
 import socket
 import sys
 
+from cryptography.exceptions import InvalidSignature
 from cryptography.hazmat.primitives import hashes
 from cryptography.hazmat.primitives.asymmetric import ec, ed25519, padding, rsa, utils
 from cryptography.hazmat.primitives.serialization import (
@@ -133,8 +135,19 @@ def signer_of(key):
     sys.exit(f"no algorithm for a key of the kind {type(key).__name__}")
 
 
+def verifier_of(public):
+    """Verifies a signature of a message by a public key, or raises InvalidSignature. The package's OpenSSL digests the message anew."""
+    if isinstance(public, ec.EllipticCurvePublicKey):
+        how = ec.ECDSA(hashes.SHA256() if public.curve.name == "secp256r1" else hashes.SHA384())
+        return lambda signature, message: public.verify(signature, message, how)
+    if isinstance(public, rsa.RSAPublicKey):
+        filling, kind = padding.PKCS1v15(), hashes.SHA256()
+        return lambda signature, message: public.verify(signature, message, filling, kind)
+    return public.verify
+
+
 def guarded(sign, words, key):
-    """What signs for the CA of a certificate alone, or as its responder. The key has to be that of who signs."""
+    """Signs for the CA of a certificate alone, or as its responder, and verifies each signature. The key has to be that of who signs."""
     issuer = read_certificate(words.only_ours)
     responder = read_certificate(words.responder, "responder") if words.responder else None
     path, theirs = words.responder or words.only_ours, load_der_public_key((responder or issuer).public)
@@ -142,9 +155,16 @@ def guarded(sign, words, key):
     if spelled[0] != spelled[1]:
         sys.exit(f"{path} is the certificate of another key")
 
+    verify = verifier_of(theirs)
+
     def sign_ours(message):
         check(message, issuer, responder)
-        return sign(message)
+        signature = sign(message)
+        try:
+            verify(signature, message)
+        except InvalidSignature as fault:
+            raise Refused(f"its signature does not verify by {path}") from fault
+        return signature
 
     return sign_ours
 

@@ -9,7 +9,7 @@ import sys
 from lib import authority, program
 from lib.authority import EXAMPLES, INTERNAL, KEYS, Authority, body_of, inside, moment_of, values_of
 from lib.registers import tlv
-from lib.trial import each, test
+from lib.trial import each, need, test
 
 ALGORITHMS = {it: it for it in KEYS}
 FILTER = [sys.executable, EXAMPLES / "only_ours.py"]
@@ -56,6 +56,14 @@ def to_be_signed(t, it):
     return signer.asked
 
 
+def let_through(t, it, message):
+    """The bytes that the command behind the filter is given for a message, which it signs."""
+    signs = {"ed25519": "pkeyutl -sign -rawin -inkey ca.key -in passed", "ecdsa-sha384": "dgst -sha384 -sign ca.key passed"}
+    command = f"cat > passed; openssl {signs.get(it.algorithm, 'dgst -sha256 -sign ca.key passed')} | tee printed"
+    t.same(t.tool(*FILTER, it.pem, "sh", "-c", command, given=message), (t.room / "printed").read_bytes(), "its signature is printed as it came")
+    return (t.room / "passed").read_bytes()
+
+
 def refused(t, path, message, what):
     t.same(signature(path, message), b"", f"{what} is refused")
 
@@ -78,7 +86,7 @@ def what_the_desk_has_signed_is_signed(t, algorithm):
     t.same(len(messages), 6, "CRLs and answers")
     for message in messages:
         t.true(signature(path, message) != b"", f"{message.hex()} is signed")
-        t.same(t.tool(*FILTER, it.pem, "cat", given=message), message, "the command has what came, to the last octet")
+        t.same(let_through(t, it, message), message, "the command has what came, to the last octet")
 
 
 @test(seconds=10)
@@ -139,7 +147,7 @@ def crls_of_other_forms(t):
     version, algorithm, name, this, following, entries, _ = parts
     extensions = whole(inside(crl, 6, 0)[1])
     identifier, number = extensions
-    t.same(t.tool(*FILTER, it.pem, "cat", given=crl_of(parts, extensions)), crl, "put together again it is the same")
+    t.same(let_through(t, it, crl_of(parts, extensions)), crl, "put together again it is the same")
     delta = tlv(SEQUENCE, bytes.fromhex("0603551D1B"), bytes.fromhex("0101FF"), tlv(OCTETS, b"\x02\x01\x01"))
     distribution = tlv(SEQUENCE, bytes.fromhex("0603551D1C"), bytes.fromhex("0101FF"), tlv(OCTETS, tlv(SEQUENCE, b"\x84\x01\xFF")))
     row = lambda *parts: tlv(SEQUENCE, tlv(SEQUENCE, *parts))
@@ -201,13 +209,13 @@ def answers_of_other_forms(t):
     put = lambda *singles: tlv(SEQUENCE, responder, produced, tlv(SEQUENCE, *singles))
     one = lambda *parts: put(tlv(SEQUENCE, *parts))
     for what, message in {"with its nonce": answer, "without": put(*singles), "one of them": put(singles[2])}.items():
-        t.same(t.tool(*FILTER, it.pem, "cat", given=message), message, what)
+        t.same(let_through(t, it, message), message, what)
     hashed, name_hash, key_hash, serial = whole(inside(asked)[1])
     foreign = [tlv(SEQUENCE, hashed, bytes([*name_hash[:-1], name_hash[-1] ^ 1]), key_hash, serial),
                tlv(SEQUENCE, hashed, name_hash, bytes([*key_hash[:-1], key_hash[-1] ^ 1]), serial)]
     good, unknown = b"\x80\0", b"\x82\0"
     for cert_id in foreign:
-        t.same(len(t.tool(*FILTER, it.pem, "cat", given=one(cert_id, unknown, this, following))) > 0, True, "another issuer's is unknown")
+        t.same(len(let_through(t, it, one(cert_id, unknown, this, following))) > 0, True, "another issuer's is unknown")
     name = inside(t.tool("openssl", "x509", "-in", it.pem, "-outform", "DER"), 0, 5)[2]
     others = {
         "another's is good": one(foreign[0], good, this, following),
@@ -296,6 +304,99 @@ def a_certificate_of_another_key_is_not_taken(t):
     der = t.tool("openssl", "x509", "-in", it.pem, "-outform", "DER")
     (t.room / "ca.der").write_bytes(der)
     t.same(t.tool("python3", EXAMPLES / "signer.py", "--only-ours", "ca.der", it.key), b"ecdsa-sha256\n", "the certificate in DER")
+
+
+@each(ALGORITHMS, seconds=3)
+def a_command_with_another_key(t, algorithm):
+    """Its signature has the right form, and openssl does not verify it by the CA's certificate: the desk is given none."""
+    need("socat")
+    it = Authority(t, algorithm)
+    message = to_be_signed(t, it)[0]
+    Authority(t, algorithm, name="other")
+    signs = {"ed25519": "pkeyutl -sign -rawin -inkey other.key -in asked", "ecdsa-sha384": "dgst -sha384 -sign other.key asked"}
+    (t.room / "sign").write_text(f"#!/bin/sh\ncat > asked\nopenssl {signs.get(algorithm, 'dgst -sha256 -sign other.key asked')}\n")
+    (t.room / "sign").chmod(0o755)
+    ran = t.tried(*FILTER, it.pem, "./sign", given=message)
+    t.same((ran.returncode, ran.stdout), (1, b""), "status and output")
+    t.has(ran.stderr, b"./sign gave no signature that openssl verifies by the certificate")
+    ran = t.tried(*FILTER, it.pem, "sh", "-c", "echo half; exit 7", given=message)
+    t.same((ran.returncode, ran.stdout), (7, b""), "a command that fails")
+    filter_and_sign = f"{FILTER[0]} {FILTER[1]} ca.pem ./sign"
+    authority.started(t, ["socat", "-t", "10", "UNIX-LISTEN:other.sign,fork,mode=600", f"EXEC:{filter_and_sign}"], t.room / "other.sign")
+    it.register("wrong.db")
+    t.same(t.done("script", "wrong.db", *it.signing("other.sign"), "--clock", given="crl\n"), "F3 signer\n", "a CRL by another key")
+    t.same(t.desk("crl", "wrong.db").err, b"E21 no-crl\n", "none is recorded")
+
+
+# What hashlib gives for each message is the digest of another one.
+WRONG_DIGESTS = """
+import hashlib
+for name in ("sha256", "sha384"):
+    setattr(hashlib, name, lambda message=b"", real=getattr(hashlib, name): real(message + b"x"))
+"""
+
+
+@each({it: it for it in ("ecdsa-sha256", "ecdsa-sha384", "rsa-sha256")}, seconds=3)
+def a_signature_that_does_not_verify(t, algorithm):
+    """signer.py gives none away: here its digests are those of other messages. Without a certificate it can't notice that."""
+    authority.need_cryptography(t)
+    it = Authority(t, algorithm)
+    message = to_be_signed(t, it)[0]
+    (t.room / "sitecustomize.py").write_text(WRONG_DIGESTS)
+    signer = ["env", f"PYTHONPATH={t.room}", "python3", EXAMPLES / "signer.py"]
+    process = authority.started(t, [*signer, "--only-ours", it.pem, it.key, "guarded.sign"], t.room / "guarded.sign")
+    for _ in range(3):
+        refused(t, t.room / "guarded.sign", message, "a signature of another message")
+    process.terminate()
+    process.wait(20)
+    told = process.stderr.read().decode().splitlines()
+    t.same([f"its signature does not verify by {it.pem}" in line for line in told], [True] * 3, f"each is told of: {told}")
+    authority.started(t, [*signer, it.key, "alone.sign"], t.room / "alone.sign")
+    t.true(signature(t.room / "alone.sign", message) != b"", "without a certificate")
+
+
+# The test message that a signer is tried with
+
+
+def checked(t, *words, status=0):
+    ran = t.tried(sys.executable, EXAMPLES / "check-signer.py", *words)
+    t.same((ran.returncode, ran.stdout), (status, b""), f"status and output of check-signer.py, which told {ran.stderr!r}")
+    return ran.stderr.decode()
+
+
+@each(ALGORITHMS, seconds=5)
+def a_signer_is_tried_before_the_desk_starts(t, algorithm):
+    """By check-signer.py, with the desk's own words: the right key, another one, none."""
+    authority.need_cryptography(t)
+    it, other = Authority(t, algorithm), Authority(t, algorithm, name="other")
+    guard(t, it)
+    t.signer("other.sign", other.sign)
+    t.signer("closes.sign", lambda message, call: None)
+    t.same(checked(t, "ca.pem", "--log", *it.signing("guarded.sign"), "--unsigned"), "", "the CA's key")
+    t.has(checked(t, "ca.pem", *it.signing("other.sign"), status=1), "openssl does not verify the signer's signature by ca.pem", "another key")
+    t.has(checked(t, "--allow-absent", "ca.pem", *it.signing("other.sign"), status=1), "the signer has another key", "another key, and absence allowed")
+    for path in ("nowhere.sign", "closes.sign"):
+        t.has(checked(t, "ca.pem", *it.signing(path), status=1), f"{path}: no signature", path)
+        t.has(checked(t, "--allow-absent", "ca.pem", *it.signing(path)), f"{path}: no signature", path)
+    t.same(checked(t, "nowhere.pem", "--unsigned"), "", "no signer is named")
+    t.has(checked(t, "nowhere.pem", *it.signing("guarded.sign"), status=1), "no certificate of a CA")
+
+
+@test(seconds=3)
+def a_responder_s_signer_is_tried_by_its_own_certificate(t):
+    authority.need_cryptography(t)
+    it, responder = Authority(t), Authority(t, name="ocsp", subject="/CN=R")
+    guard(t, it)
+    words = ["python3", EXAMPLES / "signer.py", "--only-ours", it.pem, "--responder", responder.pem, responder.key, "ocsp.sign"]
+    authority.started(t, words, t.room / "ocsp.sign")
+    (t.room / "ocsp.der").write_bytes(t.tool("openssl", "x509", "-in", responder.pem, "-outform", "DER"))
+    beside = ("--responder", "ocsp.der", "--responder-algorithm", "ecdsa-sha256", "--responder-signer")
+    t.same(checked(t, "ca.pem", *it.signing("guarded.sign"), *beside, "ocsp.sign"), "", "both")
+    t.same(checked(t, "ca.pem", *beside, "ocsp.sign"), "", "the responder's alone")
+    # The CA's signer refuses an answer of the responder, and one that signs anything has another key.
+    t.has(checked(t, "ca.pem", *beside, "guarded.sign", status=1), "guarded.sign: no signature")
+    t.signer("any.sign", it.sign)
+    t.has(checked(t, "ca.pem", *beside, "any.sign", status=1), "does not verify the signer's signature by ocsp.der")
 
 
 @test(seconds=2)

@@ -355,6 +355,19 @@ def each_line_that_may_sign_is_told_of_the_signer(t):
 
 
 @test
+def each_signer_signs_for_one_ca_alone(t):
+    """Each line of README, of the document, of what is packaged and of the walkthrough that starts a signer has the CA's certificate before it."""
+    files = [it for folder in ("examples", "packaging") for it in sorted((program.TOP / folder).iterdir()) if it.suffix in (".sh", ".service", ".Debian")]
+    texts = [document(), *(it.read_text(encoding="utf-8") for it in (program.TOP / "README.md", *files))]
+    lines = [line for text in texts for line in text.splitlines()]
+    by_python = [line for line in lines if re.search(r"signer\.py\"? .*\S+\.key .*(\.sign|--inherited)", line)]
+    by_socat = [line for line in lines if "UNIX-LISTEN:" in line and not line.startswith("#")]
+    t.true(len(by_python) > 6 and len(by_socat) > 4, f"few lines: {by_python} {by_socat}")
+    guarded = re.compile(r"signer\.py\"? --only-ours \S+\.pem |only_ours(\.py)? (--responder \S+ )?ca\.pem |EXEC:\"\$SIGN\"")
+    t.same([line for line in by_python + by_socat if not guarded.search(line)], [], "lines with no certificate")
+
+
+@test
 def words_that_examples_can_t_read(t):
     (t.room / "no.pem").write_text("no certificate\n")
     only_ours = [sys.executable, authority.EXAMPLES / "only_ours.py"]

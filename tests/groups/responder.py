@@ -801,6 +801,8 @@ def a_signer_that_answers_alone(t):
     told = ("openssl", "dgst", "-sha256", "-sign", responder.key)
     before = [*only_ours, "--responder", responder.pem, it.pem, *told]
     t.true(t.tool(*before, given=part), "an answer is signed")
+    ran = t.tried(*before[:-1], it.key, given=part)
+    t.same((ran.returncode, ran.stdout), (1, b""), "the CA's key signs in place of the responder's")
     for what, message in (("a CRL", signer.asked[0]), ("another message", b"0"), ("a byte more", part + b"\0")):
         ran = t.tried(*before, given=message)
         t.same((ran.returncode, ran.stdout), (1, b""), f"{what} is refused")

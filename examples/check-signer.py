@@ -1,0 +1,95 @@
+#!/usr/bin/env python3
+"""Has a signer sign a test message, and openssl verify the signature by the CA's certificate: so that a signer with another key is noticed before
+anything is signed for clients. The unit desk@.service runs it before the desk starts.
+
+    examples/check-signer.py ca.pem --signer ca.sign --algorithm ecdsa-sha256
+
+It takes the options of `desk open`: --signer is verified by CA.pem, --responder-signer by the certificate of --responder; it passes over all others,
+and prints nothing where no signer is named. The test message is an OCSP answer of 1970 that says `unknown` of no issuer's certificate, so a signer
+that signs for one CA alone (examples/only_ours.py) signs it, and nobody can use it.
+
+Exit status: 0 if each signature verifies; 1 if one does not, or a signer gives none within ten seconds, or a certificate can't be read; 2 if the
+command line can't be read. With --allow-absent a signer that gives no signature is reported, and is no failure.
+
+Usage: examples/check-signer.py [--allow-absent] CA.pem [OPTION ..]
+"""
+import argparse
+import socket
+import sys
+
+# Nothing is written beside the module that is read.
+sys.dont_write_bytecode = True
+from only_ours import OCTETS, SEQUENCE, is_verified, read_certificate  # noqa: E402
+
+# The desk waits for a signature for as many seconds, and takes one of as many octets at most.
+PATIENCE, LONGEST_SIGNATURE = 10, 4096
+MOMENT = b"\x18\x0F19700101000000Z"
+
+
+def value(tag, *parts):
+    """A value of DER of less than 128 octets, or of less than 256."""
+    contents = b"".join(parts)
+    length = bytes([len(contents)]) if len(contents) < 128 else bytes([0x81, len(contents)])
+    return bytes([tag]) + length + contents
+
+
+def test_message(key_hash):
+    """A ResponseData (RFC 6960 4.2.1) of the responder with this key, about a certificate of nobody."""
+    algorithm = bytes.fromhex("300906052B0E03021A0500")
+    asked = value(SEQUENCE, algorithm, value(OCTETS, bytes(20)), value(OCTETS, bytes(20)), b"\x02\x01\x01")
+    answer = value(SEQUENCE, asked, b"\x82\x00", MOMENT, value(0xA0, MOMENT))
+    return value(SEQUENCE, value(0xA2, value(OCTETS, key_hash)), MOMENT, value(SEQUENCE, answer))
+
+
+def signature_of(message, path):
+    """What the signer at a socket gives for a message; nothing if it ends with nothing."""
+    with socket.socket(socket.AF_UNIX) as peer:
+        peer.settimeout(PATIENCE)
+        peer.connect(path)
+        peer.sendall(message)
+        peer.shutdown(socket.SHUT_WR)
+        signature = b""
+        while len(signature) <= LONGEST_SIGNATURE and (part := peer.recv(LONGEST_SIGNATURE)):
+            signature += part
+        return signature
+
+
+def check(path, signer, certificate):
+    """What is wrong with the signer at a socket, and whether it gave a signature at all."""
+    message = test_message(signer.key_hash)
+    try:
+        signature = signature_of(message, path)
+    except OSError as fault:
+        return f"{path}: no signature: {fault}", False
+    if not signature:
+        return f"{path}: no signature", False
+    if not is_verified(signature, message, signer):
+        return f"{path}: openssl does not verify the signer's signature by {certificate}: the signer has another key", True
+    return None, True
+
+
+def read_words():
+    parser = argparse.ArgumentParser(usage=__doc__.partition("Usage: ")[2].partition("\n\n")[0], allow_abbrev=False)
+    parser.add_argument("--allow-absent", action="store_true")
+    for name in ("--signer", "--responder", "--responder-signer"):
+        parser.add_argument(name)
+    parser.add_argument("certificate")
+    words, _ = parser.parse_known_args()
+    if words.responder_signer and not words.responder:
+        parser.error("--responder-signer wants --responder")
+    return words
+
+
+def main():
+    words, failed = read_words(), False
+    for path, certificate, whose in ((words.signer, words.certificate, "CA"), (words.responder_signer, words.responder, "responder")):
+        if path is None:
+            continue
+        wrong, is_there = check(path, read_certificate(certificate, whose), certificate)
+        if wrong:
+            print(wrong, file=sys.stderr)
+            failed = failed or is_there or not words.allow_absent
+    sys.exit(1 if failed else 0)
+
+
+main()
