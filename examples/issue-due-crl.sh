@@ -1,35 +1,95 @@
 #!/usr/bin/env bash
-# Issues a CRL of an open register where one is due, at its counter, for cron or a timer: prints the counter's reply where one is issued, and nothing
+# Issues a CRL of an open register where one is due, at its control socket, for cron or a timer: prints the desk's reply where one is issued, and nothing
 # where none is due. A reply that is a refusal or a fault, as `F3 signer`, is printed on standard error, and the exit status is that of `desk at`: 3 then,
-# and 1 where nobody answers at the counter.
+# and 1 where nobody answers at the control socket.
 #
-# Usage: issue-due-crl.sh SOCKET (DESK names the program, where it is not the `desk` of PATH)
+# With --at-once a CRL is due at once if a certificate was revoked on one of these grounds and no CRL lists it yet; without it such a CRL may wait
+# for a day. The desk's list of revocations has reasons (RFC 5280 5.3.1) and no grounds, so a ground counts with all that have its reason
+# (docs/RULES.md): key-compromise alone has reason 1, but control-lost shares reason 4 with superseded and nonconforming. The list is read at the
+# desk's port, 8080 where --port is left out, and only if a revocation may wait for its CRL. It needs curl. Where the desk does not answer at the port,
+# the exit status is 1.
+#
+# Usage: issue-due-crl.sh [--at-once GROUND,..] [--port PORT] SOCKET
+# DESK names the program, where it is not the `desk` of PATH.
 set -euo pipefail
-[ $# -eq 1 ] || { echo "usage: $0 SOCKET" >&2; exit 2; }
-counter=$1
+export LC_ALL=C
 desk=${DESK:-desk}
+port=8080 reasons=
 
-# What the counter replies to a line, where it is accepted.
-told() {
+usage() { echo "usage: $0 [--at-once GROUND,..] [--port PORT] SOCKET" >&2; exit 2; }
+
+reason_of() {
+    case $1 in
+    asked) echo 0 ;;
+    key-compromise) echo 1 ;;
+    affiliation) echo 3 ;;
+    control-lost | superseded | nonconforming) echo 4 ;;
+    cessation | name-not-permitted) echo 5 ;;
+    unauthorized | misuse | inaccurate) echo 9 ;;
+    *) echo "$0: there is no ground $1" >&2; exit 2 ;;
+    esac
+}
+
+while [ $# -gt 1 ]; do
+    case $1 in
+    --at-once)
+        for ground in ${2//,/ }; do
+            reasons="$reasons$(reason_of "$ground")"
+        done
+        [ -n "$reasons" ] || usage
+        ;;
+    --port) port=$2 ;;
+    *) usage ;;
+    esac
+    shift 2
+done
+[ $# -eq 1 ] || usage
+socket=$1
+
+fail() { echo "$socket: $1" >&2; exit "${2:-1}"; }
+
+# The desk's reply to a line at its control socket, where it accepts the line.
+reply_to() {
     local reply status=0
-    reply=$("$desk" at "$counter" <<<"$1") || status=$?
-    if [ "$status" != 0 ]; then
-        echo "$counter: $1: ${reply:-no reply}" >&2
-        exit "$status"
-    fi
+    reply=$("$desk" at "$socket" <<<"$1") || status=$?
+    [ "$status" = 0 ] || fail "$1: ${reply:-no reply}" "$status"
     echo "$reply"
 }
 
-due=$(told next-crl)
+get() { curl -sSf --noproxy '*' --max-time 60 "http://127.0.0.1:$port$1" || fail "the desk does not answer $1 at port $port"; }
+
+# Whether a revocation with one of the reasons is on no CRL yet: its first CRL is not issued. Pages are in the order of serial numbers.
+waits_for_a_crl() {
+    local metrics page after='' first
+    # `set -e` does not hold here, since the function is a condition.
+    metrics=$(get /metrics) || exit 1
+    latest=$(sed -n 's/^desk_crl_number //p' <<<"$metrics")
+    [ -n "$latest" ] || fail "the register can't be read"
+    # Where no revocation waits, the next CRL is due a week after the latest one, or at its nextUpdate. One that waits makes it due earlier, except in the
+    # last day before that.
+    awk '{ value[$1] = $2 } END {
+        due = value["desk_crl_due_timestamp_seconds"]; regular = value["desk_crl_this_update_timestamp_seconds"] + 604800
+        if (value["desk_crl_next_update_timestamp_seconds"] < regular) regular = value["desk_crl_next_update_timestamp_seconds"]
+        exit !(due < regular || value["desk_clock_timestamp_seconds"] >= due - 86400) }' <<<"$metrics" || return 1
+    while :; do
+        page=$(get "/list/revoked?limit=250$after") || exit 1
+        for first in $(grep -oE "\"reason\":[$reasons],\"firstCrl\":[0-9]+" <<<"$page" | sed 's/.*://'); do
+            [ "$first" -le "$latest" ] || return 0
+        done
+        after=$(sed -n 's/.*"next":"\([0-9a-f]*\)".*/\&after=\1/p' <<<"$page")
+        [ -n "$after" ] || return 1
+    done
+}
+
+due=$(reply_to next-crl)
 case $due in
 "next-crl at-once") ;;
 "next-crl "[0-9]*Z)
     # Moments in this form compare as texts.
-    [[ ${due#next-crl } > $(date -u +%Y-%m-%dT%H:%M:%SZ) ]] && exit 0
+    if [[ ${due#next-crl } > $(date -u +%Y-%m-%dT%H:%M:%SZ) ]]; then
+        [ -n "$reasons" ] && waits_for_a_crl || exit 0
+    fi
     ;;
-*)
-    echo "$counter: next-crl: ${due:-no reply}" >&2
-    exit 1
-    ;;
+*) fail "next-crl: ${due:-no reply}" ;;
 esac
-told crl
+reply_to crl

@@ -279,6 +279,51 @@ def issue_due_crl_by_the_clock(t):
     t.same((ran.stdout, b"F3 signer" in ran.stderr), (b"", True), "a signer that fails")
 
 
+# Of each ground whether its CRL is issued at once: by its reason (docs/RULES.md), as the list of revocations has no grounds.
+AT_ONCE = {"key-compromise": True, "control-lost": True, "superseded": True, "nonconforming": True, "asked": False, "unauthorized": False, "affiliation": False,
+           "cessation": False, "misuse": False, "name-not-permitted": False, "inaccurate": False}
+
+
+@each({it: it for it in AT_ONCE}, seconds=3)
+def issue_due_crl_at_once(t, ground):
+    """For a certificate that was revoked on this ground, up to the CRL that lists it; and in the last day before the next CRL, where that is no earlier for it."""
+    begun = authority.now()
+    at_once = ("--at-once", "key-compromise,control-lost", "--port")
+    for ago in (DAY, 7 * DAY - 7200):
+        begins, ends = moment_of(begun - ago), moment_of(begun + 90 * DAY)
+        given = [f"{begins} {one}" for one in ("subscriber acme", "order 1 398", f"register 1 05 {begins} {ends}", "crl")]
+        given += [f"{moment_of(begun - 3600)} request 05 {ground}", f"{moment_of(begun - 3600)} revoke 1"]
+        t.register(f"{ago}.db", "".join(f"{line}\n" for line in given))
+        desk = t.open(f"{ago}.db", "--counter", f"{ago}.counter")
+        issues = ("bash", EXAMPLES / "issue-due-crl.sh", *at_once, desk.port, f"{ago}.counter")
+        t.same(play(t, "bash", EXAMPLES / "issue-due-crl.sh", f"{ago}.counter").stdout, b"", "without --at-once")
+        t.same(play(t, *issues).stdout.decode(), "crl 2 entries 1\n" if AT_ONCE[ground] else "", f"{ago} seconds behind the CRL before")
+        t.same(play(t, *issues).stdout, b"", "and no other")
+        desk.end()
+
+
+@test(seconds=5)
+def issue_due_crl_at_once_among_many(t):
+    """The one that no CRL lists is the last of 300 by its serial number: it is found on a later page."""
+    now = authority.now()
+    begins, ends = moment_of(now), moment_of(now + 90 * DAY)
+    given = ["subscriber acme"]
+    for at in range(1, 301):
+        given += ["order 1 398", f"register {at} {at:04x} {begins} {ends}", f"request {at:04x} key-compromise"]
+    given += [*(f"revoke {at}" for at in range(1, 300)), "crl"]
+    t.register(lines="".join(f"{begins} {line}\n" for line in given))
+    desk = t.open()
+    issues = ("bash", EXAMPLES / "issue-due-crl.sh", "--at-once", "key-compromise", "--port", desk.port, "counter")
+    t.same(play(t, *issues).stdout, b"", "each is on a CRL")
+    counter = t.counter()
+    t.same(counter.ask("revoke 300").split()[0], "revoked")
+    t.same(play(t, *issues).stdout, b"crl 2 entries 300\n", "one is on none")
+    for words, status, told in (((*issues[:5], "1", "counter"), 1, b"does not answer /metrics at port 1"), ((*issues[:3], "none", "counter"), 2, b"there is no ground none"),
+                                (issues[:4], 2, b"usage: "), ((*issues[:3], "", "counter"), 2, b"usage: "), ((*issues[:2], "--other", "x", "counter"), 2, b"usage: ")):
+        ran = play(t, *words, status=status)
+        t.same((ran.stdout, told in ran.stderr), (b"", True), f"{words} told {ran.stderr}")
+
+
 NAMES = {
     "P-256": ("ecdsa-sha256", "/CN=T"),
     "P-384": ("ecdsa-sha384", "/C=XX/O=Example/CN=An Example CA"),

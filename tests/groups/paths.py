@@ -89,8 +89,9 @@ def from_the_repository(t):
     need("curl", "bash")
     authority.need_cryptography(t)
     port = str(program.free_port())
-    [issues], [publishes] = (block("CRLs", beginning) for beginning in ("0 * * * *", "5 * * * *"))
+    [issues], [publishes] = (block("CRLs", beginning) for beginning in ("*/5 * * * *", "5 * * * *"))
     top = folder_of(t)
+    issues = issues.replace("8080", port)
     publishes = publishes.replace("8080", port).replace("/var/lib/durshavon-crl/ca", "published")
     cron = ["mkdir published", *(f'{line.split("  ")[1]}; echo "cron $?"' for line in (issues, publishes))]
     told = typed(t, top, [*block("From the repository", "./desk init"), *office(port), *cron])
