@@ -2,6 +2,7 @@
 long, and how old an answer can be when a certificate was revoked."""
 
 import re
+import signal
 import subprocess
 import time
 from concurrent.futures import ThreadPoolExecutor
@@ -9,7 +10,7 @@ from concurrent.futures import ThreadPoolExecutor
 from lib import authority
 from lib.authority import Authority, first_day, path_of
 from lib.trial import each, need, test
-from lib.web_server import Front, certificates
+from lib.web_server import Front, certificates, revoke
 
 KEPT = 4
 ASK = '{"serial":"06","ground":"superseded"}'
@@ -97,11 +98,29 @@ def who_may_post_requests(t):
     t.same(front.ask("/requests", "-d", ASK)[0], 403, "nobody by plain http")
     t.same(front.ask("/requests", "-d", ASK, tls=True)[0], 403, "nobody without a certificate")
     t.same(front.ask("/requests", *shows("stranger"), "-d", ASK, tls=True)[0], 400, "nobody with another certificate")
-    t.same(front.ask("/requests", *shows("office"), tls=True)[0], 403, "a clerk, but not by GET")
+    t.same(front.ask("/requests", *shows("former"), "-d", ASK, tls=True)[0], 400, "nobody whose certificate the office revoked")
+    t.same(front.ask("/requests", *shows("clerk"), tls=True)[0], 403, "a clerk, but not by GET")
     # None of these reached the desk: the next request is the second.
-    status, _, body = front.ask("/requests", *shows("office"), "-d", ASK, tls=True)
+    status, _, body = front.ask("/requests", *shows("clerk"), "-d", ASK, tls=True)
     t.same((status, b'"request":2' in body), (200, True), f"a clerk, who is told {body!r}")
     t.same(counter.ask("revoke 2"), "revoked", "and the office decides")
+    told = [line.split('"')[1::2] for line in (front.folder / "desk.log").read_text().splitlines() if "POST /requests" in line]
+    wanted = ["-", "-", "CN=stranger", "CN=former,O=The Office", "CN=clerk,O=The Office"]
+    t.same(told, [[who, "POST /requests HTTP/1.1"] for who in wanted], "the log has who posted")
+
+
+@test(seconds=6)
+def a_client_certificate_that_is_revoked(t):
+    """nginx takes it up to the CRL that lists it, which it reads when it is reloaded; the other clients go on."""
+    _, _, [front] = opened(t, "front")
+    posts = lambda: front.ask("/requests", "--cert", "clerk.pem", "--key", "clerk.key", "-d", ASK, tls=True)[0]
+    t.same(posts(), 200, "before")
+    revoke(t, "clerk")
+    (front.folder / "office.crl").write_bytes((t.room / "office.crl").read_bytes())
+    t.same(posts(), 200, "nginx has the CRL of its start")
+    front.process.send_signal(signal.SIGHUP)
+    authority.until(lambda: posts() == 400, "nginx to refuse it once it was reloaded")
+    t.same(front.ask("/counts", tls=True)[0], 200, "a client without a certificate")
 
 
 @test(seconds=12)

@@ -281,7 +281,7 @@ def promtool_takes_the_metrics_and_the_alerts(t):
     t.done("at", "counter", given="".join(f"{it}\n" for it in [*LINES, "crl"]))
     desk.ask("GET", "/crl")
     t.same(t.tool("promtool", "check", "metrics", given=asked(t, desk, "/metrics")[2]), b"", "what promtool finds wrong with /metrics")
-    t.has(t.tool("promtool", "check", "rules", ALERTS).decode(), "SUCCESS: 5 rules found")
+    t.has(t.tool("promtool", "check", "rules", ALERTS).decode(), "SUCCESS: 7 rules found")
 
 
 RULES = """
@@ -297,6 +297,10 @@ CASES = {
     "a CRL that is late": (["desk_clock_timestamp_seconds 0+60x60", "desk_crl_due_timestamp_seconds -7200x60"], ["DeskCrlLate"]),
     "a CRL that is due": (["desk_clock_timestamp_seconds 0+60x60", "desk_crl_due_timestamp_seconds -3600x60"], []),
     "a signer that fails": (["desk_signer_failing_since_timestamp_seconds{of='ocsp'} 5x60"], ["DeskSignerFailing"]),
+    "a store that fails": (["desk_store_failing_since_timestamp_seconds 5x60"], ["DeskStoreFailing"]),
+    "a register that can't be read": (["desk_register_readable{job='desk'} 0x60", "desk_clock_behind_seconds{job='desk'} 0x60"], ["DeskRegisterUnreadable"]),
+    "a register that refuses for its clock": (["desk_register_readable{job='desk'} 0x60", "desk_clock_behind_seconds{job='desk'} 9x60"], ["DeskClock"]),
+    "no CRL yet": (["desk_clock_timestamp_seconds 1790000000+60x60", "desk_crl_due_timestamp_seconds 0x60"], ["DeskCrlLate", "DeskClock"]),
     "a request that is overdue": (["desk_requests_overdue 2x60"], ["DeskRequestOverdue"]),
     "a clock that is behind": (["desk_clock_behind_seconds 3x60"], ["DeskClock"]),
     "a clock of its own": (["desk_clock_timestamp_seconds 90+60x60"], ["DeskClock"]),
@@ -315,6 +319,24 @@ def each_alert_fires_and_no_other(t, series, fires):
     for name in names:
         wanted = "\n        exp_samples: [{labels: '{}', value: 1}]" if name in fires else "\n        exp_samples: []"
         case += f"""      - expr: count(ALERTS{{alertname="{name}",alertstate="firing"}})\n        eval_time: 59m{wanted}\n"""
+    (t.room / "case.yml").write_text(case)
+    t.tool("promtool", "test", "rules", "case.yml")
+
+
+# The clock, when the next CRL is due, and what the alert says an hour later.
+LATE = {"none yet": (1_790_000_000, 0, "no CRL was issued yet"), "late": (1_790_000_000, 1_789_990_000, "the next CRL is due since 3h 46m 40s")}
+
+
+@each(LATE)
+def a_late_crl_is_told_in_words(t, clock, due, wanted):
+    need("promtool")
+    case = RULES.format(rules=ALERTS) + f"""  - interval: 1m
+    input_series:
+      - {{series: "desk_clock_timestamp_seconds{{instance='ca'}}", values: "{clock}+60x60"}}
+      - {{series: "desk_crl_due_timestamp_seconds{{instance='ca'}}", values: "{due}x60"}}
+    alert_rule_test:
+      - {{eval_time: 1h, alertname: DeskCrlLate, exp_alerts: [{{exp_labels: {{severity: page, instance: ca}}, exp_annotations: {{summary: "ca: {wanted}"}}}}]}}
+"""
     (t.room / "case.yml").write_text(case)
     t.tool("promtool", "test", "rules", "case.yml")
 

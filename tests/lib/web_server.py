@@ -30,10 +30,42 @@ http {{
 """
 
 
+# The office's authority, by `openssl ca`.
+OFFICE = """[ca]
+default_ca = it
+[it]
+database = office.txt
+new_certs_dir = .
+serial = office.serial
+certificate = office.pem
+private_key = office.key
+default_md = sha256
+default_days = 30
+default_crl_days = 8
+policy = any
+[any]
+organizationName = optional
+commonName = supplied
+"""
+
+
 def certificates(t):
-    """Those of the server, of a clerk of the office, and of a stranger."""
-    for name, subject in (("desk", "/CN=localhost"), ("office", "/CN=clerk"), ("stranger", "/CN=stranger")):
+    """Those of the server, of the office's authority and two of its clerks, of whom `former` is revoked, and of a stranger; and the office's CRL."""
+    for name, subject in (("desk", "/CN=localhost"), ("office", "/CN=Office"), ("stranger", "/CN=stranger")):
         authority.certificate(t, name, subject)
+    for name, text in (("office.cnf", OFFICE), ("office.txt", ""), ("office.serial", "01\n")):
+        (t.room / name).write_text(text)
+    for name in ("clerk", "former"):
+        key = authority.KEYS["ecdsa-sha256"]
+        t.tool("openssl", "req", "-newkey", *key, "-nodes", "-keyout", f"{name}.key", "-out", f"{name}.csr", "-subj", f"/O=The Office/CN={name}")
+        t.tool("openssl", "ca", "-config", "office.cnf", "-batch", "-in", f"{name}.csr", "-out", f"{name}.pem", "-notext")
+    revoke(t, "former")
+
+
+def revoke(t, name):
+    """A clerk's certificate is on the next CRL of the office, office.crl."""
+    t.tool("openssl", "ca", "-config", "office.cnf", "-revoke", f"{name}.pem")
+    t.tool("openssl", "ca", "-config", "office.cnf", "-gencrl", "-out", "office.crl")
 
 
 class Front:
@@ -45,15 +77,15 @@ class Front:
         self.folder, self.port, self.tls_port = t.room / name, program.free_port(), program.free_port()
         (self.folder / "share").mkdir(parents=True)
         (self.folder / "share/board").symlink_to(EXAMPLES / "board")
-        for it in ("desk.pem", "desk.key", "office.pem"):
+        for it in ("desk.pem", "desk.key", "office.pem", "office.crl"):
             (self.folder / it).write_bytes((t.room / it).read_bytes())
         (self.folder / "desk.conf").write_text(self.site(desk_port))
         user = "user root;\n" if os.getuid() == 0 else ""
         (self.folder / "nginx.conf").write_text(AROUND.format(user=user, folder=self.folder))
         words = ["nginx", "-c", self.folder / "nginx.conf", "-e", self.folder / "error.log", "-g", "daemon off;"]
         t.note(" ".join(map(str, words)))
-        process = subprocess.Popen([*map(str, words)], cwd=self.folder, stdin=subprocess.DEVNULL)
-        t.callback(authority.end, process)
+        self.process = subprocess.Popen([*map(str, words)], cwd=self.folder, stdin=subprocess.DEVNULL)
+        t.callback(authority.end, self.process)
         authority.until(self.answers, f"nginx at {self.port}: {self.told()}")
 
     def site(self, desk_port):
@@ -61,7 +93,7 @@ class Front:
         text = (EXAMPLES / "nginx.conf").read_text()
         for was, now in (
             (r"/var/cache/nginx/desk", f"{self.folder}/cache"), (r"/var/log/nginx", str(self.folder)),
-            (r"/etc/nginx/(?=\w+\.(pem|key))", f"{self.folder}/"), (r"/usr/share/durshavon", f"{self.folder}/share"),
+            (r"/etc/nginx/(?=\w+\.(pem|key|crl))", f"{self.folder}/"), (r"/usr/share/durshavon", f"{self.folder}/share"),
             (r"/var/lib/durshavon-crl/ca\b", f"{self.folder}/share"),
             (r"127\.0\.0\.1:8080", f"127.0.0.1:{desk_port}"),
             (r"listen 80;", f"listen 127.0.0.1:{self.port};"), (r"listen 443 ssl;", f"listen 127.0.0.1:{self.tls_port} ssl;"),
