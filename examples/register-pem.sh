@@ -5,7 +5,10 @@
 #
 # Usage: register-pem.sh -c SOCKET [-s NAME] [-a CA.pem] CERTIFICATE ..
 #        register-pem.sh -o ORDER -n SUBSCRIBER [-a CA.pem] CERTIFICATE .. | desk script ca.db --clock --strict --signer SOCKET --algorithm NAME
-#   -s  the subscriber's name, who is entered where nobody has it; left out, it is the common name of each certificate, in the letters that a name may have
+#   -s  the subscriber's name, which is entered where no subscriber has it; left out, it follows from the first common name of each certificate:
+#       a common name of 1 to 64 of the bytes that a name may have, letters, digits, `.`, `-` and `_`, is the subscriber's name. Of any other one, in UTF-8,
+#       the name has these bytes, with `-` in place of others, 47 at most, then `.` and the first 16 hexadecimal digits of the common name's SHA-256. So has a
+#       common name that ends as such a name does. So two common names never come to one subscriber.
 #   -o  the number that the register's next order gets;  -n  the subscriber's number
 #   -a  certificates that this CA did not sign are refused here (a serial number that was registered can't be taken back)
 # DESK names the program, where it is not the `desk` of PATH. Exit status: 0 where all were registered, or all lines were printed; 3 where one was
@@ -38,9 +41,16 @@ moment() { date -u -d "$1" +%Y-%m-%dT%H:%M:%SZ; }
 
 is_signed() { openssl verify -CAfile "$authority" -no-CApath -no-CAstore -partial_chain -no_check_time "$certificate" >/dev/null 2>&1; }
 
-common_name() {
-    openssl x509 -in "$certificate" -noout -subject -nameopt multiline,utf8,-esc_msb | sed -n 's/^ *commonName *= //p' | head -n 1 | tr -d '\n' |
-        tr -cs 'A-Za-z0-9._-' '-' | sed 's/^-*//; s/-*$//' | cut -c 1-64
+# The subscriber's name that follows from the common name; nothing where the certificate has none.
+subscriber_name() {
+    common=$(openssl x509 -in "$certificate" -noout -subject -nameopt multiline,utf8,-esc_msb | sed -n 's/^ *commonName *= //p' | head -n 1)
+    if [ -z "$common" ]; then return; fi
+    if printf '%s\n' "$common" | grep -qxE '[A-Za-z0-9._-]{1,64}' && ! printf '%s\n' "$common" | grep -qE '\.[0-9a-f]{16}$'; then
+        echo "$common"
+    else
+        letters=$(printf '%s' "$common" | tr -cs 'A-Za-z0-9._-' '-' | sed 's/^-*//; s/-*$//' | cut -c 1-47)
+        echo "$letters.$(printf '%s' "$common" | openssl dgst -sha256 -r | cut -c 1-16)"
+    fi
 }
 
 # The number of a subscriber of that name, who is entered where nobody has it.
@@ -56,7 +66,7 @@ find_subscriber() {
 at_counter() {
     say "status $serial"
     [ "$reply" = unknown ] || { refuse "serial number $serial is not registered anew, status: $reply"; return 0; }
-    find_subscriber "${name:-$(common_name)}" || return 0
+    find_subscriber "${name:-$(subscriber_name)}" || return 0
     say "order $subscriber $days"
     case $reply in "order "*) order=${reply#order } ;; *) refuse "order of $days days: $reply"; return 0 ;; esac
     say "register $order $serial $from $until"

@@ -2,6 +2,7 @@
 was there is lost where it fails."""
 
 import fcntl
+import hashlib
 import os
 import re
 import shutil
@@ -315,6 +316,39 @@ def rows(t, table):
     return t.sql("ca.db", f"SELECT * FROM {table} ORDER BY rowid")
 
 
+def name_of(common):
+    """The subscriber's name of a common name, as examples/register-pem.sh says it."""
+    if re.fullmatch(r"[A-Za-z0-9._-]{1,64}", common) and not re.search(r"\.[0-9a-f]{16}$", common):
+        return common
+    letters = re.sub(rb"[^A-Za-z0-9._-]+", b"-", common.encode()).strip(b"-")[:47].decode()
+    return f"{letters}.{hashlib.sha256(common.encode()).hexdigest()[:16]}"
+
+
+# Common names of which some differ in what a subscriber's name can't have.
+COMMON_NAMES = ["Müller", "Möller", "M-ller", "Muller", "日本", "日本語", "Ünal & Söhne", "Example Corp", "Example-Corp", " Example Corp", "*.example", "a_b", "a-b", "a b",
+                "ł" * 64, "x" * 64, "x" * 63 + "ß", "a/b", "a+b", "-", "--", "🔑"]
+
+
+@test(seconds=12)
+def two_common_names_are_two_subscribers(t):
+    """Whatever they are in UTF-8; the name that one comes to is its own, also where a common name is written as that name."""
+    it, desk = unsigned_desk(t)
+    names = [*COMMON_NAMES, name_of("Müller"), name_of("日本")]
+    for at, common in enumerate(names, 16):
+        t.tool("openssl", "req", "-new", "-key", it.key, "-utf8", "-subj", "/O=Example/CN=" + common.replace("/", "\\/").replace("+", "\\+"), "-out", "x.csr")
+        t.tool("openssl", "x509", "-req", "-in", "x.csr", "-CA", it.pem, "-CAkey", it.key, "-set_serial", at, "-days", 30, "-out", f"{at}.pem")
+    files = [f"{at}.pem" for at, _ in enumerate(names, 16)]
+    for first in range(0, len(files), 3):
+        status, out, told = register_pem(t, "-c", "counter", *files[first : first + 3])
+        t.same((status, told), (0, []), "all are registered")
+        t.same([int(line.rpartition(" ")[2]) for line in out.splitlines()], list(range(1, len(names) + 1))[first : first + 3], "each for a subscriber of its own")
+    again = len(names) + 16
+    t.tool("openssl", "x509", "-req", "-in", "x.csr", "-CA", it.pem, "-CAkey", it.key, "-set_serial", again, "-days", 30, "-out", "again.pem")
+    t.has(register_pem(t, "-c", "counter", "again.pem")[1], f"of subscriber {len(names)}\n", "the next certificate of one of them")
+    desk.end()
+    t.same([name for _, name in rows(t, "subscriber")], [name_of(common) for common in names])
+
+
 @test(seconds=3)
 def certificates_are_registered_at_the_counter(t):
     it, desk = unsigned_desk(t, "subscriber first", "order 1 398")
@@ -332,7 +366,7 @@ def certificates_are_registered_at_the_counter(t):
     t.tool("openssl", "x509", "-in", "d.pem", "-outform", "DER", "-out", "d.der")
     t.same(register_pem(t, "-c", "counter", "-s", "b.example", "d.der")[1], "d.der: serial number 08 registered, order 5 of subscriber 3\n")
     desk.end()
-    t.same([name for _, name in rows(t, "subscriber")], ["first", "a-sons-Z-rich", "b.example"])
+    t.same([name for _, name in rows(t, "subscriber")], ["first", name_of("a & sons, Zürich"), "b.example"])
     # Both ends of a validity are counted, so `-days 90` has 91.
     t.same(rows(t, "orders"), [(1, 1, 398), (2, 2, 91), (3, 3, 398), (4, 1, 2), (5, 3, 91)])
     held = {order: (begins, ends) for _, order, begins, ends in rows(t, "cert")}
