@@ -15,12 +15,17 @@ def version():
     return re.search(r"^## (\d\S*)$", (TOP / "CHANGELOG.md").read_text(encoding="utf-8"), re.MULTILINE)[1]
 
 
-def blocks(heading, name="OPERATIONS"):
-    """The blocks of lines of a section."""
+def section(heading, name="OPERATIONS"):
+    """The text of a section."""
     found = re.search(rf"^##+ {re.escape(heading)}\n(.*?)(?=^##+ |\Z)", document(name), re.MULTILINE | re.DOTALL)
     if not found:
         raise Failed(f"docs/{name}.md has no section {heading!r}")
-    return [[line[4:] for line in it.splitlines()] for it in re.findall(r"(?:^    [^\n]*\n)+", found[1], re.MULTILINE)]
+    return found[1]
+
+
+def blocks(heading, name="OPERATIONS"):
+    """The blocks of lines of a section."""
+    return [[line[4:] for line in it.splitlines()] for it in re.findall(r"(?:^    [^\n]*\n)+", section(heading, name), re.MULTILINE)]
 
 
 def block(heading, beginning, name="OPERATIONS"):
