@@ -18,7 +18,8 @@ commit=$(git rev-parse --short=7 HEAD)
 [ -z "$(git status --porcelain)" ] || commit=$commit.changed
 SOURCE_DATE_EPOCH=$(git show -s --format=%ct HEAD)
 export SOURCE_DATE_EPOCH
-version=$(tools/version.sh | sed -n 's/^desk \([^ ]*\) .*/\1/p')+$(date -u -d "@$SOURCE_DATE_EPOCH" +%Y%m%d).$commit
+# Versions sort by the moment of their commits, so that an upgrade never takes an older commit of the same day for a newer one.
+version=$(tools/version.sh | sed -n 's/^desk \([^ ]*\) .*/\1/p')+$(date -u -d "@$SOURCE_DATE_EPOCH" +%Y%m%d%H%M%S).$commit
 maintainer=$(git show -s --format='%an <%ae>' HEAD)
 architecture=$(dpkg --print-architecture)
 # The newest version of glibc that a function of the program is of.
@@ -45,9 +46,10 @@ for name in desk@.service desk-crl@.timer desk-crl@.service desk-publish@.servic
     desk-signer@.socket desk-signer@.service desk-responder@.socket desk-responder@.service; do
     put 0644 "packaging/$name" "lib/systemd/system/$name"
 done
-for name in issue-due-crl.sh publish-crl.sh register-pem.sh backup.sh from-openssl-index.py signer.py only_ours.py pkcs11-signer.sh issuer-words.sh; do
+for name in issue-due-crl.sh publish-crl.sh register-pem.sh backup.sh from-openssl-index.py signer.py only_ours.py check-signer.py pkcs11-signer.sh issuer-words.sh; do
     put 0755 "examples/$name" "usr/lib/durshavon/$name"
 done
+put 0755 packaging/wait-for-desk.sh usr/lib/durshavon/wait-for-desk.sh
 
 manual=$(mktemp -d)
 tools/man.py "$root/usr/lib/durshavon/desk" "$manual"
@@ -84,8 +86,8 @@ Section: admin
 Priority: optional
 Maintainer: $maintainer
 Installed-Size: $(du -sk --exclude=DEBIAN "$root" | cut -f1)
-Depends: libc6 (>= $glibc), passwd
-Suggests: nginx-light | nginx, opensc, openssl, curl, python3, python3-cryptography, socat
+Depends: libc6 (>= $glibc), passwd, openssl, curl, python3
+Suggests: nginx-light | nginx, opensc, python3-cryptography, socat
 Description: certificate register with CRLs and OCSP
  The register and status desk of one certification authority: it records the
  certificates that were issued, takes requests for their revocation with the

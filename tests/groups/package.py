@@ -96,10 +96,25 @@ def built(t):
     first, second = (Path(it) for it in packages)
     t.same(first.name, second.name)
     t.same(first.read_bytes() == second.read_bytes(), True, "built twice, it is the same")
+    made = t.tool("git", "-C", TOP, "show", "-s", "--format=%ct", "HEAD").decode()
+    t.has(first.name, f"durshavon_{version()}+{time.strftime('%Y%m%d%H%M%S', time.gmtime(int(made)))}.", "versions sort by the moment of their commits")
     return first
 
 
-@test(seconds=150)
+@test
+def the_unit_waits_until_the_desk_answers(t):
+    """And fails if the desk ends before."""
+    t.register()
+    desk = t.open()
+    waits = lambda *words: t.tried("env", f"DESK={program.program()}", "sh", TOP / "packaging/wait-for-desk.sh", *words)
+    t.same(waits("counter", desk.process.pid).returncode, 0, "an open desk")
+    desk.end()
+    ran = waits("counter", desk.process.pid)
+    t.same((ran.returncode, ran.stderr), (1, b"the desk ended before it answered at counter\n"), "a desk that has ended, whose socket is left")
+    t.same(waits("counter").returncode, 2, "no process")
+
+
+@test(seconds=200)
 def the_package(t):
     if os.getuid():
         raise Skipped("it makes a root of Debian, and is for root")
@@ -163,11 +178,11 @@ class Units:
         text = (self.root.path / "lib/systemd/system" / unit.replace("@ca.", "@.")).read_text()
         return re.search(rf"^{setting}=(.*)$", text, re.MULTILINE)[1].replace("%i", "ca")
 
-    def words(self, unit):
+    def words(self, unit, setting="ExecStart"):
         """The words of a service, with the variables of its register's file."""
         said = {"OPTIONS": "", "RESPONDER": ""}
         said |= dict(line.split("=", 1) for line in (self.root.path / "etc/durshavon/ca.conf").read_text().splitlines())
-        words = self.told(unit, "ExecStart").replace("${PORT}", said["PORT"])
+        words = self.told(unit, setting).replace("${PORT}", said["PORT"])
         for name in ("OPTIONS", "RESPONDER"):
             words = words.replace(f"${name}", said[name].strip('"'))
         return shlex.split(words)
@@ -182,7 +197,11 @@ class Units:
         else:
             for part in ("", "/ca"):
                 self.root.run("install", "-d", "-m", "0700", "-o", "durshavon", "-g", "durshavon", f"/run/durshavon{part}")
-            self.keep(unit, self.words(unit), self.told(unit, "User"))
+            user = self.told(unit, "User")
+            self.root.run(*self.words(unit, "ExecStartPre"), user=user)
+            self.keep(unit, self.words(unit), user)
+            process = str(self.kept[unit].pid)
+            self.root.run(*(process if it == "$MAINPID" else it for it in self.words(unit, "ExecStartPost")), user=user)
 
     def stop(self, unit):
         """Ends a service, with what its RuntimeDirectory holds."""
@@ -400,6 +419,9 @@ def behind(t, root, machine, it, port):
     t.has(t.tool(*copy, COUNTER).decode(), ": sound, 0 certificates, 0 revoked, 1 CRLs\n", "a copy of what is open")
     upgraded(t, root, it, at, port)
     gone_back(t, root, at)
+    a_held_port(t, at, port)
+    a_key_that_its_signer_can_t_read(t, it, at, port)
+    a_wrong_key(t, root, it, at, port)
     told = t.tool(*at, "bash", "-ec", "\n".join(["cd /root", *responder_steps(port)])).decode()
     t.has(told, "Response verify OK", "a responder's key, told to what is installed")
     t.same(it.asked_by_openssl("05", f"http://127.0.0.1:{port}/ocsp", verify=True), "unknown", "by the responder")
@@ -472,9 +494,73 @@ def gone_back(t, root, at):
     [copy] = (it.name for it in (root.path / COPIES[1:]).iterdir())
     lines = [line.replace("ca.db-20260101T021500Z", copy) for line in block("Go back to a backup", "systemctl stop")]
     t.same([copy in line for line in lines].count(True), 1, f"lines that name the copy, of {lines}")
-    t.tool(*at, "bash", "-ec", "\n".join([*lines, f"until [ -S {COUNTER} ]; do sleep 0.1; done"]))
+    # Its group is another: SQLite then changes that of the log, which it makes anew.
+    lines.insert(-1, f"chgrp root {REGISTER}")
+    t.tool(*at, "bash", "-ec", "\n".join(lines))
     t.same(asks("subscriber anew"), b"subscriber 1\n", "the copy as it was")
     root.run("rm", "-r", "/var/lib/durshavon/before")
+
+
+def state(t, at, unit):
+    return t.tool(*at, "systemctl", "show", "--property=ActiveState", "--value", unit).decode().strip()
+
+
+def answers(t, port):
+    return t.tried("curl", "-s", f"http://127.0.0.1:{port}/counts").returncode == 0
+
+
+def a_held_port(t, at, port):
+    """Another program has the port for longer than it takes systemd to give up by itself: the desk is started once it is free."""
+    t.tool(*at, "systemctl", "stop", "desk@ca.service")
+    with socket.socket() as holder:
+        holder.setsockopt(socket.SOL_SOCKET, socket.SO_REUSEADDR, 1)
+        holder.bind(("127.0.0.1", port))
+        holder.listen()
+        t.same(t.tried(*at, "systemctl", "start", "desk@ca.service").returncode, 1, "status of systemctl start")
+        time.sleep(15)
+        t.same(state(t, at, "desk@ca.service"), "activating", "after 15 seconds")
+    authority.until(lambda: state(t, at, "desk@ca.service") == "active", "desk@ca.service once the port is free", 30 * program.PATIENCE)
+    t.true(answers(t, port), "it answers")
+    t.has(t.tool(*at, "journalctl", "-u", "desk@ca.service").decode(), "  port in use", "the journal has the cause")
+
+
+def a_key_that_its_signer_can_t_read(t, it, at, port):
+    """For longer than it takes systemd to give up by itself: the signer runs once its user has the key again."""
+    url = f"http://127.0.0.1:{port}/ocsp"
+    t.tool(*at, "systemctl", "stop", "desk-signer@ca.service")
+    t.tool(*at, "chown", "root", KEY)
+    t.has(t.tried("openssl", "ocsp", "-issuer", it.pem, "-serial", "5", "-url", url).stdout, b"internalerror", "an answer meanwhile")
+    time.sleep(10)
+    t.same(state(t, at, "desk-signer@ca.service"), "activating", "the signer")
+    t.tool(*at, "chown", "durshavon-signer", KEY)
+    is_signed = lambda: b"Response verify OK" in t.tried("openssl", "ocsp", "-issuer", it.pem, "-serial", "5", "-url", url, "-CAfile", it.pem, timeout=LONGEST).stderr
+    authority.until(is_signed, "an answer that is signed", 60 * program.PATIENCE)
+
+
+def a_wrong_key(t, root, it, at, port):
+    """The desk does not start with a signer that has another key, and says why; it starts with one that is away, and with the right one."""
+    Authority(t, name="other")
+    shutil.copy(t.room / "other.key", root.path / "root")
+    conf = root.path / "etc/durshavon/ca.conf"
+    before = conf.read_text()
+    path = "/var/lib/durshavon/wrong"
+    t.tool(*at, "install", "-d", "-o", "durshavon", path)
+    t.tool(*at, "install", "-m", "0400", "-o", "durshavon", "/root/other.key", f"{path}/ca.key")
+    words = ("python3", "/usr/lib/durshavon/signer.py", f"{path}/ca.key", f"{path}/ca.sign")
+    t.tool(*at, "systemd-run", "--quiet", "--unit=wrong", "--property=User=durshavon", *words)
+    conf.write_text(before.replace(SOCKET, f"{path}/ca.sign"))
+    authority.until((root.path / path[1:] / "ca.sign").exists, "the other signer")
+    t.same(t.tried(*at, "systemctl", "restart", "desk@ca.service").returncode, 1, "status of systemctl restart")
+    t.same(answers(t, port), False, "whether it answers")
+    wanted = f"{path}/ca.sign: openssl does not verify the signer's signature by /etc/durshavon/ca.pem"
+    t.has(t.tool(*at, "journalctl", "-u", "desk@ca.service").decode(), wanted, "the journal has the cause")
+    t.tool(*at, "systemctl", "stop", "wrong.service")
+    t.tool(*at, "systemctl", "restart", "desk@ca.service")
+    t.true(answers(t, port), "a signer that is away")
+    conf.write_text(before)
+    t.tool(*at, "rm", "-r", path)
+    t.tool(*at, "systemctl", "restart", "desk@ca.service")
+    t.same(it.asked_by_openssl("05", f"http://127.0.0.1:{port}/ocsp", verify=True), "unknown", "with the right one, as soon as systemctl returns")
 
 
 def taken_away(t, root, at, port):
@@ -496,16 +582,15 @@ def links(root):
 def while_the_key_is_away(t, root, it, at, port):
     """The CA's key leaves the machine, and comes back for a CRL."""
     url = f"http://127.0.0.1:{port}"
-    answers = lambda: t.tried("curl", "-s", f"{url}/counts").returncode == 0
     types = lambda beginning: t.tool(*at, "bash", "-ec", "\n".join(["cd /root", *block("A responder's key, installed", beginning)])).decode()
     types("sed -i")
-    authority.until(answers, "desk@ca.service without the CA's key")
+    t.true(answers(t, port), "desk@ca.service without the CA's key")
     t.same(it.asked_by_openssl("05", f"{url}/ocsp", verify=True), "unknown", "by the responder alone")
     ran = t.tried(*at, "desk", "at", COUNTER, given="crl\n")
     t.same((ran.returncode, ran.stdout), (3, b"F3 signer\n"), "a CRL at the counter")
     t.tool(*at, "systemctl", "start", "desk-crl@ca.service")
     t.has(types("systemctl stop"), "crl 2 entries 0\n", "a CRL while the key is back")
-    authority.until(answers, "desk@ca.service behind that")
+    t.true(answers(t, port), "desk@ca.service behind that")
     crl = t.tool("curl", "-s", f"{url}/crl")
     it.verifies(crl)
     t.has(t.tool("openssl", "crl", "-inform", "DER", "-noout", "-crlnumber", given=crl), b"crlNumber=0x02", "its number")
