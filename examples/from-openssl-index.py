@@ -26,6 +26,7 @@ Exit status: 0 where the script was written, 1 where nothing was written, 2 wher
 """
 import argparse
 import datetime
+import hashlib
 import os
 import re
 import subprocess
@@ -114,10 +115,21 @@ def started(folder, serial):
     return int(at.replace(tzinfo=datetime.timezone.utc).timestamp())
 
 
-def name_of(subject, taken):
-    """A subscriber's name for a subject: its common name in the bytes that a name may have, with a number where that name is taken."""
+def common_name(subject):
+    """The octets of the first common name of a subject, which openssl writes as \\xHH outside of ASCII; of the subject, where it has none."""
     found = re.search(r"/CN=((?:[^/\\]|\\.)*)", subject)
-    base = re.sub(r"[^A-Za-z0-9._-]+", "-", found.group(1) if found else subject).strip("-")[:64] or "nobody"
+    text = (found[1] if found else subject).encode()
+    return re.sub(rb"\\x([0-9A-F]{2})", lambda it: bytes.fromhex(it[1].decode()), text)
+
+
+def name_of(subject, taken):
+    """A subscriber's name for a subject: that of its common name by the rule of register-pem.sh, with a number where another subject has it."""
+    common = common_name(subject)
+    if re.fullmatch(rb"[A-Za-z0-9._-]{1,64}", common) and not re.search(rb"\.[0-9a-f]{16}$", common):
+        base = common.decode()
+    else:
+        letters = re.sub(rb"[^A-Za-z0-9._-]+", b"-", common).strip(b"-")[:47].decode()
+        base = f"{letters}.{hashlib.sha256(common).hexdigest()[:16]}"
     name = base
     while name in taken:
         taken[base] += 1

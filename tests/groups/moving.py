@@ -1,12 +1,13 @@
 """An index of `openssl ca` moved into a register by examples/from-openssl-index.py: what both say of each serial number is compared, the
 register's statuses with the index, its CRL with that of `openssl ca -gencrl`, and its OCSP answers with those of `openssl ocsp -index`."""
 
+import hashlib
 import random
 import re
 import sys
 import time
 
-from lib import authority
+from lib import authority, program
 from lib.authority import DAY, EXAMPLES, Authority, body_of, listed, moment_of, openssl_time
 from lib.trial import each, test
 
@@ -258,6 +259,30 @@ def a_revocation_that_the_register_can_t_take(t):
     (t.room / "ours.pem").write_bytes(t.tool("openssl", "crl", given=t.done("crl", "ca.db").encode("latin-1")))
     t.same([is_refused_by(t, "theirs.pem", serial) for serial in ("1000", "1001", "1002")], [True, True, True], "by openssl's latest CRL")
     t.same([is_refused_by(t, "ours.pem", serial) for serial in ("1000", "1001", "1002")], [True, False, False], "by the register's first one")
+
+
+@test(seconds=3)
+def subscribers_have_the_names_of_register_pem(t):
+    """So the next certificate of one of them is registered for the same subscriber. Two subjects with one common name are two."""
+    it = make_ca(t)
+    holders = ["Müller", "Möller", "a & sons", "plain.example"]
+    for at, name in enumerate(holders):
+        t.tool("openssl", "req", "-newkey", *authority.KEYS["ecdsa-sha256"], "-nodes", "-keyout", "x.key", "-utf8", "-out", f"{at}.csr", "-subj", f"/CN={name}")
+        t.tool("openssl", "ca", "-config", "ca.cnf", "-batch", "-in", f"{at}.csr", "-out", "x.pem", "-days", "90", "-notext")
+    lines = (t.room / "index.txt").read_text()
+    (t.room / "index.txt").write_text(lines + lines.splitlines()[-1].replace("\t1003\t", "\t1004\t").replace("/CN=", "/O=Other/CN=") + "\n")
+    script, _ = moved(t, "index.txt", "--days", "90")
+    names = [line.split()[2] for line in script.splitlines() if line.split()[1] == "subscriber"]
+    digest = lambda name: hashlib.sha256(name.encode()).hexdigest()[:16]
+    wanted = [f"M-ller.{digest('Müller')}", f"M-ller.{digest('Möller')}", f"a-sons.{digest('a & sons')}", "plain.example", "plain.example.2"]
+    t.same(names, wanted)
+    it.register()
+    t.done("script", "ca.db", given=script)
+    t.open()
+    for at, _ in enumerate(holders):
+        t.tool("openssl", "x509", "-req", "-in", f"{at}.csr", "-CA", it.pem, "-CAkey", it.key, "-set_serial", 5 + at, "-days", "30", "-out", "next.pem")
+        told = t.tool("env", f"DESK={program.program()}", "sh", EXAMPLES / "register-pem.sh", "-c", "counter", "next.pem").decode()
+        t.has(told, f"of subscriber {at + 1}\n")
 
 
 @test(seconds=2)
