@@ -538,9 +538,16 @@ def a_key_that_its_signer_can_t_read(t, it, at, port):
 
 
 def a_wrong_key(t, root, it, at, port):
-    """The desk does not start with a signer that has another key, and says why; it starts with one that is away, and with the right one."""
+    """The desk does not start with a signer that has another key, and says why; it starts with one that is away, and with the right one. The package's own
+    signer ends with another key, and gives no signature."""
     Authority(t, name="other")
     shutil.copy(t.room / "other.key", root.path / "root")
+    kept = (root.path / KEY[1:]).read_bytes()
+    (root.path / KEY[1:]).write_bytes((t.room / "other.key").read_bytes())
+    t.tool(*at, "systemctl", "restart", "desk-signer@ca.service")
+    t.same(t.tried(*at, "desk", "at", COUNTER, given="crl\n").stdout, b"F3 signer\n", "a CRL by another key in the place of the CA's")
+    t.has(t.tool(*at, "journalctl", "-u", "desk-signer@ca.service").decode(), "/etc/durshavon/ca.pem is the certificate of another key", "why")
+    (root.path / KEY[1:]).write_bytes(kept)
     conf = root.path / "etc/durshavon/ca.conf"
     before = conf.read_text()
     path = "/var/lib/durshavon/wrong"
