@@ -1,10 +1,13 @@
 #!/usr/bin/env python3
 """Reports what the pages name that is not there: files and functions of docs/PROOFS.md and docs/ARCHITECTURE.md, definitions of docs/PROOFS.md, crates and
 what they stand on in docs/ARCHITECTURE.md, files and definitions of the chain in docs/MODEL.md, and links to headings. Also reports a name that two crates
-give to definitions, because the pages refer to a definition by its name. Prints a line for each, and exits with 1 if there is one."""
+give to definitions, because the pages refer to a definition by its name; a promise of docs/PROOFS.md whose functions no call from `main` reaches; and a
+proof that cites another crate's proofs beside its PublicLaws. Prints a line for each, and exits with 1 if there is one."""
 import re
 import sys
 from pathlib import Path
+
+import calls
 
 TOP = Path(__file__).resolve().parent.parent
 PAGES = ["README.md", "SECURITY.md", "CHANGELOG.md", *sorted(str(it.relative_to(TOP)) for it in (TOP / "docs").glob("*.md"))]
@@ -109,7 +112,7 @@ def look_at_promises():
             before = cells[1][: it.start()]
             named = re.findall(r"\b(reg_\w+|sqlite\w*|std)\b", before)
             places = [named[-1]] if named else []
-            places = [p for p in places if p.startswith("reg_")] + crates + (["reg_jobs"] if "reg_program" in crates else [])
+            places = [p for p in places if p.startswith("reg_")] + crates + (["reg_desk_jobs"] if "reg_desk_program" in crates else [])
             if named and not named[-1].startswith("reg_") and "'s" in before[before.rindex(named[-1]):][:12]:
                 continue
             specs = [TOP / "crates" / p / "specs" / f"{it[1]}.antt" for p in places]
@@ -120,6 +123,25 @@ def look_at_promises():
             sources = [f for c in set(crates + own) for f in (TOP / "crates" / c / "src").rglob("*.rt")]
             if not any(re.search(rf"\b(?:fn|ensures|ghost|mod) {name}\b", f.read_text(encoding="utf-8")) for f in sources):
                 miss(page, f"no {it} in {sorted(set(crates + own))}: {cells[0][:60]}")
+        look_at_reach(page, cells, {*crates, *own})
+
+
+def look_at_reach(page, cells, crates):
+    """A promise names a function that calls from `main` reach, or a law, which has no code."""
+    named = [it for it in re.findall(r"`((?:[A-Za-z_]+::)*[a-z_0-9]+)`", cells[1])]
+    known = [it for name in named for it in calls.by_name().get(name.split("::")[-1], []) if it.crate in crates]
+    if known and not any(it in calls.reached() or it.module in ("laws", "examples") for it in known):
+        miss(page, f"no call from main reaches {' or '.join(named)}: {cells[0][:60]}")
+
+
+def look_at_proofs():
+    """Proofs cite lemmas of another crate by its PublicLaws alone."""
+    cited = re.compile(r"^use Rattle\.(reg_\w+)\.proofs\.([\w.]+)", re.MULTILINE)
+    for path in sorted((TOP / "crates").glob("*/[ps]*/**/*.antt")):
+        crate = path.relative_to(TOP / "crates").parts[0]
+        for other, module in cited.findall(path.read_text(encoding="utf-8")):
+            if other != crate and not module.startswith("PublicLaws"):
+                miss(path.relative_to(TOP), f"cites {other}'s proofs {module}, and not its PublicLaws")
 
 
 def look_at_crates():
@@ -161,7 +183,7 @@ def look_at_names():
             miss("specs", f"{name} is defined in {' and '.join(sorted(crates))}")
 
 
-for look in (look_at_links, look_at_ways, look_at_laws, look_at_promises, look_at_crates, look_at_chain, look_at_names):
+for look in (look_at_links, look_at_ways, look_at_laws, look_at_promises, look_at_crates, look_at_chain, look_at_names, look_at_proofs):
     look()
 print(*missing, sep="\n", end="\n" if missing else "")
 sys.exit(1 if missing else 0)

@@ -4,7 +4,7 @@
 set -eu
 # shellcheck source=tools/current.sh
 . tools/current.sh
-version=$(sed -n 's/^.*const VERSION: &str = "\(.*\)";$/\1/p' crates/reg_words/src/desk.rt)
+version=$(sed -n 's/^.*const VERSION: &str = "\(.*\)";$/\1/p' crates/reg_desk_cli/src/desk.rt)
 commit=$(git rev-parse --short=7 HEAD 2>/dev/null || echo unknown)
 [ -z "$(git status --porcelain 2>/dev/null)" ] || commit="$commit, changed since"
 rt=$(command -v rt || echo /opt/rattle/bin/rt)

@@ -82,7 +82,7 @@ def built(t):
         (folder / it).symlink_to(TOP / it)
     # tools/version.sh reads the version there.
     (folder / "crates").mkdir()
-    (folder / "crates/reg_words").symlink_to(TOP / "crates/reg_words")
+    (folder / "crates/reg_desk_cli").symlink_to(TOP / "crates/reg_desk_cli")
     # git follows no link to this one.
     (folder / ".gitignore").write_bytes((TOP / ".gitignore").read_bytes())
     made = folder / "crates/reg_desk/out"

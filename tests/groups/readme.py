@@ -96,10 +96,10 @@ def what_is_told_as_proved_is_built(t):
     """By `./desk --version`, in a folder whose program is not there, is there, and is older than a source."""
     need("bash")
     top = t.room / "top"
-    source, built = top / "crates/reg_words/src/desk.rt", top / "crates/reg_desk/out/reg_desk"
-    for it in ("tools", "crates/reg_words/src", "crates/reg_desk/out"):
+    source, built = top / "crates/reg_desk_cli/src/desk.rt", top / "crates/reg_desk/out/reg_desk"
+    for it in ("tools", "crates/reg_desk_cli/src", "crates/reg_desk/out"):
         (top / it).mkdir(parents=True)
-    for it in ("desk", "crates.txt", "tools/version.sh", "tools/current.sh", "crates/reg_words/src/desk.rt"):
+    for it in ("desk", "crates.txt", "tools/version.sh", "tools/current.sh", "crates/reg_desk_cli/src/desk.rt"):
         shutil.copy2(program.TOP / it, top / it)
 
     def told():

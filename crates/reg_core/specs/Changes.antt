@@ -54,12 +54,12 @@ changed_by records now (Order row) = with_order records now row
 changed_by records now (Certificate row) = with_certificate records now row
 changed_by records now (Request row) = with_request records now row
 changed_by records now (Decline id) = with_declined records now id
-changed_by records now (Revocation row) = with_revocation records now row
+changed_by records now (Revocation row not_after) = with_revocation records now row
 changed_by records now (NewCrl row der) =
     with_crl records now (record { number = row.number; this_update = row.this_update; bytes = der.now })
 
 -- what the decision made sure of before a change at a moment: an id or a number is the next one; a certificate is new and
--- has not ended; what is revoked is registered, has not ended, and was not revoked
+-- has not ended; what is revoked is registered with this notAfter, has not ended, and was not revoked
 abbrev pub Fits : Records → ℕ → Change → Type 0
 Fits records now Touch = Unit {0}
 Fits records now (Subscriber row) = row.id ≡ length records.subscribers + 1
@@ -67,9 +67,10 @@ Fits records now (Order row) = row.id ≡ length records.orders + 1
 Fits records now (Certificate row) = (certificate_in records.certificates row.serial ≡ None) × (now ≤ row.not_after)
 Fits records now (Request row) = row.id ≡ length records.requests + 1
 Fits records now (Decline id) = Unit {0}
-Fits records now (Revocation row) =
+Fits records now (Revocation row not_after) =
     (revocation_in records.revocations row.serial ≡ None)
-    × IsSomeAnd (certificate_in records.certificates row.serial) (λ certificate. now ≤ certificate.not_after)
+    × IsSomeAnd (certificate_in records.certificates row.serial) (λ certificate. certificate.not_after ≡ not_after)
+    × (now ≤ not_after)
     × (row.first ≡ next_number records.crls)
 Fits records now (NewCrl row der) = row.number ≡ next_number records.crls
 

@@ -20,3 +20,4 @@ pub mod Serial
 pub mod Sound
 pub mod Status
 pub mod Step
+pub mod Causes

@@ -3,7 +3,7 @@ use Rattle.std.specs.Prelude.{◌≡◌, ℕ, Bool, false, cond, ◌==◌, ◌&&
 use Rattle.std.specs.List.{list_any}
 use Rattle.reg_core.specs.Records.{Records, subscriber_in, subscriber_named, order_in, certificate_in, certificate_of_order, request_in, revocation_in}
 use Rattle.reg_core.specs.Checks.{first_of_all, clock_checks, subscriber_checks, order_checks, register_checks, request_checks, settle_checks, crl_checks}
-use Rattle.reg_core.specs.Changes.{changed_by, with_crl}
+use Rattle.reg_core.specs.Changes.{changed_by, with_crl, with_revocation}
 use Rattle.reg_core.specs.Crls.{CertList, cert_list, content, next_number}
 use Rattle.reg_core.specs.Due.{deadline}
 use Rattle.reg_core.specs.Grounds.{reason_of, limit_of, ground_or as ground}
@@ -146,7 +146,7 @@ changed records now (Decline id) bytes = changed_by records now (change.Decline 
 changed records now (Revoke id) bytes = revoked (request_in records.requests id)
   where
     revoked : Option RequestRow → Records
-    revoked (Some request) = changed_by records now (change.Revocation (revocation_row records now request))
+    revoked (Some request) = with_revocation records now (revocation_row records now request)
     revoked None = changed_by records now change.Touch
 changed records now IssueCrl bytes =
     with_crl records now (record { number = next_number records.crls; this_update = now; bytes = bytes })

@@ -1,5 +1,6 @@
 //! What an accepted command changes.
 
+use crate::moment::Moment;
 use crate::rows::{CertRow, CrlRow, OrderRow, RequestRow, RevocationRow, SubscriberRow};
 
 /// What an accepted command changes in the records. Each change also sets the last accepted moment.
@@ -17,8 +18,8 @@ pub enum Change<'a> {
     Request(RequestRow),
     /// The request with this id is declined.
     Decline(u64),
-    /// One revocation more.
-    Revocation(RevocationRow),
+    /// One revocation more, of a certificate with this notAfter.
+    Revocation(RevocationRow, Moment),
     /// One CRL more, with its DER.
     Crl(CrlRow, &'a [u8]),
 }

@@ -2,6 +2,7 @@
 #![tactic(auto)]
 
 mod calendar;
+mod cause;
 mod change;
 mod command;
 mod decide;
@@ -20,6 +21,7 @@ mod signed;
 mod status;
 
 pub use calendar::Civil;
+pub use cause::{Cause, of_io, of_laying, of_port, of_terms};
 pub use change::Change;
 pub use command::{Command, Counts, Listing, Outcome, Overdue, Query, Reply, Status};
 pub use decide::{

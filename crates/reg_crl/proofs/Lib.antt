@@ -1,1 +1,2 @@
-pub mod Algorithms
+mod Algorithms
+pub mod PublicLaws

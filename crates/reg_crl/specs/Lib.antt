@@ -1,3 +1,4 @@
 pub mod Crl
 pub mod Faults
+pub mod Signatures
 pub mod Signing

@@ -1,5 +1,6 @@
 -- Signers, and what it is that a CRL is signed.
 use Rattle.std.specs.Prelude.{◌≡◌, ◌⊎◌, ℕ, ◌<◌, ◌≤◌, List, [], ◌∷◌, ◌++◌, length}
+use Rattle.std.specs.List.{AllByRecursion}
 use Rattle.sha1.specs.Sha1.{sha1}
 use Rattle.reg_core.specs.Crls.{CertList}
 use Rattle.reg_der.specs.Der.{IsTlv, tlv}
@@ -42,3 +43,10 @@ sealed crl bytes = bytes ≡ seal_of (tbs_of sha1_algorithm crl)
 abbrev pub sealed_until : ℕ → (Identity → List ℕ → List ℕ → Type 0) → Identity → CertList → List ℕ → Type 0
 sealed_until since signs identity crl bytes =
     ((crl.number < since) × sealed crl bytes) ⊎ ((since ≤ crl.number) × signed_by signs identity crl bytes)
+
+-- ---- laws
+
+-- a SEQUENCE of at most 1,000 octets is an AlgorithmIdentifier
+abbrev pub SequencesAreAlgorithms : Type 0
+SequencesAreAlgorithms =
+    (contents : List ℕ) → AllByRecursion (λ octet. octet < 256) contents → length contents ≤ 1000 → IsAlgorithm (tlv 48 contents)

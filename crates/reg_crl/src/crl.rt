@@ -2,7 +2,7 @@
 
 ghost use Rattle.std.specs.Prelude.{◌≡◌, ◌++◌, ◌+◌, ◌*◌, ◌≤◌, ◌^◌, length, IfOk, OnOk};
 ghost use Rattle.std.specs.List.{flat_map};
-ghost use Rattle.reg_crl.specs.Crl.{extension, crl_entry_extensions, revoked_certificate, revoked_certificates, crl_extensions, authority_key_identifier, key_identifier, crl_number, tbs_cert_list, tbs_of, certificate_list};
+ghost use Rattle.reg_crl.specs.Crl.{extension, crl_entry_extensions, revoked_certificate, revoked_certificates, crl_extensions, authority_key_identifier, key_identifier, crl_number, tbs_of, certificate_list};
 ghost use Rattle.reg_core.specs.Crls.{EntriesAscend};
 
 use reg_core::{Entry, Memory, Moment};
@@ -61,8 +61,13 @@ pub fn crl_tbs(
     requires ascending { EntriesAscend entries.now }
     requires few { length entries.now ≤ 1000000 }
     requires algorithm { length algorithm.now ≤ 1024 }
-    ensures bytes { IfOk result (λ tbs. tbs.items ≡ tbs_cert_list issuer.now algorithm.now number this_update next_update entries.now) }
-    ensures crl { IfOk result (λ tbs. tbs.items ≡ tbs_of algorithm.now (record { issuer = issuer.now; number = number; this_update = this_update; next_update = next_update; entries = entries.now })) }
+    ensures crl { IfOk result (λ tbs. tbs.items ≡ tbs_of algorithm.now (record {
+      issuer = issuer.now;
+      number = number;
+      this_update = this_update;
+      next_update = next_update;
+      entries = entries.now;
+    })) }
     ensures short { IfOk result (λ tbs. length tbs.items ≤ 2 ^ 27) }
 {
     let mut contents = Vec::new(alloc);
@@ -93,8 +98,10 @@ pub fn crl_whole(
     requires tbs { length tbs.now ≤ 2 ^ 27 }
     requires algorithm { length algorithm.now ≤ 1024 }
     requires signature { length signature.now ≤ 65536 }
-    ensures bytes { IfOk result (λ whole. whole.items ≡ certificate_list tbs.now algorithm.now signature.now) }
-    ensures short { IfOk result (λ whole. length whole.items ≤ length tbs.now + length algorithm.now + length signature.now + 13) }
+    ensures bytes { IfOk result (λ whole.
+        whole.items ≡ certificate_list tbs.now algorithm.now signature.now) }
+    ensures short { IfOk result (λ whole.
+        length whole.items ≤ length tbs.now + length algorithm.now + length signature.now + 13) }
 {
     let mut contents = Vec::new(alloc);
     append(&mut contents, tbs)?;
@@ -210,7 +217,8 @@ fn put_authority_key_identifier(
     issuer: &Issuer,
     number: u64,
 ) -> Result<(), Memory>
-    ensures ok { OnOk result (out.new.items ≡ out.old.items ++ authority_key_identifier (key_identifier issuer.now number)) }
+    ensures ok { OnOk result (
+        out.new.items ≡ out.old.items ++ authority_key_identifier (key_identifier issuer.now number)) }
     ensures longer { OnOk result (length out.new.items ≤ length out.old.items + 100) }
 {
     match issuer.key_identifier(number) {

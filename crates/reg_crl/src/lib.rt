@@ -1,7 +1,8 @@
-//! CRLs (RFC 5280 5): who signs them, and their DER.
+//! CRLs (RFC 5280 5): their signers, and their DER.
 #![tactic(auto)]
 
 mod crl;
+pub mod laws;
 mod seal;
 mod signer;
 

@@ -1,6 +1,6 @@
-//! Who signs.
+//! Signers.
 
-ghost use Rattle.std.specs.Prelude.{◌≡◌, ◌<◌, ◌≤◌, length, IfOk, IfSome, IsErrOf, OnOk, option_copied};
+ghost use Rattle.std.specs.Prelude.{◌≡◌, IfSome, option_copied};
 ghost use Rattle.reg_crl.specs.declared.signer.SignFault.TheVariants.{Memory};
 
 use reg_core::{Fault, SignsCrls};
@@ -9,7 +9,7 @@ use std::alloc::{AllocError, Global};
 /// Why nothing was signed.
 #[derive(Clone, Copy, PartialEq, Eq)]
 pub enum SignFault {
-    /// What signs failed, and the signer counted the failure.
+    /// The device that holds the key failed, and the signer counted the failure.
     Device,
     /// Memory could not be had.
     Memory,
@@ -37,10 +37,11 @@ impl From<SignFault> for Fault {
     }
 }
 
-/// One who signs under one algorithm and one key, for good.
+/// A signer under one algorithm and one key, for good.
 pub trait Signer {
     ghost use Rattle.std.specs.Prelude.{ℕ, List};
     ghost use Rattle.reg_crl.specs.Signing.{Identity, IsAlgorithm};
+    ghost use Rattle.reg_crl.specs.Signatures.{SignsOrFails};
 
     // Under whose algorithm and key it signs: no call changes it.
     ghost identity: { Self → Identity };
@@ -56,30 +57,24 @@ pub trait Signer {
         ensures value { result.now ≡ (identity self.now).algorithm }
         ensures within { IsAlgorithm result.now };
 
-    /// The public key, where what holds it can be asked for a signature by others, too; `None` where nothing holds one.
+    /// The public key, where others can ask the device that holds it for a signature, too; `None` where there is no such device.
     fn public_key(&self) -> Option<&[u8]>
         ensures { IfSome (option_copied result) (λ key. key ≡ (identity self.now).public_key) };
 
     /// A signature of the message, of at most 65,536 bytes.
     ///
     /// # Errors
-    /// `Device` where what signs failed: the count of failures rises, so at `u64::MAX` this no longer comes. `Memory`
+    /// `Device` where the device failed: the count of failures rises, so at `u64::MAX` this no longer comes. `Memory`
     /// where memory could not be had.
     fn sign(&mut self, alloc: Global, message: &[u8]) -> Result<Vec<u8>, SignFault>
-        ensures signed { IfOk result (λ signature. signs (identity self.old) message.now signature.items) }
-        ensures short { IfOk result (λ signature. length signature.items ≤ 65536) }
-        ensures device { IsErrOf result SignFault.Device → failure_count self.old < failure_count self.new }
-        ensures exhausted { failure_count self.old ≡ u64.MAX → ¬ (IsErrOf result SignFault.Device) }
-        ensures memory { IsErrOf result SignFault.Memory → failure_count self.new ≡ failure_count self.old }
-        ensures ok { OnOk result (failure_count self.new ≡ failure_count self.old) }
-        ensures same_identity { identity self.new ≡ identity self.old };
+        ensures { SignsOrFails identity signs failure_count self.old self.new message.now result };
 
-    /// Has what signs asked at the next signature, also where it would be left alone for a while.
+    /// Resets the back-off: the device is asked at the next signature, also after a timeout.
     fn rouse(&mut self)
         ensures same_identity { identity self.new ≡ identity self.old }
         ensures same_failures { failure_count self.new ≡ failure_count self.old };
 
-    /// How many failures of what signs the signer has counted.
+    /// How many failures of the device the signer has counted.
     fn failures(&self) -> u64
         ensures { result ≡ failure_count self.now };
 }

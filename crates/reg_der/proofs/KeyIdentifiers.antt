@@ -9,8 +9,7 @@ use Rattle.reg_core.specs.Integer.{IsBytes, value}
 use Rattle.reg_core.specs.Issuer as core
 use Rattle.reg_core.specs.Label.{IsLabel}
 use Rattle.reg_core.specs.Sequence.{◌>>=◌}
-use Rattle.reg_core.proofs.PublicLaws.{octets_are_below, octets_are_lowest}
-use Rattle.reg_core.proofs.Integers.{is_bytes-take, is_bytes-append}
+use Rattle.reg_core.proofs.PublicLaws.{octets_are_below, octets_are_lowest, is_bytes-take, is_bytes-append}
 use Rattle.reg_der.specs.Der.{tlv, IsTlv}
 use Rattle.reg_der.specs.ValueReading.{Parts, value_at}
 use Rattle.reg_der.specs.Authority.{IsIssuerName, IsKept, IsIssuer, name_in, behind_name, name_of, key_identifiers, key_identifier_at, identifier_value, identifier_at, identifiers_by, identifiers_at, identifier_for, but_for, others_than, with_identifier, HasIdentifier, IdentifiersFollow, IsPlain, NamesArePlain}

@@ -5,8 +5,7 @@ use Rattle.std.proofs.lemmas.Int.Digits.{number_more}
 use Rattle.std.proofs.lemmas.Bool.{cases_lt}
 use Rattle.std.proofs.lemmas.List.{length-append, length-replicate, length-take, get_or-drop, get_or_past, get_or_append_left}
 use Rattle.reg_core.specs.Integer.{IsBytes, value, without_zeros}
-use Rattle.reg_core.proofs.PublicLaws.{octets_are_places, octets_are_below, one_spelling}
-use Rattle.reg_core.proofs.Integers.{is_bytes-cons, is_bytes-tail, is_bytes-take, is_bytes-append}
+use Rattle.reg_core.proofs.PublicLaws.{octets_are_places, octets_are_below, one_spelling, is_bytes-cons, is_bytes-tail, is_bytes-take, is_bytes-append}
 
 -- ---- bytes
 

@@ -1,4 +1,6 @@
 -- The laws, for proofs above: they cite these alone. Each is stated in specs/, and is what a function of `laws` ensures.
+pub use Rattle.reg_der.proofs.KeyIdentifiers.{bind_same}
+pub use Rattle.reg_der.proofs.ValueLemmas.{bind_then, kept, or_false, some_is}
 use Rattle.reg_der.specs.Der.{NoTwoPrefixes, LengthIsFewest, ValuesHaveSizes}
 use Rattle.reg_der.specs.ValueReading.{ReadsValues, ReadsAgain}
 use Rattle.reg_der.specs.Authority.{IdentifiersFollow, NamesArePlain}

@@ -8,8 +8,7 @@ use Rattle.reg_core.specs.Integer.{IsBytes, value, without_zeros}
 use Rattle.reg_core.specs.Sequence.{◌>>=◌}
 use Rattle.reg_der.specs.Der.{fewest, length_octets, tlv, IsTlv, IsLength, IsLongForm, NoTwoPrefixes, LengthIsFewest, ValuesHaveSizes}
 use Rattle.reg_der.specs.ValueReading.{Parts, Takes, TakesValue, ReadsValues, ReadsAgain, long_at, length_at, counted_at, value_at}
-use Rattle.reg_core.proofs.PublicLaws.{octets_are_below, octets_are_lowest, one_spelling, zeros_count_nothing}
-use Rattle.reg_core.proofs.Integers.{is_bytes-cons, is_bytes-tail, is_bytes-take, is_bytes-append}
+use Rattle.reg_core.proofs.PublicLaws.{octets_are_below, octets_are_lowest, one_spelling, zeros_count_nothing, is_bytes-cons, is_bytes-tail, is_bytes-take, is_bytes-append}
 use Rattle.reg_der.proofs.Octets.{is_bytes-drop, is_bytes-without_zeros, without_zeros-leads, without_zeros-first, length-without_zeros, same_digits}
 
 -- ---- steps of a reading that did not fail

@@ -1,7 +1,7 @@
 //! The program `desk`: the register and status desk of one certification authority.
 #![tactic(auto)]
 
-use reg_program::run_desk;
+use reg_desk_program::run_desk;
 use std::io;
 use std::process::ExitCode;
 

@@ -1,4 +1,7 @@
+pub mod Added
+pub mod ByRecords
 pub mod JsonLemmas
-mod Leavings
+pub mod PublicLaws
+mod Replying
 pub mod Routed
 pub mod SeekOne

@@ -5,14 +5,14 @@ use Rattle.matchit.specs.Rows.{RowsOf}
 use Rattle.matchit.specs.Router.{RouteOf, rename, map_key}
 use Rattle.matchit.specs.Seek.{seek, first, has_slash}
 use Rattle.matchit.proofs.RenameLemmas.{first-rename}
-use Rattle.reg_http.specs.RouterRows.{rows, IsLed, Finds}
+use Rattle.reg_http.specs.RouterRows.{rows, IsLed, FindsRoute}
 use Rattle.reg_http.specs.Routes.{ocsp, ocsp_rest, crl, crl_number, status, counts, requests, nowhere, RouteLine, Ending, here, one, rest, route_line, path_after, ended, or_next, route_in, route}
-use Rattle.reg_http.specs.declared.paths.Which.{Which}
-use Rattle.reg_http.specs.declared.paths.Which.TheVariants.{Ocsp, OcspRest, Crl, CrlNumber, Status, Counts, Requests}
+use Rattle.reg_http.specs.declared.route.Route.{Route}
+use Rattle.reg_http.specs.declared.route.Route.TheVariants.{Ocsp, OcspRest, Crl, CrlNumber, Status, Counts, Requests}
 use Rattle.reg_http.proofs.SeekOne.{mark, apart_all, all_bytes, is_byte, left, seek_one, seek_nothing}
 
 -- the table, each line with what the router keeps of it
-abbrev pub keyed : List (RouteLine × Which)
+abbrev pub keyed : List (RouteLine × Route)
 keyed =
     (route_line (codes "/counts") here (λ _. counts), Counts)
     ∷ (route_line (codes "/crl/") one crl_number, CrlNumber)
@@ -23,40 +23,40 @@ keyed =
     ∷ (route_line (codes "/status/") one status, Status)
     ∷ []
 
-abbrev pub lines_of : List (RouteLine × Which) → List RouteLine
+abbrev pub lines_of : List (RouteLine × Route) → List RouteLine
 lines_of [] = []
 lines_of (x ∷ xs) = x.0 ∷ lines_of xs
 
-abbrev pub rows_for : List (RouteLine × Which) → RowsOf Which
+abbrev pub rows_for : List (RouteLine × Route) → RowsOf Route
 rows_for [] = []
 rows_for (x ∷ xs) = (x.0.prefix ++ mark x.0.ending, x.1) ∷ rows_for xs
 
 -- what the first line that takes the path keeps
-abbrev pub chain : List (RouteLine × Which) → List ℕ → Option Which
+abbrev pub chain : List (RouteLine × Route) → List ℕ → Option Route
 chain [] path = None
 chain (x ∷ xs) path = cond (is_some (left x.0.prefix x.0.ending path)) (Some x.1) (chain xs path)
 
 -- prefixes are bytes, and no two rows catch one path
-abbrev pub all_apart : List (RouteLine × Which) → Bool
+abbrev pub all_apart : List (RouteLine × Route) → Bool
 all_apart [] = true
 all_apart (x ∷ xs) = all_bytes x.0.prefix && (apart_all (x.0.prefix ++ mark x.0.ending) (rows_for xs) && all_apart xs)
 
-pub seek_chain : (ls : List (RouteLine × Which)) (path : List ℕ) → All is_byte path → all_apart ls ≡ true → seek 0 (rows_for ls) path ≡ chain ls path
+pub seek_chain : (ls : List (RouteLine × Route)) (path : List ℕ) → All is_byte path → all_apart ls ≡ true → seek 0 (rows_for ls) path ≡ chain ls path
 seek_chain [] path small parts = seek_nothing 0 path
 seek_chain (x ∷ xs) path small parts =
     let (bytes, more) = and_parts (all_bytes x.0.prefix) (apart_all (x.0.prefix ++ mark x.0.ending) (rows_for xs) && all_apart xs) parts in
     let (parted, others) = and_parts (apart_all (x.0.prefix ++ mark x.0.ending) (rows_for xs)) (all_apart xs) more in
     seek_one x.0.prefix x.0.ending x.1 (rows_for xs) path small bytes parted
-    ∙ ap (λ (next : Option Which). cond (is_some (left x.0.prefix x.0.ending path)) (Some x.1) next) (seek_chain xs path small others)
+    ∙ ap (λ (next : Option Route). cond (is_some (left x.0.prefix x.0.ending path)) (Some x.1) next) (seek_chain xs path small others)
 
-abbrev pub Fits : RouteLine → Which → Type 0
+abbrev pub Fits : RouteLine → Route → Type 0
 Fits l which = (path text : List ℕ) → left l.prefix l.ending path ≡ Some text → IsLed which path (l.to text)
 
-abbrev pub AllFit : List (RouteLine × Which) → Type 0
+abbrev pub AllFit : List (RouteLine × Route) → Type 0
 AllFit [] = Unit {0}
 AllFit (x ∷ xs) = Fits x.0 x.1 × AllFit xs
 
-pub led : (ls : List (RouteLine × Which)) (path : List ℕ) (which : Which) → AllFit ls → chain ls path ≡ Some which → IsLed which path (route_in (lines_of ls) path)
+pub led : (ls : List (RouteLine × Route)) (path : List ℕ) (which : Route) → AllFit ls → chain ls path ≡ Some which → IsLed which path (route_in (lines_of ls) path)
 led [] path which fit found = absurd (cc)
 led (x ∷ xs) path which fit found = by (left x.0.prefix x.0.ending path) refl found (led xs path which fit.1)
   where
@@ -65,11 +65,11 @@ led (x ∷ xs) path which fit found = by (left x.0.prefix x.0.ending path) refl 
         → IsLed which path (or_next (option_map x.0.to v) (route_in (lines_of xs) path))
     by (Some text) e same next =
         let key : x.1 ≡ which = cc in
-        let P : Which → Type 0 = λ k. IsLed k path (x.0.to text) in
+        let P : Route → Type 0 = λ k. IsLed k path (x.0.to text) in
         subst P key (fit.0 path text e)
     by None e same next = next same
 
-pub lost : (ls : List (RouteLine × Which)) (path : List ℕ) → chain ls path ≡ None → route_in (lines_of ls) path ≡ nowhere
+pub lost : (ls : List (RouteLine × Route)) (path : List ℕ) → chain ls path ≡ None → route_in (lines_of ls) path ≡ nowhere
 lost [] path none = refl
 lost (x ∷ xs) path none = by (left x.0.prefix x.0.ending path) none (lost xs path)
   where
@@ -135,44 +135,44 @@ keyed_fit = (
 )
 
 -- a path that the router finds
-pub found_at : (router : RowsOf (RouteOf Which)) (path : List ℕ) (entry : RouteOf Which) → rename (λ e. e.value) router ≡ rows → All is_byte path
+pub found_at : (router : RowsOf (RouteOf Route)) (path : List ℕ) (entry : RouteOf Route) → rename (λ e. e.value) router ≡ rows → All is_byte path
     → first router path ≡ Some entry → IsLed entry.value path (route path)
 unfolding route
 found_at router path entry same small found =
     led keyed path entry.value keyed_fit (
     sym (seek_chain keyed path small refl)
-    ∙ ap (λ (rs : RowsOf Which). first rs path) (sym same)
-    ∙ first-rename (λ (e : RouteOf Which). e.value) router path
-    ∙ ap (map_key (λ (e : RouteOf Which). e.value)) found
+    ∙ ap (λ (rs : RowsOf Route). first rs path) (sym same)
+    ∙ first-rename (λ (e : RouteOf Route). e.value) router path
+    ∙ ap (map_key (λ (e : RouteOf Route). e.value)) found
     )
 
 -- a path that it does not find
-pub lost_at : (router : RowsOf (RouteOf Which)) (path : List ℕ) → rename (λ e. e.value) router ≡ rows → All is_byte path
+pub lost_at : (router : RowsOf (RouteOf Route)) (path : List ℕ) → rename (λ e. e.value) router ≡ rows → All is_byte path
     → first router path ≡ None → route path ≡ nowhere
 unfolding route
 lost_at router path same small missing =
     lost keyed path (
     sym (seek_chain keyed path small refl)
-    ∙ ap (λ (rs : RowsOf Which). first rs path) (sym same)
-    ∙ first-rename (λ (e : RouteOf Which). e.value) router path
-    ∙ ap (map_key (λ (e : RouteOf Which). e.value)) missing
+    ∙ ap (λ (rs : RowsOf Route). first rs path) (sym same)
+    ∙ first-rename (λ (e : RouteOf Route). e.value) router path
+    ∙ ap (map_key (λ (e : RouteOf Route). e.value)) missing
     )
 
 -- what the router finds, or that it finds nothing
-pub finds_at : (router : RowsOf (RouteOf Which)) (path : List ℕ) (found : Option Which) → rename (λ e. e.value) router ≡ rows → All is_byte path
-    → map_key (λ e. e.value) (first router path) ≡ found → Finds path found
+pub finds_at : (router : RowsOf (RouteOf Route)) (path : List ℕ) (found : Option Route) → rename (λ e. e.value) router ≡ rows → All is_byte path
+    → map_key (λ e. e.value) (first router path) ≡ found → FindsRoute path found
 finds_at router path found same small is = by (first router path) refl found is
   where
-    by : (v : Option (RouteOf Which)) → first router path ≡ v → (found : Option Which) → map_key (λ e. e.value) v ≡ found → Finds path found
+    by : (v : Option (RouteOf Route)) → first router path ≡ v → (found : Option Route) → map_key (λ e. e.value) v ≡ found → FindsRoute path found
     by None e None same_found = lost_at router path same small e
     by None e (Some which) same_found = absurd (cc)
     by (Some entry) e None same_found = absurd (cc)
     by (Some entry) e (Some which) same_found =
         let key : entry.value ≡ which = cc in
-        let P : Which → Type 0 = λ k. IsLed k path (route path) in
+        let P : Route → Type 0 = λ k. IsLed k path (route path) in
         subst P key (found_at router path entry same small e)
 
 -- the path that is found without a router
-pub ocsp_at : (path : List ℕ) → path ≡ codes "/ocsp" → Finds path (Some Ocsp)
+pub ocsp_at : (path : List ℕ) → path ≡ codes "/ocsp" → FindsRoute path (Some Ocsp)
 unfolding route
 ocsp_at path same = record { route_is = ap (λ (p : List ℕ). route_in (lines_of keyed) p) same; long = omega arith }

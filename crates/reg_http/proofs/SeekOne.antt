@@ -75,11 +75,6 @@ module _ {K : Type 0} where
           ap (λ (n : ℕ). seek n (([], key) ∷ []) p) e ∙ seek_past (([], key) ∷ []) p
 
   -- rows of which none goes on
-  pub seek_ended : (rs : RowsOf K) (b : ℕ) (p : List ℕ) → ((y : ℕ) → step y rs ≡ []) → seek 0 rs (b ∷ p) ≡ None
-  unfolding seek
-  seek_ended rs b p none =
-      simp (none b, none 256, none 257, seek_nothing 0 p, seek_nothing_param (b ∷ p), seek_nothing ((param_step {K = K} [] (b ∷ p)).0 - 1) p)
-
   pub none_goes_on : (x : ℕ) (t : List ℕ) (rs : RowsOf K) → ltb x 256 ≡ false → apart_all (x ∷ t) rs ≡ true → (y : ℕ) → step y rs ≡ []
   none_goes_on x t [] high apart_from y = refl
   none_goes_on x t (([], key) ∷ rs) high apart_from y = none_goes_on x t rs high apart_from y

@@ -11,8 +11,8 @@ use Rattle.serde_json.specs.Find.{get, as_str}
 use Rattle.serde_json.specs.Read.{read}
 use Rattle.reg_core.specs.Number.{number_of}
 use Rattle.reg_core.specs.Serial.{serial_of}
-use Rattle.reg_lists.specs.Asked.{label_of}
-use Rattle.reg_http.specs.Routes.{Route, ocsp, ocsp_rest, crl, crl_number, status, counts, requests, nowhere, route}
+use Rattle.reg_core_lists.specs.Asked.{label_of}
+use Rattle.reg_http.specs.Routes.{PathRoute, ocsp, ocsp_rest, crl, crl_number, status, counts, requests, nowhere, route}
 
 -- what is asked: a refusal of HTTP, another method than the route's, what can't be read, an OCSP request that can't be
 -- decoded, or one of the five calls of the office
@@ -64,6 +64,10 @@ abbrev pub or_unread : {A : Type 0} → (A → Asked) → Option A → Asked
 or_unread asks (Some value) = asks value
 or_unread asks None = unread
 
+-- a request for revocation, by its serial number and the word of its ground, or that it can't be read
+abbrev pub asks_revocation : Option (ℕ × List ℕ) → Asked
+asks_revocation wanted = or_unread (λ (it : ℕ × List ℕ). request_of it.0 it.1) wanted
+
 -- an OCSP request that was decoded, or that it can't be
 abbrev pub or_malformed : Option (List ℕ) → Asked
 or_malformed (Some request) = ocsp_of request
@@ -74,14 +78,14 @@ abbrev pub by_method : List ℕ → List ℕ → Asked → Asked
 by_method has method asks = if bytes_eq method has then asks else only has
 
 -- what is asked at a route
-abbrev pub asked_at : List ℕ → Route → List ℕ → Asked
+abbrev pub asked_at : List ℕ → PathRoute → List ℕ → Asked
 asked_at method ocsp body = by_method (codes "POST") method (ocsp_of body)
 asked_at method (ocsp_rest text) body = by_method (codes "GET") method (or_malformed (decoded text))
 asked_at method crl body = by_method (codes "GET") method (crl_of None)
 asked_at method (crl_number text) body = by_method (codes "GET") method (or_unread (λ n. crl_of (Some n)) (number_of text))
 asked_at method (status text) body = by_method (codes "GET") method (or_unread status_of (serial_of text))
 asked_at method counts body = by_method (codes "GET") method counts_of
-asked_at method requests body = by_method (codes "POST") method (or_unread (λ w. request_of w.0 w.1) (wanted body))
+asked_at method requests body = by_method (codes "POST") method (asks_revocation (wanted body))
 asked_at method nowhere body = refused 404
 
 -- what a request asks

@@ -12,7 +12,7 @@ use Rattle.reg_core.specs.declared.refusal.Refusal.{Refusal}
 use Rattle.reg_core.specs.declared.refusal.Refusal.TheVariants.{NoCrl, Syntax}
 use Rattle.reg_core.specs.declared.refusal.Fault.{Fault}
 use Rattle.reg_core.specs.declared.refusal.Fault.TheVariants.{Refused, Memory, Store}
-use Rattle.reg_heads.specs.Response.{Response}
+use Rattle.reg_http_head.specs.Response.{Response}
 
 -- `{"error":"LINE"}`
 unfoldable pub error_text : List ℕ → List ℕ
@@ -83,25 +83,10 @@ abbrev pub due_reply : Reply → Option (List ℕ)
 due_reply (RequestEntered id due) = Some (due_text id due)
 due_reply other = None
 
--- 200 with its body; a reply of another kind, which no office gives, is a fault of the store
-abbrev pub told_or : Option (List ℕ) → Response
-told_or (Some body) = json 200 body
-told_or None = fault_response Store
-
--- the response to an outcome
-abbrev pub told_response : (Reply → Option (List ℕ)) → Result Reply Fault → Response
-told_response body_of (Ok reply) = told_or (body_of reply)
-told_response body_of (Err fault) = fault_response fault
-
--- an OCSP response, of any status (RFC 6960 A.2); want of memory is a fault
-abbrev pub ocsp_told : Result (List ℕ) NoMemory → Response
-ocsp_told (Ok body) = der (codes "application/ocsp-response") body
-ocsp_told (Err memory) = fault_response Memory
-
--- a CRL (RFC 2585 4.2), or why there is none
-abbrev pub crl_told : Result (List ℕ) Fault → Response
-crl_told (Ok body) = der (codes "application/pkix-crl") body
-crl_told (Err fault) = fault_response fault
+-- an OCSP response, of any status (RFC 6960 A.2); out of memory is a fault
+abbrev pub ocsp_reply : Result (List ℕ) NoMemory → Response
+ocsp_reply (Ok body) = der (codes "application/ocsp-response") body
+ocsp_reply (Err memory) = fault_response Memory
 
 -- the OCSPResponse of status malformedRequest (RFC 6960 4.2.1)
 abbrev pub malformed_text : List ℕ

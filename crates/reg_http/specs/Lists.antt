@@ -6,22 +6,17 @@ use Rattle.reg_core.specs.Records.{Records}
 use Rattle.reg_core.specs.declared.refusal.Fault.{Fault}
 use Rattle.reg_core.specs.declared.refusal.Fault.TheVariants as fault
 use Rattle.reg_core.specs.declared.refusal.Refusal.TheVariants.{Syntax}
-use Rattle.reg_heads.specs.Frame.{Part, refused, asked}
-use Rattle.reg_heads.specs.Response.{Response}
-use Rattle.reg_lists.specs.Asked.{page_asked}
-use Rattle.reg_lists.specs.Pages.{IsPaged}
-use Rattle.reg_lists.specs.Texts.{page_body}
-use Rattle.reg_lists.specs.declared.cursor.Cursor.{Cursor}
-use Rattle.reg_lists.specs.declared.rows.Page.{Page as PageOf}
-use Rattle.reg_http.specs.Bodies.{fault_response, json, http_refusal, only}
+use Rattle.reg_core_lists.specs.Asked.{page_asked}
+use Rattle.reg_core_lists.specs.Pages.{IsPaged}
+use Rattle.reg_core_lists.specs.Texts.{page_body}
+use Rattle.reg_core_lists.specs.declared.cursor.Cursor.{Cursor}
+use Rattle.reg_core_lists.specs.declared.rows.Page.{Page as PageOf}
+use Rattle.reg_http.specs.Bodies.{json, only}
+use Rattle.reg_http.specs.Told.{Told, plain, fault_told}
 use Rattle.reg_http.specs.declared.lists.ListAsked.{ListAsked}
 use Rattle.reg_http.specs.declared.lists.ListAsked.TheVariants.{Nothing, Page}
 use Rattle.reg_http.specs.declared.lists.NoPage.{NoPage}
-use Rattle.reg_http.specs.declared.lists.NoPage.TheVariants.{Refused, OnlyGet, Unread}
-
--- the bytes of a request ask for a list: behind the method (RFC 9112 3) its target begins with `/list/` (32 is the code of a space)
-abbrev pub asks_list : List ℕ → Bool
-asks_list request = starts_with (λ a b. a == b) (drop (position_or_len (λ byte. byte == 32) request) request) (codes " /list/")
+use Rattle.reg_http.specs.declared.lists.NoPage.TheVariants.{OnlyGet, Unread}
 
 -- the page that was asked for, or that it can't be read
 abbrev pub or_unread : Option (Cursor × ℕ) → ListAsked
@@ -38,23 +33,20 @@ unfoldable pub page_in : List ℕ → ListAsked
 page_in target = page_told (before_first (λ b. b == 63) target) (percent_decode (after_first (λ b. b == 63) target))
 
 -- what a request for a list asks
-abbrev pub list_asked : Part → ListAsked
-list_asked (refused status) = Nothing (Refused status)
-list_asked (asked method target body) = if bytes_eq method (codes "GET") then page_in target else Nothing OnlyGet
+abbrev pub list_asked : List ℕ → List ℕ → ListAsked
+list_asked method target = if bytes_eq method (codes "GET") then page_in target else Nothing OnlyGet
 
 -- a page as it is told, or why there is none
-abbrev pub given_told : Cursor → Result PageOf Fault → Response
-given_told from (Ok given) = json 200 (page_body from given.next given.rows.items)
-given_told from (Err why) = fault_response why
+abbrev pub given_told : Cursor → Result PageOf Fault → Told
+given_told from (Ok given) = plain (json 200 (page_body from given.next given.rows.items))
+given_told from (Err why) = fault_told why
 
--- the response to a request for a list that asks no page
-abbrev pub no_page_response : NoPage → Response
-no_page_response (Refused status) = http_refusal status
-no_page_response OnlyGet = only (codes "GET")
-no_page_response Unread = fault_response (fault.Refused Syntax)
+-- what is told to a request for a list that asks no page
+abbrev pub no_page_told : NoPage → Told
+no_page_told OnlyGet = plain (only (codes "GET"))
+no_page_told Unread = fault_told (fault.Refused Syntax)
 
--- the response to a request for a list, of records at a moment
-abbrev pub RespondsList : Records → ℕ → ListAsked → Response → Type 0
-RespondsList records now (Page from most) response =
-    (given : Result PageOf Fault) × IsPaged records now most from given × (response ≡ given_told from given)
-RespondsList records now (Nothing why) response = response ≡ no_page_response why
+-- what a request for a list is told, of records at a moment
+abbrev pub RespondsList : Records → ℕ → ListAsked → Told → Type 0
+RespondsList records now (Page from most) it = (given : Result PageOf Fault) × IsPaged records now most from given × (it ≡ given_told from given)
+RespondsList records now (Nothing why) it = it ≡ no_page_told why

@@ -1,19 +1,20 @@
 -- Which route a path has.
 use Rattle.std.specs.Prelude.{ℕ, ◌==◌, List, [], ◌∷◌, codes, if◌then◌else◌, Option, Some, None, option_map, option_and_then}
 use Rattle.matchit.specs.Seek.{has_slash}
-use Rattle.reg_http.specs.declared.paths.Route.{Route as RouteOf}
-use Rattle.reg_http.specs.declared.paths.Route.TheVariants.{Ocsp, OcspRest, Crl, CrlNumber, Status, Counts, Requests, Nowhere}
+use Rattle.reg_http.specs.declared.paths.Found.{Found}
+use Rattle.reg_http.specs.declared.route.Route.{Route}
+use Rattle.reg_http.specs.declared.route.Route.TheVariants.{Ocsp, OcspRest, Crl, CrlNumber, Status, Counts, Requests}
 
 -- the routes, with the part of the path that the route names
-pub data Route : Type 0 where
-  ocsp : Route
-  ocsp_rest : List ℕ → Route
-  crl : Route
-  crl_number : List ℕ → Route
-  status : List ℕ → Route
-  counts : Route
-  requests : Route
-  nowhere : Route
+pub data PathRoute : Type 0 where
+  ocsp : PathRoute
+  ocsp_rest : List ℕ → PathRoute
+  crl : PathRoute
+  crl_number : List ℕ → PathRoute
+  status : List ℕ → PathRoute
+  counts : PathRoute
+  requests : PathRoute
+  nowhere : PathRoute
 
 -- how a path goes on after its prefix: not at all, with one segment, or with anything, a slash too
 pub data Ending : Type 0 where
@@ -25,9 +26,9 @@ pub data Ending : Type 0 where
 pub record RouteLine : Type 0 where
   pub prefix : List ℕ
   pub ending : Ending
-  pub to : List ℕ → Route
+  pub to : List ℕ → PathRoute
 
-abbrev pub route_line : List ℕ → Ending → (List ℕ → Route) → RouteLine
+abbrev pub route_line : List ℕ → Ending → (List ℕ → PathRoute) → RouteLine
 route_line prefix ending to = record { prefix = prefix; ending = ending; to = to }
 
 -- the routes of the desk
@@ -58,30 +59,34 @@ ended rest [] = None
 ended rest (b ∷ left) = Some (b ∷ left)
 
 -- the route of a line, where the path is the line's
-abbrev pub route_taken : RouteLine → List ℕ → Option Route
+abbrev pub route_taken : RouteLine → List ℕ → Option PathRoute
 route_taken l path = option_map l.to (option_and_then (ended l.ending) (path_after l.prefix path))
 
 -- the route that was found, or the next
-abbrev pub or_next : Option Route → Route → Route
+abbrev pub or_next : Option PathRoute → PathRoute → PathRoute
 or_next (Some found) next = found
 or_next None next = next
 
 -- the route of the first line that takes the path; nowhere where none does
-abbrev pub route_in : List RouteLine → List ℕ → Route
+abbrev pub route_in : List RouteLine → List ℕ → PathRoute
 route_in [] path = nowhere
 route_in (l ∷ ls) path = or_next (route_taken l path) (route_in ls path)
 
 -- the route of a path
-unfoldable pub route : List ℕ → Route
+unfoldable pub route : List ℕ → PathRoute
 route path = route_in table path
 
--- the same of a route that the program found
-abbrev pub seen : RouteOf → Route
-seen Ocsp = ocsp
-seen (OcspRest text) = ocsp_rest text.now
-seen Crl = crl
-seen (CrlNumber text) = crl_number text.now
-seen (Status text) = status text.now
-seen Counts = counts
-seen Requests = requests
-seen Nowhere = nowhere
+-- a route that the router kept, with what it leaves open of the path
+abbrev pub route_with : Route → List ℕ → PathRoute
+route_with Ocsp text = ocsp
+route_with OcspRest text = ocsp_rest text
+route_with Crl text = crl
+route_with CrlNumber text = crl_number text
+route_with Status text = status text
+route_with Counts text = counts
+route_with Requests text = requests
+route_with _ text = nowhere
+
+-- the same of what the program found
+abbrev pub route_seen : Found → PathRoute
+route_seen found = route_with found.route found.rest.now

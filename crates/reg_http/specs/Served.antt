@@ -7,10 +7,10 @@ use Rattle.reg_core.specs.declared.command.Reply.{Reply}
 use Rattle.reg_core.specs.declared.memory.Memory.{Memory as NoMemory}
 use Rattle.reg_core.specs.declared.refusal.Fault.{Fault}
 use Rattle.reg_core.specs.declared.refusal.Fault.TheVariants.{Refused, Memory, Store, Signer, Read, Write}
-use Rattle.reg_wire.specs.Put.{AppendsFront}
-use Rattle.reg_heads.specs.Frame.{Part, refused, asked, Framed, IsUnfinished}
-use Rattle.reg_heads.specs.Head.{longest_head, longest_body}
-use Rattle.reg_heads.specs.Response.{Response, IsText, memory_text}
+use Rattle.reg_io.specs.Put.{AppendsFront}
+use Rattle.reg_http_head.specs.Frame.{Part, refused, asked, Framed, IsUnfinished}
+use Rattle.reg_http_head.specs.Head.{longest_head, longest_body}
+use Rattle.reg_http_head.specs.Response.{Response, IsText, memory_text}
 use Rattle.reg_http.specs.RespondsTo.{RespondsTo}
 use Rattle.reg_http.specs.Asked.{asked as asks_for}
 use Rattle.reg_http.specs.Bodies.{http_refusal}
@@ -31,6 +31,16 @@ module _ {S : Type 0} (runs : S → ℕ → Command → Result Reply Fault → S
   Responds now s (asked method target body) text t =
       ((response : Response) × RespondsTo runs asks ocsps crls now s (asks_for method target body) response t × IsText response now text)
       ⊎ ((t ≡ s) × (text ≡ memory_text))
+
+  -- the response to a request that was read was written whole; cut short where the writer failed; or there was no memory for it
+  abbrev pub ReplyEnds : ℕ → S → S → Part → Option (List ℕ) → Option (List ℕ) → Result (Unit {0}) Fault → Type 0
+  ReplyEnds now s t part out written (Ok done) = (text : List ℕ) × Responds now s part text t × Appends out written text
+  ReplyEnds now s t part out written (Err Write) = (text : List ℕ) × Responds now s part text t × AppendsFront out written text
+  ReplyEnds now s t part out written (Err Memory) = Unit {0}
+  ReplyEnds now s t part out written (Err Read) = ⊥
+  ReplyEnds now s t part out written (Err Store) = ⊥
+  ReplyEnds now s t part out written (Err Signer) = ⊥
+  ReplyEnds now s t part out written (Err (Refused why)) = ⊥
 
   -- one request was read, and its response was written whole
   pub record Served (now : ℕ) (s t : S) (input left out written : Option (List ℕ)) : Type 0 where

@@ -1,11 +1,11 @@
 //! The bodies that are JSON, each written into room that was made for it, and the answers that carry them.
 
 ghost use Rattle.std.specs.Prelude.{◌≡◌, ◌+◌, ◌≤◌, ◌++◌, List, [], length, codes, decimal, Some, None, vec_capacity};
-ghost use Rattle.reg_heads.specs.Response.{shown};
-ghost use Rattle.reg_http.specs.Bodies.{counts_reply, counts_text, der, due_reply, due_text, error_text, fault_response, fault_status, json, only as only_response, http_refusal as refusal_of, refusal_status, status_reply, status_text, told_response, told_or};
+ghost use Rattle.reg_http_head.specs.Response.{shown};
+ghost use Rattle.reg_http.specs.Bodies.{counts_text, der, due_text, error_text, fault_response, fault_status, json, only as only_response, http_refusal as refusal_of, status_text};
 
-use reg_core::{Counts, Decimal, Fault, Moment, Outcome, Refusal, Reply, Status};
-use reg_heads::{Answer, put, status};
+use reg_core::{Counts, Decimal, Fault, Moment, Refusal, Status};
+use reg_http_head::{Answer, put, status};
 
 /// Room for the longest body that is JSON.
 pub(crate) const JSON_ROOM: usize = 256;
@@ -28,7 +28,7 @@ fn put_error(room: &mut Vec<u8>, line: &[u8])
 
 /// The status of a serial number, with the moment and the reason of its revocation.
 #[tactic(auto, unfolding(crate::specs::Bodies::status_text))]
-fn put_status(room: &mut Vec<u8>, status: Status)
+pub(crate) fn put_status(room: &mut Vec<u8>, status: Status)
     requires empty { room.old.items ≡ [] }
     requires room { 256 ≤ vec_capacity room.old }
     ensures { room.new.items ≡ status_text status }
@@ -49,7 +49,7 @@ fn put_status(room: &mut Vec<u8>, status: Status)
 
 /// How many certificates have each status.
 #[tactic(auto, unfolding(crate::specs::Bodies::counts_text))]
-fn put_counts(room: &mut Vec<u8>, counts: Counts)
+pub(crate) fn put_counts(room: &mut Vec<u8>, counts: Counts)
     requires empty { room.old.items ≡ [] }
     requires room { 256 ≤ vec_capacity room.old }
     ensures { room.new.items ≡ counts_text counts }
@@ -65,7 +65,7 @@ fn put_counts(room: &mut Vec<u8>, counts: Counts)
 
 /// The id of a request, and the moment up to which it is to be decided.
 #[tactic(auto, unfolding(crate::specs::Bodies::due_text))]
-fn put_due(room: &mut Vec<u8>, id: u64, due: Moment)
+pub(crate) fn put_due(room: &mut Vec<u8>, id: u64, due: Moment)
     requires empty { room.old.items ≡ [] }
     requires room { 256 ≤ vec_capacity room.old }
     ensures { room.new.items ≡ due_text id due }
@@ -79,7 +79,7 @@ fn put_due(room: &mut Vec<u8>, id: u64, due: Moment)
 
 /// An answer with a JSON body.
 #[tactic(auto, unfolding(crate::specs::Bodies::json))]
-fn json(code: u16, body: Vec<u8>) -> Answer
+pub fn json(code: u16, body: Vec<u8>) -> Answer
     ensures { shown result ≡ json code body.items }
 {
     Answer {
@@ -88,13 +88,6 @@ fn json(code: u16, body: Vec<u8>) -> Answer
         allow: None,
         body,
     }
-}
-
-/// An answer with a page of a list in its body.
-pub(crate) fn listed(body: Vec<u8>) -> Answer
-    ensures { shown result ≡ json 200 body.items }
-{
-    json(status::OK, body)
 }
 
 /// An answer with an OCSP response in its body (RFC 6960 A.2).
@@ -186,71 +179,11 @@ fn status_of(fault: Fault) -> u16
 
 /// The answer that tells a refusal or a fault by its line.
 #[tactic(auto, unfolding(crate::specs::Bodies::fault_response))]
-pub(crate) fn told_fault(mut room: Vec<u8>, fault: Fault) -> Answer
+pub(crate) fn fault_answer(mut room: Vec<u8>, fault: Fault) -> Answer
     requires empty { room.items ≡ [] }
     requires room { 256 ≤ vec_capacity room }
     ensures { shown result ≡ fault_response fault }
 {
     put_error(&mut room, fault.line().as_bytes());
     json(status_of(fault), room)
-}
-
-/// The answer to a query of status. A reply of another kind, which no office gives, is told as a fault of the store.
-pub(crate) fn told_status(mut room: Vec<u8>, outcome: Outcome) -> Answer
-    requires empty { room.items ≡ [] }
-    requires room { 256 ≤ vec_capacity room }
-    ensures { shown result ≡ told_response status_reply outcome }
-{
-    match outcome {
-        Ok(Reply::Status(status)) => {
-            put_status(&mut room, status);
-            json(status::OK, room)
-        }
-        Ok(_) => told_fault(room, Fault::Store),
-        Err(fault) => told_fault(room, fault),
-    }
-}
-
-/// The answer to a query of counts. A reply of another kind, which no office gives, is told as a fault of the store.
-pub(crate) fn told_counts(mut room: Vec<u8>, outcome: Outcome) -> Answer
-    requires empty { room.items ≡ [] }
-    requires room { 256 ≤ vec_capacity room }
-    ensures { shown result ≡ told_response counts_reply outcome }
-{
-    match outcome {
-        Ok(Reply::Counts(counts)) => {
-            put_counts(&mut room, counts);
-            json(status::OK, room)
-        }
-        Ok(_) => told_fault(room, Fault::Store),
-        Err(fault) => told_fault(room, fault),
-    }
-}
-
-/// The answer to a request for revocation that was entered. A reply of another kind, which no office gives, is told as a
-/// fault of the store.
-fn told_entered(mut room: Vec<u8>, reply: Reply) -> Answer
-    requires empty { room.items ≡ [] }
-    requires room { 256 ≤ vec_capacity room }
-    ensures { shown result ≡ told_or (due_reply reply) }
-{
-    match reply {
-        Reply::Request { id, due } => {
-            put_due(&mut room, id, due);
-            json(status::OK, room)
-        }
-        _ => told_fault(room, Fault::Store),
-    }
-}
-
-/// The answer to a request for revocation.
-pub(crate) fn told_request(room: Vec<u8>, outcome: Outcome) -> Answer
-    requires empty { room.items ≡ [] }
-    requires room { 256 ≤ vec_capacity room }
-    ensures { shown result ≡ told_response due_reply outcome }
-{
-    match outcome {
-        Ok(reply) => told_entered(room, reply),
-        Err(fault) => told_fault(room, fault),
-    }
 }

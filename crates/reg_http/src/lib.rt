@@ -1,15 +1,22 @@
 //! The HTTP face of the desk: one request in, one response out.
 #![tactic(auto)]
 
+mod answered;
 mod bodies;
+mod exchange;
 mod lists;
 mod parts;
 mod paths;
 mod respond;
+mod route;
 pub mod routes;
 mod serve;
 
-pub use lists::{ListAsked, NoPage, asks_list, read_list, refuse_list, send_list, tell_page};
-pub use reg_heads::Answer;
-pub use respond::Beginning;
-pub use serve::{begin_one, finish_one, serve_one};
+pub use answered::Answered;
+pub use bodies::json;
+pub use exchange::{Exchange, Left, begun_exchange, text_room};
+pub use lists::answer_list;
+pub use reg_http_head::Answer;
+pub use route::Route;
+pub use routes::{begin, only_get, refuse};
+pub use serve::serve_one;

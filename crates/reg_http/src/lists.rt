@@ -1,26 +1,25 @@
 //! Requests for lists, `GET /list/WORD?after=KEY&limit=N&before=MOMENT`, which an open desk alone answers: the routes of
 //! `serve` have none of them.
 
-ghost use Rattle.std.specs.Prelude.{◌≡◌, ◌⊎◌, ◌==◌, ◌≤◌, ℕ, ◌<◌, List, Some, length, IfErr, IfOk, IfSome, OnOk};
-ghost use Rattle.std.specs.Io.KnownBytes.{Appends, Consumes};
-ghost use Rattle.std.specs.List.{position, position_or_len};
-ghost use Rattle.reg_heads.specs.Frame.{Framed, Part, part_of};
-ghost use Rattle.reg_heads.specs.Response.{IsText, shown};
-ghost use Rattle.reg_http.specs.Lists.{asks_list, given_told, list_asked, or_unread, page_in, page_told, no_page_response};
+ghost use Rattle.std.specs.Prelude.{◌≡◌, IfOk, OnErr};
+ghost use Rattle.reg_office_api.specs.Leads.{Looks};
+ghost use Rattle.reg_http.specs.Lists.{RespondsList, given_told, list_asked, no_page_told, or_unread, page_in, page_told};
+ghost use Rattle.reg_http.specs.Told.{told};
 
-use crate::bodies::{JSON_ROOM, listed, only_get, refusal, told_fault};
+use crate::answered::{Answered, told_fault};
+use crate::bodies::{JSON_ROOM, json};
+use crate::routes::only_get;
+use http::Method;
 use percent_encoding::percent_decode;
 use reg_core::{Fault, Memory, Moment, Refusal};
-use reg_heads::{Answer, HEAD_ROOM, Request, read_request, write_answer};
-use reg_lists::{Cursor, Page, page_text, read_page};
+use reg_core_lists::{Cursor, Page, page_text, read_page};
+use reg_http_head::status;
+use reg_office_api::Office;
 use std::alloc::Global;
-use std::io::Write;
 
 /// Why a request for a list asks no page.
 #[derive(Clone, Copy)]
-pub enum NoPage {
-    /// It is refused by this status of HTTP.
-    Refused(u16),
+pub(crate) enum NoPage {
     /// The route has GET alone.
     OnlyGet,
     /// The word of the list, or what is told beside it, can't be read.
@@ -29,78 +28,49 @@ pub enum NoPage {
 
 /// What a request for a list asks.
 #[derive(Clone, Copy)]
-pub enum ListAsked {
+pub(crate) enum ListAsked {
     /// No page.
     Nothing(NoPage),
     /// A page of a list: from where on, and how many rows it looks at.
     Page { from: Cursor, most: u64 },
 }
 
-/// Whether what came of a peer asks for a list: its target begins so.
-pub fn asks_list(request: &[u8]) -> bool
-    ensures { result ≡ asks_list request.now }
-{
-    let target = first_space(request);
-    request[target..].starts_with(b" /list/")
-}
-
-/// Where the first space of a request is, behind its method (RFC 9112 3), or its length.
-fn first_space(request: &[u8]) -> usize
-    ensures place { result ≡ position_or_len (λ byte. byte == 32) request.now }
-    ensures within { result ≤ length request.now }
-{
-    match space_in(request) {
-        Some(place) => place,
-        None => request.len(),
-    }
-}
-
-/// Where the first space of a text is, if it has one.
-fn space_in(text: &[u8]) -> Option<usize>
-    ensures place { result ≡ position (λ byte. byte == 32) text.now }
-    ensures within { IfSome result (λ place. place < length text.now) }
-{
-    text.iter().position(|byte| *byte == b' ')
-}
-
-/// Reads what a request for a list asks.
+/// Answers a request for a list, at a moment. The records stay.
 ///
 /// # Errors
 ///
-/// [`Fault::Read`] where it is no whole request, [`Fault::Memory`] where memory is refused.
-pub fn read_list(alloc: Global, request: &[u8]) -> Result<ListAsked, Fault>
-    ensures ok { IfOk result (λ asked. (took left : List ℕ) × (part : Part) × Consumes (Some request.now) (Some left) took
-        × Framed took part × (asked ≡ list_asked part)) }
-    ensures err { IfErr result (λ fault. (fault ≡ Fault.Read) ⊎ (fault ≡ Fault.Memory)) }
+/// [`Memory`] where memory is refused.
+pub fn answer_list<O: Office>(
+    alloc: Global,
+    method: &Method,
+    target: &str,
+    now: Moment,
+    office: &mut O,
+) -> Result<Answered, Memory>
+    ensures { Looks O.is_clean O.stands
+        (λ records. IfOk result
+        (λ answered. RespondsList records now (list_asked method.now target.now) (told answered)))
+        office.old office.new }
 {
-    let mut reader = request;
-    match read_request(alloc, &mut reader) {
-        Ok(request) => asked_by(alloc, &request),
-        Err(fault) => Err(fault),
+    match read_list(alloc, method, target) {
+        Ok(ListAsked::Page { from, most }) => {
+            let at = from;
+            let given = office.page(alloc, now, at, most);
+            tell_page(alloc, from, &given)
+        }
+        Ok(ListAsked::Nothing(why)) => refuse_list(alloc, why),
+        Err(memory) => Err(memory),
     }
 }
 
-/// What a request asks that was read.
-fn asked_by(alloc: Global, request: &Request) -> Result<ListAsked, Fault>
-    ensures ok { IfOk result (λ asked. asked ≡ list_asked (part_of request.now)) }
-    ensures err { IfErr result (λ fault. fault ≡ Fault.Memory) }
+/// Reads what a request for a list asks.
+fn read_list(alloc: Global, method: &Method, target: &str) -> Result<ListAsked, Memory>
+    ensures { IfOk result (λ asked. asked ≡ list_asked method.now target.now) }
 {
-    match request {
-        Request::Refused(status) => Ok(ListAsked::Nothing(NoPage::Refused(*status))),
-        Request::Asked {
-            method,
-            target,
-            body: _,
-        } => {
-            if method.as_str() != "GET" {
-                return Ok(ListAsked::Nothing(NoPage::OnlyGet));
-            }
-            match page_at(alloc, target.as_str()) {
-                Ok(asked) => Ok(asked),
-                Err(_) => Err(Fault::Memory),
-            }
-        }
+    if method.as_str() != "GET" {
+        return Ok(ListAsked::Nothing(NoPage::OnlyGet));
     }
+    page_at(alloc, target)
 }
 
 /// The page that a target asks for.
@@ -144,65 +114,30 @@ fn page_of(asked: Option<(Cursor, u64)>) -> ListAsked
 }
 
 /// The answer to a request for a list that asks no page.
-///
-/// # Errors
-///
-/// [`Fault::Memory`] where memory is refused.
-pub fn refuse_list(alloc: Global, why: NoPage) -> Result<Answer, Fault>
-    ensures ok { IfOk result (λ answer. shown answer ≡ no_page_response why) }
-    ensures err { IfErr result (λ fault. fault ≡ Fault.Memory) }
+fn refuse_list(alloc: Global, why: NoPage) -> Result<Answered, Memory>
+    ensures { IfOk result (λ answered. told answered ≡ no_page_told why) }
 {
-    let Ok(room) = Vec::with_capacity(alloc, JSON_ROOM) else {
-        return Err(Fault::Memory);
-    };
     match why {
-        NoPage::Refused(status) => Ok(refusal(room, status)),
-        NoPage::OnlyGet => Ok(only_get(room)),
-        NoPage::Unread => Ok(told_fault(room, Fault::Refused(Refusal::Syntax))),
+        NoPage::OnlyGet => only_get(alloc),
+        NoPage::Unread => match Vec::with_capacity(alloc, JSON_ROOM) {
+            Ok(room) => Ok(told_fault(room, Fault::Refused(Refusal::Syntax))),
+            Err(_) => Err(Memory),
+        },
     }
 }
 
 /// The answer with a page of a list, or why there is none.
-///
-/// # Errors
-///
-/// [`Fault::Memory`] where memory is refused.
-pub fn tell_page(alloc: Global, from: Cursor, given: &Result<Page, Fault>) -> Result<Answer, Fault>
-    ensures ok { IfOk result (λ answer. shown answer ≡ given_told from given.now) }
-    ensures err { IfErr result (λ fault. fault ≡ Fault.Memory) }
+fn tell_page(alloc: Global, from: Cursor, given: &Result<Page, Fault>) -> Result<Answered, Memory>
+    ensures { IfOk result (λ answered. told answered ≡ given_told from given.now) }
 {
     match given {
         Ok(page) => match page_text(alloc, from, page) {
-            Ok(text) => Ok(listed(text)),
-            Err(_) => Err(Fault::Memory),
+            Ok(text) => Ok(Answered::plain(json(status::OK, text))),
+            Err(_) => Err(Memory),
         },
         Err(fault) => match Vec::with_capacity(alloc, JSON_ROOM) {
             Ok(room) => Ok(told_fault(room, *fault)),
-            Err(_) => Err(Fault::Memory),
+            Err(_) => Err(Memory),
         },
-    }
-}
-
-/// Writes an answer.
-///
-/// # Errors
-///
-/// [`Fault::Memory`] where memory for its head is refused, and nothing was written; [`Fault::Write`] where the writer fails.
-pub fn send_list<W: Write>(
-    alloc: Global,
-    writer: &mut W,
-    answer: &Answer,
-    now: Moment,
-) -> Result<(), Fault>
-    ensures ok { OnOk result ((text : List ℕ) × IsText (shown answer.now) now text
-        × Appends (W.contents writer.old) (W.contents writer.new) text) }
-    ensures err { IfErr result (λ fault. (fault ≡ Fault.Memory) ⊎ (fault ≡ Fault.Write)) }
-{
-    let Ok(room) = Vec::with_capacity(alloc, HEAD_ROOM) else {
-        return Err(Fault::Memory);
-    };
-    match write_answer(writer, room, answer, now) {
-        Ok(()) => Ok(()),
-        Err(_) => Err(Fault::Write),
     }
 }

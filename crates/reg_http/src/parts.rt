@@ -1,29 +1,41 @@
 //! What a request asks: read from its method, its target and its body, before any call of the office.
 
 ghost use Rattle.std.specs.Prelude.{◌≡◌, ℕ, List, IfOk, Some, codes, option_map, option_and_then};
-ghost use Rattle.reg_http.specs.Routes.{seen};
+ghost use Rattle.reg_http.specs.Routes.{route_seen};
 ghost use Rattle.reg_core.specs.Number.{number_of};
 ghost use Rattle.reg_core.specs.Serial.{serial_of};
-ghost use Rattle.reg_lists.specs.Asked.{label_of as label_in};
+ghost use Rattle.reg_core_lists.specs.Asked.{label_of as label_in};
 ghost use Rattle.serde_json.specs.Errors.{IsMemory};
 ghost use Rattle.serde_json.specs.View.{view};
-ghost use Rattle.reg_http.specs.Asked.{crl_of, status_of, asked as asked_by, asked_at, decoded as decoded_in, is_rooted as is_rooted_text, json_of, or_malformed, or_unread, path_of as path_in, request_of, string_at as text_at, wanted as wanted_by, wanted_in as wanted_of};
-ghost use Rattle.reg_http.specs.Parts.{part_asks};
+ghost use Rattle.reg_http.specs.Asked.{crl_of, status_of, asked as asked_by, asked_at, asks_revocation, decoded as decoded_in, is_rooted as is_rooted_text, json_of, or_malformed, or_unread, string_at as text_at, wanted as wanted_by, wanted_in as wanted_of};
+ghost use Rattle.reg_http.specs.Parts.{call_asks, part_asks};
 
-use crate::paths::{Route, find_route};
+use crate::paths::{Found, find_route};
+use crate::route::{Route, path_of};
 use base64::DecodeAllocError;
 use base64::engine::general_purpose::STANDARD;
 use http::Method;
 use percent_encoding::percent_decode;
 use reg_core::{Label, Memory, Serial, read_number};
-use reg_heads::status;
+use reg_http_head::status;
 use serde_json::{Category, Error, Value};
 use std::alloc::Global;
 use std::str;
 
-/// What is asked of the office, or why nothing is.
+/// What a request asks.
 #[derive(Drop)]
 pub(crate) enum Part {
+    /// The OCSP response to the body.
+    Posted,
+    /// The OCSP response to what was decoded from the path.
+    Decoded(Vec<u8>),
+    /// Anything else.
+    Other(Call),
+}
+
+/// What is asked of the office beside OCSP responses, or why nothing is.
+#[derive(Clone, Copy)]
+pub(crate) enum Call {
     /// Refused by this status of HTTP.
     Refused(u16),
     /// The route has GET alone.
@@ -34,10 +46,6 @@ pub(crate) enum Part {
     Unread,
     /// The text of an OCSP request in the path can't be decoded.
     Malformed,
-    /// The OCSP request is the body.
-    Posted,
-    /// The OCSP request was in the path.
-    Ocsp(Vec<u8>),
     /// The CRL of this number, or the latest.
     Crl(Option<u64>),
     /// The status of this serial number.
@@ -55,16 +63,6 @@ fn is_rooted(target: &str) -> bool
     target.starts_with('/')
 }
 
-/// The path of a target: up to the first `?` (RFC 3986 3.3).
-fn path_of(target: &str) -> &str
-    ensures { result.now ≡ path_in target.now }
-{
-    match target.split_once('?') {
-        Some((path, _)) => path,
-        None => target,
-    }
-}
-
 /// The OCSP request that a path carries: percent-decoded, then base64 (RFC 6960 A.1).
 #[tactic(auto, unfolding(crate::specs::Asked::decoded))]
 fn decoded(alloc: Global, text: &[u8]) -> Result<Part, Memory>
@@ -75,29 +73,29 @@ fn decoded(alloc: Global, text: &[u8]) -> Result<Part, Memory>
         return Err(Memory);
     }
     match STANDARD.decode(alloc, plain.as_slice()) {
-        Ok(request) => Ok(Part::Ocsp(request)),
-        Err(DecodeAllocError::DecodeError(_)) => Ok(Part::Malformed),
+        Ok(request) => Ok(Part::Decoded(request)),
+        Err(DecodeAllocError::DecodeError(_)) => Ok(Part::Other(Call::Malformed)),
         Err(DecodeAllocError::OutOfMemory) => Err(Memory),
     }
 }
 
 /// The CRL of this number.
-fn crl_part(text: &[u8]) -> Part
-    ensures { (body : List ℕ) → part_asks body result ≡ or_unread (λ n. crl_of (Some n)) (number_of text.now) }
+fn crl_call(text: &[u8]) -> Call
+    ensures { call_asks result ≡ or_unread (λ n. crl_of (Some n)) (number_of text.now) }
 {
     match read_number(text) {
-        Some(number) => Part::Crl(Some(number)),
-        None => Part::Unread,
+        Some(number) => Call::Crl(Some(number)),
+        None => Call::Unread,
     }
 }
 
 /// The status of this serial number.
-fn status_part(text: &[u8]) -> Part
-    ensures { (body : List ℕ) → part_asks body result ≡ or_unread status_of (serial_of text.now) }
+fn status_call(text: &[u8]) -> Call
+    ensures { call_asks result ≡ or_unread status_of (serial_of text.now) }
 {
     match Serial::read(text) {
-        Some(serial) => Part::Status(serial),
-        None => Part::Unread,
+        Some(serial) => Call::Status(serial),
+        None => Call::Unread,
     }
 }
 
@@ -131,59 +129,61 @@ fn word_in(value: &Value) -> Option<Label>
 
 /// The request for revocation in a JSON object.
 #[tactic(auto, unfolding(crate::specs::Asked::wanted_in))]
-fn request_in(value: &Value) -> Part
-    ensures { (body : List ℕ) → part_asks body result ≡ or_unread (λ w. request_of w.0 w.1) (wanted_of (view value.now)) }
+fn request_in(value: &Value) -> Call
+    ensures { call_asks result ≡ asks_revocation (wanted_of (view value.now)) }
 {
     match serial_in(value) {
         Some(serial) => match word_in(value) {
-            Some(word) => Part::Request { serial, word },
-            None => Part::Unread,
+            Some(word) => Call::Request { serial, word },
+            None => Call::Unread,
         },
-        None => Part::Unread,
+        None => Call::Unread,
     }
 }
 
 /// A text that is no JSON can't be read; want of memory is told as such.
 fn unread(error: &Error) -> Result<Part, Memory>
-    ensures { IfOk result (λ part. ¬ (IsMemory error.now) × (part ≡ Part.Unread)) }
+    ensures { IfOk result (λ part. ¬ (IsMemory error.now) × (part ≡ Part.Other Call.Unread)) }
 {
     match error.classify() {
         Category::Memory => Err(Memory),
-        _ => Ok(Part::Unread),
+        _ => Ok(Part::Other(Call::Unread)),
     }
 }
 
 /// The request for revocation in a body.
 #[tactic(auto, unfolding(crate::specs::Asked::json_of))]
 fn request_part(alloc: Global, body: &[u8]) -> Result<Part, Memory>
-    ensures { IfOk result (λ part. (posted : List ℕ) → part_asks posted part ≡ or_unread (λ w. request_of w.0 w.1) (wanted_by body.now)) }
+    ensures { IfOk result (λ part. (posted : List ℕ) → part_asks posted part ≡ asks_revocation (wanted_by body.now)) }
 {
     let Ok(text) = str::from_utf8(body) else {
-        return Ok(Part::Unread);
+        return Ok(Part::Other(Call::Unread));
     };
     match Value::from_str(alloc, text) {
-        Ok(value) => Ok(request_in(&value)),
+        Ok(value) => Ok(Part::Other(request_in(&value))),
         Err(error) => unread(&error),
     }
 }
 
 /// What is asked at a route.
-fn part_at(alloc: Global, method: &Method, route: Route<'_>, body: &[u8]) -> Result<Part, Memory>
-    ensures { IfOk result (λ part. part_asks body.now part ≡ asked_at method.now (seen route.entry) body.now) }
+fn part_at(alloc: Global, method: &Method, found: Found<'_>, body: &[u8]) -> Result<Part, Memory>
+    ensures { IfOk result (λ part. part_asks body.now part ≡ asked_at method.now (route_seen found.entry) body.now) }
 {
     let is_get = method.as_str() == "GET";
     let is_post = method.as_str() == "POST";
-    match route {
-        Route::Nowhere => Ok(Part::Refused(status::NOT_FOUND)),
+    match found.route {
+        Route::List | Route::Health | Route::Metrics | Route::Other => {
+            Ok(Part::Other(Call::Refused(status::NOT_FOUND)))
+        }
         Route::Ocsp if is_post => Ok(Part::Posted),
         Route::Requests if is_post => request_part(alloc, body),
-        Route::Ocsp | Route::Requests => Ok(Part::OnlyPost),
-        _ if !is_get => Ok(Part::OnlyGet),
-        Route::OcspRest(text) => decoded(alloc, text),
-        Route::Crl => Ok(Part::Crl(None)),
-        Route::CrlNumber(text) => Ok(crl_part(text)),
-        Route::Status(text) => Ok(status_part(text)),
-        Route::Counts => Ok(Part::Counts),
+        Route::Ocsp | Route::Requests => Ok(Part::Other(Call::OnlyPost)),
+        _ if !is_get => Ok(Part::Other(Call::OnlyGet)),
+        Route::OcspRest => decoded(alloc, found.rest),
+        Route::Crl => Ok(Part::Other(Call::Crl(None))),
+        Route::CrlNumber => Ok(Part::Other(crl_call(found.rest))),
+        Route::Status => Ok(Part::Other(status_call(found.rest))),
+        Route::Counts => Ok(Part::Other(Call::Counts)),
     }
 }
 
@@ -201,10 +201,10 @@ pub(crate) fn read_part(
     ensures { IfOk result (λ part. part_asks body.now part ≡ asked_by method.now target.now body.now) }
 {
     if !is_rooted(target) {
-        return Ok(Part::Refused(status::BAD_REQUEST));
+        return Ok(Part::Other(Call::Refused(status::BAD_REQUEST)));
     }
     match find_route(alloc, path_of(target)) {
-        Ok(route) => part_at(alloc, method, route, body),
+        Ok(found) => part_at(alloc, method, found, body),
         Err(fault) => Err(fault),
     }
 }

@@ -3,63 +3,38 @@
 ghost use Rattle.std.specs.Prelude.{◌≡◌, ◌≤◌, ◌<◌, [], All, length, codes, IfOk, IsTrue, OnOk};
 ghost use Rattle.matchit.specs.Router.{map_key, rename};
 ghost use Rattle.matchit.specs.Seek.{first};
-ghost use Rattle.reg_http.specs.RouterRows.{rows, Finds, leads, passed};
-ghost use Rattle.reg_http.specs.Routes.{route, seen};
+ghost use Rattle.reg_http.specs.RouterRows.{rows, FindsRoute, leads, passed};
+ghost use Rattle.reg_http.specs.Routes.{route, route_seen};
 
+use crate::route::Route;
 use matchit::{InsertError, Router};
 use reg_core::Memory;
 use std::alloc::Global;
 
-/// A route, with the part of the path that it names.
+/// What the router finds: a route, with what of the path it leaves open.
 #[derive(Clone, Copy)]
-pub(crate) enum Route<'p> {
-    /// `/ocsp`
-    Ocsp,
-    /// `/ocsp/{*rest}`: what follows, slashes too.
-    OcspRest(&'p [u8]),
-    /// `/crl`
-    Crl,
-    /// `/crl/{n}`
-    CrlNumber(&'p [u8]),
-    /// `/status/{serial}`
-    Status(&'p [u8]),
-    /// `/counts`
-    Counts,
-    /// `/requests`
-    Requests,
-    /// No route has the path.
-    Nowhere,
-}
-
-/// What the router keeps of each route.
-#[derive(Clone, Copy)]
-enum Which {
-    Ocsp,
-    OcspRest,
-    Crl,
-    CrlNumber,
-    Status,
-    Counts,
-    Requests,
+pub(crate) struct Found<'p> {
+    pub(crate) route: Route,
+    pub(crate) rest: &'p [u8],
 }
 
 /// Puts all routes into a router that has none.
-fn put_routes(router: &mut Router<Which>) -> Result<(), InsertError>
+fn put_routes(router: &mut Router<Route>) -> Result<(), InsertError>
     requires { router.old ≡ [] }
     ensures { OnOk result (rename (λ route. route.value) router.new ≡ rows) }
 {
-    router.insert("/counts", Which::Counts)?;
-    router.insert("/crl", Which::Crl)?;
-    router.insert("/crl/{n}", Which::CrlNumber)?;
-    router.insert("/ocsp", Which::Ocsp)?;
-    router.insert("/ocsp/{*rest}", Which::OcspRest)?;
-    router.insert("/requests", Which::Requests)?;
-    router.insert("/status/{serial}", Which::Status)?;
+    router.insert("/counts", Route::Counts)?;
+    router.insert("/crl", Route::Crl)?;
+    router.insert("/crl/{n}", Route::CrlNumber)?;
+    router.insert("/ocsp", Route::Ocsp)?;
+    router.insert("/ocsp/{*rest}", Route::OcspRest)?;
+    router.insert("/requests", Route::Requests)?;
+    router.insert("/status/{serial}", Route::Status)?;
     Ok(())
 }
 
 /// The router of all routes.
-fn router(alloc: Global) -> Result<Router<Which>, Memory>
+fn router(alloc: Global) -> Result<Router<Route>, Memory>
     ensures { IfOk result (λ router. rename (λ route. route.value) router ≡ rows) }
 {
     let mut router = Router::new(alloc);
@@ -70,7 +45,7 @@ fn router(alloc: Global) -> Result<Router<Which>, Memory>
 }
 
 /// What the router keeps of the route of a path.
-fn which_at(router: &Router<Which>, path: &str) -> Option<Which>
+fn which_at(router: &Router<Route>, path: &str) -> Option<Route>
     ensures { map_key (λ route. route.value) (first router.now path.now) ≡ result }
 {
     match router.at(path) {
@@ -87,13 +62,13 @@ fn is_ocsp(path: &str) -> bool
 }
 
 /// What the router of all routes keeps of the route of a path.
-fn find_which(alloc: Global, path: &str) -> Result<Option<Which>, Memory>
+fn find_which(alloc: Global, path: &str) -> Result<Option<Route>, Memory>
     requires { All (λ byte. byte < 256) path.now }
-    ensures { IfOk result (Finds path.now) }
+    ensures { IfOk result (FindsRoute path.now) }
 {
     // Nearly all ask for this one, and no router is made for it.
     if is_ocsp(path) {
-        return Ok(Some(Which::Ocsp));
+        return Ok(Some(Route::Ocsp));
     }
     match router(alloc) {
         Ok(router) => Ok(which_at(&router, path)),
@@ -101,34 +76,44 @@ fn find_which(alloc: Global, path: &str) -> Result<Option<Which>, Memory>
     }
 }
 
-/// The route, with what is left of the path.
-fn route_of(which: Which, path: &[u8]) -> Route<'_>
-    requires { passed which ≤ length path.now }
-    ensures { seen result ≡ leads which path.now }
+/// How many bytes of the path come before what a route leaves open.
+fn passed(route: Route) -> usize
+    ensures { result ≡ passed route }
 {
-    match which {
-        Which::Ocsp => Route::Ocsp,
-        Which::OcspRest => Route::OcspRest(&path[b"/ocsp/".len()..]),
-        Which::Crl => Route::Crl,
-        Which::CrlNumber => Route::CrlNumber(&path[b"/crl/".len()..]),
-        Which::Status => Route::Status(&path[b"/status/".len()..]),
-        Which::Counts => Route::Counts,
-        Which::Requests => Route::Requests,
+    match route {
+        Route::OcspRest => b"/ocsp/".len(),
+        Route::CrlNumber => b"/crl/".len(),
+        Route::Status => b"/status/".len(),
+        _ => 0,
     }
 }
 
-/// The route of a path (RFC 3986 3.3).
+/// A route, with what it leaves open of the path.
+fn found_at(route: Route, path: &[u8]) -> Found<'_>
+    requires { passed route ≤ length path.now }
+    ensures { route_seen result ≡ leads route path.now }
+{
+    Found {
+        route,
+        rest: &path[passed(route)..],
+    }
+}
+
+/// The route of a path by the router (RFC 3986 3.3).
 ///
 /// # Errors
 ///
 /// [`Memory`] where memory for the router is refused.
-pub(crate) fn find_route(alloc: Global, path: &str) -> Result<Route<'_>, Memory>
-    ensures { IfOk result (λ found. seen found ≡ route path.entry.now) }
+pub(crate) fn find_route(alloc: Global, path: &str) -> Result<Found<'_>, Memory>
+    ensures { IfOk result (λ found. route_seen found ≡ route path.entry.now) }
 {
     let bytes = path.as_bytes();
     match find_which(alloc, path) {
-        Ok(Some(which)) => Ok(route_of(which, bytes)),
-        Ok(None) => Ok(Route::Nowhere),
+        Ok(Some(route)) => Ok(found_at(route, bytes)),
+        Ok(None) => Ok(Found {
+            route: Route::Other,
+            rest: bytes,
+        }),
         Err(fault) => Err(fault),
     }
 }

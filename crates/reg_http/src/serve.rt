@@ -2,21 +2,20 @@
 
 ghost use Rattle.std.specs.Prelude.{◌≡◌, ◌≢◌, ◌≤◌, ◌⊎◌, [], ℕ, List, IfErr, OnOk, vec_capacity};
 ghost use Rattle.std.specs.Io.KnownBytes.{Appends};
-ghost use Rattle.reg_wire.specs.Put.{AppendsFront};
-ghost use Rattle.reg_heads.specs.Frame.{part_of};
-ghost use Rattle.reg_heads.specs.Response.{IsText, memory_text, shown};
-ghost use Rattle.reg_calls.specs.Items.{items_of};
-ghost use Rattle.reg_http.specs.Beginning.{BeginningEnds, BeginsReply, FinishingEnds, SendsOrLeaves};
+ghost use Rattle.reg_io.specs.Put.{AppendsFront};
+ghost use Rattle.reg_office_api.specs.CallSteps.{Runs, Asks, Ocsps, Crls};
+ghost use Rattle.reg_office_api.specs.Leads.{Leads};
+ghost use Rattle.reg_http_head.specs.Frame.{part_of};
+ghost use Rattle.reg_http_head.specs.Response.{IsText, memory_text, shown};
+ghost use Rattle.reg_http.specs.Added.{AddsARequestAtMost};
 ghost use Rattle.reg_http.specs.Bodies.{http_refusal as refusal_of};
-ghost use Rattle.reg_http.specs.Served.{ServingEnds, Responds};
+ghost use Rattle.reg_http.specs.Served.{ReplyEnds, ServingEnds};
 
 use crate::bodies::{JSON_ROOM, refusal};
-use crate::respond::{Beginning, told_ocsp};
-use crate::routes::{answer, begin};
-use reg_calls::OfficeCalls;
-use reg_core::{Fault, Memory, Moment};
-use reg_heads::{Answer, HEAD_ROOM, Request, read_request, write_answer, write_memory_fault};
-use reg_ocsp::Draft;
+use crate::routes::answer;
+use reg_core::{Fault, Moment};
+use reg_http_head::{Answer, HEAD_ROOM, Request, read_request, write_answer, write_memory_fault};
+use reg_office_api::Office;
 use std::alloc::Global;
 use std::io::{Read, Write};
 
@@ -70,7 +69,7 @@ fn refuse<W: Write>(
 }
 
 /// Answers a request that was read, and writes the response.
-fn reply<W: Write, O: OfficeCalls>(
+fn reply<W: Write, O: Office>(
     alloc: Global,
     writer: &mut W,
     room: Vec<u8>,
@@ -80,13 +79,13 @@ fn reply<W: Write, O: OfficeCalls>(
 ) -> Result<(), Fault>
     requires empty { room.items ≡ [] }
     requires room { 512 ≤ vec_capacity room }
-    ensures ok { OnOk result ((text : List ℕ)
-        × Responds O.runs O.asks O.ocsps O.crls now office.old (part_of request) text office.new
-        × Appends (W.contents writer.old) (W.contents writer.new) text) }
-    ensures err { IfErr result (λ fault. ((fault ≡ Fault.Write) × ((text : List ℕ)
-        × Responds O.runs O.asks O.ocsps O.crls now office.old (part_of request) text office.new
-        × AppendsFront (W.contents writer.old) (W.contents writer.new) text))
-        ⊎ ((fault ≡ Fault.Memory) × (writer.new ≡ writer.old) × (office.new ≡ office.old))) }
+    ensures ends { Leads O.is_clean O.stands
+        (λ who before after. ReplyEnds (Runs O.signs who) Asks (Ocsps O.signs who) Crls now before after
+        (part_of request) (W.contents writer.old) (W.contents writer.new) result
+        × AddsARequestAtMost now before after)
+        office.old office.new }
+    ensures silent { IfErr result (λ fault. fault ≢ Fault.Write
+        → (writer.new ≡ writer.old) × (office.new ≡ office.old)) }
 {
     match request {
         Request::Refused(status) => refuse(alloc, writer, room, status, now),
@@ -116,15 +115,18 @@ fn reply<W: Write, O: OfficeCalls>(
 /// [`Fault::Read`] where the reader fails or ends within the request, and [`Fault::Memory`] where memory is refused before
 /// the request is answered: then nothing was written, and the office is as it was. [`Fault::Write`] where the writer fails
 /// or takes nothing more: less than the whole response went out, from the front, and the office is as the answer left it.
-pub fn serve_one<R: Read, W: Write, O: OfficeCalls>(
+pub fn serve_one<R: Read, W: Write, O: Office>(
     alloc: Global,
     reader: &mut R,
     writer: &mut W,
     now: Moment,
     office: &mut O,
 ) -> Result<(), Fault>
-    ensures ends { ServingEnds O.runs O.asks O.ocsps O.crls now office.old office.new (R.remaining reader.old)
-        (R.remaining reader.new) (W.contents writer.old) (W.contents writer.new) result }
+    ensures ends { Leads O.is_clean O.stands
+        (λ who before after. ServingEnds (Runs O.signs who) Asks (Ocsps O.signs who) Crls now before after
+        (R.remaining reader.old) (R.remaining reader.new) (W.contents writer.old) (W.contents writer.new) result
+        × AddsARequestAtMost now before after)
+        office.old office.new }
     ensures silent { IfErr result (λ fault. fault ≢ Fault.Write
         → (writer.new ≡ writer.old) × (office.new ≡ office.old)) }
 {
@@ -135,116 +137,4 @@ pub fn serve_one<R: Read, W: Write, O: OfficeCalls>(
         Ok(request) => reply(alloc, writer, room, request, now, office),
         Err(fault) => Err(fault),
     }
-}
-
-/// Writes an answer, or gives what is left to be signed for it.
-fn send_or_leave<W: Write>(
-    writer: &mut W,
-    room: Vec<u8>,
-    beginning: Beginning,
-    now: Moment,
-) -> Result<Option<Draft>, Fault>
-    requires empty { room.items ≡ [] }
-    requires room { 512 ≤ vec_capacity room }
-    ensures { SendsOrLeaves now beginning (W.contents writer.old) (W.contents writer.new) result }
-{
-    match beginning {
-        Beginning::Told(answer) => match send(writer, room, &answer, now) {
-            Ok(()) => Ok(None),
-            Err(fault) => Err(fault),
-        },
-        Beginning::Left(draft) => Ok(Some(draft)),
-    }
-}
-
-/// Begins to answer a request that was read: writes the response, or gives what is left to be signed for it.
-fn begin_reply<W: Write, O: OfficeCalls>(
-    alloc: Global,
-    writer: &mut W,
-    room: Vec<u8>,
-    request: Request,
-    now: Moment,
-    office: &mut O,
-) -> Result<Option<Draft>, Fault>
-    requires empty { room.items ≡ [] }
-    requires room { 512 ≤ vec_capacity room }
-    ensures ends { BeginsReply O.runs O.asks O.ocsps O.crls O.drafts now office.old office.new (part_of request)
-        (W.contents writer.old) (W.contents writer.new) result }
-    ensures silent { IfErr result (λ fault. fault ≢ Fault.Write
-        → (writer.new ≡ writer.old) × (office.new ≡ office.old)) }
-{
-    match request {
-        Request::Refused(status) => match refuse(alloc, writer, room, status, now) {
-            Ok(()) => Ok(None),
-            Err(fault) => Err(fault),
-        },
-        Request::Asked {
-            method,
-            target,
-            body,
-        } => match begin(
-            alloc,
-            &method,
-            target.as_str(),
-            body.as_slice(),
-            now,
-            office,
-        ) {
-            Ok(beginning) => send_or_leave(writer, room, beginning, now),
-            Err(_) => match send_memory_fault(writer) {
-                Ok(()) => Ok(None),
-                Err(fault) => Err(fault),
-            },
-        },
-    }
-}
-
-/// Serves one request as [`serve_one`] does, but an OCSP answer may be left to be signed: then that is given, and nothing was written.
-/// [`finish_one`] writes its response.
-///
-/// # Errors
-///
-/// As of [`serve_one`].
-pub fn begin_one<R: Read, W: Write, O: OfficeCalls>(
-    alloc: Global,
-    reader: &mut R,
-    writer: &mut W,
-    now: Moment,
-    office: &mut O,
-) -> Result<Option<Draft>, Fault>
-    ensures ends { BeginningEnds O.runs O.asks O.ocsps O.crls O.drafts now office.old office.new (R.remaining reader.old)
-        (R.remaining reader.new) (W.contents writer.old) (W.contents writer.new) result }
-    ensures silent { IfErr result (λ fault. fault ≢ Fault.Write
-        → (writer.new ≡ writer.old) × (office.new ≡ office.old)) }
-{
-    let Ok(room) = Vec::with_capacity(alloc, HEAD_ROOM) else {
-        return Err(Fault::Memory);
-    };
-    match read_request(alloc, reader) {
-        Ok(request) => begin_reply(alloc, writer, room, request, now, office),
-        Err(fault) => Err(fault),
-    }
-}
-
-/// Writes the response that carries what was given for an OCSP request, which was begun at this moment.
-///
-/// # Errors
-///
-/// [`Fault::Memory`] where there was none for it, and nothing was written. [`Fault::Write`] where the writer fails or takes nothing more:
-/// less than the whole response went out, from the front.
-pub fn finish_one<W: Write>(
-    alloc: Global,
-    writer: &mut W,
-    now: Moment,
-    given: Result<Vec<u8>, Memory>,
-) -> Result<(), Fault>
-    ensures { FinishingEnds now (items_of given) (W.contents writer.old) (W.contents writer.new) result }
-{
-    let (Ok(room), Ok(body)) = (
-        Vec::with_capacity(alloc, HEAD_ROOM),
-        Vec::with_capacity(alloc, JSON_ROOM),
-    ) else {
-        return Err(Fault::Memory);
-    };
-    send(writer, room, &told_ocsp(body, given), now)
 }

@@ -1,10 +1,15 @@
+pub mod Accepting
+pub mod Beginnings
 pub mod FieldLemmas
 pub mod Meanings
+pub mod OfficeRuns
 pub mod Pieces
 pub mod PublicLaws
 pub mod Readings
 pub mod RowLemmas
 pub mod RowsTold
-pub mod Runs
 pub mod ScriptLemmas
+pub mod ScriptsAndImports
 pub mod StepLemmas
+pub mod Twice
+pub mod Unasked

@@ -5,16 +5,15 @@ use Rattle.std.proofs.lemmas.Slice.Eq.{bytes_eq-Decides}
 use Rattle.reg_core.specs.Calendar.{moment_of, moment_text}
 use Rattle.reg_core.specs.Number.{IsNumberText, number_of}
 use Rattle.reg_core.specs.Serial.{IsSerialText, serial_of}
-use Rattle.reg_core.proofs.MomentTexts.{moment_of-some, moment_of-text}
-use Rattle.reg_core.proofs.PublicLaws.{numbers_are_read, serials_are_read}
+use Rattle.reg_core.proofs.PublicLaws.{numbers_are_read, serials_are_read, moment_of-some, moment_of-text}
 use Rattle.reg_core.specs.declared.command.Command.{Command}
 use Rattle.reg_core.specs.declared.command.Command.TheVariants.{Subscriber, Order, Register, Request, Decline, Revoke, Crl}
 use Rattle.reg_core.specs.declared.command.Query.{Query}
 use Rattle.reg_core.specs.declared.command.Query.TheVariants.{Status, Counts, Listing, Overdue, NextCrl}
 use Rattle.reg_lines.specs.Fields.{fields_of}
-use Rattle.reg_lines.specs.Meaning.{Meaning, tells, asks, asks_ocsp, BeginsAt, IsUnreadable, LineMeans, OneMeaning, SpellsCommand, SpellsOcsp, SpellsQuery, SpellsRegister, meaning_of}
+use Rattle.reg_lines.specs.Meaning.{Meaning, tells, asks, asks_ocsp, IsUnreadable, LineMeans, OneMeaning, SpellsCommand, SpellsOcsp, SpellsQuery, SpellsRegister, meaning_of}
 use Rattle.reg_lines.specs.LineReading.{alone, asked_by, decline_of, four, hex_of, label_field, listing_of, ocsp_of, one, order_of, register_by, register_of, request_of, revoke_of, revoking_by, said_by, said_of, status_of, subscriber_of, two}
-use Rattle.reg_lines.specs.declared.line.Line.{Line}
+use Rattle.reg_lines.specs.declared.line.CommandLine.{CommandLine}
 use Rattle.reg_lines.proofs.Readings.{hex_of-is, hex_of-some, label_of-is, label_of-some}
 
 -- ---- steps that may fail
@@ -159,23 +158,23 @@ ocsp_spelled fields bytes e =
 
 -- ---- a word and its fields
 
--- what the fields after a moment say
-abbrev Says : ℕ → List (List ℕ) → Meaning → Type 0
-Says now fields (tells at command) = (at ≡ now) × SpellsCommand command fields
-Says now fields (asks at query) = (at ≡ now) × SpellsQuery query fields
-Says now fields (asks_ocsp at bytes) = (at ≡ now) × SpellsOcsp bytes fields
+-- what fields say
+abbrev Says : List (List ℕ) → Meaning → Type 0
+Says fields (tells command) = SpellsCommand command fields
+Says fields (asks query) = SpellsQuery query fields
+Says fields (asks_ocsp bytes) = SpellsOcsp bytes fields
 
 -- one word more: what is read where it is this one, and where it is another
-word_or : {A : Type 0} (make : A → Meaning) (now : ℕ) (word text : List ℕ) (fields : List (List ℕ)) (o : Option A) (y : Option Meaning) (v : Meaning)
-    → ((a : A) → o ≡ Some a → Says now (text ∷ fields) (make a)) → (y ≡ Some v → Says now (word ∷ fields) v)
-    → cond (bytes_eq word text) (option_map make o) y ≡ Some v → Says now (word ∷ fields) v
-word_or {A} make now word text fields o y v here other = go (bytes_eq word text) refl
+word_or : {A : Type 0} (make : A → Meaning) (word text : List ℕ) (fields : List (List ℕ)) (o : Option A) (y : Option Meaning) (v : Meaning)
+    → ((a : A) → o ≡ Some a → Says (text ∷ fields) (make a)) → (y ≡ Some v → Says (word ∷ fields) v)
+    → cond (bytes_eq word text) (option_map make o) y ≡ Some v → Says (word ∷ fields) v
+word_or {A} make word text fields o y v here other = go (bytes_eq word text) refl
   where
-    go : (b : Bool) → bytes_eq word text ≡ b → cond b (option_map make o) y ≡ Some v → Says now (word ∷ fields) v
+    go : (b : Bool) → bytes_eq word text ≡ b → cond b (option_map make o) y ≡ Some v → Says (word ∷ fields) v
     go true is e =
         let same : word ≡ text = (bytes_eq-Decides word text).0 is in
         let (a, found, made) = map_some make o v e in
-        subst (Says now (word ∷ fields)) made (subst (λ w. Says now (w ∷ fields) (make a)) (sym same) (here a found))
+        subst (Says (word ∷ fields)) made (subst (λ w. Says (w ∷ fields) (make a)) (sym same) (here a found))
     go false is e = other e
 
 -- a word with no field
@@ -185,37 +184,32 @@ lone Spells text value fields spelled v e =
     subst (λ w. Spells w (text ∷ fields)) is.1 (subst (λ rest. Spells value (text ∷ rest)) (sym is.0) spelled)
 
 -- what is read from a word and its fields is what they say
-asked_spelled : (now : ℕ) (word : List ℕ) (fields : List (List ℕ)) (v : Meaning) → asked_by now word fields ≡ Some v → Says now (word ∷ fields) v
+asked_spelled : (word : List ℕ) (fields : List (List ℕ)) (v : Meaning) → asked_by word fields ≡ Some v → Says (word ∷ fields) v
 unfolding asked_by
-asked_spelled now word fields v =
-    word_or (asks now) now word (codes "status") fields (status_of fields) _ v (λ q e. (refl, status_spelled fields q e))
-    (word_or (asks now) now word (codes "counts") fields (alone Counts fields) _ v (λ q e. (refl, lone SpellsQuery (codes "counts") Counts fields refl q e))
-    (word_or (asks now) now word (codes "listing") fields (listing_of fields) _ v (λ q e. (refl, listing_spelled fields q e))
-    (word_or (asks now) now word (codes "overdue") fields (alone Overdue fields) _ v (λ q e. (refl, lone SpellsQuery (codes "overdue") Overdue fields refl q e))
-    (word_or (asks now) now word (codes "next-crl") fields (alone NextCrl fields) _ v (λ q e. (refl, lone SpellsQuery (codes "next-crl") NextCrl fields refl q e))
-    (word_or (asks_ocsp now) now word (codes "ocsp") fields (ocsp_of fields) None v (λ bytes e. (refl, ocsp_spelled fields bytes e)) (λ none. absurd (cc none)))))))
+asked_spelled word fields v =
+    word_or asks word (codes "status") fields (status_of fields) _ v (λ q e. status_spelled fields q e)
+    (word_or asks word (codes "counts") fields (alone Counts fields) _ v (λ q e. lone SpellsQuery (codes "counts") Counts fields refl q e)
+    (word_or asks word (codes "listing") fields (listing_of fields) _ v (λ q e. listing_spelled fields q e)
+    (word_or asks word (codes "overdue") fields (alone Overdue fields) _ v (λ q e. lone SpellsQuery (codes "overdue") Overdue fields refl q e)
+    (word_or asks word (codes "next-crl") fields (alone NextCrl fields) _ v (λ q e. lone SpellsQuery (codes "next-crl") NextCrl fields refl q e)
+    (word_or asks_ocsp word (codes "ocsp") fields (ocsp_of fields) None v (λ bytes e. ocsp_spelled fields bytes e) (λ none. absurd (cc none)))))))
 
-revoking_spelled : (now : ℕ) (word : List ℕ) (fields : List (List ℕ)) (v : Meaning) → revoking_by now word fields ≡ Some v → Says now (word ∷ fields) v
+revoking_spelled : (word : List ℕ) (fields : List (List ℕ)) (v : Meaning) → revoking_by word fields ≡ Some v → Says (word ∷ fields) v
 unfolding revoking_by
-revoking_spelled now word fields v =
-    word_or (tells now) now word (codes "request") fields (request_of fields) _ v (λ c e. (refl, request_spelled fields c e))
-    (word_or (tells now) now word (codes "decline") fields (decline_of fields) _ v (λ c e. (refl, decline_spelled fields c e))
-    (word_or (tells now) now word (codes "revoke") fields (revoke_of fields) _ v (λ c e. (refl, revoke_spelled fields c e))
-    (word_or (tells now) now word (codes "crl") fields (alone Crl fields) (asked_by now word fields) v (λ c e. (refl, lone SpellsCommand (codes "crl") Crl fields refl c e)) (asked_spelled now word fields v))))
+revoking_spelled word fields v =
+    word_or tells word (codes "request") fields (request_of fields) _ v (λ c e. request_spelled fields c e)
+    (word_or tells word (codes "decline") fields (decline_of fields) _ v (λ c e. decline_spelled fields c e)
+    (word_or tells word (codes "revoke") fields (revoke_of fields) _ v (λ c e. revoke_spelled fields c e)
+    (word_or tells word (codes "crl") fields (alone Crl fields) (asked_by word fields) v (λ c e. lone SpellsCommand (codes "crl") Crl fields refl c e) (asked_spelled word fields v))))
 
-said_spelled : (now : ℕ) (word : List ℕ) (fields : List (List ℕ)) (v : Meaning) → said_by now word fields ≡ Some v → Says now (word ∷ fields) v
+said_spelled : (word : List ℕ) (fields : List (List ℕ)) (v : Meaning) → said_by word fields ≡ Some v → Says (word ∷ fields) v
 unfolding said_by
-said_spelled now word fields v =
-    word_or (tells now) now word (codes "subscriber") fields (subscriber_of fields) _ v (λ c e. (refl, subscriber_spelled fields c e))
-    (word_or (tells now) now word (codes "order") fields (order_of fields) _ v (λ c e. (refl, order_spelled fields c e))
-    (word_or (tells now) now word (codes "register") fields (register_of fields) (revoking_by now word fields) v (λ c e. (refl, register_spelled fields c e)) (revoking_spelled now word fields v)))
+said_spelled word fields v =
+    word_or tells word (codes "subscriber") fields (subscriber_of fields) _ v (λ c e. subscriber_spelled fields c e)
+    (word_or tells word (codes "order") fields (order_of fields) _ v (λ c e. order_spelled fields c e)
+    (word_or tells word (codes "register") fields (register_of fields) (revoking_by word fields) v (λ c e. register_spelled fields c e) (revoking_spelled word fields v)))
 
 -- ---- what is spelled is read
-
--- the fields after the moment
-abbrev said_at : ℕ → List (List ℕ) → Option Meaning
-said_at now [] = None
-said_at now (word ∷ fields) = said_by now word fields
 
 pub register_read : (order serial not_before not_after : ℕ) (fields : List (List ℕ)) → SpellsRegister order serial not_before not_after fields
     → register_of fields ≡ Some (Register order serial not_before not_after)
@@ -229,70 +223,59 @@ register_read order serial not_before not_after fields (a, b, is, first, second,
       moment_of-text not_after fourth,
     ) refl
 
-command_read : (now : ℕ) (c : Command) (fields : List (List ℕ)) → SpellsCommand c fields → said_at now fields ≡ Some (tells now c)
-unfolding said_by revoking_by subscriber_of order_of request_of decline_of revoke_of
-command_read now (Subscriber name) fields (is, label) = rw (is, label_of-is name label) refl
-command_read now (Order subscriber days) fields (a, b, is, first, second) =
+command_read : (c : Command) (fields : List (List ℕ)) → SpellsCommand c fields → said_of fields ≡ Some (tells c)
+unfolding said_of said_by revoking_by subscriber_of order_of request_of decline_of revoke_of
+command_read (Subscriber name) fields (is, label) = rw (is, label_of-is name label) refl
+command_read (Order subscriber days) fields (a, b, is, first, second) =
     rw (is, number_of-some a subscriber first, number_of-some b days second) refl
-command_read now (Register order serial not_before not_after) fields (rest, is, spelled) =
+command_read (Register order serial not_before not_after) fields (rest, is, spelled) =
     rw (is, register_read order serial not_before not_after rest spelled) refl
-command_read now (Request serial named) fields (a, is, first, second) = rw (is, serial_of-some a serial first, label_of-is named second) refl
-command_read now (Decline request) fields (a, is, first) = rw (is, number_of-some a request first) refl
-command_read now (Revoke request) fields (a, is, first) = rw (is, number_of-some a request first) refl
-command_read now Crl fields is = rw is refl
+command_read (Request serial named) fields (a, is, first, second) = rw (is, serial_of-some a serial first, label_of-is named second) refl
+command_read (Decline request) fields (a, is, first) = rw (is, number_of-some a request first) refl
+command_read (Revoke request) fields (a, is, first) = rw (is, number_of-some a request first) refl
+command_read Crl fields is = rw is refl
 
-query_read : (now : ℕ) (q : Query) (fields : List (List ℕ)) → SpellsQuery q fields → said_at now fields ≡ Some (asks now q)
-unfolding said_by revoking_by asked_by status_of listing_of
-query_read now (Status serial) fields (a, is, first) = rw (is, serial_of-some a serial first) refl
-query_read now Counts fields is = rw is refl
-query_read now (Listing serial) fields (a, is, first) = rw (is, serial_of-some a serial first) refl
-query_read now Overdue fields is = rw is refl
-query_read now NextCrl fields is = rw is refl
+query_read : (q : Query) (fields : List (List ℕ)) → SpellsQuery q fields → said_of fields ≡ Some (asks q)
+unfolding said_of said_by revoking_by asked_by status_of listing_of
+query_read (Status serial) fields (a, is, first) = rw (is, serial_of-some a serial first) refl
+query_read Counts fields is = rw is refl
+query_read (Listing serial) fields (a, is, first) = rw (is, serial_of-some a serial first) refl
+query_read Overdue fields is = rw is refl
+query_read NextCrl fields is = rw is refl
 
-ocsp_read : (now : ℕ) (bytes : List ℕ) (fields : List (List ℕ)) → SpellsOcsp bytes fields → said_at now fields ≡ Some (asks_ocsp now bytes)
-unfolding said_by revoking_by asked_by ocsp_of
-ocsp_read now bytes fields (digits, is, hex) = rw (is, hex_of-is digits bytes hex) refl
+ocsp_read : (bytes : List ℕ) (fields : List (List ℕ)) → SpellsOcsp bytes fields → said_of fields ≡ Some (asks_ocsp bytes)
+unfolding said_of said_by revoking_by asked_by ocsp_of
+ocsp_read bytes fields (digits, is, hex) = rw (is, hex_of-is digits bytes hex) refl
 
 -- ---- the whole line
 
-said_at_first : (now : ℕ) (line : List ℕ) (fields : List (List ℕ)) (v : Meaning) → BeginsAt now line fields → said_at now fields ≡ Some v
-    → said_of (fields_of line) ≡ Some v
-unfolding said_of
-said_at_first now line [] v begins said = cc said
-said_at_first now line (word ∷ fields) v begins said = rw (begins.0, moment_of-text now begins.1) said
-
 means_said : (line : List ℕ) (m : Meaning) → LineMeans line m → said_of (fields_of line) ≡ Some m
-means_said line (tells now c) (fields, begins, spelled) = said_at_first now line fields (tells now c) begins (command_read now c fields spelled)
-means_said line (asks now q) (fields, begins, spelled) = said_at_first now line fields (asks now q) begins (query_read now q fields spelled)
-means_said line (asks_ocsp now bytes) (fields, begins, spelled) =
-    said_at_first now line fields (asks_ocsp now bytes) begins (ocsp_read now bytes fields spelled)
+means_said line (tells c) spelled = command_read c (fields_of line) spelled
+means_said line (asks q) spelled = query_read q (fields_of line) spelled
+means_said line (asks_ocsp bytes) spelled = ocsp_read bytes (fields_of line) spelled
 
-says_means : (now : ℕ) (line : List ℕ) (fields : List (List ℕ)) (v : Meaning) → BeginsAt now line fields → Says now fields v → LineMeans line v
-says_means now line fields (tells at c) begins said = (fields, subst (λ t. BeginsAt t line fields) (sym said.0) begins, said.1)
-says_means now line fields (asks at q) begins said = (fields, subst (λ t. BeginsAt t line fields) (sym said.0) begins, said.1)
-says_means now line fields (asks_ocsp at bytes) begins said = (fields, subst (λ t. BeginsAt t line fields) (sym said.0) begins, said.1)
-
-said_means_by : (line : List ℕ) (all : List (List ℕ)) (m : Meaning) → fields_of line ≡ all → said_of all ≡ Some m → LineMeans line m
+fields_said : (fields : List (List ℕ)) (m : Meaning) → said_of fields ≡ Some m → Says fields m
 unfolding said_of
-said_means_by line [] m is e = cc e
-said_means_by line (a ∷ []) m is e = cc e
-said_means_by line (a ∷ word ∷ fields) m is e =
-    let (now, first, e1) = and_then_some _ (moment_of a) m e in
-    let at = moment_of-some a now first in
-    says_means now line (word ∷ fields) m (is ∙ ap (λ (t : List ℕ). t ∷ word ∷ fields) at.1, at.0) (said_spelled now word fields m e1)
+fields_said [] m e = cc e
+fields_said (word ∷ fields) m e = said_spelled word fields m e
+
+said_means : (line : List ℕ) (m : Meaning) → Says (fields_of line) m → LineMeans line m
+said_means line (tells c) said = said
+said_means line (asks q) said = said
+said_means line (asks_ocsp bytes) said = said
 
 -- what is read is what the line means
-pub means_found : (line : List ℕ) (r : Option Line) → option_map meaning_of r ≡ said_of (fields_of line) → IfSome r (λ read. LineMeans line (meaning_of read))
+pub means_found : (line : List ℕ) (r : Option CommandLine) → option_map meaning_of r ≡ said_of (fields_of line) → IfSome r (λ read. LineMeans line (meaning_of read))
 means_found line None e = tt
-means_found line (Some read) e = said_means_by line (fields_of line) (meaning_of read) refl (sym e)
+means_found line (Some read) e = said_means line (meaning_of read) (fields_said (fields_of line) (meaning_of read) (sym e))
 
 -- and what it means is read
-pub means_only : (line : List ℕ) (r : Option Line) (m : Meaning) → option_map meaning_of r ≡ said_of (fields_of line) → LineMeans line m
+pub means_only : (line : List ℕ) (r : Option CommandLine) (m : Meaning) → option_map meaning_of r ≡ said_of (fields_of line) → LineMeans line m
     → option_map meaning_of r ≡ Some m
 means_only line r m e is = e ∙ means_said line m is
 
 -- where nothing is read, it means nothing
-pub means_none : (line : List ℕ) (r : Option Line) → option_map meaning_of r ≡ said_of (fields_of line) → IfNone r (IsUnreadable line)
+pub means_none : (line : List ℕ) (r : Option CommandLine) → option_map meaning_of r ≡ said_of (fields_of line) → IfNone r (IsUnreadable line)
 means_none line None e = λ m is. let both : None ≡ Some m = e ∙ means_said line m is in cc
 means_none line (Some read) e = tt
 
@@ -306,9 +289,9 @@ one_meaning line a b is_a is_b = let both : Some a ≡ Some b = sym (means_said 
 pub row_spelled : (row : List (List ℕ)) (c : Command) → register_of row ≡ Some c → SpellsCommand c (codes "register" ∷ row)
 row_spelled row c e = register_spelled row c e
 
-register_said : (row : List (List ℕ)) → register_of row ≡ None → said_by 0 (codes "register") row ≡ None
-unfolding said_by
+register_said : (row : List (List ℕ)) → register_of row ≡ None → said_of (codes "register" ∷ row) ≡ None
+unfolding said_of said_by
 register_said row e = rw e refl
 
 pub row_unread : (row : List (List ℕ)) → register_of row ≡ None → (c : Command) → ¬ SpellsCommand c (codes "register" ∷ row)
-row_unread row e c spelled = let both = sym (register_said row e) ∙ command_read 0 c (codes "register" ∷ row) spelled in cc both
+row_unread row e c spelled = let both = sym (register_said row e) ∙ command_read c (codes "register" ∷ row) spelled in cc both

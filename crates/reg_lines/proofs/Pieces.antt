@@ -1,6 +1,6 @@
 -- Pieces that are joined, and a buffer that is turned.
 use Rattle.std.proofs.Common.{◌≡◌, ℕ, ◌+◌, ◌-◌, ◌≤◌, List, [], ◌∷◌, ◌++◌, length, take, drop, sym, ap, ◌∙◌, arith, append-nil, length-drop}
-use Rattle.std.specs.List.{concat}
+use Rattle.std.specs.List.{AllByRecursion, concat}
 use Rattle.std.proofs.lemmas.List.{drop-take, take-append-le}
 use Rattle.std.proofs.lemmas.List.Folds.{concat-append}
 
@@ -14,3 +14,8 @@ turned buffer end now below fits =
     take-append-le (now - end) (drop end buffer) (take end buffer) (omega (arith, length-drop end buffer))
     ∙ sym (drop-take end (now - end) buffer)
     ∙ ap (λ n. drop end (take n buffer)) (let e : end + (now - end) ≡ now = omega arith in e)
+
+-- one element more of which it holds
+pub all_push : {A : Type 0} (Holds : A → Type 0) (xs : List A) (x : A) → AllByRecursion Holds xs → Holds x → AllByRecursion Holds (xs ++ x ∷ [])
+all_push Holds [] x each one = (one, tt)
+all_push Holds (first ∷ rest) x each one = (each.0, all_push Holds rest x each.1 one)

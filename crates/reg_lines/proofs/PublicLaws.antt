@@ -1,4 +1,5 @@
 -- The laws, for proofs above: they cite these alone. Each is stated in specs/, and is what a function of `laws` ensures.
+pub use Rattle.reg_lines.proofs.Pieces.{concat_push}
 use Rattle.reg_lines.specs.Laws.{RegistrationsAreRead, RowsMeanWhatIsRead}
 use Rattle.reg_lines.proofs.Meanings as meanings
 

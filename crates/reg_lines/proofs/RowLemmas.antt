@@ -12,20 +12,21 @@ use Rattle.csv.specs.declared.parser.State.{State}
 use Rattle.csv.specs.declared.parser.State.TheVariants as st
 use Rattle.csv.specs.declared.reader.Reader.{Reader}
 use Rattle.csv.proofs.ReadFacts.{rows-end, rows-more}
-use Rattle.reg_wire.specs.RunsOfAnswers.{Answered}
-use Rattle.reg_wire.specs.declared.put.WriteFault.{WriteFault}
-use Rattle.reg_wire.proofs.PublicLaws.{answered_push}
-use Rattle.reg_lines.proofs.Pieces.{concat_push}
+use Rattle.reg_io.specs.RunsOfAnswers.{Answered}
+use Rattle.reg_io.specs.declared.put.WriteFault.{WriteFault}
+use Rattle.reg_io.proofs.PublicLaws.{answered_push}
+use Rattle.reg_lines.proofs.Pieces.{all_push, concat_push}
 use Rattle.reg_core.specs.declared.refusal.Fault.{Fault}
-use Rattle.reg_core.specs.declared.refusal.Fault.TheVariants.{Refused, Memory, Store, Signer, Read, Write}
+use Rattle.reg_core.specs.declared.refusal.Fault.TheVariants.{Memory, Read, Write}
 use Rattle.reg_lines.specs.Accepted.{IsAccepted}
-use Rattle.reg_lines.specs.Answer.{Answer}
+use Rattle.reg_lines.specs.ByCalls.{Call}
 use Rattle.reg_lines.specs.Import.{ImportEnds, Row, RowReplies, TookAll, RowsEnd, TextRead, TookRow, data_rows, is_header}
-use Rattle.reg_lines.specs.Meaning.{Meaning}
 use Rattle.reg_lines.specs.LineReading.{four, four_at}
 use Rattle.reg_lines.specs.Strict.{EndsBehind, StrictEnds, StrictRan, ended_part}
-use Rattle.reg_lines.specs.declared.strict.Imported.{Imported}
-use Rattle.reg_lines.specs.declared.strict.Imported.TheVariants as imported
+use Rattle.reg_lines.specs.declared.answered.Ended.{Ended}
+use Rattle.reg_lines.specs.declared.answered.Ended.TheVariants as ended
+use Rattle.reg_lines.specs.declared.answered.Passed.{Passed}
+use Rattle.reg_lines.specs.declared.answered.Passed.TheVariants as passed
 
 -- ---- the fields of a row
 
@@ -54,14 +55,8 @@ data_push (first ∷ rest) row data' = by (is_header first) refl
 
 -- ---- a run so far
 
--- one reply more that is accepted
-accepted_push : (replies : List (List ℕ)) (reply : List ℕ) → AllByRecursion IsAccepted replies → IsAccepted reply
-    → AllByRecursion IsAccepted (replies ++ reply ∷ [])
-accepted_push [] reply each one = (one, tt)
-accepted_push (first ∷ rest) reply each one = (each.0, accepted_push rest reply each.1 one)
-
 -- the rows that ran so far, and where the reader is
-pub record Going {S : Type 0} (answers : S → Meaning → Answer → S → Type 0) (is_strict : Bool) (now : ℕ) (s t : S) (out out' : Option (List ℕ)) (text : List ℕ) (source : Option (List ℕ)) (state : State) (index : ℕ) : Type 0 where
+pub record Going {S : Type 0} (answers : S → ℕ → Call → S → Type 0) (is_strict : Bool) (now : ℕ) (s t : S) (out out' : Option (List ℕ)) (text : List ℕ) (source : Option (List ℕ)) (state : State) (index : ℕ) : Type 0 where
   pub rows : List Row
   pub replies : List (List ℕ)
   pub left : List ℕ
@@ -72,7 +67,7 @@ pub record Going {S : Type 0} (answers : S → Meaning → Answer → S → Type
   pub wrote : Appends out out' (concat replies)
   pub passed : IsTrue is_strict → AllByRecursion IsAccepted replies
 
-pub going_start : {S : Type 0} (answers : S → Meaning → Answer → S → Type 0) (is_strict : Bool) (now : ℕ) (s : S) (out : Option (List ℕ)) (text : List ℕ) (source : Option (List ℕ)) (state : State)
+pub going_start : {S : Type 0} (answers : S → ℕ → Call → S → Type 0) (is_strict : Bool) (now : ℕ) (s : S) (out : Option (List ℕ)) (text : List ℕ) (source : Option (List ℕ)) (state : State)
     → source ≡ Some (strip_bom text) → state ≡ st.StartRecord → Going answers is_strict now s s out out text source state 0
 unfolding Reached
 going_start answers is_strict now s out text source state known is = record {
@@ -106,10 +101,10 @@ row_four fields o0 o1 o2 o3 o4 r e0 e1 e2 e3 e4 is =
     ∙ sym (four_by fields)
 
 -- no memory is left for a row
-pub first_ran : {S : Type 0} (answers : S → Meaning → Answer → S → Type 0) (is_strict : Bool) (now : ℕ) (s t : S) (out out' : Option (List ℕ)) (text : List ℕ) (source : Option (List ℕ)) (state : State) (index : ℕ)
+pub first_ran : {S : Type 0} (answers : S → ℕ → Call → S → Type 0) (is_strict : Bool) (now : ℕ) (s t : S) (out out' : Option (List ℕ)) (text : List ℕ) (source : Option (List ℕ)) (state : State) (index : ℕ)
     → Going answers is_strict now s t out out' text source state index → RowsEnd answers is_strict now s t out out' text (Err Memory)
 first_ran answers is_strict now s t out out' text source state index g = (
-  record { rows = g.rows; replies = g.replies; first = (state, g.left, g.reached); answered = g.answered; wrote = g.wrote },
+  (record { rows = g.rows; replies = g.replies; first = (state, g.left, g.reached); wrote = g.wrote }, g.answered),
   g.passed,
 )
 
@@ -119,14 +114,14 @@ record More (text : List ℕ) (rows : List Row) (row : Row) (source : Option (Li
   pub known : source ≡ Some left
   pub reached : Reached default_config st.StartRecord (strip_bom text) (rows ++ row ∷ []) state left
 
-module _ {S R : Type 0} (answers : S → Meaning → Answer → S → Type 0) (is_strict : Bool) (now : ℕ) (s m t : S) (out middle out' : Option (List ℕ)) (text : List ℕ) (rem : R → Option (List ℕ)) (a b : Reader R) (row : Row) (index : ℕ) where
+module _ {S R : Type 0} (answers : S → ℕ → Call → S → Type 0) (is_strict : Bool) (now : ℕ) (s m t : S) (out middle out' : Option (List ℕ)) (text : List ℕ) (rem : R → Option (List ℕ)) (a b : Reader R) (row : Row) (index : ℕ) where
   more_of : (g : Going answers is_strict now s m out middle text (source_of rem a) a.state index) → a.config ≡ default_config → ReadRecord rem a b true row → More text g.rows row (source_of rem b) b.state
   more_of g config read =
       let more = rows-more rem a b row default_config st.StartRecord (strip_bom text) g.left g.rows config g.known g.reached read in
       record { left = more.0; known = more.1; reached = more.2 }
 
   pub going_more : Going answers is_strict now s m out middle text (source_of rem a) a.state index → a.config ≡ default_config → ReadRecord rem a b true row
-      → TookRow answers is_strict now m t (index == 0) row middle out' (Ok true)
+      → TookRow answers is_strict now m t (index == 0) row middle out' (Ok passed.On)
       → Going answers is_strict now s t out out' text (source_of rem b) b.state (index + 1)
   going_more g config read (inl (header, same, done, kept)) =
       let more = more_of g config read in
@@ -154,26 +149,29 @@ module _ {S R : Type 0} (answers : S → Meaning → Answer → S → Type 0) (i
         counted = length-append g.rows (row ∷ []) ∙ ap (λ (n : ℕ). n + 1) g.counted;
         answered = rw rows (answered_push (RowReplies answers now) s m t (data_rows g.rows) g.replies row ran.reply g.answered ran.replied);
         wrote = subst (Appends out out') (sym (concat_push g.replies ran.reply)) (Appends-trans out middle out' (concat g.replies) ran.reply g.wrote ran.said.0);
-        passed = λ strict. accepted_push g.replies ran.reply (g.passed strict) (ran.said.1 strict);
+        passed = λ strict. all_push IsAccepted g.replies ran.reply (g.passed strict) (ran.said.1 strict);
       }
 
   -- a row is refused, and a strict run ends
-  pub one_refused : Going answers is_strict now s m out middle text (source_of rem a) a.state index → a.config ≡ default_config → ReadRecord rem a b true row
-      → TookRow answers is_strict now m t (index == 0) row middle out' (Ok false) → RowsEnd answers is_strict now s t out out' text (Ok false)
-  one_refused g config read (inl (header, same, done, kept)) = cc done
-  one_refused g config read (inr (data', ran)) =
+  pub one_refused : (refused : _) → Going answers is_strict now s m out middle text (source_of rem a) a.state index → a.config ≡ default_config → ReadRecord rem a b true row
+      → TookRow answers is_strict now m t (index == 0) row middle out' (Ok (passed.Refused refused)) → RowsEnd answers is_strict now s t out out' text (Ok (passed.Refused refused))
+  one_refused refused g config read (inl (header, same, done, kept)) = cc done
+  one_refused refused g config read (inr (data', ran)) =
       let more = more_of g config read in
       let goes = ran.said.1 in
       let rows : data_rows (g.rows ++ row ∷ []) ≡ data_rows g.rows ++ row ∷ [] = data_push g.rows row (ap (λ (n : ℕ). (n == 0) && is_header row) g.counted ∙ data') in (
-        record {
-          rows = g.rows ++ row ∷ [];
-          replies = g.replies ++ ran.reply ∷ [];
-          first = (b.state, more.left, more.reached);
-          answered = rw rows (answered_push (RowReplies answers now) s m t (data_rows g.rows) g.replies row ran.reply g.answered ran.replied);
-          wrote = subst (Appends out out') (sym (concat_push g.replies ran.reply)) (Appends-trans out middle out' (concat g.replies) ran.reply g.wrote ran.said.0);
-        },
+        (
+          record {
+            rows = g.rows ++ row ∷ [];
+            replies = g.replies ++ ran.reply ∷ [];
+            first = (b.state, more.left, more.reached);
+            wrote = subst (Appends out out') (sym (concat_push g.replies ran.reply)) (Appends-trans out middle out' (concat g.replies) ran.reply g.wrote ran.said.0);
+          },
+          rw rows (answered_push (RowReplies answers now) s m t (data_rows g.rows) g.replies row ran.reply g.answered ran.replied),
+        ),
         goes.0,
         record { accepted = g.replies; refused = ran.reply; parts = refl; each = g.passed goes.0; last = goes.1 },
+        goes.2,
       )
 
   pub one_cut : (fault : WriteFault) → Going answers is_strict now s m out middle text (source_of rem a) a.state index → a.config ≡ default_config → ReadRecord rem a b true row
@@ -181,89 +179,84 @@ module _ {S R : Type 0} (answers : S → Meaning → Answer → S → Type 0) (i
   one_cut fault g config read (inl (header, same, done, kept)) = cc done
   one_cut fault g config read (inr (data', ran)) =
       let more = more_of g config read in (
-        record {
-          rows = g.rows;
-          replies = g.replies;
-          middle = m;
-          row = row;
-          reply = ran.reply;
-          part = ran.said.count;
-          first = (b.state, more.left, more.reached);
-          no_header = data_push g.rows row (ap (λ (n : ℕ). (n == 0) && is_header row) g.counted ∙ data');
-          answered = g.answered;
-          replied = ran.replied;
-          partly = ran.said.short;
-          wrote = Appends-trans out middle out' (concat g.replies) (take ran.said.count ran.reply) g.wrote ran.said.written;
-        },
+        (
+          record {
+            rows = g.rows;
+            replies = g.replies;
+            row = row;
+            reply = ran.reply;
+            part = ran.said.count;
+            first = (b.state, more.left, more.reached);
+            no_header = data_push g.rows row (ap (λ (n : ℕ). (n == 0) && is_header row) g.counted ∙ data');
+            partly = ran.said.short;
+            wrote = Appends-trans out middle out' (concat g.replies) (take ran.said.count ran.reply) g.wrote ran.said.written;
+          },
+          m,
+          g.answered,
+          ran.replied,
+        ),
         g.passed,
       )
 
   pub all_ran : Going answers is_strict now s m out middle text (source_of rem a) a.state index → a.config ≡ default_config → ReadRecord rem a b false row
-      → RowsEnd answers is_strict now s m out middle text (Ok true)
+      → RowsEnd answers is_strict now s m out middle text (Ok passed.On)
   all_ran g config read = (
-    record {
-      rows = g.rows;
-      replies = g.replies;
-      all = (a.state, g.left, g.reached, rows-end rem a b row default_config g.left config g.known read);
-      answered = g.answered;
-      wrote = g.wrote;
-    },
+    (
+      record {
+        rows = g.rows;
+        replies = g.replies;
+        all = (a.state, g.left, g.reached, rows-end rem a b row default_config g.left config g.known read);
+        wrote = g.wrote;
+      },
+      g.answered,
+    ),
     g.passed,
   )
 
 -- ---- the whole import
 
-module _ {S R W : Type 0} (answers : S → Meaning → Answer → S → Type 0) (remaining : R → Option (List ℕ)) (contents : W → Option (List ℕ)) (now : ℕ)
+module _ {S R W : Type 0} (answers : S → ℕ → Call → S → Type 0) (remaining : R → Option (List ℕ)) (contents : W → Option (List ℕ)) (now : ℕ)
     (s t : S) (reader reader' : R) (writer writer' : W) where
   -- one that goes on behind a refusal
-  pub import_of_rows : (text : List ℕ) (ran : Result Bool Fault) → TookAll (remaining reader) (remaining reader') text
+  pub import_of_rows : (text : List ℕ) (ran : Result Passed Fault) → TookAll (remaining reader) (remaining reader') text
       → RowsEnd answers false now s t (contents writer) (contents writer') text ran
       → ImportEnds answers remaining contents now s t reader reader' writer writer' (result_map_both (λ all. tt) (λ fault. fault) ran)
-  import_of_rows text (Ok true) took ends = (text, took, ends.0)
-  import_of_rows text (Ok false) took ends = absurd (false≢true ends.1)
+  import_of_rows text (Ok passed.On) took ends = (text, took, ends.0)
+  import_of_rows text (Ok (passed.Refused refused)) took ends = absurd (false≢true ends.1)
   import_of_rows text (Err Write) took ends = (text, took, ends.0)
   import_of_rows text (Err Memory) took ends = inr (text, took, ends.0)
-  import_of_rows text (Err Read) took ends = absurd ends
-  import_of_rows text (Err (Refused refusal)) took ends = absurd ends
-  import_of_rows text (Err Store) took ends = absurd ends
-  import_of_rows text (Err Signer) took ends = absurd ends
+  import_of_rows text (Err other) took ends = absurd ends
 
   -- a strict one
-  pub strict_of_rows : (text : List ℕ) (result : Result Imported Fault) → TookAll (remaining reader) (remaining reader') text
+  pub strict_of_rows : (text : List ℕ) (result : Result Ended Fault) → TookAll (remaining reader) (remaining reader') text
       → StrictRan answers now s t (contents writer) (contents writer') text result
       → StrictEnds answers remaining contents now s t reader reader' writer writer' result
   strict_of_rows text result took ran = inl (text, took, ran)
 
 -- nothing ran, since the text could not be read
-module _ {S R W : Type 0} (answers : S → Meaning → Answer → S → Type 0) (remaining : R → Option (List ℕ)) (contents : W → Option (List ℕ)) (now : ℕ)
+module _ {S R W : Type 0} (answers : S → ℕ → Call → S → Type 0) (remaining : R → Option (List ℕ)) (contents : W → Option (List ℕ)) (now : ℕ)
     (s : S) (reader reader' : R) (writer : W) where
   pub import_of_read : (fault : Fault) → TextRead (remaining reader) (remaining reader') (Err fault)
       → ImportEnds answers remaining contents now s s reader reader' writer writer (Err fault)
   import_of_read Read ends = (ends, refl, refl)
   import_of_read Memory ends = inl (ends, refl, refl)
-  import_of_read Write ends = absurd ends
-  import_of_read (Refused refusal) ends = absurd ends
-  import_of_read Store ends = absurd ends
-  import_of_read Signer ends = absurd ends
+  import_of_read other ends = absurd ends
 
   pub strict_of_read : (fault : Fault) → TextRead (remaining reader) (remaining reader') (Err fault)
       → StrictEnds answers remaining contents now s s reader reader' writer writer (Err fault)
-  strict_of_read Read ends = inr (inl refl, ends, refl, refl)
-  strict_of_read Memory ends = inr (inr refl, ends, refl, refl)
-  strict_of_read Write ends = absurd ends
-  strict_of_read (Refused refusal) ends = absurd ends
-  strict_of_read Store ends = absurd ends
-  strict_of_read Signer ends = absurd ends
+  strict_of_read Read ends = inr (inl refl, (ends, refl, refl))
+  strict_of_read Memory ends = inr (inr refl, (ends, refl, refl))
+  strict_of_read other ends = absurd ends
 
 -- all was accepted up to the last line end of a text
-pub strict_ran : {S : Type 0} (answers : S → Meaning → Answer → S → Type 0) (now : ℕ) (s t : S) (out out' : Option (List ℕ)) (text : List ℕ) (how : Imported)
-    → RowsEnd answers true now s t out out' (ended_part text) (Ok true) → EndsBehind (length (ended_part text)) (length text) how
+pub strict_ran : {S : Type 0} (answers : S → ℕ → Call → S → Type 0) (now : ℕ) (s t : S) (out out' : Option (List ℕ)) (text : List ℕ) (how : Ended)
+    → RowsEnd answers true now s t out out' (ended_part text) (Ok passed.On) → EndsBehind (length (ended_part text)) (length text) how
     → StrictRan answers now s t out out' text (Ok how)
-strict_ran answers now s t out out' text imported.Whole rows ends = (rows, ends)
-strict_ran answers now s t out out' text imported.NoLineEnd rows ends = (rows, ends)
-strict_ran answers now s t out out' text imported.Refused rows ends = absurd ends
+strict_ran answers now s t out out' text ended.Whole rows ends = (rows, ends)
+strict_ran answers now s t out out' text ended.NoLineEnd rows ends = (rows, ends)
+strict_ran answers now s t out out' text (ended.Refused refused) rows ends = absurd ends
 
 -- a run of these rows came to a fault
-pub strict_failed : {S : Type 0} (answers : S → Meaning → Answer → S → Type 0) (now : ℕ) (s t : S) (out out' : Option (List ℕ)) (text ended : List ℕ) (fault : Fault)
-    → ended ≡ ended_part text → RowsEnd answers true now s t out out' ended (Err fault) → StrictRan answers now s t out out' text (Err fault)
-strict_failed answers now s t out out' text ended fault is ran = subst (λ l. RowsEnd answers true now s t out out' l (Err fault)) is ran
+pub strict_failed : {S : Type 0} (answers : S → ℕ → Call → S → Type 0) (now : ℕ) (s t : S) (out out' : Option (List ℕ)) (text front : List ℕ) (fault : Fault)
+    → front ≡ ended_part text → RowsEnd answers true now s t out out' front (Err fault) → StrictRan answers now s t out out' text (Err fault)
+strict_failed answers now s t out out' text front fault is ran = subst (λ l. RowsEnd answers true now s t out out' l (Err fault)) is ran

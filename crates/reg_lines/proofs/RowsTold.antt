@@ -8,7 +8,7 @@ use Rattle.csv.specs.declared.reader.Reader.{Reader}
 use Rattle.csv.proofs.ReadFacts.{rows-end, rows-more}
 use Rattle.std.specs.Result.{result_map_both}
 use Rattle.reg_core.specs.declared.refusal.Fault.{Fault}
-use Rattle.reg_core.specs.declared.refusal.Fault.TheVariants.{Refused, Memory, Store, Signer, Read, Write}
+use Rattle.reg_core.specs.declared.refusal.Fault.TheVariants.{Memory, Read}
 use Rattle.reg_lines.specs.Import.{Row, TextRead, TookAll, data_rows, is_header}
 use Rattle.reg_lines.specs.LineReading.{four}
 use Rattle.reg_lines.specs.Told.{TellsRows, ToldEnds, row_line, rows_told, told_at}
@@ -81,7 +81,4 @@ told_text input input' text (Err fault) took none = subst (λ f. ToldEnds input 
 pub told_read : (input input' : Option (List ℕ)) (fault : Fault) → TextRead input input' (Err fault) → ToldEnds input input' (Err fault)
 told_read input input' Read ends = ends
 told_read input input' Memory ends = inl ends
-told_read input input' Write ends = absurd ends
-told_read input input' (Refused refusal) ends = absurd ends
-told_read input input' Store ends = absurd ends
-told_read input input' Signer ends = absurd ends
+told_read input input' other ends = absurd ends

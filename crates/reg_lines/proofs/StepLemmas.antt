@@ -1,17 +1,21 @@
 -- Lemmas on one step of a run: what is read of a line, and that it ran.
-use Rattle.std.proofs.Common.{◌≡◌, ◌≢◌, ℕ, ◌+◌, ◌-◌, ◌<◌, ◌≤◌, true, false, List, [], ◌∷◌, ◌++◌, length, take, drop, Option, refl, sym, ap, ◌∙◌, subst, arith, inl, inr, length-append, length-take, length-drop, append-nil}
+use Rattle.std.proofs.Common.{◌≡◌, ◌≢◌, ◌⊎◌, ℕ, ◌+◌, ◌-◌, ◌<◌, ◌≤◌, Bool, true, false, List, [], ◌∷◌, ◌++◌, length, take, drop, Option, refl, sym, ap, ◌∙◌, subst, arith, inl, inr, length-append, length-take, length-drop, append-nil}
+use Rattle.std.specs.Prelude.{Ok, Err}
 use Rattle.std.specs.Io.BufRead.{ends_with_byte, strip_last}
-use Rattle.std.specs.Io.KnownBytes.{Appends, Consumes, IsAtEnd}
+use Rattle.std.specs.Io.KnownBytes.{Appends}
 use Rattle.std.proofs.lemmas.Bool.{eq-eqb, ne_eqb, lt-ltb}
 use Rattle.std.proofs.lemmas.List.{get_or_push, take_all, take_at}
-use Rattle.reg_wire.specs.Fill.{FillsShort, FillsTo}
-use Rattle.reg_wire.specs.Put.{AppendsFront}
-use Rattle.reg_wire.specs.declared.fill.Reached.TheVariants.{Mark, Full, End}
-use Rattle.reg_wire.proofs.PublicLaws.{byte_first, no_byte, cut_at_mark, held_now}
-use Rattle.reg_lines.specs.Answer.{Answer, Replies}
-use Rattle.reg_lines.specs.Meaning.{Meaning}
-use Rattle.reg_lines.specs.Script.{HasNoLf, IsShort, IsWholeLine, line_of}
-use Rattle.reg_lines.specs.ScriptSteps.{RanLast, RanWhole, ReadsNoLine, WritesPart}
+use Rattle.reg_io.specs.Fill.{FillsShort, FillsTo}
+use Rattle.reg_io.specs.declared.fill.Reached.TheVariants.{Mark, Full, End}
+use Rattle.reg_io.proofs.PublicLaws.{byte_first, no_byte, cut_at_mark, held_now}
+use Rattle.reg_core.specs.declared.refusal.Fault.{Fault}
+use Rattle.reg_core.specs.declared.refusal.Fault.TheVariants.{Read, Write}
+use Rattle.reg_lines.specs.Script.{HasNoLf, IsCut, IsShort, IsWholeLine, line_of}
+use Rattle.reg_lines.specs.ScriptSteps.{LastEnds, LineEnds, NextEnds, RanLast, RanWhole}
+use Rattle.reg_lines.specs.declared.answered.Ended.{Ended}
+use Rattle.reg_lines.specs.declared.answered.Ended.TheVariants as ended
+use Rattle.reg_lines.specs.declared.answered.Passed.TheVariants as passed
+use Rattle.reg_lines.specs.declared.lines.Next.TheVariants.{Held, End as Ends}
 use Rattle.reg_lines.proofs.Pieces.{turned}
 
 -- ---- lines
@@ -43,170 +47,215 @@ pub strip_free : (piece : List ℕ) → HasNoLf piece → strip_last 10 piece �
 strip_free piece free = rw (ends_free piece free) refl
 
 -- a whole line with its LF is one byte longer than what is before it
-pub whole_short : (piece : List ℕ) → IsWholeLine piece → length piece ≤ 8193 → IsShort piece
-whole_short piece (front, is, free) fits =
+whole_short : (longest : ℕ) (piece : List ℕ) → IsWholeLine piece → length piece ≤ longest + 1 → IsShort longest piece
+whole_short longest piece (front, is, free) fits =
     let size : length piece ≡ length front + 1 = ap length is ∙ length-append front (10 ∷ []) in
     let stripped : length (strip_last 10 piece) ≡ length front = ap (λ l. length (strip_last 10 l)) is ∙ ap length (strip_push front 10) in
     omega arith
 
-pub whole_some : (piece : List ℕ) → IsWholeLine piece → 0 < length piece
+whole_some : (piece : List ℕ) → IsWholeLine piece → 0 < length piece
 whole_some piece (front, is, free) =
     let size : length piece ≡ length front + 1 = ap length is ∙ length-append front (10 ∷ []) in
     omega arith
 
--- ---- at a mark
+-- Lines that run, in a buffer, which is `before` and then `after` the next bytes were taken.
+module _ {S : Type 0} (runs : S → List ℕ → List ℕ → S → Type 0) (longest : ℕ) (is_clocked is_strict : Bool) (s t : S) (out out' input left : Option (List ℕ))
+    (before after : List ℕ) (held : ℕ) (size : length after ≡ longest + 1) where
+  -- ---- at a mark
 
-pub whole_at : (input left : Option (List ℕ)) (before after : List ℕ) (held end now : ℕ)
-    → FillsTo (10 ∷ []) input left before after held (Mark end now) → IsWholeLine (take end after)
-whole_at input left before after held end now to = byte_first 10 after end to.rests.1
+  module _ (end now : ℕ) (to : FillsTo (10 ∷ []) input left before after held (Mark end now)) where
+    whole_at : IsWholeLine (take end after)
+    whole_at = byte_first 10 after end to.rests.1
 
-now_fits : (input left : Option (List ℕ)) (before after : List ℕ) (held end now : ℕ)
-    → FillsTo (10 ∷ []) input left before after held (Mark end now) → (end ≤ now) × (now ≤ length after)
-now_fits input left before after held end now to =
-    let count = to.count in
-    let within = to.fills.within in
-    (to.rests.0, omega arith)
+    ordered : end ≤ now
+    ordered = to.rests.0
 
-pub ran_whole : {S : Type 0} (answers : S → Meaning → Answer → S → Type 0) (s t : S) (input left out out' : Option (List ℕ)) (before after rotated reply line : List ℕ) (held end now : ℕ)
-    → FillsTo (10 ∷ []) input left before after held (Mark end now) → length after ≡ 8193 → rotated ≡ drop end after ++ take end after
-    → line ≡ line_of (take end after) → Replies answers s line reply t → Appends out out' reply
-    → (now - end < length rotated) × RanWhole answers s t input left out out' (take held before) (take (now - end) rotated)
-ran_whole answers s t input left out out' before after rotated reply line held end now to size is lines replied wrote =
-    let fits = now_fits input left before after held end now to in
-    let ordered : end ≤ now = fits.0 in
-    let within : now ≤ length after = fits.1 in
-    let whole = whole_at input left before after held end now to in
-    let cut = cut_at_mark (10 ∷ []) input left before after held end now to in
-    let moved : take (now - end) rotated ≡ drop end (take now after) = ap (take (now - end)) is ∙ turned after end now ordered within in
-    let taken : length (take end after) ≤ 8193 = omega (arith, length-take end after) in
-    let some : 0 < length (take end after) = whole_some (take end after) whole in
-    let long : length rotated ≡ length (drop end after) + length (take end after) = ap length is ∙ length-append (drop end after) (take end after) in (
-      omega (arith, long, length-take end after, length-drop end after),
+    within : now ≤ length after
+    within = let count = to.count in let fits = to.fills.within in omega arith
+
+    -- the line ran, and its reply was written; what is left is behind it
+    ran_at : (line reply rest : List ℕ) → line ≡ line_of (take end after) → rest ≡ drop end (take now after)
+        → runs s line reply t → Appends out out' reply
+        → (ran : RanWhole runs s t out out' longest input left (take held before) rest) × (ran.reply ≡ reply)
+    ran_at line reply rest lines is replied wrote = (
       record {
         took = to.took;
         piece = take end after;
         reply = reply;
         consumed = to.fills.consumed;
-        cut = cut ∙ ap (λ l. take end after ++ l) (sym moved);
-        whole = whole;
-        short = whole_short (take end after) whole taken;
-        replied = subst (λ l. Replies answers s l reply t) lines replied;
+        cut = cut_at_mark (10 ∷ []) input left before after held end now to ∙ ap (λ l. take end after ++ l) (sym is);
+        whole = whole_at;
+        short = whole_short longest (take end after) whole_at (omega (arith, size, length-take end after));
+        little = omega (arith, size, within, ap length is, length-drop end (take now after), length-take now after);
+        replied = subst (λ l. runs s l reply t) lines replied;
         wrote = wrote;
       },
+      refl,
     )
 
-pub writes_whole : {S : Type 0} (answers : S → Meaning → Answer → S → Type 0) (s t : S) (input left out out' : Option (List ℕ)) (before after reply line : List ℕ) (held end now : ℕ)
-    → FillsTo (10 ∷ []) input left before after held (Mark end now) → length after ≡ 8193
-    → line ≡ line_of (take end after) → Replies answers s line reply t → AppendsFront out out' reply
-    → WritesPart answers s t input left out out' (take held before)
-writes_whole answers s t input left out out' before after reply line held end now to size lines replied wrote =
-    let whole = whole_at input left before after held end now to in
-    let taken : length (take end after) ≤ 8193 = omega (arith, length-take end after) in record {
+    -- the buffer is turned, so that what is left stands at its front
+    pub ran_on : (line rotated : List ℕ) → line ≡ line_of (take end after) → rotated ≡ drop end after ++ take end after
+        → LineEnds runs s t out out' is_clocked is_strict line (Ok passed.On)
+        → NextEnds runs s t out out' longest input left (take held before) is_clocked is_strict rotated (Ok (Held (now - end)))
+    ran_on line rotated lines is (reply, replied, wrote, goes) =
+        let ran = ran_at line reply (take (now - end) rotated) lines (ap (take (now - end)) is ∙ turned after end now ordered within) replied wrote in
+        let some : 0 < length (take end after) = whole_some (take end after) whole_at in
+        let long : length rotated ≡ length (drop end after) + length (take end after) = ap length is ∙ length-append (drop end after) (take end after) in (
+          omega (arith, long, length-take end after, length-drop end after, ordered, within),
+          ran.0,
+          (λ strict. rw ran.1 (goes strict)),
+        )
+
+    -- a strict run ends
+    pub ran_refused : (line buffer : List ℕ) (refused : _) → line ≡ line_of (take end after)
+        → LineEnds runs s t out out' is_clocked is_strict line (Ok (passed.Refused refused))
+        → NextEnds runs s t out out' longest input left (take held before) is_clocked is_strict buffer (Ok (Ends (ended.Refused refused)))
+    ran_refused line buffer refused lines (reply, replied, wrote, goes) =
+        let ran = ran_at line reply (drop end (take now after)) lines refl replied wrote in
+        (drop end (take now after), ran.0, goes.0, rw ran.1 goes.1, rw ran.1 goes.2)
+
+    -- a fault
+    pub failed_at : (line buffer : List ℕ) (fault : Fault) → line ≡ line_of (take end after)
+        → LineEnds runs s t out out' is_clocked is_strict line (Err fault)
+        → NextEnds runs s t out out' longest input left (take held before) is_clocked is_strict buffer (Err fault)
+    failed_at line buffer Write lines (reply, replied, wrote) = record {
       took = to.took;
       piece = take end after;
       rest = drop end (take now after);
       reply = reply;
       consumed = to.fills.consumed;
       cut = cut_at_mark (10 ∷ []) input left before after held end now to;
-      ends = inl whole;
-      short = whole_short (take end after) whole taken;
-      replied = subst (λ l. Replies answers s l reply t) lines replied;
+      ends = inl whole_at;
+      short = whole_short longest (take end after) whole_at (omega (arith, size, length-take end after));
+      replied = subst (λ l. runs s l reply t) lines replied;
       wrote = wrote;
     }
+    failed_at line buffer Read lines (clocked, same, kept) = (
+      record {
+        took = to.took;
+        consumed = to.fills.consumed;
+        little = omega (arith, size, within, ap length (held_now (10 ∷ []) input left before after held (Mark end now) to), length-take now after);
+        office = same;
+        wrote = kept;
+      },
+      inr clocked,
+    )
+    failed_at line buffer other lines ends = absurd ends
 
--- ---- at the end of the input
+  -- ---- at the end of the input
 
--- what is held there
-pub record AtEnd (input left : Option (List ℕ)) (before : List ℕ) (last : List ℕ) (count : ℕ) : Type 0 where
-  pub took : List ℕ
-  pub consumed : Consumes input left took
-  pub at_end : IsAtEnd left
-  pub same : last ≡ before ++ took
-  pub size : length last ≡ count
-  pub short : count ≤ 8192
-  pub free : HasNoLf last
+  module _ (now : ℕ) (to : FillsTo (10 ∷ []) input left before after held (End now)) where
+    same : take now after ≡ take held before ++ to.took
+    same = held_now (10 ∷ []) input left before after held (End now) to
 
-pub at_end : (input left : Option (List ℕ)) (before after : List ℕ) (held now : ℕ)
-    → FillsTo (10 ∷ []) input left before after held (End now) → length after ≡ 8193 → AtEnd input left (take held before) (take now after) now
-at_end input left before after held now to size =
-    let room : now < length after = to.rests.0 in record {
+    free : HasNoLf (take now after)
+    free = no_byte 10 (take now after) to.rests.1
+
+    short : length (take now after) ≤ longest
+    short = let room = to.rests.0 in omega (arith, size, length-take now after)
+
+    some : now ≢ 0 → 0 < length (take now after)
+    some more = let room = to.rests.0 in omega (arith, length-take now after)
+
+    ran_last : ((take now after ≡ []) × (t ≡ s) × Appends out out' [])
+        ⊎ ((0 < length (take now after)) × (reply : List ℕ) × runs s (take now after) reply t × Appends out out' reply)
+        → (ran : RanLast runs s t out out' longest input left (take held before)) × (take held before ++ ran.took ≡ take now after)
+    ran_last ran = (
+      record {
+        took = to.took;
+        consumed = to.fills.consumed;
+        at_end = to.rests.2;
+        free = subst HasNoLf same free;
+        short = rw (sym same) short;
+        ran = rw (sym same) ran;
+      },
+      sym same,
+    )
+
+    -- nothing is left
+    pub ended_none : (buffer : List ℕ) → now ≡ 0 → t ≡ s → Appends out out' []
+        → NextEnds runs s t out out' longest input left (take held before) is_clocked is_strict buffer (Ok (Ends ended.Whole))
+    ended_none buffer none stays kept =
+        let empty : take now after ≡ [] = ap (λ n. take n after) none in
+        let ran = ran_last (inl (empty, stays, kept)) in
+        (ran.0, λ more. absurd (omega (arith, more, ap length ran.1, ap length empty)))
+
+    -- a last line has no LF
+    pub ended_last : (buffer : List ℕ) (how : Ended) → now ≢ 0
+        → LastEnds runs s t out out' is_clocked is_strict (take now after) (Ok how)
+        → NextEnds runs s t out out' longest input left (take held before) is_clocked is_strict buffer (Ok (Ends how))
+    ended_last buffer ended.Whole more (lax, reply, replied, wrote) =
+        let ran = ran_last (inr (some more, reply, replied, wrote)) in
+        (ran.0, λ _. lax)
+    ended_last buffer ended.NoLineEnd more (strict, stays, kept) = (
+      record {
+        took = to.took;
+        consumed = to.fills.consumed;
+        little = omega (arith, short, ap length same);
+        office = stays;
+        wrote = kept;
+      },
+      strict,
+      subst IsCut same (free, some more),
+      to.rests.2,
+    )
+    ended_last buffer (ended.Refused refused) more ends = absurd ends
+
+    -- its run came to a fault
+    pub failed_last : (buffer : List ℕ) (fault : Fault) → now ≢ 0
+        → LastEnds runs s t out out' is_clocked is_strict (take now after) (Err fault)
+        → NextEnds runs s t out out' longest input left (take held before) is_clocked is_strict buffer (Err fault)
+    failed_last buffer Write more (reply, replied, wrote) = record {
       took = to.took;
-      consumed = to.fills.consumed;
-      at_end = to.rests.2;
-      same = held_now (10 ∷ []) input left before after held (End now) to;
-      size = omega (arith, length-take now after);
-      short = omega arith;
-      free = no_byte 10 (take now after) to.rests.1;
-    }
-
-pub ran_none : {S : Type 0} (answers : S → Meaning → Answer → S → Type 0) (s : S) (input left out : Option (List ℕ)) (before last : List ℕ)
-    → AtEnd input left before last 0 → Appends out out [] → RanLast answers s s input left out out before
-ran_none answers s input left out before [] at kept = record {
-  took = at.took;
-  consumed = at.consumed;
-  at_end = at.at_end;
-  free = subst HasNoLf at.same at.free;
-  short = let size : length (before ++ at.took) ≡ 0 = ap length (sym at.same) in omega arith;
-  ran = inl (sym at.same, refl, kept);
-}
-ran_none answers s input left out before (byte ∷ rest) at kept = let size = at.size in absurd (omega arith)
-
-pub ran_last : {S : Type 0} (answers : S → Meaning → Answer → S → Type 0) (s t : S) (input left out out' : Option (List ℕ)) (before last reply : List ℕ) (count : ℕ)
-    → AtEnd input left before last count → count ≢ 0 → Replies answers s last reply t → Appends out out' reply → RanLast answers s t input left out out' before
-ran_last answers s t input left out out' before last reply count at some replied wrote =
-    let size : length (before ++ at.took) ≡ count = ap length (sym at.same) ∙ at.size in
-    let short : count ≤ 8192 = at.short in record {
-      took = at.took;
-      consumed = at.consumed;
-      at_end = at.at_end;
-      free = subst HasNoLf at.same at.free;
-      short = omega arith;
-      ran = inr (omega arith, reply, subst (λ l. Replies answers s l reply t) at.same replied, wrote);
-    }
-
-pub writes_last : {S : Type 0} (answers : S → Meaning → Answer → S → Type 0) (s t : S) (input left out out' : Option (List ℕ)) (before last reply : List ℕ) (count : ℕ)
-    → AtEnd input left before last count → count ≢ 0 → Replies answers s last reply t → AppendsFront out out' reply → WritesPart answers s t input left out out' before
-writes_last answers s t input left out out' before last reply count at some replied wrote =
-    let size = at.size in
-    let short = at.short in
-    let stripped : length (strip_last 10 last) ≡ length last = ap length (strip_free last at.free) in record {
-      took = at.took;
-      piece = last;
+      piece = take now after;
       rest = [];
       reply = reply;
-      consumed = at.consumed;
-      cut = sym at.same ∙ sym (append-nil last);
-      ends = inr (at.free, omega arith, refl, at.at_end);
-      short = omega arith;
-      replied = subst (λ l. Replies answers s l reply t) (sym (line_free last at.free)) replied;
+      consumed = to.fills.consumed;
+      cut = sym same ∙ sym (append-nil (take now after));
+      ends = inr ((free, some more), refl, to.rests.2);
+      short = omega (arith, short, ap length (strip_free (take now after) free));
+      replied = subst (λ l. runs s l reply t) (sym (line_free (take now after) free)) replied;
       wrote = wrote;
     }
+    failed_last buffer Read more (clocked, stays, kept) = (
+      record {
+        took = to.took;
+        consumed = to.fills.consumed;
+        little = omega (arith, short, ap length same);
+        office = stays;
+        wrote = kept;
+      },
+      inl (subst HasNoLf same free),
+    )
+    failed_last buffer other more ends = absurd ends
 
--- ---- where the input fails
+  -- ---- where the input fails
 
-pub reads_full : {S : Type 0} (s : S) (input left out : Option (List ℕ)) (before after : List ℕ) (held : ℕ)
-    → FillsTo (10 ∷ []) input left before after held Full → length after ≡ 8193 → Appends out out [] → ReadsNoLine s s input left out out (take held before)
-reads_full s input left out before after held to size kept =
-    let now = held_now (10 ∷ []) input left before after held Full to in
-    let all : after ≡ take held before ++ to.took = sym (take_all (length after) after (omega arith)) ∙ now in
-    let long : length (take held before ++ to.took) ≡ length after = ap length (sym all) in record {
-      took = to.took;
-      consumed = to.fills.consumed;
-      free = subst HasNoLf all (no_byte 10 after to.rests);
-      little = omega arith;
-      office = refl;
-      wrote = kept;
-    }
+  pub reads_full : (buffer : List ℕ) → FillsTo (10 ∷ []) input left before after held Full → t ≡ s → Appends out out' []
+      → NextEnds runs s t out out' longest input left (take held before) is_clocked is_strict buffer (Err Read)
+  reads_full buffer to stays kept =
+      let all : after ≡ take held before ++ to.took =
+      sym (take_all (length after) after (omega arith)) ∙ held_now (10 ∷ []) input left before after held Full to in (
+        record {
+          took = to.took;
+          consumed = to.fills.consumed;
+          little = omega (arith, size, ap length all);
+          office = stays;
+          wrote = kept;
+        },
+        inl (subst HasNoLf all (no_byte 10 after to.rests)),
+      )
 
-pub reads_short : {S : Type 0} (s : S) (input left out : Option (List ℕ)) (before after : List ℕ) (held : ℕ)
-    → FillsShort (10 ∷ []) input left before after held → length after ≡ 8193 → Appends out out [] → ReadsNoLine s s input left out out (take held before)
-reads_short s input left out before after held to size kept =
-    let room = to.room in
-    let long : length (take held before ++ to.took) ≡ length (take (held + length to.took) after) = ap length (sym to.fills.stands) in record {
-      took = to.took;
-      consumed = to.fills.consumed;
-      free = subst HasNoLf to.fills.stands (no_byte 10 _ to.unmarked);
-      little = omega (arith, length-take (held + length to.took) after);
-      office = refl;
-      wrote = kept;
-    }
+  pub reads_short : (buffer : List ℕ) → FillsShort (10 ∷ []) input left before after held → t ≡ s → Appends out out' []
+      → NextEnds runs s t out out' longest input left (take held before) is_clocked is_strict buffer (Err Read)
+  reads_short buffer to stays kept =
+      let room = to.room in (
+        record {
+          took = to.took;
+          consumed = to.fills.consumed;
+          little = omega (arith, size, ap length to.fills.stands, length-take (held + length to.took) after);
+          office = stays;
+          wrote = kept;
+        },
+        inl (subst HasNoLf to.fills.stands (no_byte 10 _ to.unmarked)),
+      )

@@ -1,6 +1,15 @@
 -- Replies that are accepted, and those that end a strict run.
-use Rattle.std.specs.Prelude.{◌≡◌, ℕ, Bool, true, false, List, [], ◌∷◌, ◌++◌, IsTrue}
+use Rattle.std.specs.Prelude.{◌≡◌, ℕ, Bool, List, [], ◌∷◌, ◌++◌, IfSome, IsTrue, Result, Ok, Err}
+use Rattle.std.specs.declared.option.Option.{Option}
 use Rattle.std.specs.List.{AllByRecursion}
+use Rattle.std.specs.Io.KnownBytes.{Appends}
+use Rattle.reg_core.specs.Lines.{refusal_line}
+use Rattle.reg_lines.specs.Replies.{with_lf}
+use Rattle.reg_lines.specs.declared.answered.Passed.{Passed}
+use Rattle.reg_lines.specs.declared.answered.Passed.TheVariants.{On, Refused}
+use Rattle.reg_lines.specs.declared.answered.RefusedCommand.{RefusedCommand}
+use Rattle.reg_io.specs.Put.{AppendsFront}
+use Rattle.reg_io.specs.declared.put.WriteFault.{WriteFault}
 
 -- a reply that is accepted: a refusal begins with E and a fault with F (69 and 70), and that steps are no schedule with b (98)
 abbrev pub IsAccepted : List ℕ → Type 0
@@ -15,7 +24,21 @@ pub record EndsRefused (replies : List (List ℕ)) : Type 0 where
   pub each : AllByRecursion IsAccepted accepted
   pub last : ¬ IsAccepted refused
 
+-- where a command was refused, the reply tells why
+abbrev pub TellsWhy : Option RefusedCommand → List ℕ → Type 0
+TellsWhy refused reply = IfSome refused (λ command. reply ≡ with_lf (refusal_line command.why))
+
 -- whether a run goes on behind a reply: a strict one, only behind one that is accepted
-abbrev pub GoesOn : Bool → List ℕ → Bool → Type 0
-GoesOn is_strict reply true = IsTrue is_strict → IsAccepted reply
-GoesOn is_strict reply false = IsTrue is_strict × ¬ IsAccepted reply
+abbrev pub GoesOn : Bool → List ℕ → Passed → Type 0
+GoesOn is_strict reply On = IsTrue is_strict → IsAccepted reply
+GoesOn is_strict reply (Refused refused) = IsTrue is_strict × (¬ IsAccepted reply) × TellsWhy refused reply
+
+-- the bytes were written, or at a fault a front of them
+abbrev pub Wrote : Option (List ℕ) → Option (List ℕ) → List ℕ → Result (Unit {0}) WriteFault → Type 0
+Wrote out out' bytes (Ok done) = Appends out out' bytes
+Wrote out out' bytes (Err fault) = AppendsFront out out' bytes
+
+-- a reply was written, and whether the run goes on behind it; or a front of it was
+abbrev pub Said : Bool → Option (List ℕ) → Option (List ℕ) → List ℕ → Result Passed WriteFault → Type 0
+Said is_strict out out' reply (Ok passed) = Appends out out' reply × GoesOn is_strict reply passed
+Said is_strict out out' reply (Err fault) = AppendsFront out out' reply

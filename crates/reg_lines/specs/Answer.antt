@@ -1,41 +1,89 @@
--- What an office answers to a line, and what is written of it.
-use Rattle.std.specs.Prelude.{◌≡◌, ◌⊎◌, ℕ, List, ◌++◌, codes, Result, Ok, Err}
+-- What a line comes to, and the reply that tells it.
+use Rattle.std.specs.Prelude.{◌≡◌, ◌⊎◌, ℕ, Bool, true, false, ◌==◌, List, ◌++◌, codes, is_ok, length, Option, Some, None, Result, Ok, Err}
 use Rattle.hex.specs.Hex.{encode_lower}
+use Rattle.reg_office_api.specs.declared.office.Office.{Ghosts as Office}
 use Rattle.reg_core.specs.declared.command.Reply.{Reply}
 use Rattle.reg_core.specs.declared.memory.Memory.{Memory as NoMemory}
 use Rattle.reg_core.specs.declared.refusal.Fault.{Fault}
 use Rattle.reg_core.specs.declared.refusal.Fault.TheVariants.{Refused, Memory}
 use Rattle.reg_core.specs.declared.refusal.Refusal.TheVariants.{Syntax}
-use Rattle.reg_lines.specs.Meaning.{Meaning, asks_ocsp, IsUnreadable, LineMeans}
+use Rattle.reg_lines.specs.ByCalls.{Call, LineCalls, ran, asked, responded}
+use Rattle.reg_lines.specs.Meaning.{Meaning, tells, asks, asks_ocsp, HasMoment, HasNoMoment, IsUnreadable, LineMeans}
 use Rattle.reg_lines.specs.Replies.{outcome_line, with_lf}
+use Rattle.reg_lines.specs.declared.answered.Answered.{Answered}
+use Rattle.reg_lines.specs.declared.answered.Answered.TheVariants.{CameTo, Response}
+use Rattle.reg_lines.specs.declared.answered.Asked.TheVariants.{Nothing, Command, Query, Ocsp}
+use Rattle.reg_lines.specs.declared.answered.OcspReply.{OcspReply}
+use Rattle.reg_lines.specs.declared.answered.RefusedCommand.{RefusedCommand}
+use Rattle.reg_lines.specs.declared.host.Host.{Ghosts as Host}
 
--- what an office answers: what a command or query came to, or the bytes of an OCSP response (RFC 6960 4.2) or want of memory for it
-pub data Answer : Type 0 where
-  came_to : Result Reply Fault → Answer
-  responded : Result (List ℕ) NoMemory → Answer
+-- the reply, with its LF
+abbrev pub reply_of : Answered → List ℕ
+reply_of (CameTo what outcome) = with_lf (outcome_line outcome)
+reply_of (Response reply) = reply.line.items
 
--- a reply that tells of want of memory
-abbrev pub TellsMemory : List ℕ → Type 0
-TellsMemory reply = reply ≡ with_lf (outcome_line (Err Memory))
+-- whether it is neither a refusal nor a fault
+abbrev pub accepts : Answered → Bool
+accepts (CameTo what outcome) = is_ok outcome
+accepts (Response reply) = true
 
--- the reply tells this answer; where the memory for a response's digits is not there, it tells of that
-abbrev pub TellsAnswer : Answer → List ℕ → Type 0
-TellsAnswer (came_to outcome) reply = reply ≡ with_lf (outcome_line outcome)
-TellsAnswer (responded (Ok bytes)) reply = (reply ≡ with_lf (codes "ocsp " ++ encode_lower bytes)) ⊎ TellsMemory reply
-TellsAnswer (responded (Err memory)) reply = TellsMemory reply
+-- the command that was refused, if one was
+abbrev pub refused_of : Answered → Option RefusedCommand
+refused_of (CameTo (Command command) (Err (Refused why))) = Some (record { command = command; why = why })
+refused_of other = None
 
--- the office is asked what the line means, and the reply tells its answer
-abbrev pub LineIsAnswered : {S : Type 0} → (S → Meaning → Answer → S → Type 0) → S → List ℕ → List ℕ → S → Type 0
-LineIsAnswered answers s line reply t = (meaning : Meaning) × (answer : Answer) × LineMeans line meaning × answers s meaning answer t × TellsAnswer answer reply
+-- what a line comes to that can't be read
+abbrev pub unreadable : Answered
+unreadable = CameTo Nothing (Err (Refused Syntax))
 
--- the line is an OCSP request, whose bytes there is no memory for, and the office is not asked
-abbrev pub IsTooMuch : {S : Type 0} → S → List ℕ → List ℕ → S → Type 0
-IsTooMuch s line reply t = (now : ℕ) × (bytes : List ℕ) × LineMeans line (asks_ocsp now bytes) × TellsMemory reply × (t ≡ s)
+-- the reply to an OCSP request with this response, which refuses where it has five bytes: a status and nothing else (RFC 6960 4.2.1)
+pub record IsReplyOf (response : List ℕ) (reply : OcspReply) : Type 0 where
+  pub line : reply.line.items ≡ with_lf (codes "ocsp " ++ encode_lower response)
+  pub refuses : reply.is_refusal ≡ (length response == 5)
 
--- the line is unreadable, and the office is not asked
-abbrev pub IsRefused : {S : Type 0} → S → List ℕ → List ℕ → S → Type 0
-IsRefused s line reply t = IsUnreadable line × (reply ≡ with_lf (outcome_line (Err (Refused Syntax)))) × (t ≡ s)
+-- what a line with an OCSP request comes to by what it was given; or there was no memory for the request, the response or its digits
+abbrev pub TellsGiven : Result (List ℕ) NoMemory → Answered → Type 0
+TellsGiven given (CameTo what outcome) = (what ≡ Ocsp) × (outcome ≡ Err Memory)
+TellsGiven (Ok response) (Response reply) = IsReplyOf response reply
+TellsGiven (Err memory) (Response reply) = ⊥
 
--- One line and its reply: the office `s` becomes `t`. `answers` is the relation of the office's calls, `ByCalls`.
-abbrev pub Replies : {S : Type 0} → (S → Meaning → Answer → S → Type 0) → S → List ℕ → List ℕ → S → Type 0
-Replies answers s line reply t = LineIsAnswered answers s line reply t ⊎ (IsTooMuch s line reply t ⊎ IsRefused s line reply t)
+-- Lines, run by an office: `s` is the office before, `t` after. `answers` is the relation of its calls, `ByCalls`.
+module _ {S : Type 0} (answers : S → ℕ → Call → S → Type 0) where
+  -- the office is asked this at a moment, and it comes to that
+  abbrev pub IsAsked : ℕ → S → Meaning → Answered → S → Type 0
+  IsAsked now s (tells command) answered t = (outcome : Result Reply Fault) × answers s now (ran command outcome) t × (answered ≡ CameTo (Command command) outcome)
+  IsAsked now s (asks query) answered t = (outcome : Result Reply Fault) × answers s now (asked query outcome) t × (answered ≡ CameTo (Query query) outcome)
+  IsAsked now s (asks_ocsp request) answered t = (given : Result (List ℕ) NoMemory) × answers s now (responded request given) t × TellsGiven given answered
+
+  -- a command line, at a moment: the office is asked what it means; or it is unreadable, and nothing is asked
+  abbrev pub ComesTo : ℕ → S → List ℕ → Answered → S → Type 0
+  ComesTo now s line answered t =
+      ((meaning : Meaning) × LineMeans line meaning × IsAsked now s meaning answered t)
+      ⊎ (IsUnreadable line × (answered ≡ unreadable) × (t ≡ s))
+
+  -- a line of a script: a moment and a command line; or it begins with no moment, and is unreadable
+  abbrev pub TimedComesTo : S → List ℕ → Answered → S → Type 0
+  TimedComesTo s line answered t =
+      ((now : ℕ) × (command : List ℕ) × HasMoment line now command × ComesTo now s command answered t)
+      ⊎ (HasNoMoment line × (answered ≡ unreadable) × (t ≡ s))
+
+  -- a line of an input: a command line at a moment that a clock told, or a line of a script
+  abbrev pub LineComesTo : (ℕ → Type 0) → Bool → S → List ℕ → Answered → S → Type 0
+  LineComesTo told true = λ s line answered t. (now : ℕ) × told now × ComesTo now s line answered t
+  LineComesTo told false = TimedComesTo
+
+-- a line and its reply, by what it comes to
+abbrev pub Replied : {S : Type 0} → (S → List ℕ → Answered → S → Type 0) → S → List ℕ → List ℕ → S → Type 0
+Replied comes_to s line reply t = (answered : Answered) × comes_to s line answered t × (reply ≡ reply_of answered)
+
+-- a line of an input and its reply
+abbrev pub LineReplies : {S : Type 0} → (S → ℕ → Call → S → Type 0) → (ℕ → Type 0) → Bool → S → List ℕ → List ℕ → S → Type 0
+LineReplies answers told is_clocked = Replied (LineComesTo answers told is_clocked)
+
+-- the same as an office runs it for a host
+abbrev pub HostLines : {O H : Type 0} → Office O → Host H → H → O → List ℕ → List ℕ → O → Type 0
+HostLines office hosts host = LineReplies (LineCalls office) hosts.told (hosts.clocked host)
+
+-- a line of a script and its reply
+abbrev pub TimedReplies : {S : Type 0} → (S → ℕ → Call → S → Type 0) → S → List ℕ → List ℕ → S → Type 0
+TimedReplies answers = Replied (TimedComesTo answers)

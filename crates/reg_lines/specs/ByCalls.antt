@@ -1,22 +1,49 @@
--- What a line means, asked of an office.
-use Rattle.std.specs.Prelude.{ℕ, List, Result}
+-- What a line asks of an office.
+use Rattle.std.specs.Prelude.{◌≡◌, ◌<◌, ℕ, List, Result, Err}
+use Rattle.reg_office_api.specs.CallSteps.{Signs, Runs, Asks, Ocsps}
+use Rattle.reg_office_api.specs.Leads.{Leads}
+use Rattle.reg_office_api.specs.Signatories.{Signatory}
+use Rattle.reg_office_api.specs.declared.office.Office.{Ghosts as Office}
+use Rattle.reg_core.specs.Records.{Records}
 use Rattle.reg_core.specs.declared.command.Command.{Command}
 use Rattle.reg_core.specs.declared.command.Query.{Query}
 use Rattle.reg_core.specs.declared.command.Reply.{Reply}
 use Rattle.reg_core.specs.declared.memory.Memory.{Memory}
 use Rattle.reg_core.specs.declared.refusal.Fault.{Fault}
-use Rattle.reg_lines.specs.Answer.{Answer, came_to, responded}
-use Rattle.reg_lines.specs.Meaning.{Meaning, tells, asks, asks_ocsp}
+use Rattle.reg_core.specs.declared.refusal.Fault.TheVariants.{Signer}
 
--- The office's relations: a command, a query and an OCSP request; `s` is the office before, `t` after.
+-- a call of an office, and what it came to: a command, a query, or an OCSP request by its bytes (RFC 6960 4.1)
+pub data Call : Type 0 where
+  ran : Command → Result Reply Fault → Call
+  asked : Query → Result Reply Fault → Call
+  responded : List ℕ → Result (List ℕ) Memory → Call
+
+-- The office's relations: `s` is the office before, `t` after.
 module _ {S : Type 0} (run : S → ℕ → Command → Result Reply Fault → S → Type 0)
     (ask : S → ℕ → Query → Result Reply Fault → S → Type 0)
     (ocsp : S → ℕ → List ℕ → Result (List ℕ) Memory → S → Type 0) where
-  -- the answer to a meaning is that of the one call which it asks for
-  abbrev pub ByCalls : S → Meaning → Answer → S → Type 0
-  ByCalls s (tells now command) (came_to outcome) t = run s now command outcome t
-  ByCalls s (asks now query) (came_to outcome) t = ask s now query outcome t
-  ByCalls s (asks_ocsp now request) (responded given) t = ocsp s now request given t
-  ByCalls s (tells now command) (responded given) t = ⊥
-  ByCalls s (asks now query) (responded given) t = ⊥
-  ByCalls s (asks_ocsp now request) (came_to outcome) t = ⊥
+  -- a call at a moment is one of these three
+  abbrev pub ByCalls : S → ℕ → Call → S → Type 0
+  ByCalls s now (ran command outcome) t = run s now command outcome t
+  ByCalls s now (asked query outcome) t = ask s now query outcome t
+  ByCalls s now (responded request given) t = ocsp s now request given t
+
+-- what a line asks and is answered over the records, by what each call comes to
+abbrev pub Lines : Signs → Signatory → Records → ℕ → Call → Records → Type 0
+Lines signs who = ByCalls (Runs signs who) Asks (Ocsps signs who)
+
+-- a call came to a fault of the signer of CRLs
+abbrev pub FailsToSign : Call → Type 0
+FailsToSign (ran command outcome) = outcome ≡ Err Signer
+FailsToSign (asked query outcome) = outcome ≡ Err Signer
+FailsToSign (responded request given) = ⊥
+
+-- where a call came to a fault of the signer, the signer counted a failure: how many it had counted before and after
+abbrev pub CountsFailure : ℕ → Call → ℕ → Type 0
+CountsFailure before call after = FailsToSign call → before < after
+
+-- what a line asks, asked of an office: a step of the records that stand in it, at which its signer counts what it fails
+abbrev pub LineCalls : {O : Type 0} → Office O → O → ℕ → Call → O → Type 0
+LineCalls office s now call t =
+    Leads office.is_clean office.stands (λ who before after. Lines office.signs who before now call after) s t
+    × CountsFailure (office.failures s) call (office.failures t)

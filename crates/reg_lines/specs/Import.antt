@@ -12,15 +12,17 @@ use Rattle.csv.specs.declared.reader.Trim.TheVariants as trim
 use Rattle.reg_core.specs.declared.command.Command.{Command}
 use Rattle.reg_core.specs.declared.command.Reply.{Reply}
 use Rattle.reg_core.specs.declared.refusal.Fault.{Fault}
-use Rattle.reg_core.specs.declared.refusal.Fault.TheVariants.{Refused, Memory, Store, Signer, Read, Write}
+use Rattle.reg_core.specs.declared.refusal.Fault.TheVariants.{Refused, Memory, Read, Write}
 use Rattle.reg_core.specs.declared.refusal.Refusal.TheVariants.{Syntax}
-use Rattle.reg_wire.specs.Put.{AppendsFront}
-use Rattle.reg_wire.specs.RunsOfAnswers.{Answered}
-use Rattle.reg_wire.specs.declared.put.WriteFault.{WriteFault}
-use Rattle.reg_lines.specs.Accepted.{EndsRefused, GoesOn, IsAccepted}
-use Rattle.reg_lines.specs.Answer.{Answer, came_to}
-use Rattle.reg_lines.specs.Meaning.{Meaning, tells, SpellsCommand}
+use Rattle.reg_io.specs.RunsOfAnswers.{Answered}
+use Rattle.reg_io.specs.declared.put.WriteFault.{WriteFault}
+use Rattle.reg_lines.specs.Accepted.{EndsRefused, IsAccepted, Said, TellsWhy}
+use Rattle.reg_lines.specs.ByCalls.{Call, ran}
+use Rattle.reg_lines.specs.Meaning.{SpellsCommand}
 use Rattle.reg_lines.specs.LineReading.{four}
+use Rattle.reg_lines.specs.declared.answered.Passed.{Passed}
+use Rattle.reg_lines.specs.declared.answered.Passed.TheVariants.{On}
+use Rattle.reg_lines.specs.declared.answered.Passed.TheVariants as passed
 use Rattle.reg_lines.specs.Replies.{outcome_line, with_lf}
 
 -- the most bytes of an import
@@ -59,41 +61,54 @@ abbrev pub RowMeans : Row → Command → Type 0
 RowMeans row command = SpellsCommand command (codes "register" ∷ row)
 
 -- One row and its reply at a moment: the office `s` becomes `t`. A row that spells no command is unreadable, and the office is not asked.
-abbrev pub RowReplies : {S : Type 0} → (S → Meaning → Answer → S → Type 0) → ℕ → S → Row → List ℕ → S → Type 0
+abbrev pub RowReplies : {S : Type 0} → (S → ℕ → Call → S → Type 0) → ℕ → S → Row → List ℕ → S → Type 0
 RowReplies answers now s row reply t =
-    ((command : Command) × (outcome : Result Reply Fault) × RowMeans row command × answers s (tells now command) (came_to outcome) t × (reply ≡ with_lf (outcome_line outcome)))
+    ((command : Command) × (outcome : Result Reply Fault) × RowMeans row command × answers s now (ran command outcome) t
+    × (reply ≡ with_lf (outcome_line outcome)))
     ⊎ (((command : Command) → ¬ RowMeans row command) × (reply ≡ with_lf (outcome_line (Err (Refused Syntax)))) × (t ≡ s))
 
--- each row of the text ran, in turn, and the replies were written and nothing else
-pub record AllRan {S : Type 0} (answers : S → Meaning → Answer → S → Type 0) (now : ℕ) (s t : S) (out out' : Option (List ℕ)) (text : List ℕ) : Type 0 where
-  pub rows : List Row
-  pub replies : List (List ℕ)
-  pub all : AreCsvRows text rows
-  pub answered : Answered (RowReplies answers now) s (data_rows rows) replies t
-  pub wrote : Appends out out' (concat replies)
+-- What was written of the rows of a text: the output before and after.
+module _ (text : List ℕ) (out out' : Option (List ℕ)) where
+  -- the replies to all rows of the text were written and nothing else
+  pub record AllRows : Type 0 where
+    pub rows : List Row
+    pub replies : List (List ℕ)
+    pub all : AreCsvRows text rows
+    pub wrote : Appends out out' (concat replies)
 
--- the first rows of the text ran, and their replies were written
-pub record FirstRan {S : Type 0} (answers : S → Meaning → Answer → S → Type 0) (now : ℕ) (s t : S) (out out' : Option (List ℕ)) (text : List ℕ) : Type 0 where
-  pub rows : List Row
-  pub replies : List (List ℕ)
-  pub first : AreFirstRows text rows
-  pub answered : Answered (RowReplies answers now) s (data_rows rows) replies t
-  pub wrote : Appends out out' (concat replies)
+  -- those to its first rows were
+  pub record FirstRows : Type 0 where
+    pub rows : List Row
+    pub replies : List (List ℕ)
+    pub first : AreFirstRows text rows
+    pub wrote : Appends out out' (concat replies)
 
--- the first rows ran, their replies were written, and the row after them ran, which is no header; of its reply a front was written
-pub record OneCut {S : Type 0} (answers : S → Meaning → Answer → S → Type 0) (now : ℕ) (s t : S) (out out' : Option (List ℕ)) (text : List ℕ) : Type 0 where
-  pub rows : List Row
-  pub replies : List (List ℕ)
-  pub middle : S
-  pub row : Row
-  pub reply : List ℕ
-  pub part : ℕ
-  pub first : AreFirstRows text (rows ++ row ∷ [])
-  pub no_header : data_rows (rows ++ row ∷ []) ≡ data_rows rows ++ row ∷ []
-  pub answered : Answered (RowReplies answers now) s (data_rows rows) replies middle
-  pub replied : RowReplies answers now middle row reply t
-  pub partly : part < length reply
-  pub wrote : Appends out out' (concat replies ++ take part reply)
+  -- those to its first rows were, and a front of that to the row after them, which is no header
+  pub record CutRow : Type 0 where
+    pub rows : List Row
+    pub replies : List (List ℕ)
+    pub row : Row
+    pub reply : List ℕ
+    pub part : ℕ
+    pub first : AreFirstRows text (rows ++ row ∷ [])
+    pub no_header : data_rows (rows ++ row ∷ []) ≡ data_rows rows ++ row ∷ []
+    pub partly : part < length reply
+    pub wrote : Appends out out' (concat replies ++ take part reply)
+
+-- Rows of a text that ran at a moment, in turn: the office, and what was written, before and after.
+module _ {S : Type 0} (answers : S → ℕ → Call → S → Type 0) (now : ℕ) (s t : S) (out out' : Option (List ℕ)) (text : List ℕ) where
+  -- all of them
+  abbrev pub AllRan : Type 0
+  AllRan = (all : AllRows text out out') × Answered (RowReplies answers now) s (data_rows all.rows) all.replies t
+
+  -- the first ones
+  abbrev pub FirstRan : Type 0
+  FirstRan = (first : FirstRows text out out') × Answered (RowReplies answers now) s (data_rows first.rows) first.replies t
+
+  -- the first ones, and one whose reply was cut
+  abbrev pub OneCut : Type 0
+  OneCut = (cut : CutRow text out out') × (middle : S) × Answered (RowReplies answers now) s (data_rows cut.rows) cut.replies middle
+      × RowReplies answers now middle cut.row cut.reply t
 
 -- the text was taken whole
 pub record TookAll (input input' : Option (List ℕ)) (text : List ℕ) : Type 0 where
@@ -105,21 +120,24 @@ pub record TookAll (input input' : Option (List ℕ)) (text : List ℕ) : Type 0
 abbrev pub TookSome : Option (List ℕ) → Option (List ℕ) → Type 0
 TookSome input input' = (took : List ℕ) × Consumes input input' took × (length took ≤ most_bytes + 1)
 
--- How an import ends. At a fault of the input nothing ran. At want of memory nothing ran, or, with the whole text taken, its first rows.
-abbrev pub ImportEnds : {S R W : Type 0} → (S → Meaning → Answer → S → Type 0) → (R → Option (List ℕ)) → (W → Option (List ℕ))
-    → ℕ → S → S → R → R → W → W → Result (Unit {0}) Fault → Type 0
-ImportEnds answers remaining contents now s t reader reader' writer writer' (Ok done) =
-    (text : List ℕ) × TookAll (remaining reader) (remaining reader') text × AllRan answers now s t (contents writer) (contents writer') text
-ImportEnds answers remaining contents now s t reader reader' writer writer' (Err Read) =
-    TookSome (remaining reader) (remaining reader') × (t ≡ s) × (writer' ≡ writer)
-ImportEnds answers remaining contents now s t reader reader' writer writer' (Err Write) =
-    (text : List ℕ) × TookAll (remaining reader) (remaining reader') text × OneCut answers now s t (contents writer) (contents writer') text
-ImportEnds answers remaining contents now s t reader reader' writer writer' (Err Memory) =
-    (TookSome (remaining reader) (remaining reader') × (t ≡ s) × (writer' ≡ writer))
-    ⊎ ((text : List ℕ) × TookAll (remaining reader) (remaining reader') text × FirstRan answers now s t (contents writer) (contents writer') text)
-ImportEnds answers remaining contents now s t reader reader' writer writer' (Err (Refused refusal)) = ⊥
-ImportEnds answers remaining contents now s t reader reader' writer writer' (Err Store) = ⊥
-ImportEnds answers remaining contents now s t reader reader' writer writer' (Err Signer) = ⊥
+-- An import at a moment: the office, the reader and the writer before and after.
+module _ {S R W : Type 0} (answers : S → ℕ → Call → S → Type 0) (remaining : R → Option (List ℕ)) (contents : W → Option (List ℕ))
+    (now : ℕ) (s t : S) (reader reader' : R) (writer writer' : W) where
+  -- the input failed, or the import is out of memory, before the first row
+  abbrev pub RunsNothing : Type 0
+  RunsNothing = TookSome (remaining reader) (remaining reader') × (t ≡ s) × (writer' ≡ writer)
+
+  -- the whole text was taken, and this holds of it
+  abbrev pub TookText : (List ℕ → Type 0) → Type 0
+  TookText Holds = (text : List ℕ) × TookAll (remaining reader) (remaining reader') text × Holds text
+
+  -- How an import ends. At a fault of the input nothing ran. Out of memory, nothing ran, or, with the whole text taken, its first rows.
+  abbrev pub ImportEnds : Result (Unit {0}) Fault → Type 0
+  ImportEnds (Ok done) = TookText (AllRan answers now s t (contents writer) (contents writer'))
+  ImportEnds (Err Read) = RunsNothing
+  ImportEnds (Err Write) = TookText (OneCut answers now s t (contents writer) (contents writer'))
+  ImportEnds (Err Memory) = RunsNothing ⊎ TookText (FirstRan answers now s t (contents writer) (contents writer'))
+  ImportEnds (Err other) = ⊥
 
 -- ---- the steps of an import
 
@@ -128,10 +146,7 @@ abbrev pub TextRead : Option (List ℕ) → Option (List ℕ) → Result (List �
 TextRead input input' (Ok text) = TookAll input input' text
 TextRead input input' (Err Read) = TookSome input input'
 TextRead input input' (Err Memory) = TookSome input input'
-TextRead input input' (Err (Refused refusal)) = ⊥
-TextRead input input' (Err Store) = ⊥
-TextRead input input' (Err Signer) = ⊥
-TextRead input input' (Err Write) = ⊥
+TextRead input input' (Err other) = ⊥
 
 -- a reader has read no row yet, takes the first one as any other, and leaves their fields as they are
 pub record IsAtStart (rows : Reader (Bor (List ℕ))) : Type 0 where
@@ -144,35 +159,30 @@ pub record IsAtStart (rows : Reader (Bor (List ℕ))) : Type 0 where
 abbrev pub ReadsText : Reader (Bor (List ℕ)) → List ℕ → Type 0
 ReadsText rows text = source_of (λ (s : Bor (List ℕ)). Some s.now) rows ≡ Some (strip_bom text)
 
--- How the run of its rows ends: whether each ran, or at a fault. Of a strict one each reply is accepted, or the last one is the first
--- that is not, and no row behind it ran.
-abbrev pub RowsEnd : {S : Type 0} → (S → Meaning → Answer → S → Type 0) → Bool → ℕ → S → S → Option (List ℕ) → Option (List ℕ) → List ℕ → Result Bool Fault → Type 0
-RowsEnd answers is_strict now s t out out' text (Ok true) =
-    (ran : AllRan answers now s t out out' text) × (IsTrue is_strict → AllByRecursion IsAccepted ran.replies)
-RowsEnd answers is_strict now s t out out' text (Ok false) =
-    (ran : FirstRan answers now s t out out' text) × IsTrue is_strict × EndsRefused ran.replies
-RowsEnd answers is_strict now s t out out' text (Err Write) =
-    (ran : OneCut answers now s t out out' text) × (IsTrue is_strict → AllByRecursion IsAccepted ran.replies)
-RowsEnd answers is_strict now s t out out' text (Err Memory) =
-    (ran : FirstRan answers now s t out out' text) × (IsTrue is_strict → AllByRecursion IsAccepted ran.replies)
-RowsEnd answers is_strict now s t out out' text (Err Read) = ⊥
-RowsEnd answers is_strict now s t out out' text (Err (Refused refusal)) = ⊥
-RowsEnd answers is_strict now s t out out' text (Err Store) = ⊥
-RowsEnd answers is_strict now s t out out' text (Err Signer) = ⊥
+-- Rows that run at a moment, strictly or not: the office, and what was written, before and after.
+module _ {S : Type 0} (answers : S → ℕ → Call → S → Type 0) (is_strict : Bool) (now : ℕ) (s t : S) where
+  -- How the run of a text's rows ends: whether each ran, or at a fault. Of a strict one each reply is accepted, or the last one is the
+  -- first that is not, and no row behind it ran.
+  abbrev pub RowsEnd : Option (List ℕ) → Option (List ℕ) → List ℕ → Result Passed Fault → Type 0
+  RowsEnd out out' text (Ok On) =
+      (run : AllRan answers now s t out out' text) × (IsTrue is_strict → AllByRecursion IsAccepted run.0.replies)
+  RowsEnd out out' text (Ok (passed.Refused refused)) =
+      (run : FirstRan answers now s t out out' text) × IsTrue is_strict
+      × (ends : EndsRefused run.0.replies) × TellsWhy refused ends.refused
+  RowsEnd out out' text (Err Write) =
+      (run : OneCut answers now s t out out' text) × (IsTrue is_strict → AllByRecursion IsAccepted run.0.replies)
+  RowsEnd out out' text (Err Memory) =
+      (run : FirstRan answers now s t out out' text) × (IsTrue is_strict → AllByRecursion IsAccepted run.0.replies)
+  RowsEnd out out' text (Err other) = ⊥
 
--- a reply was written, and whether the run goes on behind it; or a front of it was
-abbrev pub Said : Bool → Option (List ℕ) → Option (List ℕ) → List ℕ → Result Bool WriteFault → Type 0
-Said is_strict out out' reply (Ok goes_on) = Appends out out' reply × GoesOn is_strict reply goes_on
-Said is_strict out out' reply (Err fault) = AppendsFront out out' reply
+  -- a row ran, and its reply was written, or a front of it
+  pub record RanRow (row : Row) (out out' : Option (List ℕ)) (result : Result Passed WriteFault) : Type 0 where
+    pub reply : List ℕ
+    pub replied : RowReplies answers now s row reply t
+    pub said : Said is_strict out out' reply result
 
--- a row ran, and its reply was written, or a front of it
-pub record RanRow {S : Type 0} (answers : S → Meaning → Answer → S → Type 0) (is_strict : Bool) (now : ℕ) (s t : S) (row : Row) (out out' : Option (List ℕ)) (result : Result Bool WriteFault) : Type 0 where
-  pub reply : List ℕ
-  pub replied : RowReplies answers now s row reply t
-  pub said : Said is_strict out out' reply result
-
--- a row ran, or was passed over as the header, if it is the first one
-abbrev pub TookRow : {S : Type 0} → (S → Meaning → Answer → S → Type 0) → Bool → ℕ → S → S → Bool → Row → Option (List ℕ) → Option (List ℕ) → Result Bool WriteFault → Type 0
-TookRow answers is_strict now s t first row out out' result =
-    (((first && is_header row) ≡ true) × (t ≡ s) × (result ≡ Ok true) × Appends out out' [])
-    ⊎ (((first && is_header row) ≡ false) × RanRow answers is_strict now s t row out out' result)
+  -- a row ran, or was passed over as the header, if it is the first one
+  abbrev pub TookRow : Bool → Row → Option (List ℕ) → Option (List ℕ) → Result Passed WriteFault → Type 0
+  TookRow first row out out' result =
+      (((first && is_header row) ≡ true) × (t ≡ s) × (result ≡ Ok On) × Appends out out' [])
+      ⊎ (((first && is_header row) ≡ false) × RanRow row out out' result)

@@ -11,3 +11,4 @@ pub mod Script
 pub mod ScriptSteps
 pub mod Strict
 pub mod Told
+pub mod Twice

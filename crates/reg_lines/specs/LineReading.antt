@@ -125,38 +125,35 @@ hex_of digits = cond (nat_lt 0 (length digits)) (result_ok (decode_of digits)) N
 unfoldable pub ocsp_of : List (List ℕ) → Option (List ℕ)
 ocsp_of fields = option_and_then hex_of (one fields)
 
--- what a word asks, with the fields after it, at a moment; any other word says nothing
-unfoldable pub asked_by : ℕ → List ℕ → List (List ℕ) → Option Meaning
-asked_by now word fields =
-    if bytes_eq word (codes "status") then option_map (asks now) (status_of fields)
-    else if bytes_eq word (codes "counts") then option_map (asks now) (alone Counts fields)
-    else if bytes_eq word (codes "listing") then option_map (asks now) (listing_of fields)
-    else if bytes_eq word (codes "overdue") then option_map (asks now) (alone Overdue fields)
-    else if bytes_eq word (codes "next-crl") then option_map (asks now) (alone NextCrl fields)
-    else if bytes_eq word (codes "ocsp") then option_map (asks_ocsp now) (ocsp_of fields)
+-- what a word asks, with the fields after it; any other word says nothing
+unfoldable pub asked_by : List ℕ → List (List ℕ) → Option Meaning
+asked_by word fields =
+    if bytes_eq word (codes "status") then option_map asks (status_of fields)
+    else if bytes_eq word (codes "counts") then option_map asks (alone Counts fields)
+    else if bytes_eq word (codes "listing") then option_map asks (listing_of fields)
+    else if bytes_eq word (codes "overdue") then option_map asks (alone Overdue fields)
+    else if bytes_eq word (codes "next-crl") then option_map asks (alone NextCrl fields)
+    else if bytes_eq word (codes "ocsp") then option_map asks_ocsp (ocsp_of fields)
     else None
 
 -- what a word says of a revocation or a CRL; any other asks
-unfoldable pub revoking_by : ℕ → List ℕ → List (List ℕ) → Option Meaning
-revoking_by now word fields =
-    if bytes_eq word (codes "request") then option_map (tells now) (request_of fields)
-    else if bytes_eq word (codes "decline") then option_map (tells now) (decline_of fields)
-    else if bytes_eq word (codes "revoke") then option_map (tells now) (revoke_of fields)
-    else if bytes_eq word (codes "crl") then option_map (tells now) (alone Crl fields)
-    else asked_by now word fields
+unfoldable pub revoking_by : List ℕ → List (List ℕ) → Option Meaning
+revoking_by word fields =
+    if bytes_eq word (codes "request") then option_map tells (request_of fields)
+    else if bytes_eq word (codes "decline") then option_map tells (decline_of fields)
+    else if bytes_eq word (codes "revoke") then option_map tells (revoke_of fields)
+    else if bytes_eq word (codes "crl") then option_map tells (alone Crl fields)
+    else asked_by word fields
 
--- what a word and the fields after it say, at a moment: a registration's word, or one of those above
-unfoldable pub said_by : ℕ → List ℕ → List (List ℕ) → Option Meaning
-said_by now word fields =
-    if bytes_eq word (codes "subscriber") then option_map (tells now) (subscriber_of fields)
-    else if bytes_eq word (codes "order") then option_map (tells now) (order_of fields)
-    else if bytes_eq word (codes "register") then option_map (tells now) (register_of fields)
-    else revoking_by now word fields
+-- what a word and the fields after it say: a registration's word, or one of those above
+unfoldable pub said_by : List ℕ → List (List ℕ) → Option Meaning
+said_by word fields =
+    if bytes_eq word (codes "subscriber") then option_map tells (subscriber_of fields)
+    else if bytes_eq word (codes "order") then option_map tells (order_of fields)
+    else if bytes_eq word (codes "register") then option_map tells (register_of fields)
+    else revoking_by word fields
 
--- what fields say: a moment, a word, and the fields of what is told or asked
+-- what fields say: a word, and the fields of what is told or asked
 unfoldable pub said_of : List (List ℕ) → Option Meaning
 said_of [] = None
-said_of (a ∷ []) = None
-said_of (a ∷ word ∷ fields) = do
-  now ← moment_of a
-  said_by now word fields
+said_of (word ∷ fields) = said_by word fields

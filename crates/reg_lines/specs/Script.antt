@@ -1,21 +1,29 @@
--- A script: its lines, and how a run of it ends.
-use Rattle.std.specs.Prelude.{◌≡◌, ◌≢◌, ◌⊎◌, ℕ, ◌+◌, ◌<◌, ◌≤◌, ◌==◌, List, [], ◌∷◌, ◌++◌, length, map, take, if◌then◌else◌, Result, Ok, Err}
+-- Lines of an input, and how a run of them ends.
+use Rattle.std.specs.Prelude.{◌≡◌, ◌≢◌, ◌⊎◌, ℕ, ◌+◌, ◌<◌, ◌≤◌, ◌==◌, Bool, true, false, List, [], ◌∷◌, ◌++◌, length, map, take, if◌then◌else◌, IsTrue, Result, Ok, Err}
 use Rattle.std.specs.declared.option.Option.{Option}
 use Rattle.std.specs.Io.BufRead.{ends_with_byte, strip_last}
 use Rattle.std.specs.Io.KnownBytes.{Appends, Consumes, IsAtEnd}
-use Rattle.std.specs.List.{All, concat}
+use Rattle.std.specs.List.{All, AllByRecursion, concat}
 use Rattle.reg_core.specs.declared.refusal.Fault.{Fault}
-use Rattle.reg_core.specs.declared.refusal.Fault.TheVariants.{Refused, Memory, Store, Signer, Read, Write}
-use Rattle.reg_wire.specs.RunsOfAnswers.{Answered}
-use Rattle.reg_lines.specs.Answer.{Answer, Replies}
+use Rattle.reg_core.specs.declared.refusal.Fault.TheVariants.{Memory, Read, Write}
+use Rattle.reg_io.specs.RunsOfAnswers.{Answered}
+use Rattle.reg_lines.specs.Accepted.{EndsRefused, IsAccepted, TellsWhy}
+use Rattle.reg_lines.specs.Answer.{LineReplies, TimedReplies}
+use Rattle.reg_lines.specs.ByCalls.{Call}
 use Rattle.reg_lines.specs.Fields.{in_front}
-use Rattle.reg_lines.specs.Meaning.{Meaning}
+use Rattle.reg_lines.specs.declared.answered.Ended.{Ended}
+use Rattle.reg_lines.specs.declared.answered.Ended.TheVariants.{Whole, Refused, NoLineEnd}
 
 -- the most bytes of a line before its LF, where a CR counts
 abbrev pub longest_line : ℕ
 longest_line = 8192
 
--- the most lines of a script
+-- the most bytes of a line that has no moment of its own: those of a moment and a space less
+abbrev pub longest_of : Bool → ℕ
+longest_of true = 8171
+longest_of false = longest_line
+
+-- the most lines of a run
 abbrev pub most_lines : ℕ
 most_lines = 1000000
 
@@ -28,14 +36,13 @@ pieces (byte ∷ input) = if byte == 10 then (byte ∷ []) ∷ pieces input else
 abbrev pub line_of : List ℕ → List ℕ
 line_of piece = if ends_with_byte 10 piece then strip_last 13 (strip_last 10 piece) else piece
 
--- the line is not too long
-abbrev pub IsShort : List ℕ → Type 0
-IsShort piece = length (strip_last 10 piece) ≤ longest_line
+-- the line has no more bytes than these
+abbrev pub IsShort : ℕ → List ℕ → Type 0
+IsShort longest piece = length (strip_last 10 piece) ≤ longest
 
--- each of the lines is not too long
-abbrev pub AreShort : List (List ℕ) → Type 0
-AreShort [] = Unit {0}
-AreShort (piece ∷ rest) = IsShort piece × AreShort rest
+-- a command line, with its end, has no more bytes than one that runs at the moment of a clock
+abbrev pub IsShortCommand : List ℕ → Type 0
+IsShortCommand = IsShort (longest_of true)
 
 -- no end of a line is in the bytes
 abbrev pub HasNoLf : List ℕ → Type 0
@@ -45,77 +52,119 @@ HasNoLf bytes = All (λ byte. byte ≢ 10) bytes
 abbrev pub IsWholeLine : List ℕ → Type 0
 IsWholeLine piece = (front : List ℕ) × (piece ≡ front ++ 10 ∷ []) × HasNoLf front
 
--- Of the bytes that were taken these lines ran, in turn, and these bytes are left: however the input goes on, the lines that ran
--- are its first ones, and those of what is left come after them.
-pub record RanFirst {S : Type 0} (answers : S → Meaning → Answer → S → Type 0) (s : S) (took : List ℕ) (done replies : List (List ℕ)) (left : List ℕ) (t : S) : Type 0 where
-  pub parts : took ≡ concat done ++ left
-  pub first : (more : List ℕ) → pieces (took ++ more) ≡ done ++ pieces (left ++ more)
-  pub few : length done ≤ most_lines
-  pub short : AreShort done
-  pub answered : Answered (Replies answers) s (map line_of done) replies t
-
--- the input was taken to its end, each of its lines ran, and the replies were written and nothing else
-pub record Finished {S : Type 0} (answers : S → Meaning → Answer → S → Type 0) (s t : S) (input input' out out' : Option (List ℕ)) : Type 0 where
-  pub took : List ℕ
-  pub replies : List (List ℕ)
-  pub consumed : Consumes input input' took
-  pub at_end : IsAtEnd input'
-  pub few : length (pieces took) ≤ most_lines
-  pub short : AreShort (pieces took)
-  pub answered : Answered (Replies answers) s (map line_of (pieces took)) replies t
-  pub wrote : Appends out out' (concat replies)
+-- a last line without its LF
+abbrev pub IsCut : List ℕ → Type 0
+IsCut line = HasNoLf line × (0 < length line)
 
 -- In the place of the next line there is a fault of the input: a line after the most, or more bytes than a line has, with no LF among
 -- them, or, with fewer, a read that failed.
-abbrev pub InputFails : List (List ℕ) → List ℕ → Type 0
-InputFails done left =
-    ((length done ≡ most_lines) × (0 < length left) × (length left ≤ longest_line))
-    ⊎ (((longest_line < length left) × HasNoLf left) ⊎ ((length left ≤ longest_line) × HasNoLf left))
+abbrev pub InputFails : ℕ → List (List ℕ) → List ℕ → Type 0
+InputFails longest done left =
+    ((length done ≡ most_lines) × (0 < length left) × (length left ≤ longest))
+    ⊎ (((longest < length left) × HasNoLf left) ⊎ ((length left ≤ longest) × HasNoLf left))
 
--- the first lines ran, their replies were written, and then the input failed; no more than one byte above the longest line was taken
-pub record StoppedAtRead {S : Type 0} (answers : S → Meaning → Answer → S → Type 0) (s t : S) (input input' out out' : Option (List ℕ)) : Type 0 where
-  pub took : List ℕ
-  pub done : List (List ℕ)
-  pub replies : List (List ℕ)
-  pub left : List ℕ
-  pub consumed : Consumes input input' took
-  pub ran : RanFirst answers s took done replies left t
-  pub fails : InputFails done left
-  pub little : length left ≤ longest_line + 1
-  pub wrote : Appends out out' (concat replies)
+-- What was read and written in a run of lines, none of which has more bytes than `longest`: the input and the output before and after.
+module _ (longest : ℕ) (input input' out out' : Option (List ℕ)) where
+  -- the input was taken to its end, and the replies of its lines were written and nothing else
+  pub record AllLines : Type 0 where
+    pub took : List ℕ
+    pub replies : List (List ℕ)
+    pub consumed : Consumes input input' took
+    pub at_end : IsAtEnd input'
+    pub few : length (pieces took) ≤ most_lines
+    pub short : AllByRecursion (IsShort longest) (pieces took)
+    pub wrote : Appends out out' (concat replies)
 
--- The first lines ran, their replies were written, and the line after them ran; of its reply a front was written, and then the output
--- failed. That line ends with its LF, or with the input.
-pub record StoppedAtWrite {S : Type 0} (answers : S → Meaning → Answer → S → Type 0) (s t : S) (input input' out out' : Option (List ℕ)) : Type 0 where
-  pub took : List ℕ
-  pub done : List (List ℕ)
-  pub replies : List (List ℕ)
-  pub left : List ℕ
-  pub middle : S
-  pub piece : List ℕ
-  pub rest : List ℕ
-  pub reply : List ℕ
-  pub part : ℕ
-  pub consumed : Consumes input input' took
-  pub ran : RanFirst answers s took done replies left middle
-  pub few : length done < most_lines
-  pub next : pieces left ≡ piece ∷ pieces rest
-  pub ends : IsWholeLine piece ⊎ ((rest ≡ []) × IsAtEnd input')
-  pub short : IsShort piece
-  pub answered : Replies answers middle (line_of piece) reply t
-  pub partly : part < length reply
-  pub wrote : Appends out out' (concat replies ++ take part reply)
+  -- The replies of the first lines were written and nothing else. Of the bytes that were taken others are left, no more than one byte above
+  -- the longest line: however the input goes on, the lines that ran are its first ones, and those of what is left come after them.
+  pub record FirstLines : Type 0 where
+    pub took : List ℕ
+    pub done : List (List ℕ)
+    pub replies : List (List ℕ)
+    pub left : List ℕ
+    pub consumed : Consumes input input' took
+    pub parts : took ≡ concat done ++ left
+    pub first : (more : List ℕ) → pieces (took ++ more) ≡ done ++ pieces (left ++ more)
+    pub few : length done ≤ most_lines
+    pub short : AllByRecursion (IsShort longest) done
+    pub little : length left ≤ longest + 1
+    pub wrote : Appends out out' (concat replies)
 
--- how a run of a script ends; at want of memory nothing ran, nothing was read and nothing was written
-abbrev pub ScriptEnds : {S R W : Type 0} → (S → Meaning → Answer → S → Type 0) → (R → Option (List ℕ)) → (W → Option (List ℕ))
-    → S → S → R → R → W → W → Result (Unit {0}) Fault → Type 0
-ScriptEnds answers remaining contents s t reader reader' writer writer' (Ok done) =
-    Finished answers s t (remaining reader) (remaining reader') (contents writer) (contents writer')
-ScriptEnds answers remaining contents s t reader reader' writer writer' (Err Read) =
-    StoppedAtRead answers s t (remaining reader) (remaining reader') (contents writer) (contents writer')
-ScriptEnds answers remaining contents s t reader reader' writer writer' (Err Write) =
-    StoppedAtWrite answers s t (remaining reader) (remaining reader') (contents writer) (contents writer')
-ScriptEnds answers remaining contents s t reader reader' writer writer' (Err Memory) = (t ≡ s) × (reader' ≡ reader) × (writer' ≡ writer)
-ScriptEnds answers remaining contents s t reader reader' writer writer' (Err (Refused refusal)) = ⊥
-ScriptEnds answers remaining contents s t reader reader' writer writer' (Err Store) = ⊥
-ScriptEnds answers remaining contents s t reader reader' writer writer' (Err Signer) = ⊥
+  -- The replies of the first lines were written, and a front of that of the line after them, and then the output failed. That line ends with
+  -- its LF, or with the input.
+  pub record CutLine : Type 0 where
+    pub took : List ℕ
+    pub done : List (List ℕ)
+    pub replies : List (List ℕ)
+    pub left : List ℕ
+    pub piece : List ℕ
+    pub rest : List ℕ
+    pub reply : List ℕ
+    pub part : ℕ
+    pub consumed : Consumes input input' took
+    pub parts : took ≡ concat done ++ left
+    pub first : (more : List ℕ) → pieces (took ++ more) ≡ done ++ pieces (left ++ more)
+    pub few : length done < most_lines
+    pub short : AllByRecursion (IsShort longest) done
+    pub next : pieces left ≡ piece ∷ pieces rest
+    pub ends : IsWholeLine piece ⊎ ((rest ≡ []) × IsAtEnd input')
+    pub little : IsShort longest piece
+    pub partly : part < length reply
+    pub wrote : Appends out out' (concat replies ++ take part reply)
+
+  -- How a run ends, of lines that run at the moments of a clock or at their own: `runs s line reply t` is one, without its end, with its reply,
+  -- where the office is `s` before and `t` after. A strict run ends behind the first reply that is a refusal or a fault, and does not run a last
+  -- line without its LF. At a fault of reading the input failed, or the clock did.
+  module _ {S : Type 0} (runs : S → List ℕ → List ℕ → S → Type 0) (s t : S) (is_clocked is_strict : Bool) where
+    -- these lines ran, in turn, and these are their replies
+    abbrev pub RanAll : List (List ℕ) → List (List ℕ) → Type 0
+    RanAll done replies = Answered runs s (map line_of done) replies t
+
+    abbrev pub RunEnds : Result Ended Fault → Type 0
+    RunEnds (Ok Whole) =
+        (lines : AllLines) × RanAll (pieces lines.took) lines.replies
+        × (IsTrue is_strict → AllByRecursion IsAccepted lines.replies × AllByRecursion IsWholeLine (pieces lines.took))
+    RunEnds (Ok (Refused refused)) =
+        (lines : FirstLines) × RanAll lines.done lines.replies
+        × IsTrue is_strict × (ends : EndsRefused lines.replies) × TellsWhy refused ends.refused
+    RunEnds (Ok NoLineEnd) =
+        (lines : FirstLines) × RanAll lines.done lines.replies
+        × IsTrue is_strict × AllByRecursion IsAccepted lines.replies × IsCut lines.left × IsAtEnd input'
+    RunEnds (Err Read) =
+        (lines : FirstLines) × RanAll lines.done lines.replies
+        × (IsTrue is_strict → AllByRecursion IsAccepted lines.replies)
+        × (InputFails longest lines.done lines.left ⊎ IsTrue is_clocked)
+    RunEnds (Err Write) =
+        (lines : CutLine) × (middle : S) × Answered runs s (map line_of lines.done) lines.replies middle
+        × runs middle (line_of lines.piece) lines.reply t × (IsTrue is_strict → AllByRecursion IsAccepted lines.replies)
+    RunEnds (Err other) = ⊥
+
+-- A run of lines, with the office, the reader and the writer before and after. Where it is out of memory, nothing ran, nothing was
+-- read and nothing was written.
+module _ {S R W : Type 0} (answers : S → ℕ → Call → S → Type 0) (remaining : R → Option (List ℕ)) (contents : W → Option (List ℕ))
+    (s t : S) (reader reader' : R) (writer writer' : W) where
+  -- it did nothing
+  abbrev DoesNothing : Type 0
+  DoesNothing = (t ≡ s) × (reader' ≡ reader) × (writer' ≡ writer)
+
+  -- lines that run at the moments that a clock told, or at their own, to the first refusal or to the end
+  abbrev pub LinesEnd : (ℕ → Type 0) → Bool → Bool → Result Ended Fault → Type 0
+  LinesEnd told is_clocked is_strict (Err Memory) = DoesNothing
+  LinesEnd told is_clocked is_strict result =
+      RunEnds (longest_of is_clocked) (remaining reader) (remaining reader') (contents writer) (contents writer')
+      (LineReplies answers told is_clocked) s t is_clocked is_strict result
+
+  -- a script: lines that begin with their moments, to the end
+  abbrev pub ScriptEnds : Result (Unit {0}) Fault → Type 0
+  ScriptEnds (Ok done) =
+      (lines : AllLines longest_line (remaining reader) (remaining reader') (contents writer) (contents writer'))
+      × Answered (TimedReplies answers) s (map line_of (pieces lines.took)) lines.replies t
+  ScriptEnds (Err Read) =
+      (lines : FirstLines longest_line (remaining reader) (remaining reader') (contents writer) (contents writer'))
+      × Answered (TimedReplies answers) s (map line_of lines.done) lines.replies t × InputFails longest_line lines.done lines.left
+  ScriptEnds (Err Write) =
+      (lines : CutLine longest_line (remaining reader) (remaining reader') (contents writer) (contents writer'))
+      × (middle : S) × Answered (TimedReplies answers) s (map line_of lines.done) lines.replies middle
+      × TimedReplies answers middle (line_of lines.piece) lines.reply t
+  ScriptEnds (Err Memory) = DoesNothing
+  ScriptEnds (Err other) = ⊥

@@ -2,7 +2,7 @@
 use Rattle.std.specs.Prelude.{◌≡◌, ◌⊎◌, ℕ, Bool, ◌&&◌, List, [], ◌∷◌, ◌++◌, codes, cond, is_some, map, Option, Some, None, Result, Ok, Err}
 use Rattle.std.specs.List.{concat}
 use Rattle.reg_core.specs.declared.refusal.Fault.{Fault}
-use Rattle.reg_core.specs.declared.refusal.Fault.TheVariants.{Refused, Memory, Store, Signer, Read, Write}
+use Rattle.reg_core.specs.declared.refusal.Fault.TheVariants.{Memory, Read}
 use Rattle.reg_lines.specs.Import.{AreCsvRows, Row, TookAll, TookSome, data_rows, is_header}
 use Rattle.reg_lines.specs.LineReading.{four, register_by}
 
@@ -33,7 +33,4 @@ abbrev pub ToldEnds : Option (List ℕ) → Option (List ℕ) → Result (List �
 ToldEnds input input' (Ok lines) = (text : List ℕ) × TookAll input input' text × TellsRows text lines
 ToldEnds input input' (Err Read) = TookSome input input'
 ToldEnds input input' (Err Memory) = TookSome input input' ⊎ ((text : List ℕ) × TookAll input input' text)
-ToldEnds input input' (Err (Refused refusal)) = ⊥
-ToldEnds input input' (Err Store) = ⊥
-ToldEnds input input' (Err Signer) = ⊥
-ToldEnds input input' (Err Write) = ⊥
+ToldEnds input input' (Err other) = ⊥

@@ -1,7 +1,7 @@
-//! Whether a reply is accepted, and a strict run goes on behind it.
+//! Whether a reply is accepted.
 
 ghost use Rattle.std.specs.Prelude.{◌↔◌, IsTrue};
-ghost use Rattle.reg_lines.specs.Accepted.{GoesOn, IsAccepted};
+ghost use Rattle.reg_lines.specs.Accepted.{IsAccepted};
 
 /// Whether a reply tells neither a refusal nor a fault.
 pub fn is_accepted(reply: &[u8]) -> bool
@@ -11,14 +11,4 @@ pub fn is_accepted(reply: &[u8]) -> bool
         Some(first) => *first != b'E' && *first != b'F' && *first != b'b',
         None => true,
     }
-}
-
-/// Whether a run goes on behind a reply: a strict one, only behind one that is accepted.
-pub(crate) fn goes_on(is_strict: bool, reply: &[u8]) -> bool
-    ensures { GoesOn is_strict reply.now result }
-{
-    if is_strict && !is_accepted(reply) {
-        return false;
-    }
-    true
 }

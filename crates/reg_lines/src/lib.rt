@@ -2,9 +2,13 @@
 #![tactic(auto)]
 
 mod accepted;
+mod answered;
 mod fields;
+mod host;
 pub mod laws;
 mod line;
+mod lines;
+mod moments;
 mod reply;
 mod rows;
 mod run;
@@ -13,10 +17,15 @@ mod strict;
 mod told;
 
 pub use accepted::is_accepted;
+pub use answered::{Answered, Asked, Ended, OcspReply, RefusedCommand};
 pub use fields::Fields;
-pub use line::{Line, read_line};
-pub use reply::ReplyText;
+pub use host::Host;
+pub use line::{CommandLine, read_line};
+pub use lines::{LONGEST_COMMAND, LONGEST_LINE, MOST_LINES, run_lines};
+pub use moments::{command_in, take_moment, without_end};
+pub use reply::{LONGEST_REPLY, ReplyText};
 pub use rows::{MOST_BYTES, import};
-pub use script::{LONGEST_LINE, MOST_LINES, run_script};
-pub use strict::{Imported, import_strictly};
+pub use run::run_line;
+pub use script::{run_script, run_script_for};
+pub use strict::import_strictly;
 pub use told::lines_of_rows;

@@ -1,4 +1,4 @@
-//! One line of a script: what it says.
+//! One command line: what it says.
 
 ghost use Rattle.std.specs.Prelude.{◌≡◌, ◌<◌, IfNone, IfSome, IsTrue, ◌↔◌, Some, None, option_map, length, cond};
 ghost use Rattle.std.specs.List.{AllPass};
@@ -6,25 +6,23 @@ ghost use Rattle.hex.specs.Hex.{is_hex_digit};
 ghost use Rattle.reg_core.specs.Calendar.{moment_of};
 ghost use Rattle.reg_lines.specs.Fields.{fields_of};
 ghost use Rattle.reg_lines.specs.Meaning.{Meaning, IsUnreadable, LineMeans, OneMeaning, meaning_of, decoded_bytes, tells, asks, asks_ocsp};
-ghost use Rattle.reg_lines.specs.LineReading.{label_field, subscriber_of, order_of, register_by, register_of, request_of, decline_of, revoke_of, status_of, listing_of, hex_of, ocsp_of, alone, asked_by, revoking_by, said_by, said_of};
+ghost use Rattle.reg_lines.specs.LineReading.{label_field, subscriber_of, order_of, register_by, register_of, request_of, decline_of, revoke_of, status_of, listing_of, hex_of, ocsp_of, alone, asked_by, revoking_by, said_of};
 
 use crate::fields::{Fields, four, one, two};
 use reg_core::{Command, Label, Moment, Query, Serial, read_number};
 
-/// What a line says.
+/// What a command line says.
 #[derive(Clone, Copy)]
-pub enum Line<'a> {
-    /// A command at its moment.
-    Tell(Moment, Command),
-    /// A query at its moment.
-    Ask(Moment, Query),
-    /// An OCSP request at its moment: its hexadecimal digits, an even number of them, at least two.
-    Ocsp(Moment, &'a [u8]),
+pub enum CommandLine<'a> {
+    Command(Command),
+    Query(Query),
+    /// An OCSP request: its hexadecimal digits, an even number of them, at least two.
+    Ocsp(&'a [u8]),
 }
 
-/// Reads a line without its end: `None` where it is unreadable. No line has two meanings.
-pub fn read_line(line: &[u8]) -> Option<Line<'_>>
-    ensures found { IfSome result (λ read. LineMeans line.now (meaning_of read)) }
+/// Reads a command line, which has no moment and no end: `None` where it is unreadable. No line has two meanings.
+pub fn read_line(line: &[u8]) -> Option<CommandLine<'_>>
+    ensures found { IfSome result (λ said. LineMeans line.now (meaning_of said)) }
     ensures only { (meaning : Meaning) → LineMeans line.now meaning
         → option_map meaning_of result ≡ Some meaning }
     ensures none { IfNone result (IsUnreadable line.now) }
@@ -33,93 +31,82 @@ pub fn read_line(line: &[u8]) -> Option<Line<'_>>
     read_fields(Fields::of(line))
 }
 
-/// Reads the fields of a line.
-#[tactic(auto, unfolding(crate::specs::LineReading::said_of))]
-fn read_fields(mut fields: Fields<'_>) -> Option<Line<'_>>
+/// Reads the fields of a command line: a registration's word, or one of those below.
+#[tactic(auto, unfolding(crate::specs::LineReading::said_of, crate::specs::LineReading::said_by))]
+fn read_fields(mut fields: Fields<'_>) -> Option<CommandLine<'_>>
     ensures { option_map meaning_of result ≡ said_of fields.entry }
 {
-    let first = fields.next()?;
     let word = fields.next()?;
-    let now = read_moment(first)?;
-    read_said(now, word, fields)
-}
-
-/// Reads what is said at a moment, by a word and the fields after it: a registration's word, or one of those below.
-#[tactic(auto, unfolding(crate::specs::LineReading::said_by))]
-fn read_said<'a>(now: Moment, word: &[u8], fields: Fields<'a>) -> Option<Line<'a>>
-    ensures { option_map meaning_of result ≡ said_by now word.now fields.entry }
-{
     if word == b"subscriber".as_slice() {
-        tell(now, read_subscriber(fields))
+        command(read_subscriber(fields))
     } else if word == b"order".as_slice() {
-        tell(now, read_order(fields))
+        command(read_order(fields))
     } else if word == b"register".as_slice() {
-        tell(now, read_register(fields))
+        command(read_register(fields))
     } else {
-        read_revoking(now, word, fields)
+        read_revoking(word, fields)
     }
 }
 
-/// Reads what a word says of a revocation or a CRL at a moment; any other asks.
+/// Reads what a word says of a revocation or a CRL; any other asks.
 #[tactic(auto, unfolding(crate::specs::LineReading::revoking_by))]
-fn read_revoking<'a>(now: Moment, word: &[u8], fields: Fields<'a>) -> Option<Line<'a>>
-    ensures { option_map meaning_of result ≡ revoking_by now word.now fields.entry }
+fn read_revoking<'a>(word: &[u8], fields: Fields<'a>) -> Option<CommandLine<'a>>
+    ensures { option_map meaning_of result ≡ revoking_by word.now fields.entry }
 {
     if word == b"request".as_slice() {
-        tell(now, read_request(fields))
+        command(read_request(fields))
     } else if word == b"decline".as_slice() {
-        tell(now, read_decline(fields))
+        command(read_decline(fields))
     } else if word == b"revoke".as_slice() {
-        tell(now, read_revoke(fields))
+        command(read_revoke(fields))
     } else if word == b"crl".as_slice() {
-        tell(now, alone(Command::Crl, fields))
+        command(alone(Command::Crl, fields))
     } else {
-        read_asked(now, word, fields)
+        read_asked(word, fields)
     }
 }
 
-/// Reads what a word asks at a moment; any other says nothing.
+/// Reads what a word asks; any other says nothing.
 #[tactic(auto, unfolding(crate::specs::LineReading::asked_by))]
-fn read_asked<'a>(now: Moment, word: &[u8], fields: Fields<'a>) -> Option<Line<'a>>
-    ensures { option_map meaning_of result ≡ asked_by now word.now fields.entry }
+fn read_asked<'a>(word: &[u8], fields: Fields<'a>) -> Option<CommandLine<'a>>
+    ensures { option_map meaning_of result ≡ asked_by word.now fields.entry }
 {
     if word == b"status".as_slice() {
-        ask(now, read_status(fields))
+        query(read_status(fields))
     } else if word == b"counts".as_slice() {
-        ask(now, alone(Query::Counts, fields))
+        query(alone(Query::Counts, fields))
     } else if word == b"listing".as_slice() {
-        ask(now, read_listing(fields))
+        query(read_listing(fields))
     } else if word == b"overdue".as_slice() {
-        ask(now, alone(Query::Overdue, fields))
+        query(alone(Query::Overdue, fields))
     } else if word == b"next-crl".as_slice() {
-        ask(now, alone(Query::NextCrl, fields))
+        query(alone(Query::NextCrl, fields))
     } else if word == b"ocsp".as_slice() {
-        ask_ocsp(now, read_hex(fields))
+        ocsp(read_hex(fields))
     } else {
         None
     }
 }
 
-/// A command at its moment.
-fn tell<'a>(now: Moment, command: Option<Command>) -> Option<Line<'a>>
-    ensures { option_map meaning_of result ≡ option_map (tells now) command }
+/// A line that says a command.
+fn command<'a>(command: Option<Command>) -> Option<CommandLine<'a>>
+    ensures { option_map meaning_of result ≡ option_map tells command }
 {
-    Some(Line::Tell(now, command?))
+    Some(CommandLine::Command(command?))
 }
 
-/// A query at its moment.
-fn ask<'a>(now: Moment, query: Option<Query>) -> Option<Line<'a>>
-    ensures { option_map meaning_of result ≡ option_map (asks now) query }
+/// A line that asks a query.
+fn query<'a>(query: Option<Query>) -> Option<CommandLine<'a>>
+    ensures { option_map meaning_of result ≡ option_map asks query }
 {
-    Some(Line::Ask(now, query?))
+    Some(CommandLine::Query(query?))
 }
 
-/// An OCSP request at its moment.
-fn ask_ocsp(now: Moment, digits: Option<&[u8]>) -> Option<Line<'_>>
-    ensures { option_map meaning_of result
-        ≡ option_map (λ d. asks_ocsp now (decoded_bytes d.now)) digits.entry }
+/// A line that asks for an OCSP response.
+fn ocsp(digits: Option<&[u8]>) -> Option<CommandLine<'_>>
+    ensures { option_map meaning_of result ≡ option_map (λ d. asks_ocsp (decoded_bytes d.now)) digits.entry }
 {
-    Some(Line::Ocsp(now, digits?))
+    Some(CommandLine::Ocsp(digits?))
 }
 
 /// What is said by a word alone: the value, if no field is left.

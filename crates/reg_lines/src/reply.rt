@@ -8,8 +8,8 @@ ghost use Rattle.reg_lines.specs.Replies.{line_of_status, counts_line, listing_l
 use reg_core::{Counts, Decimal, Listing, Moment, Outcome, Overdue, Reply, Status};
 use std::marker::Model;
 
-/// The bytes of the longest reply with its LF: three counts of 20 digits.
-const LONGEST_REPLY: usize = 84;
+/// The bytes of the longest reply with its LF, but for that of an OCSP response: three counts of 20 digits.
+pub const LONGEST_REPLY: usize = 84;
 
 /// A reply as it is written, held in place, so that it takes no memory. Contracts see the list of its bytes.
 #[derive(Drop)]
@@ -32,7 +32,8 @@ impl ReplyText {
     /// The reply of what a command or query came to: its line and LF.
     #[tactic(auto, unfolding(crate::specs::Replies::outcome_line, crate::specs::Replies::with_lf))]
     pub fn of(outcome: &Outcome) -> ReplyText
-        ensures { result ≡ with_lf (outcome_line outcome.now) }
+        ensures line { result ≡ with_lf (outcome_line outcome.now) }
+        ensures short { length result ≤ 84 }
     {
         match outcome {
             Ok(reply) => reply_text(reply).with(b"\n"),

@@ -3,16 +3,18 @@
 ghost use Rattle.std.specs.Prelude.{◌≡◌, ◌==◌, ◌&&◌, ℕ, List, option_map, is_some};
 ghost use Rattle.std.specs.Result.{result_map_both};
 ghost use Rattle.csv.specs.Records.{fields_of};
-ghost use Rattle.reg_lines.specs.ByCalls.{ByCalls};
+ghost use Rattle.reg_office_api.specs.Leads.{Leads};
+ghost use Rattle.reg_lines.specs.ByCalls.{LineCalls, Lines};
 ghost use Rattle.reg_lines.specs.Import.{ImportEnds, IsAtStart, RanRow, ReadsText, RowsEnd, TextRead, TookRow, is_header};
 ghost use Rattle.reg_lines.specs.LineReading.{four, four_at, register_of};
 
+use crate::answered::{Answered, Asked, Passed};
 use crate::line::read_registration;
-use crate::run::write_reply;
+use crate::run::unreadable;
 use csv::{ByteRecord, Reader, ReaderBuilder};
-use reg_calls::OfficeCalls;
-use reg_core::{Command, Fault, Moment, Refusal};
-use reg_wire::WriteFault;
+use reg_core::{Command, Fault, Moment};
+use reg_io::WriteFault;
+use reg_office_api::Office;
 use std::alloc::Global;
 use std::io::{Read, Write};
 
@@ -30,15 +32,17 @@ const PIECE: usize = 4096;
 /// [`Fault::Read`] at a read that fails and at more than 16,777,216 bytes: nothing ran. [`Fault::Write`] where the output
 /// fails in a reply, whose row ran. [`Fault::Memory`] where memory was refused for the text or for a row: the rows before
 /// it ran, and their replies were written.
-pub fn import<R: Read, W: Write, O: OfficeCalls>(
+pub fn import<R: Read, W: Write, O: Office>(
     alloc: Global,
     reader: &mut R,
     writer: &mut W,
     now: Moment,
     office: &mut O,
 ) -> Result<(), Fault>
-    ensures { ImportEnds (ByCalls O.runs O.asks O.ocsps) R.remaining W.contents now
-        office.old office.new reader.old reader.new writer.old writer.new result }
+    ensures { Leads O.is_clean O.stands
+        (λ who before after. ImportEnds (Lines O.signs who) R.remaining W.contents now before after
+        reader.old reader.new writer.old writer.new result)
+        office.old office.new }
 {
     match read_text(alloc, reader) {
         Ok(text) => all_rows(run_rows(alloc, writer, now, office, false, &text)),
@@ -47,8 +51,8 @@ pub fn import<R: Read, W: Write, O: OfficeCalls>(
 }
 
 /// How a run ends that goes on behind a refusal.
-fn all_rows(ran: Result<bool, Fault>) -> Result<(), Fault>
-    ensures { result ≡ result_map_both (λ all. tt) (λ fault. fault) ran }
+fn all_rows(ran: Result<Passed, Fault>) -> Result<(), Fault>
+    ensures { result ≡ result_map_both (λ passed. tt) (λ fault. fault) ran }
 {
     match ran {
         Ok(_) => Ok(()),
@@ -58,7 +62,8 @@ fn all_rows(ran: Result<bool, Fault>) -> Result<(), Fault>
 
 /// Reads a text to its end.
 pub(crate) fn read_text<R: Read>(alloc: Global, reader: &mut R) -> Result<Vec<u8>, Fault>
-    ensures { TextRead (R.remaining reader.old) (R.remaining reader.new) (result_map_both (λ text. text.items) (λ fault. fault) result) }
+    ensures { TextRead (R.remaining reader.old) (R.remaining reader.new)
+        (result_map_both (λ text. text.items) (λ fault. fault) result) }
 {
     let mut text = Vec::new(alloc);
     let mut piece = [0; PIECE];
@@ -76,16 +81,17 @@ pub(crate) fn read_text<R: Read>(alloc: Global, reader: &mut R) -> Result<Vec<u8
     Err(Fault::Read)
 }
 
-/// Runs each row of a text; where it is strict, up to the first reply that is a refusal or a fault. Whether each row ran.
-pub(crate) fn run_rows<W: Write, O: OfficeCalls>(
+/// Runs each row of a text; where it is strict, up to the first reply that is a refusal or a fault.
+pub(crate) fn run_rows<W: Write, O: Office>(
     alloc: Global,
     writer: &mut W,
     now: Moment,
     office: &mut O,
     is_strict: bool,
     text: &[u8],
-) -> Result<bool, Fault>
-    ensures { RowsEnd (ByCalls O.runs O.asks O.ocsps) is_strict now office.old office.new (W.contents writer.old) (W.contents writer.new) text.now result }
+) -> Result<Passed, Fault>
+    ensures { RowsEnd (LineCalls O.Office) is_strict now office.old office.new
+        (W.contents writer.old) (W.contents writer.new) text.now result }
 {
     let mut rows = ReaderBuilder::new()
         .has_headers(false)
@@ -96,7 +102,7 @@ pub(crate) fn run_rows<W: Write, O: OfficeCalls>(
 }
 
 /// Runs each row that a reader has, which read none yet: one after the other in one record.
-fn run_each<W: Write, O: OfficeCalls>(
+fn run_each<W: Write, O: Office>(
     alloc: Global,
     writer: &mut W,
     now: Moment,
@@ -104,19 +110,20 @@ fn run_each<W: Write, O: OfficeCalls>(
     is_strict: bool,
     rows: &mut Reader<&[u8]>,
     row: &mut ByteRecord,
-) -> Result<bool, Fault>
+) -> Result<Passed, Fault>
     requires { IsAtStart rows.old }
-    ensures { (text : List ℕ) → ReadsText rows.old text → RowsEnd (ByCalls O.runs O.asks O.ocsps) is_strict now office.old office.new
+    ensures { (text : List ℕ) → ReadsText rows.old text
+        → RowsEnd (LineCalls O.Office) is_strict now office.old office.new
         (W.contents writer.old) (W.contents writer.new) text result }
 {
     for index in 0..u64::MAX {
         match rows.read_byte_record(row) {
             Ok(true) => match take_row(alloc, writer, now, office, is_strict, row, index == 0) {
-                Ok(true) => {}
-                Ok(false) => return Ok(false),
+                Ok(Passed::On) => {}
+                Ok(Passed::Refused(refused)) => return Ok(Passed::Refused(refused)),
                 Err(_) => return Err(Fault::Write),
             },
-            Ok(false) => return Ok(true),
+            Ok(false) => return Ok(Passed::On),
             // Over bytes in memory, with rows of any length, a read can want nothing but memory.
             Err(_) => return Err(Fault::Memory),
         }
@@ -126,7 +133,7 @@ fn run_each<W: Write, O: OfficeCalls>(
 }
 
 /// Runs a row, if it is not the header, which only the first row can be. Whether the next one is run.
-fn take_row<W: Write, O: OfficeCalls>(
+fn take_row<W: Write, O: Office>(
     alloc: Global,
     writer: &mut W,
     now: Moment,
@@ -134,34 +141,34 @@ fn take_row<W: Write, O: OfficeCalls>(
     is_strict: bool,
     row: &ByteRecord,
     first: bool,
-) -> Result<bool, WriteFault>
-    ensures { TookRow (ByCalls O.runs O.asks O.ocsps) is_strict now office.old office.new first (fields_of row.now)
+) -> Result<Passed, WriteFault>
+    ensures { TookRow (LineCalls O.Office) is_strict now office.old office.new first (fields_of row.now)
         (W.contents writer.old) (W.contents writer.new) result }
 {
     if first && is_header(row) {
-        return Ok(true);
+        return Ok(Passed::On);
     }
     run_row(alloc, writer, now, office, is_strict, row)
 }
 
 /// Runs a row and writes its reply. Whether the next one is run.
-fn run_row<W: Write, O: OfficeCalls>(
+fn run_row<W: Write, O: Office>(
     alloc: Global,
     writer: &mut W,
     now: Moment,
     office: &mut O,
     is_strict: bool,
     row: &ByteRecord,
-) -> Result<bool, WriteFault>
-    ensures { RanRow (ByCalls O.runs O.asks O.ocsps) is_strict now office.old office.new (fields_of row.now)
+) -> Result<Passed, WriteFault>
+    ensures { RanRow (LineCalls O.Office) is_strict now office.old office.new (fields_of row.now)
         (W.contents writer.old) (W.contents writer.new) result }
 {
     match read_row(row) {
         Some(command) => {
             let outcome = office.run_one(alloc, now, &command);
-            write_reply(writer, &outcome, is_strict)
+            Answered::CameTo(Asked::Command(command), outcome).say(writer, is_strict)
         }
-        None => write_reply(writer, &Err(Fault::Refused(Refusal::Syntax)), is_strict),
+        None => unreadable().say(writer, is_strict),
     }
 }
 

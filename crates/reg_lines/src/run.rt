@@ -1,122 +1,99 @@
-//! One line, run by an office, with its reply written.
+//! One command line, run by an office.
 
-ghost use Rattle.std.specs.Prelude.{◌≡◌, ℕ, List, ◌++◌, codes, Ok, IfOk};
+ghost use Rattle.std.specs.Prelude.{◌≡◌, ◌++◌, Err, IfOk, Ok, codes};
 ghost use Rattle.hex.specs.Hex.{encode_lower};
-ghost use Rattle.reg_lines.specs.Answer.{TellsAnswer, responded};
-ghost use Rattle.reg_lines.specs.ByCalls.{ByCalls};
-ghost use Rattle.reg_lines.specs.Import.{Said};
-ghost use Rattle.reg_lines.specs.Replies.{with_lf, outcome_line};
-ghost use Rattle.reg_lines.specs.ScriptSteps.{RanLine, RanOcsp, RanSaid, Wrote};
+ghost use Rattle.reg_office_api.specs.Leads.{Leads};
+ghost use Rattle.reg_lines.specs.Answer.{ComesTo, IsAsked, TellsGiven, unreadable as syntax_refused};
+ghost use Rattle.reg_lines.specs.ByCalls.{LineCalls, Lines};
+ghost use Rattle.reg_lines.specs.Meaning.{asks_ocsp, decoded_bytes, meaning_of};
+ghost use Rattle.reg_lines.specs.Replies.{with_lf};
 
-use crate::accepted::goes_on;
-use crate::line::{Line, read_line};
-use crate::reply::ReplyText;
-use reg_calls::OfficeCalls;
-use reg_core::{Fault, Moment, Outcome, Refusal};
-use reg_wire::{WriteFault, write_whole};
+use crate::answered::{Answered, Asked, OcspReply};
+use crate::line::{CommandLine, read_line};
+use reg_core::{Fault, Moment, Refusal};
+use reg_office_api::Office;
 use std::alloc::{AllocError, Global};
-use std::io::Write;
 
-/// Runs one line and writes its reply.
-///
-/// # Errors
-///
-/// [`WriteFault`] where the output failed: a front of the reply went out.
-pub(crate) fn run_line<W: Write, O: OfficeCalls>(
-    alloc: Global,
-    writer: &mut W,
-    office: &mut O,
-    line: &[u8],
-) -> Result<(), WriteFault>
-    ensures { RanLine (ByCalls O.runs O.asks O.ocsps) office.old office.new line.now (W.contents writer.old) (W.contents writer.new) result }
+/// The bytes of an OCSP response that has a status and nothing else (RFC 6960 4.2.1).
+const REFUSAL: usize = 5;
+
+/// Runs a command line, which has no end, at a moment.
+pub fn run_line<O: Office>(alloc: Global, office: &mut O, now: Moment, line: &[u8]) -> Answered
+    ensures leads { Leads O.is_clean O.stands
+        (λ who before after. ComesTo (Lines O.signs who) now before line.now result after) office.old office.new }
+    ensures device { ComesTo (LineCalls O.Office) now office.old line.now result office.new }
 {
     match read_line(line) {
-        Some(said) => run_said(alloc, writer, office, &said),
-        None => write_outcome(writer, &Err(Fault::Refused(Refusal::Syntax))),
+        Some(said) => run_said(alloc, office, now, &said),
+        None => unreadable(),
     }
 }
 
-/// Runs what a line says and writes the reply.
-fn run_said<W: Write, O: OfficeCalls>(
+/// What a line comes to that can't be read.
+pub(crate) fn unreadable() -> Answered
+    ensures { result ≡ syntax_refused }
+{
+    Answered::CameTo(Asked::Nothing, Err(Fault::Refused(Refusal::Syntax)))
+}
+
+/// Runs what a command line says.
+fn run_said<O: Office>(
     alloc: Global,
-    writer: &mut W,
-    office: &mut O,
-    said: &Line<'_>,
-) -> Result<(), WriteFault>
-    ensures { RanSaid (ByCalls O.runs O.asks O.ocsps) office.old office.new said.now (W.contents writer.old) (W.contents writer.new) result }
-{
-    match *said {
-        Line::Tell(now, command) => {
-            let outcome = office.run_one(alloc, now, &command);
-            write_outcome(writer, &outcome)
-        }
-        Line::Ask(now, query) => {
-            let outcome = office.ask(alloc, now, &query);
-            write_outcome(writer, &outcome)
-        }
-        Line::Ocsp(now, digits) => run_ocsp(alloc, writer, office, now, digits),
-    }
-}
-
-/// Writes the line of what a command or query came to.
-pub(crate) fn write_outcome<W: Write>(writer: &mut W, outcome: &Outcome) -> Result<(), WriteFault>
-    ensures { Wrote (W.contents writer.old) (W.contents writer.new) (with_lf (outcome_line outcome.now)) result }
-{
-    let text = ReplyText::of(outcome);
-    write_whole(writer, text.as_bytes())
-}
-
-/// Writes the line of what a row came to. Whether the next row is run: in a strict import, only behind one that is accepted.
-pub(crate) fn write_reply<W: Write>(
-    writer: &mut W,
-    outcome: &Outcome,
-    is_strict: bool,
-) -> Result<bool, WriteFault>
-    ensures { Said is_strict (W.contents writer.old) (W.contents writer.new) (with_lf (outcome_line outcome.now)) result }
-{
-    let text = ReplyText::of(outcome);
-    let reply = text.as_bytes();
-    match write_whole(writer, reply) {
-        Ok(()) => Ok(goes_on(is_strict, reply)),
-        Err(fault) => Err(fault),
-    }
-}
-
-/// Answers an OCSP request, by its digits, and writes the reply.
-fn run_ocsp<W: Write, O: OfficeCalls>(
-    alloc: Global,
-    writer: &mut W,
     office: &mut O,
     now: Moment,
-    digits: &[u8],
-) -> Result<(), WriteFault>
-    ensures { RanOcsp (ByCalls O.runs O.asks O.ocsps) office.old office.new now digits.now (W.contents writer.old) (W.contents writer.new) result }
+    said: &CommandLine<'_>,
+) -> Answered
+    ensures { IsAsked (LineCalls O.Office) now office.old (meaning_of said.now) result office.new }
 {
-    let Ok(request) = hex::decode(alloc, digits) else {
-        return write_outcome(writer, &Err(Fault::Memory));
-    };
-    match office.ocsp(alloc, now, &request) {
-        Ok(response) => write_response(alloc, writer, &response),
-        Err(_) => write_outcome(writer, &Err(Fault::Memory)),
+    match *said {
+        CommandLine::Command(command) => {
+            let outcome = office.run_one(alloc, now, &command);
+            Answered::CameTo(Asked::Command(command), outcome)
+        }
+        CommandLine::Query(query) => {
+            let outcome = office.ask(alloc, now, &query);
+            Answered::CameTo(Asked::Query(query), outcome)
+        }
+        CommandLine::Ocsp(digits) => run_ocsp(alloc, office, now, digits),
     }
 }
 
-/// Writes the line of an OCSP response, or of want of memory for it.
-fn write_response<W: Write>(
-    alloc: Global,
-    writer: &mut W,
-    response: &[u8],
-) -> Result<(), WriteFault>
-    ensures { (reply : List ℕ) × Wrote (W.contents writer.old) (W.contents writer.new) reply result × TellsAnswer (responded (Ok response.now)) reply }
+/// Answers an OCSP request, by its digits.
+fn run_ocsp<O: Office>(alloc: Global, office: &mut O, now: Moment, digits: &[u8]) -> Answered
+    ensures { IsAsked (LineCalls O.Office) now office.old (asks_ocsp (decoded_bytes digits.now))
+        result office.new }
 {
-    match response_text(alloc, response) {
-        Ok(text) => write_whole(writer, &text),
-        Err(_) => write_outcome(writer, &Err(Fault::Memory)),
+    let Ok(request) = hex::decode(alloc, digits) else {
+        return no_memory();
+    };
+    match office.ocsp(alloc, now, &request) {
+        Ok(response) => respond(alloc, &response),
+        Err(_) => no_memory(),
     }
+}
+
+/// What a line comes to with this OCSP response.
+fn respond(alloc: Global, response: &[u8]) -> Answered
+    ensures { TellsGiven (Ok response.now) result }
+{
+    match response_line(alloc, response) {
+        Ok(line) => Answered::Response(OcspReply {
+            line,
+            is_refusal: response.len() == REFUSAL,
+        }),
+        Err(_) => no_memory(),
+    }
+}
+
+/// What a line comes to where there is no memory for an OCSP response.
+fn no_memory() -> Answered
+    ensures { result ≡ Answered.CameTo Asked.Ocsp (Err Fault.Memory) }
+{
+    Answered::CameTo(Asked::Ocsp, Err(Fault::Memory))
 }
 
 /// The line of an OCSP response, with LF.
-fn response_text(alloc: Global, response: &[u8]) -> Result<Vec<u8>, AllocError>
+fn response_line(alloc: Global, response: &[u8]) -> Result<Vec<u8>, AllocError>
     ensures { IfOk result (λ text. text.items ≡ with_lf (codes "ocsp " ++ encode_lower response.now)) }
 {
     let digits = hex::encode(alloc, response)?;

@@ -1,41 +1,34 @@
 //! A strict import: it ends at the first refusal or fault, and what has no line end is not run.
 
 ghost use Rattle.std.specs.Prelude.{◌≡◌, length};
-ghost use Rattle.reg_lines.specs.ByCalls.{ByCalls};
+ghost use Rattle.reg_office_api.specs.Leads.{Leads};
+ghost use Rattle.reg_lines.specs.ByCalls.{LineCalls, Lines};
 ghost use Rattle.reg_lines.specs.Strict.{EndsBehind, StrictEnds, StrictRan, ended_part, is_within};
 
+use crate::answered::{Ended, Passed};
 use crate::rows::{read_text, run_rows};
-use reg_calls::OfficeCalls;
 use reg_core::{Fault, Moment};
+use reg_office_api::Office;
 use std::alloc::Global;
 use std::io::{Read, Write};
 
-/// How a strict import ended that met no fault of its own.
-#[derive(Clone, Copy, PartialEq, Eq)]
-pub enum Imported {
-    /// Each row ran and was accepted.
-    Whole,
-    /// A reply was a refusal or a fault: it is the last one, and no row behind it ran.
-    Refused,
-    /// Each row up to the last line end ran and was accepted. What is behind that did not run.
-    NoLineEnd,
-}
-
-/// Registers each row of a text as [`crate::import`] does, up to the first reply that is a refusal or a fault. A text is run up to and
-/// with its last line end, a CR or an LF: a last row without one is not run.
+/// Registers each row of a text as [`crate::import`] does, up to the first reply that is a refusal or a fault. A last row that has
+/// no line end, a CR or an LF, is not run.
 ///
 /// # Errors
 ///
 /// As of [`crate::import`].
-pub fn import_strictly<R: Read, W: Write, O: OfficeCalls>(
+pub fn import_strictly<R: Read, W: Write, O: Office>(
     alloc: Global,
     reader: &mut R,
     writer: &mut W,
     now: Moment,
     office: &mut O,
-) -> Result<Imported, Fault>
-    ensures { StrictEnds (ByCalls O.runs O.asks O.ocsps) R.remaining W.contents now
-        office.old office.new reader.old reader.new writer.old writer.new result }
+) -> Result<Ended, Fault>
+    ensures { Leads O.is_clean O.stands
+        (λ who before after. StrictEnds (Lines O.signs who) R.remaining W.contents now before after
+        reader.old reader.new writer.old writer.new result)
+        office.old office.new }
 {
     match read_text(alloc, reader) {
         Ok(text) => run_ended(alloc, writer, now, office, &text),
@@ -44,31 +37,32 @@ pub fn import_strictly<R: Read, W: Write, O: OfficeCalls>(
 }
 
 /// Runs the rows of a text up to its last line end.
-fn run_ended<W: Write, O: OfficeCalls>(
+fn run_ended<W: Write, O: Office>(
     alloc: Global,
     writer: &mut W,
     now: Moment,
     office: &mut O,
     text: &[u8],
-) -> Result<Imported, Fault>
-    ensures { StrictRan (ByCalls O.runs O.asks O.ocsps) now office.old office.new (W.contents writer.old) (W.contents writer.new) text.now result }
+) -> Result<Ended, Fault>
+    ensures { StrictRan (LineCalls O.Office) now office.old office.new
+        (W.contents writer.old) (W.contents writer.new) text.now result }
 {
     let ended = ended_part(text);
     match run_rows(alloc, writer, now, office, true, ended) {
-        Ok(true) => Ok(ends_behind(ended, text)),
-        Ok(false) => Ok(Imported::Refused),
+        Ok(Passed::On) => Ok(ends_behind(ended, text)),
+        Ok(Passed::Refused(refused)) => Ok(Ended::Refused(refused)),
         Err(fault) => Err(fault),
     }
 }
 
 /// How an import ends that was accepted up to the last line end of a text.
-fn ends_behind(ended: &[u8], text: &[u8]) -> Imported
+fn ends_behind(ended: &[u8], text: &[u8]) -> Ended
     ensures { EndsBehind (length ended.now) (length text.now) result }
 {
     if ended.len() == text.len() {
-        Imported::Whole
+        Ended::Whole
     } else {
-        Imported::NoLineEnd
+        Ended::NoLineEnd
     }
 }
 

@@ -21,7 +21,8 @@ use std::io::Read;
 ///
 /// [`Fault::Read`] at a read that fails and at more than 16,777,216 bytes; [`Fault::Memory`].
 pub fn lines_of_rows<R: Read>(alloc: Global, reader: &mut R) -> Result<Vec<u8>, Fault>
-    ensures { ToldEnds (R.remaining reader.old) (R.remaining reader.new) (result_map_both (λ lines. lines.items) (λ fault. fault) result) }
+    ensures { ToldEnds (R.remaining reader.old) (R.remaining reader.new)
+        (result_map_both (λ lines. lines.items) (λ fault. fault) result) }
 {
     match read_text(alloc, reader) {
         Ok(text) => lines_of_text(alloc, &text),
@@ -85,7 +86,8 @@ fn put_line(
     fields: Option<(&[u8], &[u8], &[u8], &[u8])>,
     lines: &mut Vec<u8>,
 ) -> Result<(), AllocError>
-    ensures { OnOk result (lines.new.items ≡ lines.old.items ++ row_line (option_map (λ p. (p.0.now, p.1.now, p.2.now, p.3.now)) fields.entry)) }
+    ensures { OnOk result (lines.new.items
+        ≡ lines.old.items ++ row_line (option_map (λ p. (p.0.now, p.1.now, p.2.now, p.3.now)) fields.entry)) }
 {
     lines.extend_from_slice(b"register")?;
     put_fields(fields, lines)?;
@@ -98,7 +100,8 @@ fn put_fields(
     fields: Option<(&[u8], &[u8], &[u8], &[u8])>,
     text: &mut Vec<u8>,
 ) -> Result<(), AllocError>
-    ensures { OnOk result (text.new.items ≡ text.old.items ++ fields_told (option_map (λ p. (p.0.now, p.1.now, p.2.now, p.3.now)) fields.entry)) }
+    ensures { OnOk result (text.new.items
+        ≡ text.old.items ++ fields_told (option_map (λ p. (p.0.now, p.1.now, p.2.now, p.3.now)) fields.entry)) }
 {
     let Some((order, serial, not_before, not_after)) = fields else {
         return Ok(());

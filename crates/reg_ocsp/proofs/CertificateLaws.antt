@@ -9,8 +9,7 @@ use Rattle.reg_der.specs.Authority.{IsKey}
 use Rattle.reg_der.specs.Der.{tlv}
 use Rattle.reg_der.specs.ValueReading.{Gives, Takes}
 use Rattle.reg_der.specs.WrittenValues.{bits_value}
-use Rattle.reg_der.proofs.PublicLaws.{value_size}
-use Rattle.reg_der.proofs.ValueLemmas.{bind_then, kept, some_is}
+use Rattle.reg_der.proofs.PublicLaws.{value_size, bind_then, kept, some_is}
 use Rattle.reg_ocsp.specs.declared.certificate.CertifiedKey.{CertifiedKey}
 use Rattle.reg_ocsp.specs.Certificate.{Form, IsCertificateOf, key_info, to_be_signed, certificate, no_unused, as_key, key_info_at, after_subject_at, signed_part_at, certificate_at}
 use Rattle.reg_ocsp.specs.RequestReading.{expect_at, whole_at, optional_at}

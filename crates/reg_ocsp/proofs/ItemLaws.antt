@@ -5,8 +5,7 @@ use Rattle.std.proofs.lemmas.List.{length-append}
 use Rattle.reg_core.specs.Integer.{IsBytes}
 use Rattle.reg_core.specs.Sequence.{◌>>=◌}
 use Rattle.reg_der.specs.ValueReading.{Takes}
-use Rattle.reg_der.proofs.KeyIdentifiers.{bind_same}
-use Rattle.reg_der.proofs.ValueLemmas.{bind_then, some_is}
+use Rattle.reg_der.proofs.PublicLaws.{bind_same, bind_then, some_is}
 use Rattle.reg_ocsp.specs.RequestReading.{items_at, all_at}
 
 -- an item was taken from the front: its tree, which is spelled and seen so

@@ -8,3 +8,4 @@ pub mod CertificateLaws
 pub mod Loops
 pub mod MatchLaws
 pub mod Answering
+pub mod PublicLaws

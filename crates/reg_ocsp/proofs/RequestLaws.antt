@@ -9,8 +9,7 @@ use Rattle.std.proofs.lemmas.Slice.Eq.{bytes_eq-Decides}
 use Rattle.reg_core.specs.Integer.{IsBytes}
 use Rattle.reg_der.specs.Der.{tlv, length_octets}
 use Rattle.reg_der.specs.ValueReading.{Takes}
-use Rattle.reg_der.proofs.PublicLaws.{value_size}
-use Rattle.reg_der.proofs.ValueLemmas.{bind_then, kept, some_is}
+use Rattle.reg_der.proofs.PublicLaws.{value_size, bind_then, kept, some_is}
 use Rattle.reg_ocsp.specs.Request.{Single, IsSingle, Extension, AreExtensions, Id, id_asked, Form, IsForm, single, request_version, optional, extensions, to_be_signed, spelling, repeated, nonce_of, first_nonce, IsOcspRequest, OneReading, cert_id, algorithm, raw_length, IsNonce, CanBeAnswered}
 use Rattle.reg_ocsp.specs.declared.asked.Asked.{Asked}
 use Rattle.reg_ocsp.specs.declared.fault.AskFault.{AskFault}

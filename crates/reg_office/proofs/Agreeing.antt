@@ -12,14 +12,13 @@ use Rattle.reg_core.specs.declared.rows.CertRow.{CertRow}
 use Rattle.reg_core.specs.declared.rows.Entry.{Entry}
 use Rattle.reg_core.specs.declared.rows.RevocationRow.{RevocationRow}
 use Rattle.reg_der.proofs.PublicLaws.{one_number}
-use Rattle.reg_laws.specs.Headline.{IsDueEntry}
-use Rattle.reg_laws.proofs.Listed.{due_entries, revoked_for_good}
-use Rattle.reg_laws.proofs.Lists.{all_weaker}
+use Rattle.reg_core_laws.specs.Headline.{IsDueEntry}
+use Rattle.reg_core_laws.proofs.PublicLaws.{due_entries, revoked_for_good, all_weaker}
 use Rattle.reg_ocsp.specs.Matching.{IsMatch}
 use Rattle.reg_ocsp.specs.Request.{Id}
 use Rattle.reg_ocsp.specs.Response.{SingleAnswer, cert_status}
 use Rattle.reg_office.specs.Agreement.{Agrees, OcspAgrees}
-use Rattle.reg_calls.specs.Ocsp.{IsAnswer, IsTold}
+use Rattle.reg_office_api.specs.Ocsp.{IsAnswer, IsTold}
 
 -- a CertID names one certificate of the issuer at most
 one_match : (issuer : core.Issuer) (id : Id) (first second : ℕ) → IsMatch issuer id first → IsMatch issuer id second → first ≡ second

@@ -1,8 +1,7 @@
 -- Queries that are answered.
-use Rattle.std.specs.Prelude.{⊤, IfErr, IsSome}
+use Rattle.std.specs.Prelude.{⊤, IfErr, IsSome, nat_le, nat_lt}
 use Rattle.std.proofs.Common.{◌≡◌, ◌≤◌, ◌<◌, ℕ, Bool, true, false, List, [], ◌∷◌, ◌++◌, Option, None, Some, Result, Ok, Err, refl, sym, ap, subst, ◌∙◌, arith}
 use Rattle.std.proofs.lemmas.Bool.Decides.{nat_tests}
-use Rattle.std.specs.Prelude.{nat_le, nat_lt}
 use Rattle.sqlite_trees.specs.declared.store.Store.{Ghosts}
 use Rattle.sqlite.specs.Held.{Held}
 use Rattle.reg_core.specs.Checks.{clock_end, clock_checks, first_of_all, when, where_none}
@@ -16,11 +15,13 @@ use Rattle.reg_core.specs.declared.refusal.Refusal.{Refusal}
 use Rattle.reg_core.specs.declared.refusal.Refusal.TheVariants.{ClockEnd, ClockBack, UnknownSerial}
 use Rattle.reg_core.specs.declared.refusal.Fault.{Fault}
 use Rattle.reg_core.specs.declared.refusal.Fault.TheVariants.{Refused, Memory, Store, Signer, Read, Write}
-use Rattle.reg_laws.proofs.Decided.{says}
-use Rattle.reg_calls.specs.Answered.{IsAnswered}
+use Rattle.reg_core_laws.proofs.PublicLaws.{says}
+use Rattle.reg_office_api.specs.Answered.{IsAnswered}
+use Rattle.reg_store_tables.proofs.PublicLaws.{and_so, so}
 use Rattle.reg_office.specs.Faults.{IsTableFault}
-use Rattle.reg_office.specs.Looking.{IsDecidedOr, LooksAndDecides, LooksUp}
-use Rattle.reg_office.proofs.Looking.{and_so, decided_for, so}
+use Rattle.reg_store_tables.specs.LookUps.{LooksUp}
+use Rattle.reg_office.specs.Looking.{IsDecidedOr, LooksAndDecides}
+use Rattle.reg_office.proofs.Looking.{decided_for}
 
 -- no check of the first ones applies: the first of the others
 first_none :

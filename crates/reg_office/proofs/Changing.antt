@@ -6,8 +6,8 @@ use Rattle.sqlite_trees.specs.declared.store.Store.{Ghosts}
 use Rattle.sqlite.specs.Held.{Held, state}
 use Rattle.sqlite.specs.State.{HasCleanDisk}
 use Rattle.sqlite.proofs.StateLemmas.{survives_then, survives_weaker}
-use Rattle.reg_tables.specs.Stays.{Looked, Changed}
-use Rattle.reg_tables.proofs.Staying.{stays_register, stays_then}
+use Rattle.reg_store_tables.specs.Stays.{Looked, Changed}
+use Rattle.reg_store_tables.proofs.PublicLaws.{stays_register, stays_then}
 
 -- an error after look-ups
 pub looked_failed :

@@ -14,26 +14,26 @@ use Rattle.reg_core.specs.Sound.{SoundRows}
 use Rattle.reg_core.specs.Step.{IsSigned, refusal}
 use Rattle.reg_core.specs.declared.change.Change.{Change}
 use Rattle.reg_core.specs.declared.command.Command.{Command}
-use Rattle.reg_core.specs.declared.command.Command.TheVariants.{Subscriber, Order, Register, Request, Decline, Revoke, Crl as IssueCrl}
+use Rattle.reg_core.specs.declared.command.Command.TheVariants.{Crl as IssueCrl}
 use Rattle.reg_core.specs.declared.command.Reply.{Reply}
 use Rattle.reg_core.specs.declared.refusal.Fault.{Fault}
 use Rattle.reg_core.specs.declared.refusal.Fault.TheVariants.{Refused, Memory, Store, Signer as SignerFailed, Read, Write}
 use Rattle.reg_crl.specs.Signing.{Identity, signed_by}
-use Rattle.reg_tables.specs.Faults.{fault_of}
-use Rattle.reg_tables.specs.Kept.{ShowsKept}
-use Rattle.reg_tables.specs.Stays.{Changed, Looked}
-use Rattle.reg_tables.specs.declared.fault.StoreFault.{StoreFault}
-use Rattle.reg_changes.specs.AfterStoppedChange.{IsChanged}
-use Rattle.reg_laws.specs.Run.{Happens}
-use Rattle.reg_laws.proofs.Accepted.{accepted_clock}
-use Rattle.reg_laws.proofs.Decided.{step_accepted, step_refused}
+use Rattle.reg_store_tables.specs.Faults.{fault_of}
+use Rattle.reg_store_tables.specs.Kept.{ShowsKept}
+use Rattle.reg_store_tables.specs.Stays.{Changed, Looked}
+use Rattle.reg_store_tables.specs.declared.fault.DatabaseFault.{DatabaseFault}
+use Rattle.reg_store_changes.specs.AfterStoppedChange.{IsChanged}
+use Rattle.reg_core_laws.specs.Run.{Happens}
+use Rattle.reg_core_laws.proofs.PublicLaws.{accepted_clock, step_accepted, step_refused}
+use Rattle.reg_store_tables.proofs.PublicLaws.{after_look, after_looked, was_clean}
 use Rattle.reg_office.specs.AfterStoppedCommand.{Does}
 use Rattle.reg_office.specs.Commands.{IsCommandRun}
 use Rattle.reg_office.specs.Faults.{IsOfficeFault, IsTableFault}
 use Rattle.reg_office.specs.Looking.{IsAcceptance, IsDecidedOr}
 use Rattle.reg_office.specs.Stands.{Stands, CameTo}
 use Rattle.reg_office.proofs.Changing.{looked_failed, changed_failed, changed_made}
-use Rattle.reg_office.proofs.Composing.{after_look, after_looked, of_failure, was_clean}
+use Rattle.reg_office.proofs.Composing.{of_failure}
 use Rattle.reg_office.proofs.Following.{step_keeps_sound_for}
 use Rattle.reg_office.proofs.Standing.{never_signer, office_fault, stands_looked}
 
@@ -119,7 +119,7 @@ module _ {C S : Type 0} (g : Ghosts C) (signs : Identity → List ℕ → List �
     -- the change is made
     pub carried_out :
         ((records : Records) → ShowsKept g mid records → SoundRows records → records.last ≤ now → Fits records now change → ShowsKept g new (changed_by records now change))
-        → {u : Unit {0}} → Changed {T = Unit {0}} {E = StoreFault} g mid new (IsChanged g mid now change) (Ok u) → IsRunTo new left (Ok reply)
+        → {u : Unit {0}} → Changed {T = Unit {0}} {E = DatabaseFault} g mid new (IsChanged g mid now change) (Ok u) → IsRunTo new left (Ok reply)
     carried_out shows changed = record {
       step = λ records stands clean.
           let it = may_of records stands clean in
@@ -139,8 +139,8 @@ module _ {C S : Type 0} (g : Ghosts C) (signs : Identity → List ℕ → List �
     }
 
     -- or it fails
-    pub not_carried_out : (outcome : Result Reply Fault) (failure : StoreFault) → IsErrAnd outcome (λ fault. fault ≡ fault_of failure) → now < clock_end
-        → Changed {T = Unit {0}} {E = StoreFault} g mid new (IsChanged g mid now change) (Err failure) → IsRunTo new left outcome
+    pub not_carried_out : (outcome : Result Reply Fault) (failure : DatabaseFault) → IsErrAnd outcome (λ fault. fault ≡ fault_of failure) → now < clock_end
+        → Changed {T = Unit {0}} {E = DatabaseFault} g mid new (IsChanged g mid now change) (Err failure) → IsRunTo new left outcome
     not_carried_out (Ok other) failure told below changed = absurd told
     not_carried_out (Err other) failure told below changed =
         let fault = fault_of failure in

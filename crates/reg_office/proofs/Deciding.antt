@@ -1,5 +1,5 @@
 -- What each pure decision comes to: the refusal that applies, or what the command is answered and changes. So it is the step of its command.
-use Rattle.std.proofs.Common.{◌≡◌, ℕ, ◌+◌, Bool, List, [], length, Option, Some, None, refl, sym, ap, subst}
+use Rattle.std.proofs.Common.{◌≡◌, ℕ, ◌+◌, Bool, List, [], length, Option, Some, None, refl, sym, ap, subst, ◌∙◌}
 use Rattle.std.specs.Prelude.{Result, Ok, Err, option_and_then, option_map}
 use Rattle.reg_core.specs.Changes.{Fits, changed_by}
 use Rattle.reg_core.specs.Crls.{CertList, latest, row_of}
@@ -23,7 +23,7 @@ use Rattle.reg_core.specs.declared.rows.CertRow.{CertRow}
 use Rattle.reg_core.specs.declared.rows.RequestRow.{RequestRow}
 use Rattle.reg_core.specs.declared.rows.RevocationRow.{RevocationRow}
 use Rattle.reg_core.specs.declared.rows.CrlRow.{CrlRow}
-use Rattle.reg_laws.proofs.Decided.{Accepts, subscriber_decided, order_decided, register_decided, request_decided, decline_decided, RevokeSays, revoke_decided, CrlSays, crl_decided, step_accepted, step_refused}
+use Rattle.reg_core_laws.proofs.PublicLaws.{Accepts, subscriber_decided, order_decided, register_decided, request_decided, DeclineSays, decline_decided, RevokeSays, revoke_decided, CrlSays, crl_decided, step_accepted, step_refused}
 use Rattle.reg_office.specs.Decisions.{IsStepOf, IsIssue, registration_reply, registration_change, SubscribersAreSteps, OrdersAreSteps, RegistrationsAreSteps, RequestsAreSteps, DeclinesAreSteps, RevocationsAreSteps, CrlsAreSteps}
 use Rattle.reg_office.specs.Looking.{IsAcceptance}
 use Rattle.reg_office.proofs.Facts.{registrable, revocable}
@@ -32,6 +32,12 @@ use Rattle.reg_office.proofs.Facts.{registrable, revocable}
 abbrev pub IsToDo : {Answer : Type 0} → Records → ℕ → Command → (Answer → Reply × Change) → Result Answer Refusal → Type 0
 IsToDo records now command what (Err refused) = refusal records now command ≡ Some refused
 IsToDo records now command what (Ok answer) = IsAcceptance now command records (what answer)
+
+-- the same of a revocation, by the certificate that it ends
+abbrev pub IsRevocationToDo : Records → ℕ → ℕ → Option CertRow → Result (RevocationRow × Bool) Refusal → Type 0
+IsRevocationToDo records now id certificate (Err refused) = refusal records now (Revoke id) ≡ Some refused
+IsRevocationToDo records now id certificate (Ok decided) =
+    (row : CertRow) → certificate ≡ Some row → IsAcceptance now (Revoke id) records (Revoked decided.1, change.Revocation decided.0 row.not_after)
 
 -- no bytes are signed here
 abbrev pub unsigned : CertList → List ℕ → Type 0
@@ -97,30 +103,54 @@ module _ (records : Records) (now : ℕ) where
       (ap (λ (r : RequestRow). r.received) says.row_is)
       (request_to_do head serial word certificate revocation (Ok row) head_is certificate_is revocation_is decides)
 
-  pub decline_to_do : (head : Head) (held id : ℕ) (request : Option RequestRow) (certificate : Option CertRow) (revocation : Option RevocationRow) (result : Result RequestRow Refusal)
-      → head ≡ head_of records now held → request ≡ request_in records.requests id
+  -- a decision by which no table with a cap grows goes by the moments of its head
+  decline_at : (head : Head) (held : ℕ) (request : Option RequestRow) (certificate : Option CertRow) (revocation : Option RevocationRow) (result : Result RequestRow Refusal)
+      → head.now ≡ now → head.last ≡ records.last → DecidesDecline head request certificate revocation result
+      → DecidesDecline (head_of records now held) request certificate revocation result
+  decline_at head held request certificate revocation result now_is last_is decides = rw (now_is, last_is) at decides
+
+  revoke_at : (head : Head) (held : ℕ) (request : Option RequestRow) (certificate : Option CertRow) (revocation : Option RevocationRow) (newest : Option CrlRow)
+      (result : Result (RevocationRow × Bool) Refusal)
+      → head.now ≡ now → head.last ≡ records.last → DecidesRevoke head request certificate revocation newest result
+      → DecidesRevoke (head_of records now held) request certificate revocation newest result
+  revoke_at head held request certificate revocation newest result now_is last_is decides = rw (now_is, last_is) at decides
+
+  pub decline_to_do : (head : Head) (id : ℕ) (request : Option RequestRow) (certificate : Option CertRow) (revocation : Option RevocationRow) (result : Result RequestRow Refusal)
+      → head.now ≡ now → head.last ≡ records.last → request ≡ request_in records.requests id
       → certificate ≡ option_and_then (λ row. certificate_in records.certificates row.serial) request
       → revocation ≡ option_and_then (λ row. revocation_in records.revocations row.serial) request
       → DecidesDecline head request certificate revocation result
       → IsToDo records now (Decline id) (λ row. (Declined, change.Decline row.id)) result
-  decline_to_do head held id request certificate revocation (Err why) head_is request_is certificate_is revocation_is decides =
-      (decline_decided unsigned records now head held id request certificate revocation (Err why) head_is request_is certificate_is revocation_is decides).refused_by
-  decline_to_do head held id request certificate revocation (Ok row) head_is request_is certificate_is revocation_is decides =
-      let says = decline_decided unsigned records now head held id request certificate revocation (Ok row) head_is request_is certificate_is revocation_is decides in
-      subst (λ (n : ℕ). IsAcceptance now (Decline id) records (Declined, change.Decline n)) (sym says.id_is) (to_do (change.Decline id) says.accepts tt)
+  decline_to_do head id request certificate revocation result now_is last_is request_is certificate_is revocation_is decides =
+      go result
+      (decline_decided unsigned records now (head_of records now 0) 0 id request certificate revocation result refl request_is certificate_is revocation_is
+      (decline_at head 0 request certificate revocation result now_is last_is decides))
+    where
+      go : (answer : Result RequestRow Refusal) → DeclineSays unsigned records now id answer → IsToDo records now (Decline id) (λ row. (Declined, change.Decline row.id)) answer
+      go (Err why) said = said.refused_by
+      go (Ok row) says =
+          subst (λ (n : ℕ). IsAcceptance now (Decline id) records (Declined, change.Decline n)) (sym says.id_is) (to_do (change.Decline id) says.accepts tt)
 
-  pub revoke_to_do : (head : Head) (held id : ℕ) (request : Option RequestRow) (certificate : Option CertRow) (revocation : Option RevocationRow) (newest : Option CrlRow)
+  -- with the notAfter of the request's certificate
+  pub revoke_to_do : (head : Head) (id : ℕ) (request : Option RequestRow) (certificate : Option CertRow) (revocation : Option RevocationRow) (newest : Option CrlRow)
       (result : Result (RevocationRow × Bool) Refusal)
-      → SoundRows records → head ≡ head_of records now held → request ≡ request_in records.requests id
+      → SoundRows records → head.now ≡ now → head.last ≡ records.last → request ≡ request_in records.requests id
       → certificate ≡ option_and_then (λ row. certificate_in records.certificates row.serial) request
       → revocation ≡ option_and_then (λ row. revocation_in records.revocations row.serial) request
       → newest ≡ option_map row_of (latest records.crls) → DecidesRevoke head request certificate revocation newest result
-      → IsToDo records now (Revoke id) (λ decided. (Revoked decided.1, change.Revocation decided.0)) result
-  revoke_to_do head held id request certificate revocation newest (Err why) sound head_is request_is certificate_is revocation_is newest_is decides =
-      (revoke_decided unsigned records now head held id request certificate revocation newest (Err why) head_is request_is certificate_is revocation_is newest_is decides).refused_by
-  revoke_to_do head held id request certificate revocation newest (Ok decided) sound head_is request_is certificate_is revocation_is newest_is decides =
-      let says = revoke_decided unsigned records now head held id request certificate revocation newest (Ok decided) head_is request_is certificate_is revocation_is newest_is decides in
-      to_do (change.Revocation decided.0) says.accepts (revocable unsigned records now id decided sound says)
+      → IsRevocationToDo records now id certificate result
+  revoke_to_do head id request certificate revocation newest result sound now_is last_is request_is certificate_is revocation_is newest_is decides =
+      go result
+      (revoke_decided unsigned records now (head_of records now 0) 0 id request certificate revocation newest result refl request_is certificate_is revocation_is newest_is
+      (revoke_at head 0 request certificate revocation newest result now_is last_is decides))
+    where
+      registered : certificate_of_request records id ≡ certificate
+      registered = rw (sym request_is) (sym certificate_is)
+
+      go : (answer : Result (RevocationRow × Bool) Refusal) → RevokeSays unsigned records now id answer → IsRevocationToDo records now id certificate answer
+      go (Err why) said = said.refused_by
+      go (Ok decided) says = λ row row_is.
+          to_do (change.Revocation decided.0 row.not_after) says.accepts (revocable unsigned records now id decided row sound (registered ∙ row_is) says)
 
   -- that is the step of a command which issues no CRL
   step_of : {Answer : Type 0} (signed : CertList → List ℕ → Type 0) (command : Command) (what : Answer → Reply × Change) (result : Result Answer Refusal)
@@ -155,10 +185,10 @@ module _ (signed : CertList → List ℕ → Type 0) where
   pub declines : DeclinesAreSteps signed
   declines records now held id result decides =
       step_of records now signed (Decline id) _ result refl
-      (decline_to_do records now _ held id _ _ _ result refl refl refl refl decides)
+      (decline_to_do records now (head_of records now held) id _ _ _ result refl refl refl refl refl decides)
 
   pub revocations : RevocationsAreSteps signed
-  revocations records now held id result decides =
+  revocations records now held id not_after result decides =
       go
       result
       (revoke_decided signed records now (head_of records now held) held id (request_in records.requests id) (certificate_of_request records id)
@@ -167,9 +197,9 @@ module _ (signed : CertList → List ℕ → Type 0) where
       go :
           (answer : Result (RevocationRow × Bool) Refusal)
           → RevokeSays signed records now id answer
-          → IsStepOf signed records now (Revoke id) (λ decided. Revoked decided.1) (λ decided. change.Revocation decided.0) answer
+          → IsStepOf signed records now (Revoke id) (λ decided. Revoked decided.1) (λ decided. change.Revocation decided.0 not_after) answer
       go (Err refused) said = said.step records refl
-      go (Ok decided) said = said.accepts.step (changed_by records now (change.Revocation decided.0)) refl
+      go (Ok decided) said = said.accepts.step (changed_by records now (change.Revocation decided.0 not_after)) refl
 
   pub crls : CrlsAreSteps signed
   crls records now result decides =

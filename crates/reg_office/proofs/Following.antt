@@ -13,11 +13,9 @@ use Rattle.reg_core.specs.declared.command.Reply.{Reply}
 use Rattle.reg_core.specs.declared.refusal.Fault.{Fault}
 use Rattle.reg_crl.specs.Crl.{certificate_list, tbs_of}
 use Rattle.reg_crl.specs.Signing.{Identity, sealed, sealed_until, signed_by}
-use Rattle.reg_calls.proofs.Happening.{happens_by}
-use Rattle.reg_laws.specs.Run.{Happens, Run}
-use Rattle.reg_laws.proofs.Contents.{Grows, next_is}
-use Rattle.reg_laws.proofs.Lists.{all_join, numbered_below}
-use Rattle.reg_laws.proofs.Runs.{created_sound, schedule_keeps_sound, step_grows, step_keeps_sound}
+use Rattle.reg_office_api.proofs.PublicLaws.{happens_by}
+use Rattle.reg_core_laws.specs.Run.{Happens, Run}
+use Rattle.reg_core_laws.proofs.PublicLaws.{Grows, next_is, all_join, numbered_below, created_sound, schedule_keeps_sound, step_grows, step_keeps_sound}
 use Rattle.reg_office.specs.Following.{IsSeal}
 use Rattle.reg_office.specs.Stands.{SoundFor}
 

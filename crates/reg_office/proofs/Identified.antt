@@ -1,5 +1,5 @@
 -- With a key identifier more, which CRLs have from the next one on, the CRLs that were issued are signed over what they list.
-use Rattle.std.proofs.Common.{◌≡◌, ℕ, ◌+◌, ◌<◌, ◌≤◌, List, [], ◌∷◌, length, Result, Ok, Err, OnOk, inl, inr, refl, subst, sym, arith}
+use Rattle.std.proofs.Common.{◌≡◌, ℕ, ◌+◌, ◌<◌, ◌≤◌, List, [], ◌∷◌, length, inl, inr, refl, subst, sym, arith}
 use Rattle.std.specs.List.{AllByRecursion}
 use Rattle.reg_core.specs.Crls.{cert_list, next_number}
 use Rattle.reg_core.specs.Issuer.{Issuer}
@@ -10,7 +10,7 @@ use Rattle.reg_crl.specs.Crl.{certificate_list, crl_extensions, key_identifier, 
 use Rattle.reg_crl.specs.Signing.{Identity, seal_of, sealed_until, sha1_algorithm}
 use Rattle.reg_der.specs.Authority.{HasIdentifier, key_identifier_at, name_of}
 use Rattle.reg_der.specs.Issuers.{with_key_identifier}
-use Rattle.reg_laws.proofs.Contents.{next_is}
+use Rattle.reg_core_laws.proofs.PublicLaws.{next_is}
 use Rattle.reg_office.specs.Stands.{SoundFor}
 
 -- what is signed goes by the issuer's Name and by the key identifier that a CRL of this number has
@@ -69,8 +69,3 @@ module _ (signs : Identity → List ℕ → List ℕ → Type 0) (identity : Ide
     rows = rows_stay sound.rows;
     signatures = all_stored sound.since 1 records.crls sound.rows.crls.numbered (let next = next_is records.crls sound.rows.crls.numbered in omega arith) sound.signatures;
   }
-
--- two facts of an Ok, and what follows from both
-pub both_on_ok : {T E : Type 0} {P Q R : Type 0} (r : Result T E) → (P → Q → R) → OnOk r P → OnOk r Q → OnOk r R
-both_on_ok (Ok x) leads p q = leads p q
-both_on_ok (Err e) leads p q = tt

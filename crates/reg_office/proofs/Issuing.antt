@@ -16,14 +16,12 @@ use Rattle.reg_core.specs.declared.command.Command.TheVariants.{Crl as IssueCrl}
 use Rattle.reg_core.specs.declared.command.Reply.TheVariants.{Crl as CrlIssued}
 use Rattle.reg_core.specs.declared.refusal.Fault.{Fault}
 use Rattle.reg_core.specs.declared.refusal.Fault.TheVariants.{Refused, Memory, Store, Signer, Read, Write}
-use Rattle.reg_laws.specs.Run.{Happens}
-use Rattle.reg_laws.proofs.Accepted.{accepted_clock}
-use Rattle.reg_laws.proofs.CountFacts.{same_number, other_numbers, find_here, find_on}
-use Rattle.reg_laws.proofs.Decided.{step_accepted}
-use Rattle.reg_tables.specs.Faults.{fault_of}
-use Rattle.reg_tables.specs.declared.fault.StoreFault.{StoreFault}
-use Rattle.reg_calls.specs.Answered.{IsGiven}
-use Rattle.reg_calls.specs.Items.{items_of}
+use Rattle.reg_core_laws.specs.Run.{Happens}
+use Rattle.reg_core_laws.proofs.PublicLaws.{accepted_clock, same_number, other_numbers, find_here, find_on, step_accepted}
+use Rattle.reg_store_tables.specs.Faults.{fault_of}
+use Rattle.reg_store_tables.specs.declared.fault.DatabaseFault.{DatabaseFault}
+use Rattle.reg_office_api.specs.Answered.{IsGiven}
+use Rattle.reg_office_api.specs.Items.{items_of}
 use Rattle.reg_office.specs.Faults.{IsMakingFault, IsOfficeFault, IsSigningFault}
 use Rattle.reg_office.specs.Issuing.{IsNextOf}
 use Rattle.reg_office.proofs.CommandsRun.{MayChange}
@@ -140,7 +138,7 @@ given_latest records n (Err Write) same h = h
 
 -- and nothing is given where the store fails
 pub not_given :
-    (records : Records) (number : Option ℕ) (outcome : Result (Vec ℕ Global) Fault) (failure : StoreFault)
+    (records : Records) (number : Option ℕ) (outcome : Result (Vec ℕ Global) Fault) (failure : DatabaseFault)
     → IsErrAnd outcome (λ fault. fault ≡ fault_of failure) → IsGiven records number (items_of outcome)
 not_given records number (Ok bytes) failure told = absurd told
 not_given records number (Err fault) failure told =

@@ -1,33 +1,41 @@
 -- The calls of an office over a store, as steps of its records.
 use Rattle.std.proofs.Common.{◌≡◌, ℕ, List, refl, sym, ◌∙◌, subst}
-use Rattle.std.specs.Prelude.{Result, Ok, Err, Vec, IfOk, IfErr, IsErrOf}
+use Rattle.std.specs.Prelude.{Result, Ok, Err, Vec, IfOk, IfErr, IsErrAnd, IsErrOf}
 use Rattle.sqlite.specs.Held.{Held, state}
 use Rattle.sqlite.specs.State.{HasCleanDisk}
 use Rattle.sqlite_trees.specs.declared.store.Store.{Ghosts}
-use Rattle.reg_calls.specs.Items.{items_of}
+use Rattle.reg_office_api.specs.Items.{items_of}
 use Rattle.reg_core.specs.Records.{Records}
+use Rattle.reg_core.specs.Sound.{SoundRows}
 use Rattle.reg_core.specs.declared.command.Command.{Command}
 use Rattle.reg_core.specs.declared.command.Reply.{Reply}
 use Rattle.reg_core.specs.declared.memory.Memory.{Memory}
 use Rattle.reg_core.specs.declared.refusal.Fault.{Fault}
-use Rattle.reg_core.specs.declared.refusal.Fault.TheVariants.{Signer}
+use Rattle.reg_core.specs.declared.refusal.Fault.TheVariants.{Signer as SignerFailed}
 use Rattle.reg_crl.specs.Signing.{signed_by}
-use Rattle.reg_laws.specs.Run.{Happens}
-use Rattle.reg_calls.specs.Signatories.{Signatory}
-use Rattle.reg_calls.specs.CallSteps.{Signs, Runs, Ocsps}
-use Rattle.reg_calls.specs.Drafts.{Begins, Drafts, IsDraft}
-use Rattle.reg_calls.specs.declared.begun.Begun.{Begun}
-use Rattle.reg_calls.specs.declared.begun.Begun.TheVariants.{Whole, Left}
+use Rattle.reg_crl.specs.declared.signer.Signer.{Ghosts as Signer}
+use Rattle.reg_core_laws.specs.Run.{Happens}
+use Rattle.reg_office_api.specs.Signatories.{Signatory}
+use Rattle.reg_office_api.specs.CallSteps.{Signs, Runs, Ocsps}
+use Rattle.reg_office_api.specs.Drafts.{Begins, Drafts, IsDraft}
+use Rattle.reg_office_api.specs.Responses.{Replies}
+use Rattle.reg_office_api.specs.declared.response.OcspResponse.{OcspResponse}
 use Rattle.reg_ocsp.specs.Drafts.{Drafted}
-use Rattle.reg_tables.specs.Stays.{Changed, LeavesNothing}
+use Rattle.reg_io.specs.declared.begun.Begun.{Begun}
+use Rattle.reg_io.specs.declared.begun.Begun.TheVariants.{Ready, Unsigned}
+use Rattle.reg_store_tables.specs.Stays.{Changed, LeavesNothing, Looked}
+use Rattle.reg_store_tables.proofs.PublicLaws.{was_clean, ok_then}
+use Rattle.reg_office.proofs.Beginning.{draft_replied}
 use Rattle.reg_office.specs.AfterStoppedCommand.{Does, LeavesTold}
-use Rattle.reg_office.specs.Calls.{StandsFor, LeadsOver}
-use Rattle.reg_office.specs.Beginning.{IsBegun}
+use Rattle.reg_office.specs.Calls.{LeadsOver, OfficeLeads, OfficeLooks, StandsFor, seen}
+use Rattle.reg_office.specs.Beginning.{IsBegun, IsSignedBy}
 use Rattle.reg_office.specs.Faults.{IsTableFault}
+use Rattle.reg_store_tables.specs.LookUps.{LooksUp}
 use Rattle.reg_office.specs.Stands.{Stands, CameTo}
-use Rattle.reg_calls.specs.Ocsp.{IsOcspReply}
-use Rattle.reg_office.proofs.Composing.{was_clean}
+use Rattle.reg_office_api.specs.Ocsp.{IsOcspReply}
 use Rattle.reg_office.proofs.Leaving.{leaves_done, leaves_looked}
+use Rattle.reg_office.specs.declared.office.Office.{Office}
+use Rattle.reg_office.proofs.Standing.{stands_looked}
 use Rattle.reg_office.proofs.Stopping.{Settles}
 
 -- The calls of an office: its store and who signs, before and after.
@@ -81,52 +89,79 @@ module _ {C : Type 0} (g : Ghosts C) (signs : Signs) (old new : Held C) (who who
         (before, subst (λ (v : Signatory). Did v before before) stood.0 (did before stands is_clean), (is, subst Q is (stays before stands is_clean), left_by those before stood))),
   )
 
-  pub answer_leads : (Answers : Records → Type 0)
-      → ((records : Records) → Stands g signs old who.crls records → HasCleanDisk (state g new) → Answers records × Stands g signs new who'.crls records)
-      → LeadsOver g signs (λ those before after. Answers before × (after ≡ before)) (old, who) (new, who')
-  answer_leads Answers call =
-      leads_on (λ those before after. Answers before × (after ≡ before)) (λ records stands is_clean. ((call records stands is_clean).0, refl)) (λ records stands is_clean. (call records stands is_clean).1)
+-- An office before a look-up and after it.
+module _ {C S : Type 0} (g : Ghosts C) (signer : Signer S) (old new : Office C S) where
+  -- what holds of the records is a step of them that leaves them
+  pub office_leads : (Holds : Records → Type 0) (Did : Signatory → Records → Records → Type 0) → OfficeLooks g signer Holds old new
+      → ((records : Records) → Holds records → Did (seen signer old).1 records records) → OfficeLeads g signer Did old new
+  office_leads Holds Did looks did =
+      leads_on g signer.signs old.store new.store (seen signer old).1 (seen signer new).1 looks.looked.survives looks.same Did
+      (λ records stands is_clean. did records (looks.found records stands is_clean))
+      (λ records stands is_clean.
+      let P : Signatory → Type 0 = λ v. Stands g signer.signs new.store v.crls records in
+      subst P (sym looks.same) (stands_looked looks.looked stands))
 
-  -- an OCSP request
-  pub ocsp_leads : {Z : Type 0} (now : ℕ) (request : List ℕ) (result : Result (Vec ℕ Z) Memory)
-      → ((records : Records) → Stands g signs old who.crls records → HasCleanDisk (state g new)
-      → IfOk result (λ answer. IsOcspReply signs who.answers records now request answer.items))
-      → ((records : Records) → Stands g signs old who.crls records → Stands g signs new who'.crls records)
-      → LeadsOver g signs (λ those before after. Ocsps signs those before now request (items_of result) after) (old, who) (new, who')
-  ocsp_leads now request (Ok bytes) replied stays =
-      leads_on (λ those before after. Ocsps signs those before now request (Ok bytes.items) after) (λ records stands is_clean. (replied records stands is_clean, refl)) (λ records stands is_clean. stays records stands)
-  ocsp_leads now request (Err memory) replied stays =
-      leads_on (λ those before after. Ocsps signs those before now request (Err memory) after) (λ records stands is_clean. refl) (λ records stands is_clean. stays records stands)
+  -- a look-up of the store is one of the office, where those who sign are the same
+  pub office_looks : (Tells Holds : Records → Type 0) → LooksUp g old.store new.store Tells → (seen signer new).1 ≡ (seen signer old).1
+      → ((records : Records) → SoundRows records → Tells records → Holds records) → OfficeLooks g signer Holds old new
+  office_looks Tells Holds looks same holds = record {
+    looked = looks.looked;
+    same = same;
+    found = λ records stands is_clean. holds records stands.sound.rows (looks.found records stands.shown stands.sound.rows is_clean);
+  }
 
-  -- what is left to be signed for one
-  draft_leads : (now : ℕ) (request : List ℕ) (draft : Drafted)
-      → ((records : Records) → Stands g signs old who.crls records → HasCleanDisk (state g new) → IsDraft who.answers records now request draft)
-      → ((records : Records) → Stands g signs old who.crls records → Stands g signs new who'.crls records)
-      → LeadsOver g signs (λ those before after. Drafts those before now request draft after) (old, who) (new, who')
-  draft_leads now request draft left stays =
-      leads_on (λ those before after. Drafts those before now request draft after) (λ records stands is_clean. (left records stands is_clean, refl)) (λ records stands is_clean. stays records stands)
+  -- an OCSP request that is answered
+  pub response_leads : {Z : Type 0} (now : ℕ) (request : List ℕ) (result : Result (Vec ℕ Z) Memory)
+      → OfficeLooks g signer (λ records. IfOk result (λ answer. IsOcspReply signer.signs (seen signer old).1.answers records now request answer.items)) old new
+      → OfficeLeads g signer (λ who before after. Ocsps signer.signs who before now request (items_of result) after) old new
+  response_leads now request (Ok bytes) looks =
+      office_leads _ (λ who before after. Ocsps signer.signs who before now request (Ok bytes.items) after) looks (λ records replied. (replied, refl))
+  response_leads now request (Err memory) looks =
+      office_leads _ (λ who before after. Ocsps signer.signs who before now request (Err memory) after) looks (λ records replied. refl)
 
-  -- an OCSP request whose answer may be left to be signed
-  pub begin_leads : {S : Type 0} (s t : S) (answers : S → ℕ → List ℕ → Result (List ℕ) Memory → S → Type 0)
-      (drafts : S → ℕ → List ℕ → Drafted → S → Type 0) (now : ℕ) (request : List ℕ) (result : Result Begun Memory)
-      → ((given : Result (List ℕ) Memory)
-      → LeadsOver g signs (λ those before after. Ocsps signs those before now request given after) (old, who) (new, who')
-      → answers s now request given t)
-      → ((draft : Drafted)
-      → LeadsOver g signs (λ those before after. Drafts those before now request draft after) (old, who) (new, who')
-      → drafts s now request draft t)
-      → ((records : Records) → Stands g signs old who.crls records → HasCleanDisk (state g new)
-      → IfOk result (IsBegun signs who.answers records now request))
-      → ((records : Records) → Stands g signs old who.crls records → Stands g signs new who'.crls records)
-      → Begins answers drafts s now request result t
-  begin_leads s t answers drafts now request (Ok (Whole bytes)) answered left begun stays =
-      answered (Ok bytes.items) (ocsp_leads now request (Ok bytes) begun stays)
-  begin_leads s t answers drafts now request (Ok (Left draft)) answered left begun stays = left draft (draft_leads now request draft begun stays)
-  begin_leads s t answers drafts now request (Err memory) answered left begun stays =
-      answered (Err memory) (ocsp_leads {Z = Unit {0}} now request (Err memory) (λ records stands is_clean. tt) stays)
+  -- an OCSP request that is begun
+  pub beginning_leads : (now : ℕ) (request : List ℕ) (result : Result (Begun OcspResponse Drafted) Memory)
+      → OfficeLooks g signer (λ records. IfOk result (IsBegun signer.signs (seen signer old).1.answers records now request)) old new
+      → OfficeLeads g signer (λ who before after. Begins (Replies signer.signs who) (Drafts who) before now request result after) old new
+  beginning_leads now request (Ok (Ready response)) looks =
+      office_leads _ (λ who before after. Replies signer.signs who before now request (Ok (response.kind, response.bytes.items)) after) looks (λ records replied. (replied, refl))
+  beginning_leads now request (Ok (Unsigned draft)) looks =
+      office_leads _ (λ who before after. Drafts who before now request draft after) looks (λ records left. (left, refl))
+  beginning_leads now request (Err memory) looks =
+      office_leads _ (λ who before after. Replies signer.signs who before now request (Err memory) after) looks (λ records replied. refl)
+
+  -- a look-up, after which those who sign are asked for a signature: what is made of what was told
+  pub then_signed : {middle : Office C S} (Tells Holds : Records → Type 0) → OfficeLooks g signer Tells old middle → new.store ≡ middle.store
+      → (seen signer new).1 ≡ (seen signer middle).1 → ((records : Records) → Tells records → Holds records) → OfficeLooks g signer Holds old new
+  then_signed {middle = middle} Tells Holds looks stays same holds =
+      let P : Held C → Type 0 = λ held. Looked g old.store held in
+      let Q : Held C → Type 0 = λ held. HasCleanDisk (state g held) in
+      record {
+        looked = subst P (sym stays) looks.looked;
+        same = same ∙ looks.same;
+        found = λ records stands is_clean. holds records (looks.found records stands (subst Q stays is_clean));
+      }
+
+  -- what was left to be signed, once it is signed
+  pub signed_looks : {Z : Type 0} {middle : Office C S} (now : ℕ) (request : List ℕ) (draft : Drafted) (result : Result (Vec ℕ Z) Memory)
+      → OfficeLooks g signer (λ records. IsDraft (seen signer old).1.answers records now request draft) old middle → new.store ≡ middle.store
+      → (seen signer new).1 ≡ (seen signer middle).1 → IfOk result (λ bytes. IsSignedBy signer.signs (seen signer middle).1.answers draft bytes.items)
+      → OfficeLooks g signer (λ records. IfOk result (λ answer. IsOcspReply signer.signs (seen signer old).1.answers records now request answer.items)) old new
+  signed_looks {middle = middle} now request draft result looks stays same signed =
+      let who = (seen signer old).1 in
+      then_signed (λ records. IsDraft who.answers records now request draft)
+      (λ records. IfOk result (λ answer. IsOcspReply signer.signs who.answers records now request answer.items)) looks stays same
+      (λ records left. ok_then result signed (λ bytes by.
+      let P : Signatory → Type 0 = λ it. IsSignedBy signer.signs it.answers draft bytes.items in
+      draft_replied signer.signs who.answers records now request draft bytes.items left (subst P looks.same by)))
+
+-- an error gives nothing
+pub gives_nothing : {T E : Type 0} (Told : E → Type 0) (Holds : T → Type 0) (result : Result T E) → IsErrAnd result Told → IfOk result Holds
+gives_nothing Told Holds (Ok x) told = absurd told
+gives_nothing Told Holds (Err e) told = tt
 
 -- a fault of the tables is none of the signer
-pub table_fault : (outcome : Result Reply Fault) → IfErr outcome IsTableFault → ¬ (IsErrOf outcome Signer)
+pub table_fault : (outcome : Result Reply Fault) → IfErr outcome IsTableFault → ¬ (IsErrOf outcome SignerFailed)
 table_fault outcome faults is =
     let P : Result Reply Fault → Type 0 = λ o. IfErr o IsTableFault in
     subst P is faults

@@ -15,18 +15,17 @@ use Rattle.reg_core.specs.declared.command.Command.{Command}
 use Rattle.reg_core.specs.declared.command.Reply.{Reply}
 use Rattle.reg_core.specs.declared.refusal.Fault.{Fault}
 use Rattle.reg_crl.specs.Signing.{Identity, signed_by}
-use Rattle.reg_laws.specs.Run.{Happens}
-use Rattle.reg_laws.proofs.Outcomes.{Stays, Changes, outcome_of}
-use Rattle.reg_store.proofs.Resting.{at_rest, live_at_rest}
-use Rattle.reg_tables.proofs.Staying.{kept_shows}
-use Rattle.reg_tables.specs.Kept.{ShowsKept}
-use Rattle.reg_tables.specs.Schema.{no_schema, register_schema}
-use Rattle.reg_tables.specs.Shows.{Shows}
-use Rattle.reg_tables.specs.Stays.{Changed, LeavesNothing}
-use Rattle.reg_writing.specs.AfterStop.{IsAtRest}
+use Rattle.reg_core_laws.specs.Run.{Happens}
+use Rattle.reg_core_laws.proofs.PublicLaws.{Stays, Changes, outcome_of}
+use Rattle.reg_store.proofs.PublicLaws.{at_rest, live_at_rest}
+use Rattle.reg_store_tables.specs.Kept.{ShowsKept}
+use Rattle.reg_store_tables.specs.Schema.{no_schema, register_schema}
+use Rattle.reg_store_tables.specs.Shows.{Shows}
+use Rattle.reg_store_tables.specs.Stays.{Changed, LeavesNothing}
+use Rattle.reg_store_tables.specs.AfterStop.{IsAtRest}
+use Rattle.reg_store_tables.proofs.PublicLaws.{kept_shows, was_clean as clean_first}
 use Rattle.reg_office.specs.AfterStoppedCommand.{Does, IsOneMore, LeavesThese, LeavesTold}
 use Rattle.reg_office.specs.Stands.{Stands}
-use Rattle.reg_office.proofs.Composing.{was_clean as clean_first}
 use Rattle.reg_office.proofs.Stopping.{Settles}
 
 -- a fault or a refusal leaves the records

@@ -16,6 +16,7 @@ pub mod Looking
 pub mod OpenedAgain
 pub mod Paging
 pub mod Responding
+pub mod Setting
 pub mod RowsTold
 pub mod Standing
 pub mod Stopping
@@ -23,3 +24,4 @@ pub mod ShowingNothingElse
 pub mod ShowingRevoked
 pub mod ShownByCrls
 pub mod ShownByOcsp
+pub mod PublicLaws

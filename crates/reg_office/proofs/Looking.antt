@@ -1,58 +1,28 @@
--- Look-ups one after another, and a decision over what they told.
-use Rattle.std.specs.Prelude.{IfOk, IsErr, IsErrAnd}
+-- Look-ups of a store's tables, and a decision over what look-ups told.
+use Rattle.std.specs.Prelude.{IsErrAnd}
 use Rattle.std.proofs.Common.{◌≡◌, Option, Some, Result, Ok, Err, sym, subst}
 use Rattle.sqlite_trees.specs.declared.store.Store.{Ghosts}
-use Rattle.sqlite.specs.Held.{Held, state}
-use Rattle.sqlite.specs.State.{HasCleanDisk}
+use Rattle.sqlite.specs.Held.{Held}
 use Rattle.reg_core.specs.Records.{Records}
-use Rattle.reg_core.specs.Sound.{SoundRows}
 use Rattle.reg_core.specs.declared.refusal.Fault.{Fault}
 use Rattle.reg_core.specs.declared.refusal.Fault.TheVariants.{Refused, Memory, Store, Signer, Read, Write}
 use Rattle.reg_core.specs.declared.refusal.Refusal.{Refusal}
-use Rattle.reg_tables.specs.Faults.{fault_of}
-use Rattle.reg_tables.specs.Kept.{ShowsKept}
-use Rattle.reg_tables.specs.Shows.{Shows}
-use Rattle.reg_tables.specs.Stays.{Looked}
-use Rattle.reg_tables.specs.declared.fault.StoreFault.{StoreFault}
-use Rattle.reg_tables.proofs.Staying.{kept_shows, looked_then}
+use Rattle.reg_store_tables.specs.Faults.{fault_of}
+use Rattle.reg_store_tables.specs.LookUps.{LooksUp}
+use Rattle.reg_store_tables.specs.Stays.{Looked}
+use Rattle.reg_store_tables.specs.declared.fault.DatabaseFault.{DatabaseFault}
+use Rattle.reg_store_tables.proofs.PublicLaws.{by_none, so}
 use Rattle.reg_office.specs.Faults.{IsTableFault}
-use Rattle.reg_office.specs.Looking.{LooksUp, LooksAndDecides, IsDecidedOr}
-use Rattle.reg_office.proofs.Composing.{after_looked, gives_none, of_failure, was_clean}
+use Rattle.reg_office.specs.Looking.{LooksAndDecides, IsDecidedOr}
+use Rattle.reg_office.proofs.Composing.{of_failure}
 
-module _ {C : Type 0} {g : Ghosts C} {a b : Held C} where
-  -- what a call of the store tells of the records that are shown
-  pub by_shown : {Tells : Records → Type 0} → Looked g a b → ((records : Records) → Shows g a records → HasCleanDisk (state g b) → Tells records) → LooksUp g a b Tells
-  by_shown looked found = record { looked = looked; found = λ records kept sound clean. found records (kept_shows g a records kept) clean }
-
-  -- and of those beside which what is kept stands
-  pub by_kept : {Tells : Records → Type 0} → Looked g a b → ((records : Records) → ShowsKept g a records → HasCleanDisk (state g b) → Tells records) → LooksUp g a b Tells
-  by_kept looked found = record { looked = looked; found = λ records kept sound clean. found records kept clean }
-
-  -- what holds anyway
-  pub by_none : {Tells : Records → Type 0} → Looked g a b → ((records : Records) → Tells records) → LooksUp g a b Tells
-  by_none looked holds = record { looked = looked; found = λ records kept sound clean. holds records }
-
-  -- what follows from what was told
-  pub so : {Tells More : Records → Type 0} → LooksUp g a b Tells → ((records : Records) → SoundRows records → Tells records → More records) → LooksUp g a b More
-  so looks more = record { looked = looks.looked; found = λ records kept sound clean. more records sound (looks.found records kept sound clean) }
-
-  -- one look-up after another
-  pub and_so : {c : Held C} {First Second : Records → Type 0} → LooksUp g a b First → LooksUp g b c Second → LooksUp g a c (λ records. First records × Second records)
-  and_so {c = c} first second = record {
-    looked = looked_then first.looked second.looked;
-    found = λ records kept sound clean. (
-      first.found records kept sound (was_clean (state g b) (state g c) second.looked.survives.clean clean),
-      second.found records (after_looked first.looked records kept) sound clean,
-    );
-  }
-
-  -- a look-up that fails tells nothing of the records
-  pub not_found : {T E : Type 0} (P : Records → T → Type 0) (outcome : Result T E) → IsErr outcome → Looked g a b → LooksUp g a b (λ records. IfOk outcome (P records))
-  not_found P outcome told looked = by_none looked (λ records. gives_none (P records) outcome told)
+-- what is looked up in the tables that a store lends is looked up in the store
+pub lent : {C : Type 0} {g : Ghosts C} {store tables new : Held C} {Tells : Records → Type 0} → tables ≡ store → LooksUp g tables new Tells → LooksUp g store new Tells
+lent {g = g} {new = new} {Tells = Tells} same looks = subst (λ those. LooksUp g those new Tells) same looks
 
 module _ {C T : Type 0} {g : Ghosts C} {a b : Held C} {refused : Records → Option Refusal} {IsWhat : Records → T → Type 0} where
   -- a look-up fails, and nothing is decided
-  pub not_decided : (outcome : Result T Fault) (failure : StoreFault) → IsErrAnd outcome (λ fault. fault ≡ fault_of failure) → Looked g a b → LooksAndDecides g a b refused IsWhat outcome
+  pub not_decided : (outcome : Result T Fault) (failure : DatabaseFault) → IsErrAnd outcome (λ fault. fault ≡ fault_of failure) → Looked g a b → LooksAndDecides g a b refused IsWhat outcome
   not_decided (Ok x) failure told looked = absurd told
   not_decided (Err fault) failure told looked = record {
     looks = by_none looked (λ records. subst (λ f. IsDecidedOr {T = T} (refused records) (IsWhat records) (Err f)) (sym told) (of_failure (λ f. IsDecidedOr {T = T} (refused records) (IsWhat records) (Err f)) tt tt failure));

@@ -13,9 +13,9 @@ use Rattle.reg_crl.specs.Signing.{Identity}
 use Rattle.reg_der.specs.Issuers.{with_key_identifier}
 use Rattle.sqlite_catalog.specs.Listing.{IsSound}
 use Rattle.sqlite_schema.specs.declared.schema.Schema.{Schema}
-use Rattle.reg_store.proofs.OpenedAgain.{shows_again}
-use Rattle.reg_tables.specs.Schema.{register_schema}
-use Rattle.reg_writing.specs.AfterStop.{AreARegisters, IsAtRest}
+use Rattle.reg_store.proofs.PublicLaws.{shows_again}
+use Rattle.reg_store_tables.specs.Schema.{register_schema}
+use Rattle.reg_store_tables.specs.AfterStop.{AreARegisters, IsAtRest}
 use Rattle.reg_office.specs.AfterStoppedCommand.{IsDone, IsNextDone, IsOneMore, IsPartlyRun, LeavesTold}
 use Rattle.reg_office.specs.OpenedAgain.{OpensTold, StandsDone, StandsNext, StandsOneMore, StandsPartlyRun}
 use Rattle.reg_office.specs.Stands.{SoundFor, Stands}

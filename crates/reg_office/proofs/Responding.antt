@@ -11,7 +11,7 @@ use Rattle.reg_ocsp.specs.declared.asked.CertId.{CertId}
 use Rattle.reg_ocsp.specs.declared.response.RefusalStatus.TheVariants.{Malformed, Internal, TryLater}
 use Rattle.reg_ocsp.specs.Response.{basic_response, enumerated, ocsp_response, refusal_response, response_bytes}
 use Rattle.reg_ocsp.specs.Views.{id_seen, ids_seen, answers_seen, answered}
-use Rattle.reg_calls.specs.Ocsp.{IsAnswer, IsTold}
+use Rattle.reg_office_api.specs.Ocsp.{IsAnswer, IsTold}
 
 -- each CertID is told what the records have
 abbrev pub AreTold : Records → ℕ → List (CertId × Status) → Type 0

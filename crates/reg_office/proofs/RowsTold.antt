@@ -16,13 +16,13 @@ use Rattle.reg_core.specs.declared.rows.OrderRow.{OrderRow}
 use Rattle.reg_core.specs.declared.rows.RequestRow.{RequestRow}
 use Rattle.reg_core.specs.declared.rows.RevocationRow.{RevocationRow}
 use Rattle.reg_core.specs.declared.rows.SubscriberRow.{SubscriberRow}
-use Rattle.reg_lists.specs.Lists.{certificate_line, certificate_row, ending_row, open_row, order_row, overdue_row, request_line, status_at, subscriber_of_order}
-use Rattle.reg_lists.specs.declared.rows.CertificateLine.{CertificateLine}
-use Rattle.reg_lists.specs.declared.rows.OrderLine.{OrderLine}
-use Rattle.reg_lists.specs.declared.rows.RequestLine.{RequestLine}
-use Rattle.reg_lists.specs.declared.rows.Row.{Row}
-use Rattle.reg_lists.specs.declared.rows.Row.TheVariants.{Certificate, Request, Order}
-use Rattle.reg_tables.proofs.OverdueLemmas.{not_good}
+use Rattle.reg_core_lists.specs.Lists.{certificate_line, certificate_row, ending_row, open_row, order_row, overdue_row, request_line, status_at, subscriber_of_order}
+use Rattle.reg_core_lists.specs.declared.rows.CertificateLine.{CertificateLine}
+use Rattle.reg_core_lists.specs.declared.rows.OrderLine.{OrderLine}
+use Rattle.reg_core_lists.specs.declared.rows.RequestLine.{RequestLine}
+use Rattle.reg_core_lists.specs.declared.rows.Row.{Row}
+use Rattle.reg_core_lists.specs.declared.rows.Row.TheVariants.{Certificate, Request, Order}
+use Rattle.reg_store_tables.proofs.PublicLaws.{not_good}
 
 -- ---- what is there
 

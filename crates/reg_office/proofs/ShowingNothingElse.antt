@@ -19,10 +19,10 @@ use Rattle.reg_core.specs.declared.rows.CertRow.{CertRow}
 use Rattle.reg_core.specs.declared.rows.RevocationRow.{RevocationRow}
 use Rattle.reg_crl.specs.Signing.{Identity, sealed_until, signed_by}
 use Rattle.reg_der.specs.Der.{tlv}
-use Rattle.reg_laws.specs.History.{HistoryStands}
-use Rattle.reg_laws.specs.Revocations.{IsRevocationBy, RevocationsMove, RevocationsMoveExactly}
-use Rattle.reg_laws.specs.Run.{Happens, Run}
-use Rattle.reg_laws.proofs.Lists.{all_any, find_back, some_and_here, some_here, some_of}
+use Rattle.reg_core_laws.specs.History.{HistoryStands}
+use Rattle.reg_core_laws.specs.Revocations.{IsRevocationBy, RevocationsMove, RevocationsMoveExactly}
+use Rattle.reg_core_laws.specs.Run.{Happens, Run}
+use Rattle.reg_core_laws.proofs.PublicLaws.{all_any, find_back, some_and_here, some_here, some_of}
 use Rattle.reg_ocsp.specs.Matching.{IsMatch}
 use Rattle.reg_ocsp.specs.Request.{Id}
 use Rattle.reg_ocsp.specs.Response.{SingleAnswer, cert_status}

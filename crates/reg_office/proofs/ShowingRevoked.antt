@@ -19,11 +19,11 @@ use Rattle.reg_core.specs.declared.rows.CertRow.{CertRow}
 use Rattle.reg_core.specs.declared.rows.Entry.{Entry}
 use Rattle.reg_core.specs.declared.rows.RevocationRow.{RevocationRow}
 use Rattle.reg_crl.specs.Signing.{Identity, sealed_until}
-use Rattle.reg_laws.specs.Headline.{ListsRevoked, lists, ToldByCrls, IsDueEntry}
-use Rattle.reg_laws.specs.Revocations.{IsRevocationBy}
-use Rattle.reg_laws.proofs.Lists.{all_weaker, all_found, key_found, some_at}
+use Rattle.reg_core_laws.specs.Headline.{ListsRevoked, lists, ToldByCrls, IsDueEntry}
+use Rattle.reg_core_laws.specs.Revocations.{IsRevocationBy}
+use Rattle.reg_core_laws.proofs.PublicLaws.{all_weaker, all_found, key_found, some_at}
 use Rattle.reg_office.specs.Agreement.{OcspAgrees}
-use Rattle.reg_calls.specs.Answered.{IsAnswered}
+use Rattle.reg_office_api.specs.Answered.{IsAnswered}
 use Rattle.reg_office.specs.Shown.{SoundRun, AcceptedRevocation, IsReached, revoked_at, ListedThroughFirstPast, IsShownEverywhere}
 use Rattle.reg_office.proofs.Following.{after_since, happens_since, over_stored, run_since, step_since}
 use Rattle.reg_office.proofs.ShownByCrls.{NotPast, ToldOf, listed_through}

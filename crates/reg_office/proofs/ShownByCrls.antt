@@ -7,9 +7,8 @@ use Rattle.reg_core.specs.Records.{Records, Crl, revocation_in}
 use Rattle.reg_core.specs.Sound.{NumberedFrom}
 use Rattle.reg_core.specs.declared.rows.Entry.{Entry}
 use Rattle.reg_core.specs.declared.rows.RevocationRow.{RevocationRow}
-use Rattle.reg_laws.specs.Headline.{lists, NonePastBetween, IsDueEntry}
-use Rattle.reg_laws.proofs.Lists.{all_append, all_push, all_back, all_weaker, all_join, all_found, find_none, key_found, none_any, numbered_above}
-use Rattle.reg_laws.proofs.ListFacts.{any_unfound, numbered_back}
+use Rattle.reg_core_laws.specs.Headline.{lists, NonePastBetween, IsDueEntry}
+use Rattle.reg_core_laws.proofs.PublicLaws.{all_append, all_push, all_back, all_weaker, all_join, all_found, find_none, key_found, none_any, numbered_above, any_unfound, numbered_back}
 use Rattle.reg_office.specs.Shown.{entry_in, ListedThroughFirstPast}
 
 -- ONE CRL

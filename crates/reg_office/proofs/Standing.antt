@@ -5,12 +5,12 @@ use Rattle.sqlite_trees.specs.declared.store.Store.{Ghosts}
 use Rattle.sqlite.specs.Held.{Held, state}
 use Rattle.reg_core.specs.Records.{Records}
 use Rattle.reg_core.specs.declared.refusal.Fault.{Fault}
-use Rattle.reg_core.specs.declared.refusal.Fault.TheVariants.{Refused, Memory, Store, Signer, Read, Write}
+use Rattle.reg_core.specs.declared.refusal.Fault.TheVariants.{Signer}
 use Rattle.reg_crl.specs.Signing.{Identity}
-use Rattle.reg_tables.specs.Stays.{IsRegister, Looked, Stays}
+use Rattle.reg_store_tables.specs.Stays.{IsRegister, Looked, Stays}
+use Rattle.reg_store_tables.proofs.PublicLaws.{after_look}
 use Rattle.reg_office.specs.Faults.{IsOfficeFault, IsTableFault}
 use Rattle.reg_office.specs.Stands.{Stands}
-use Rattle.reg_office.proofs.Composing.{after_look}
 
 -- what stood stands over a call that leaves a register's tables as they are
 pub stands_on :

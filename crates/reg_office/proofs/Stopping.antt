@@ -10,11 +10,11 @@ use Rattle.reg_core.specs.declared.command.Command.{Command}
 use Rattle.reg_core.specs.declared.command.Reply.{Reply}
 use Rattle.reg_core.specs.declared.refusal.Fault.{Fault}
 use Rattle.reg_crl.specs.Signing.{Identity}
-use Rattle.reg_store.proofs.Resting.{at_rest, live_at_rest}
-use Rattle.reg_writing.specs.AfterStop.{AreARegisters, IsAtRest}
+use Rattle.reg_store.proofs.PublicLaws.{at_rest, live_at_rest}
+use Rattle.reg_store_tables.specs.AfterStop.{AreARegisters, IsAtRest}
+use Rattle.reg_store_tables.proofs.PublicLaws.{was_clean}
 use Rattle.reg_office.specs.AfterStoppedCommand.{AreRunByOne, HaveNoReply, IsPartlyRun, IsRunOne}
 use Rattle.reg_office.specs.Stands.{HasRun, Stands}
-use Rattle.reg_office.proofs.Composing.{was_clean}
 
 -- between calls a stop finds what was committed
 abbrev pub Settles : {C : Type 0} → Ghosts C → Type 0

@@ -12,9 +12,9 @@ use Rattle.reg_core.specs.declared.command.Reply.{Reply}
 use Rattle.reg_core.specs.declared.refusal.Fault.{Fault}
 use Rattle.reg_crl.specs.Signing.{Identity, signed_by}
 use Rattle.reg_der.specs.Issuers.{with_key_identifier}
-use Rattle.reg_tables.specs.Kept.{ShowsKept}
-use Rattle.reg_writing.specs.AfterStop.{AreARegisters, IsAtRest}
-use Rattle.reg_laws.specs.Run.{Happens, Run}
+use Rattle.reg_store_tables.specs.Kept.{ShowsKept}
+use Rattle.reg_store_tables.specs.AfterStop.{AreARegisters, IsAtRest}
+use Rattle.reg_core_laws.specs.Run.{Happens, Run}
 use Rattle.reg_office.specs.Stands.{SoundFor, Stands, CameTo}
 
 -- the rows show the records after the command, which was accepted over these, and what is kept beside them stands for them

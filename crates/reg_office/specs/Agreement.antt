@@ -10,7 +10,7 @@ use Rattle.reg_core.specs.declared.rows.RevocationRow.{RevocationRow}
 use Rattle.reg_ocsp.specs.Matching.{IsMatch}
 use Rattle.reg_ocsp.specs.Request.{Id}
 use Rattle.reg_ocsp.specs.Response.{SingleAnswer, cert_status}
-use Rattle.reg_calls.specs.Ocsp.{IsOcspData}
+use Rattle.reg_office_api.specs.Ocsp.{IsOcspData}
 
 -- An answer agrees with the records: a CertID that names the issuer's certificate of a serial number is told revoked
 -- with the recorded time and reason where the serial number is revoked, good where it is registered and not revoked,

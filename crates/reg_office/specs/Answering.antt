@@ -1,7 +1,8 @@
 -- Who answers OCSP requests for an office.
-use Rattle.std.specs.Prelude.{ℕ, Some, None, option_copied, option_map}
+use Rattle.std.specs.Prelude.{◌≡◌, ◌<◌, ℕ, Some, None, option_copied, option_map}
 use Rattle.reg_crl.specs.Signing.{Identity}
-use Rattle.reg_calls.specs.Signatories.{Responder, Signatory}
+use Rattle.reg_crl.specs.declared.signer.Signer.{Ghosts as Signer}
+use Rattle.reg_office_api.specs.Signatories.{Responder, Signatory}
 use Rattle.reg_office.specs.declared.responder.Naming.{Naming}
 use Rattle.reg_office.specs.declared.responder.Responder.{Responder as Held}
 use Rattle.reg_office.specs.declared.responder.Responder.TheVariants.{Issuer, Delegate}
@@ -35,3 +36,21 @@ signatory_of identity crls responder = record { crls = crls; answers = answers_b
 abbrev pub failures_of : {S : Type 0} → (S → ℕ) → ℕ → Held S → ℕ
 failures_of count crls (Issuer certificate) = crls
 failures_of count crls (Delegate signer certificate) = count signer
+
+-- who answers, by this one who signs CRLs
+abbrev pub answering : {S : Type 0} → Signer S → S → Held S → Responder
+answering signer crls responder = answers_by signer.identity (signer.identity crls) responder
+
+-- those who sign for an office are the same
+abbrev pub SameSignatory : {S : Type 0} → Signer S → S → Held S → S → Held S → Type 0
+SameSignatory signer old answered new answers =
+    signatory_of signer.identity (signer.identity new) answers ≡ signatory_of signer.identity (signer.identity old) answered
+
+-- a signer counted a failure
+abbrev pub SignerHasFailed : {S : Type 0} → Signer S → S → S → Type 0
+SignerHasFailed signer old new = signer.failure_count old < signer.failure_count new
+
+-- who answers counted a failure
+abbrev pub AnswerFailed : {S : Type 0} → Signer S → S → Held S → S → Held S → Type 0
+AnswerFailed signer old answered new answers =
+    failures_of signer.failure_count (signer.failure_count old) answered < failures_of signer.failure_count (signer.failure_count new) answers

@@ -1,27 +1,92 @@
--- What an OCSP request comes to where its answer may be left to be signed.
-use Rattle.std.specs.Prelude.{◌≡◌, ℕ, List, Option}
+-- What an OCSP request comes to, where its response may be left to be signed.
+use Rattle.std.specs.Prelude.{◌≡◌, ◌⊎◌, ◌↔◌, ℕ, ◌+◌, ◌≤◌, ◌^◌, List, length, Option, Some, None, Result, Ok, Err, IsSome, Vec, unwrap_or}
+use Rattle.reg_core.specs.Checks.{clock_checks, first_of_all}
+use Rattle.reg_core.specs.Issuer.{Issuer}
 use Rattle.reg_core.specs.Records.{Records}
-use Rattle.reg_crl.specs.Signing.{Identity}
-use Rattle.reg_ocsp.specs.Request.{Id}
+use Rattle.reg_ocsp.specs.Drafts.{Drafted, drafted_response}
+use Rattle.reg_ocsp.specs.Request.{Id, IsOcspRequest}
 use Rattle.reg_ocsp.specs.Response.{refusal_response}
-use Rattle.reg_ocsp.specs.declared.response.RefusalStatus.{RefusalStatus}
-use Rattle.reg_calls.specs.Drafts.{IsDraft, IsReadDraft}
-use Rattle.reg_calls.specs.Ocsp.{IsOcspReply, IsResponse}
-use Rattle.reg_calls.specs.Signatories.{Responder}
-use Rattle.reg_calls.specs.declared.begun.Begun.{Begun}
-use Rattle.reg_calls.specs.declared.begun.Begun.TheVariants.{Whole, Left}
+use Rattle.reg_ocsp.specs.declared.response.RefusalStatus.TheVariants as status
+use Rattle.reg_office_api.specs.CallSteps.{Signs}
+use Rattle.reg_office_api.specs.Drafts.{IsDraft}
+use Rattle.reg_office_api.specs.Ocsp.{HasNoReading, IsOcspData, response_signed_by}
+use Rattle.reg_office_api.specs.Responses.{IsOcspResponse}
+use Rattle.reg_office_api.specs.Signatories.{Responder}
+use Rattle.reg_office_api.specs.declared.response.OcspResponse.{OcspResponse}
+use Rattle.reg_office_api.specs.declared.response.ResponseKind.{ResponseKind}
+use Rattle.reg_office_api.specs.declared.response.ResponseKind.TheVariants.{Signed, Malformed, TryLater, StoreFailure, SignerFailure}
+use Rattle.reg_io.specs.declared.begun.Begun.{Begun}
+use Rattle.reg_io.specs.declared.begun.Begun.TheVariants.{Ready, Unsigned}
+use Rattle.reg_office.specs.declared.ocsp_faults.ResponseFault.{ResponseFault}
+use Rattle.reg_office.specs.declared.ocsp_faults.ResponseFault.TheVariants as fault
 
--- a whole answer to the bytes of a request, or what is left to be signed of it
-abbrev pub IsBegun : (Identity → List ℕ → List ℕ → Type 0) → Responder → Records → ℕ → List ℕ → Begun → Type 0
-IsBegun signs responder records now request (Whole bytes) = IsOcspReply signs responder records now request bytes.items
-IsBegun signs responder records now request (Left draft) = IsDraft responder records now request draft
+-- the response to the bytes of a request, or what is left to be signed of it
+abbrev pub IsBegun : Signs → Responder → Records → ℕ → List ℕ → Begun OcspResponse Drafted → Type 0
+IsBegun signs responder records now request (Ready response) =
+    IsOcspResponse signs responder records now request response.kind response.bytes.items
+IsBegun signs responder records now request (Unsigned draft) = IsDraft responder records now request draft
 
--- the same for a request that was read, at a moment that the clock takes
-abbrev pub IsReadBegun : (Identity → List ℕ → List ℕ → Type 0) → Responder → Records → ℕ → List Id → Option (List ℕ) → Begun → Type 0
-IsReadBegun signs responder records now ids nonce (Whole bytes) = IsResponse signs responder records now ids nonce bytes.items
-IsReadBegun signs responder records now ids nonce (Left draft) = IsReadDraft responder records now ids nonce draft
+-- Whatever the store shows: the response is malformedRequest exactly where the bytes are no request, and internalError where the signer
+-- failed; nothing is left to be signed of bytes that are no request.
+abbrev pub RefusesRequest : {U : Type 0} → List ℕ → Begun OcspResponse U → Type 0
+RefusesRequest request (Ready response) =
+    ((response.bytes.items ≡ refusal_response status.Malformed) ↔ HasNoReading request)
+    × (response.kind ≡ SignerFailure → response.bytes.items ≡ refusal_response status.Internal)
+RefusesRequest request (Unsigned left) = ¬ (HasNoReading request)
 
--- a whole answer that is this refusal
-abbrev pub IsRefusedWhole : RefusalStatus → Begun → Type 0
-IsRefusedWhole status (Whole bytes) = bytes.items ≡ refusal_response status
-IsRefusedWhole status (Left draft) = ⊥
+-- the bytes of the response of which this was left to be signed: with a signature by who answers, or internalError
+abbrev pub IsSignedBy : Signs → Responder → Drafted → List ℕ → Type 0
+IsSignedBy signs responder draft bytes =
+    (bytes ≡ refusal_response status.Internal)
+    ⊎ ((signature : List ℕ) × signs responder.identity draft.message signature × (bytes ≡ drafted_response draft (Some signature)))
+
+-- the key by which a responder is named: its own, or the issuer's
+abbrev pub key_in : Records → Option (List ℕ) → List ℕ
+key_in records own = unwrap_or own records.issuer.key
+
+-- the issuer, and the moment one life of an answer from now; the clock refuses this moment; or memory or the store failed
+abbrev pub IsResponding : Records → ℕ → Result (Issuer × ℕ) ResponseFault → Type 0
+IsResponding records now (Ok it) =
+    (first_of_all (clock_checks now records.last) ≡ None) × (it.0 ≡ records.issuer) × (it.1 ≡ now + records.policy.ocsp_life)
+IsResponding records now (Err fault.Clock) = IsSome (first_of_all (clock_checks now records.last))
+IsResponding records now (Err fault.Memory) = Unit {0}
+IsResponding records now (Err fault.Store) = Unit {0}
+
+-- the ResponseData to a request that was read; the clock refuses this moment; or memory or the store failed
+abbrev pub IsMessage : {Z : Type 0} → List ℕ → Records → ℕ → List Id → Option (List ℕ) → Result (Vec ℕ Z) ResponseFault → Type 0
+IsMessage key records now ids nonce (Ok bytes) =
+    (first_of_all (clock_checks now records.last) ≡ None) × IsOcspData key records now ids nonce bytes.items
+IsMessage key records now ids nonce (Err fault.Clock) = IsSome (first_of_all (clock_checks now records.last))
+IsMessage key records now ids nonce (Err fault.Memory) = Unit {0}
+IsMessage key records now ids nonce (Err fault.Store) = Unit {0}
+
+-- a refusal before anything is signed, where internalError tells any failure of the store
+abbrev pub IsRefusal : Records → ℕ → List ℕ → ResponseKind → List ℕ → Type 0
+IsRefusal records now request Signed bytes = ⊥
+IsRefusal records now request Malformed bytes = HasNoReading request × (bytes ≡ refusal_response status.Malformed)
+IsRefusal records now request TryLater bytes =
+    (ids : List Id) × (nonce : Option (List ℕ)) × IsOcspRequest request ids nonce
+    × IsSome (first_of_all (clock_checks now records.last)) × (bytes ≡ refusal_response status.TryLater)
+IsRefusal records now request StoreFailure bytes =
+    (ids : List Id) × (nonce : Option (List ℕ)) × IsOcspRequest request ids nonce × (bytes ≡ refusal_response status.Internal)
+IsRefusal records now request SignerFailure bytes = ⊥
+
+-- what the bytes of a request come to before anything is signed: a refusal, or the ResponseData
+abbrev pub IsUnsigned : {Z : Type 0} → List ℕ → Records → ℕ → List ℕ → Begun OcspResponse (Vec ℕ Z) → Type 0
+IsUnsigned key records now request (Ready response) = IsRefusal records now request response.kind response.bytes.items
+IsUnsigned key records now request (Unsigned message) =
+    (ids : List Id) × (nonce : Option (List ℕ)) × IsOcspRequest request ids nonce
+    × (first_of_all (clock_checks now records.last) ≡ None) × IsOcspData key records now ids nonce message.items
+
+-- a signature can be had of it
+abbrev pub IsShortMessage : {Z : Type 0} → Begun OcspResponse (Vec ℕ Z) → Type 0
+IsShortMessage (Ready response) = Unit {0}
+IsShortMessage (Unsigned message) = length message.items ≤ 2 ^ 27
+
+-- the response over this ResponseData: signed, or internalError where the signer failed
+abbrev pub IsResponseOver : Signs → Responder → List ℕ → ResponseKind → List ℕ → Type 0
+IsResponseOver signs responder message Signed bytes = response_signed_by signs responder message bytes
+IsResponseOver signs responder message Malformed bytes = ⊥
+IsResponseOver signs responder message TryLater bytes = ⊥
+IsResponseOver signs responder message StoreFailure bytes = ⊥
+IsResponseOver signs responder message SignerFailure bytes = bytes ≡ refusal_response status.Internal

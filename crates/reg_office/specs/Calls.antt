@@ -1,14 +1,22 @@
 -- The calls of an office over a store, as steps of the records that stand in it.
-use Rattle.std.specs.Prelude.{◌≡◌}
+use Rattle.std.specs.Prelude.{◌≡◌, ℕ, Result}
 use Rattle.sqlite.specs.Held.{Held, state}
 use Rattle.sqlite.specs.State.{HasCleanDisk}
 use Rattle.sqlite_trees.specs.declared.store.Store.{Ghosts}
-use Rattle.reg_calls.specs.Leads.{Leads}
-use Rattle.reg_calls.specs.Signatories.{Signatory}
-use Rattle.reg_calls.specs.CallSteps.{Signs}
+use Rattle.reg_office_api.specs.Leads.{Leads}
+use Rattle.reg_office_api.specs.Signatories.{Signatory}
+use Rattle.reg_office_api.specs.CallSteps.{Signs}
 use Rattle.reg_core.specs.Records.{Records}
+use Rattle.reg_core.specs.declared.command.Command.{Command}
+use Rattle.reg_core.specs.declared.command.Reply.{Reply}
+use Rattle.reg_core.specs.declared.refusal.Fault.{Fault}
+use Rattle.reg_crl.specs.declared.signer.Signer.{Ghosts as Signer}
+use Rattle.reg_store_tables.specs.Stays.{Looked}
 use Rattle.reg_office.specs.AfterStoppedCommand.{LeavesTold}
+use Rattle.reg_office.specs.Answering.{failures_of, signatory_of}
+use Rattle.reg_office.specs.Commands.{RunsCommand}
 use Rattle.reg_office.specs.Stands.{Stands}
+use Rattle.reg_office.specs.declared.office.Office.{Office}
 
 -- the records stand in a store for those who sign, and a stop leaves them, or one change more
 abbrev pub StandsFor : {C : Type 0} → Ghosts C → Signs → Held C × Signatory → Signatory → Records → Type 0
@@ -19,3 +27,33 @@ StandsFor g signs office who records =
 abbrev pub LeadsOver : {C : Type 0} → Ghosts C → Signs → (Signatory → Records → Records → Type 0) → Held C × Signatory → Held C × Signatory → Type 0
 LeadsOver {C = C} g signs step =
     Leads (λ (office : Held C × Signatory). HasCleanDisk (state g office.0)) (λ who office records. StandsFor g signs office who records) step
+
+-- an office as its calls see it: its store, and those who sign for it
+abbrev pub seen : {C S : Type 0} → Signer S → Office C S → Held C × Signatory
+seen signer office = (office.store, signatory_of signer.identity (signer.identity office.signer) office.responder)
+
+-- a call of an office leads from the records that stand in it to others by a step
+abbrev pub OfficeLeads : {C S : Type 0} → Ghosts C → Signer S → (Signatory → Records → Records → Type 0) → Office C S → Office C S → Type 0
+OfficeLeads g signer step old new = LeadsOver g signer.signs step (seen signer old) (seen signer new)
+
+-- the records stand in an office's store, sound for the signer of its CRLs
+abbrev pub StandsIn : {C S : Type 0} → Ghosts C → Signer S → Office C S → Records → Type 0
+StandsIn g signer office records = Stands g signer.signs office.store (signer.identity office.signer) records
+
+-- a command was run in an office
+abbrev pub RanIn : {C S : Type 0} → Ghosts C → Signer S → ℕ → Command → Result Reply Fault → Office C S → Office C S → Type 0
+RanIn g signer now command outcome old new = RunsCommand g signer old.store new.store old.signer new.signer now command outcome
+
+-- a call asked nobody for a signature
+abbrev pub SignsNothing : {C S : Type 0} → Office C S → Office C S → Type 0
+SignsNothing old new = (new.signer ≡ old.signer) × (new.responder ≡ old.responder)
+
+-- how many failures the signer of an office's OCSP answers has counted
+abbrev pub answer_failures_in : {C S : Type 0} → Signer S → Office C S → ℕ
+answer_failures_in signer office = failures_of signer.failure_count (signer.failure_count office.signer) office.responder
+
+-- A look-up of an office: no table changes, those who sign are the same, and this holds of the records that stand in it.
+pub record OfficeLooks {C S : Type 0} (g : Ghosts C) (signer : Signer S) (Holds : Records → Type 0) (old new : Office C S) : Type 0 where
+  pub looked : Looked g old.store new.store
+  pub same : (seen signer new).1 ≡ (seen signer old).1
+  pub found : (records : Records) → StandsIn g signer old records → HasCleanDisk (state g new.store) → Holds records

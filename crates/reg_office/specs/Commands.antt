@@ -10,7 +10,8 @@ use Rattle.reg_core.specs.declared.command.Reply.{Reply}
 use Rattle.reg_core.specs.declared.refusal.Fault.{Fault}
 use Rattle.reg_core.specs.declared.refusal.Fault.TheVariants.{Signer as SignerFailed}
 use Rattle.reg_crl.specs.Signing.{Identity}
-use Rattle.reg_tables.specs.Stays.{Changed}
+use Rattle.reg_crl.specs.declared.signer.Signer.{Ghosts as Signer}
+use Rattle.reg_store_tables.specs.Stays.{Changed}
 use Rattle.reg_office.specs.AfterStoppedCommand.{Does}
 use Rattle.reg_office.specs.Faults.{IsOfficeFault}
 use Rattle.reg_office.specs.Stands.{Stands, CameTo}
@@ -23,3 +24,8 @@ pub record IsCommandRun {C S : Type 0} (g : Ghosts C) (signs : Identity → List
   pub same_identity : identity left ≡ identity signer
   pub device : IsErrOf outcome SignerFailed → (command ≡ IssueCrl) × (failures signer < failures left)
   pub faults : IfErr outcome IsOfficeFault
+
+-- the same, by this one who signs
+abbrev pub RunsCommand : {C S : Type 0} → Ghosts C → Signer S → Held C → Held C → S → S → ℕ → Command → Result Reply Fault → Type 0
+RunsCommand g signer old new own left now command outcome =
+    IsCommandRun g signer.signs signer.identity signer.failure_count old new own left now command outcome

@@ -82,7 +82,7 @@ DeclinesAreSteps signed =
 -- on a request by which is revoked: the revocation, and whether it is late
 abbrev pub RevocationsAreSteps : (CertList → List ℕ → Type 0) → Type 0
 RevocationsAreSteps signed =
-    (records : Records) (now held id : ℕ) (result : Result (RevocationRow × Bool) Refusal)
+    (records : Records) (now held id not_after : ℕ) (result : Result (RevocationRow × Bool) Refusal)
     → DecidesRevoke
     (head_of records now held)
     (request_in records.requests id)
@@ -90,7 +90,7 @@ RevocationsAreSteps signed =
     (revocation_of_request records id)
     (option_map row_of (latest records.crls))
     result
-    → IsStepOf signed records now (Revoke id) (λ decided. Revoked decided.1) (λ decided. change.Revocation decided.0) result
+    → IsStepOf signed records now (Revoke id) (λ decided. Revoked decided.1) (λ decided. change.Revocation decided.0 not_after) result
 
 -- a refusal is told and the records stay; a CRL is issued with any bytes that are signed over what it lists
 abbrev pub IsIssue : (CertList → List ℕ → Type 0) → Records → ℕ → Result CrlRow Refusal → Type 0

@@ -1,7 +1,7 @@
 -- Which faults a call of the office comes to.
 use Rattle.std.specs.Prelude.{◌≡◌, ◌⊎◌}
 use Rattle.reg_core.specs.declared.refusal.Fault.{Fault}
-use Rattle.reg_core.specs.declared.refusal.Fault.TheVariants.{Refused, Memory, Store, Signer, Read, Write}
+use Rattle.reg_core.specs.declared.refusal.Fault.TheVariants.{Memory, Store, Signer, Read, Write}
 
 -- a refusal, want of memory, or a failure of the store
 abbrev pub IsTableFault : Fault → Type 0

@@ -7,9 +7,19 @@ use Rattle.reg_core.specs.Records.{Records}
 use Rattle.reg_core.specs.declared.command.Command.{Command}
 use Rattle.reg_core.specs.declared.command.Reply.{Reply}
 use Rattle.reg_core.specs.declared.refusal.Fault.{Fault}
+use Rattle.reg_core.specs.Crls.{CertList}
 use Rattle.reg_crl.specs.Signing.{Identity, sealed_until, sha1_algorithm, signed_by}
-use Rattle.reg_laws.specs.Run.{Run}
+use Rattle.reg_crl.specs.declared.signer.Signer.{Ghosts as Signer}
+use Rattle.reg_core_laws.specs.Run.{Run}
 use Rattle.reg_office.specs.Stands.{SoundFor, Stands}
+
+-- a law of how CRLs are signed, whoever signs them
+abbrev pub Signed : {S : Type 0} → Signer S → ((CertList → List ℕ → Type 0) → Type 0) → Type 0
+Signed {S = S} signer Law = (it : S) → Law (signed_by signer.signs (signer.identity it))
+
+-- the same, where the CRLs below any number are sealed by the digest
+abbrev pub Sealed : {S : Type 0} → Signer S → ((CertList → List ℕ → Type 0) → Type 0) → Type 0
+Sealed {S = S} signer Law = (it : S) (since : ℕ) → Law (sealed_until since signer.signs (signer.identity it))
 
 -- a run in which who signs signs each new CRL is one whose CRLs are sealed by the digest below a number that was reached before it
 abbrev pub RunsSince : (Identity → List ℕ → List ℕ → Type 0) → Identity → Type 0

@@ -1,26 +1,21 @@
--- What a call tells that looks up, and what is decided by it.
-use Rattle.std.specs.Prelude.{◌≡◌, ℕ, [], Option, None, Some, Result, Ok, Err, IfErr}
+-- What is decided by look-ups.
+use Rattle.std.specs.Prelude.{◌≡◌, ℕ, [], ◌++◌, Option, None, Some, Result, Ok, Err, IfErr}
 use Rattle.sqlite_trees.specs.declared.store.Store.{Ghosts}
-use Rattle.sqlite.specs.Held.{Held, state}
-use Rattle.sqlite.specs.State.{HasCleanDisk}
+use Rattle.sqlite.specs.Held.{Held}
 use Rattle.reg_core.specs.Changes.{Fits, changed_by}
+use Rattle.reg_core.specs.Checks.{clock_checks, first_of_all}
+use Rattle.reg_core.specs.Queries.{query_checks, query_reply}
 use Rattle.reg_core.specs.Records.{Records}
-use Rattle.reg_core.specs.Sound.{SoundRows}
 use Rattle.reg_core.specs.Step.{changed, refusal, reply}
 use Rattle.reg_core.specs.declared.change.Change.{Change}
 use Rattle.reg_core.specs.declared.command.Command.{Command}
+use Rattle.reg_core.specs.declared.command.Query.{Query}
 use Rattle.reg_core.specs.declared.command.Reply.{Reply}
 use Rattle.reg_core.specs.declared.refusal.Fault.{Fault}
 use Rattle.reg_core.specs.declared.refusal.Fault.TheVariants.{Refused, Memory, Store, Signer, Read, Write}
 use Rattle.reg_core.specs.declared.refusal.Refusal.{Refusal}
-use Rattle.reg_tables.specs.Kept.{ShowsKept}
-use Rattle.reg_tables.specs.Stays.{Looked}
+use Rattle.reg_store_tables.specs.LookUps.{LooksUp}
 use Rattle.reg_office.specs.Faults.{IsTableFault}
-
--- a call that looks up: it changes nothing, and what it tells holds of the records that are shown
-pub record LooksUp {C : Type 0} (g : Ghosts C) (old new : Held C) (Tells : Records → Type 0) : Type 0 where
-  pub looked : Looked g old new
-  pub found : (records : Records) → ShowsKept g old records → SoundRows records → HasCleanDisk (state g new) → Tells records
 
 -- what is decided; or the refusal that applies; a fault says nothing of the records
 abbrev pub IsDecidedOr : {T : Type 0} → Option Refusal → (T → Type 0) → Result T Fault → Type 0
@@ -43,3 +38,23 @@ pub record IsAcceptance (now : ℕ) (command : Command) (records : Records) (dec
   pub replies : reply records now command ≡ decided.0
   pub changes : changed records now command [] ≡ changed_by records now decided.1
   pub fits : Fits records now decided.1
+
+-- a command at a moment is refused so, or it is accepted
+abbrev pub DecidesCommand : {C : Type 0} → Ghosts C → Held C → Held C → ℕ → Command → Result (Reply × Change) Fault → Type 0
+DecidesCommand g old new now command result = LooksAndDecides g old new (λ records. refusal records now command) (IsAcceptance now command) result
+
+-- the clock's refusal that applies to a moment
+abbrev pub clock_refusal : Records → ℕ → Option Refusal
+clock_refusal records now = first_of_all (clock_checks now records.last)
+
+-- the refusal that applies to a query at a moment: the clock's, then its own
+abbrev pub query_refusal : Records → ℕ → Query → Option Refusal
+query_refusal records now query = first_of_all (clock_checks now records.last ++ query_checks records query)
+
+-- a query at a moment is refused so, or no refusal applies to it, and it is answered so
+abbrev pub AnswersQuery : {C : Type 0} → Ghosts C → Held C → Held C → ℕ → Query → Result Reply Fault → Type 0
+AnswersQuery g old new now query result =
+    LooksAndDecides g old new
+    (λ records. query_refusal records now query)
+    (λ records reply. (query_refusal records now query ≡ None) × (query_reply records now query ≡ reply))
+    result

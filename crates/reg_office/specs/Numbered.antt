@@ -1,13 +1,13 @@
 -- The lists whose rows are numbered: what stands at a number, and the list from a number on; and those of certificates.
-use Rattle.std.specs.Prelude.{ℕ, Option, Some, None, option_and_then}
+use Rattle.std.specs.Prelude.{ℕ, ◌-◌, ◌==◌, List, Option, Some, None, cond, length, option_and_then, option_map, slice_get}
 use Rattle.reg_core.specs.Records.{Records, order_in, request_in, subscriber_in}
 use Rattle.reg_core.specs.declared.rows.CertRow.{CertRow}
-use Rattle.reg_lists.specs.Lists.{certificate_row, ending_row, open_row, order_row, overdue_row, subscriber_row}
-use Rattle.reg_lists.specs.declared.cursor.Cursor.{Cursor}
-use Rattle.reg_lists.specs.declared.cursor.Cursor.TheVariants as cursor
-use Rattle.reg_lists.specs.declared.rows.Row.{Row}
-use Rattle.reg_tables.specs.declared.sizes.Table.{Table}
-use Rattle.reg_tables.specs.declared.sizes.Table.TheVariants.{Subscribers as OfSubscribers, Orders as OfOrders, Requests as OfRequests}
+use Rattle.reg_core_lists.specs.Lists.{certificate_row, ending_row, open_row, order_row, overdue_row, subscriber_row}
+use Rattle.reg_core_lists.specs.declared.cursor.Cursor.{Cursor}
+use Rattle.reg_core_lists.specs.declared.cursor.Cursor.TheVariants as cursor
+use Rattle.reg_core_lists.specs.declared.rows.Row.{Row}
+use Rattle.reg_store_tables.specs.declared.sizes.Table.{Table}
+use Rattle.reg_store_tables.specs.declared.sizes.Table.TheVariants.{Subscribers as OfSubscribers, Orders as OfOrders, Requests as OfRequests}
 use Rattle.reg_office.specs.declared.pages.Numbered.{Numbered}
 use Rattle.reg_office.specs.declared.pages.Numbered.TheVariants.{OpenRequests, Overdue, Subscribers, Orders}
 
@@ -41,3 +41,7 @@ certificates_after (Some before) after = cursor.Ending before after
 abbrev pub certificate_listed : Records → ℕ → Option ℕ → CertRow → Option Row
 certificate_listed records now None certificate = certificate_row records now certificate
 certificate_listed records now (Some before) certificate = ending_row records now before certificate
+
+-- the key of the last of these rows, where they are as many as a page may look at
+abbrev pub last_of_full : {A : Type 0} → (A → ℕ) → ℕ → List A → Option ℕ
+last_of_full key most found = cond (length found == most) (option_map key (slice_get found (length found - 1))) None

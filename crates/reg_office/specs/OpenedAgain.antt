@@ -10,10 +10,10 @@ use Rattle.reg_core.specs.declared.command.Reply.{Reply}
 use Rattle.reg_core.specs.declared.refusal.Fault.{Fault}
 use Rattle.reg_crl.specs.Signing.{Identity, signed_by}
 use Rattle.reg_der.specs.Issuers.{with_key_identifier}
-use Rattle.reg_laws.specs.Run.{Run}
+use Rattle.reg_core_laws.specs.Run.{Run}
 use Rattle.reg_store.specs.OpenedAgain.{IsOpenedAgain}
-use Rattle.reg_tables.specs.Kept.{ShowsKept}
-use Rattle.reg_tables.specs.Schema.{register_schema}
+use Rattle.reg_store_tables.specs.Kept.{ShowsKept}
+use Rattle.reg_store_tables.specs.Schema.{register_schema}
 use Rattle.reg_office.specs.AfterStoppedCommand.{AreRunByOne, Does, HaveNoReply}
 use Rattle.reg_office.specs.Stands.{Stands, CameTo}
 

@@ -23,14 +23,14 @@ use Rattle.reg_core.specs.declared.rows.CertRow.{CertRow}
 use Rattle.reg_core.specs.declared.rows.Entry.{Entry}
 use Rattle.reg_core.specs.declared.rows.RequestRow.{RequestRow}
 use Rattle.reg_crl.specs.Signing.{Identity, sealed_until, signed_by}
-use Rattle.reg_laws.specs.Run.{Happens, Run}
+use Rattle.reg_core_laws.specs.Run.{Happens, Run}
 use Rattle.reg_ocsp.specs.Matching.{IsMatch}
 use Rattle.reg_ocsp.specs.Request.{Id, IsOcspRequest}
 use Rattle.reg_ocsp.specs.Response.{refusal_response}
 use Rattle.reg_ocsp.specs.declared.response.RefusalStatus.TheVariants.{Malformed, Internal}
-use Rattle.reg_calls.specs.Ocsp.{HasNoReading, IsOcspReply, IsResponse}
-use Rattle.reg_calls.specs.Answered.{IsAnswered}
-use Rattle.reg_calls.specs.Signatories.{Responder}
+use Rattle.reg_office_api.specs.Ocsp.{HasNoReading, IsOcspReply, IsResponse}
+use Rattle.reg_office_api.specs.Answered.{IsAnswered}
+use Rattle.reg_office_api.specs.Signatories.{Responder}
 use Rattle.reg_office.specs.Stands.{SoundFor}
 
 -- A RUN, AND THE REVOCATIONS THAT IT ACCEPTED

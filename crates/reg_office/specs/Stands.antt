@@ -1,5 +1,5 @@
 -- The records of an office.
-use Rattle.std.specs.Prelude.{ℕ, ◌≤◌, List, Result}
+use Rattle.std.specs.Prelude.{◌≡◌, ℕ, ◌≤◌, List, ◌++◌, Result, OnOk}
 use Rattle.sqlite_trees.specs.declared.store.Store.{Ghosts}
 use Rattle.sqlite.specs.Held.{Held}
 use Rattle.reg_core.specs.Crls.{next_number}
@@ -9,8 +9,8 @@ use Rattle.reg_core.specs.declared.command.Command.{Command}
 use Rattle.reg_core.specs.declared.command.Reply.{Reply}
 use Rattle.reg_core.specs.declared.refusal.Fault.{Fault}
 use Rattle.reg_crl.specs.Signing.{Identity, sealed_until, signed_by}
-use Rattle.reg_tables.specs.Kept.{ShowsKept}
-use Rattle.reg_laws.specs.Run.{Happens, Run}
+use Rattle.reg_store_tables.specs.Kept.{ShowsKept}
+use Rattle.reg_core_laws.specs.Run.{Happens, Run}
 
 -- the records hold together, and each CRL is signed over what it lists: from some number on, the next one at the latest, by who signs for
 -- the office, and below that number it is sealed by the digest, which was there before a key (1 where none was)
@@ -36,3 +36,7 @@ pub record HasRun {C : Type 0} (g : Ghosts C) (signs : Identity → List ℕ →
   pub after : Records
   pub run : Run (signed_by signs identity) records commands outcomes after
   pub stands : Stands g signs held identity after
+
+-- outcomes of which this holds were appended
+abbrev pub Appends : {E : Type 0} → Result (Unit {0}) E → List (Result Reply Fault) → List (Result Reply Fault) → (List (Result Reply Fault) → Type 0) → Type 0
+Appends result old new Holds = OnOk result ((came : List (Result Reply Fault)) × (new ≡ old ++ came) × Holds came)

@@ -1,12 +1,11 @@
 //! Certificates.
 
-ghost use Rattle.reg_laws.specs.Import.{register};
-ghost use Rattle.reg_core.specs.Step.{refusal};
-ghost use Rattle.reg_office.specs.Looking.{IsAcceptance, LooksAndDecides};
+ghost use Rattle.reg_core_laws.specs.Import.{register};
+ghost use Rattle.reg_office.specs.Looking.{DecidesCommand};
 
 use crate::decision_head::{Decided, head_at};
 use reg_core::{CertRow, Change, Fault, Moment, Reply, decide_register};
-use reg_store::{Store, Table};
+use reg_store::{Table, Tables};
 use sqlite::Alter;
 
 /// Decides to register a certificate.
@@ -14,16 +13,16 @@ use sqlite::Alter;
 /// # Errors
 /// The refusals of [`decide_register`]; `Memory`, `Store`.
 pub(crate) fn register<C: Alter>(
-    store: &mut Store<C>,
+    tables: &mut Tables<C>,
     now: Moment,
     wanted: CertRow,
 ) -> Result<Decided, Fault>
-    ensures { LooksAndDecides C.Store store.old store.new (λ records. refusal records now (register wanted)) (IsAcceptance now (register wanted)) result }
+    ensures { DecidesCommand C.Store tables.old tables.new now (register wanted) result }
 {
-    let head = head_at(store, now, Table::Certs)?;
-    let order = store.order(wanted.order)?;
-    let by_order = store.cert_of_order(wanted.order)?;
-    let by_serial = store.cert(wanted.serial)?;
+    let head = head_at(tables, now, Table::Certs)?;
+    let order = tables.order(wanted.order)?;
+    let by_order = tables.cert_of_order(wanted.order)?;
+    let by_serial = tables.cert(wanted.serial)?;
     match decide_register(&head, wanted, order, by_order, by_serial)? {
         Some(row) => Ok((Reply::Registered, Change::Certificate(row))),
         None => Ok((Reply::Same, Change::Touch)),

@@ -3,9 +3,8 @@
 ghost use Rattle.std.specs.Prelude.{◌≢◌, ◌<◌};
 ghost use Rattle.reg_core.specs.Calendar.{clock_end};
 ghost use Rattle.reg_core.specs.declared.command.Command.TheVariants.{Crl as IssueCrl};
-ghost use Rattle.reg_office.specs.Commands.{IsCommandRun};
-ghost use Rattle.reg_core.specs.Step.{refusal};
-ghost use Rattle.reg_office.specs.Looking.{IsAcceptance, LooksAndDecides};
+ghost use Rattle.reg_office.specs.Commands.{RunsCommand};
+ghost use Rattle.reg_office.specs.Looking.{DecidesCommand};
 
 use crate::certificates::register;
 use crate::crls::issue_crl;
@@ -15,7 +14,7 @@ use crate::requests::{decline, enter_request, revoke};
 use crate::subscribers::enter_subscriber;
 use reg_core::{CertRow, Command, Fault, Moment, Reply};
 use reg_crl::Signer;
-use reg_store::Store;
+use reg_store::{Store, Tables};
 use sqlite::Alter;
 use std::alloc::Global;
 
@@ -32,7 +31,7 @@ pub(crate) fn run_command<C: Alter, S: Signer>(
     command: &Command,
 ) -> Result<Reply, Fault>
     requires { now < clock_end }
-    ensures { IsCommandRun C.Store S.signs S.identity S.failure_count store.old store.new signer.old signer.new now command.now result }
+    ensures { RunsCommand C.Store S.Signer store.old store.new signer.old signer.new now command.now result }
 {
     match *command {
         Command::Crl => issue_crl(store, signer, alloc, now),
@@ -51,14 +50,18 @@ pub(crate) fn run_command<C: Alter, S: Signer>(
 ///
 /// # Errors
 /// The refusals of the command, in their order; `Memory`, `Store`.
-fn decide<C: Alter>(store: &mut Store<C>, now: Moment, command: &Command) -> Result<Decided, Fault>
+fn decide<C: Alter>(
+    tables: &mut Tables<C>,
+    now: Moment,
+    command: &Command,
+) -> Result<Decided, Fault>
     requires before_end { now < clock_end }
     requires no_crl { command.now ≢ IssueCrl }
-    ensures { LooksAndDecides C.Store store.old store.new (λ records. refusal records now command.now) (IsAcceptance now command.now) result }
+    ensures { DecidesCommand C.Store tables.old tables.new now command.now result }
 {
     match *command {
-        Command::Subscriber { name } => enter_subscriber(store, now, name),
-        Command::Order { subscriber, days } => enter_order(store, now, subscriber, days),
+        Command::Subscriber { name } => enter_subscriber(tables, now, name),
+        Command::Order { subscriber, days } => enter_order(tables, now, subscriber, days),
         Command::Register {
             order,
             serial,
@@ -71,11 +74,11 @@ fn decide<C: Alter>(store: &mut Store<C>, now: Moment, command: &Command) -> Res
                 not_before,
                 not_after,
             };
-            register(store, now, wanted)
+            register(tables, now, wanted)
         }
-        Command::Request { serial, ground } => enter_request(store, now, serial, ground),
-        Command::Decline { request } => decline(store, now, request),
-        Command::Revoke { request } => revoke(store, now, request),
+        Command::Request { serial, ground } => enter_request(tables, now, serial, ground),
+        Command::Decline { request } => decline(tables, now, request),
+        Command::Revoke { request } => revoke(tables, now, request),
         Command::Crl => unreachable!(),
     }
 }

@@ -1,25 +1,27 @@
 //! CRLs.
 
 ghost use Rattle.std.specs.Prelude.{◌≡◌, ◌≤◌, ◌<◌, ◌+◌, length, IsErrOf, IfOk, IfErr};
-ghost use Rattle.reg_calls.specs.Items.{items_of};
+ghost use Rattle.reg_office_api.specs.Items.{items_of};
 ghost use Rattle.reg_core.specs.Calendar.{clock_end};
 ghost use Rattle.reg_core.specs.declared.command.Command.TheVariants.{Crl as IssueCrl};
-ghost use Rattle.reg_tables.specs.Stays.{Looked};
-ghost use Rattle.reg_office.specs.Commands.{IsCommandRun};
+ghost use Rattle.reg_store_tables.specs.Stays.{Looked};
+ghost use Rattle.reg_office.specs.Answering.{SignerHasFailed};
+ghost use Rattle.reg_office.specs.Commands.{RunsCommand};
 ghost use Rattle.reg_office.specs.Faults.{IsMakingFault, IsSigningFault, IsTableFault};
 ghost use Rattle.reg_office.specs.Issuing.{IsNextOf};
 ghost use Rattle.reg_core.specs.Step.{refusal};
-ghost use Rattle.reg_office.specs.Looking.{LooksAndDecides, LooksUp};
+ghost use Rattle.reg_office.specs.Looking.{LooksAndDecides};
+ghost use Rattle.reg_store_tables.specs.LookUps.{Learns, LooksUp};
 ghost use Rattle.reg_core.specs.Crls.{EntriesAscend, cert_list, content, entries};
 ghost use Rattle.reg_core.specs.declared.refusal.Fault.TheVariants.{Signer as SignerFailed};
 ghost use Rattle.reg_crl.specs.Signing.{signed_by};
-ghost use Rattle.reg_calls.specs.Answered.{IsGiven};
+ghost use Rattle.reg_office_api.specs.Answered.{IsGiven};
 
 use crate::decision_head::{head_at, latest_crl};
 use reg_core::{CrlRow, Entry, Fault, Moment, Refusal, Reply, decide_crl};
 use reg_crl::{SignFault, Signer, crl_tbs, crl_whole};
 use reg_der::Issuer;
-use reg_store::{Store, StoreFault, Table};
+use reg_store::{DatabaseFault, Store, Table, Tables};
 use sqlite::Alter;
 use std::alloc::Global;
 
@@ -35,10 +37,16 @@ fn signed_crl<S: Signer>(
     requires ascending { EntriesAscend entries.now }
     requires few { length entries.now ≤ 1000000 }
     ensures signed { IfOk result (λ crl. signed_by S.signs (S.identity signer.old)
-        (record { issuer = issuer.now; number = row.now.number; this_update = row.now.this_update; next_update = next_update; entries = entries.now })
+        (record {
+          issuer = issuer.now;
+          number = row.now.number;
+          this_update = row.now.this_update;
+          next_update = next_update;
+          entries = entries.now;
+        })
         crl.items) }
     ensures same_identity { S.identity signer.new ≡ S.identity signer.old }
-    ensures device { IsErrOf result SignerFailed → S.failure_count signer.old < S.failure_count signer.new }
+    ensures device { IsErrOf result SignerFailed → SignerHasFailed S.Signer signer.old signer.new }
     ensures faults { IfErr result IsSigningFault }
 {
     let tbs = crl_tbs(
@@ -66,7 +74,7 @@ fn signature_of<S: Signer>(
     ensures signed { IfOk result (λ signature. S.signs (S.identity signer.old) message.now signature.items) }
     ensures short { IfOk result (λ signature. length signature.items ≤ 65536) }
     ensures same_identity { S.identity signer.new ≡ S.identity signer.old }
-    ensures device { IsErrOf result SignFault.Device → S.failure_count signer.old < S.failure_count signer.new }
+    ensures device { IsErrOf result SignFault.Device → SignerHasFailed S.Signer signer.old signer.new }
 {
     signer.rouse();
     signer.sign(alloc, message)
@@ -76,25 +84,30 @@ fn signature_of<S: Signer>(
 ///
 /// # Errors
 /// The refusals of [`decide_crl`]; `Memory`, `Store`.
-fn next_row<C: Alter>(store: &mut Store<C>, now: Moment) -> Result<(CrlRow, Moment), Fault>
+fn next_row<C: Alter>(tables: &mut Tables<C>, now: Moment) -> Result<(CrlRow, Moment), Fault>
     requires { now < clock_end }
-    ensures { LooksAndDecides C.Store store.old store.new (λ records. refusal records now IssueCrl) (λ records next. IsNextOf records now next) result }
+    ensures { LooksAndDecides C.Store tables.old tables.new (λ records. refusal records now IssueCrl)
+        (λ records next. IsNextOf records now next) result }
 {
-    let head = head_at(store, now, Table::Crls)?;
-    let latest = latest_crl(store)?;
+    let head = head_at(tables, now, Table::Crls)?;
+    let latest = latest_crl(tables)?;
     let row = decide_crl(&head, latest)?;
     let next_update = now.plus(head.policy.crl_life());
     Ok((row, next_update))
 }
 
 /// The issuer, and the entries of the CRL with a number.
-fn listed<C: Alter>(store: &mut Store<C>, number: u64) -> Result<(Issuer, Vec<Entry>), StoreFault>
-    ensures looks { LooksUp C.Store store.old store.new (λ records. IfOk result (λ it. (it.0 ≡ records.issuer) × (it.1.items ≡ entries records number))) }
+fn listed<C: Alter>(
+    tables: &mut Tables<C>,
+    number: u64,
+) -> Result<(Issuer, Vec<Entry>), DatabaseFault>
+    ensures looks { Learns C.Store tables.old tables.new result (λ records it.
+        (it.0 ≡ records.issuer) × (it.1.items ≡ entries records number)) }
     ensures ascending { IfOk result (λ it. EntriesAscend it.1.items) }
     ensures few { IfOk result (λ it. length it.1.items ≤ 1000000) }
 {
-    let issuer = store.issuer()?;
-    let entries = store.entries(number)?;
+    let issuer = tables.issuer()?;
+    let entries = tables.entries(number)?;
     Ok((issuer, entries))
 }
 
@@ -103,20 +116,22 @@ fn listed<C: Alter>(store: &mut Store<C>, number: u64) -> Result<(Issuer, Vec<En
 /// # Errors
 /// `Memory`, `Store`; `Signer` where the signer counted a failure.
 fn made_crl<C: Alter, S: Signer>(
-    store: &mut Store<C>,
+    tables: &mut Tables<C>,
     signer: &mut S,
     alloc: Global,
     row: &CrlRow,
     next_update: Moment,
 ) -> Result<(Vec<u8>, u64), Fault>
-    ensures looks { LooksUp C.Store store.old store.new (λ records. next_update ≡ row.now.this_update + records.policy.crl_life
-        → IfOk result (λ crl. signed_by S.signs (S.identity signer.old) (cert_list records row.now.number row.now.this_update) crl.0.items
+    ensures looks { LooksUp C.Store tables.old tables.new (λ records.
+        next_update ≡ row.now.this_update + records.policy.crl_life → IfOk result (λ crl.
+        signed_by S.signs (S.identity signer.old)
+        (cert_list records row.now.number row.now.this_update) crl.0.items
         × (crl.1 ≡ length (content records row.now.number)))) }
     ensures same_identity { S.identity signer.new ≡ S.identity signer.old }
-    ensures device { IsErrOf result SignerFailed → S.failure_count signer.old < S.failure_count signer.new }
+    ensures device { IsErrOf result SignerFailed → SignerHasFailed S.Signer signer.old signer.new }
     ensures faults { IfErr result IsMakingFault }
 {
-    let (issuer, entries) = listed(store, row.number)?;
+    let (issuer, entries) = listed(tables, row.number)?;
     let der = signed_crl(alloc, signer, &issuer, row, next_update, &entries)?;
     let listed = entries.len() as u64;
     Ok((der, listed))
@@ -127,17 +142,17 @@ fn made_crl<C: Alter, S: Signer>(
 /// # Errors
 /// As of [`issue_crl`], up to where it has that signed.
 pub(crate) fn next_message<C: Alter>(
-    store: &mut Store<C>,
+    tables: &mut Tables<C>,
     alloc: Global,
     algorithm: &[u8],
     now: Moment,
 ) -> Result<Vec<u8>, Fault>
     requires before_end { now < clock_end }
     requires algorithm { length algorithm.now ≤ 1024 }
-    ensures { Looked C.Store store.old store.new }
+    ensures { Looked C.Store tables.old tables.new }
 {
-    let (row, next_update) = next_row(store, now)?;
-    let (issuer, entries) = listed(store, row.number)?;
+    let (row, next_update) = next_row(tables, now)?;
+    let (issuer, entries) = listed(tables, row.number)?;
     Ok(crl_tbs(
         alloc,
         &issuer,
@@ -161,7 +176,7 @@ pub(crate) fn issue_crl<C: Alter, S: Signer>(
     now: Moment,
 ) -> Result<Reply, Fault>
     requires { now < clock_end }
-    ensures { IsCommandRun C.Store S.signs S.identity S.failure_count store.old store.new signer.old signer.new now IssueCrl result }
+    ensures { RunsCommand C.Store S.Signer store.old store.new signer.old signer.new now IssueCrl result }
 {
     let (row, next_update) = next_row(store, now)?;
     let (der, entries) = made_crl(store, signer, alloc, &row, next_update)?;
@@ -175,38 +190,41 @@ pub(crate) fn issue_crl<C: Alter, S: Signer>(
 /// # Errors
 /// `NoCrl` where there is none; `Memory`, `Store`.
 pub(crate) fn bytes_of<C: Alter>(
-    store: &mut Store<C>,
+    tables: &mut Tables<C>,
     number: Option<u64>,
 ) -> Result<Vec<u8>, Fault>
-    ensures looks { LooksUp C.Store store.old store.new (λ records. IsGiven records number (items_of result)) }
+    ensures looks { LooksUp C.Store tables.old tables.new (λ records.
+        IsGiven records number (items_of result)) }
     ensures faults { IfErr result IsTableFault }
 {
     match number {
-        Some(number) => numbered(store, number),
-        None => latest(store),
+        Some(number) => numbered(tables, number),
+        None => latest(tables),
     }
 }
 
 /// The bytes of the CRL with a number.
-fn numbered<C: Alter>(store: &mut Store<C>, number: u64) -> Result<Vec<u8>, Fault>
-    ensures looks { LooksUp C.Store store.old store.new (λ records. IsGiven records (Some number) (items_of result)) }
+fn numbered<C: Alter>(tables: &mut Tables<C>, number: u64) -> Result<Vec<u8>, Fault>
+    ensures looks { LooksUp C.Store tables.old tables.new (λ records.
+        IsGiven records (Some number) (items_of result)) }
     ensures faults { IfErr result IsTableFault }
 {
-    match store.crl(number)? {
+    match tables.crl(number)? {
         Some(bytes) => Ok(bytes),
         None => Err(Fault::Refused(Refusal::NoCrl)),
     }
 }
 
 /// The bytes of the CRL that was issued last.
-fn latest<C: Alter>(store: &mut Store<C>) -> Result<Vec<u8>, Fault>
-    ensures looks { LooksUp C.Store store.old store.new (λ records. IsGiven records None (items_of result)) }
+fn latest<C: Alter>(tables: &mut Tables<C>) -> Result<Vec<u8>, Fault>
+    ensures looks { LooksUp C.Store tables.old tables.new (λ records.
+        IsGiven records None (items_of result)) }
     ensures faults { IfErr result IsTableFault }
 {
-    match store.latest_crl()? {
+    match tables.latest_crl()? {
         Some(latest) => {
             let number = latest.number;
-            numbered(store, number)
+            numbered(tables, number)
         }
         None => Err(Fault::Refused(Refusal::NoCrl)),
     }

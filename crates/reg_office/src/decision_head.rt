@@ -5,11 +5,11 @@ ghost use Rattle.reg_core.specs.Calendar.{clock_end};
 ghost use Rattle.reg_core.specs.Crls.{latest, row_of};
 ghost use Rattle.reg_core.specs.Decisions.{head_of};
 ghost use Rattle.reg_core.specs.Records.{certificate_in, revocation_in};
-ghost use Rattle.reg_tables.specs.Tables.{rows_of};
-ghost use Rattle.reg_office.specs.Looking.{LooksUp};
+ghost use Rattle.reg_store_tables.specs.Tables.{rows_of};
+ghost use Rattle.reg_store_tables.specs.LookUps.{Learns};
 
-use reg_core::{CertRow, Change, CrlRow, Head, Moment, Reply, RevocationRow, Serial};
-use reg_store::{Store, StoreFault, Table};
+use reg_core::{CertRow, Change, CrlRow, Head, Moment, Policy, Reply, RevocationRow, Serial};
+use reg_store::{DatabaseFault, Table, Tables};
 use sqlite::Alter;
 
 /// What a command is answered that is accepted, and the one change that it makes.
@@ -17,15 +17,16 @@ pub(crate) type Decided = (Reply, Change<'static>);
 
 /// The head of a decision, for a table that would grow.
 pub(crate) fn head_at<C: Alter>(
-    store: &mut Store<C>,
+    tables: &mut Tables<C>,
     now: Moment,
     table: Table,
-) -> Result<Head, StoreFault>
-    ensures { LooksUp C.Store store.old store.new (λ records. IfOk result (λ head. head ≡ head_of records now (rows_of records table))) }
+) -> Result<Head, DatabaseFault>
+    ensures { Learns C.Store tables.old tables.new result (λ records head.
+        head ≡ head_of records now (rows_of records table)) }
 {
-    let last = store.last()?;
-    let policy = store.policy()?;
-    let held = store.held(table)?;
+    let last = tables.last()?;
+    let policy = tables.policy()?;
+    let held = tables.held(table)?;
     Ok(Head {
         now,
         last,
@@ -34,16 +35,35 @@ pub(crate) fn head_at<C: Alter>(
     })
 }
 
+/// The head of a decision that adds no row to a table with a cap. It goes by the clock alone, so neither the policy nor the size of a
+/// table is read.
+pub(crate) fn clock_head<C: Alter>(
+    tables: &mut Tables<C>,
+    now: Moment,
+) -> Result<Head, DatabaseFault>
+    ensures { Learns C.Store tables.old tables.new result (λ records head.
+        (head.now ≡ now) × (head.last ≡ records.last)) }
+{
+    let last = tables.last()?;
+    Ok(Head {
+        now,
+        last,
+        policy: Policy::usual(),
+        held: 0,
+    })
+}
+
 /// The certificate with a serial number, and its revocation.
 pub(crate) fn certificate_of<C: Alter>(
-    store: &mut Store<C>,
+    tables: &mut Tables<C>,
     serial: Serial,
-) -> Result<(Option<CertRow>, Option<RevocationRow>), StoreFault>
-    ensures { LooksUp C.Store store.old store.new (λ records. IfOk result (λ it.
-        (it.0 ≡ certificate_in records.certificates serial) × (it.1 ≡ revocation_in records.revocations serial))) }
+) -> Result<(Option<CertRow>, Option<RevocationRow>), DatabaseFault>
+    ensures { Learns C.Store tables.old tables.new result (λ records it.
+        (it.0 ≡ certificate_in records.certificates serial)
+        × (it.1 ≡ revocation_in records.revocations serial)) }
 {
-    let certificate = store.cert(serial)?;
-    let revocation = store.revocation(serial)?;
+    let certificate = tables.cert(serial)?;
+    let revocation = tables.revocation(serial)?;
     Ok((certificate, revocation))
 }
 
@@ -55,13 +75,15 @@ fn is_within(crl: &CrlRow) -> bool
 }
 
 /// The CRL that was issued last.
-pub(crate) fn latest_crl<C: Alter>(store: &mut Store<C>) -> Result<Option<CrlRow>, StoreFault>
-    ensures looks { LooksUp C.Store store.old store.new (λ records. IfOk result (λ row. row ≡ option_map row_of (latest records.crls))) }
-    ensures within { IfOk result (λ row. IfSome row (λ crl. (crl.number < 10 ^ 18) × (crl.this_update < clock_end))) }
+pub(crate) fn latest_crl<C: Alter>(tables: &mut Tables<C>) -> Result<Option<CrlRow>, DatabaseFault>
+    ensures looks { Learns C.Store tables.old tables.new result (λ records row.
+        row ≡ option_map row_of (latest records.crls)) }
+    ensures within { IfOk result (λ row.
+        IfSome row (λ crl. (crl.number < 10 ^ 18) × (crl.this_update < clock_end))) }
 {
-    let latest = store.latest_crl()?;
+    let latest = tables.latest_crl()?;
     match latest {
-        Some(crl) if !is_within(&crl) => Err(StoreFault::Store),
+        Some(crl) if !is_within(&crl) => Err(DatabaseFault::Store),
         _ => Ok(latest),
     }
 }

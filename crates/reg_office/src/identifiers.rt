@@ -1,31 +1,32 @@
 //! A key identifier of the issuer's own, for the CRLs from the next one on (RFC 5280 5.2.1).
 
-ghost use Rattle.std.specs.Prelude.{◌≡◌, IfErr, IfOk, IfSome, OnOk};
+ghost use Rattle.std.specs.Prelude.{◌≡◌, IfOk, IfSome, OnOk};
 ghost use Rattle.sqlite.specs.Held.{state};
 ghost use Rattle.sqlite.specs.State.{HasCleanDisk};
 ghost use Rattle.reg_core.specs.Crls.{next_number, number_after};
 ghost use Rattle.reg_core.specs.Records.{Records};
 ghost use Rattle.reg_der.specs.Authority.{with_identifier, HasIdentifier};
 ghost use Rattle.reg_der.specs.Issuers.{with_key_identifier};
-ghost use Rattle.reg_tables.specs.Kept.{ShowsKept};
-ghost use Rattle.reg_tables.specs.Shows.{Shows};
-ghost use Rattle.reg_tables.specs.Stays.{Changed, IsDatabaseFault, Looked};
+ghost use Rattle.reg_store_tables.specs.Kept.{ShowsKept};
+ghost use Rattle.reg_store_tables.specs.Shows.{Shows};
+ghost use Rattle.reg_store_tables.specs.Stays.{Changed, Looked};
 ghost use Rattle.reg_office.specs.AfterStoppedCommand.{IsIdentified};
 
 use reg_core::{CrlRow, Label};
 use reg_der::Issuer;
-use reg_store::{Store, StoreFault};
+use reg_store::{DatabaseFault, Store, Tables};
 use sqlite::Alter;
 use std::alloc::Global;
 
 /// The number of the next CRL.
-fn next_crl_number<C: Alter>(store: &mut Store<C>) -> Result<u64, StoreFault>
-    ensures found { (records : Records) → Shows C.Store store.old records → HasCleanDisk (state C.Store store.new) → IfOk result (λ number. number ≡ next_number records.crls) }
-    ensures looked { Looked C.Store store.old store.new }
-    ensures faults { IfErr result IsDatabaseFault }
+fn next_crl_number<C: Alter>(tables: &mut Tables<C>) -> Result<u64, DatabaseFault>
+    ensures found { (records : Records) → Shows C.Store tables.old records
+        → HasCleanDisk (state C.Store tables.new)
+        → IfOk result (λ number. number ≡ next_number records.crls) }
+    ensures looked { Looked C.Store tables.old tables.new }
 {
-    let latest = store.latest_crl()?;
-    number_behind(latest).ok_or(StoreFault::Store)
+    let latest = tables.latest_crl()?;
+    number_behind(latest).ok_or(DatabaseFault::Store)
 }
 
 /// The number behind the one of the latest CRL, 1 where there is none; `None` where no number is behind it.
@@ -40,22 +41,23 @@ fn number_behind(latest: Option<CrlRow>) -> Option<u64>
 
 /// The issuer with a key identifier more.
 fn identified<C: Alter>(
-    store: &mut Store<C>,
+    tables: &mut Tables<C>,
     alloc: Global,
     octets: Label,
-) -> Result<Issuer, StoreFault>
-    ensures found { (records : Records) → Shows C.Store store.old records → HasCleanDisk (state C.Store store.new)
+) -> Result<Issuer, DatabaseFault>
+    ensures found { (records : Records) → Shows C.Store tables.old records
+        → HasCleanDisk (state C.Store tables.new)
         → IfOk result (λ issuer. issuer ≡ with_identifier records.issuer (next_number records.crls) octets) }
-    ensures follows { (records : Records) → Shows C.Store store.old records → HasCleanDisk (state C.Store store.new)
+    ensures follows { (records : Records) → Shows C.Store tables.old records
+        → HasCleanDisk (state C.Store tables.new)
         → OnOk result (HasIdentifier records.issuer (next_number records.crls) octets) }
-    ensures looked { Looked C.Store store.old store.new }
-    ensures faults { IfErr result IsDatabaseFault }
+    ensures looked { Looked C.Store tables.old tables.new }
 {
-    let first = next_crl_number(store)?;
-    let issuer = store.issuer()?;
+    let first = next_crl_number(tables)?;
+    let issuer = tables.issuer()?;
     match issuer.with_key_identifier(alloc, first, octets) {
         Ok(issuer) => Ok(issuer),
-        Err(_) => Err(StoreFault::Memory),
+        Err(_) => Err(DatabaseFault::Memory),
     }
 }
 
@@ -67,13 +69,14 @@ pub(crate) fn set_key_identifier<C: Alter>(
     store: &mut Store<C>,
     alloc: Global,
     octets: Label,
-) -> Result<(), StoreFault>
-    ensures ok { (records : Records) → ShowsKept C.Store store.old records → HasCleanDisk (state C.Store store.new)
+) -> Result<(), DatabaseFault>
+    ensures ok { (records : Records) → ShowsKept C.Store store.old records
+        → HasCleanDisk (state C.Store store.new)
         → OnOk result (ShowsKept C.Store store.new (with_key_identifier records octets)) }
-    ensures follows { (records : Records) → ShowsKept C.Store store.old records → HasCleanDisk (state C.Store store.new)
+    ensures follows { (records : Records) → ShowsKept C.Store store.old records
+        → HasCleanDisk (state C.Store store.new)
         → OnOk result (HasIdentifier records.issuer (next_number records.crls) octets) }
     ensures changed { Changed C.Store store.old store.new (IsIdentified C.Store store.old octets) result }
-    ensures faults { IfErr result IsDatabaseFault }
 {
     let issuer = identified(store, alloc, octets)?;
     store.set_issuer(&issuer)

@@ -1,11 +1,10 @@
 //! Each function here does nothing when it runs: its contract is a law, and the check proves it.
 
 ghost use Rattle.std.specs.Prelude.{ℕ};
-ghost use Rattle.reg_crl.specs.Signing.{sealed_until, signed_by};
-ghost use Rattle.reg_laws.specs.Headline.{CreatedSound, KeepsSound, RunsInParts, StandsInExactlyOne, CountsMoveExactly, ListsRevoked, RefusalsChangeNothing};
-ghost use Rattle.reg_laws.specs.History.{HistoryStands};
+ghost use Rattle.reg_core_laws.specs.Headline.{CreatedSound, KeepsSound, RunsInParts, StandsInExactlyOne, CountsMoveExactly, ListsRevoked, RefusalsChangeNothing};
+ghost use Rattle.reg_core_laws.specs.History.{HistoryStands};
 ghost use Rattle.reg_office.specs.Agreement.{OcspAgrees};
-ghost use Rattle.reg_office.specs.Following.{FollowsSeal, RunsSince};
+ghost use Rattle.reg_office.specs.Following.{FollowsSeal, RunsSince, Sealed, Signed};
 ghost use Rattle.reg_office.specs.OpenedAgain.{OpensAfterAPrefix, OpensBeforeOrAfter};
 ghost use Rattle.reg_office.specs.Decisions.{SubscribersAreSteps, OrdersAreSteps, RegistrationsAreSteps, RequestsAreSteps, DeclinesAreSteps, RevocationsAreSteps, CrlsAreSteps};
 ghost use Rattle.reg_office.specs.Shown.{SoundRun, AcceptedRevocation, IsShownEverywhere, WasRevoked, IsNowhereShown};
@@ -23,19 +22,19 @@ use sqlite::Alter;
 /// which a key has followed then. Whatever who signs does from such records on is a run of the other clauses (`since`): each
 /// CRL that it adds is signed, and none is sealed.
 pub fn headline<S: Signer>()
-    ensures created { (signer : S) (since : ℕ) → CreatedSound (sealed_until since S.signs (S.identity signer)) }
+    ensures created { Sealed S.Signer CreatedSound }
     ensures since { (signer : S) → RunsSince S.signs (S.identity signer) }
-    ensures sound { (signer : S) (since : ℕ) → KeepsSound (sealed_until since S.signs (S.identity signer)) }
-    ensures parts { (signer : S) (since : ℕ) → RunsInParts (sealed_until since S.signs (S.identity signer)) }
-    ensures exactly_one { (signer : S) (since : ℕ) → StandsInExactlyOne (sealed_until since S.signs (S.identity signer)) }
-    ensures counts { (signer : S) (since : ℕ) → CountsMoveExactly (sealed_until since S.signs (S.identity signer)) }
-    ensures lists { (signer : S) (since : ℕ) → ListsRevoked (sealed_until since S.signs (S.identity signer)) }
-    ensures history { (signer : S) (since : ℕ) → HistoryStands (sealed_until since S.signs (S.identity signer)) }
+    ensures sound { Sealed S.Signer KeepsSound }
+    ensures parts { Sealed S.Signer RunsInParts }
+    ensures exactly_one { Sealed S.Signer StandsInExactlyOne }
+    ensures counts { Sealed S.Signer CountsMoveExactly }
+    ensures lists { Sealed S.Signer ListsRevoked }
+    ensures history { Sealed S.Signer HistoryStands }
     ensures statuses { OcspAgrees }
-    ensures refused { (signer : S) (since : ℕ) → RefusalsChangeNothing (sealed_until since S.signs (S.identity signer)) }
+    ensures refused { Sealed S.Signer RefusalsChangeNothing }
 {
-    reg_laws::laws::headline::<CrlSigner<S>>();
-    reg_laws::laws::history::<CrlSigner<S>>();
+    reg_core_laws::laws::headline::<CrlSigner<S>>();
+    reg_core_laws::laws::history::<CrlSigner<S>>();
     statuses_agree();
 }
 
@@ -62,13 +61,13 @@ pub fn statuses_agree()
 /// command comes to by the rules. A refusal is what is answered, and the records stay. What was decided is what is replied, and
 /// it is the one change of the records ([`Change`](reg_core::Change)); of a CRL, with any bytes that are signed over what it lists.
 pub fn decisions_are_steps<S: Signer>()
-    ensures subscribers { (signer : S) → SubscribersAreSteps (signed_by S.signs (S.identity signer)) }
-    ensures orders { (signer : S) → OrdersAreSteps (signed_by S.signs (S.identity signer)) }
-    ensures registrations { (signer : S) → RegistrationsAreSteps (signed_by S.signs (S.identity signer)) }
-    ensures requests { (signer : S) → RequestsAreSteps (signed_by S.signs (S.identity signer)) }
-    ensures declines { (signer : S) → DeclinesAreSteps (signed_by S.signs (S.identity signer)) }
-    ensures revocations { (signer : S) → RevocationsAreSteps (signed_by S.signs (S.identity signer)) }
-    ensures crls { (signer : S) → CrlsAreSteps (signed_by S.signs (S.identity signer)) }
+    ensures subscribers { Signed S.Signer SubscribersAreSteps }
+    ensures orders { Signed S.Signer OrdersAreSteps }
+    ensures registrations { Signed S.Signer RegistrationsAreSteps }
+    ensures requests { Signed S.Signer RequestsAreSteps }
+    ensures declines { Signed S.Signer DeclinesAreSteps }
+    ensures revocations { Signed S.Signer RevocationsAreSteps }
+    ensures crls { Signed S.Signer CrlsAreSteps }
 {}
 
 /// A revoked certificate is shown as revoked everywhere.
@@ -85,7 +84,8 @@ pub fn decisions_are_steps<S: Signer>()
 ///   moment and that reason, up to and including the first whose thisUpdate is past the certificate's notAfter
 ///   (RFC 5280 3.3), and is signed over just what it lists, or sealed by the digest where no key had followed that.
 pub fn a_revoked_certificate_is_shown_as_revoked_everywhere<S: Signer>()
-    ensures { (signer : S) (run : SoundRun S.signs (S.identity signer)) (its : AcceptedRevocation run) → IsShownEverywhere its }
+    ensures { (signer : S) (run : SoundRun S.signs (S.identity signer)) (its : AcceptedRevocation run)
+        → IsShownEverywhere its }
 {
     headline::<S>();
 }
@@ -96,10 +96,11 @@ pub fn a_revoked_certificate_is_shown_as_revoked_everywhere<S: Signer>()
 /// and of which the run accepted no revocation, is nowhere shown as revoked: its status is another at every moment, no
 /// CertID of an OCSP request that names it is told `revoked`, and no CRL has an entry of it.
 pub fn nothing_else_is_shown_as_revoked<S: Signer>()
-    ensures { (signer : S) (run : SoundRun S.signs (S.identity signer)) (serial : ℕ) → ¬ (WasRevoked run serial) → IsNowhereShown run serial }
+    ensures { (signer : S) (run : SoundRun S.signs (S.identity signer)) (serial : ℕ)
+        → ¬ (WasRevoked run serial) → IsNowhereShown run serial }
 {
     headline::<S>();
-    reg_laws::laws::revocations::<CrlSigner<S>>();
+    reg_core_laws::laws::revocations::<CrlSigner<S>>();
 }
 
 /// A register opened after a stop stands for the records before the command or for those after it.
@@ -109,7 +110,7 @@ pub fn nothing_else_is_shown_as_revoked<S: Signer>()
 /// left: the records before the command stand in it, or those after the command's acceptance, whole, sound, and with the
 /// letters, counts and last listings that follow from them.
 ///
-/// It rests on what the crate `sqlite` says that a stop may leave over a disk which can lose what was not synced. `IsOpenedAgain` is what `restart` of the crate `reg_restart` ensures over any disk that may lose what was not synced; that a
+/// It rests on what the crate `sqlite` says that a stop may leave over a disk which can lose what was not synced. `IsOpenedAgain` is what `restart` of the crate `reg_store_restart` ensures over any disk that may lose what was not synced; that a
 /// connection obeys its schema (`IsLive`) is the clause `live` of the crate `sqlite`'s `Connection::schema`.
 pub fn a_register_opened_after_a_stop_stands_before_or_after<C: Alter, S: Signer>()
     ensures { OpensBeforeOrAfter C.Store S.signs }

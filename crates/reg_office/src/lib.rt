@@ -1,7 +1,6 @@
 //! The office: commands, queries and CRLs over a register's store, with a signer.
 #![tactic(auto)]
 
-mod calls;
 mod certificates;
 mod commands;
 mod crls;
@@ -15,7 +14,7 @@ mod office;
 mod orders;
 mod pages;
 mod queries;
-mod records;
+mod register_state;
 mod requests;
 mod responder;
 mod run;

@@ -1,89 +1,92 @@
 //! What lists tell of one record, from what is looked up for it.
 
 ghost use Rattle.std.specs.Prelude.{◌≡◌, Some, None, cond, nat_lt, option_map, IfOk};
-ghost use Rattle.sqlite.specs.Held.{state};
-ghost use Rattle.sqlite.specs.State.{HasCleanDisk};
 ghost use Rattle.reg_core.specs.Due.{deadline};
 ghost use Rattle.reg_core.specs.Queries.{listing};
-ghost use Rattle.reg_core.specs.Records.{Records, certificate_in, order_in, request_in, revocation_in, subscriber_in};
+ghost use Rattle.reg_core.specs.Records.{certificate_in, order_in, request_in, revocation_in, subscriber_in};
 ghost use Rattle.reg_core.specs.Status.{is_good, status_by};
-ghost use Rattle.reg_lists.specs.Lists.{certificate_line, certificate_row, ending_row, open_row, order_row, overdue_row, request_line, revoked_row, status_at, subscriber_of_order};
-ghost use Rattle.reg_lists.specs.declared.rows.Row.TheVariants as kind;
-ghost use Rattle.reg_tables.specs.Kept.{ShowsKept};
-ghost use Rattle.reg_tables.specs.Shows.{Shows};
-ghost use Rattle.reg_tables.specs.Stays.{Looked};
+ghost use Rattle.reg_core_lists.specs.Lists.{certificate_line, certificate_row, ending_row, open_row, order_row, overdue_row, request_line, revoked_row, status_at, subscriber_of_order};
+ghost use Rattle.reg_core_lists.specs.declared.rows.Row.TheVariants as kind;
+ghost use Rattle.reg_store_tables.specs.LookUps.{Learns, LooksUp};
 
 use reg_core::{
     CertRow, Listing, Moment, OrderRow, RequestRow, RevocationRow, Serial, Status, SubscriberRow,
     status_of,
 };
-use reg_lists::{CertificateLine, OrderLine, RequestLine, Row};
-use reg_store::{Store, StoreFault};
+use reg_core_lists::{CertificateLine, OrderLine, RequestLine, Row};
+use reg_store::{DatabaseFault, Tables};
 use sqlite::Alter;
 
 // ---- records that are there; `Store` where one is not, which no register has
 
 /// The subscriber with an id.
 pub(crate) fn subscriber_at<C: Alter>(
-    store: &mut Store<C>,
+    tables: &mut Tables<C>,
     id: u64,
-) -> Result<SubscriberRow, StoreFault>
-    ensures found { (records : Records) → Shows C.Store store.old records → HasCleanDisk (state C.Store store.new) → IfOk result (λ row. Some row ≡ subscriber_in records.subscribers id) }
-    ensures looked { Looked C.Store store.old store.new }
+) -> Result<SubscriberRow, DatabaseFault>
+    ensures { Learns C.Store tables.old tables.new result (λ records row.
+        Some row ≡ subscriber_in records.subscribers id) }
 {
-    let subscriber = store.subscriber(id)?;
-    subscriber.ok_or(StoreFault::Store)
+    let subscriber = tables.subscriber(id)?;
+    subscriber.ok_or(DatabaseFault::Store)
 }
 
 /// The order with an id.
-pub(crate) fn order_at<C: Alter>(store: &mut Store<C>, id: u64) -> Result<OrderRow, StoreFault>
-    ensures found { (records : Records) → Shows C.Store store.old records → HasCleanDisk (state C.Store store.new) → IfOk result (λ row. Some row ≡ order_in records.orders id) }
-    ensures looked { Looked C.Store store.old store.new }
+pub(crate) fn order_at<C: Alter>(tables: &mut Tables<C>, id: u64) -> Result<OrderRow, DatabaseFault>
+    ensures { Learns C.Store tables.old tables.new result (λ records row.
+        Some row ≡ order_in records.orders id) }
 {
-    let order = store.order(id)?;
-    order.ok_or(StoreFault::Store)
+    let order = tables.order(id)?;
+    order.ok_or(DatabaseFault::Store)
 }
 
 /// The certificate with a serial number.
-fn certificate_at<C: Alter>(store: &mut Store<C>, serial: Serial) -> Result<CertRow, StoreFault>
-    ensures found { (records : Records) → Shows C.Store store.old records → HasCleanDisk (state C.Store store.new) → IfOk result (λ row. Some row ≡ certificate_in records.certificates serial) }
-    ensures looked { Looked C.Store store.old store.new }
+fn certificate_at<C: Alter>(
+    tables: &mut Tables<C>,
+    serial: Serial,
+) -> Result<CertRow, DatabaseFault>
+    ensures { Learns C.Store tables.old tables.new result (λ records row.
+        Some row ≡ certificate_in records.certificates serial) }
 {
-    let certificate = store.cert(serial)?;
-    certificate.ok_or(StoreFault::Store)
+    let certificate = tables.cert(serial)?;
+    certificate.ok_or(DatabaseFault::Store)
 }
 
 /// The request with an id.
-pub(crate) fn request_at<C: Alter>(store: &mut Store<C>, id: u64) -> Result<RequestRow, StoreFault>
-    ensures found { (records : Records) → Shows C.Store store.old records → HasCleanDisk (state C.Store store.new) → IfOk result (λ row. Some row ≡ request_in records.requests id) }
-    ensures looked { Looked C.Store store.old store.new }
+pub(crate) fn request_at<C: Alter>(
+    tables: &mut Tables<C>,
+    id: u64,
+) -> Result<RequestRow, DatabaseFault>
+    ensures { Learns C.Store tables.old tables.new result (λ records row.
+        Some row ≡ request_in records.requests id) }
 {
-    let request = store.request(id)?;
-    request.ok_or(StoreFault::Store)
+    let request = tables.request(id)?;
+    request.ok_or(DatabaseFault::Store)
 }
 
 /// Whose order it is that has an id.
-fn subscriber_of<C: Alter>(store: &mut Store<C>, id: u64) -> Result<SubscriberRow, StoreFault>
-    ensures found { (records : Records) → Shows C.Store store.old records → HasCleanDisk (state C.Store store.new) → IfOk result (λ subscriber. Some subscriber ≡ subscriber_of_order records id) }
-    ensures looked { Looked C.Store store.old store.new }
+fn subscriber_of<C: Alter>(tables: &mut Tables<C>, id: u64) -> Result<SubscriberRow, DatabaseFault>
+    ensures { Learns C.Store tables.old tables.new result (λ records subscriber.
+        Some subscriber ≡ subscriber_of_order records id) }
 {
-    let order = order_at(store, id)?;
-    subscriber_at(store, order.subscriber)
+    let order = order_at(tables, id)?;
+    subscriber_at(tables, order.subscriber)
 }
 
 // ---- certificates
 
 /// The CRLs that list a serial number, by its revocation.
 fn listing_of<C: Alter>(
-    store: &mut Store<C>,
+    tables: &mut Tables<C>,
     serial: Serial,
     revocation: &Option<RevocationRow>,
-) -> Result<Option<Listing>, StoreFault>
-    ensures found { (records : Records) → ShowsKept C.Store store.old records → HasCleanDisk (state C.Store store.new) → revocation.now ≡ revocation_in records.revocations serial → IfOk result (λ found. found ≡ listing records serial) }
-    ensures looked { Looked C.Store store.old store.new }
+) -> Result<Option<Listing>, DatabaseFault>
+    ensures { LooksUp C.Store tables.old tables.new (λ records.
+        revocation.now ≡ revocation_in records.revocations serial
+        → IfOk result (λ found. found ≡ listing records serial)) }
 {
     match revocation {
-        Some(_) => store.listing(serial),
+        Some(_) => tables.listing(serial),
         None => Ok(None),
     }
 }
@@ -114,16 +117,16 @@ fn told_of(
 
 /// What is told of a certificate.
 fn certificate_line<C: Alter>(
-    store: &mut Store<C>,
+    tables: &mut Tables<C>,
     now: Moment,
     certificate: CertRow,
-) -> Result<CertificateLine, StoreFault>
-    ensures found { (records : Records) → ShowsKept C.Store store.old records → HasCleanDisk (state C.Store store.new) → IfOk result (λ line. Some line ≡ certificate_line records now certificate) }
-    ensures looked { Looked C.Store store.old store.new }
+) -> Result<CertificateLine, DatabaseFault>
+    ensures { Learns C.Store tables.old tables.new result (λ records line.
+        Some line ≡ certificate_line records now certificate) }
 {
-    let revocation = store.revocation(certificate.serial)?;
-    let subscriber = subscriber_of(store, certificate.order)?;
-    let listing = listing_of(store, certificate.serial, &revocation)?;
+    let revocation = tables.revocation(certificate.serial)?;
+    let subscriber = subscriber_of(tables, certificate.order)?;
+    let listing = listing_of(tables, certificate.serial, &revocation)?;
     Ok(told_of(now, &certificate, revocation, subscriber, listing))
 }
 
@@ -132,14 +135,14 @@ fn certificate_line<C: Alter>(
 /// # Errors
 /// `Memory`; `Store` where the database fails, or where it has no order or no subscriber.
 pub(crate) fn certificate_row<C: Alter>(
-    store: &mut Store<C>,
+    tables: &mut Tables<C>,
     now: Moment,
     certificate: CertRow,
-) -> Result<Option<Row>, StoreFault>
-    ensures found { (records : Records) → ShowsKept C.Store store.old records → HasCleanDisk (state C.Store store.new) → IfOk result (λ row. row ≡ certificate_row records now certificate) }
-    ensures looked { Looked C.Store store.old store.new }
+) -> Result<Option<Row>, DatabaseFault>
+    ensures { Learns C.Store tables.old tables.new result (λ records row.
+        row ≡ certificate_row records now certificate) }
 {
-    let line = certificate_line(store, now, certificate)?;
+    let line = certificate_line(tables, now, certificate)?;
     Ok(Some(Row::Certificate(line)))
 }
 
@@ -148,16 +151,16 @@ pub(crate) fn certificate_row<C: Alter>(
 /// # Errors
 /// As of [`certificate_row`].
 pub(crate) fn ending_row<C: Alter>(
-    store: &mut Store<C>,
+    tables: &mut Tables<C>,
     now: Moment,
     before: Moment,
     certificate: CertRow,
-) -> Result<Option<Row>, StoreFault>
-    ensures found { (records : Records) → ShowsKept C.Store store.old records → HasCleanDisk (state C.Store store.new) → IfOk result (λ row. row ≡ ending_row records now before certificate) }
-    ensures looked { Looked C.Store store.old store.new }
+) -> Result<Option<Row>, DatabaseFault>
+    ensures { Learns C.Store tables.old tables.new result (λ records row.
+        row ≡ ending_row records now before certificate) }
 {
     if ends_before(&certificate, before) {
-        good_row(store, now, certificate)
+        good_row(tables, now, certificate)
     } else {
         Ok(None)
     }
@@ -172,14 +175,15 @@ fn ends_before(certificate: &CertRow, moment: Moment) -> bool
 
 /// The row of a certificate, where it is good.
 fn good_row<C: Alter>(
-    store: &mut Store<C>,
+    tables: &mut Tables<C>,
     now: Moment,
     certificate: CertRow,
-) -> Result<Option<Row>, StoreFault>
-    ensures found { (records : Records) → ShowsKept C.Store store.old records → HasCleanDisk (state C.Store store.new) → IfOk result (λ row. row ≡ cond (is_good (status_at records now certificate)) (certificate_row records now certificate) None) }
-    ensures looked { Looked C.Store store.old store.new }
+) -> Result<Option<Row>, DatabaseFault>
+    ensures { Learns C.Store tables.old tables.new result (λ records row.
+        row ≡ cond (is_good (status_at records now certificate))
+        (certificate_row records now certificate) None) }
 {
-    let line = certificate_line(store, now, certificate)?;
+    let line = certificate_line(tables, now, certificate)?;
     Ok(row_where_good(line))
 }
 
@@ -198,15 +202,15 @@ fn row_where_good(line: CertificateLine) -> Option<Row>
 /// # Errors
 /// As of [`certificate_row`]; `Store` also where it has no certificate.
 pub(crate) fn revoked_row<C: Alter>(
-    store: &mut Store<C>,
+    tables: &mut Tables<C>,
     now: Moment,
     revocation: RevocationRow,
-) -> Result<Option<Row>, StoreFault>
-    ensures found { (records : Records) → ShowsKept C.Store store.old records → HasCleanDisk (state C.Store store.new) → IfOk result (λ row. row ≡ revoked_row records now revocation) }
-    ensures looked { Looked C.Store store.old store.new }
+) -> Result<Option<Row>, DatabaseFault>
+    ensures { Learns C.Store tables.old tables.new result (λ records row.
+        row ≡ revoked_row records now revocation) }
 {
-    let certificate = certificate_at(store, revocation.serial)?;
-    certificate_row(store, now, certificate)
+    let certificate = certificate_at(tables, revocation.serial)?;
+    certificate_row(tables, now, certificate)
 }
 
 // ---- requests
@@ -216,20 +220,20 @@ pub(crate) fn revoked_row<C: Alter>(
 /// # Errors
 /// `Memory`; `Store` where the database fails, or where it has no certificate, no order or no subscriber.
 pub(crate) fn open_row<C: Alter>(
-    store: &mut Store<C>,
+    tables: &mut Tables<C>,
     now: Moment,
     request: RequestRow,
-) -> Result<Option<Row>, StoreFault>
-    ensures found { (records : Records) → Shows C.Store store.old records → HasCleanDisk (state C.Store store.new) → IfOk result (λ row. row ≡ open_row records now request) }
-    ensures looked { Looked C.Store store.old store.new }
+) -> Result<Option<Row>, DatabaseFault>
+    ensures { Learns C.Store tables.old tables.new result (λ records row.
+        row ≡ open_row records now request) }
 {
     if request.declined {
         return Ok(None);
     }
-    let certificate = certificate_at(store, request.serial)?;
-    let revocation = store.revocation(request.serial)?;
+    let certificate = certificate_at(tables, request.serial)?;
+    let revocation = tables.revocation(request.serial)?;
     if is_good(now, &certificate, revocation) {
-        request_row(store, request, certificate)
+        request_row(tables, request, certificate)
     } else {
         Ok(None)
     }
@@ -244,16 +248,16 @@ fn is_good(now: Moment, certificate: &CertRow, revocation: Option<RevocationRow>
 
 /// The row of a request, by its certificate.
 fn request_row<C: Alter>(
-    store: &mut Store<C>,
+    tables: &mut Tables<C>,
     request: RequestRow,
     certificate: CertRow,
-) -> Result<Option<Row>, StoreFault>
-    ensures found { (records : Records) → Shows C.Store store.old records → HasCleanDisk (state C.Store store.new) → Some certificate ≡ certificate_in records.certificates request.serial
-        → IfOk result (λ row. row ≡ option_map (λ line. kind.Request line) (request_line records request)) }
-    ensures looked { Looked C.Store store.old store.new }
+) -> Result<Option<Row>, DatabaseFault>
+    ensures { LooksUp C.Store tables.old tables.new (λ records.
+        Some certificate ≡ certificate_in records.certificates request.serial
+        → IfOk result (λ row. row ≡ option_map (λ line. kind.Request line) (request_line records request))) }
 {
     let due = due_of(&request)?;
-    let subscriber = subscriber_of(store, certificate.order)?;
+    let subscriber = subscriber_of(tables, certificate.order)?;
     Ok(Some(Row::Request(RequestLine {
         request,
         due,
@@ -264,11 +268,11 @@ fn request_row<C: Alter>(
 
 /// The moment up to which a request is to be decided. `Store` where it was received past the clock's end, as no request of a
 /// register was.
-fn due_of(request: &RequestRow) -> Result<Moment, StoreFault>
+fn due_of(request: &RequestRow) -> Result<Moment, DatabaseFault>
     ensures due { IfOk result (λ due. due ≡ deadline request.now) }
 {
     if request.received >= Moment::CLOCK_END {
-        return Err(StoreFault::Store);
+        return Err(DatabaseFault::Store);
     }
     Ok(request.deadline())
 }
@@ -278,16 +282,16 @@ fn due_of(request: &RequestRow) -> Result<Moment, StoreFault>
 /// # Errors
 /// As of [`open_row`].
 pub(crate) fn overdue_row<C: Alter>(
-    store: &mut Store<C>,
+    tables: &mut Tables<C>,
     now: Moment,
     request: RequestRow,
-) -> Result<Option<Row>, StoreFault>
-    ensures found { (records : Records) → Shows C.Store store.old records → HasCleanDisk (state C.Store store.new) → IfOk result (λ row. row ≡ overdue_row records now request) }
-    ensures looked { Looked C.Store store.old store.new }
+) -> Result<Option<Row>, DatabaseFault>
+    ensures { Learns C.Store tables.old tables.new result (λ records row.
+        row ≡ overdue_row records now request) }
 {
     let due = due_of(&request)?;
     if is_past(due, now) {
-        open_row(store, now, request)
+        open_row(tables, now, request)
     } else {
         Ok(None)
     }
@@ -307,14 +311,13 @@ fn is_past(due: Moment, now: Moment) -> bool
 /// # Errors
 /// `Memory`; `Store` where the database fails, or where it has no subscriber.
 pub(crate) fn order_row<C: Alter>(
-    store: &mut Store<C>,
+    tables: &mut Tables<C>,
     order: OrderRow,
-) -> Result<Option<Row>, StoreFault>
-    ensures found { (records : Records) → Shows C.Store store.old records → HasCleanDisk (state C.Store store.new) → IfOk result (λ row. row ≡ order_row records order) }
-    ensures looked { Looked C.Store store.old store.new }
+) -> Result<Option<Row>, DatabaseFault>
+    ensures { Learns C.Store tables.old tables.new result (λ records row. row ≡ order_row records order) }
 {
-    let subscriber = subscriber_at(store, order.subscriber)?;
-    let certificate = store.cert_of_order(order.id)?;
+    let subscriber = subscriber_at(tables, order.subscriber)?;
+    let certificate = tables.cert_of_order(order.id)?;
     let serial = serial_in(certificate);
     Ok(Some(Row::Order(OrderLine {
         order,

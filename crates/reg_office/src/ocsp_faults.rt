@@ -1,12 +1,10 @@
 //! Why a request that was read gets no response.
 
 ghost use Rattle.std.specs.Prelude.{◌≡◌, ◌⊎◌};
-ghost use Rattle.reg_crl.specs.declared.signer.SignFault.TheVariants.{Device, Memory};
 ghost use Rattle.reg_office.specs.declared.ocsp_faults.ResponseFault.TheVariants as to;
 
 use reg_core::{Memory, Refusal};
-use reg_crl::SignFault;
-use reg_tables::StoreFault;
+use reg_store_tables::DatabaseFault;
 use std::alloc::AllocError;
 
 /// Why a request that was read gets no response.
@@ -18,8 +16,6 @@ pub(crate) enum ResponseFault {
     Memory,
     /// The store failed, or holds what no register writes.
     Store,
-    /// The signer failed.
-    Signer,
 }
 
 impl From<Refusal> for ResponseFault {
@@ -46,24 +42,13 @@ impl From<AllocError> for ResponseFault {
     }
 }
 
-impl From<StoreFault> for ResponseFault {
+impl From<DatabaseFault> for ResponseFault {
     ghost from_gives = { λ _ fault. (fault ≡ to.Memory) ⊎ (fault ≡ to.Store) };
 
-    fn from(fault: StoreFault) -> ResponseFault {
+    fn from(fault: DatabaseFault) -> ResponseFault {
         match fault {
-            StoreFault::Memory => ResponseFault::Memory,
-            _ => ResponseFault::Store,
-        }
-    }
-}
-
-impl From<SignFault> for ResponseFault {
-    ghost from_gives = { λ cause fault. ((cause ≡ Device) × (fault ≡ to.Signer)) ⊎ ((cause ≡ Memory) × (fault ≡ to.Memory)) };
-
-    fn from(fault: SignFault) -> ResponseFault {
-        match fault {
-            SignFault::Device => ResponseFault::Signer,
-            SignFault::Memory => ResponseFault::Memory,
+            DatabaseFault::Memory => ResponseFault::Memory,
+            DatabaseFault::Store => ResponseFault::Store,
         }
     }
 }

@@ -1,12 +1,11 @@
 //! Orders.
 
 ghost use Rattle.reg_core.specs.declared.command.Command.TheVariants.{Order as EnterOrder};
-ghost use Rattle.reg_core.specs.Step.{refusal};
-ghost use Rattle.reg_office.specs.Looking.{IsAcceptance, LooksAndDecides};
+ghost use Rattle.reg_office.specs.Looking.{DecidesCommand};
 
 use crate::decision_head::{Decided, head_at};
 use reg_core::{Change, Fault, Moment, Reply, decide_order};
-use reg_store::{Store, Table};
+use reg_store::{Table, Tables};
 use sqlite::Alter;
 
 /// Decides to enter a subscriber's order.
@@ -14,15 +13,15 @@ use sqlite::Alter;
 /// # Errors
 /// The refusals of [`decide_order`]; `Memory`, `Store`.
 pub(crate) fn enter_order<C: Alter>(
-    store: &mut Store<C>,
+    tables: &mut Tables<C>,
     now: Moment,
     subscriber: u64,
     days: u64,
 ) -> Result<Decided, Fault>
-    ensures { LooksAndDecides C.Store store.old store.new (λ records. refusal records now (EnterOrder subscriber days)) (IsAcceptance now (EnterOrder subscriber days)) result }
+    ensures { DecidesCommand C.Store tables.old tables.new now (EnterOrder subscriber days) result }
 {
-    let head = head_at(store, now, Table::Orders)?;
-    let known = store.subscriber(subscriber)?;
+    let head = head_at(tables, now, Table::Orders)?;
+    let known = tables.subscriber(subscriber)?;
     let row = decide_order(&head, known, days)?;
     Ok((Reply::Order { id: row.id }, Change::Order(row)))
 }

@@ -1,28 +1,22 @@
 //! Pages of lists. A page looks at the first rows past a key, as many as it may, and has those of them that the list selects: so
 //! it costs no more than these, whatever the list.
 
-ghost use Rattle.std.specs.Prelude.{◌≡◌, ℕ, ◌+◌, ◌++◌, ◌∷◌, ◌-◌, ◌==◌, ◌&&◌, nat_lt, [], Some, None, cond, filter_map, length, min, option_map, slice_get, IfOk, OnOk};
-ghost use Rattle.sqlite.specs.Held.{state};
-ghost use Rattle.sqlite.specs.State.{HasCleanDisk};
-ghost use Rattle.reg_core.specs.Checks.{clock_checks, first_of_all};
-ghost use Rattle.reg_core.specs.Records.{Records};
-ghost use Rattle.reg_lists.specs.Lists.{revoked_row};
-ghost use Rattle.reg_lists.specs.Pages.{IsPage};
-ghost use Rattle.reg_lists.specs.declared.cursor.Cursor.TheVariants as cursor;
-ghost use Rattle.reg_lists.specs.declared.rows.Row.TheVariants as kind;
-ghost use Rattle.reg_tables.specs.Kept.{ShowsKept};
-ghost use Rattle.reg_tables.specs.Shows.{Shows};
-ghost use Rattle.reg_tables.specs.Stays.{Looked};
-ghost use Rattle.reg_office.specs.Looking.{LooksAndDecides, LooksUp};
-ghost use Rattle.reg_office.specs.Numbered.{certificate_listed, certificates_after, cursor_of, row_at, numbered_table};
+ghost use Rattle.std.specs.Prelude.{◌≡◌, ℕ, ◌+◌, ◌++◌, ◌∷◌, ◌-◌, ◌==◌, ◌&&◌, nat_lt, [], Some, None, cond, filter_map, min, option_map, IfOk, OnOk};
+ghost use Rattle.reg_core_lists.specs.Lists.{revoked_row};
+ghost use Rattle.reg_core_lists.specs.Pages.{IsPage};
+ghost use Rattle.reg_core_lists.specs.declared.cursor.Cursor.TheVariants as cursor;
+ghost use Rattle.reg_core_lists.specs.declared.rows.Row.TheVariants as kind;
+ghost use Rattle.reg_office.specs.Looking.{LooksAndDecides, clock_refusal};
+ghost use Rattle.reg_store_tables.specs.LookUps.{Learns, LooksUp};
+ghost use Rattle.reg_office.specs.Numbered.{certificate_listed, certificates_after, cursor_of, last_of_full, row_at, numbered_table};
 
 use crate::lines::{
     certificate_row, ending_row, open_row, order_at, order_row, overdue_row, request_at,
     revoked_row, subscriber_at,
 };
 use reg_core::{CertRow, CrlRow, Fault, Moment, RevocationRow, Serial, clock};
-use reg_lists::{Cursor, Page, Row};
-use reg_store::{Store, StoreFault, Table};
+use reg_core_lists::{Cursor, Page, Row};
+use reg_store::{DatabaseFault, Table, Tables};
 use sqlite::Alter;
 use std::alloc::Global;
 
@@ -40,50 +34,50 @@ pub(crate) enum Numbered {
 /// # Errors
 /// `ClockEnd`, `ClockBack`; `Memory`; `Store` where the database fails, or where its rows are ones that no register writes.
 pub(crate) fn page<C: Alter>(
-    store: &mut Store<C>,
+    tables: &mut Tables<C>,
     alloc: Global,
     now: Moment,
     from: Cursor,
     most: u64,
 ) -> Result<Page, Fault>
-    ensures { LooksAndDecides C.Store store.old store.new (λ records. first_of_all (clock_checks now records.last))
-        (λ records given. (first_of_all (clock_checks now records.last) ≡ None) × IsPage records now most from given) result }
+    ensures { LooksAndDecides C.Store tables.old tables.new (λ records. clock_refusal records now)
+        (λ records given. (clock_refusal records now ≡ None) × IsPage records now most from given) result }
 {
-    let last = store.last()?;
+    let last = tables.last()?;
     clock(now, last)?;
-    Ok(page_of(store, alloc, now, from, most)?)
+    Ok(page_of(tables, alloc, now, from, most)?)
 }
 
 /// The page, whatever the clock says to its moment.
 fn page_of<C: Alter>(
-    store: &mut Store<C>,
+    tables: &mut Tables<C>,
     alloc: Global,
     now: Moment,
     from: Cursor,
     most: u64,
-) -> Result<Page, StoreFault>
-    ensures { LooksUp C.Store store.old store.new (λ records. IfOk result (IsPage records now most from)) }
+) -> Result<Page, DatabaseFault>
+    ensures { Learns C.Store tables.old tables.new result (λ records. IsPage records now most from) }
 {
     match from {
-        Cursor::Revoked(after) => revoked(store, alloc, now, after, most),
-        Cursor::Certificates(after) => certificates(store, alloc, now, None, after, most),
+        Cursor::Revoked(after) => revoked(tables, alloc, now, after, most),
+        Cursor::Certificates(after) => certificates(tables, alloc, now, None, after, most),
         Cursor::Ending { before, after } => {
-            certificates(store, alloc, now, Some(before), after, most)
+            certificates(tables, alloc, now, Some(before), after, most)
         }
         Cursor::OpenRequests(after) => {
-            page_by_ids(store, alloc, now, Numbered::OpenRequests, after, most)
+            page_by_ids(tables, alloc, now, Numbered::OpenRequests, after, most)
         }
-        Cursor::Overdue(after) => page_by_ids(store, alloc, now, Numbered::Overdue, after, most),
+        Cursor::Overdue(after) => page_by_ids(tables, alloc, now, Numbered::Overdue, after, most),
         Cursor::Subscribers(after) => {
-            page_by_ids(store, alloc, now, Numbered::Subscribers, after, most)
+            page_by_ids(tables, alloc, now, Numbered::Subscribers, after, most)
         }
-        Cursor::Orders(after) => page_by_ids(store, alloc, now, Numbered::Orders, after, most),
-        Cursor::Crls(after) => crls(store, alloc, after, most),
+        Cursor::Orders(after) => page_by_ids(tables, alloc, now, Numbered::Orders, after, most),
+        Cursor::Crls(after) => crls(tables, alloc, after, most),
     }
 }
 
 /// Puts a row behind others, where there is one.
-fn put(rows: &mut Vec<Row>, row: Option<Row>) -> Result<(), StoreFault>
+fn put(rows: &mut Vec<Row>, row: Option<Row>) -> Result<(), DatabaseFault>
     ensures ok { OnOk result (rows.new.items ≡ rows.old.items ++ filter_map (λ one. one) (row ∷ [])) }
 {
     match row {
@@ -93,12 +87,12 @@ fn put(rows: &mut Vec<Row>, row: Option<Row>) -> Result<(), StoreFault>
 }
 
 /// Puts a row behind others.
-fn push(rows: &mut Vec<Row>, row: Row) -> Result<(), StoreFault>
+fn push(rows: &mut Vec<Row>, row: Row) -> Result<(), DatabaseFault>
     ensures ok { OnOk result (rows.new.items ≡ rows.old.items ++ row ∷ []) }
 {
     match rows.extend_from_slice(&[row]) {
         Ok(()) => Ok(()),
-        Err(_) => Err(StoreFault::Memory),
+        Err(_) => Err(DatabaseFault::Memory),
     }
 }
 
@@ -106,17 +100,18 @@ fn push(rows: &mut Vec<Row>, row: Row) -> Result<(), StoreFault>
 
 /// A page of the certificates, or of those that are good and end before a moment.
 fn certificates<C: Alter>(
-    store: &mut Store<C>,
+    tables: &mut Tables<C>,
     alloc: Global,
     now: Moment,
     before: Option<Moment>,
     after: Option<Serial>,
     most: u64,
-) -> Result<Page, StoreFault>
-    ensures { LooksUp C.Store store.old store.new (λ records. IfOk result (IsPage records now most (certificates_after before after))) }
+) -> Result<Page, DatabaseFault>
+    ensures { Learns C.Store tables.old tables.new result (λ records.
+        IsPage records now most (certificates_after before after)) }
 {
-    let found = store.certs_after(after, most)?;
-    let rows = certificate_rows(store, alloc, now, &before, &found)?;
+    let found = tables.certs_after(after, most)?;
+    let rows = certificate_rows(tables, alloc, now, &before, &found)?;
     let last = last_certificate(&found, most);
     let next = certificates_behind(&before, last);
     Ok(Page { rows, next })
@@ -138,17 +133,18 @@ fn certificates_behind(before: &Option<Moment>, last: Option<Serial>) -> Option<
 
 /// The rows of these certificates, or of those that are good and end before a moment.
 fn certificate_rows<C: Alter>(
-    store: &mut Store<C>,
+    tables: &mut Tables<C>,
     alloc: Global,
     now: Moment,
     before: &Option<Moment>,
     found: &[CertRow],
-) -> Result<Vec<Row>, StoreFault>
-    ensures { LooksUp C.Store store.old store.new (λ records. IfOk result (λ rows. rows.items ≡ filter_map (certificate_listed records now before.now) found.now)) }
+) -> Result<Vec<Row>, DatabaseFault>
+    ensures { Learns C.Store tables.old tables.new result (λ records rows.
+        rows.items ≡ filter_map (certificate_listed records now before.now) found.now) }
 {
     let mut rows = Vec::new(alloc);
     for certificate in found {
-        let row = certificate_listed(store, now, before, *certificate)?;
+        let row = certificate_listed(tables, now, before, *certificate)?;
         put(&mut rows, row)?;
     }
     Ok(rows)
@@ -156,23 +152,23 @@ fn certificate_rows<C: Alter>(
 
 /// The row of a certificate, where the list has it.
 fn certificate_listed<C: Alter>(
-    store: &mut Store<C>,
+    tables: &mut Tables<C>,
     now: Moment,
     before: &Option<Moment>,
     certificate: CertRow,
-) -> Result<Option<Row>, StoreFault>
-    ensures found { (records : Records) → ShowsKept C.Store store.old records → HasCleanDisk (state C.Store store.new) → IfOk result (λ row. row ≡ certificate_listed records now before.now certificate) }
-    ensures looked { Looked C.Store store.old store.new }
+) -> Result<Option<Row>, DatabaseFault>
+    ensures { Learns C.Store tables.old tables.new result (λ records row.
+        row ≡ certificate_listed records now before.now certificate) }
 {
     match before {
-        None => certificate_row(store, now, certificate),
-        Some(before) => ending_row(store, now, *before, certificate),
+        None => certificate_row(tables, now, certificate),
+        Some(before) => ending_row(tables, now, *before, certificate),
     }
 }
 
 /// The serial number of the last of these certificates, where they are as many as a page may look at.
 fn last_certificate(found: &[CertRow], most: u64) -> Option<Serial>
-    ensures { result ≡ cond (length found.now == most) (option_map (λ row. row.serial) (slice_get found.now (length found.now - 1))) None }
+    ensures { result ≡ last_of_full (λ row. row.serial) most found.now }
 {
     if found.len() as u64 != most {
         return None;
@@ -185,16 +181,17 @@ fn last_certificate(found: &[CertRow], most: u64) -> Option<Serial>
 
 /// A page of what is revoked.
 fn revoked<C: Alter>(
-    store: &mut Store<C>,
+    tables: &mut Tables<C>,
     alloc: Global,
     now: Moment,
     after: Option<Serial>,
     most: u64,
-) -> Result<Page, StoreFault>
-    ensures { LooksUp C.Store store.old store.new (λ records. IfOk result (IsPage records now most (cursor.Revoked after))) }
+) -> Result<Page, DatabaseFault>
+    ensures { Learns C.Store tables.old tables.new result (λ records.
+        IsPage records now most (cursor.Revoked after)) }
 {
-    let found = store.revocations_after(after, most)?;
-    let rows = revoked_rows(store, alloc, now, &found)?;
+    let found = tables.revocations_after(after, most)?;
+    let rows = revoked_rows(tables, alloc, now, &found)?;
     let last = last_revocation(&found, most);
     let next = revoked_behind(last);
     Ok(Page { rows, next })
@@ -209,16 +206,17 @@ fn revoked_behind(last: Option<Serial>) -> Option<Cursor>
 
 /// The rows of these revocations.
 fn revoked_rows<C: Alter>(
-    store: &mut Store<C>,
+    tables: &mut Tables<C>,
     alloc: Global,
     now: Moment,
     found: &[RevocationRow],
-) -> Result<Vec<Row>, StoreFault>
-    ensures { LooksUp C.Store store.old store.new (λ records. IfOk result (λ rows. rows.items ≡ filter_map (revoked_row records now) found.now)) }
+) -> Result<Vec<Row>, DatabaseFault>
+    ensures { Learns C.Store tables.old tables.new result (λ records rows.
+        rows.items ≡ filter_map (revoked_row records now) found.now) }
 {
     let mut rows = Vec::new(alloc);
     for revocation in found {
-        let row = revoked_row(store, now, *revocation)?;
+        let row = revoked_row(tables, now, *revocation)?;
         put(&mut rows, row)?;
     }
     Ok(rows)
@@ -226,7 +224,7 @@ fn revoked_rows<C: Alter>(
 
 /// The serial number of the last of these revocations, where they are as many as a page may look at.
 fn last_revocation(found: &[RevocationRow], most: u64) -> Option<Serial>
-    ensures { result ≡ cond (length found.now == most) (option_map (λ row. row.serial) (slice_get found.now (length found.now - 1))) None }
+    ensures { result ≡ last_of_full (λ row. row.serial) most found.now }
 {
     if found.len() as u64 != most {
         return None;
@@ -241,14 +239,15 @@ fn last_revocation(found: &[RevocationRow], most: u64) -> Option<Serial>
 
 /// A page of the CRLs.
 fn crls<C: Alter>(
-    store: &mut Store<C>,
+    tables: &mut Tables<C>,
     alloc: Global,
     after: u64,
     most: u64,
-) -> Result<Page, StoreFault>
-    ensures { LooksUp C.Store store.old store.new (λ records. (now : ℕ) → IfOk result (IsPage records now most (cursor.Crls after))) }
+) -> Result<Page, DatabaseFault>
+    ensures { LooksUp C.Store tables.old tables.new (λ records.
+        (now : ℕ) → IfOk result (IsPage records now most (cursor.Crls after))) }
 {
-    let found = store.crls_after(after, most)?;
+    let found = tables.crls_after(after, most)?;
     let rows = crl_rows(alloc, &found)?;
     let last = last_crl(&found, most);
     let next = crls_behind(last);
@@ -263,7 +262,7 @@ fn crls_behind(last: Option<u64>) -> Option<Cursor>
 }
 
 /// The rows of these CRLs.
-fn crl_rows(alloc: Global, found: &[CrlRow]) -> Result<Vec<Row>, StoreFault>
+fn crl_rows(alloc: Global, found: &[CrlRow]) -> Result<Vec<Row>, DatabaseFault>
     ensures found { IfOk result (λ rows. rows.items ≡ filter_map (λ crl. Some (kind.Crl crl)) found.now) }
 {
     let mut rows = Vec::new(alloc);
@@ -275,7 +274,7 @@ fn crl_rows(alloc: Global, found: &[CrlRow]) -> Result<Vec<Row>, StoreFault>
 
 /// The number of the last of these CRLs, where they are as many as a page may look at.
 fn last_crl(found: &[CrlRow], most: u64) -> Option<u64>
-    ensures { result ≡ cond (length found.now == most) (option_map (λ row. row.number) (slice_get found.now (length found.now - 1))) None }
+    ensures { result ≡ last_of_full (λ row. row.number) most found.now }
 {
     if found.len() as u64 != most {
         return None;
@@ -290,20 +289,21 @@ fn last_crl(found: &[CrlRow], most: u64) -> Option<u64>
 
 /// A page of a list whose rows are numbered: the next ids, up to the last that there is.
 fn page_by_ids<C: Alter>(
-    store: &mut Store<C>,
+    tables: &mut Tables<C>,
     alloc: Global,
     now: Moment,
     list: Numbered,
     after: u64,
     most: u64,
-) -> Result<Page, StoreFault>
-    ensures { LooksUp C.Store store.old store.new (λ records. IfOk result (IsPage records now most (cursor_of list after))) }
+) -> Result<Page, DatabaseFault>
+    ensures { Learns C.Store tables.old tables.new result (λ records.
+        IsPage records now most (cursor_of list after)) }
 {
-    let held = store.held(table_of(list))?;
+    let held = tables.held(table_of(list))?;
     let end = end_of(held, after, most);
     let mut rows = Vec::new(alloc);
     for before in after..end {
-        let row = row_at(store, now, list, before + 1)?;
+        let row = row_at(tables, now, list, before + 1)?;
         put(&mut rows, row)?;
     }
     let next = next_of(list, after, end, most);
@@ -357,27 +357,26 @@ fn cursor_of(list: Numbered, after: u64) -> Cursor
 
 /// The row of a list that the record with a number is, where the list has it.
 fn row_at<C: Alter>(
-    store: &mut Store<C>,
+    tables: &mut Tables<C>,
     now: Moment,
     list: Numbered,
     id: u64,
-) -> Result<Option<Row>, StoreFault>
-    ensures found { (records : Records) → Shows C.Store store.old records → HasCleanDisk (state C.Store store.new) → IfOk result (λ row. row ≡ row_at records now list id) }
-    ensures looked { Looked C.Store store.old store.new }
+) -> Result<Option<Row>, DatabaseFault>
+    ensures { Learns C.Store tables.old tables.new result (λ records row. row ≡ row_at records now list id) }
 {
     match list {
         Numbered::OpenRequests => {
-            let open = request_at(store, id)?;
-            open_row(store, now, open)
+            let open = request_at(tables, id)?;
+            open_row(tables, now, open)
         }
         Numbered::Overdue => {
-            let late = request_at(store, id)?;
-            overdue_row(store, now, late)
+            let late = request_at(tables, id)?;
+            overdue_row(tables, now, late)
         }
-        Numbered::Subscribers => Ok(Some(Row::Subscriber(subscriber_at(store, id)?))),
+        Numbered::Subscribers => Ok(Some(Row::Subscriber(subscriber_at(tables, id)?))),
         Numbered::Orders => {
-            let order = order_at(store, id)?;
-            order_row(store, order)
+            let order = order_at(tables, id)?;
+            order_row(tables, order)
         }
     }
 }

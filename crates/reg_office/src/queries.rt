@@ -1,18 +1,19 @@
 //! Queries.
 
-ghost use Rattle.std.specs.Prelude.{◌≡◌, ◌≤◌, ◌<◌, ◌++◌, None, IfOk, IfSome, IsSome};
+ghost use Rattle.std.specs.Prelude.{◌≡◌, ◌≤◌, ◌<◌, None, IfOk, IfSome, IsSome};
 ghost use Rattle.reg_core.specs.Calendar.{clock_end};
-ghost use Rattle.reg_core.specs.Checks.{clock_checks, first_of_all};
+ghost use Rattle.reg_core.specs.Checks.{first_of_all};
 ghost use Rattle.reg_core.specs.Due.{due, earliest, unlisted};
 ghost use Rattle.reg_core.specs.Queries.{listing as listing_of, query_checks, query_reply};
 ghost use Rattle.reg_core.specs.Records.{certificate_in};
 ghost use Rattle.reg_core.specs.declared.command.Query.TheVariants.{Listing as AskListing};
-ghost use Rattle.reg_office.specs.Looking.{LooksAndDecides, LooksUp};
+ghost use Rattle.reg_office.specs.Looking.{AnswersQuery, LooksAndDecides};
+ghost use Rattle.reg_store_tables.specs.LookUps.{Learns};
 
 use crate::decision_head::latest_crl;
 use crate::statuses::status_at;
 use reg_core::{Fault, Listing, Moment, Query, Refusal, Reply, Serial, clock, due_of};
-use reg_store::{Store, StoreFault};
+use reg_store::{DatabaseFault, Tables};
 use sqlite::Alter;
 
 /// Answers a query.
@@ -21,61 +22,64 @@ use sqlite::Alter;
 /// `ClockBack` before the last accepted moment; `UnknownSerial` for the listing of a serial number that is not
 /// registered; `Memory`, `Store`.
 pub(crate) fn answer<C: Alter>(
-    store: &mut Store<C>,
+    tables: &mut Tables<C>,
     now: Moment,
     query: &Query,
 ) -> Result<Reply, Fault>
-    ensures { LooksAndDecides C.Store store.old store.new (λ records. first_of_all (clock_checks now records.last ++ query_checks records query.now))
-        (λ records reply. (first_of_all (clock_checks now records.last ++ query_checks records query.now) ≡ None) × (query_reply records now query.now ≡ reply)) result }
+    ensures { AnswersQuery C.Store tables.old tables.new now query.now result }
 {
-    let last = store.last()?;
+    let last = tables.last()?;
     clock(now, last)?;
-    reply_to(store, now, query)
+    reply_to(tables, now, query)
 }
 
 /// The reply to a query at a moment that the clock takes.
-fn reply_to<C: Alter>(store: &mut Store<C>, now: Moment, query: &Query) -> Result<Reply, Fault>
-    ensures { LooksAndDecides C.Store store.old store.new (λ records. first_of_all (query_checks records query.now))
-        (λ records reply. records.last ≤ now → (first_of_all (query_checks records query.now) ≡ None) × (query_reply records now query.now ≡ reply)) result }
+fn reply_to<C: Alter>(tables: &mut Tables<C>, now: Moment, query: &Query) -> Result<Reply, Fault>
+    ensures { LooksAndDecides C.Store tables.old tables.new
+        (λ records. first_of_all (query_checks records query.now))
+        (λ records reply. records.last ≤ now → (first_of_all (query_checks records query.now) ≡ None)
+        × (query_reply records now query.now ≡ reply)) result }
 {
     match *query {
-        Query::Status(serial) => Ok(Reply::Status(status_at(store, serial, now)?)),
-        Query::Counts => Ok(Reply::Counts(store.counts(now)?)),
-        Query::Listing(serial) => Ok(Reply::Listing(listing(store, serial)?)),
-        Query::Overdue => Ok(Reply::Overdue(store.open_past_due(now)?)),
-        Query::NextCrl => Ok(Reply::NextCrl(next_crl(store)?)),
+        Query::Status(serial) => Ok(Reply::Status(status_at(tables, serial, now)?)),
+        Query::Counts => Ok(Reply::Counts(tables.counts(now)?)),
+        Query::Listing(serial) => Ok(Reply::Listing(listing(tables, serial)?)),
+        Query::Overdue => Ok(Reply::Overdue(tables.open_past_due(now)?)),
+        Query::NextCrl => Ok(Reply::NextCrl(next_crl(tables)?)),
     }
 }
 
 /// Which CRLs list a serial number, one that is registered.
-fn listing<C: Alter>(store: &mut Store<C>, serial: Serial) -> Result<Option<Listing>, Fault>
-    ensures { LooksAndDecides C.Store store.old store.new (λ records. first_of_all (query_checks records (AskListing serial)))
-        (λ records found. IsSome (certificate_in records.certificates serial) × (found ≡ listing_of records serial)) result }
+fn listing<C: Alter>(tables: &mut Tables<C>, serial: Serial) -> Result<Option<Listing>, Fault>
+    ensures { LooksAndDecides C.Store tables.old tables.new
+        (λ records. first_of_all (query_checks records (AskListing serial))) (λ records found.
+        IsSome (certificate_in records.certificates serial) × (found ≡ listing_of records serial)) result }
 {
-    match store.cert(serial)? {
+    match tables.cert(serial)? {
         None => Err(Fault::Refused(Refusal::UnknownSerial)),
-        Some(_) => Ok(store.listing(serial)?),
+        Some(_) => Ok(tables.listing(serial)?),
     }
 }
 
 /// The moment of the earliest revocation that no CRL can have listed yet.
-fn earliest_unlisted<C: Alter>(store: &mut Store<C>) -> Result<Option<Moment>, StoreFault>
-    ensures looks { LooksUp C.Store store.old store.new (λ records. IfOk result (λ at. at ≡ earliest (unlisted records))) }
+fn earliest_unlisted<C: Alter>(tables: &mut Tables<C>) -> Result<Option<Moment>, DatabaseFault>
+    ensures looks { Learns C.Store tables.old tables.new result (λ records at.
+        at ≡ earliest (unlisted records)) }
     ensures within { IfOk result (λ found. IfSome found (λ at. at < clock_end)) }
 {
-    let earliest = store.earliest_unlisted()?;
+    let earliest = tables.earliest_unlisted()?;
     match earliest {
-        Some(at) if at >= Moment::CLOCK_END => Err(StoreFault::Store),
+        Some(at) if at >= Moment::CLOCK_END => Err(DatabaseFault::Store),
         _ => Ok(earliest),
     }
 }
 
 /// When the next CRL is due.
-fn next_crl<C: Alter>(store: &mut Store<C>) -> Result<Option<Moment>, StoreFault>
-    ensures { LooksUp C.Store store.old store.new (λ records. IfOk result (λ at. at ≡ due records)) }
+fn next_crl<C: Alter>(tables: &mut Tables<C>) -> Result<Option<Moment>, DatabaseFault>
+    ensures { Learns C.Store tables.old tables.new result (λ records at. at ≡ due records) }
 {
-    let policy = store.policy()?;
-    let latest = latest_crl(store)?;
-    let earliest = earliest_unlisted(store)?;
+    let policy = tables.policy()?;
+    let latest = latest_crl(tables)?;
+    let earliest = earliest_unlisted(tables)?;
     Ok(due_of(&policy, latest, earliest))
 }

@@ -1,7 +1,9 @@
 //! Who answers OCSP requests for an office.
 
 ghost use Rattle.std.specs.Prelude.{◌≡◌, ◌≤◌, None, Some, IfSome, length, option_copied, option_map};
+ghost use Rattle.reg_office.specs.Answering.{failures_of};
 
+use reg_crl::Signer;
 use reg_ocsp::Certificate;
 
 /// Who answers the OCSP requests of an office (RFC 6960 2.2, 4.2.2.2).
@@ -51,5 +53,15 @@ pub(crate) fn of_delegate(certificate: &Certificate) -> Naming<'_>
     Naming {
         own_key: Some(certificate.key()),
         certificate: Some(certificate.der()),
+    }
+}
+
+/// How many failures the signer of OCSP answers has counted, where the signer of CRLs has counted so many.
+pub(crate) fn failures_in<S: Signer>(responder: &Responder<S>, crls: u64) -> u64
+    ensures { result ≡ failures_of S.failure_count crls responder.now }
+{
+    match responder {
+        Responder::Issuer(_) => crls,
+        Responder::Delegate(own, _) => own.failures(),
     }
 }

@@ -1,19 +1,19 @@
 //! Lists of commands.
 
-ghost use Rattle.std.specs.Prelude.{◌≡◌, ◌≤◌, ◌++◌, length, List, Result, OnOk, OnErr, IsTrue};
+ghost use Rattle.std.specs.Prelude.{◌≡◌, ◌≤◌, length, OnErr, IsTrue};
 ghost use Rattle.sqlite.specs.Held.{state};
 ghost use Rattle.sqlite.specs.State.{HasCleanDisk, IsLive};
 ghost use Rattle.sqlite_trees.specs.Tree.{Trees};
 ghost use Rattle.sqlite_trees.specs.View.{doubt};
 ghost use Rattle.reg_core.specs.Records.{Records};
-ghost use Rattle.reg_core.specs.declared.command.Reply.{Reply};
-ghost use Rattle.reg_core.specs.declared.refusal.Fault.{Fault};
 ghost use Rattle.reg_office.specs.AfterStoppedCommand.{IsPartlyRun};
-ghost use Rattle.reg_office.specs.Stands.{Stands, HasRun};
+ghost use Rattle.reg_office.specs.Calls.{StandsIn};
+ghost use Rattle.reg_office.specs.Stands.{Appends, HasRun};
 
 use crate::office::Office;
 use reg_core::{Command, Memory, Moment, Outcome};
 use reg_crl::Signer;
+use reg_office_api::Office as _;
 use sqlite::Alter;
 use std::alloc::Global;
 
@@ -29,17 +29,21 @@ impl<C: Alter, S: Signer> Office<C, S> {
         commands: &[(Moment, Command)],
         outcomes: &mut Vec<Outcome>,
     ) -> Result<(), Memory>
-        ensures each { OnOk result ((came : List (Result Reply Fault)) × (outcomes.new.items ≡ outcomes.old.items ++ came) × (length came ≡ length commands.now)) }
-        ensures ran { (records : Records) → Stands C.Store S.signs self.old.store (S.identity self.old.signer) records
+        ensures each { Appends result outcomes.old.items outcomes.new.items
+            (λ came. length came ≡ length commands.now) }
+        ensures ran { (records : Records) → StandsIn C.Store S.Signer self.old records
             → HasCleanDisk (state C.Store self.new.store)
-            → OnOk result ((came : List (Result Reply Fault)) × (outcomes.new.items ≡ outcomes.old.items ++ came)
-            × HasRun C.Store S.signs self.new.store (S.identity self.new.signer) records commands.now came) }
+            → Appends result outcomes.old.items outcomes.new.items (λ came.
+            HasRun C.Store S.signs self.new.store (S.identity self.new.signer) records commands.now came) }
         ensures none_ran { OnErr result ((outcomes.new.items ≡ outcomes.old.items) × (self.new ≡ self.old)) }
-        ensures survives { (records : Records) → Stands C.Store S.signs self.old.store (S.identity self.old.signer) records
-            → IsTrue (state C.Store self.old.store).is_open → IsLive (state C.Store self.old.store) → HasCleanDisk (state C.Store self.new.store)
-            → OnOk result ((came : List (Result Reply Fault)) × (outcomes.new.items ≡ outcomes.old.items ++ came)
-            × ((trees : Trees) → (state C.Store self.new.store).may_leave trees → IsPartlyRun S.signs (S.identity self.old.signer) records commands.now came trees)) }
-        ensures clean { doubt (state C.Store self.old.store).is_clean ≤ doubt (state C.Store self.new.store).is_clean }
+        ensures survives { (records : Records) → StandsIn C.Store S.Signer self.old records
+            → IsTrue (state C.Store self.old.store).is_open → IsLive (state C.Store self.old.store)
+            → HasCleanDisk (state C.Store self.new.store)
+            → Appends result outcomes.old.items outcomes.new.items (λ came.
+            (trees : Trees) → (state C.Store self.new.store).may_leave trees
+            → IsPartlyRun S.signs (S.identity self.old.signer) records commands.now came trees) }
+        ensures clean { doubt (state C.Store self.old.store).is_clean
+            ≤ doubt (state C.Store self.new.store).is_clean }
         ensures same_identity { S.identity self.new.signer ≡ S.identity self.old.signer }
         ensures same_responder { self.new.responder ≡ self.old.responder }
     {

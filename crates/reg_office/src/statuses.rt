@@ -4,34 +4,35 @@ ghost use Rattle.std.specs.Prelude.{◌≡◌, ◌⊎◌, map, IfOk, IfErr};
 ghost use Rattle.std.specs.List.{AllByRecursion};
 ghost use Rattle.reg_core.specs.Status as spec;
 ghost use Rattle.reg_ocsp.specs.Views.{id_seen};
-ghost use Rattle.reg_calls.specs.Ocsp.{IsTold};
-ghost use Rattle.reg_office.specs.Looking.{LooksUp};
+ghost use Rattle.reg_office_api.specs.Ocsp.{IsTold};
+ghost use Rattle.reg_store_tables.specs.LookUps.{Learns, LooksUp};
 
 use crate::decision_head::certificate_of;
 use crate::ocsp_faults::ResponseFault;
 use reg_core::{Moment, Serial, Status, status_of};
 use reg_der::Issuer;
 use reg_ocsp::{CertId, matches};
-use reg_store::{Store, StoreFault};
+use reg_store::{DatabaseFault, Tables};
 use sqlite::Alter;
 use std::alloc::Global;
 
 /// Each CertID with what it is told at a moment, in their order.
 pub(crate) fn answers<'a, C: Alter>(
     alloc: Global,
-    store: &mut Store<C>,
+    tables: &mut Tables<C>,
     issuer: &Issuer,
     now: Moment,
     ids: &[CertId<'a>],
 ) -> Result<Vec<(CertId<'a>, Status)>, ResponseFault>
     ensures ids { IfOk result (λ answers. map (λ answer. answer.0) answers.items ≡ ids.now) }
-    ensures looks { LooksUp C.Store store.old store.new (λ records. issuer.now ≡ records.issuer
-        → IfOk result (λ answers. AllByRecursion (λ answer. IsTold records now (id_seen answer.0) answer.1) answers.items)) }
+    ensures looks { LooksUp C.Store tables.old tables.new (λ records.
+        issuer.now ≡ records.issuer → IfOk result (λ answers.
+        AllByRecursion (λ answer. IsTold records now (id_seen answer.0) answer.1) answers.items)) }
     ensures faults { IfErr result (λ fault. (fault ≡ ResponseFault.Memory) ⊎ (fault ≡ ResponseFault.Store)) }
 {
     let mut answers = Vec::new(alloc);
     for id in ids {
-        let status = told(store, issuer, now, id)?;
+        let status = told(tables, issuer, now, id)?;
         answers.extend_from_slice(&[(*id, status)])?;
     }
     Ok(answers)
@@ -40,28 +41,30 @@ pub(crate) fn answers<'a, C: Alter>(
 /// What a CertID is told at a moment: the status of the issuer's certificate that it names, `Unknown` where it names
 /// none.
 fn told<C: Alter>(
-    store: &mut Store<C>,
+    tables: &mut Tables<C>,
     issuer: &Issuer,
     now: Moment,
     id: &CertId<'_>,
 ) -> Result<Status, ResponseFault>
-    ensures looks { LooksUp C.Store store.old store.new (λ records. issuer.now ≡ records.issuer → IfOk result (λ told. IsTold records now (id_seen id.now) told)) }
+    ensures looks { LooksUp C.Store tables.old tables.new (λ records.
+        issuer.now ≡ records.issuer → IfOk result (λ told. IsTold records now (id_seen id.now) told)) }
     ensures faults { IfErr result (λ fault. (fault ≡ ResponseFault.Memory) ⊎ (fault ≡ ResponseFault.Store)) }
 {
     match matches(issuer, id) {
-        Some(serial) => Ok(status_at(store, serial, now)?),
+        Some(serial) => Ok(status_at(tables, serial, now)?),
         None => Ok(Status::Unknown),
     }
 }
 
 /// The status of a serial number at a moment.
 pub(crate) fn status_at<C: Alter>(
-    store: &mut Store<C>,
+    tables: &mut Tables<C>,
     serial: Serial,
     now: Moment,
-) -> Result<Status, StoreFault>
-    ensures { LooksUp C.Store store.old store.new (λ records. IfOk result (λ status. status ≡ spec.status records serial now)) }
+) -> Result<Status, DatabaseFault>
+    ensures { Learns C.Store tables.old tables.new result (λ records status.
+        status ≡ spec.status records serial now) }
 {
-    let (certificate, revocation) = certificate_of(store, serial)?;
+    let (certificate, revocation) = certificate_of(tables, serial)?;
     Ok(status_of(now, certificate, revocation))
 }

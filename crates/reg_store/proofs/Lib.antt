@@ -1,2 +1,3 @@
 pub mod OpenedAgain
 pub mod Resting
+pub mod PublicLaws

@@ -10,10 +10,10 @@ use Rattle.sqlite.specs.Effect.{Database}
 use Rattle.sqlite.specs.Held.{Held, state}
 use Rattle.sqlite.specs.State.{HasCleanDisk, IsLive, Opens}
 use Rattle.reg_core.specs.Records.{Records}
-use Rattle.reg_tables.specs.Kept.{ShowsKept}
-use Rattle.reg_tables.specs.Schema.{register_schema}
-use Rattle.reg_tables.specs.Shows.{AreBoth, Holds}
-use Rattle.reg_writing.specs.AfterStop.{IsAtRest}
+use Rattle.reg_store_tables.specs.Kept.{ShowsKept}
+use Rattle.reg_store_tables.specs.Schema.{register_schema}
+use Rattle.reg_store_tables.specs.Shows.{AreBoth, Holds}
+use Rattle.reg_store_tables.specs.AfterStop.{IsAtRest}
 
 -- rows list one schema
 one_schema : (schema other : Schema) (trees : Trees) → IsSound schema trees → IsSound other trees → schema ≡ other

@@ -7,19 +7,16 @@ use Rattle.sqlite.specs.Effect.{Database}
 use Rattle.sqlite.specs.Held.{Held, state}
 use Rattle.sqlite.specs.State.{HasCleanDisk, IsLive}
 use Rattle.reg_core.specs.Records.{Records}
-use Rattle.reg_tables.specs.Kept.{ShowsKept}
-use Rattle.reg_tables.specs.Shows.{IsShownBy, Shows}
-use Rattle.reg_tables.proofs.Staying.{kept_shows}
-use Rattle.reg_writing.specs.AfterStop.{AreARegisters, IsAtRest}
-use Rattle.reg_writing.proofs.Resting.{resting, rests_sound}
-use Rattle.reg_migration.specs.Older.{version_number}
-use Rattle.reg_migration.specs.declared.version.OlderVersion.{OlderVersion}
-use Rattle.reg_migration.specs.declared.version.OlderVersion.TheVariants.{First, Second}
-use Rattle.reg_opening.specs.AfterStoppedOpening.{IsOpened}
-use Rattle.reg_opening.specs.Said.{IsOlder}
-use Rattle.reg_opening.proofs.OlderRead.{register_of, version_read}
-use Rattle.reg_opening.proofs.Registered.{number_one}
-use Rattle.reg_opening.proofs.ScheduleRows.{only_row}
+use Rattle.reg_store_tables.specs.Kept.{ShowsKept}
+use Rattle.reg_store_tables.specs.Shows.{IsShownBy, Shows}
+use Rattle.reg_store_tables.proofs.PublicLaws.{kept_shows, resting, rests_sound}
+use Rattle.reg_store_tables.specs.AfterStop.{AreARegisters, IsAtRest}
+use Rattle.reg_store_migration.specs.Older.{version_number}
+use Rattle.reg_store_migration.specs.declared.version.OlderVersion.{OlderVersion}
+use Rattle.reg_store_migration.specs.declared.version.OlderVersion.TheVariants.{First, Second}
+use Rattle.reg_store_opening.specs.AfterStoppedOpening.{IsOpened}
+use Rattle.reg_store_opening.specs.Said.{IsOlder}
+use Rattle.reg_store_opening.proofs.PublicLaws.{register_of, version_read, number_one, only_row}
 
 -- the rows are those that were committed last
 abbrev pub IsUntouched : {S : Type 0} → Ghosts S → Held S → Trees → Type 0

@@ -8,14 +8,14 @@ use Rattle.reg_core.specs.Issuer.{Issuer}
 use Rattle.reg_core.specs.Policy.{Terms}
 use Rattle.reg_core.specs.Records.{Records, no_records}
 use Rattle.reg_core.specs.Sound.{SoundRows}
-use Rattle.reg_tables.specs.Kept.{ShowsKept}
-use Rattle.reg_tables.specs.Schema.{no_schema}
-use Rattle.reg_tables.specs.Shows.{Shows}
-use Rattle.reg_changes.specs.AfterStoppedChange.{IsNamed, IsScheduled}
+use Rattle.reg_store_tables.specs.Kept.{ShowsKept}
+use Rattle.reg_store_tables.specs.Schema.{no_schema}
+use Rattle.reg_store_tables.specs.Shows.{Shows}
+use Rattle.reg_store_changes.specs.AfterStoppedChange.{IsNamed, IsScheduled}
 use Rattle.reg_der.specs.Issuers.{with_issuer}
-use Rattle.reg_migration.specs.Older.{ShowsOlder}
-use Rattle.reg_migration.specs.declared.version.OlderVersion.{OlderVersion}
-use Rattle.reg_opening.specs.AfterStoppedOpening.{IsCreated, IsOpened}
+use Rattle.reg_store_migration.specs.Older.{ShowsOlder}
+use Rattle.reg_store_migration.specs.declared.version.OlderVersion.{OlderVersion}
+use Rattle.reg_store_opening.specs.AfterStoppedOpening.{IsCreated, IsOpened}
 
 -- the machine stopped, and the database was opened again from what it left: the disk had been honest till then, and the new connection, which
 -- obeys the schema that it found, shows what a stop at that moment may leave

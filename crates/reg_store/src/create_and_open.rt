@@ -1,24 +1,12 @@
 //! A register made in an empty database, and one that is there.
 
-ghost use Rattle.std.specs.Prelude.{◌≡◌, ◌≢◌, ◌<◌, ◌⊎◌, ◌↔◌, ℕ, false, OnOk, IfOk, IfErr};
-ghost use Rattle.sqlite.specs.Held.{state};
-ghost use Rattle.sqlite.specs.State.{HasCleanDisk, Survives};
-ghost use Rattle.reg_core.specs.Records.{Records, no_records};
-ghost use Rattle.reg_core.specs.Schedule.{greatest_of};
-ghost use Rattle.reg_tables.specs.Kept.{ShowsKept};
-ghost use Rattle.reg_tables.specs.Schema.{no_schema};
-ghost use Rattle.reg_tables.specs.Shows.{Shows, HasOfficeDays, KeepsOfficeDays};
-ghost use Rattle.reg_tables.specs.Stays.{IsDatabaseFault, IsRegister, Stays};
-ghost use Rattle.reg_core.specs.Sound.{SoundRows};
-ghost use Rattle.reg_migration.specs.Older.{ShowsOlder};
-ghost use Rattle.reg_migration.specs.declared.version.OlderVersion.{OlderVersion};
-ghost use Rattle.reg_opening.specs.AfterStoppedOpening.{IsCreated, IsOpened};
-ghost use Rattle.reg_opening.specs.Said.{HasVersion, SaysOffice, IsOlder, IsNoRegister, HoldsNoRegister, InRange};
+ghost use Rattle.std.specs.Prelude.{◌≡◌, false, IfOk, IfErr};
+ghost use Rattle.reg_store_opening.specs.Opens.{Opens, IsUnopened, Creates, IsUncreated};
 
 use crate::store::Store;
 use reg_core::Policy;
 use reg_der::Issuer;
-use reg_tables::StoreFault;
+use reg_store_tables::{StoreFault, Tables};
 use sqlite::{Alter, Connection};
 use std::alloc::Global;
 
@@ -43,19 +31,16 @@ impl<S: Alter> Store<S> {
         policy: Policy,
     ) -> Result<Store<S>, Unopened<S>>
         requires { connection.in_transaction ≡ false }
-        ensures ok { IfOk result (λ store. ShowsKept S.Store store (no_records issuer policy)) }
-        ensures days { IfOk result (λ store. HasOfficeDays S.Store store (greatest_of policy.schedule)) }
-        ensures empty { OnOk result (connection.schema ≡ no_schema) }
-        ensures not_empty { IfErr result (λ unopened. unopened.fault ≡ StoreFault.NotEmpty ↔ connection.schema ≢ no_schema) }
-        ensures same { IfErr result (λ unopened. Stays (state S.Store connection) (state S.Store unopened.connection)) }
-        ensures survives { IfOk result (λ store. Survives (state S.Store connection) (state S.Store store) (IsCreated connection issuer policy)) }
-        ensures survives_err { IfErr result (λ unopened. Survives (state S.Store connection) (state S.Store unopened.connection) (IsCreated connection issuer policy)) }
+        ensures creates { IfOk result (λ store. Creates S.Store connection store issuer policy) }
+        ensures uncreated { IfErr result (λ unopened.
+            IsUncreated S.Store connection unopened.connection issuer policy unopened.fault) }
         ensures idle { IfErr result (λ unopened. unopened.connection.in_transaction ≡ false) }
-        ensures faults { IfErr result (λ unopened. (unopened.fault ≡ StoreFault.NotEmpty) ⊎ IsDatabaseFault unopened.fault) }
     {
         let mut connection = connection;
-        match reg_opening::create(&mut connection, &issuer, &policy) {
-            Ok(()) => Ok(Store { connection }),
+        match reg_store_opening::create(&mut connection, &issuer, &policy) {
+            Ok(()) => Ok(Store {
+                tables: Tables { connection },
+            }),
             Err(fault) => Err(Unopened { fault, connection }),
         }
     }
@@ -72,27 +57,16 @@ impl<S: Alter> Store<S> {
     /// were.
     pub fn open(alloc: Global, connection: Connection<S>) -> Result<Store<S>, Unopened<S>>
         requires { connection.in_transaction ≡ false }
-        ensures ok { (records : Records) → Shows S.Store connection records → IfOk result (λ store. Shows S.Store store records) }
-        ensures kept { (records : Records) → ShowsKept S.Store connection records → IfOk result (λ store. ShowsKept S.Store store records) }
-        ensures migrated { (version : OlderVersion) → (records : Records) → ShowsOlder version S.Store connection records → SoundRows records → IfOk result (λ store. ShowsKept S.Store store records) }
-        ensures days { (records : Records) → Shows S.Store connection records → IfOk result (λ store. KeepsOfficeDays S.Store connection store) }
-        ensures older_days { (version : OlderVersion) → (records : Records) → ShowsOlder version S.Store connection records → SoundRows records → IfOk result (λ store. HasOfficeDays S.Store store (greatest_of records.policy.schedule)) }
-        ensures same { IfErr result (λ unopened. Stays (state S.Store connection) (state S.Store unopened.connection)) }
-        ensures shown { (records : Records) → InRange records → Shows S.Store connection records → IfErr result (λ unopened. HasCleanDisk (state S.Store unopened.connection) → IsDatabaseFault unopened.fault) }
-        ensures shown_older { (version : OlderVersion) → (records : Records) → InRange records → ShowsOlder version S.Store connection records → IfErr result (λ unopened. HasCleanDisk (state S.Store unopened.connection) → IsDatabaseFault unopened.fault) }
-        ensures registers { IfOk result (λ store. IsRegister (state S.Store store)) }
-        ensures said { IfOk result (λ store. HasCleanDisk (state S.Store store) → (Stays (state S.Store connection) (state S.Store store) × HasVersion (state S.Store connection).now 3 × SaysOffice (state S.Store connection).now) ⊎ IsOlder (state S.Store connection).now) }
-        ensures newer { IfErr result (λ unopened. HasCleanDisk (state S.Store unopened.connection) → unopened.fault ≡ StoreFault.NewVersion → (n : ℕ) × (3 < n) × HasVersion (state S.Store connection).now n) }
-        ensures none { IfErr result (λ unopened. HasCleanDisk (state S.Store unopened.connection) → unopened.fault ≡ StoreFault.NotARegister → IsNoRegister (state S.Store connection).now) }
-        ensures alone { IfErr result (λ unopened. HasCleanDisk (state S.Store unopened.connection) → unopened.fault ≡ StoreFault.NotARegister → HoldsNoRegister (state S.Store connection).now) }
-        ensures survives { IfOk result (λ store. Survives (state S.Store connection) (state S.Store store) (IsOpened S.Store connection)) }
-        ensures survives_err { IfErr result (λ unopened. Survives (state S.Store connection) (state S.Store unopened.connection) (IsOpened S.Store connection)) }
+        ensures opens { IfOk result (λ store. Opens S.Store connection store) }
+        ensures unopened { IfErr result (λ unopened.
+            IsUnopened S.Store connection unopened.connection unopened.fault) }
         ensures idle { IfErr result (λ unopened. unopened.connection.in_transaction ≡ false) }
-        ensures faults { IfErr result (λ unopened. unopened.fault ≢ StoreFault.NotEmpty) }
     {
         let mut connection = connection;
-        match reg_opening::open(alloc, &mut connection) {
-            Ok(()) => Ok(Store { connection }),
+        match reg_store_opening::open(alloc, &mut connection) {
+            Ok(()) => Ok(Store {
+                tables: Tables { connection },
+            }),
             Err(fault) => Err(Unopened { fault, connection }),
         }
     }

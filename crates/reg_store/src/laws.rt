@@ -8,7 +8,7 @@ use sqlite::Alter;
 ///
 /// The machine stops after [`Store::create`](crate::Store::create), or in the middle of it, and the database is opened again: it
 /// is the one that was there; or, where there was no table, no index and no view, it shows the register with no records, whole.
-/// It rests on what the crate `sqlite` says that a stop may leave. `IsOpenedAgain` is what `restart` of the crate `reg_restart`
+/// It rests on what the crate `sqlite` says that a stop may leave. `IsOpenedAgain` is what `restart` of the crate `reg_store_restart`
 /// ensures over any disk that may lose what was not synced. That a connection obeys its schema is the clause `live` of the crate
 /// `sqlite`'s `Connection::schema`.
 pub fn a_register_opened_after_a_stop_during_create_is_none_or_an_empty_one<S: Alter>()

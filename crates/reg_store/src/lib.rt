@@ -4,9 +4,8 @@
 mod changes;
 mod create_and_open;
 pub mod laws;
-mod lookups;
 mod store;
 
 pub use create_and_open::Unopened;
-pub use reg_tables::{StoreFault, Table};
+pub use reg_store_tables::{DatabaseFault, StoreFault, Table, Tables};
 pub use store::Store;

@@ -1,28 +1,57 @@
-//! The store: a connection to a register's database that is in no transaction.
+//! The store: a register in a database, whose tables are looked up and changed.
 
 ghost use Rattle.std.specs.Prelude.{◌≡◌, false};
 
+use reg_store_tables::Tables;
 use sqlite::{Alter, Connection};
 use std::marker::Model;
+use std::ops::{Deref, DerefMut};
 
-/// A register in an SQL database. A contract sees it as its connection, which is in no transaction between the calls.
-/// So what a contract says of a connection, as `Shows` and `ShowsKept` do, is said of a store in the same words.
+/// A register in an SQL database. The look-ups are those of its [`Tables`]; the changes are its own.
+///
+/// A contract sees it as its connection, which is in no transaction between the calls. So what a contract says of a connection, as
+/// `Shows` and `ShowsKept` do, is said of a store in the same words.
 #[derive(Drop)]
 pub struct Store<S: Alter> {
-    pub(crate) connection: Connection<S>,
+    pub(crate) tables: Tables<S>,
 }
 
 impl<S: Alter> Model for Store<S> {
-    ghost use Rattle.std.specs.Prelude.{◌≡◌, false};
     ghost use Rattle.sqlite.specs.Held.{Held, held_code};
 
     ghost Value = { Held S };
 
     ghost coded = { held_code S.code };
 
-    ghost view = { λ store. store.connection };
+    ghost view = { λ store. store.tables };
+}
 
-    ghost invariant = { λ store. store.connection.in_transaction ≡ false };
+impl<S: Alter> Deref for Store<S> {
+    ghost use Rattle.std.specs.Prelude.{◌≡◌};
+
+    type Target = Tables<S>;
+
+    ghost deref_gives = { λ store tables. tables ≡ store };
+
+    fn deref(&self) -> &Tables<S> {
+        &self.tables
+    }
+}
+
+impl<S: Alter> DerefMut for Store<S> {
+    ghost use Rattle.std.specs.Prelude.{◌≡◌};
+    ghost use Rattle.std.specs.Borrow.{Lends, sem};
+    ghost use Rattle.reg_store.specs.contracts.store.Store.{the_row};
+    ghost use Rattle.reg_store_tables.specs.contracts.tables.Tables.{the_row as tables_row};
+
+    ghost deref_mut_gives = { λ store tables. tables ≡ store };
+
+    fn deref_mut(&mut self) -> &mut Tables<S>
+        ensures* writes_back { sem 𝓛 (Lends (the_row S.row S.Store) (tables_row S.row S.Store) self.entry result (λ tables. tables)) }
+        ensures shows { result.now ≡ self.old }
+    {
+        &mut self.tables
+    }
 }
 
 impl<S: Alter> Store<S> {
@@ -31,7 +60,8 @@ impl<S: Alter> Store<S> {
         ensures same { result ≡ self }
         ensures idle { result.in_transaction ≡ false }
     {
-        let Store { connection } = self;
+        let Store { tables } = self;
+        let Tables { connection } = tables;
         connection
     }
 }

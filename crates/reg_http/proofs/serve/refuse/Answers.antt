@@ -1,8 +1,8 @@
 use Rattle.std.proofs.Common.{ℕ, List, inl, subst}
 use Rattle.std.specs.Io.KnownBytes.{Appends}
 use Rattle.std.proofs.lemmas.Result.{on_ok_weaker, IfErr-weaker}
-use Rattle.reg_wire.specs.Put.{AppendsFront}
-use Rattle.reg_heads.specs.Response.{Response, IsText}
+use Rattle.reg_io.specs.Put.{AppendsFront}
+use Rattle.reg_http_head.specs.Response.{Response, IsText}
 use Rattle.reg_http.proofs.serve.refuse.Goals as goal
 
 pub returns-in-Ok-clause-ok : goal.returns-in-Ok-clause-ok

@@ -1,4 +1,4 @@
-use Rattle.reg_core.proofs.MomentTexts.{reads_moment}
+use Rattle.reg_core.proofs.PublicLaws.{reads_moment}
 use Rattle.reg_lines.proofs.line.read_moment.Goals as goal
 
 pub returns : goal.returns

@@ -1,5 +1,5 @@
 use Rattle.std.proofs.Common.{Bor, List, ℕ, Some, inl, ◌∙◌}
-use Rattle.reg_lines.specs.ByCalls.{ByCalls}
+use Rattle.reg_lines.specs.ByCalls.{LineCalls}
 use Rattle.reg_lines.proofs.RowLemmas.{going_start, going_more, one_cut, one_refused, all_ran, first_ran}
 use Rattle.reg_lines.proofs.rows.run_each.Goals as goal
 
@@ -8,37 +8,37 @@ loop-index-init g c = record {
   untrimmed = c.requires.untrimmed;
   ready = c.requires.ready;
   config = c.requires.config;
-  going = λ text reads. going_start (ByCalls g.O.OfficeCalls.runs g.O.OfficeCalls.asks g.O.OfficeCalls.ocsps) c.args.is_strict c.args.now _ _ text _ _ reads c.requires.state;
+  going = λ text reads. going_start (LineCalls g.O.Office) c.args.is_strict c.args.now _ _ text _ _ reads c.requires.state;
 }
 
 pub returns-in-Err-take_row : goal.returns-in-Err-take_row
 returns-in-Err-take_row g c = λ text reads.
     let so_far = c.loop-index.invariant in
     let read = rw c.in-Ok-true.field-0-test at (c.in-Ok-true.ensures.reads so_far.untrimmed so_far.ready) in
-    one_cut (ByCalls g.O.OfficeCalls.runs g.O.OfficeCalls.asks g.O.OfficeCalls.ocsps) c.args.is_strict c.args.now _ _ _ _ _ _ text (λ (s : Bor (List ℕ)). Some s.now) c.loop-index.rows c.read_byte_record.new.self _ c.loop-index.index
+    one_cut (LineCalls g.O.Office) c.args.is_strict c.args.now _ _ _ _ _ _ text (λ (s : Bor (List ℕ)). Some s.now) c.loop-index.rows c.read_byte_record.new.self _ c.loop-index.index
     c.in-Err-take_row.field-0 (so_far.going text reads) so_far.config read c.in-Err-take_row.ensures
 
-pub returns-in-Ok-false-take_row : goal.returns-in-Ok-false-take_row
-returns-in-Ok-false-take_row g c = λ text reads.
+pub returns-in-Ok-Refused : goal.returns-in-Ok-Refused
+returns-in-Ok-Refused g c = λ text reads.
     let so_far = c.loop-index.invariant in
     let read = rw c.in-Ok-true.field-0-test at (c.in-Ok-true.ensures.reads so_far.untrimmed so_far.ready) in
-    one_refused (ByCalls g.O.OfficeCalls.runs g.O.OfficeCalls.asks g.O.OfficeCalls.ocsps) c.args.is_strict c.args.now _ _ c.take_row.new.office _ _ _ text (λ (s : Bor (List ℕ)). Some s.now) c.loop-index.rows c.read_byte_record.new.self _ c.loop-index.index
-    (so_far.going text reads) so_far.config read (rw c.in-Ok-false-take_row.field-0-test at c.in-Ok-false-take_row.ensures)
+    one_refused (LineCalls g.O.Office) c.args.is_strict c.args.now _ _ c.take_row.new.office _ _ _ text (λ (s : Bor (List ℕ)). Some s.now) c.loop-index.rows c.read_byte_record.new.self _ c.loop-index.index
+    c.in-Ok-Refused.refused (so_far.going text reads) so_far.config read (rw c.in-Ok-Refused.field-0-is at c.in-Ok-Refused.ensures)
 
 pub returns-in-Ok-false : goal.returns-in-Ok-false
 returns-in-Ok-false g c = λ text reads.
     let so_far = c.loop-index.invariant in
     let read = rw c.in-Ok-false.field-0-test at (c.in-Ok-false.ensures.reads so_far.untrimmed so_far.ready) in
-    all_ran (ByCalls g.O.OfficeCalls.runs g.O.OfficeCalls.asks g.O.OfficeCalls.ocsps) c.args.is_strict c.args.now _ _ c.loop-index.office _ _ (g.W.Write.contents c.loop-index.writer) text (λ (s : Bor (List ℕ)). Some s.now) c.loop-index.rows c.read_byte_record.new.self _ c.loop-index.index
+    all_ran (LineCalls g.O.Office) c.args.is_strict c.args.now _ _ c.loop-index.office _ _ (g.W.Write.contents c.loop-index.writer) text (λ (s : Bor (List ℕ)). Some s.now) c.loop-index.rows c.read_byte_record.new.self _ c.loop-index.index
     (so_far.going text reads) so_far.config read
 
 pub returns-in-Err : goal.returns-in-Err
 returns-in-Err g c = λ text reads.
-    first_ran (ByCalls g.O.OfficeCalls.runs g.O.OfficeCalls.asks g.O.OfficeCalls.ocsps) c.args.is_strict c.args.now _ _ _ _ text _ _ _ (c.loop-index.invariant.going text reads)
+    first_ran (LineCalls g.O.Office) c.args.is_strict c.args.now _ _ _ _ text _ _ _ (c.loop-index.invariant.going text reads)
 
 pub returns : goal.returns
 returns g c = λ text reads.
-    first_ran (ByCalls g.O.OfficeCalls.runs g.O.OfficeCalls.asks g.O.OfficeCalls.ocsps) c.args.is_strict c.args.now _ _ _ _ text _ _ _ (c.loop-index.invariant.going text reads)
+    first_ran (LineCalls g.O.Office) c.args.is_strict c.args.now _ _ _ _ text _ _ _ (c.loop-index.invariant.going text reads)
 
 pub loop-index-preserved : goal.loop-index-preserved
 loop-index-preserved g c =
@@ -49,6 +49,6 @@ loop-index-preserved g c =
       ready = inl (c.in-Ok-true.ensures.ready so_far.untrimmed);
       config = read.2 ∙ so_far.config;
       going = λ text reads.
-          going_more (ByCalls g.O.OfficeCalls.runs g.O.OfficeCalls.asks g.O.OfficeCalls.ocsps) c.args.is_strict c.args.now _ _ _ _ _ _ text (λ (s : Bor (List ℕ)). Some s.now) c.loop-index.rows c.read_byte_record.new.self _ c.loop-index.index
-          (so_far.going text reads) so_far.config read (rw c.in-Ok-true-take_row.field-0-test at c.in-Ok-true-take_row.ensures);
+          going_more (LineCalls g.O.Office) c.args.is_strict c.args.now _ _ _ _ _ _ text (λ (s : Bor (List ℕ)). Some s.now) c.loop-index.rows c.read_byte_record.new.self _ c.loop-index.index
+          (so_far.going text reads) so_far.config read (rw c.in-Ok-On.field-0-is at c.in-Ok-On.ensures);
     }

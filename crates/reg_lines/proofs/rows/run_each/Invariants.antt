@@ -1,7 +1,7 @@
 use Rattle.std.proofs.Common.{◌≡◌, Bor, List, ℕ, Some}
 use Rattle.csv.specs.Reading.{Ready, default_config, reader_config, reader_state, reader_trim, source_of}
 use Rattle.csv.specs.declared.reader.Trim.TheVariants as trim
-use Rattle.reg_lines.specs.ByCalls.{ByCalls}
+use Rattle.reg_lines.specs.ByCalls.{LineCalls}
 use Rattle.reg_lines.specs.Import.{ReadsText}
 use Rattle.reg_lines.proofs.RowLemmas.{Going}
 use Rattle.reg_lines.proofs.rows.run_each.Given as goal
@@ -12,7 +12,7 @@ invariant-loop-index g l = record {
   untrimmed : reader_trim l.rows ≡ trim.None;
   ready : Ready l.rows;
   config : reader_config l.rows ≡ default_config;
-  going : (text : List ℕ) → ReadsText l.initial.rows text → Going (ByCalls g.O.OfficeCalls.runs g.O.OfficeCalls.asks g.O.OfficeCalls.ocsps) l.is_strict l.now l.initial.office l.office
+  going : (text : List ℕ) → ReadsText l.initial.rows text → Going (LineCalls g.O.Office) l.is_strict l.now l.initial.office l.office
       (g.W.Write.contents l.initial.writer) (g.W.Write.contents l.writer)
       text (source_of (λ (s : Bor (List ℕ)). Some s.now) l.rows) (reader_state l.rows) l.index;
 }

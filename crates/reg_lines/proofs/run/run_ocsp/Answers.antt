@@ -1,36 +1,32 @@
-use Rattle.std.proofs.Common.{List, ℕ, Ok, Err, refl, inl, inr, subst, sym, ◌∙◌}
-use Rattle.reg_lines.specs.Answer.{responded, TellsAnswer}
-use Rattle.reg_lines.specs.ByCalls.{ByCalls}
-use Rattle.reg_lines.specs.Meaning.{asks_ocsp}
+use Rattle.std.proofs.Common.{List, ℕ, Ok, Err, refl, subst, sym, ◌∙◌}
+use Rattle.reg_core.specs.declared.memory.Memory.{Memory}
+use Rattle.reg_lines.specs.Answer.{TellsGiven}
+use Rattle.reg_lines.specs.ByCalls.{LineCalls, responded}
+use Rattle.reg_lines.specs.Meaning.{decoded_bytes}
+use Rattle.reg_lines.proofs.Unasked.{unasked}
 use Rattle.reg_lines.proofs.Readings.{bytes_of-decoded}
 use Rattle.reg_lines.proofs.run.run_ocsp.Goals as goal
 
 pub returns-in_default : goal.returns-in_default
-returns-in_default g c = (_, c.write_outcome.ensures, λ _. inr (refl, refl))
+returns-in_default g c =
+    let nothing : Memory = record {} in
+    (Err nothing, unasked g.O.Office c.args.office.now c.args.now (decoded_bytes c.args.digits.now) nothing, rw c.no_memory.ensures (refl, refl))
 
 pub returns-in-Ok-ocsp : goal.returns-in-Ok-ocsp
 returns-in-Ok-ocsp g c =
     let same = c.deref.ensures.value ∙ sym (bytes_of-decoded c.args.digits.now _ c.in-Ok.ensures.ok) in
-    let (reply, wrote, tells) = c.write_response.ensures in (
-      reply,
-      wrote,
-      λ _.
-          inl (
-            responded (Ok c.in-Ok-ocsp.response.items),
-            subst (λ (b : List ℕ). (ByCalls g.O.OfficeCalls.runs g.O.OfficeCalls.asks g.O.OfficeCalls.ocsps) c.args.office.now (asks_ocsp c.args.now b) (responded (Ok c.in-Ok-ocsp.response.items)) c.ocsp.new.self) same c.in-Ok-ocsp.ensures,
-            subst (λ (b : List ℕ). TellsAnswer (responded (Ok b)) reply) c.deref-in-Ok-ocsp.ensures.value tells,
-          ),
+    let given = Ok c.in-Ok-ocsp.response.items in (
+      given,
+      subst (λ (b : List ℕ). LineCalls g.O.Office c.args.office.now c.args.now (responded b given) c.ocsp.new.self) same
+          (c.in-Ok-ocsp.ensures, (λ failed. absurd failed)),
+      subst (λ (b : List ℕ). TellsGiven (Ok b) c.respond.result) c.deref-in-Ok-ocsp.ensures.value c.respond.ensures,
     )
 
 pub returns : goal.returns
 returns g c =
     let same = c.deref.ensures.value ∙ sym (bytes_of-decoded c.args.digits.now _ c.in-Ok.ensures.ok) in (
-      _,
-      c.write_outcome-in-Err.ensures,
-      λ _.
-          inl (
-            responded (Err _),
-            subst (λ (b : List ℕ). (ByCalls g.O.OfficeCalls.runs g.O.OfficeCalls.asks g.O.OfficeCalls.ocsps) c.args.office.now (asks_ocsp c.args.now b) (responded (Err _)) c.ocsp.new.self) same c.in-Err.ensures,
-            refl,
-          ),
+      Err _,
+      subst (λ (b : List ℕ). LineCalls g.O.Office c.args.office.now c.args.now (responded b (Err _)) c.ocsp.new.self) same
+          (c.in-Err.ensures, (λ failed. absurd failed)),
+      rw c.no_memory-in-Err.ensures (refl, refl),
     )

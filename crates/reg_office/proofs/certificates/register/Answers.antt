@@ -1,9 +1,9 @@
 use Rattle.std.proofs.Common.{subst, Ok, Err, Some, None, Option}
 use Rattle.reg_core.specs.Decisions.{DecidesRegister}
 use Rattle.reg_core.specs.declared.rows.CertRow.{CertRow}
-use Rattle.reg_tables.proofs.Staying.{looked_then}
+use Rattle.reg_store_tables.proofs.PublicLaws.{and_so, by_finding, looked_then, so}
 use Rattle.reg_office.proofs.Deciding.{register_to_do}
-use Rattle.reg_office.proofs.Looking.{and_so, by_shown, decided_against, decided_for, not_decided, so}
+use Rattle.reg_office.proofs.Looking.{decided_against, decided_for, not_decided}
 use Rattle.reg_office.proofs.certificates.register.Goals as goal
 
 pub returns-in_err-head : goal.returns-in_err-head
@@ -26,8 +26,8 @@ returns-in_err-by_serial g c =
 pub returns-in_err-row : goal.returns-in_err-row
 returns-in_err-row g c =
     decided_against c.from_residual-in_err-row.result c.in_err-row.field-0.0 c.from_residual-in_err-row.ensures.1
-    (so (and_so (and_so (and_so c.in_ok-head.ensures (by_shown c.order.ensures.looked c.in_ok-order.ensures.found))
-    (by_shown c.cert_of_order.ensures.looked c.in_ok-by_order.ensures.found)) (by_shown c.cert.ensures.looked c.in_ok-by_serial.ensures.found))
+    (so (and_so (and_so (and_so c.in_ok-head.ensures (by_finding c.in_ok-order.ensures))
+    (by_finding c.in_ok-by_order.ensures)) (by_finding c.in_ok-by_serial.ensures))
     (λ records sound it. register_to_do records c.args.now c.in_ok-head.head c.args.wanted c.in_ok-order.order c.in_ok-by_order.by_order c.in_ok-by_serial.by_serial (Err c.in_err-row.field-0.0)
     sound it.0.0.0 it.0.0.1 it.0.1 it.1 c.in_err-row.ensures))
 
@@ -35,8 +35,8 @@ pub returns-in-Some : goal.returns-in-Some
 returns-in-Some g c =
     let decides = subst (λ (o : Option CertRow). DecidesRegister c.in_ok-head.head c.args.wanted c.in_ok-order.order c.in_ok-by_order.by_order c.in_ok-by_serial.by_serial (Ok o)) c.in-Some.is c.in_ok-row.ensures in
     decided_for _
-    (so (and_so (and_so (and_so c.in_ok-head.ensures (by_shown c.order.ensures.looked c.in_ok-order.ensures.found))
-    (by_shown c.cert_of_order.ensures.looked c.in_ok-by_order.ensures.found)) (by_shown c.cert.ensures.looked c.in_ok-by_serial.ensures.found))
+    (so (and_so (and_so (and_so c.in_ok-head.ensures (by_finding c.in_ok-order.ensures))
+    (by_finding c.in_ok-by_order.ensures)) (by_finding c.in_ok-by_serial.ensures))
     (λ records sound it. register_to_do records c.args.now c.in_ok-head.head c.args.wanted c.in_ok-order.order c.in_ok-by_order.by_order c.in_ok-by_serial.by_serial (Ok (Some c.in-Some.row))
     sound it.0.0.0 it.0.0.1 it.0.1 it.1 decides))
 
@@ -44,7 +44,7 @@ pub returns-in-None : goal.returns-in-None
 returns-in-None g c =
     let decides = subst (λ (o : Option CertRow). DecidesRegister c.in_ok-head.head c.args.wanted c.in_ok-order.order c.in_ok-by_order.by_order c.in_ok-by_serial.by_serial (Ok o)) c.in-None.is c.in_ok-row.ensures in
     decided_for _
-    (so (and_so (and_so (and_so c.in_ok-head.ensures (by_shown c.order.ensures.looked c.in_ok-order.ensures.found))
-    (by_shown c.cert_of_order.ensures.looked c.in_ok-by_order.ensures.found)) (by_shown c.cert.ensures.looked c.in_ok-by_serial.ensures.found))
+    (so (and_so (and_so (and_so c.in_ok-head.ensures (by_finding c.in_ok-order.ensures))
+    (by_finding c.in_ok-by_order.ensures)) (by_finding c.in_ok-by_serial.ensures))
     (λ records sound it. register_to_do records c.args.now c.in_ok-head.head c.args.wanted c.in_ok-order.order c.in_ok-by_order.by_order c.in_ok-by_serial.by_serial (Ok None)
     sound it.0.0.0 it.0.0.1 it.0.1 it.1 decides))

@@ -1,8 +1,8 @@
 use Rattle.std.proofs.Common.{None, refl, sym, ◌∙◌}
 use Rattle.reg_core.specs.Crls.{latest, row_of}
-use Rattle.reg_calls.specs.Items.{items_of}
+use Rattle.reg_office_api.specs.Items.{items_of}
+use Rattle.reg_store_tables.proofs.PublicLaws.{and_so, by_finding, by_none, so}
 use Rattle.reg_office.proofs.Issuing.{given_latest, latest_in, none_mapped, not_given}
-use Rattle.reg_office.proofs.Looking.{and_so, by_none, by_shown, so}
 use Rattle.reg_office.proofs.crls.latest.Goals as goal
 
 pub returns-in_err-latest-clause-looks : goal.returns-in_err-latest-clause-looks
@@ -10,11 +10,11 @@ returns-in_err-latest-clause-looks g c = by_none c.latest_crl.ensures.looked (λ
 
 pub returns-in-Some-clause-looks : goal.returns-in-Some-clause-looks
 returns-in-Some-clause-looks g c =
-    so (and_so (by_shown c.latest_crl.ensures.looked c.in_ok-latest.ensures.found) c.numbered.ensures.looks)
+    so (and_so (by_finding c.in_ok-latest.ensures) c.numbered.ensures.looks)
     (λ records sound it.
     let same = (latest_in 1 records.crls c.in-Some.latest sound.crls.numbered (sym it.0 ∙ c.in-Some.is)).0 in
     given_latest records c.in-Some.latest.number (items_of c.numbered.result) same it.1)
 
 pub returns-in-None-clause-looks : goal.returns-in-None-clause-looks
 returns-in-None-clause-looks g c =
-    so (by_shown c.latest_crl.ensures.looked c.in_ok-latest.ensures.found) (λ records sound it. (refl, none_mapped row_of (latest records.crls) (sym it ∙ c.in-None.is)))
+    so (by_finding c.in_ok-latest.ensures) (λ records sound it. (refl, none_mapped row_of (latest records.crls) (sym it ∙ c.in-None.is)))

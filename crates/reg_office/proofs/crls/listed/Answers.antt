@@ -1,5 +1,4 @@
-use Rattle.reg_tables.proofs.Staying.{looked_then}
-use Rattle.reg_office.proofs.Looking.{and_so, by_kept, by_shown, not_found}
+use Rattle.reg_store_tables.proofs.PublicLaws.{and_so, by_finding, by_finding_kept, looked_then, not_found}
 use Rattle.reg_office.proofs.crls.listed.Goals as goal
 
 pub returns-in_err-issuer-clause-looks : goal.returns-in_err-issuer-clause-looks
@@ -7,7 +6,8 @@ returns-in_err-issuer-clause-looks g c = not_found _ c.from_residual.result c.fr
 
 pub returns-in_err-entries-clause-looks : goal.returns-in_err-entries-clause-looks
 returns-in_err-entries-clause-looks g c =
-    not_found _ c.from_residual-in_err-entries.result c.from_residual-in_err-entries.ensures.0 (looked_then c.issuer.ensures.looked c.entries.ensures.looked)
+    not_found _ c.from_residual-in_err-entries.result c.from_residual-in_err-entries.ensures.0
+    (looked_then c.issuer.ensures.looked c.entries.ensures.finds.looked)
 
 pub returns-clause-looks : goal.returns-clause-looks
-returns-clause-looks g c = and_so (by_shown c.issuer.ensures.looked c.in_ok-issuer.ensures.found) (by_kept c.entries.ensures.looked c.in_ok-entries.ensures.found)
+returns-clause-looks g c = and_so (by_finding c.in_ok-issuer.ensures) (by_finding_kept c.in_ok-entries.ensures.finds)

@@ -1,4 +1,4 @@
-use Rattle.reg_tables.proofs.Staying.{looked_then}
+use Rattle.reg_store_tables.proofs.PublicLaws.{looked_then}
 use Rattle.reg_office.proofs.crls.next_message.Goals as goal
 
 pub returns-in_err-row : goal.returns-in_err-row

@@ -1,8 +1,8 @@
 use Rattle.std.specs.Prelude.{option_map, Vec}
 use Rattle.std.proofs.Common.{ℕ, Some, refl, sym, ap, ◌∙◌, Global}
 use Rattle.reg_core.specs.Records.{Crl, crl_in}
+use Rattle.reg_store_tables.proofs.PublicLaws.{by_finding, by_none, so}
 use Rattle.reg_office.proofs.Issuing.{none_mapped, not_given}
-use Rattle.reg_office.proofs.Looking.{by_none, by_shown, so}
 use Rattle.reg_office.proofs.crls.numbered.Goals as goal
 
 pub returns-in_err-bytes-clause-looks : goal.returns-in_err-bytes-clause-looks
@@ -10,9 +10,9 @@ returns-in_err-bytes-clause-looks g c = by_none c.crl.ensures.looked (λ records
 
 pub returns-in-Some-clause-looks : goal.returns-in-Some-clause-looks
 returns-in-Some-clause-looks g c =
-    so (by_shown c.crl.ensures.looked c.in_ok-bytes.ensures.found) (λ records sound it. sym it ∙ ap (option_map (λ (v : Vec ℕ Global). v.items)) c.in-Some.is)
+    so (by_finding c.in_ok-bytes.ensures) (λ records sound it. sym it ∙ ap (option_map (λ (v : Vec ℕ Global). v.items)) c.in-Some.is)
 
 pub returns-in-None-clause-looks : goal.returns-in-None-clause-looks
 returns-in-None-clause-looks g c =
-    so (by_shown c.crl.ensures.looked c.in_ok-bytes.ensures.found)
+    so (by_finding c.in_ok-bytes.ensures)
     (λ records sound it. (refl, none_mapped (λ (crl : Crl). crl.bytes) (crl_in records.crls c.args.number) (sym it ∙ ap (option_map (λ (v : Vec ℕ Global). v.items)) c.in-None.is)))

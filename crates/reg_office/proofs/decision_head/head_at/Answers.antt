@@ -1,6 +1,5 @@
-use Rattle.reg_laws.proofs.Decided.{head_from}
-use Rattle.reg_tables.proofs.Staying.{looked_then}
-use Rattle.reg_office.proofs.Looking.{and_so, by_shown, not_found, so}
+use Rattle.reg_core_laws.proofs.PublicLaws.{head_from}
+use Rattle.reg_store_tables.proofs.PublicLaws.{and_so, by_finding, looked_then, not_found, so}
 use Rattle.reg_office.proofs.decision_head.head_at.Goals as goal
 
 pub returns-in_err-last : goal.returns-in_err-last
@@ -15,5 +14,5 @@ returns-in_err-held g c =
 
 pub returns : goal.returns
 returns g c =
-    so (and_so (and_so (by_shown c.last.ensures.looked c.in_ok-last.ensures.found) (by_shown c.policy.ensures.looked c.in_ok-policy.ensures.found)) (by_shown c.held.ensures.looked c.in_ok-held.ensures.found))
+    so (and_so (and_so (by_finding c.in_ok-last.ensures) (by_finding c.in_ok-policy.ensures)) (by_finding c.in_ok-held.ensures))
     (λ records sound it. head_from records it.0.0 it.0.1 it.1)

@@ -1,6 +1,6 @@
 use Rattle.std.proofs.Common.{ap, ◌∙◌}
 use Rattle.reg_core.specs.Crls.{number_after}
-use Rattle.reg_tables.proofs.Staying.{some_then}
+use Rattle.reg_store_tables.proofs.PublicLaws.{some_then}
 use Rattle.reg_office.proofs.identifiers.next_crl_number.Goals as goal
 
 pub returns-clause-found : goal.returns-clause-found

@@ -3,11 +3,11 @@ use Rattle.std.proofs.Common.{◌⊎◌, inl, inr}
 use Rattle.std.proofs.Math.Logic.{∥∥₁_map}
 use Rattle.sqlite.specs.Held.{state}
 use Rattle.sqlite.specs.State.{HasCleanDisk}
-use Rattle.reg_store.proofs.OpenedAgain.{keeps_again}
+use Rattle.reg_store.proofs.PublicLaws.{keeps_again}
+use Rattle.reg_store_tables.proofs.PublicLaws.{was_clean}
 use Rattle.reg_office.specs.OpenedAgain.{StandsDone}
 use Rattle.reg_office.specs.Stands.{Stands}
 use Rattle.reg_office.proofs.OpenedAgain.{stands_done}
-use Rattle.reg_office.proofs.Composing.{was_clean}
 use Rattle.reg_office.proofs.laws.a_register_opened_after_a_stop_stands_before_or_after.Goals as goal
 
 pub returns : goal.returns

@@ -2,7 +2,7 @@ use Rattle.std.proofs.Common.{◌≡◌, Some, subst}
 use Rattle.reg_core.specs.Status.{status_by}
 use Rattle.reg_core.specs.declared.command.Status.{Status}
 use Rattle.reg_core.specs.declared.command.Status.TheVariants.{Good}
-use Rattle.reg_tables.proofs.OverdueLemmas.{not_good}
+use Rattle.reg_store_tables.proofs.PublicLaws.{not_good}
 use Rattle.reg_office.proofs.lines.is_good.Goals as goal
 
 pub returns-in_default : goal.returns-in_default

@@ -1,10 +1,10 @@
 use Rattle.std.proofs.Common.{◌∙◌, sym}
-use Rattle.reg_office.proofs.Composing.{looked_none}
+use Rattle.reg_store_tables.proofs.PublicLaws.{by_finding_kept, by_none, looked_none, so}
 use Rattle.reg_office.proofs.RowsTold.{listed_nowhere}
 use Rattle.reg_office.proofs.lines.listing_of.Goals as goal
 
-pub returns-in-None-clause-found : goal.returns-in-None-clause-found
-returns-in-None-clause-found g c records kept clean is = listed_nowhere records c.args.serial (sym c.in-None.is ∙ is)
+pub returns-in-Some : goal.returns-in-Some
+returns-in-Some g c = so (by_finding_kept c.listing.ensures) (λ records sound it is. it)
 
-pub returns-in-None-clause-looked : goal.returns-in-None-clause-looked
-returns-in-None-clause-looked g c = looked_none
+pub returns-in-None : goal.returns-in-None
+returns-in-None g c = by_none looked_none (λ records is. listed_nowhere records c.args.serial (sym c.in-None.is ∙ is))

@@ -1,5 +1,5 @@
 use Rattle.std.proofs.Common.{Some, refl}
-use Rattle.reg_lists.specs.declared.rows.Row.TheVariants.{Certificate}
+use Rattle.reg_core_lists.specs.declared.rows.Row.TheVariants.{Certificate}
 use Rattle.reg_office.proofs.RowsTold.{none_good}
 use Rattle.reg_office.proofs.lines.row_where_good.Goals as goal
 

@@ -1,15 +1,10 @@
-use Rattle.sqlite.specs.Held.{state}
-use Rattle.reg_tables.proofs.Staying.{looked_shows, looked_then}
-use Rattle.reg_office.proofs.Composing.{was_clean}
+use Rattle.reg_store_tables.proofs.PublicLaws.{and_so, not_found, so}
 use Rattle.reg_office.proofs.RowsTold.{owner_is}
 use Rattle.reg_office.proofs.lines.subscriber_of.Goals as goal
 
-pub returns-clause-found : goal.returns-clause-found
-returns-clause-found g c records shown clean =
-    let s = g.C.Store in
-    let clean_1 = was_clean (state s c.order_at.new.store) (state s c.subscriber_at.new.store) c.subscriber_at.ensures.looked.survives.clean clean in
-    let shown_1 = looked_shows c.order_at.ensures.looked records shown in
-    owner_is records c.args.id c.in_ok-order.order c.subscriber_at.result (c.in_ok-order.ensures.found records shown clean_1) (c.subscriber_at.ensures.found records shown_1 clean)
+pub returns-in_err-order : goal.returns-in_err-order
+returns-in_err-order g c = not_found _ c.from_residual.result c.from_residual.ensures.0 c.order_at.ensures.looked
 
-pub returns-clause-looked : goal.returns-clause-looked
-returns-clause-looked g c = looked_then c.order_at.ensures.looked c.subscriber_at.ensures.looked
+pub returns : goal.returns
+returns g c =
+    so (and_so c.in_ok-order.ensures c.subscriber_at.ensures) (λ records sound it. owner_is records c.args.id c.in_ok-order.order c.subscriber_at.result it.0 it.1)

@@ -1,10 +1,8 @@
 use Rattle.std.proofs.Common.{◌∙◌, ap}
 use Rattle.std.specs.Prelude.{filter_map}
 use Rattle.std.proofs.lemmas.List.{take_all}
-use Rattle.reg_tables.proofs.Staying.{looked_then}
+use Rattle.reg_store_tables.proofs.PublicLaws.{and_so, by_none, looked_none, looked_then, not_found, so}
 use Rattle.reg_office.specs.Numbered.{certificate_listed}
-use Rattle.reg_office.proofs.Composing.{looked_none}
-use Rattle.reg_office.proofs.Looking.{and_so, by_kept, by_none, not_found, so}
 use Rattle.reg_office.proofs.Paging.{row_more}
 use Rattle.reg_office.proofs.pages.certificate_rows.Goals as goal
 
@@ -13,7 +11,7 @@ loop-certificate-init g c = by_none looked_none (λ records. c.new-rows.ensures.
 
 pub loop-certificate-preserved : goal.loop-certificate-preserved
 loop-certificate-preserved g c =
-    so (and_so c.loop-certificate.invariant (by_kept c.certificate_listed.ensures.looked c.in_ok-row.ensures.found))
+    so (and_so c.loop-certificate.invariant c.in_ok-row.ensures)
     (λ records sound it. row_more (certificate_listed records c.args.now c.args.before.now) c.args.found.now c.loop-certificate.certificate-index c.certificate-item.result c.in_ok-row.row c.loop-certificate.rows.items c.put.new.rows.items
     c.loop-certificate-test.true c.certificate-item.is it.1 it.0 c.in_ok-put.ensures.ok)
 

@@ -1,5 +1,4 @@
-use Rattle.reg_tables.proofs.Staying.{kept_shows, looked_then}
-use Rattle.reg_office.proofs.Looking.{and_so, not_found, so}
+use Rattle.reg_store_tables.proofs.PublicLaws.{and_so, by_finding_sound, looked_then, not_found, so}
 use Rattle.reg_office.proofs.Paging.{certificates_page}
 use Rattle.reg_office.proofs.pages.certificates.Goals as goal
 
@@ -11,11 +10,7 @@ returns-in_err-rows g c = not_found _ c.from_residual-in_err-rows.result c.from_
 
 pub returns : goal.returns
 returns g c =
-    let found = c.in_ok-found.ensures.found in
-    so
-    (and_so
-    (record { looked = c.certs_after.ensures.looked; found = λ records kept sound clean. found records (kept_shows g.C.Store c.args.store.now records kept) sound clean })
-    c.in_ok-rows.ensures)
+    so (and_so (by_finding_sound c.in_ok-found.ensures) c.in_ok-rows.ensures)
     (λ records sound it.
     let is = certificates_page records c.args.now c.args.most c.args.before c.args.after
     c.in_ok-found.found.items c.deref.result.now c.deref-2.result.now c.in_ok-rows.rows.items c.last_certificate-last.result c.certificates_behind-next.result it.0 c.deref.ensures.value c.deref-2.ensures.value it.1

@@ -1,6 +1,6 @@
 use Rattle.std.proofs.Common.{Some, refl}
 use Rattle.reg_core.specs.declared.rows.CrlRow.{CrlRow}
-use Rattle.reg_lists.specs.declared.rows.Row.TheVariants.{Crl}
+use Rattle.reg_core_lists.specs.declared.rows.Row.TheVariants.{Crl}
 use Rattle.reg_office.proofs.Paging.{row_more}
 use Rattle.reg_office.proofs.pages.crl_rows.Goals as goal
 

@@ -1,6 +1,6 @@
 use Rattle.std.proofs.Common.{◌≡◌, take}
 use Rattle.std.specs.Prelude.{Some, filter_map}
-use Rattle.reg_lists.specs.declared.rows.Row.TheVariants.{Crl}
+use Rattle.reg_core_lists.specs.declared.rows.Row.TheVariants.{Crl}
 use Rattle.reg_office.proofs.pages.crl_rows.Given as goal
 
 abbrev pub invariant-loop-crl : goal.invariant-loop-crl

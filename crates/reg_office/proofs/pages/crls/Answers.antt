@@ -1,5 +1,4 @@
-use Rattle.reg_office.proofs.Composing.{gives_none}
-use Rattle.reg_office.proofs.Looking.{by_none, by_shown, so}
+use Rattle.reg_store_tables.proofs.PublicLaws.{by_finding, by_none, gives_none, so}
 use Rattle.reg_office.proofs.Paging.{crls_page}
 use Rattle.reg_office.proofs.pages.crls.Goals as goal
 
@@ -11,7 +10,7 @@ returns-in_err-rows g c = by_none c.crls_after.ensures.looked (λ records now. g
 
 pub returns : goal.returns
 returns g c =
-    so (by_shown c.crls_after.ensures.looked c.in_ok-found.ensures.found)
+    so (by_finding c.in_ok-found.ensures)
     (λ records sound it now.
     let is = crls_page records c.args.after c.args.most c.in_ok-found.found.items c.deref.result.now c.deref-2.result.now c.in_ok-rows.rows.items c.last_crl-last.result c.crls_behind-next.result
     it c.deref.ensures.value c.deref-2.ensures.value c.in_ok-rows.ensures.found c.last_crl-last.ensures c.crls_behind-next.ensures now in

@@ -1,6 +1,6 @@
-use Rattle.reg_tables.proofs.Staying.{looked_then}
+use Rattle.reg_store_tables.proofs.PublicLaws.{and_so, by_finding, looked_then, so}
 use Rattle.reg_office.proofs.Asking.{clock_refuses, passes}
-use Rattle.reg_office.proofs.Looking.{and_so, by_shown, decided_against, decided_for, not_decided, so}
+use Rattle.reg_office.proofs.Looking.{decided_against, decided_for, not_decided}
 use Rattle.reg_office.proofs.pages.page.Goals as goal
 
 pub returns-in_err-last : goal.returns-in_err-last
@@ -9,7 +9,7 @@ returns-in_err-last g c = not_decided c.from_residual.result c.in_err-last.field
 pub returns-in_err-clock : goal.returns-in_err-clock
 returns-in_err-clock g c =
     decided_against c.from_residual-in_err-clock.result c.in_err-clock.field-0.0 c.from_residual-in_err-clock.ensures.1
-    (so (by_shown c.last.ensures.looked c.in_ok-last.ensures.found)
+    (so (by_finding c.in_ok-last.ensures)
     (λ records sound it. clock_refuses c.args.now c.in_ok-last.last records.last c.in_err-clock.field-0.0 it c.in_err-clock.ensures))
 
 pub returns-in_err-page_of : goal.returns-in_err-page_of
@@ -20,5 +20,5 @@ pub returns : goal.returns
 returns g c =
     decided_for _
     (and_so
-    (so (by_shown c.last.ensures.looked c.in_ok-last.ensures.found) (λ records sound it. passes c.args.now c.in_ok-last.last records.last c.in_ok-clock.field-0 it c.in_ok-clock.ensures))
+    (so (by_finding c.in_ok-last.ensures) (λ records sound it. passes c.args.now c.in_ok-last.last records.last c.in_ok-clock.field-0 it c.in_ok-clock.ensures))
     c.in_ok-page_of.ensures)

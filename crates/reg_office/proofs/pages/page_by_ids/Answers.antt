@@ -1,11 +1,9 @@
 use Rattle.std.proofs.Common.{◌≡◌, ◌∙◌, ◌+◌, ap, arith, refl}
 use Rattle.std.specs.Prelude.{filter_map, min}
-use Rattle.reg_lists.proofs.Numbers.{numbers}
-use Rattle.reg_tables.proofs.Staying.{looked_then}
-use Rattle.reg_tables.specs.Tables.{rows_of}
+use Rattle.reg_core_lists.proofs.PublicLaws.{numbers}
+use Rattle.reg_store_tables.specs.Tables.{rows_of}
+use Rattle.reg_store_tables.proofs.PublicLaws.{and_so, by_finding, by_none, looked_none, looked_then, not_found, so}
 use Rattle.reg_office.specs.Numbered.{row_at, numbered_table}
-use Rattle.reg_office.proofs.Composing.{looked_none}
-use Rattle.reg_office.proofs.Looking.{and_so, by_none, by_shown, not_found, so}
 use Rattle.reg_office.proofs.Paging.{ended_at, id_more, no_ids, numbered_page}
 use Rattle.reg_office.proofs.pages.page_by_ids.Goals as goal
 
@@ -21,14 +19,14 @@ loop-before-init g c = record {
 pub loop-before-preserved : goal.loop-before-preserved
 loop-before-preserved g c = record {
   stays = λ none. absurd (omega arith);
-  looks = so (and_so c.loop-before.invariant.looks (by_shown c.row_at.ensures.looked c.in_ok-row.ensures.found))
+  looks = so (and_so c.loop-before.invariant.looks c.in_ok-row.ensures)
       (λ records sound it. id_more (row_at records c.args.now c.args.list) c.args.after c.loop-before.before c.in_ok-row.row c.loop-before.rows.items c.put.new.rows.items c.loop-before.auto.before
       it.1 it.0 c.in_ok-put.ensures.ok);
 }
 
 pub returns : goal.returns
 returns g c =
-    so (and_so (by_shown c.held.ensures.looked c.in_ok-held.ensures.found) c.loop-before.invariant.looks)
+    so (and_so (by_finding c.in_ok-held.ensures) c.loop-before.invariant.looks)
     (λ records sound it.
     let end : c.end_of-end.result ≡ min (rows_of records (numbered_table c.args.list)) (c.args.after + c.args.most) =
     c.end_of-end.ensures ∙ ap (λ rows. min rows (c.args.after + c.args.most)) (it.0 ∙ ap (rows_of records) c.table_of.ensures) in

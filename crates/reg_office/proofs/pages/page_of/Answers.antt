@@ -1,4 +1,4 @@
-use Rattle.reg_office.proofs.Looking.{so}
+use Rattle.reg_store_tables.proofs.PublicLaws.{so}
 use Rattle.reg_office.proofs.pages.page_of.Goals as goal
 
 pub returns-in-Revoked : goal.returns-in-Revoked

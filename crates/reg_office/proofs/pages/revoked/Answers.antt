@@ -1,9 +1,8 @@
-use Rattle.reg_tables.proofs.Staying.{kept_shows, looked_then}
-use Rattle.reg_office.proofs.Looking.{and_so, not_found, so}
 use Rattle.std.proofs.Common.{Some}
 use Rattle.reg_core.specs.declared.rows.RevocationRow.{RevocationRow}
-use Rattle.reg_lists.specs.Lists.{revoked_row, key_of}
-use Rattle.reg_lists.specs.declared.cursor.Cursor.TheVariants.{Revoked}
+use Rattle.reg_core_lists.specs.Lists.{revoked_row, key_of}
+use Rattle.reg_core_lists.specs.declared.cursor.Cursor.TheVariants.{Revoked}
+use Rattle.reg_store_tables.proofs.PublicLaws.{and_so, by_finding_sound, looked_then, not_found, so}
 use Rattle.reg_office.proofs.Paging.{keyed_page}
 use Rattle.reg_office.proofs.pages.revoked.Goals as goal
 
@@ -15,11 +14,7 @@ returns-in_err-rows g c = not_found _ c.from_residual-in_err-rows.result c.from_
 
 pub returns : goal.returns
 returns g c =
-    let found = c.in_ok-found.ensures.found in
-    so
-    (and_so
-    (record { looked = c.revocations_after.ensures.looked; found = λ records kept sound clean. found records (kept_shows g.C.Store c.args.store.now records kept) sound clean })
-    c.in_ok-rows.ensures)
+    so (and_so (by_finding_sound c.in_ok-found.ensures) c.in_ok-rows.ensures)
     (λ records sound it.
     let is = keyed_page (λ (row : RevocationRow). row.serial) (revoked_row records c.args.now) (λ serial. Revoked (Some serial)) (key_of c.args.after) c.args.most records.revocations
     c.in_ok-found.found.items c.deref.result.now c.deref-2.result.now c.in_ok-rows.rows.items c.last_revocation-last.result c.revoked_behind-next.result it.0 c.deref.ensures.value c.deref-2.ensures.value it.1

@@ -1,10 +1,8 @@
 use Rattle.std.proofs.Common.{◌∙◌, ap}
 use Rattle.std.specs.Prelude.{filter_map}
 use Rattle.std.proofs.lemmas.List.{take_all}
-use Rattle.reg_tables.proofs.Staying.{looked_then}
-use Rattle.reg_lists.specs.Lists.{revoked_row}
-use Rattle.reg_office.proofs.Composing.{looked_none}
-use Rattle.reg_office.proofs.Looking.{and_so, by_kept, by_none, not_found, so}
+use Rattle.reg_core_lists.specs.Lists.{revoked_row}
+use Rattle.reg_store_tables.proofs.PublicLaws.{and_so, by_none, looked_none, looked_then, not_found, so}
 use Rattle.reg_office.proofs.Paging.{row_more}
 use Rattle.reg_office.proofs.pages.revoked_rows.Goals as goal
 
@@ -13,7 +11,7 @@ loop-revocation-init g c = by_none looked_none (λ records. c.new-rows.ensures.i
 
 pub loop-revocation-preserved : goal.loop-revocation-preserved
 loop-revocation-preserved g c =
-    so (and_so c.loop-revocation.invariant (by_kept c.revoked_row.ensures.looked c.in_ok-row.ensures.found))
+    so (and_so c.loop-revocation.invariant c.in_ok-row.ensures)
     (λ records sound it. row_more (revoked_row records c.args.now) c.args.found.now c.loop-revocation.revocation-index c.revocation-item.result c.in_ok-row.row c.loop-revocation.rows.items c.put.new.rows.items
     c.loop-revocation-test.true c.revocation-item.is it.1 it.0 c.in_ok-put.ensures.ok)
 

@@ -1,7 +1,6 @@
 use Rattle.std.proofs.Common.{◌∙◌}
 use Rattle.reg_core.specs.Due.{due_by}
-use Rattle.reg_tables.proofs.Staying.{looked_then}
-use Rattle.reg_office.proofs.Looking.{and_so, by_shown, not_found, so}
+use Rattle.reg_store_tables.proofs.PublicLaws.{and_so, by_finding, looked_then, not_found, so}
 use Rattle.reg_office.proofs.queries.next_crl.Goals as goal
 
 pub returns-in_err-policy : goal.returns-in_err-policy
@@ -18,5 +17,5 @@ returns-in_err-earliest g c =
 
 pub returns : goal.returns
 returns g c =
-    so (and_so (and_so (by_shown c.policy.ensures.looked c.in_ok-policy.ensures.found) c.in_ok-latest.ensures.looks) c.in_ok-earliest.ensures.looks)
+    so (and_so (and_so (by_finding c.in_ok-policy.ensures) c.in_ok-latest.ensures.looks) c.in_ok-earliest.ensures.looks)
     (λ records sound it. c.due_of.ensures ∙ (λ i. due_by (it.0.0 i) (it.0.1 i) (it.1 i)))

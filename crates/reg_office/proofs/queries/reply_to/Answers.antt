@@ -1,8 +1,9 @@
 use Rattle.std.proofs.Common.{refl, sym, ap}
 use Rattle.reg_core.specs.declared.command.Query.TheVariants.{Status as AskStatus, Counts as AskCounts, Listing as AskListing, Overdue as AskOverdue, NextCrl as AskNextCrl}
 use Rattle.reg_core.specs.declared.command.Reply.TheVariants.{Status as StatusIs, Counts as CountsAre, Listing as ListingIs, Overdue as OverdueAre, NextCrl as NextCrlIs}
+use Rattle.reg_store_tables.proofs.PublicLaws.{by_finding, by_finding_kept, so}
 use Rattle.reg_office.proofs.Asking.{asked_as, known_serial, replied}
-use Rattle.reg_office.proofs.Looking.{by_shown, decided_as, not_decided, so}
+use Rattle.reg_office.proofs.Looking.{decided_as, not_decided}
 use Rattle.reg_office.proofs.queries.reply_to.Goals as goal
 
 pub returns-in_err-status_at-in-Status : goal.returns-in_err-status_at-in-Status
@@ -18,10 +19,8 @@ returns-in_err-counts-in-Counts g c =
 
 pub returns-in_ok-counts-in-Counts : goal.returns-in_ok-counts-in-Counts
 returns-in_ok-counts-in-Counts g c =
-    replied c.args.query.now AskCounts c.in-Counts.is (record {
-      looked = c.counts.ensures.looked;
-      found = λ records kept sound clean before. (refl, ap CountsAre (sym (c.in_ok-counts-in-Counts.ensures.found records kept sound before clean)));
-    })
+    replied c.args.query.now AskCounts c.in-Counts.is
+    (so (by_finding_kept c.in_ok-counts-in-Counts.ensures) (λ records sound it before. (refl, ap CountsAre (sym (it sound before)))))
 
 pub returns-in_err-listing-in-Listing : goal.returns-in_err-listing-in-Listing
 returns-in_err-listing-in-Listing g c =
@@ -40,7 +39,7 @@ returns-in_err-open_past_due-in-Overdue g c =
 pub returns-in_ok-open_past_due-in-Overdue : goal.returns-in_ok-open_past_due-in-Overdue
 returns-in_ok-open_past_due-in-Overdue g c =
     replied c.args.query.now AskOverdue c.in-Overdue.is
-    (so (by_shown c.open_past_due.ensures.looked c.in_ok-open_past_due-in-Overdue.ensures.found) (λ records sound it before. (refl, ap OverdueAre (sym it))))
+    (so (by_finding c.in_ok-open_past_due-in-Overdue.ensures) (λ records sound it before. (refl, ap OverdueAre (sym it))))
 
 pub returns-in_err-next_crl-in-NextCrl : goal.returns-in_err-next_crl-in-NextCrl
 returns-in_err-next_crl-in-NextCrl g c =

@@ -1,6 +1,5 @@
 use Rattle.std.proofs.Common.{refl, sym, ◌∙◌}
-use Rattle.reg_tables.proofs.Staying.{looked_then}
-use Rattle.reg_office.proofs.Looking.{and_so, by_shown, not_found, so}
+use Rattle.reg_store_tables.proofs.PublicLaws.{and_so, by_finding, looked_then, not_found, so}
 use Rattle.reg_office.proofs.requests.case_of.Goals as goal
 
 pub returns-in_err-request : goal.returns-in_err-request
@@ -8,7 +7,7 @@ returns-in_err-request g c = not_found _ c.from_residual.result c.from_residual.
 
 pub returns-in-None : goal.returns-in-None
 returns-in-None g c =
-    so (by_shown c.request.ensures.looked c.in_ok-request.ensures.found)
+    so (by_finding c.in_ok-request.ensures)
     (λ records sound it. record { request = sym c.in-None.is ∙ it; certificate = refl; revocation = refl })
 
 pub returns-in_err-certificate-in-Some : goal.returns-in_err-certificate-in-Some
@@ -17,5 +16,5 @@ returns-in_err-certificate-in-Some g c =
 
 pub returns-in_ok-certificate-in-Some : goal.returns-in_ok-certificate-in-Some
 returns-in_ok-certificate-in-Some g c =
-    so (and_so (by_shown c.request.ensures.looked c.in_ok-request.ensures.found) c.in_ok-certificate-in-Some.ensures)
+    so (and_so (by_finding c.in_ok-request.ensures) c.in_ok-certificate-in-Some.ensures)
     (λ records sound it. record { request = sym c.in-Some.is ∙ it.0; certificate = it.1.0; revocation = it.1.1 })

@@ -4,10 +4,10 @@ use Rattle.reg_core.specs.Step.{refusal}
 use Rattle.reg_core.specs.declared.change.Change.TheVariants as change
 use Rattle.reg_core.specs.declared.command.Command.TheVariants.{Request}
 use Rattle.reg_core.specs.declared.command.Reply.TheVariants.{Request as RequestEntered}
-use Rattle.reg_tables.proofs.Staying.{looked_then}
+use Rattle.reg_store_tables.proofs.PublicLaws.{and_so, looked_then, so}
 use Rattle.reg_office.specs.Looking.{IsAcceptance, LooksAndDecides}
 use Rattle.reg_office.proofs.Deciding.{request_due, request_to_do}
-use Rattle.reg_office.proofs.Looking.{and_so, decided_against, decided_for, not_decided, so}
+use Rattle.reg_office.proofs.Looking.{decided_against, decided_for, not_decided}
 use Rattle.reg_office.proofs.requests.enter_request.Goals as goal
 
 pub returns-in_err-head : goal.returns-in_err-head
@@ -28,7 +28,7 @@ pub returns : goal.returns
 returns g c =
     let row = c.in_ok-row.row in
     let due : c.plus-due.result ≡ c.args.now + limit_of row.ground = c.plus-due.ensures ∙ ap (λ (n : ℕ). c.args.now + n) c.limit_secs.ensures.limit in
-    subst (λ (d : ℕ). LooksAndDecides g.C.Store c.args.store.now c.certificate_of.new.store (λ records. refusal records c.args.now (Request c.args.serial c.args.word)) (IsAcceptance c.args.now (Request c.args.serial c.args.word))
+    subst (λ (d : ℕ). LooksAndDecides g.C.Store c.args.tables.now c.certificate_of.new.tables (λ records. refusal records c.args.now (Request c.args.serial c.args.word)) (IsAcceptance c.args.now (Request c.args.serial c.args.word))
     (Ok (RequestEntered row.id d, change.Request row))) (sym due)
     (decided_for _
     (so (and_so c.in_ok-head.ensures c.in_ok-certificate.ensures)

@@ -1,8 +1,6 @@
 use Rattle.std.proofs.Common.{sym, ap, subst, ◌∙◌, arith}
 use Rattle.reg_ocsp.specs.Views.{answered}
-use Rattle.reg_tables.proofs.Staying.{looked_then}
-use Rattle.reg_office.proofs.Composing.{gives_none, looked_none}
-use Rattle.reg_office.proofs.Looking.{and_so, by_none, so}
+use Rattle.reg_store_tables.proofs.PublicLaws.{and_so, by_none, gives_none, looked_none, looked_then, so}
 use Rattle.reg_office.proofs.Responding.{AreTold, answered_push, told_push}
 use Rattle.reg_office.proofs.statuses.answers.Goals as goal
 

@@ -1,6 +1,6 @@
 use Rattle.std.proofs.Common.{◌≡◌, ◌∙◌}
 use Rattle.reg_core.specs.Status.{status_by}
-use Rattle.reg_office.proofs.Looking.{not_found, so}
+use Rattle.reg_store_tables.proofs.PublicLaws.{not_found, so}
 use Rattle.reg_office.proofs.statuses.status_at.Goals as goal
 
 pub returns-in_err-certificate : goal.returns-in_err-certificate

@@ -2,8 +2,7 @@ use Rattle.std.proofs.Common.{inl, inr, refl, sym, subst}
 use Rattle.reg_core.specs.Issuer.{Issuer}
 use Rattle.reg_ocsp.specs.Matching.{IsMatch}
 use Rattle.reg_ocsp.specs.Views.{id_seen}
-use Rattle.reg_office.proofs.Composing.{gives_none, looked_none}
-use Rattle.reg_office.proofs.Looking.{by_none, so}
+use Rattle.reg_store_tables.proofs.PublicLaws.{by_none, gives_none, looked_none, so}
 use Rattle.reg_office.proofs.statuses.told.Goals as goal
 
 pub returns-in_err-status_at-in-Some-clause-looks : goal.returns-in_err-status_at-in-Some-clause-looks

@@ -6,12 +6,11 @@ use Rattle.sqlite.specs.Effect.{Database}
 use Rattle.reg_core.specs.Records.{Records}
 use Rattle.sqlite.specs.Held.{state}
 use Rattle.sqlite.specs.State.{HasCleanDisk}
-use Rattle.reg_writing.proofs.Moving.{was_clean}
-use Rattle.reg_migration.specs.Older.{IsShownByOlder, ShowsOlder}
-use Rattle.reg_opening.specs.AfterStoppedOpening.{IsOpened}
-use Rattle.reg_tables.proofs.Staying.{kept_shows}
-use Rattle.reg_tables.specs.Kept.{ShowsKept}
-use Rattle.reg_tables.specs.Shows.{Shows}
+use Rattle.reg_store_tables.proofs.PublicLaws.{moving-was_clean as was_clean, kept_shows}
+use Rattle.reg_store_migration.specs.Older.{IsShownByOlder, ShowsOlder}
+use Rattle.reg_store_opening.specs.AfterStoppedOpening.{IsOpened}
+use Rattle.reg_store_tables.specs.Kept.{ShowsKept}
+use Rattle.reg_store_tables.specs.Shows.{Shows}
 use Rattle.reg_store.proofs.OpenedAgain.{holds_again, keeps_again, same_again, shows_again}
 use Rattle.reg_store.proofs.Resting.{IsUntouched, opened_rests}
 use Rattle.reg_store.proofs.laws.a_register_opened_after_a_stop_during_a_migration_shows_the_same_records.Goals as goal

@@ -3,8 +3,8 @@ use Rattle.std.proofs.Common.{◌≡◌, ◌⊎◌, inl, inr}
 use Rattle.std.proofs.Math.Logic.{∥∥₁_map}
 use Rattle.sqlite.specs.Held.{state}
 use Rattle.reg_core.specs.Records.{no_records}
-use Rattle.reg_tables.specs.Kept.{ShowsKept}
-use Rattle.reg_tables.specs.Schema.{no_schema}
+use Rattle.reg_store_tables.specs.Kept.{ShowsKept}
+use Rattle.reg_store_tables.specs.Schema.{no_schema}
 use Rattle.reg_store.proofs.OpenedAgain.{same_again, shows_again}
 use Rattle.reg_store.proofs.laws.a_register_opened_after_a_stop_during_create_is_none_or_an_empty_one.Goals as goal
 

@@ -4,8 +4,8 @@ use Rattle.std.proofs.Math.Logic.{∥∥₁_map}
 use Rattle.sqlite.specs.Held.{state}
 use Rattle.sqlite.specs.State.{HasCleanDisk}
 use Rattle.reg_core.specs.Changes.{with_schedule}
-use Rattle.reg_writing.proofs.Moving.{was_clean}
-use Rattle.reg_tables.specs.Kept.{ShowsKept}
+use Rattle.reg_store_tables.proofs.PublicLaws.{moving-was_clean as was_clean}
+use Rattle.reg_store_tables.specs.Kept.{ShowsKept}
 use Rattle.reg_store.proofs.OpenedAgain.{keeps_again, shows_again}
 use Rattle.reg_store.proofs.laws.a_register_opened_after_a_stop_has_the_schedule_before_or_after.Goals as goal
 

@@ -36,14 +36,14 @@ loop-now-preserved g c =
     c.loop-now.invariant.same_identity
     (record {
       step = λ stood standing clean.
-          subst (λ (w : Identity). CameTo s signs new w stood timed.0 timed.1 ran.result) ran.ensures.same_identity (ran.ensures.step stood standing clean);
-      live = ran.ensures.changed.live;
-      survives = ran.ensures.changed.survives;
+          subst (λ (w : Identity). CameTo s signs new w stood timed.0 timed.1 ran.result) ran.ensures.ran.same_identity (ran.ensures.ran.step stood standing clean);
+      live = ran.ensures.ran.changed.live;
+      survives = ran.ensures.ran.changed.survives;
     }) in
     let earlier = c.loop-now.invariant.came in
     record {
       room = omega (arith, c.in-Ok-push.ensures.len, c.in-Ok-push.ensures.capacity, c.loop-now.invariant.room);
-      same_identity = ran.ensures.same_identity ∙ c.loop-now.invariant.same_identity;
+      same_identity = ran.ensures.ran.same_identity ∙ c.loop-now.invariant.same_identity;
       same_responder = ran.ensures.same_responder ∙ c.loop-now.invariant.same_responder;
       came = (
         earlier.0 ++ ran.result ∷ [],

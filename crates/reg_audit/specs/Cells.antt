@@ -1,0 +1,14 @@
+-- What rows that were read say of a table's rows.
+use Rattle.std.specs.Prelude.{◌≡◌, ℕ, ◌+◌, List, [], ◌∷◌}
+use Rattle.sqlite_value.specs.Order.{Row, column}
+use Rattle.reg_store_tables.specs.Rows.{number}
+pub use Rattle.reg_store_tables.specs.ShownRows.{HasCells}
+
+-- the row is that of some record
+abbrev pub IsOfSomeRecord : {A : Type 0} → (A → Type 0) → (A → Row) → Row → Type 0
+IsOfSomeRecord {A = A} well shown row = (it : A) × well it × HasCells 0 row (shown it)
+
+-- the numbers in the first column rise by one
+abbrev pub CountedFrom : ℕ → List Row → Type 0
+CountedFrom from [] = Unit {0}
+CountedFrom from (row ∷ rows) = (column row 0 ≡ number from) × CountedFrom (from + 1) rows

@@ -1,0 +1,10 @@
+-- The numbers that an audit tells.
+use Rattle.std.specs.Prelude.{◌≡◌, length}
+use Rattle.reg_core.specs.Records.{Records}
+use Rattle.reg_audit_rows.specs.declared.verdict.Audited.{Audited}
+
+-- the certificates, the revocations and the CRLs of the records were counted
+pub record AreNumbersOf (records : Records) (found : Audited) : Type 0 where
+  pub certificates : found.certificates ≡ length records.certificates
+  pub revoked : found.revoked ≡ length records.revocations
+  pub crls : found.crls ≡ length records.crls

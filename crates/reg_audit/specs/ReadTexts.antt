@@ -1,0 +1,66 @@
+-- The texts by which the tables are read, and what is read by them.
+use Rattle.std.specs.Prelude.{ℕ, List, [], ◌∷◌}
+use Rattle.sqlite_value.specs.Order.{Row}
+use Rattle.sqlite.specs.Effect.{Database, Reads}
+use Rattle.sqlite.specs.Listing.{understood}
+use Rattle.reg_core.specs.Records.{Records}
+use Rattle.reg_store_tables.specs.Columns.{Columns}
+use Rattle.reg_store_tables.specs.ReadStatements.{command_of}
+use Rattle.reg_store_tables.specs.Schema.{register_schema}
+use Rattle.reg_store_tables.specs.Shows.{AreBoth}
+use Rattle.reg_audit.specs.declared.sql.What.{What}
+use Rattle.reg_audit.specs.declared.sql.What.TheVariants.{Office, Subscribers, Orders, Certificates, Requests, Revocations, Crls, Standings, Counts, Listings, CertificateRowids, RevocationRowids, StandingRowids, CountsRowid, ListingRowids, Terms, Steps}
+use Rattle.reg_audit.specs.declared.sql.TheConstants.{OFFICE, SUBSCRIBERS, ORDERS, CERTIFICATES, REQUESTS, REVOCATIONS, CRLS, STANDINGS, COUNTS, LISTINGS, CERTIFICATE_ROWIDS, REVOCATION_ROWIDS, STANDING_ROWIDS, COUNTS_ROWID, LISTING_ROWIDS, TERMS, STEPS}
+
+-- the text that reads a table whole
+abbrev pub text_of : What → List ℕ
+text_of Office = OFFICE.now
+text_of Subscribers = SUBSCRIBERS.now
+text_of Orders = ORDERS.now
+text_of Certificates = CERTIFICATES.now
+text_of Requests = REQUESTS.now
+text_of Revocations = REVOCATIONS.now
+text_of Crls = CRLS.now
+text_of Standings = STANDINGS.now
+text_of Counts = COUNTS.now
+text_of Listings = LISTINGS.now
+text_of CertificateRowids = CERTIFICATE_ROWIDS.now
+text_of RevocationRowids = REVOCATION_ROWIDS.now
+text_of StandingRowids = STANDING_ROWIDS.now
+text_of CountsRowid = COUNTS_ROWID.now
+text_of ListingRowids = LISTING_ROWIDS.now
+text_of Terms = TERMS.now
+text_of Steps = STEPS.now
+
+-- the rows are what a text reads of these tables
+abbrev pub IsReadFrom : Database → What → List Row → Type 0
+IsReadFrom db what rows = Reads (command_of (understood register_schema (text_of what))) db [] rows
+
+-- the rows are what a text reads of tables that show these records, and beside them these columns
+pub record IsReadOf (records : Records) (columns : Columns) (what : What) (rows : List Row) : Type 0 where
+  pub db : Database
+  pub both : AreBoth db records columns
+  pub reads : Reads (command_of (understood register_schema (text_of what))) db [] rows
+
+-- there are rows for each text, in this order
+abbrev pub AreEach : {Rows : Type 0} → (What → List Row → Type 0) → List What → List Rows → (Rows → List Row) → Type 0
+AreEach Is [] [] items = Unit {0}
+AreEach Is [] (rows ∷ more) items = ⊥
+AreEach Is (what ∷ whats) [] items = ⊥
+AreEach Is (what ∷ whats) (rows ∷ more) items = Is what (items rows) × AreEach Is whats more items
+
+-- which are what it reads of tables that show these records
+abbrev pub AreRead : {Rows : Type 0} → Records → Columns → List What → List Rows → (Rows → List Row) → Type 0
+AreRead records columns = AreEach (IsReadOf records columns)
+
+-- or of these tables
+abbrev pub AreReadFrom : {Rows : Type 0} → Database → List What → List Rows → (Rows → List Row) → Type 0
+AreReadFrom db = AreEach (IsReadFrom db)
+
+-- what an audit reads, in this order
+abbrev pub whole : List What
+whole = Office ∷ Subscribers ∷ Orders ∷ Certificates ∷ Requests ∷ Revocations ∷ Crls ∷ Standings ∷ Counts ∷ Listings ∷ []
+
+-- and what it reads besides
+abbrev pub read_besides : List What
+read_besides = CertificateRowids ∷ RevocationRowids ∷ StandingRowids ∷ CountsRowid ∷ ListingRowids ∷ Terms ∷ Steps ∷ []

@@ -1,0 +1,25 @@
+-- Which values a register's records have: tables could show others.
+use Rattle.std.specs.Prelude.{◌≡◌, ℕ, pos, ◌<◌}
+use Rattle.std.specs.List.{AllByRecursion}
+use Rattle.reg_core.specs.Calendar.{IsMoment, clock_end}
+use Rattle.reg_core.specs.Label.{IsLabel}
+use Rattle.reg_core.specs.Records.{Records}
+use Rattle.reg_core.specs.Schedule.{IsDays}
+use Rattle.reg_store_tables.specs.Columns.{Columns}
+pub use Rattle.reg_store_tables.specs.RecordValues.{IsValidity, AreMomentAndReason, HasValues}
+
+-- the days that the office was made with are some that a schedule can allow
+abbrev pub HasAllowedDays : Columns → Type 0
+HasAllowedDays columns = (days : ℕ) × (columns.days ≡ pos days) × IsDays days
+
+-- each value is one that a register's records, or what is kept beside them, can have; this follows where the records have such
+-- values and are sound, and what is kept follows from them
+pub record AreReadable (records : Records) (columns : Columns) : Type 0 where
+  pub office : records.last < clock_end
+  pub subscribers : AllByRecursion (λ row. IsLabel row.name) records.subscribers
+  pub certificates : AllByRecursion (λ row. IsValidity row.not_before row.not_after) records.certificates
+  pub requests : AllByRecursion (λ row. row.received < clock_end) records.requests
+  pub revocations : AllByRecursion (λ row. AreMomentAndReason row.at row.reason) records.revocations
+  pub crls : AllByRecursion (λ crl. crl.this_update < clock_end) records.crls
+  pub letters : AllByRecursion (λ row. IsMoment row.not_after) columns.letters
+  pub listed : AllByRecursion (λ row. AreMomentAndReason row.at row.reason × IsMoment row.not_after) columns.listed

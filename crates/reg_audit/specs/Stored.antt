@@ -1,0 +1,31 @@
+-- The bytes of the stored CRLs.
+use Rattle.std.specs.Prelude.{ℕ, ◌≤◌, List, Option, Some, length, IsSomeAnd}
+use Rattle.reg_core.specs.Crls.{CertList, cert_list}
+use Rattle.reg_core.specs.Records.{Records, crl_in}
+use Rattle.reg_core.specs.Sound.{KeysDiffer}
+use Rattle.reg_core.specs.Sequence.{◌>>=◌}
+use Rattle.reg_core.specs.declared.rows.CrlRow.{CrlRow}
+use Rattle.reg_crl.specs.Signing.{IsAlgorithm}
+use Rattle.reg_der.specs.ValueReading.{Parts, value_at}
+use Rattle.reg_audit_rows.specs.Crls.{IsCrlOf}
+use Rattle.reg_audit_rows.specs.declared.kept.Listed.{Listed}
+
+-- the bytes are the CRL of what is listed (RFC 5280 5.1), under one AlgorithmIdentifier, whatever its signature is: at most 2^28 bytes
+pub record IsSomeCrl (crl : CertList) (bytes : List ℕ) : Type 0 where
+  pub algorithm : List ℕ
+  pub form : IsAlgorithm algorithm
+  pub whole : IsCrlOf algorithm crl bytes
+  pub short : length bytes ≤ 268435456
+
+-- one row of each serial number, and no more than a CRL may list
+pub record CanList (listed : List Listed) : Type 0 where
+  pub differ : KeysDiffer (λ row. row.serial) listed
+  pub few : length listed ≤ 1000000
+
+-- the value behind what is signed in a CRL: its signatureAlgorithm (RFC 5280 5.1.1.2)
+abbrev pub behind_signed : List ℕ → Option Parts
+behind_signed bytes = value_at bytes >>= λ list. value_at list.0.contents >>= λ tbs. value_at tbs.1 >>= λ algorithm. Some algorithm.0
+
+-- there is a CRL with the number of a row (RFC 5280 5.2.3), and its bytes are those of what the records list in it
+abbrev pub IsStored : Records → CrlRow → Type 0
+IsStored records row = IsSomeAnd (crl_in records.crls row.number) (λ crl. IsSomeCrl (cert_list records row.number row.this_update) crl.bytes)

@@ -1,0 +1,55 @@
+//! Why an audit comes to no good end.
+
+ghost use Rattle.std.specs.Prelude.{◌≡◌, ◌⊎◌};
+
+use reg_audit_rows::{BrokenRow, CheckFault};
+use reg_store_tables::DatabaseFault;
+use std::alloc::AllocFailed;
+
+/// Why an audit comes to no good end.
+#[derive(Clone, Copy, PartialEq, Eq)]
+pub enum AuditFault {
+    /// Memory could not be had.
+    Memory,
+    /// The database failed.
+    Store,
+    /// A row breaks a rule.
+    Broken(BrokenRow),
+}
+
+impl From<DatabaseFault> for AuditFault {
+    ghost use Rattle.reg_audit.specs.Faults.{fault_of_call};
+    ghost use Rattle.reg_audit.specs.declared.fault.AuditFault.TheVariants.{Memory, Store};
+
+    ghost from_gives = { λ call fault. (fault ≡ fault_of_call call) × ((fault ≡ Memory) ⊎ (fault ≡ Store)) };
+
+    fn from(fault: DatabaseFault) -> AuditFault {
+        match fault {
+            DatabaseFault::Memory => AuditFault::Memory,
+            DatabaseFault::Store => AuditFault::Store,
+        }
+    }
+}
+
+impl From<CheckFault> for AuditFault {
+    ghost use Rattle.reg_audit.specs.Faults.{fault_of_check};
+
+    ghost from_gives = { λ found fault. fault ≡ fault_of_check found };
+
+    fn from(found: CheckFault) -> AuditFault {
+        match found {
+            CheckFault::Memory => AuditFault::Memory,
+            CheckFault::Broken(broken) => AuditFault::Broken(broken),
+        }
+    }
+}
+
+impl<T: Drop> From<AllocFailed<T>> for AuditFault {
+    ghost use Rattle.reg_audit.specs.declared.fault.AuditFault.TheVariants.{Memory};
+
+    ghost from_gives = { λ _ fault. fault ≡ Memory };
+
+    fn from(_error: AllocFailed<T>) -> AuditFault {
+        AuditFault::Memory
+    }
+}

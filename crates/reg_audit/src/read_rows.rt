@@ -1,0 +1,75 @@
+//! Whether what was read of the tables is a register.
+
+ghost use Rattle.std.specs.Prelude.{◌≡◌, ◌<◌, List, get_or, length, IfOk, IfErr};
+ghost use Rattle.sqlite.specs.Effect.{Database};
+ghost use Rattle.reg_core.specs.Records.{Records};
+ghost use Rattle.reg_core.specs.Sound.{SoundRows};
+ghost use Rattle.reg_store_tables.specs.Columns.{Columns};
+ghost use Rattle.reg_store_tables.specs.Kept.{Kept};
+ghost use Rattle.reg_audit.specs.Numbers.{AreNumbersOf};
+ghost use Rattle.reg_audit.specs.ReadTexts.{IsReadOf, IsReadFrom, AreRead, AreReadFrom, whole};
+ghost use Rattle.reg_audit.specs.Faults.{EndsAtBrokenRow};
+ghost use Rattle.reg_audit.specs.ReadableValues.{HasValues};
+
+use crate::fault::AuditFault;
+use crate::sql::What;
+use crate::tables::{
+    certificates, counts, crls, letters, listings, office, orders, requests, revocations,
+    subscribers,
+};
+use reg_audit_rows::{Audited, KeptRows, Rows, check};
+use sqlite::Row;
+use std::alloc::Global;
+
+/// The rows of the table that was read at a place.
+pub(crate) fn rows_at(all: &[Vec<Row>], place: usize) -> &[Row]
+    ensures read { (records : Records) → (columns : Columns) → (whats : List What) → (other : What) → AreRead records columns whats all.now (λ rows. rows.items)
+        → place < length whats → IsReadOf records columns (get_or whats place other) result.now }
+    ensures from { (db : Database) → (whats : List What) → (other : What) → AreReadFrom db whats all.now (λ rows. rows.items)
+        → place < length whats → IsReadFrom db (get_or whats place other) result.now }
+{
+    match all.get(place) {
+        Some(rows) => rows.as_slice(),
+        None => &[],
+    }
+}
+
+/// Whether the rows are those of a register, in the order of [`crate::auditing::WHOLE`].
+pub(crate) fn check_read(alloc: Global, all: &[Vec<Row>]) -> Result<Audited, AuditFault>
+    ensures sound { (records : Records) → (columns : Columns) → AreRead records columns whole all.now (λ rows. rows.items) → IfOk result (λ _. SoundRows records × Kept columns records) }
+    ensures counted { (records : Records) → (columns : Columns) → AreRead records columns whole all.now (λ rows. rows.items) → IfOk result (AreNumbersOf records) }
+    ensures broken { (records : Records) → (columns : Columns) → AreRead records columns whole all.now (λ rows. rows.items)
+        → IfErr result (λ fault. EndsAtBrokenRow fault → ¬ (HasValues records × SoundRows records × Kept columns records)) }
+{
+    let office = office(rows_at(all, 0))?;
+    let subscribers = subscribers(alloc, rows_at(all, 1))?;
+    let orders = orders(alloc, rows_at(all, 2))?;
+    let certificates = certificates(alloc, rows_at(all, 3))?;
+    let requests = requests(alloc, rows_at(all, 4))?;
+    let revocations = revocations(alloc, rows_at(all, 5))?;
+    let crls = crls(alloc, rows_at(all, 6))?;
+    let letters = letters(alloc, rows_at(all, 7))?;
+    let counts = counts(rows_at(all, 8))?;
+    let listed = listings(alloc, rows_at(all, 9))?;
+    let rows = Rows {
+        cap: office.cap,
+        last: office.last,
+        subscribers: &subscribers,
+        orders: &orders,
+        certificates: &certificates,
+        requests: &requests,
+        revocations: &revocations,
+        crls: &crls,
+    };
+    let beside = KeptRows {
+        letters: &letters,
+        counts,
+        listed: &listed,
+    };
+    check(alloc, &rows, &beside)?;
+    Ok(Audited {
+        certificates: certificates.len(),
+        revoked: revocations.len(),
+        crls: crls.len(),
+    })
+}

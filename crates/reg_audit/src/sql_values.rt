@@ -1,0 +1,25 @@
+//! The one value of SQL that is no value of a record: the state letter.
+
+ghost use Rattle.std.specs.Prelude.{◌≡◌, Some, IfSome};
+ghost use Rattle.sqlite_value.specs.declared.value.Value.TheVariants.{Text};
+ghost use Rattle.sqlite_value.specs.Order.{column};
+ghost use Rattle.reg_store_tables.specs.Columns.{letter_text};
+ghost use Rattle.reg_audit_rows.specs.KeptAsRead.{letter_in};
+
+use reg_audit_rows::Letter;
+use sqlite::Row;
+use sqlite::types::ValueRef;
+
+/// The state letter in a column.
+pub(crate) fn letter_at(row: &Row, at: usize) -> Option<Letter>
+    ensures read { (letter : Letter) → column row.now at ≡ Text (letter_text (letter_in letter)) → result ≡ Some letter }
+    ensures told { IfSome result (λ letter. column row.now at ≡ Text (letter_text (letter_in letter))) }
+{
+    match row.get_ref(at) {
+        Ok(ValueRef::Text(b"G")) => Some(Letter::Good),
+        Ok(ValueRef::Text(b"R")) => Some(Letter::Revoked),
+        Ok(ValueRef::Text(b"X")) => Some(Letter::Expired),
+        Ok(_) => None,
+        Err(_) => None,
+    }
+}

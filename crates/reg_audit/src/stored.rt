@@ -1,0 +1,199 @@
+//! Whether the bytes of the stored CRLs are those of what the records list.
+
+ghost use Rattle.std.specs.Prelude.{◌≡◌, ◌<◌, ◌≤◌, length, OnOk, IfOk, IfErr, IfSome, IsSomeAnd};
+ghost use Rattle.std.specs.List.{AllByRecursion};
+ghost use Rattle.sqlite.specs.Held.{state};
+ghost use Rattle.sqlite.specs.State.{HasCleanDisk};
+ghost use Rattle.reg_core.specs.Calendar.{clock_end};
+ghost use Rattle.reg_core.specs.Crls.{CertList, cert_list};
+ghost use Rattle.reg_core.specs.Records.{Records};
+ghost use Rattle.reg_core.specs.Sound.{CrlsSigned, KeysDiffer, SoundRows};
+ghost use Rattle.reg_crl.specs.Signing.{IsAlgorithm};
+ghost use Rattle.reg_der.specs.Der.{IsTlv};
+ghost use Rattle.reg_der.specs.ValueReading.{Gives};
+ghost use Rattle.reg_store_tables.specs.Columns.{Columns};
+ghost use Rattle.reg_store_tables.specs.Kept.{Kept};
+ghost use Rattle.reg_store_tables.specs.Shows.{Shows, ShowsBoth};
+ghost use Rattle.reg_store_tables.specs.Stays.{Looked};
+ghost use Rattle.reg_audit_rows.specs.Crls.{Lists};
+ghost use Rattle.reg_audit.specs.ReadTexts.{AreRead, whole};
+ghost use Rattle.reg_audit.specs.Faults.{EndsAtBrokenRow, IsBrokenRow};
+ghost use Rattle.reg_audit.specs.Stored.{CanList, IsSomeCrl, IsStored, behind_signed};
+ghost use Rattle.reg_audit.specs.ReadableValues.{HasValues};
+
+use crate::fault::AuditFault;
+use crate::read_rows::rows_at;
+use crate::tables::{crls, listings};
+use crate::watch::Watch;
+use reg_audit_rows::{BrokenRow, CheckFault, Defect, Listed, RegisterTable, check_crl};
+use reg_core::{CrlRow, Moment};
+use reg_der::{Issuer, Tlv, take};
+use reg_store_tables::DatabaseFault;
+use sqlite::{Alter, Connection, Row};
+use std::alloc::Global;
+
+/// The tag octet of a SEQUENCE (X.690 8.9).
+const SEQUENCE: u8 = 0x30;
+
+/// The most octets of an AlgorithmIdentifier.
+const MOST_ALGORITHM: usize = 1_024;
+
+/// The most octets of a CRL: those that are made here have little more than half as many at most.
+const MOST_CRL: usize = 268_435_456;
+
+/// The bytes of the CRL with a number are not those of what the records list.
+fn other_bytes(number: u64) -> AuditFault
+    ensures { ¬ IsBrokenRow result }
+{
+    AuditFault::Broken(BrokenRow {
+        table: RegisterTable::Crl,
+        row: number,
+        why: Defect::OtherBytes,
+    })
+}
+
+/// The value behind what is signed in a CRL (RFC 5280 5.1.1).
+fn value_behind_signed(crl: &[u8]) -> Option<Tlv<'_>>
+    ensures exact { Gives (λ value. record { tag = value.tag; contents = value.contents.now }) result (behind_signed crl.now) }
+    ensures value { IfSome result (λ value. IsTlv value.raw.now value.tag value.contents.now) }
+{
+    let (list, _) = take(crl)?;
+    let (_, behind_tbs) = take(list.contents)?;
+    let (algorithm, _) = take(behind_tbs)?;
+    Some(algorithm)
+}
+
+/// A value as an AlgorithmIdentifier (RFC 5280 4.1.1.2), where it is one.
+fn as_algorithm(value: Tlv<'_>) -> Option<&[u8]>
+    ensures found { IsTlv value.entry.raw.now value.entry.tag value.entry.contents.now → IfSome result (λ found. IsAlgorithm found.now) }
+    ensures one { value.entry.tag ≡ 48 → length value.entry.raw.now ≤ 1024 → IsSomeAnd result (λ found. found.now ≡ value.entry.raw.now) }
+{
+    if value.tag == SEQUENCE && value.raw.len() <= MOST_ALGORITHM {
+        Some(value.raw)
+    } else {
+        None
+    }
+}
+
+/// The AlgorithmIdentifier before the signature of a CRL (RFC 5280 5.1.1.2), where one stands there.
+fn algorithm_in(crl: &[u8]) -> Option<&[u8]>
+    ensures found { IfSome result (λ found. IsAlgorithm found.now) }
+    ensures one { (list : CertList) → (is : IsSomeCrl list crl.now) → IsSomeAnd result (λ found. found.now ≡ is.algorithm) }
+{
+    match value_behind_signed(crl) {
+        Some(value) => as_algorithm(value),
+        None => None,
+    }
+}
+
+/// The bytes are those of the CRL that the records list, under the algorithm that stands in them.
+fn check_bytes(
+    alloc: Global,
+    issuer: &Issuer,
+    crl_life: u64,
+    listed: &[Listed],
+    crl: &CrlRow,
+    bytes: &[u8],
+) -> Result<(), AuditFault>
+    requires { crl_life ≤ 863999 }
+    ensures bytes { (records : Records) → Lists issuer.now crl_life listed.now records → OnOk result (IsSomeCrl (cert_list records crl.now.number crl.now.this_update) bytes.now) }
+    ensures others { (records : Records) → Lists issuer.now crl_life listed.now records → CanList listed.now → crl.now.this_update < clock_end
+        → IfErr result (λ fault. EndsAtBrokenRow fault → ¬ IsSomeCrl (cert_list records crl.now.number crl.now.this_update) bytes.now) }
+    ensures rows { IfErr result (λ fault. ¬ IsBrokenRow fault) }
+{
+    if bytes.len() > MOST_CRL {
+        return Err(other_bytes(crl.number));
+    }
+    // No row is read with such a thisUpdate: the test is what makes nextUpdate a moment.
+    if crl.this_update >= Moment::CLOCK_END {
+        return Err(other_bytes(crl.number));
+    }
+    match algorithm_in(bytes) {
+        Some(algorithm) => {
+            match check_crl(alloc, issuer, algorithm, crl_life, listed, crl, bytes) {
+                Ok(()) => Ok(()),
+                Err(CheckFault::Memory) => Err(AuditFault::Memory),
+                Err(CheckFault::Broken(_)) => Err(other_bytes(crl.number)),
+            }
+        }
+        None => Err(other_bytes(crl.number)),
+    }
+}
+
+/// The stored bytes of one CRL are those of what the records list in it.
+fn check_stored<S: Alter>(
+    alloc: Global,
+    conn: &mut Connection<S>,
+    issuer: &Issuer,
+    crl_life: u64,
+    listed: &[Listed],
+    crl: &CrlRow,
+) -> Result<(), AuditFault>
+    requires { crl_life ≤ 863999 }
+    ensures bytes { (records : Records) → Shows S.Store conn.old records → Lists issuer.now crl_life listed.now records → HasCleanDisk (state S.Store conn.new) → OnOk result (IsStored records crl.now) }
+    ensures others { (records : Records) → Shows S.Store conn.old records → Lists issuer.now crl_life listed.now records → CanList listed.now → crl.now.this_update < clock_end
+        → HasCleanDisk (state S.Store conn.new) → IfErr result (λ fault. EndsAtBrokenRow fault → ¬ IsStored records crl.now) }
+    ensures rows { IfErr result (λ fault. ¬ IsBrokenRow fault) }
+    ensures looked { Looked S.Store conn.old conn.new }
+{
+    match reg_store_tables::crl(conn, crl.number)? {
+        Some(bytes) => check_bytes(alloc, issuer, crl_life, listed, crl, &bytes),
+        None => Err(other_bytes(crl.number)),
+    }
+}
+
+/// The same of each CRL. The bytes of one are held at a time.
+fn check_each<S: Alter, W: Watch>(
+    alloc: Global,
+    conn: &mut Connection<S>,
+    issuer: &Issuer,
+    crl_life: u64,
+    listed: &[Listed],
+    crls: &[CrlRow],
+    watch: &mut W,
+) -> Result<(), AuditFault>
+    requires { crl_life ≤ 863999 }
+    ensures bytes { (records : Records) → Shows S.Store conn.old records → Lists issuer.now crl_life listed.now records → HasCleanDisk (state S.Store conn.new) → OnOk result (AllByRecursion (IsStored records) crls.now) }
+    ensures others { (records : Records) → Shows S.Store conn.old records → Lists issuer.now crl_life listed.now records → CanList listed.now → AllByRecursion (λ crl. crl.this_update < clock_end) crls.now
+        → HasCleanDisk (state S.Store conn.new) → IfErr result (λ fault. EndsAtBrokenRow fault → ¬ AllByRecursion (IsStored records) crls.now) }
+    ensures rows { IfErr result (λ fault. ¬ IsBrokenRow fault) }
+    ensures looked { Looked S.Store conn.old conn.new }
+{
+    for crl in crls {
+        check_stored(alloc, conn, issuer, crl_life, listed, crl)?;
+        watch.crl_compared();
+    }
+    Ok(())
+}
+
+/// What a CRL has beside what it lists: the issuer, and the seconds from its thisUpdate to its nextUpdate.
+fn terms<S: Alter>(conn: &mut Connection<S>) -> Result<(Issuer, u64), DatabaseFault>
+    ensures found { (records : Records) → Shows S.Store conn.old records → HasCleanDisk (state S.Store conn.new) → IfOk result (λ it. (it.0 ≡ records.issuer) × (it.1 ≡ records.policy.crl_life)) }
+    ensures short { IfOk result (λ it. it.1 ≤ 863999) }
+    ensures looked { Looked S.Store conn.old conn.new }
+{
+    let issuer = reg_store_tables::issuer(conn)?;
+    let policy = reg_store_tables::policy(conn)?;
+    Ok((issuer, policy.crl_life()))
+}
+
+/// The stored bytes of each CRL are those of what the records list in it, under some algorithm and whatever signature. The
+/// rows are those that were read of the tables, in the order of [`crate::auditing::WHOLE`]. It is told how many were compared.
+pub(crate) fn check_crls<S: Alter, W: Watch>(
+    alloc: Global,
+    conn: &mut Connection<S>,
+    all: &[Vec<Row>],
+    watch: &mut W,
+) -> Result<(), AuditFault>
+    ensures bytes { (records : Records) → (columns : Columns) → ShowsBoth S.Store conn.old records columns → AreRead records columns whole all.now (λ rows. rows.items) → Kept columns records → HasCleanDisk (state S.Store conn.new)
+        → OnOk result (CrlsSigned IsSomeCrl records) }
+    ensures others { (records : Records) → (columns : Columns) → ShowsBoth S.Store conn.old records columns → AreRead records columns whole all.now (λ rows. rows.items) → HasValues records → SoundRows records → Kept columns records
+        → HasCleanDisk (state S.Store conn.new) → IfErr result (λ fault. EndsAtBrokenRow fault → ¬ CrlsSigned IsSomeCrl records) }
+    ensures rows { (records : Records) → (columns : Columns) → AreRead records columns whole all.now (λ rows. rows.items) → HasValues records → SoundRows records → Kept columns records → IfErr result (λ fault. ¬ IsBrokenRow fault) }
+    ensures looked { Looked S.Store conn.old conn.new }
+{
+    let crls = crls(alloc, rows_at(all, 6))?;
+    let listed = listings(alloc, rows_at(all, 9))?;
+    let (issuer, crl_life) = terms(conn)?;
+    check_each(alloc, conn, &issuer, crl_life, &listed, &crls, watch)
+}

@@ -1,0 +1,133 @@
+//! What the rows of each table show, where a row has a value that no register writes told as broken.
+
+ghost use Rattle.std.specs.Prelude.{◌≡◌, [], ◌∷◌, List, map, IfOk, IfErr};
+ghost use Rattle.std.specs.List.{AllByRecursion};
+ghost use Rattle.reg_audit.specs.Faults.{EndsAtBrokenRow};
+
+use crate::fault::AuditFault;
+use crate::sql_values::letter_at;
+use reg_audit_rows::{BrokenRow, Defect, Listed, RegisterTable, Standing};
+use reg_core::Moment;
+use reg_store_tables::Unshown;
+use reg_store_tables::rows::{ShownRow, rows_in};
+use reg_store_tables::sql_values::{
+    clock_moment_at, moment_at, number_at, number_or_null_at, reason_at, serial_at,
+};
+use sqlite::Row;
+use std::alloc::Global;
+
+/// The cap and the last accepted moment.
+#[derive(Clone, Copy)]
+pub(crate) struct OfficeRow {
+    pub(crate) cap: u64,
+    pub(crate) last: Moment,
+}
+
+impl ShownRow for OfficeRow {
+    ghost use Rattle.reg_audit.specs.ShownRows.{shown_office};
+    ghost use Rattle.std.specs.Prelude.{◌<◌};
+    ghost use Rattle.reg_core.specs.Calendar.{clock_end};
+
+    type Record = OfficeRow;
+
+    ghost shown = { shown_office };
+
+    ghost is_keyed = { λ _. Unit {0} };
+
+    ghost has_values = { λ it. it.last < clock_end };
+
+    fn in_row(row: &Row) -> Option<OfficeRow> {
+        Some(OfficeRow {
+            cap: number_at(row, 0)?,
+            last: clock_moment_at(row, 1)?,
+        })
+    }
+}
+
+/// The rows of standing.
+pub(crate) struct StandingRows;
+
+impl ShownRow for StandingRows {
+    ghost use Rattle.reg_audit.specs.ShownRows.{shown_standing};
+    ghost use Rattle.reg_core.specs.Serial.{IsSerial};
+    ghost use Rattle.reg_core.specs.Calendar.{IsMoment};
+
+    type Record = Standing;
+
+    ghost shown = { shown_standing };
+
+    ghost is_keyed = { λ it. IsSerial it.serial };
+
+    ghost has_values = { λ it. IsMoment it.not_after };
+
+    fn in_row(row: &Row) -> Option<Standing> {
+        Some(Standing {
+            serial: serial_at(row, 0)?,
+            not_after: moment_at(row, 1)?,
+            letter: letter_at(row, 2)?,
+        })
+    }
+}
+
+/// The rows of listed.
+pub(crate) struct ListedRows;
+
+impl ShownRow for ListedRows {
+    ghost use Rattle.reg_audit.specs.ShownRows.{shown_listed};
+    ghost use Rattle.reg_core.specs.Serial.{IsSerial};
+    ghost use Rattle.reg_core.specs.Calendar.{IsMoment};
+    ghost use Rattle.reg_audit.specs.ReadableValues.{AreMomentAndReason};
+
+    type Record = Listed;
+
+    ghost shown = { shown_listed };
+
+    ghost is_keyed = { λ it. IsSerial it.serial };
+
+    ghost has_values = { λ it. AreMomentAndReason it.at it.reason × IsMoment it.not_after };
+
+    fn in_row(row: &Row) -> Option<Listed> {
+        Some(Listed {
+            serial: serial_at(row, 0)?,
+            at: clock_moment_at(row, 1)?,
+            reason: reason_at(row, 2)?,
+            first: number_at(row, 3)?,
+            not_after: moment_at(row, 4)?,
+            last: number_or_null_at(row, 5)?,
+        })
+    }
+}
+
+/// A row of a table, at a place counted from 0, has a value that no register writes.
+fn no_value(table: RegisterTable, place: usize) -> AuditFault {
+    let row = (place as u64).saturating_add(1);
+    let why = Defect::NoValue;
+    AuditFault::Broken(BrokenRow { table, row, why })
+}
+
+/// What each row of a table shows.
+pub(crate) fn typed<T: ShownRow>(
+    alloc: Global,
+    table: RegisterTable,
+    rows: &[Row],
+) -> Result<Vec<T::Record>, AuditFault>
+    ensures read { (shown : List T.Record) → AllByRecursion T.is_keyed shown → rows.now ≡ map T.shown shown → IfOk result (λ read. read.items ≡ shown) }
+    ensures has { (shown : List T.Record) → AllByRecursion T.is_keyed shown → AllByRecursion T.has_values shown → rows.now ≡ map T.shown shown → IfErr result (λ fault. ¬ EndsAtBrokenRow fault) }
+{
+    match rows_in::<T>(alloc, rows) {
+        Ok(found) => Ok(found),
+        Err(Unshown::Memory) => Err(AuditFault::Memory),
+        Err(Unshown::At(place)) => Err(no_value(table, place)),
+    }
+}
+
+/// What the one row of a table shows.
+pub(crate) fn only<T: ShownRow>(table: RegisterTable, rows: &[Row]) -> Result<T::Record, AuditFault>
+    ensures read { (it : T.Record) → T.is_keyed it → rows.now ≡ T.shown it ∷ [] → IfOk result (λ read. read ≡ it) }
+    ensures has { (it : T.Record) → T.is_keyed it → T.has_values it → rows.now ≡ T.shown it ∷ [] → IfErr result (λ fault. ¬ EndsAtBrokenRow fault) }
+{
+    match rows {
+        [row] => T::in_row(row).ok_or(no_value(table, 0)),
+        _ => Err(no_value(table, rows.len())),
+    }
+}

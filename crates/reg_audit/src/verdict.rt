@@ -1,0 +1,115 @@
+//! The audit of a database whose version is looked at first.
+
+ghost use Rattle.std.specs.Prelude.{◌≡◌, ◌≢◌, ◌<◌, ℕ, false, IfErr, IfOk, IsTrue, Err};
+ghost use Rattle.sqlite.specs.Held.{state};
+ghost use Rattle.sqlite.specs.State.{HasCleanDisk};
+ghost use Rattle.reg_core.specs.Records.{Records};
+ghost use Rattle.reg_core.specs.Sound.{Sound};
+ghost use Rattle.reg_store_tables.specs.Columns.{Columns};
+ghost use Rattle.reg_store_tables.specs.Kept.{Kept};
+ghost use Rattle.reg_store_tables.specs.Schema.{register_schema};
+ghost use Rattle.reg_store_tables.specs.Shows.{ShowsBoth};
+ghost use Rattle.reg_store_tables.specs.Stays.{IsRegister, Stays};
+ghost use Rattle.reg_store_opening.specs.Said.{HasVersion, SaysNoRegister};
+ghost use Rattle.reg_audit.specs.Complete.{ShowsSound};
+ghost use Rattle.reg_audit.specs.Stored.{IsSomeCrl};
+ghost use Rattle.reg_audit.specs.ReadableValues.{HasAllowedDays};
+ghost use Rattle.reg_audit.specs.Judged.{IsJudged};
+ghost use Rattle.reg_audit.specs.Presumed.{IsOverRegister, IsPresumed};
+ghost use Rattle.reg_audit.specs.Verdicts.{CountedBy, DeniedBy, IsSound, TellsOf, verdict_of};
+
+use crate::{AuditFault, Watch, audit};
+use reg_audit_rows::{Audited, Verdict};
+use reg_store_opening::examine;
+use reg_store_schema::is_register;
+use reg_store_tables::StoreFault;
+use sqlite::{Alter, Connection};
+use std::alloc::Global;
+
+/// What an audit of tables of the program's version says.
+fn said(audited: Result<Audited, AuditFault>) -> Result<Verdict, StoreFault>
+    ensures is { result ≡ verdict_of audited }
+    ensures faults { IfErr result (λ fault. fault ≢ StoreFault.NotEmpty) }
+{
+    match audited {
+        Ok(found) => Ok(Verdict::Sound(found)),
+        Err(AuditFault::Broken(broken)) => Ok(Verdict::Broken(broken)),
+        Err(AuditFault::Memory) => Err(StoreFault::Memory),
+        Err(AuditFault::Store) => Err(StoreFault::Store),
+    }
+}
+
+/// Whether a connection is in no transaction, and its schema is a register's.
+fn is_over_register<S: Alter>(alloc: Global, conn: &Connection<S>) -> Result<bool, StoreFault>
+    ensures is { IfOk result (λ same. IsTrue same → IsOverRegister S.Store conn.now) }
+    ensures other { conn.now.in_transaction ≡ false → IfOk result (λ same. same ≡ false → (state S.Store conn.now).now.schema ≢ register_schema) }
+    ensures faults { IfErr result (λ fault. fault ≡ StoreFault.Memory) }
+{
+    if !conn.is_autocommit() {
+        return Ok(false);
+    }
+    match is_register(alloc, conn.schema()) {
+        Ok(same) => Ok(same),
+        Err(_) => Err(StoreFault::Memory),
+    }
+}
+
+/// Looks at the version, the issuer, the policy and the last accepted moment as who opens a register does; then, where the
+/// version is the program's, whether the schema is a register's ([`reg_store_schema::is_register`]), and where it is, at all rows
+/// ([`crate::audit`]). Nothing is changed; a register of version 1 or 2 is not made newer. The connection is in no
+/// transaction, as one that was just opened.
+///
+/// Where the answer is `Sound`, the schema is a register's, whatever records the tables show are sound, each CRL's bytes are
+/// those of what it lists, whatever its signature, what is kept beside the records follows from them, the office was made with
+/// days that a schedule can allow, and they are as many as is told; and there are such records, where the connection was open and
+/// what is presumed of it holds (`IsPresumed`). Where it is `Broken`, the tables show no such records, with what follows from them
+/// kept beside them and such days, whose names, validities and reasonCodes are a register's; and, but for the bytes of a CRL, none
+/// whatever the bytes of CRLs are (`Denies`). `Older` and `OtherSchema` tell what the tables are (`TellsOf`). The watch is told how
+/// far it is.
+///
+/// # Errors
+/// `NotARegister` and `NewVersion` as [`reg_store_opening::open`] has them; `Memory`; `Store` where the database fails.
+pub fn judge<S: Alter, W: Watch>(
+    alloc: Global,
+    conn: &mut Connection<S>,
+    watch: &mut W,
+) -> Result<Verdict, StoreFault>
+    requires { conn.old.in_transaction ≡ false }
+    ensures sound { (records : Records) → (columns : Columns) → ShowsBoth S.Store conn.old records columns → HasCleanDisk (state S.Store conn.new)
+        → IfOk result (λ verdict. IsSound verdict → Sound IsSomeCrl records × Kept columns records × HasAllowedDays columns) }
+    ensures shown { (HasCleanDisk (state S.Store conn.old) → IsTrue (state S.Store conn.old).is_open) → IsPresumed S.Store conn.old → HasCleanDisk (state S.Store conn.new)
+        → IfOk result (λ verdict. IsSound verdict → ShowsSound (state S.Store conn.old).now) }
+    ensures counted { (records : Records) → (columns : Columns) → ShowsBoth S.Store conn.old records columns → HasCleanDisk (state S.Store conn.new)
+        → IfOk result (λ verdict. CountedBy verdict records) }
+    ensures broken { (records : Records) → (columns : Columns) → ShowsBoth S.Store conn.old records columns → HasCleanDisk (state S.Store conn.new)
+        → IfOk result (λ verdict. DeniedBy verdict records columns) }
+    ensures tells { HasCleanDisk (state S.Store conn.new) → IfOk result (λ verdict. TellsOf verdict (state S.Store conn.old).now) }
+    ensures newer { HasCleanDisk (state S.Store conn.new) → result ≡ Err StoreFault.NewVersion → (n : ℕ) × (3 < n) × HasVersion (state S.Store conn.old).now n }
+    ensures none { HasCleanDisk (state S.Store conn.new) → result ≡ Err StoreFault.NotARegister → SaysNoRegister (state S.Store conn.old).now }
+    ensures register { IfOk result (λ verdict. IsSound verdict → IsRegister (state S.Store conn.new)) }
+    ensures same { Stays (state S.Store conn.old) (state S.Store conn.new) }
+    ensures idle { conn.new.in_transaction ≡ false }
+    ensures faults { IfErr result (λ fault. fault ≢ StoreFault.NotEmpty) }
+{
+    judged(alloc, conn, watch)
+}
+
+/// What [`judge`] says, and leaves.
+fn judged<S: Alter, W: Watch>(
+    alloc: Global,
+    conn: &mut Connection<S>,
+    watch: &mut W,
+) -> Result<Verdict, StoreFault>
+    requires { conn.old.in_transaction ≡ false }
+    ensures { IsJudged S.Store conn.old conn.new result }
+{
+    let is_register = is_over_register(alloc, conn)?;
+    let older = examine(conn)?;
+    if older.is_some() {
+        return Ok(Verdict::Older);
+    }
+    if !is_register {
+        return Ok(Verdict::OtherSchema);
+    }
+    said(audit(alloc, conn, watch))
+}

@@ -1,0 +1,7 @@
+pub mod Fronts
+pub mod Fits
+pub mod Sorted
+pub mod Following
+pub mod Results
+pub mod Contents
+pub mod PublicLaws

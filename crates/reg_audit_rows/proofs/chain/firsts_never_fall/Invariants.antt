@@ -1,0 +1,12 @@
+use Rattle.std.proofs.Common.{◌≤◌, ℕ, take}
+use Rattle.std.specs.List.{AllByRecursion}
+use Rattle.reg_core.specs.Sound.{NeverFalls}
+use Rattle.reg_core.specs.declared.rows.RevocationRow.{RevocationRow}
+use Rattle.reg_audit_rows.proofs.chain.firsts_never_fall.Given as goal
+
+abbrev pub invariant-loop-place : goal.invariant-loop-place
+invariant-loop-place l = record {
+  falls : NeverFalls (λ (row : RevocationRow). row.first) (take l.place l.revocations);
+  top : (low : ℕ) → AllByRecursion (λ (row : RevocationRow). row.first ≤ low) (take l.place l.revocations) → l.latest ≤ low;
+  latest : AllByRecursion (λ (row : RevocationRow). row.first ≤ l.latest) (take l.place l.revocations);
+}

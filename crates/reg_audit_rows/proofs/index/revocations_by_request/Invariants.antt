@@ -1,0 +1,12 @@
+use Rattle.std.proofs.Common.{◌≡◌, ◌==◌, ℕ, find, take}
+use Rattle.std.specs.BTreeMap.{get}
+use Rattle.std.specs.Ordering.{nat_cmp}
+use Rattle.reg_core.specs.Sound.{KeysDiffer}
+use Rattle.reg_core.specs.declared.rows.RevocationRow.{RevocationRow}
+use Rattle.reg_audit_rows.proofs.index.revocations_by_request.Given as goal
+
+abbrev pub invariant-loop-place : goal.invariant-loop-place
+invariant-loop-place l = record {
+  differ : KeysDiffer (λ (row : RevocationRow). row.request) (take l.place l.revocations);
+  found : (key : ℕ) → get nat_cmp l.found key ≡ find (λ (row : RevocationRow). row.request == key) (take l.place l.revocations);
+}

@@ -1,0 +1,10 @@
+use Rattle.std.proofs.Common.{take}
+use Rattle.std.specs.BTreeMap.{get}
+use Rattle.std.specs.List.{AllByRecursion}
+use Rattle.std.specs.Ordering.{nat_cmp}
+use Rattle.reg_core.specs.declared.rows.RequestRow.{RequestRow}
+use Rattle.reg_audit_rows.specs.Read.{IsBefore}
+use Rattle.reg_audit_rows.proofs.relations.none_after.Given as goal
+
+abbrev pub invariant-loop-place : goal.invariant-loop-place
+invariant-loop-place l = AllByRecursion (λ (row : RequestRow). IsBefore row (get nat_cmp l.revocations row.serial)) (take l.place l.requests)

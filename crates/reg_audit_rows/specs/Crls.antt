@@ -1,0 +1,47 @@
+-- The bytes of a stored CRL.
+use Rattle.std.specs.Prelude.{◌≡◌, ℕ, ◌≤◌, ◌&&◌, Bool, true, nat_le, List, [], ◌∷◌, length, map, Option, None, Some}
+use Rattle.std.specs.List.Sorted.{IsPermutation}
+use Rattle.reg_core.specs.Crls.{CertList}
+use Rattle.reg_core.specs.Issuer.{Issuer}
+use Rattle.reg_core.specs.Records.{Records}
+use Rattle.reg_core.specs.Sound.{NumberedFrom}
+use Rattle.reg_core.specs.Sequence.{◌>>=◌}
+use Rattle.reg_core.specs.declared.rows.Entry.{Entry}
+use Rattle.reg_crl.specs.Crl.{tbs_of, certificate_list}
+use Rattle.reg_der.specs.ValueReading.{value_at}
+use Rattle.reg_store_tables.specs.Kept.{listed_of}
+use Rattle.reg_audit_rows.specs.KeptAsRead.{listed_in}
+use Rattle.reg_audit_rows.specs.declared.kept.Listed.{Listed}
+
+-- the bytes are the CRL of what is listed, under this algorithm, whatever its signature is: one of at most 65,536 bytes
+abbrev pub IsCrlOf : List ℕ → CertList → List ℕ → Type 0
+IsCrlOf algorithm crl bytes = (signature : List ℕ) × (length signature ≤ 65536) × (bytes ≡ certificate_list (tbs_of algorithm crl) algorithm signature)
+
+-- what stands behind the first octet
+abbrev pub behind_first : List ℕ → Option (List ℕ)
+behind_first [] = None
+behind_first (first ∷ rest) = Some rest
+
+-- the octets of the BIT STRING that stands third in a value
+abbrev pub signature_at : List ℕ → Option (List ℕ)
+signature_at bytes =
+    value_at bytes >>= λ list. value_at list.0.contents >>= λ tbs. value_at tbs.1 >>= λ algorithm. value_at algorithm.1 >>= λ bits. behind_first bits.0.contents
+
+-- not yet past the last number
+abbrev pub still_on : ℕ → Option ℕ → Bool
+still_on n None = true
+still_on n (Some last) = nat_le n last
+
+-- a row is listed by CRL n
+abbrev pub lists_row : ℕ → Listed → Bool
+lists_row n row = nat_le row.first n && still_on n row.last
+
+abbrev pub listed_entry : Listed → Entry
+listed_entry row = record { serial = row.serial; at = row.at; reason = row.reason }
+
+-- the issuer, the seconds to nextUpdate, and what is kept of each revocation, are those of the records
+pub record Lists (issuer : Issuer) (crl_life : ℕ) (listed : List Listed) (records : Records) : Type 0 where
+  pub by_issuer : issuer ≡ records.issuer
+  pub by_life : crl_life ≡ records.policy.crl_life
+  pub numbered : NumberedFrom (λ crl. crl.number) 1 records.crls
+  pub kept : IsPermutation (map (listed_of records) records.revocations) (map listed_in listed)

@@ -1,0 +1,5 @@
+pub mod Faults
+pub mod Read
+pub mod KeptAsRead
+pub mod Crls
+pub mod FindingLines

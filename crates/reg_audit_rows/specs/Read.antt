@@ -1,0 +1,81 @@
+-- Rows that were read of a register's tables.
+use Rattle.std.specs.Prelude.{◌≡◌, ◌⊎◌, ◌==◌, find, ℕ, ◌+◌, ◌*◌, ◌<◌, ◌≤◌, List, [], map, length, Option, IfSome, IsSomeAnd, IsTrue}
+use Rattle.std.specs.BTreeMap.{get}
+use Rattle.std.specs.List.{AllByRecursion, list_any}
+use Rattle.std.specs.Ordering.{nat_cmp}
+use Rattle.reg_core.specs.Checks.{validity_seconds}
+use Rattle.reg_core.specs.Crls.{row_of}
+use Rattle.reg_core.specs.Policy.{IsPolicy}
+use Rattle.reg_core.specs.Records.{Records, request_in, revocation_in}
+use Rattle.reg_core.specs.Sound.{LeadsTo, NumberedFrom, KeysDiffer, NeverFalls}
+use Rattle.reg_core.specs.declared.rows.CertRow.{CertRow}
+use Rattle.reg_core.specs.declared.rows.OrderRow.{OrderRow}
+use Rattle.reg_core.specs.declared.rows.RequestRow.{RequestRow}
+use Rattle.reg_core.specs.declared.rows.RevocationRow.{RevocationRow}
+use Rattle.reg_core.specs.declared.rows.CrlRow.{CrlRow}
+use Rattle.reg_audit_rows.specs.declared.rows.Found.{Found}
+use Rattle.reg_audit_rows.specs.declared.rows.Rows.{Rows}
+
+-- the rows are those of the records, each list in the order of entry, the CRLs without their bytes; their policy is one
+pub record AreOf (rows : Rows) (records : Records) : Type 0 where
+  pub policy : IsPolicy records.policy
+  pub cap : rows.cap ≡ records.policy.cap
+  pub last : rows.last ≡ records.last
+  pub subscribers : rows.subscribers.now ≡ records.subscribers
+  pub orders : rows.orders.now ≡ records.orders
+  pub certificates : rows.certificates.now ≡ records.certificates
+  pub requests : rows.requests.now ≡ records.requests
+  pub revocations : rows.revocations.now ≡ records.revocations
+  pub crls : rows.crls.now ≡ map row_of records.crls
+
+-- before anybody is entered, CRLs alone set the last accepted moment
+abbrev pub IsLastSet : Rows → Type 0
+IsLastSet rows = rows.subscribers.now ≡ [] → (rows.last ≡ 0) ⊎ IsTrue (list_any (λ crl. crl.this_update == rows.last) rows.crls.now)
+
+-- a validity is no longer than the order that was looked up
+abbrev pub IsAsOrdered : CertRow → Option OrderRow → Type 0
+IsAsOrdered certificate order = IsSomeAnd order (λ found. validity_seconds certificate ≤ 86400 * found.days)
+
+-- a request was not received after the end of the certificate that was looked up
+abbrev pub IsInTime : RequestRow → Option CertRow → Type 0
+IsInTime request certificate = IsSomeAnd certificate (λ found. request.received ≤ found.not_after)
+
+-- nor after the revocation, where one was found
+abbrev pub IsBefore : RequestRow → Option RevocationRow → Type 0
+IsBefore request revocation = IfSome revocation (λ found. request.received ≤ found.at)
+
+-- no CRL below a number has its thisUpdate after a moment, and none from the number on before it
+pub record AreAround (first at : ℕ) (crls : List CrlRow) : Type 0 where
+  pub before : AllByRecursion (λ crl. crl.number < first → crl.this_update ≤ at) crls
+  pub after : AllByRecursion (λ crl. first ≤ crl.number → at ≤ crl.this_update) crls
+
+-- a revocation holds together with the certificate and the request that were looked up, and with the CRLs
+pub record FitsIn (last : ℕ) (certificate : Option CertRow) (request : Option RequestRow) (crls : List CrlRow) (revocation : RevocationRow) : Type 0 where
+  pub within_validity : IsSomeAnd certificate (λ found. revocation.at ≤ found.not_after)
+  pub by_request : IsSomeAnd request (LeadsTo revocation)
+  pub at_by_last : revocation.at ≤ last
+  pub first_from_one : 1 ≤ revocation.first
+  pub first_by_next : revocation.first ≤ length crls + 1
+  pub around : AreAround revocation.first revocation.at crls
+
+-- CRL numbers are 1, 2, 3 and so on (RFC 5280 5.2.3), thisUpdates do not fall, and none is after the last accepted moment
+pub record AreCrls (cap last : ℕ) (crls : List CrlRow) : Type 0 where
+  pub numbered : NumberedFrom (λ crl. crl.number) 1 crls
+  pub updates_never_fall : NeverFalls (λ crl. crl.this_update) crls
+  pub updates_by_last : AllByRecursion (λ crl. crl.this_update ≤ last) crls
+  pub within_cap : length crls ≤ cap
+
+-- one revocation of a serial number, and one of a request, each of a certificate that is found; neither moments nor first CRL
+-- numbers fall; and no request for a serial number was received after its revocation
+pub record AreRevocations (found : ℕ → Option CertRow) (rows : Rows) : Type 0 where
+  pub serials_differ : KeysDiffer (λ row. row.serial) rows.revocations.now
+  pub requests_differ : KeysDiffer (λ row. row.request) rows.revocations.now
+  pub each : AllByRecursion (λ row. FitsIn rows.last (found row.serial) (request_in rows.requests.now row.request) rows.crls.now row) rows.revocations.now
+  pub moments_never_fall : NeverFalls (λ row. row.at) rows.revocations.now
+  pub firsts_never_fall : NeverFalls (λ row. row.first) rows.revocations.now
+  pub none_after : AllByRecursion (λ row. IsBefore row (revocation_in rows.revocations.now row.serial)) rows.requests.now
+
+-- the rows are found by their serial numbers
+pub record IsIndexOf (rows : Rows) (found : Found) : Type 0 where
+  pub certificates : (key : ℕ) → get nat_cmp found.certificates key ≡ find (λ (row : CertRow). row.serial == key) rows.certificates.now
+  pub revocations : (key : ℕ) → get nat_cmp found.revocations key ≡ find (λ (row : RevocationRow). row.serial == key) rows.revocations.now

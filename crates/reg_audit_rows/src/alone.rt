@@ -1,0 +1,50 @@
+//! What a row says by itself.
+
+ghost use Rattle.std.specs.Prelude.{◌≤◌, OnOk, IfErr};
+ghost use Rattle.std.specs.List.{AllByRecursion};
+ghost use Rattle.reg_core.specs.Label.{IsName};
+ghost use Rattle.reg_core.specs.Schedule.{IsDays};
+ghost use Rattle.reg_audit_rows.specs.Faults.{IsBroken};
+
+use crate::fault::{CheckFault, broken_at};
+use crate::{Defect, RegisterTable};
+use reg_core::{CertRow, OrderRow, Schedule, SubscriberRow};
+
+/// Each name is one that a command takes.
+pub(crate) fn names_are_good(subscribers: &[SubscriberRow]) -> Result<(), CheckFault>
+    ensures ok { OnOk result (AllByRecursion (λ row. IsName row.name) subscribers.now) }
+    ensures broken { IfErr result (λ fault. IsBroken fault → ¬ AllByRecursion (λ row. IsName row.name) subscribers.now) }
+{
+    for (place, subscriber) in subscribers.iter().enumerate() {
+        if !subscriber.name.is_name() {
+            return Err(broken_at(RegisterTable::Subscriber, place, Defect::BadName));
+        }
+    }
+    Ok(())
+}
+
+/// Each order's days are some that a schedule can allow.
+pub(crate) fn days_are_allowed(orders: &[OrderRow]) -> Result<(), CheckFault>
+    ensures ok { OnOk result (AllByRecursion (λ row. IsDays row.days) orders.now) }
+    ensures broken { IfErr result (λ fault. IsBroken fault → ¬ AllByRecursion (λ row. IsDays row.days) orders.now) }
+{
+    for (place, order) in orders.iter().enumerate() {
+        if !Schedule::can_allow(order.days) {
+            return Err(broken_at(RegisterTable::Orders, place, Defect::BadDays));
+        }
+    }
+    Ok(())
+}
+
+/// Each validity runs forward (RFC 5280 4.1.2.5).
+pub(crate) fn run_forward(certificates: &[CertRow]) -> Result<(), CheckFault>
+    ensures ok { OnOk result (AllByRecursion (λ row. row.not_before ≤ row.not_after) certificates.now) }
+    ensures broken { IfErr result (λ fault. IsBroken fault → ¬ AllByRecursion (λ row. row.not_before ≤ row.not_after) certificates.now) }
+{
+    for (place, certificate) in certificates.iter().enumerate() {
+        if certificate.not_before > certificate.not_after {
+            return Err(broken_at(RegisterTable::Cert, place, Defect::Backwards));
+        }
+    }
+    Ok(())
+}

@@ -1,0 +1,162 @@
+//! Numbers that rise by one, and moments that do not fall.
+
+ghost use Rattle.std.specs.Prelude.{◌≡◌, ◌≤◌, OnOk, IfErr};
+ghost use Rattle.std.specs.List.{AllByRecursion};
+ghost use Rattle.reg_core.specs.Sound.{NumberedFrom, NeverFalls};
+ghost use Rattle.reg_audit_rows.specs.Faults.{IsBroken};
+
+use crate::fault::{CheckFault, broken_at};
+use crate::{Defect, RegisterTable};
+use reg_core::{CrlRow, Moment, OrderRow, RequestRow, RevocationRow, SubscriberRow};
+
+/// A row with an id, or with a CRL number.
+pub(crate) trait Numbered {
+    ghost use Rattle.std.specs.Prelude.{ℕ, ◌≡◌};
+
+    ghost number: { Self → ℕ };
+
+    /// The id, or the CRL number.
+    fn number(&self) -> u64
+        ensures { result ≡ number self.now };
+}
+
+impl Numbered for SubscriberRow {
+    ghost number = { λ row. row.id };
+
+    fn number(&self) -> u64 {
+        self.id
+    }
+}
+
+impl Numbered for OrderRow {
+    ghost number = { λ row. row.id };
+
+    fn number(&self) -> u64 {
+        self.id
+    }
+}
+
+impl Numbered for RequestRow {
+    ghost number = { λ row. row.id };
+
+    fn number(&self) -> u64 {
+        self.id
+    }
+}
+
+impl Numbered for CrlRow {
+    ghost number = { λ row. row.number };
+
+    fn number(&self) -> u64 {
+        self.number
+    }
+}
+
+/// The rows have the numbers from one on.
+pub(crate) fn in_order<T: Numbered>(table: RegisterTable, rows: &[T]) -> Result<(), CheckFault>
+    ensures ok { OnOk result (NumberedFrom T.number 1 rows.now) }
+    ensures broken { IfErr result (λ fault. IsBroken fault → ¬ NumberedFrom T.number 1 rows.now) }
+{
+    for (place, row) in rows.iter().enumerate() {
+        if row.number() != place as u64 + 1 {
+            return Err(broken_at(table, place, Defect::OutOfOrder));
+        }
+    }
+    Ok(())
+}
+
+/// A row of a moment: that of its receipt, of the revocation, or thisUpdate (RFC 5280 5.1.2.4).
+pub(crate) trait Dated {
+    ghost use Rattle.std.specs.Prelude.{ℕ, ◌≡◌};
+
+    ghost moment: { Self → ℕ };
+
+    /// The moment.
+    fn moment(&self) -> Moment
+        ensures { result ≡ moment self.now };
+}
+
+impl Dated for RequestRow {
+    ghost moment = { λ row. row.received };
+
+    fn moment(&self) -> Moment {
+        self.received
+    }
+}
+
+impl Dated for RevocationRow {
+    ghost moment = { λ row. row.at };
+
+    fn moment(&self) -> Moment {
+        self.at
+    }
+}
+
+impl Dated for CrlRow {
+    ghost moment = { λ row. row.this_update };
+
+    fn moment(&self) -> Moment {
+        self.this_update
+    }
+}
+
+/// Moments do not fall from one row to a later one.
+pub(crate) fn moments_never_fall<T: Dated>(
+    table: RegisterTable,
+    rows: &[T],
+    why: Defect,
+) -> Result<(), CheckFault>
+    ensures ok { OnOk result (NeverFalls T.moment rows.now) }
+    ensures broken { IfErr result (λ fault. IsBroken fault → ¬ NeverFalls T.moment rows.now) }
+{
+    let mut latest = Moment::EPOCH;
+    for (place, row) in rows.iter().enumerate() {
+        let at = row.moment();
+        if at < latest {
+            return Err(broken_at(table, place, why));
+        }
+        latest = at;
+    }
+    Ok(())
+}
+
+/// The numbers of the first CRLs do not fall from one revocation to a later one.
+pub(crate) fn firsts_never_fall(revocations: &[RevocationRow]) -> Result<(), CheckFault>
+    ensures ok { OnOk result (NeverFalls (λ row. row.first) revocations.now) }
+    ensures broken { IfErr result (λ fault. IsBroken fault → ¬ NeverFalls (λ row. row.first) revocations.now) }
+{
+    let mut latest = 0;
+    for (place, revocation) in revocations.iter().enumerate() {
+        if revocation.first < latest {
+            return Err(broken_at(RegisterTable::Revocation, place, Defect::EarlierFirst));
+        }
+        latest = revocation.first;
+    }
+    Ok(())
+}
+
+/// No thisUpdate is after the last accepted moment.
+pub(crate) fn updates_by_last(crls: &[CrlRow], last: Moment) -> Result<(), CheckFault>
+    ensures ok { OnOk result (AllByRecursion (λ crl. crl.this_update ≤ last) crls.now) }
+    ensures broken { IfErr result (λ fault. IsBroken fault → ¬ AllByRecursion (λ crl. crl.this_update ≤ last) crls.now) }
+{
+    for (place, crl) in crls.iter().enumerate() {
+        if crl.this_update > last {
+            return Err(broken_at(RegisterTable::Crl, place, Defect::AfterLast));
+        }
+    }
+    Ok(())
+}
+
+/// No request was received after the last accepted moment.
+pub(crate) fn received_by_last(requests: &[RequestRow], last: Moment) -> Result<(), CheckFault>
+    ensures ok { OnOk result (AllByRecursion (λ row. row.received ≤ last) requests.now) }
+    ensures broken { IfErr result (λ fault. IsBroken fault → ¬ AllByRecursion (λ row. row.received ≤ last) requests.now) }
+{
+    for (place, request) in requests.iter().enumerate() {
+        if request.received > last {
+            return Err(broken_at(RegisterTable::Request, place, Defect::AfterLast));
+        }
+    }
+    Ok(())
+}

@@ -1,0 +1,51 @@
+//! The whole check of rows that were read.
+
+ghost use Rattle.std.specs.Prelude.{◌≡◌, OnOk, IfErr};
+ghost use Rattle.reg_core.specs.Records.{Records};
+ghost use Rattle.reg_core.specs.Sound.{SoundRows};
+ghost use Rattle.reg_store_tables.specs.Columns.{Columns};
+ghost use Rattle.reg_store_tables.specs.Kept.{Kept};
+ghost use Rattle.reg_audit_rows.specs.KeptAsRead.{AreColumnsOf};
+ghost use Rattle.reg_audit_rows.specs.Read.{AreOf, IsIndexOf};
+ghost use Rattle.reg_audit_rows.specs.Faults.{IsBroken};
+
+use crate::RegisterTable;
+use crate::fault::CheckFault;
+use crate::kept::{KeptRows, check_counts, listings, same_rows, standings};
+use crate::rows::{Found, Rows, check_rows};
+use std::alloc::Global;
+
+/// Whether what is kept beside the records follows from them.
+fn check_kept(
+    alloc: Global,
+    rows: &Rows<'_>,
+    found: &Found,
+    beside: &KeptRows<'_>,
+) -> Result<(), CheckFault>
+    ensures ok { IsIndexOf rows.now found.now → (records : Records) → AreOf rows.now records → SoundRows records → (columns : Columns) → AreColumnsOf beside.now columns → OnOk result (Kept columns records) }
+    ensures broken { IsIndexOf rows.now found.now → (records : Records) → AreOf rows.now records → SoundRows records → (columns : Columns) → AreColumnsOf beside.now columns
+        → IfErr result (λ fault. IsBroken fault → ¬ Kept columns records) }
+{
+    let letters = standings(alloc, rows.certificates, &found.revocations, rows.last)?;
+    check_counts(&letters, beside.counts)?;
+    same_rows(alloc, RegisterTable::Standing, beside.letters, letters)?;
+    let listed = listings(alloc, rows.revocations, &found.certificates, rows.crls)?;
+    same_rows(alloc, RegisterTable::Listed, beside.listed, listed)
+}
+
+/// Whether the rows are those of sound records, and what is kept beside these follows from them: the letters, their
+/// counts, and what CRLs list up to the last one that does. What the CRLs' bytes are is not looked at.
+///
+/// It takes as many steps as there are rows, with a look-up by halves for some, and one step for each revocation and CRL.
+///
+/// # Errors
+/// `Broken` where they are not, with a row that breaks a rule; `Memory`.
+pub fn check(alloc: Global, rows: &Rows<'_>, beside: &KeptRows<'_>) -> Result<(), CheckFault>
+    ensures sound { (records : Records) → AreOf rows.now records → OnOk result (SoundRows records) }
+    ensures kept { (records : Records) → AreOf rows.now records → (columns : Columns) → AreColumnsOf beside.now columns → OnOk result (Kept columns records) }
+    ensures broken { (records : Records) → AreOf rows.now records → (columns : Columns) → AreColumnsOf beside.now columns
+        → IfErr result (λ fault. IsBroken fault → ¬ (SoundRows records × Kept columns records)) }
+{
+    let found = check_rows(alloc, rows)?;
+    check_kept(alloc, rows, &found, beside)
+}

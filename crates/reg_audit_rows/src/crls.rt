@@ -1,0 +1,164 @@
+//! The bytes of stored CRLs.
+
+ghost use Rattle.std.specs.Prelude.{◌≡◌, ◌+◌, ◌≤◌, ◌↔◌, ℕ, List, Some, length, filter, map, IsTrue, OnOk, IfOk, IfErr};
+ghost use Rattle.std.specs.List.Sorted.{IsPermutation};
+ghost use Rattle.reg_core.specs.Calendar.{IsMoment};
+ghost use Rattle.reg_core.specs.Crls.{EntriesAscend, cert_list};
+ghost use Rattle.reg_core.specs.Records.{Records};
+ghost use Rattle.reg_core.specs.Sound.{KeysDiffer};
+ghost use Rattle.reg_crl.specs.Signing.{IsAlgorithm};
+ghost use Rattle.reg_der.specs.ValueReading.{Gives};
+ghost use Rattle.reg_audit_rows.specs.Crls.{IsCrlOf, Lists, signature_at, lists_row, listed_entry};
+ghost use Rattle.reg_audit_rows.specs.Faults.{IsBroken};
+
+use crate::fault::{CheckFault, broken_at};
+use crate::kept::Listed;
+use crate::{Defect, RegisterTable};
+use reg_core::{CrlRow, Entry, Moment};
+use reg_crl::{crl_tbs, crl_whole};
+use reg_der::{Issuer, take};
+use std::alloc::Global;
+
+/// The most octets of a signature.
+const MOST_SIGNATURE: usize = 65_536;
+
+/// The most entries of a CRL.
+const MOST_ENTRIES: usize = 1_000_000;
+
+/// The octets of the signature that stands in a CRL (RFC 5280 5.1.1.3).
+fn signature_in(crl: &[u8]) -> Option<&[u8]>
+    ensures { Gives (λ signature. signature.now) result (signature_at crl.now) }
+{
+    let (list, _) = take(crl)?;
+    let (_, behind_tbs) = take(list.contents)?;
+    let (_, behind_algorithm) = take(behind_tbs)?;
+    let (bits, _) = take(behind_algorithm)?;
+    let (_, signature) = bits.contents.split_first()?;
+    Some(signature)
+}
+
+/// The same, or nothing where there is none.
+fn signature_of(crl: &[u8]) -> &[u8]
+    ensures { (signature : List ℕ) → signature_at crl.now ≡ Some signature → result.now ≡ signature }
+{
+    match signature_in(crl) {
+        Some(signature) => signature,
+        None => &[],
+    }
+}
+
+/// Whether CRL n lists a row.
+fn is_on(row: &Listed, number: u64) -> bool
+    ensures { result ≡ lists_row number row.now }
+{
+    match row.last {
+        Some(last) => row.first <= number && number <= last,
+        None => row.first <= number,
+    }
+}
+
+/// The entries of what a CRL lists.
+fn listed_by(alloc: Global, listed: &[Listed], number: u64) -> Result<Vec<Entry>, CheckFault>
+    ensures made { IfOk result (λ entries. entries.items ≡ map listed_entry (filter (lists_row number) listed.now)) }
+    ensures memory { IfErr result (λ fault. ¬ IsBroken fault) }
+{
+    let mut entries = Vec::new(alloc);
+    for row in listed {
+        if is_on(row, number) {
+            entries.push(Entry {
+                serial: row.serial,
+                at: row.at,
+                reason: row.reason,
+            })?;
+        }
+    }
+    Ok(entries)
+}
+
+/// Whether the serial numbers rise strictly.
+fn ascends(entries: &[Entry]) -> bool
+    ensures { IsTrue result ↔ EntriesAscend entries.now }
+{
+    entries.is_sorted_by(|earlier, later| earlier.serial < later.serial)
+}
+
+/// The entries of what a CRL lists, in ascending order of serial number (RFC 5280 5.1.2.6): at most 1,000,000.
+fn entries_of(alloc: Global, listed: &[Listed], number: u64) -> Result<Vec<Entry>, CheckFault>
+    ensures same { IfOk result (λ entries. IsPermutation (map listed_entry (filter (lists_row number) listed.now)) entries.items) }
+    ensures ascend { IfOk result (λ entries. EntriesAscend entries.items) }
+    ensures few { IfOk result (λ entries. length entries.items ≤ 1000000) }
+    ensures broken { KeysDiffer (λ row. row.serial) listed.now → length listed.now ≤ 1000000 → IfErr result (λ fault. ¬ IsBroken fault) }
+{
+    let mut entries = listed_by(alloc, listed, number)?;
+    entries.sort_unstable_by_key(|entry| entry.serial);
+    if entries.len() > MOST_ENTRIES {
+        return Err(broken_at(RegisterTable::Listed, MOST_ENTRIES, Defect::AboveCap));
+    }
+    if !ascends(&entries) {
+        return Err(broken_at(RegisterTable::Listed, 0, Defect::SameSerial));
+    }
+    Ok(entries)
+}
+
+/// The bytes are the CRL of these entries, under this algorithm and whatever signature: they are made anew and compared.
+fn check_bytes(
+    alloc: Global,
+    issuer: &Issuer,
+    algorithm: &[u8],
+    crl: &CrlRow,
+    next_update: Moment,
+    entries: &[Entry],
+    bytes: &[u8],
+) -> Result<(), CheckFault>
+    requires ascending { EntriesAscend entries.now }
+    requires few { length entries.now ≤ 1000000 }
+    requires algorithm { length algorithm.now ≤ 1024 }
+    ensures ok { OnOk result (IsCrlOf algorithm.now (record { issuer = issuer.now; number = crl.now.number; this_update = crl.now.this_update; next_update = next_update; entries = entries.now }) bytes.now) }
+    ensures broken { IsAlgorithm algorithm.now
+        → IfErr result (λ fault. IsBroken fault → ¬ IsCrlOf algorithm.now (record { issuer = issuer.now; number = crl.now.number; this_update = crl.now.this_update; next_update = next_update; entries = entries.now }) bytes.now) }
+{
+    let tbs = crl_tbs(
+        alloc,
+        issuer,
+        algorithm,
+        crl.number,
+        crl.this_update,
+        next_update,
+        entries,
+    )?;
+    let signature = signature_of(bytes);
+    if signature.len() > MOST_SIGNATURE {
+        return Err(broken_at(RegisterTable::Crl, 0, Defect::OtherBytes));
+    }
+    let whole = crl_whole(alloc, &tbs, algorithm, signature)?;
+    if whole.as_slice() == bytes {
+        Ok(())
+    } else {
+        Err(broken_at(RegisterTable::Crl, 0, Defect::OtherBytes))
+    }
+}
+
+/// Whether the bytes of a CRL are those of what the records say that it lists, under an algorithm and whatever signature.
+/// What CRLs list comes as it is kept of each revocation; it takes as many steps as there are rows of it, and bytes.
+///
+/// # Errors
+/// `Broken` where they are not; `Memory`.
+pub fn check_crl(
+    alloc: Global,
+    issuer: &Issuer,
+    algorithm: &[u8],
+    crl_life: u64,
+    listed: &[Listed],
+    crl: &CrlRow,
+    bytes: &[u8],
+) -> Result<(), CheckFault>
+    requires algorithm { length algorithm.now ≤ 1024 }
+    requires next { IsMoment (crl.now.this_update + crl_life) }
+    ensures ok { (records : Records) → Lists issuer.now crl_life listed.now records → OnOk result (IsCrlOf algorithm.now (cert_list records crl.now.number crl.now.this_update) bytes.now) }
+    ensures broken { (records : Records) → Lists issuer.now crl_life listed.now records → IsAlgorithm algorithm.now → KeysDiffer (λ row. row.serial) listed.now → length listed.now ≤ 1000000
+        → IfErr result (λ fault. IsBroken fault → ¬ IsCrlOf algorithm.now (cert_list records crl.now.number crl.now.this_update) bytes.now) }
+{
+    let entries = entries_of(alloc, listed, crl.number)?;
+    let next_update = crl.this_update.plus(crl_life);
+    check_bytes(alloc, issuer, algorithm, crl, next_update, &entries, bytes)
+}

@@ -1,0 +1,67 @@
+//! Why a check of rows comes to no good end.
+
+ghost use Rattle.std.specs.Prelude.{◌≡◌, ◌≤◌, length, OnOk, IfErr};
+ghost use Rattle.reg_audit_rows.specs.Faults.{IsBroken};
+
+use crate::{BrokenRow, Defect, RegisterTable};
+use reg_core::Memory;
+use std::alloc::{AllocError, AllocFailed};
+
+/// Why a check came to no end, or found a row that breaks a rule.
+#[derive(Clone, Copy, PartialEq, Eq)]
+pub enum CheckFault {
+    /// Memory could not be had.
+    Memory,
+    /// A row breaks a rule.
+    Broken(BrokenRow),
+}
+
+impl From<Memory> for CheckFault {
+    ghost use Rattle.reg_audit_rows.specs.declared.fault.CheckFault.TheVariants.{Memory as Lacked};
+
+    ghost from_gives = { λ _ fault. fault ≡ Lacked };
+
+    fn from(_lacking: Memory) -> CheckFault {
+        CheckFault::Memory
+    }
+}
+
+impl From<AllocError> for CheckFault {
+    ghost use Rattle.reg_audit_rows.specs.declared.fault.CheckFault.TheVariants.{Memory};
+
+    ghost from_gives = { λ _ fault. fault ≡ Memory };
+
+    fn from(_error: AllocError) -> CheckFault {
+        CheckFault::Memory
+    }
+}
+
+impl<T: Drop> From<AllocFailed<T>> for CheckFault {
+    ghost use Rattle.reg_audit_rows.specs.declared.fault.CheckFault.TheVariants.{Memory};
+
+    ghost from_gives = { λ _ fault. fault ≡ Memory };
+
+    fn from(_error: AllocFailed<T>) -> CheckFault {
+        CheckFault::Memory
+    }
+}
+
+/// The row at a place of a table, counted from 0, breaks a rule.
+pub(crate) fn broken_at(table: RegisterTable, place: usize, why: Defect) -> CheckFault
+    ensures { IsBroken result }
+{
+    let row = (place as u64).saturating_add(1);
+    CheckFault::Broken(BrokenRow { table, row, why })
+}
+
+/// The table has no more rows than the cap.
+pub(crate) fn within_cap(table: RegisterTable, rows: usize, cap: u64) -> Result<(), CheckFault>
+    ensures ok { OnOk result (rows ≤ cap) }
+    ensures broken { IfErr result (λ fault. IsBroken fault → ¬ (rows ≤ cap)) }
+{
+    if rows as u64 <= cap {
+        Ok(())
+    } else {
+        Err(broken_at(table, rows.saturating_sub(1), Defect::AboveCap))
+    }
+}

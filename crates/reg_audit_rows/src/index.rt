@@ -1,0 +1,99 @@
+//! Rows by their keys, where no two have the same.
+
+ghost use Rattle.std.specs.Prelude.{◌≡◌, ℕ, find, ◌==◌, OnOk, IfOk, IfErr};
+ghost use Rattle.std.specs.BTreeMap.{get};
+ghost use Rattle.std.specs.Ordering.{nat_cmp};
+ghost use Rattle.reg_core.specs.Sound.{KeysDiffer};
+ghost use Rattle.reg_audit_rows.specs.Faults.{IsBroken};
+
+use crate::fault::{CheckFault, broken_at};
+use crate::{Defect, RegisterTable};
+use reg_core::{CertRow, RevocationRow, Serial, SubscriberRow};
+use std::alloc::Global;
+use std::collections::{BTreeMap, BTreeSet};
+
+/// The certificates by their serial numbers (RFC 5280 4.1.2.2).
+pub(crate) fn certificates_by_serial(
+    alloc: Global,
+    certificates: &[CertRow],
+) -> Result<BTreeMap<Serial, CertRow>, CheckFault>
+    ensures differ { OnOk result (KeysDiffer (λ row. row.serial) certificates.now) }
+    ensures found { IfOk result (λ found. (key : ℕ) → get nat_cmp found key ≡ find (λ row. row.serial == key) certificates.now) }
+    ensures broken { IfErr result (λ fault. IsBroken fault → ¬ KeysDiffer (λ row. row.serial) certificates.now) }
+{
+    let mut found = BTreeMap::new(alloc);
+    for (place, row) in certificates.iter().enumerate() {
+        if found.insert(row.serial, *row)?.is_some() {
+            return Err(broken_at(RegisterTable::Cert, place, Defect::SameSerial));
+        }
+    }
+    Ok(found)
+}
+
+/// The certificates by the orders that they fill.
+pub(crate) fn certificates_by_order(
+    alloc: Global,
+    certificates: &[CertRow],
+) -> Result<BTreeMap<u64, CertRow>, CheckFault>
+    ensures differ { OnOk result (KeysDiffer (λ row. row.order) certificates.now) }
+    ensures found { IfOk result (λ found. (key : ℕ) → get nat_cmp found key ≡ find (λ row. row.order == key) certificates.now) }
+    ensures broken { IfErr result (λ fault. IsBroken fault → ¬ KeysDiffer (λ row. row.order) certificates.now) }
+{
+    let mut found = BTreeMap::new(alloc);
+    for (place, row) in certificates.iter().enumerate() {
+        if found.insert(row.order, *row)?.is_some() {
+            return Err(broken_at(RegisterTable::Cert, place, Defect::SameOrder));
+        }
+    }
+    Ok(found)
+}
+
+/// The revocations by their serial numbers.
+pub(crate) fn revocations_by_serial(
+    alloc: Global,
+    revocations: &[RevocationRow],
+) -> Result<BTreeMap<Serial, RevocationRow>, CheckFault>
+    ensures differ { OnOk result (KeysDiffer (λ row. row.serial) revocations.now) }
+    ensures found { IfOk result (λ found. (key : ℕ) → get nat_cmp found key ≡ find (λ row. row.serial == key) revocations.now) }
+    ensures broken { IfErr result (λ fault. IsBroken fault → ¬ KeysDiffer (λ row. row.serial) revocations.now) }
+{
+    let mut found = BTreeMap::new(alloc);
+    for (place, row) in revocations.iter().enumerate() {
+        if found.insert(row.serial, *row)?.is_some() {
+            return Err(broken_at(RegisterTable::Revocation, place, Defect::SameSerial));
+        }
+    }
+    Ok(found)
+}
+
+/// The revocations by the requests that led to them.
+pub(crate) fn revocations_by_request(
+    alloc: Global,
+    revocations: &[RevocationRow],
+) -> Result<BTreeMap<u64, RevocationRow>, CheckFault>
+    ensures differ { OnOk result (KeysDiffer (λ row. row.request) revocations.now) }
+    ensures found { IfOk result (λ found. (key : ℕ) → get nat_cmp found key ≡ find (λ row. row.request == key) revocations.now) }
+    ensures broken { IfErr result (λ fault. IsBroken fault → ¬ KeysDiffer (λ row. row.request) revocations.now) }
+{
+    let mut found = BTreeMap::new(alloc);
+    for (place, row) in revocations.iter().enumerate() {
+        if found.insert(row.request, *row)?.is_some() {
+            return Err(broken_at(RegisterTable::Revocation, place, Defect::SameRequest));
+        }
+    }
+    Ok(found)
+}
+
+/// No two subscribers have the same name.
+pub(crate) fn names_differ(alloc: Global, subscribers: &[SubscriberRow]) -> Result<(), CheckFault>
+    ensures ok { OnOk result (KeysDiffer (λ row. row.name) subscribers.now) }
+    ensures broken { IfErr result (λ fault. IsBroken fault → ¬ KeysDiffer (λ row. row.name) subscribers.now) }
+{
+    let mut names = BTreeSet::new(alloc);
+    for (place, subscriber) in subscribers.iter().enumerate() {
+        if !names.insert(subscriber.name.as_bytes())? {
+            return Err(broken_at(RegisterTable::Subscriber, place, Defect::SameName));
+        }
+    }
+    Ok(())
+}

@@ -1,0 +1,263 @@
+//! What is kept beside the records: whether it follows from them.
+
+ghost use Rattle.std.specs.Prelude.{◌≡◌, ◌≢◌, ◌==◌, ◌&&◌, ◌↔◌, ℕ, nat_le, nat_lt, not, find, filter, length, map, IsTrue, MatchOption, OnOk, IfOk, IfErr};
+ghost use Rattle.std.specs.BTreeMap.{get};
+ghost use Rattle.std.specs.List.Sorted.{IsPermutation};
+ghost use Rattle.std.specs.Ordering.{nat_cmp};
+ghost use Rattle.reg_core.specs.Sound.{KeysDiffer, NumberedFrom, NeverFalls};
+ghost use Rattle.reg_store_migration.specs.Refilled.{last_in};
+ghost use Rattle.reg_audit_rows.specs.KeptAsRead.{letter_by, standing_by, found_end, listed_with, found_counts, same_letter};
+ghost use Rattle.reg_audit_rows.specs.Faults.{IsBroken};
+
+use crate::fault::{CheckFault, broken_at};
+use crate::{Defect, RegisterTable};
+use reg_core::{CertRow, Counts, CrlRow, Moment, RevocationRow, Serial, Status, status_of};
+use std::alloc::Global;
+use std::collections::BTreeMap;
+
+/// The state of a certificate at the last accepted moment.
+#[derive(Clone, Copy, PartialEq, Eq)]
+pub enum Letter {
+    Good,
+    Revoked,
+    Expired,
+}
+
+/// A certificate's state letter.
+#[derive(Clone, Copy)]
+pub struct Standing {
+    pub serial: Serial,
+    pub not_after: Moment,
+    pub letter: Letter,
+}
+
+/// What CRLs list of a revocation: its certificate's notAfter, and the last CRL that lists it, where that has been issued.
+#[derive(Clone, Copy)]
+pub struct Listed {
+    pub serial: Serial,
+    pub at: Moment,
+    pub reason: u8,
+    pub first: u64,
+    pub not_after: Moment,
+    pub last: Option<u64>,
+}
+
+/// The rows of the tables that are kept beside the records, each table's in the order of its rowids.
+#[derive(Clone, Copy)]
+pub struct KeptRows<'a> {
+    pub letters: &'a [Standing],
+    pub counts: Counts,
+    pub listed: &'a [Listed],
+}
+
+/// A row of a serial number.
+pub(crate) trait OfSerial: Copy {
+    ghost use Rattle.std.specs.Prelude.{◌≡◌, ◌↔◌, ℕ, IsTrue};
+
+    ghost serial: { Self → ℕ };
+
+    /// The serial number.
+    fn serial(&self) -> Serial
+        ensures { result ≡ serial self.now };
+
+    /// Whether the row is another.
+    fn is(&self, other: &Self) -> bool
+        ensures { IsTrue result ↔ (self.now ≡ other.now) };
+}
+
+impl OfSerial for Standing {
+    ghost serial = { λ row. row.serial };
+
+    fn serial(&self) -> Serial {
+        self.serial
+    }
+
+    fn is(&self, other: &Standing) -> bool {
+        self.serial == other.serial
+            && self.not_after == other.not_after
+            && self.letter == other.letter
+    }
+}
+
+impl OfSerial for Listed {
+    ghost serial = { λ row. row.serial };
+
+    fn serial(&self) -> Serial {
+        self.serial
+    }
+
+    fn is(&self, other: &Listed) -> bool {
+        self.serial == other.serial
+            && self.at == other.at
+            && self.reason == other.reason
+            && self.first == other.first
+            && self.not_after == other.not_after
+            && self.last == other.last
+    }
+}
+
+/// The letter of a status.
+fn letter_of(status: Status) -> Letter
+    ensures { result ≡ letter_by status }
+{
+    match status {
+        Status::Revoked { .. } => Letter::Revoked,
+        Status::Expired => Letter::Expired,
+        Status::Good | Status::Unknown => Letter::Good,
+    }
+}
+
+/// The letter of each certificate at a moment.
+pub(crate) fn standings(
+    alloc: Global,
+    certificates: &[CertRow],
+    revocations: &BTreeMap<Serial, RevocationRow>,
+    last: Moment,
+) -> Result<Vec<Standing>, CheckFault>
+    ensures made { IfOk result (λ made. made.items ≡ map (standing_by last (λ key. get nat_cmp revocations.now key)) certificates.now) }
+    ensures memory { IfErr result (λ fault. ¬ IsBroken fault) }
+{
+    let mut made = Vec::new(alloc);
+    for certificate in certificates {
+        let revocation = revocations.get(&certificate.serial).copied();
+        let status = status_of(last, Some(*certificate), revocation);
+        made.push(Standing {
+            serial: certificate.serial,
+            not_after: certificate.not_after,
+            letter: letter_of(status),
+        })?;
+    }
+    Ok(made)
+}
+
+/// Whether a CRL can list from a number on, and its thisUpdate is past a moment.
+fn is_past(crl: &CrlRow, first: u64, not_after: Moment) -> bool
+    ensures { result ≡ (nat_le first crl.now.number && nat_lt not_after crl.now.this_update) }
+{
+    first <= crl.number && not_after < crl.this_update
+}
+
+/// The number of the first CRL from a number on whose thisUpdate is past a moment, found by halves.
+fn last_listing(crls: &[CrlRow], first: u64, not_after: Moment) -> Option<u64>
+    ensures { NumberedFrom (λ crl. crl.number) 1 crls.now → NeverFalls (λ crl. crl.this_update) crls.now → result ≡ last_in crls.now first not_after }
+{
+    let at = crls.partition_point(|crl| !is_past(crl, first, not_after));
+    match crls.get(at) {
+        Some(crl) => Some(crl.number),
+        None => None,
+    }
+}
+
+/// The end of a certificate that was looked up, moment 0 where there is none.
+fn end_of(certificate: Option<CertRow>) -> Moment
+    ensures { result ≡ found_end certificate }
+{
+    match certificate {
+        Some(certificate) => certificate.not_after,
+        None => Moment::EPOCH,
+    }
+}
+
+/// What CRLs list of each revocation.
+pub(crate) fn listings(
+    alloc: Global,
+    revocations: &[RevocationRow],
+    certificates: &BTreeMap<Serial, CertRow>,
+    crls: &[CrlRow],
+) -> Result<Vec<Listed>, CheckFault>
+    ensures made { NumberedFrom (λ crl. crl.number) 1 crls.now → NeverFalls (λ crl. crl.this_update) crls.now
+        → IfOk result (λ made. made.items ≡ map (listed_with crls.now (λ key. get nat_cmp certificates.now key)) revocations.now) }
+    ensures memory { IfErr result (λ fault. ¬ IsBroken fault) }
+{
+    let mut made = Vec::new(alloc);
+    for revocation in revocations {
+        let not_after = end_of(certificates.get(&revocation.serial).copied());
+        made.push(Listed {
+            serial: revocation.serial,
+            at: revocation.at,
+            reason: revocation.reason,
+            first: revocation.first,
+            not_after,
+            last: last_listing(crls, revocation.first, not_after),
+        })?;
+    }
+    Ok(made)
+}
+
+/// How many of the rows have a letter.
+fn count_of(rows: &[Standing], letter: Letter) -> u64
+    ensures { result ≡ length (filter (λ row. same_letter row.letter letter) rows.now) }
+{
+    let mut count = 0;
+    for row in rows {
+        if row.letter == letter {
+            count += 1;
+        }
+    }
+    count
+}
+
+/// The counts are those of the letters.
+pub(crate) fn check_counts(rows: &[Standing], counts: Counts) -> Result<(), CheckFault>
+    ensures ok { OnOk result (counts ≡ found_counts rows.now) }
+    ensures broken { IfErr result (λ fault. IsBroken fault → ¬ (counts ≡ found_counts rows.now)) }
+{
+    let good = count_of(rows, Letter::Good);
+    let revoked = count_of(rows, Letter::Revoked);
+    let expired = count_of(rows, Letter::Expired);
+    if counts.good == good && counts.revoked == revoked && counts.expired == expired {
+        Ok(())
+    } else {
+        Err(broken_at(RegisterTable::Kept, 0, Defect::WrongCounts))
+    }
+}
+
+/// The place of the first row that differs from the one at its place of another list, or where the first list ends.
+fn first_difference<T: OfSerial>(held: &[T], wanted: &[T]) -> Option<usize>
+    ensures { MatchOption result (held.now ≡ wanted.now) (λ _. held.now ≢ wanted.now) }
+{
+    for (place, row) in held.iter().enumerate() {
+        match wanted.get(place) {
+            Some(other) if row.is(other) => {}
+            _ => return Some(place),
+        }
+    }
+    if held.len() == wanted.len() {
+        None
+    } else {
+        Some(held.len())
+    }
+}
+
+/// The place of a row among others, or where they end. Only what is told of a row rests on it.
+fn place_of<T: OfSerial>(rows: &[T], row: Option<&T>) -> usize {
+    let Some(row) = row else {
+        return rows.len();
+    };
+    for (place, other) in rows.iter().enumerate() {
+        if other.is(row) {
+            return place;
+        }
+    }
+    rows.len()
+}
+
+/// The rows are the wanted ones, in any order.
+pub(crate) fn same_rows<T: OfSerial>(
+    alloc: Global,
+    table: RegisterTable,
+    rows: &[T],
+    wanted: Vec<T>,
+) -> Result<(), CheckFault>
+    ensures ok { OnOk result (IsPermutation wanted.items rows.now) }
+    ensures broken { KeysDiffer T.serial wanted.items → IfErr result (λ fault. IsBroken fault → ¬ IsPermutation wanted.items rows.now) }
+{
+    let mut wanted = wanted;
+    wanted.sort_unstable_by_key(|row| row.serial());
+    let mut held = Vec::from_slice(alloc, rows)?;
+    held.sort_unstable_by_key(|row| row.serial());
+    match first_difference(&held, &wanted) {
+        None => Ok(()),
+        Some(place) => Err(broken_at(table, place_of(rows, held.get(place)), Defect::NotKept)),
+    }
+}

@@ -1,0 +1,117 @@
+//! The lines that tell what an audit says.
+
+ghost use Rattle.std.specs.Prelude.{◌≡◌, ◌++◌, IfOk};
+ghost use Rattle.std.specs.Fmt.{decimal};
+ghost use Rattle.reg_audit_rows.specs.FindingLines.{broken_text, sound_text, table_name, why_text};
+
+use crate::finding::{BrokenRow, Defect, RegisterTable};
+use crate::verdict::Audited;
+use reg_core::Decimal;
+use std::alloc::{AllocError, Global};
+
+/// The line of a schema that is none of a register's.
+pub const OTHER_SCHEMA: &str =
+    "broken: schema: other tables, columns or indexes than a register has\n";
+
+/// The name of a table.
+#[tactic(auto, unfolding(crate::specs::FindingLines::table_name))]
+fn name_of(table: RegisterTable) -> &'static str
+    ensures { result.now ≡ table_name table }
+{
+    match table {
+        RegisterTable::Office => "office",
+        RegisterTable::Subscriber => "subscriber",
+        RegisterTable::Orders => "orders",
+        RegisterTable::Cert => "cert",
+        RegisterTable::Request => "request",
+        RegisterTable::Revocation => "revocation",
+        RegisterTable::Crl => "crl",
+        RegisterTable::Standing => "standing",
+        RegisterTable::Kept => "kept",
+        RegisterTable::Listed => "listed",
+    }
+}
+
+/// What is wrong with a row.
+#[tactic(auto, unfolding(crate::specs::FindingLines::why_text))]
+fn text_of(why: Defect) -> &'static str
+    ensures { result.now ≡ why_text why }
+{
+    match why {
+        Defect::PastClockEnd => "a moment past the end of the clock",
+        Defect::NeverAccepted => "a last accepted moment that no command set",
+        Defect::AboveCap => "more rows than the policy's cap",
+        Defect::OutOfOrder => "its number is not one more than that before it",
+        Defect::BadName => "a name that no command takes",
+        Defect::SameName => "an earlier row has the same name",
+        Defect::BadDays => "days that no schedule allows",
+        Defect::SameSerial => "an earlier row has the same serial number",
+        Defect::SameOrder => "an earlier row fills the same order",
+        Defect::SameRequest => "an earlier row has the same request",
+        Defect::NoSubscriber => "no such subscriber",
+        Defect::NoOrder => "no such order",
+        Defect::Backwards => "its notBefore is after its notAfter",
+        Defect::TooLong => "a longer validity than its order allows",
+        Defect::NoCertificate => "no such certificate",
+        Defect::NoRequest => "no such request for this serial number",
+        Defect::ByDeclined => "its request was declined",
+        Defect::OtherReason => "another reason than that of its request's ground",
+        Defect::AfterLast => "its moment is after the last accepted one",
+        Defect::AfterEnd => "its moment is after the end of the certificate",
+        Defect::AfterRevocation => "its moment is after the revocation of its serial number",
+        Defect::Earlier => "its moment is before that of the row before it",
+        Defect::NoFirst => "its first CRL is neither issued nor the next",
+        Defect::WrongFirst => "its first CRL is not the first one after it",
+        Defect::EarlierFirst => "its first CRL is before that of the row before it",
+        Defect::BeforeThePrevious => "its thisUpdate is before that of the CRL before it",
+        Defect::NotKept => "not what follows from the records, or a row before it is missing",
+        Defect::OtherBytes => "its bytes are not those of what the records list",
+        Defect::WrongCounts => "not the counts of the letters",
+        Defect::NoValue => "a value that no register writes, or no such row",
+    }
+}
+
+/// A text with another one behind it.
+fn with(text: Vec<u8>, more: &[u8]) -> Result<Vec<u8>, AllocError>
+    ensures { IfOk result (λ made. made.items ≡ text.items ++ more.now) }
+{
+    let mut text = text;
+    text.extend_from_slice(more)?;
+    Ok(text)
+}
+
+/// A text with a word and a number behind it.
+fn with_number(text: Vec<u8>, word: &[u8], number: u64) -> Result<Vec<u8>, AllocError>
+    ensures { IfOk result (λ made. made.items ≡ text.items ++ word.now ++ decimal number) }
+{
+    let text = with(text, word)?;
+    with(text, Decimal::of(number).as_bytes())
+}
+
+/// The line of rows that are all sound.
+///
+/// # Errors
+/// Memory could not be had.
+pub fn sound_line(alloc: Global, found: Audited) -> Result<Vec<u8>, AllocError>
+    ensures { IfOk result (λ line. line.items ≡ sound_text found) }
+{
+    let text = with_number(Vec::new(alloc), b"sound, ", found.certificates as u64)?;
+    let text = with_number(text, b" certificates, ", found.revoked as u64)?;
+    let text = with_number(text, b" revoked, ", found.crls as u64)?;
+    with(text, b" CRLs\n")
+}
+
+/// The line of a row that breaks a rule.
+///
+/// # Errors
+/// Memory could not be had.
+pub fn broken_line(alloc: Global, broken: BrokenRow) -> Result<Vec<u8>, AllocError>
+    ensures { IfOk result (λ line. line.items ≡ broken_text broken) }
+{
+    let text = with(Vec::new(alloc), b"broken: ")?;
+    let text = with(text, name_of(broken.table).as_bytes())?;
+    let text = with_number(text, b" ", broken.row)?;
+    let text = with(text, b": ")?;
+    let text = with(text, text_of(broken.why).as_bytes())?;
+    with(text, b"\n")
+}

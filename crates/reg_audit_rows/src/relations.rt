@@ -1,0 +1,240 @@
+//! What rows say of other rows.
+
+ghost use Rattle.std.specs.Prelude.{◌≡◌, ◌+◌, ◌<◌, ◌≤◌, ◌==◌, ◌↔◌, ℕ, find, length, is_some, IsSome, IsSomeAnd, IsTrue, MatchOption, OnOk, IfErr};
+ghost use Rattle.std.specs.BTreeMap.{get};
+ghost use Rattle.std.specs.List.{AllByRecursion};
+ghost use Rattle.std.specs.Ordering.{nat_cmp};
+ghost use Rattle.reg_core.specs.Records.{subscriber_in, order_in, request_in};
+ghost use Rattle.reg_core.specs.Sound.{LeadsTo, NumberedFrom};
+ghost use Rattle.reg_audit_rows.specs.Read.{AreAround, FitsIn, IsAsOrdered, IsBefore, IsInTime};
+ghost use Rattle.reg_audit_rows.specs.Faults.{IsBroken};
+
+use crate::chain::Numbered;
+use crate::fault::{CheckFault, broken_at};
+use crate::{Defect, RegisterTable};
+use reg_core::{
+    CertRow, CrlRow, Moment, OrderRow, RequestRow, RevocationRow, Serial, SubscriberRow,
+};
+use std::collections::BTreeMap;
+
+const SECONDS_OF_DAY: u64 = 86_400;
+
+/// Whether an id is one of so many, from 1 on.
+fn is_one_of(id: u64, rows: usize) -> bool
+    ensures { IsTrue result ↔ ((1 ≤ id) × (id ≤ rows)) }
+{
+    id >= 1 && id <= rows as u64
+}
+
+/// Each order's subscriber is there.
+pub(crate) fn subscribers_exist(
+    orders: &[OrderRow],
+    subscribers: &[SubscriberRow],
+) -> Result<(), CheckFault>
+    ensures ok { NumberedFrom (λ row. row.id) 1 subscribers.now → OnOk result (AllByRecursion (λ row. IsSome (subscriber_in subscribers.now row.subscriber)) orders.now) }
+    ensures broken { NumberedFrom (λ row. row.id) 1 subscribers.now → IfErr result (λ fault. IsBroken fault → ¬ AllByRecursion (λ row. IsSome (subscriber_in subscribers.now row.subscriber)) orders.now) }
+{
+    for (place, order) in orders.iter().enumerate() {
+        if !is_one_of(order.subscriber, subscribers.len()) {
+            return Err(broken_at(RegisterTable::Orders, place, Defect::NoSubscriber));
+        }
+    }
+    Ok(())
+}
+
+/// The row with a number.
+fn row_with<T: Numbered + Copy>(rows: &[T], number: u64) -> Option<T>
+    ensures { NumberedFrom T.number 1 rows.now → result ≡ find (λ row. T.number row == number) rows.now }
+{
+    let place = number.checked_sub(1)?;
+    match rows.get(place as usize) {
+        Some(row) => Some(*row),
+        None => None,
+    }
+}
+
+/// Why a certificate is not as it was ordered, or none.
+fn unordered(certificate: &CertRow, order: Option<OrderRow>) -> Option<Defect>
+    ensures { MatchOption result (IsAsOrdered certificate.now order) (λ _. ¬ IsAsOrdered certificate.now order) }
+{
+    let Some(order) = order else {
+        return Some(Defect::NoOrder);
+    };
+    let begins = certificate.not_before.secs();
+    let seconds = certificate.not_after.secs().saturating_sub(begins) + 1;
+    if seconds > order.days.saturating_mul(SECONDS_OF_DAY) {
+        return Some(Defect::TooLong);
+    }
+    None
+}
+
+/// Each certificate's order is there, and its validity no longer than ordered.
+pub(crate) fn are_as_ordered(
+    certificates: &[CertRow],
+    orders: &[OrderRow],
+) -> Result<(), CheckFault>
+    ensures ok { NumberedFrom (λ row. row.id) 1 orders.now → OnOk result (AllByRecursion (λ row. IsAsOrdered row (order_in orders.now row.order)) certificates.now) }
+    ensures broken { NumberedFrom (λ row. row.id) 1 orders.now → IfErr result (λ fault. IsBroken fault → ¬ AllByRecursion (λ row. IsAsOrdered row (order_in orders.now row.order)) certificates.now) }
+{
+    for (place, certificate) in certificates.iter().enumerate() {
+        let order = row_with(orders, certificate.order);
+        if let Some(why) = unordered(certificate, order) {
+            return Err(broken_at(RegisterTable::Cert, place, why));
+        }
+    }
+    Ok(())
+}
+
+/// Why a request is not for a certificate that had not ended, or none.
+fn untimely(request: &RequestRow, certificate: Option<CertRow>) -> Option<Defect>
+    ensures { MatchOption result (IsInTime request.now certificate) (λ _. ¬ IsInTime request.now certificate) }
+{
+    let Some(certificate) = certificate else {
+        return Some(Defect::NoCertificate);
+    };
+    if request.received > certificate.not_after {
+        return Some(Defect::AfterEnd);
+    }
+    None
+}
+
+/// The certificate of each request is there, and had not ended when it was received.
+pub(crate) fn are_in_time(
+    requests: &[RequestRow],
+    certificates: &BTreeMap<Serial, CertRow>,
+) -> Result<(), CheckFault>
+    ensures ok { OnOk result (AllByRecursion (λ row. IsInTime row (get nat_cmp certificates.now row.serial)) requests.now) }
+    ensures broken { IfErr result (λ fault. IsBroken fault → ¬ AllByRecursion (λ row. IsInTime row (get nat_cmp certificates.now row.serial)) requests.now) }
+{
+    for (place, request) in requests.iter().enumerate() {
+        let certificate = certificates.get(&request.serial).copied();
+        if let Some(why) = untimely(request, certificate) {
+            return Err(broken_at(RegisterTable::Request, place, why));
+        }
+    }
+    Ok(())
+}
+
+/// Whether a request was not received after a revocation, where there is one.
+fn is_before(request: &RequestRow, revocation: Option<RevocationRow>) -> bool
+    ensures { IsTrue result ↔ IsBefore request.now revocation }
+{
+    match revocation {
+        Some(revocation) => request.received <= revocation.at,
+        None => true,
+    }
+}
+
+/// No request was received after the revocation of its serial number.
+pub(crate) fn none_after(
+    requests: &[RequestRow],
+    revocations: &BTreeMap<Serial, RevocationRow>,
+) -> Result<(), CheckFault>
+    ensures ok { OnOk result (AllByRecursion (λ row. IsBefore row (get nat_cmp revocations.now row.serial)) requests.now) }
+    ensures broken { IfErr result (λ fault. IsBroken fault → ¬ AllByRecursion (λ row. IsBefore row (get nat_cmp revocations.now row.serial)) requests.now) }
+{
+    for (place, request) in requests.iter().enumerate() {
+        let revocation = revocations.get(&request.serial).copied();
+        if !is_before(request, revocation) {
+            return Err(broken_at(RegisterTable::Request, place, Defect::AfterRevocation));
+        }
+    }
+    Ok(())
+}
+
+/// Why a request did not lead to a revocation, or none.
+fn not_led(request: &RequestRow, revocation: &RevocationRow) -> Option<Defect>
+    ensures { MatchOption result (LeadsTo revocation.now request.now) (λ _. ¬ LeadsTo revocation.now request.now) }
+{
+    if request.serial != revocation.serial {
+        return Some(Defect::NoRequest);
+    }
+    if request.declined {
+        return Some(Defect::ByDeclined);
+    }
+    if revocation.reason != request.ground.reason() {
+        return Some(Defect::OtherReason);
+    }
+    None
+}
+
+/// Whether a CRL stands right to a number: below it not after a moment, and from it on not before the moment.
+fn is_around(crl: &CrlRow, first: u64, at: Moment) -> bool
+    ensures { IsTrue result ↔ ((crl.now.number < first → crl.now.this_update ≤ at) × (first ≤ crl.now.number → at ≤ crl.now.this_update)) }
+{
+    if crl.number < first {
+        crl.this_update <= at
+    } else {
+        at <= crl.this_update
+    }
+}
+
+/// Whether each CRL does.
+fn are_around(crls: &[CrlRow], first: u64, at: Moment) -> bool
+    ensures { IsTrue result ↔ AreAround first at crls.now }
+{
+    for crl in crls {
+        if !is_around(crl, first, at) {
+            return false;
+        }
+    }
+    true
+}
+
+/// Why a revocation does not hold together with what was looked up, or none.
+fn misfit(
+    revocation: &RevocationRow,
+    certificate: Option<CertRow>,
+    request: Option<RequestRow>,
+    crls: &[CrlRow],
+    last: Moment,
+) -> Option<Defect>
+    ensures { MatchOption result (FitsIn last certificate request crls.now revocation.now) (λ _. ¬ FitsIn last certificate request crls.now revocation.now) }
+{
+    let Some(certificate) = certificate else {
+        return Some(Defect::NoCertificate);
+    };
+    let Some(request) = request else {
+        return Some(Defect::NoRequest);
+    };
+    if let Some(why) = not_led(&request, revocation) {
+        return Some(why);
+    }
+    if revocation.at > certificate.not_after {
+        return Some(Defect::AfterEnd);
+    }
+    if revocation.at > last {
+        return Some(Defect::AfterLast);
+    }
+    if revocation.first < 1 || revocation.first > crls.len() as u64 + 1 {
+        return Some(Defect::NoFirst);
+    }
+    if are_around(crls, revocation.first, revocation.at) {
+        None
+    } else {
+        Some(Defect::WrongFirst)
+    }
+}
+
+/// Each revocation holds together with its certificate, its request and the CRLs.
+pub(crate) fn revocations_fit(
+    revocations: &[RevocationRow],
+    certificates: &BTreeMap<Serial, CertRow>,
+    requests: &[RequestRow],
+    crls: &[CrlRow],
+    last: Moment,
+) -> Result<(), CheckFault>
+    ensures ok { NumberedFrom (λ row. row.id) 1 requests.now
+        → OnOk result (AllByRecursion (λ row. FitsIn last (get nat_cmp certificates.now row.serial) (request_in requests.now row.request) crls.now row) revocations.now) }
+    ensures broken { NumberedFrom (λ row. row.id) 1 requests.now
+        → IfErr result (λ fault. IsBroken fault → ¬ AllByRecursion (λ row. FitsIn last (get nat_cmp certificates.now row.serial) (request_in requests.now row.request) crls.now row) revocations.now) }
+{
+    for (place, revocation) in revocations.iter().enumerate() {
+        let certificate = certificates.get(&revocation.serial).copied();
+        let request = row_with(requests, revocation.request);
+        if let Some(why) = misfit(revocation, certificate, request, crls, last) {
+            return Err(broken_at(RegisterTable::Revocation, place, why));
+        }
+    }
+    Ok(())
+}

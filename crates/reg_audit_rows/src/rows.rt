@@ -1,0 +1,208 @@
+//! Rows of a register's tables, and whether they are those of sound records.
+
+ghost use Rattle.std.specs.Prelude.{◌≡◌, ◌<◌, ◌≤◌, ◌==◌, ℕ, List, find, length, OnOk, IfOk, IfErr};
+ghost use Rattle.std.specs.BTreeMap.{get};
+ghost use Rattle.std.specs.List.{list_any};
+ghost use Rattle.std.specs.Ordering.{nat_cmp};
+ghost use Rattle.reg_core.specs.Calendar.{clock_end};
+ghost use Rattle.reg_core.specs.Records.{Records};
+ghost use Rattle.reg_core.specs.Sound.{SoundRows, SoundSubscribers, SoundOrders, SoundCertificates, SoundRequests, NumberedFrom};
+ghost use Rattle.reg_audit_rows.specs.Read.{AreOf, AreCrls, AreRevocations, IsLastSet, IsIndexOf};
+ghost use Rattle.reg_audit_rows.specs.Faults.{IsBroken};
+
+use crate::alone::{days_are_allowed, names_are_good, run_forward};
+use crate::chain::{
+    firsts_never_fall, in_order, moments_never_fall, received_by_last, updates_by_last,
+};
+use crate::fault::{CheckFault, broken_at, within_cap};
+use crate::index::{
+    certificates_by_order, certificates_by_serial, names_differ, revocations_by_request,
+    revocations_by_serial,
+};
+use crate::relations::{
+    are_as_ordered, are_in_time, none_after, revocations_fit, subscribers_exist,
+};
+use crate::{Defect, RegisterTable};
+use reg_core::{
+    CertRow, CrlRow, Moment, OrderRow, RequestRow, RevocationRow, Serial, SubscriberRow,
+};
+use std::alloc::Global;
+use std::collections::BTreeMap;
+
+/// The rows of the tables of the records, each table's in the order of its rowids, the CRLs without their bytes.
+#[derive(Clone, Copy)]
+pub struct Rows<'a> {
+    /// The most rows of a table, by the policy.
+    pub cap: u64,
+    /// The last accepted moment.
+    pub last: Moment,
+    pub subscribers: &'a [SubscriberRow],
+    pub orders: &'a [OrderRow],
+    pub certificates: &'a [CertRow],
+    pub requests: &'a [RequestRow],
+    pub revocations: &'a [RevocationRow],
+    pub crls: &'a [CrlRow],
+}
+
+/// Ids are 1, 2, 3 and so on, names are good and differ, and no more than the cap.
+fn check_subscribers(alloc: Global, rows: &[SubscriberRow], cap: u64) -> Result<(), CheckFault>
+    ensures ok { OnOk result (SoundSubscribers cap rows.now) }
+    ensures broken { IfErr result (λ fault. IsBroken fault → ¬ SoundSubscribers cap rows.now) }
+{
+    within_cap(RegisterTable::Subscriber, rows.len(), cap)?;
+    in_order(RegisterTable::Subscriber, rows)?;
+    names_are_good(rows)?;
+    names_differ(alloc, rows)
+}
+
+/// Ids are 1, 2, 3 and so on, each subscriber is there, days are some that a schedule can allow, and no more than the cap.
+fn check_orders(
+    subscribers: &[SubscriberRow],
+    rows: &[OrderRow],
+    cap: u64,
+) -> Result<(), CheckFault>
+    ensures ok { NumberedFrom (λ row. row.id) 1 subscribers.now → OnOk result (SoundOrders cap subscribers.now rows.now) }
+    ensures broken { NumberedFrom (λ row. row.id) 1 subscribers.now → IfErr result (λ fault. IsBroken fault → ¬ SoundOrders cap subscribers.now rows.now) }
+{
+    within_cap(RegisterTable::Orders, rows.len(), cap)?;
+    in_order(RegisterTable::Orders, rows)?;
+    subscribers_exist(rows, subscribers)?;
+    days_are_allowed(rows)
+}
+
+/// Serial numbers differ (RFC 5280 4.1.2.2), each fills an order of its own, validities run forward and are no longer than
+/// ordered, and no more than the cap.
+fn check_certificates(
+    alloc: Global,
+    orders: &[OrderRow],
+    rows: &[CertRow],
+    cap: u64,
+) -> Result<BTreeMap<Serial, CertRow>, CheckFault>
+    ensures ok { NumberedFrom (λ row. row.id) 1 orders.now → OnOk result (SoundCertificates cap orders.now rows.now) }
+    ensures found { IfOk result (λ found. (key : ℕ) → get nat_cmp found key ≡ find (λ row. row.serial == key) rows.now) }
+    ensures broken { NumberedFrom (λ row. row.id) 1 orders.now → IfErr result (λ fault. IsBroken fault → ¬ SoundCertificates cap orders.now rows.now) }
+{
+    within_cap(RegisterTable::Cert, rows.len(), cap)?;
+    run_forward(rows)?;
+    are_as_ordered(rows, orders)?;
+    certificates_by_order(alloc, rows)?;
+    certificates_by_serial(alloc, rows)
+}
+
+/// Ids are 1, 2, 3 and so on, each certificate is there and had not ended, receipts do not fall, none is after the last
+/// accepted moment, and no more than the cap.
+fn check_requests(
+    certificates: &BTreeMap<Serial, CertRow>,
+    rows: &[RequestRow],
+    last: Moment,
+    cap: u64,
+) -> Result<(), CheckFault>
+    ensures ok { (registered : List CertRow) → ((key : ℕ) → get nat_cmp certificates.now key ≡ find (λ row. row.serial == key) registered) → OnOk result (SoundRequests cap last registered rows.now) }
+    ensures broken { (registered : List CertRow) → ((key : ℕ) → get nat_cmp certificates.now key ≡ find (λ row. row.serial == key) registered) → IfErr result (λ fault. IsBroken fault → ¬ SoundRequests cap last registered rows.now) }
+{
+    within_cap(RegisterTable::Request, rows.len(), cap)?;
+    in_order(RegisterTable::Request, rows)?;
+    received_by_last(rows, last)?;
+    moments_never_fall(RegisterTable::Request, rows, Defect::Earlier)?;
+    are_in_time(rows, certificates)
+}
+
+/// Numbers are 1, 2, 3 and so on (RFC 5280 5.2.3), thisUpdates do not fall, none is after the last accepted moment, and
+/// no more than the cap.
+fn check_crls(rows: &[CrlRow], last: Moment, cap: u64) -> Result<(), CheckFault>
+    ensures ok { OnOk result (AreCrls cap last rows.now) }
+    ensures broken { IfErr result (λ fault. IsBroken fault → ¬ AreCrls cap last rows.now) }
+{
+    within_cap(RegisterTable::Crl, rows.len(), cap)?;
+    in_order(RegisterTable::Crl, rows)?;
+    moments_never_fall(RegisterTable::Crl, rows, Defect::BeforeThePrevious)?;
+    updates_by_last(rows, last)
+}
+
+/// One revocation of a serial number, and one of a request, and each holds together with its certificate, its request
+/// and the CRLs; neither moments nor first CRL numbers fall, and no request was received after the revocation.
+fn check_revocations(
+    alloc: Global,
+    certificates: &BTreeMap<Serial, CertRow>,
+    rows: &Rows<'_>,
+) -> Result<BTreeMap<Serial, RevocationRow>, CheckFault>
+    ensures ok { NumberedFrom (λ row. row.id) 1 rows.now.requests.now → OnOk result (AreRevocations (λ key. get nat_cmp certificates.now key) rows.now) }
+    ensures found { IfOk result (λ found. (key : ℕ) → get nat_cmp found key ≡ find (λ row. row.serial == key) rows.now.revocations.now) }
+    ensures broken { NumberedFrom (λ row. row.id) 1 rows.now.requests.now → IfErr result (λ fault. IsBroken fault → ¬ AreRevocations (λ key. get nat_cmp certificates.now key) rows.now) }
+{
+    revocations_fit(
+        rows.revocations,
+        certificates,
+        rows.requests,
+        rows.crls,
+        rows.last,
+    )?;
+    moments_never_fall(RegisterTable::Revocation, rows.revocations, Defect::Earlier)?;
+    firsts_never_fall(rows.revocations)?;
+    revocations_by_request(alloc, rows.revocations)?;
+    let revocations = revocations_by_serial(alloc, rows.revocations)?;
+    none_after(rows.requests, &revocations)?;
+    Ok(revocations)
+}
+
+/// The clock lets the last accepted moment pass.
+fn check_last(last: Moment) -> Result<(), CheckFault>
+    ensures ok { OnOk result (last < clock_end) }
+    ensures broken { IfErr result (λ fault. IsBroken fault → ¬ (last < clock_end)) }
+{
+    if last < Moment::CLOCK_END {
+        Ok(())
+    } else {
+        Err(broken_at(RegisterTable::Office, 0, Defect::PastClockEnd))
+    }
+}
+
+/// Whether a CRL has this thisUpdate.
+fn is_issued_at(crls: &[CrlRow], moment: Moment) -> bool
+    ensures { result ≡ list_any (λ crl. crl.this_update == moment) crls.now }
+{
+    crls.iter().any(|crl| crl.this_update == moment)
+}
+
+/// Before anybody is entered, CRLs alone set the last accepted moment.
+fn check_last_set(rows: &Rows<'_>) -> Result<(), CheckFault>
+    ensures ok { OnOk result (IsLastSet rows.now) }
+    ensures broken { IfErr result (λ fault. IsBroken fault → ¬ IsLastSet rows.now) }
+{
+    let is_begun = !rows.subscribers.is_empty() || rows.last == Moment::EPOCH;
+    if is_begun || is_issued_at(rows.crls, rows.last) {
+        Ok(())
+    } else {
+        Err(broken_at(RegisterTable::Office, 0, Defect::NeverAccepted))
+    }
+}
+
+/// The rows that were looked at, by their serial numbers.
+#[derive(Drop)]
+pub(crate) struct Found {
+    pub(crate) certificates: BTreeMap<Serial, CertRow>,
+    pub(crate) revocations: BTreeMap<Serial, RevocationRow>,
+}
+
+/// Whether the rows are those of sound records.
+///
+/// # Errors
+/// `Broken` where they are not, with a row that breaks a rule; `Memory`.
+pub(crate) fn check_rows(alloc: Global, rows: &Rows<'_>) -> Result<Found, CheckFault>
+    ensures ok { (records : Records) → AreOf rows.now records → OnOk result (SoundRows records) }
+    ensures found { IfOk result (IsIndexOf rows.now) }
+    ensures broken { (records : Records) → AreOf rows.now records → IfErr result (λ fault. IsBroken fault → ¬ SoundRows records) }
+{
+    check_last(rows.last)?;
+    check_last_set(rows)?;
+    check_subscribers(alloc, rows.subscribers, rows.cap)?;
+    check_orders(rows.subscribers, rows.orders, rows.cap)?;
+    let certificates = check_certificates(alloc, rows.orders, rows.certificates, rows.cap)?;
+    check_requests(&certificates, rows.requests, rows.last, rows.cap)?;
+    check_crls(rows.crls, rows.last, rows.cap)?;
+    let revocations = check_revocations(alloc, &certificates, rows)?;
+    Ok(Found {
+        certificates,
+        revocations,
+    })
+}

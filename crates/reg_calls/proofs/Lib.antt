@@ -1,2 +1,0 @@
-pub mod Drafting
-pub mod Happening

@@ -1,4 +1,0 @@
-pub mod AfterStoppedChange
-pub mod ChangeEffects
-pub mod ColumnEffects
-pub mod Days

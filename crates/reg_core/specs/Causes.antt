@@ -1,0 +1,37 @@
+-- The line of each cause.
+use Rattle.std.specs.Prelude.{ℕ, Bool, ◌||◌, nat_lt, List, codes, if◌then◌else◌, Some, None}
+use Rattle.std.specs.declared.option.Option.{Option}
+use Rattle.reg_core.specs.declared.cause.Cause.{Cause}
+use Rattle.reg_core.specs.declared.cause.Cause.TheVariants as cause
+
+-- the line of standard error that tells a cause, without its LF
+unfoldable pub cause_line : Cause → List ℕ
+cause_line cause.NoFile = codes "  no such file"
+cause_line cause.NoRight = codes "  no right"
+cause_line cause.InUse = codes "  in use by another program"
+cause_line cause.Damaged = codes "  damaged"
+cause_line cause.DiskFull = codes "  disk full"
+cause_line cause.Taken = codes "  something lies there already"
+cause_line cause.PortInUse = codes "  port in use"
+cause_line cause.Clock = codes "  clock"
+cause_line cause.OtherAlgorithm = codes "  latest CRL under another algorithm"
+cause_line cause.UnknownAlgorithm = codes "  latest CRL under an unknown algorithm"
+cause_line cause.OtherKey = codes "  issuer's key of another algorithm"
+cause_line cause.Days = codes "  --days: 1 to 398"
+cause_line cause.CrlLife = codes "  --crl-life: 1 to 863999"
+cause_line cause.OcspLife = codes "  --ocsp-life: 28800 to 863999"
+cause_line cause.Cap = codes "  --cap: 1 to 1000000"
+cause_line cause.Steps = codes "  steps: 1 to 16, from 1970 on ascending, days 1 to 398"
+
+-- whether a number is out of a range
+abbrev pub is_out : ℕ → ℕ → ℕ → Bool
+is_out least most number = nat_lt number least || nat_lt most number
+
+-- which of the terms of a policy is out of its range, the first of them (docs/RULES.md, "What is kept")
+unfoldable pub terms_cause : ℕ → ℕ → ℕ → ℕ → Option Cause
+terms_cause days crl_life ocsp_life cap =
+    if is_out 1 398 days then Some cause.Days
+    else if is_out 1 863999 crl_life then Some cause.CrlLife
+    else if is_out 28800 863999 ocsp_life then Some cause.OcspLife
+    else if is_out 1 1000000 cap then Some cause.Cap
+    else None

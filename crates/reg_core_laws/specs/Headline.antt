@@ -1,0 +1,199 @@
+-- The headline: over every list of commands, each serial number ever registered stands at any moment reached in exactly
+-- one of good, revoked and expired; the three counts move exactly as accepted commands and passing time record; every
+-- CRL after a revocation lists it up to and including the first issued past its notAfter, and lists nothing else; a
+-- refused command changes nothing.
+use Rattle.std.specs.Prelude.{◌≡◌, ℕ, Bool, ◌&&◌, ◌⊎◌, ◌↔◌, ◌==◌, ◌+◌, ◌<◌, ◌≤◌, nat_le, nat_lt, List, [], ◌∷◌, ◌++◌, length, filter, Some, Result, Ok, Err, IsTrue, IsFalse}
+use Rattle.std.specs.List.{AllByRecursion, list_any}
+use Rattle.reg_core.specs.Checks.{clock_end}
+use Rattle.reg_core.specs.Crls.{CertList, entries}
+use Rattle.reg_core.specs.Issuer.{Issuer}
+use Rattle.reg_core.specs.Policy.{IsPolicy, Terms}
+use Rattle.reg_core.specs.Records.{Records, Crl, no_records, certificate_in, revocation_in}
+use Rattle.reg_core.specs.Sound.{Sound}
+use Rattle.reg_core.specs.Status.{status, is_good, is_revoked, is_expired, counts}
+use Rattle.reg_core.specs.declared.rows.CertRow.{CertRow}
+use Rattle.reg_core.specs.declared.rows.RevocationRow.{RevocationRow}
+use Rattle.reg_core.specs.declared.rows.Entry.{Entry}
+use Rattle.reg_core.specs.declared.command.Command.{Command}
+use Rattle.reg_core.specs.declared.command.Counts.{Counts}
+use Rattle.reg_core.specs.declared.command.Reply.{Reply}
+use Rattle.reg_core.specs.declared.command.Reply.TheVariants.{Registered, Revoked}
+use Rattle.reg_core.specs.declared.refusal.Fault.{Fault}
+use Rattle.reg_core.specs.declared.command.Status.TheVariants.{Good, Expired}
+use Rattle.reg_core_laws.specs.Revocations.{IsRevocationBy}
+use Rattle.reg_core_laws.specs.Run.{Happens, Run}
+
+-- a register of any policy is sound as it is created
+abbrev pub CreatedSound : (CertList → List ℕ → Type 0) → Type 0
+CreatedSound signed = (issuer : Issuer) (policy : Terms) → IsPolicy policy → Sound signed (no_records issuer policy)
+
+-- every run keeps the records sound
+abbrev pub KeepsSound : (CertList → List ℕ → Type 0) → Type 0
+KeepsSound signed =
+    (records after : Records)
+    (commands : List (ℕ × Command))
+    (outcomes : List (Result Reply Fault))
+    → Sound signed records
+    → Run signed records commands outcomes after
+    → Sound signed after
+
+-- every run is, at every prefix of its commands, the run of that prefix and then the run of the rest
+abbrev pub RunsInParts : (CertList → List ℕ → Type 0) → Type 0
+RunsInParts signed =
+    (records after : Records)
+    (front rest : List (ℕ × Command))
+    (outcomes : List (Result Reply Fault))
+    → Run signed records (front ++ rest) outcomes after
+    → (between : Records)
+    × (early : List (Result Reply Fault))
+    × (late : List (Result Reply Fault))
+    × (outcomes ≡ early ++ late)
+    × Run signed records front early between
+    × Run signed between rest late after
+
+-- one of three tests passes, and only one
+abbrev pub ExactlyOne : Bool → Bool → Bool → Type 0
+ExactlyOne first second third =
+    (IsTrue first × IsFalse second × IsFalse third)
+    ⊎ (IsFalse first × IsTrue second × IsFalse third)
+    ⊎ (IsFalse first × IsFalse second × IsTrue third)
+
+-- each registered serial number is in one of good, revoked and expired and in no other, and together they are all
+pub record Parted (records : Records) (moment : ℕ) : Type 0 where
+  pub each : AllByRecursion
+      (λ row. ExactlyOne
+      (is_good (status records row.serial moment))
+      (is_revoked (status records row.serial moment))
+      (is_expired (status records row.serial moment)))
+      records.certificates
+  pub together :
+      ((counts records moment).good + (counts records moment).revoked) + (counts records moment).expired
+      ≡ length records.certificates
+
+-- at any moment from the last accepted one on, each serial number ever registered is in exactly one
+abbrev pub StandsInExactlyOne : (CertList → List ℕ → Type 0) → Type 0
+StandsInExactlyOne signed =
+    (records after : Records)
+    (commands : List (ℕ × Command))
+    (outcomes : List (Result Reply Fault))
+    → Sound signed records
+    → Run signed records commands outcomes after
+    → ((more : List CertRow) × (after.certificates ≡ records.certificates ++ more))
+    × ((moment : ℕ) → after.last ≤ moment → moment < clock_end → Parted after moment)
+
+-- the counts after a command: a registration adds one to good, a revocation moves one from good to revoked, and
+-- nothing else moves any
+abbrev pub CountsMove : Counts → Result Reply Fault → Counts → Type 0
+CountsMove before (Ok Registered) after =
+    (after.good ≡ before.good + 1) × (after.revoked ≡ before.revoked) × (after.expired ≡ before.expired)
+CountsMove before (Ok (Revoked late)) after =
+    (after.good + 1 ≡ before.good) × (after.revoked ≡ before.revoked + 1) × (after.expired ≡ before.expired)
+CountsMove before outcome after = after ≡ before
+
+-- a certificate that is not revoked, and whose notAfter is in a span of time
+abbrev pub ends_between : Records → ℕ → ℕ → CertRow → Bool
+ends_between records moment later row =
+    is_good (status records row.serial moment) && nat_le moment row.not_after && nat_lt row.not_after later
+
+-- as time passes, those that are not revoked and end move from good to expired, and nothing else moves
+pub record TimeMoves (records : Records) (moment later : ℕ) : Type 0 where
+  pub good :
+      (counts records later).good + length (filter (ends_between records moment later) records.certificates)
+      ≡ (counts records moment).good
+  pub expired :
+      (counts records later).expired
+      ≡ (counts records moment).expired + length (filter (ends_between records moment later) records.certificates)
+  pub revoked : (counts records later).revoked ≡ (counts records moment).revoked
+  pub ending : AllByRecursion
+      (λ row. IsTrue (ends_between records moment later row)
+      → (status records row.serial moment ≡ Good) × (status records row.serial later ≡ Expired))
+      records.certificates
+  pub others : AllByRecursion
+      (λ row. IsFalse (ends_between records moment later row)
+      → status records row.serial later ≡ status records row.serial moment)
+      records.certificates
+
+-- at every command of every run the counts move as the outcome says, and between commands as time says
+abbrev pub CountsMoveExactly : (CertList → List ℕ → Type 0) → Type 0
+CountsMoveExactly signed =
+    (records before next : Records)
+    (front : List (ℕ × Command))
+    (early : List (Result Reply Fault))
+    (now : ℕ)
+    (command : Command)
+    (outcome : Result Reply Fault)
+    → Sound signed records
+    → Run signed records front early before
+    → Happens signed before now command outcome next
+    → CountsMove (counts before now) outcome (counts next now)
+    × ((moment later : ℕ) → moment ≤ later → TimeMoves before moment later)
+
+-- CRL n has an entry of the serial number
+abbrev pub lists : Records → ℕ → ℕ → Bool
+lists records n serial = list_any (λ entry. entry.serial == serial) (entries records n)
+
+-- no CRL from one number up to below another was issued past the end
+abbrev pub NonePastBetween : List Crl → ℕ → ℕ → ℕ → Type 0
+NonePastBetween crls first n not_after =
+    AllByRecursion (λ crl. first ≤ crl.number → crl.number < n → crl.this_update ≤ not_after) crls
+
+-- a revocation as the CRLs of the records tell it: those issued before it do not list it; each later one lists it
+-- exactly while no later one before that was issued past the certificate's end
+pub record ToldByCrls (earlier : List Crl) (after : Records) (certificate : CertRow) (revocation : RevocationRow) : Type 0 where
+  pub stands : revocation_in after.revocations certificate.serial ≡ Some revocation
+  pub later : List Crl
+  pub issued : after.crls ≡ earlier ++ later
+  pub before : AllByRecursion
+      (λ crl. (crl.number < revocation.first) × IsFalse (lists after crl.number certificate.serial))
+      earlier
+  pub since : AllByRecursion
+      (λ crl. (revocation.first ≤ crl.number)
+      × (IsTrue (lists after crl.number certificate.serial)
+      ↔ NonePastBetween after.crls revocation.first crl.number certificate.not_after))
+      later
+
+-- an entry of a CRL is that of a recorded revocation, which the CRL is to list, with its time and its reason
+pub record IsDueEntry (records : Records) (n : ℕ) (entry : Entry) : Type 0 where
+  pub certificate : CertRow
+  pub revocation : RevocationRow
+  pub registered : certificate_in records.certificates entry.serial ≡ Some certificate
+  pub revoked : revocation_in records.revocations entry.serial ≡ Some revocation
+  pub told : entry ≡ record { serial = entry.serial; at = revocation.at; reason = revocation.reason }
+  pub can_list : revocation.first ≤ n
+  pub none_past : NonePastBetween records.crls revocation.first n certificate.not_after
+
+-- each CRL lists revocations that it is to list, and nothing else
+abbrev pub ListsNothingElse : Records → Type 0
+ListsNothingElse records = (n : ℕ) → AllByRecursion (IsDueEntry records n) (entries records n)
+
+-- every CRL after a revocation lists it up to and including the first one issued past its certificate's end, and lists
+-- nothing else
+abbrev pub ListsRevoked : (CertList → List ℕ → Type 0) → Type 0
+ListsRevoked signed =
+    (records before next after : Records)
+    (front rest : List (ℕ × Command))
+    (early late : List (Result Reply Fault))
+    (now : ℕ)
+    (command : Command)
+    (is_late : Bool)
+    → Sound signed records
+    → Run signed records front early before
+    → Happens signed before now command (Ok (Revoked is_late)) next
+    → Run signed next rest late after
+    → ((certificate : CertRow)
+    × (revocation : RevocationRow)
+    × (certificate_in after.certificates revocation.serial ≡ Some certificate)
+    × (next.revocations ≡ before.revocations ++ revocation ∷ [])
+    × IsRevocationBy before now command revocation
+    × ToldByCrls before.crls after certificate revocation)
+    × ListsNothingElse after
+
+-- a command that is refused, or answers a fault, changes nothing
+abbrev pub RefusalsChangeNothing : (CertList → List ℕ → Type 0) → Type 0
+RefusalsChangeNothing signed =
+    (records after : Records)
+    (now : ℕ)
+    (command : Command)
+    (fault : Fault)
+    → Happens signed records now command (Err fault) after
+    → after ≡ records

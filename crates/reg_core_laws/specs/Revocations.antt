@@ -1,0 +1,48 @@
+-- Revocations: by which command one comes, and that none comes otherwise.
+use Rattle.std.specs.Prelude.{◌≡◌, ℕ, List, [], ◌∷◌, ◌++◌, Some, Result, Ok}
+use Rattle.reg_core.specs.Crls.{CertList, next_number}
+use Rattle.reg_core.specs.Grounds.{reason_of}
+use Rattle.reg_core.specs.Records.{Records, request_in}
+use Rattle.reg_core.specs.Sound.{Sound}
+use Rattle.reg_core.specs.declared.rows.RequestRow.{RequestRow}
+use Rattle.reg_core.specs.declared.rows.RevocationRow.{RevocationRow}
+use Rattle.reg_core.specs.declared.command.Command.{Command}
+use Rattle.reg_core.specs.declared.command.Command.TheVariants.{Revoke}
+use Rattle.reg_core.specs.declared.command.Reply.{Reply}
+use Rattle.reg_core.specs.declared.command.Reply.TheVariants.{Revoked}
+use Rattle.reg_core.specs.declared.refusal.Fault.{Fault}
+use Rattle.reg_core_laws.specs.Run.{Happens, Run}
+
+-- the revocation that a command at a moment brings: the command revokes by a recorded request, and the revocation is of
+-- that request's serial number, at that moment, with the reason of that request's ground, from the next CRL on
+pub record IsRevocationBy (before : Records) (now : ℕ) (command : Command) (revocation : RevocationRow) : Type 0 where
+  pub request : RequestRow
+  pub commanded : command ≡ Revoke request.id
+  pub recorded : request_in before.requests request.id ≡ Some request
+  pub of_request : revocation.request ≡ request.id
+  pub of_serial : revocation.serial ≡ request.serial
+  pub at_now : revocation.at ≡ now
+  pub with_reason : revocation.reason ≡ reason_of request.ground
+  pub from_next : revocation.first ≡ next_number before.crls
+
+-- the revocations after a command: one more where it was answered `Revoked`, which it brings, and else the same
+abbrev pub RevocationsMove : Records → ℕ → Command → Result Reply Fault → Records → Type 0
+RevocationsMove before now command (Ok (Revoked late)) after =
+    (revocation : RevocationRow)
+    × (after.revocations ≡ before.revocations ++ revocation ∷ [])
+    × IsRevocationBy before now command revocation
+RevocationsMove before now command outcome after = after.revocations ≡ before.revocations
+
+-- at every command of every run the revocations move as the outcome says
+abbrev pub RevocationsMoveExactly : (CertList → List ℕ → Type 0) → Type 0
+RevocationsMoveExactly signed =
+    (records before next : Records)
+    (front : List (ℕ × Command))
+    (early : List (Result Reply Fault))
+    (now : ℕ)
+    (command : Command)
+    (outcome : Result Reply Fault)
+    → Sound signed records
+    → Run signed records front early before
+    → Happens signed before now command outcome next
+    → RevocationsMove before now command outcome next

@@ -1,0 +1,59 @@
+-- What is told beside a word, piece by piece.
+use Rattle.std.proofs.Common.{◌≡◌, ◌≤◌, ◌<◌, ◌+◌, ◌-◌, ◌==◌, ℕ, suc, Bool, true, false, cond, List, [], ◌∷◌, length, take, drop, Option, None, Some, refl, sym, ap, ◌∙◌, arith}
+use Rattle.std.specs.Prelude.{option_and_then}
+use Rattle.std.specs.List.{position_or_len}
+use Rattle.std.proofs.lemmas.Bool.{false≢true}
+use Rattle.std.proofs.lemmas.Bool.Decides.{nat_tests}
+use Rattle.reg_core_lists.specs.Asked.{no_params, params_from, params_of, with_piece}
+use Rattle.reg_core_lists.specs.declared.asked.Params.{Params}
+
+module _ (left : ℕ) (rest : List ℕ) (params : Params) where
+  abbrev ends_at : ℕ
+  ends_at = position_or_len (λ byte. byte == 38) rest
+
+  abbrev goes_on : Params → Option Params
+  goes_on more = cond (ends_at == length rest) (Some more) (params_from left (drop (ends_at + 1) rest) more)
+
+  abbrev piece : List ℕ
+  piece = take ends_at rest
+
+  -- one piece, and what follows it
+  one_piece : params_from (suc left) rest params ≡ option_and_then goes_on (with_piece params piece)
+  one_piece = refl
+
+-- With so many pieces read, where a piece ends.
+module _ (read : ℕ) (rest : List ℕ) (params : Params) (end : ℕ) (below : read < 3) (is : end ≡ position_or_len (λ byte. byte == 38) rest) where
+  left_one : params_from (3 - read) rest params ≡ params_from (suc (3 - (read + 1))) rest params
+  left_one = let more : 3 - read ≡ suc (3 - (read + 1)) = omega arith in ap (λ n. params_from n rest params) more
+
+  at_piece : (found : Option Params) → found ≡ with_piece params (take end rest) → params_from (3 - read) rest params ≡ option_and_then (goes_on (3 - (read + 1)) rest params) found
+  at_piece found told =
+      left_one ∙ one_piece (3 - (read + 1)) rest params
+      ∙ ap (option_and_then (goes_on (3 - (read + 1)) rest params)) (sym (told ∙ ap (λ n. with_piece params (take n rest)) is))
+
+  -- it can't be read
+  pub unread_piece : None ≡ with_piece params (take end rest) → params_from (3 - read) rest params ≡ None
+  unread_piece told = at_piece None told
+
+  -- it is the last
+  pub last_piece : (more : Params) → Some more ≡ with_piece params (take end rest) → end ≡ length rest → params_from (3 - read) rest params ≡ Some more
+  last_piece more told last =
+      let test : (position_or_len (λ byte. byte == 38) rest == length rest) ≡ true = grind (arith, nat_tests) in
+      at_piece (Some more) told ∙ ap (λ b. cond b (Some more) (params_from (3 - (read + 1)) (drop (position_or_len (λ byte. byte == 38) rest + 1) rest) more)) test
+
+  -- more follow
+  pub next_piece : (more : Params) → Some more ≡ with_piece params (take end rest) → (end ≡ length rest → ⊥)
+      → params_from (3 - read) rest params ≡ params_from (3 - (read + 1)) (drop (end + 1) rest) more
+  next_piece more told other =
+      let test : (position_or_len (λ byte. byte == 38) rest == length rest) ≡ false = grind (arith, nat_tests) in
+      at_piece (Some more) told ∙ ap (λ b. cond b (Some more) (params_from (3 - (read + 1)) (drop (position_or_len (λ byte. byte == 38) rest + 1) rest) more)) test
+      ∙ ap (λ n. params_from (3 - (read + 1)) (drop (n + 1) rest) more) (sym is)
+
+-- any
+pub some_told : (told : List ℕ) (empty : Bool) → empty ≡ (length told == 0) → empty ≡ false → params_of told ≡ params_from 3 told no_params
+some_told [] empty is told_some = absurd (false≢true (sym told_some ∙ is))
+some_told (byte ∷ told) empty is told_some = refl
+
+-- too many
+pub too_many : (read : ℕ) (rest : List ℕ) (params : Params) → 3 ≤ read → params_from (3 - read) rest params ≡ None
+too_many read rest params past = let none : 3 - read ≡ 0 = omega arith in ap (λ n. params_from n rest params) none

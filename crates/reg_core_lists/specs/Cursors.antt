@@ -1,0 +1,59 @@
+-- Lists by their words, and keys behind which they go on.
+use Rattle.std.specs.Prelude.{ℕ, List, [], ◌∷◌, Option, Some, None, option_map, find, bytes_eq, codes, cond}
+use Rattle.reg_core.specs.Number.{number_of}
+use Rattle.reg_core.specs.Serial.{serial_of}
+use Rattle.reg_core_lists.specs.Fields.{serial_or_empty}
+use Rattle.reg_core_lists.specs.declared.cursor.Cursor.{Cursor}
+use Rattle.reg_core_lists.specs.declared.cursor.Cursor.TheVariants.{Revoked, Certificates, Ending, OpenRequests, Overdue, Subscribers, Orders, Crls}
+use Rattle.reg_core_lists.specs.declared.fields.Cell.{Cell}
+use Rattle.reg_core_lists.specs.declared.fields.Cell.TheVariants.{Number}
+
+-- each list that wants no moment, by its word, from its first row on
+abbrev pub list_words : List (List ℕ × Cursor)
+list_words =
+    (codes "revoked", Revoked None)
+    ∷ (codes "certificates", Certificates None)
+    ∷ (codes "open-requests", OpenRequests 0)
+    ∷ (codes "overdue", Overdue 0)
+    ∷ (codes "subscribers", Subscribers 0)
+    ∷ (codes "orders", Orders 0)
+    ∷ (codes "crls", Crls 0)
+    ∷ []
+
+-- the list that a word names, from its first row on: with a moment `ending` alone, and else one of the others
+abbrev pub cursor_named : List ℕ → Option ℕ → Option Cursor
+cursor_named word (Some before) = cond (bytes_eq word (codes "ending")) (Some (Ending before None)) None
+cursor_named word None = option_map (λ row. row.1) (find (λ row. bytes_eq word row.0) list_words)
+
+-- the same list behind the row whose key a text writes
+abbrev pub cursor_past : List ℕ → Cursor → Option Cursor
+cursor_past key (Revoked after) = option_map (λ serial. Revoked (Some serial)) (serial_of key)
+cursor_past key (Certificates after) = option_map (λ serial. Certificates (Some serial)) (serial_of key)
+cursor_past key (Ending before after) = option_map (λ serial. Ending before (Some serial)) (serial_of key)
+cursor_past key (OpenRequests after) = option_map (λ id. OpenRequests id) (number_of key)
+cursor_past key (Overdue after) = option_map (λ id. Overdue id) (number_of key)
+cursor_past key (Subscribers after) = option_map (λ id. Subscribers id) (number_of key)
+cursor_past key (Orders after) = option_map (λ id. Orders id) (number_of key)
+cursor_past key (Crls after) = option_map (λ number. Crls number) (number_of key)
+
+-- the word of a list
+abbrev pub list_word : Cursor → List ℕ
+list_word (Revoked after) = codes "revoked"
+list_word (Certificates after) = codes "certificates"
+list_word (Ending before after) = codes "ending"
+list_word (OpenRequests after) = codes "open-requests"
+list_word (Overdue after) = codes "overdue"
+list_word (Subscribers after) = codes "subscribers"
+list_word (Orders after) = codes "orders"
+list_word (Crls after) = codes "crls"
+
+-- the key behind which a list goes on, as it is told
+abbrev pub key_cell : Cursor → Cell
+key_cell (Revoked after) = serial_or_empty after
+key_cell (Certificates after) = serial_or_empty after
+key_cell (Ending before after) = serial_or_empty after
+key_cell (OpenRequests after) = Number after
+key_cell (Overdue after) = Number after
+key_cell (Subscribers after) = Number after
+key_cell (Orders after) = Number after
+key_cell (Crls after) = Number after

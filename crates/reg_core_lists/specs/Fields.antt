@@ -1,0 +1,149 @@
+-- The fields of each kind of row: names, and what stands in them.
+use Rattle.std.specs.Prelude.{ℕ, List, [], ◌∷◌, ◌++◌, Option, Some, None, codes, decimal}
+use Rattle.reg_core.specs.Calendar.{moment_text}
+use Rattle.reg_core.specs.Serial.{serial_text}
+use Rattle.reg_core.specs.declared.command.Listing.{Listing}
+use Rattle.reg_core.specs.declared.command.Status.{Status}
+use Rattle.reg_core.specs.declared.command.Status.TheVariants.{Unknown, Good, Expired, Revoked}
+use Rattle.reg_core.specs.declared.grounds.Ground.{Ground}
+use Rattle.reg_core.specs.declared.grounds.Ground.TheVariants.{Asked, Unauthorized, KeyCompromise, ControlLost, Affiliation, Superseded, Cessation, Misuse, NameNotPermitted, Nonconforming, Inaccurate}
+use Rattle.reg_core.specs.declared.rows.CrlRow.{CrlRow}
+use Rattle.reg_core.specs.declared.rows.SubscriberRow.{SubscriberRow}
+use Rattle.reg_core_lists.specs.declared.fields.Cell.{Cell}
+use Rattle.reg_core_lists.specs.declared.fields.Cell.TheVariants.{Empty, Number, Serial, At, Text}
+use Rattle.reg_core_lists.specs.declared.fields.Field.{Field}
+use Rattle.reg_core_lists.specs.declared.rows.CertificateLine.{CertificateLine}
+use Rattle.reg_core_lists.specs.declared.rows.OrderLine.{OrderLine}
+use Rattle.reg_core_lists.specs.declared.rows.RequestLine.{RequestLine}
+use Rattle.reg_core_lists.specs.declared.rows.Row.{Row}
+use Rattle.reg_core_lists.specs.declared.rows.Row.TheVariants.{Certificate, Request, Subscriber, Order, Crl}
+
+-- a field: its name, and what stands there
+abbrev pub told_field : Field → List ℕ × Cell
+told_field field = (field.name.now, field.cell)
+
+-- the word of a status
+abbrev pub status_word : Status → List ℕ
+status_word Unknown = codes "unknown"
+status_word Good = codes "good"
+status_word Expired = codes "expired"
+status_word (Revoked at reason) = codes "revoked"
+
+-- the moment of revocation (RFC 5280 5.1.2.6), and its reasonCode (5.3.1)
+abbrev pub revoked_at_cell : Status → Cell
+revoked_at_cell (Revoked at reason) = At at
+revoked_at_cell Unknown = Empty
+revoked_at_cell Good = Empty
+revoked_at_cell Expired = Empty
+
+abbrev pub reason_cell : Status → Cell
+reason_cell (Revoked at reason) = Number reason
+reason_cell Unknown = Empty
+reason_cell Good = Empty
+reason_cell Expired = Empty
+
+abbrev pub number_or_empty : Option ℕ → Cell
+number_or_empty None = Empty
+number_or_empty (Some number) = Number number
+
+abbrev pub serial_or_empty : Option ℕ → Cell
+serial_or_empty None = Empty
+serial_or_empty (Some serial) = Serial serial
+
+-- the first CRL that can list it, and the last one that does, where that was issued
+abbrev pub first_listing : Option Listing → Cell
+first_listing None = Empty
+first_listing (Some listing) = Number listing.first
+
+abbrev pub last_listing_cell : Option Listing → Cell
+last_listing_cell None = Empty
+last_listing_cell (Some listing) = number_or_empty listing.last
+
+-- the word of a ground, as it is asked for
+abbrev pub ground_word : Ground → List ℕ
+ground_word Asked = codes "asked"
+ground_word Unauthorized = codes "unauthorized"
+ground_word KeyCompromise = codes "key-compromise"
+ground_word ControlLost = codes "control-lost"
+ground_word Affiliation = codes "affiliation"
+ground_word Superseded = codes "superseded"
+ground_word Cessation = codes "cessation"
+ground_word Misuse = codes "misuse"
+ground_word NameNotPermitted = codes "name-not-permitted"
+ground_word Nonconforming = codes "nonconforming"
+ground_word Inaccurate = codes "inaccurate"
+
+-- the fields of each kind of row, in the order in which a header names them
+abbrev pub certificate_fields : CertificateLine → List (List ℕ × Cell)
+certificate_fields line =
+    (codes "serial", Serial line.certificate.serial)
+    ∷ (codes "subscriber", Number line.subscriber.id)
+    ∷ (codes "name", Text line.subscriber.name)
+    ∷ (codes "order", Number line.certificate.order)
+    ∷ (codes "notBefore", At line.certificate.not_before)
+    ∷ (codes "notAfter", At line.certificate.not_after)
+    ∷ (codes "status", Text (status_word line.status))
+    ∷ (codes "revokedAt", revoked_at_cell line.status)
+    ∷ (codes "reason", reason_cell line.status)
+    ∷ (codes "firstCrl", first_listing line.listing)
+    ∷ (codes "lastCrl", last_listing_cell line.listing)
+    ∷ []
+
+abbrev pub request_fields : RequestLine → List (List ℕ × Cell)
+request_fields line =
+    (codes "request", Number line.request.id)
+    ∷ (codes "serial", Serial line.request.serial)
+    ∷ (codes "ground", Text (ground_word line.request.ground))
+    ∷ (codes "received", At line.request.received)
+    ∷ (codes "due", At line.due)
+    ∷ (codes "subscriber", Number line.subscriber.id)
+    ∷ (codes "name", Text line.subscriber.name)
+    ∷ (codes "order", Number line.certificate.order)
+    ∷ (codes "notBefore", At line.certificate.not_before)
+    ∷ (codes "notAfter", At line.certificate.not_after)
+    ∷ []
+
+abbrev pub subscriber_fields : SubscriberRow → List (List ℕ × Cell)
+subscriber_fields subscriber =
+    (codes "subscriber", Number subscriber.id)
+    ∷ (codes "name", Text subscriber.name)
+    ∷ []
+
+abbrev pub order_fields : OrderLine → List (List ℕ × Cell)
+order_fields line =
+    (codes "order", Number line.order.id)
+    ∷ (codes "subscriber", Number line.subscriber.id)
+    ∷ (codes "name", Text line.subscriber.name)
+    ∷ (codes "days", Number line.order.days)
+    ∷ (codes "serial", serial_or_empty line.serial)
+    ∷ []
+
+abbrev pub crl_fields : CrlRow → List (List ℕ × Cell)
+crl_fields crl =
+    (codes "crl", Number crl.number)
+    ∷ (codes "thisUpdate", At crl.this_update)
+    ∷ []
+
+-- the same of any row
+abbrev pub row_fields : Row → List (List ℕ × Cell)
+row_fields (Certificate line) = certificate_fields line
+row_fields (Request line) = request_fields line
+row_fields (Subscriber subscriber) = subscriber_fields subscriber
+row_fields (Order line) = order_fields line
+row_fields (Crl crl) = crl_fields crl
+
+-- what stands in a field, as its bytes
+unfoldable pub plain_text : Cell → List ℕ
+plain_text Empty = []
+plain_text (Number number) = decimal number
+plain_text (Serial serial) = serial_text serial
+plain_text (At moment) = moment_text moment
+plain_text (Text text) = text
+
+-- the same as a value of JSON (RFC 8259 3): nothing is `null`, a number a number, and all else a string (34 is the code of `"`)
+unfoldable pub json_text : Cell → List ℕ
+json_text Empty = codes "null"
+json_text (Number number) = plain_text (Number number)
+json_text (Serial serial) = 34 ∷ plain_text (Serial serial) ++ 34 ∷ []
+json_text (At moment) = 34 ∷ plain_text (At moment) ++ 34 ∷ []
+json_text (Text text) = 34 ∷ plain_text (Text text) ++ 34 ∷ []

@@ -1,0 +1,165 @@
+-- Which rows each list has, and which of them a page has.
+use Rattle.std.specs.Prelude.{◌≡◌, ℕ, Bool, ◌&&◌, ◌-◌, ◌==◌, cond, nat_lt, List, [], ◌∷◌, length, map, filter, filter_map, take, slice_get, Option, Some, None, option_map, option_and_then, unwrap_or}
+use Rattle.reg_core.specs.Crls.{row_of}
+use Rattle.reg_core.specs.Due.{deadline, is_open}
+use Rattle.reg_core.specs.Queries.{listing}
+use Rattle.reg_core.specs.Records.{Records, Crl, certificate_in, certificate_of_order, order_in, revocation_in, subscriber_in}
+use Rattle.reg_core.specs.Status.{is_good, status_by}
+use Rattle.reg_core.specs.declared.command.Status.{Status}
+use Rattle.reg_core.specs.declared.rows.CertRow.{CertRow}
+use Rattle.reg_core.specs.declared.rows.OrderRow.{OrderRow}
+use Rattle.reg_core.specs.declared.rows.RequestRow.{RequestRow}
+use Rattle.reg_core.specs.declared.rows.RevocationRow.{RevocationRow}
+use Rattle.reg_core.specs.declared.rows.SubscriberRow.{SubscriberRow}
+use Rattle.reg_core_lists.specs.declared.cursor.Cursor.{Cursor}
+use Rattle.reg_core_lists.specs.declared.cursor.Cursor.TheVariants.{Revoked, Certificates, Ending, OpenRequests, Overdue, Subscribers, Orders, Crls}
+use Rattle.reg_core_lists.specs.declared.rows.CertificateLine.{CertificateLine}
+use Rattle.reg_core_lists.specs.declared.rows.OrderLine.{OrderLine}
+use Rattle.reg_core_lists.specs.declared.rows.RequestLine.{RequestLine}
+use Rattle.reg_core_lists.specs.declared.rows.Row.{Row}
+use Rattle.reg_core_lists.specs.declared.rows.Row.TheVariants as kind
+
+-- ---- what is told of each record; none where the records have no order, subscriber or certificate for it, which sound ones do
+
+-- whose order it is
+abbrev pub subscriber_of_order : Records → ℕ → Option SubscriberRow
+subscriber_of_order records order = option_and_then (λ order. subscriber_in records.subscribers order.subscriber) (order_in records.orders order)
+
+-- the status of a registered certificate at a moment
+abbrev pub status_at : Records → ℕ → CertRow → Status
+status_at records now certificate = status_by now (Some certificate) (revocation_in records.revocations certificate.serial)
+
+-- what is told of a certificate at a moment
+abbrev pub certificate_line : Records → ℕ → CertRow → Option CertificateLine
+certificate_line records now certificate =
+    option_map
+    (λ subscriber. record {
+      certificate = certificate;
+      subscriber = subscriber;
+      status = status_at records now certificate;
+      listing = listing records certificate.serial;
+    })
+    (subscriber_of_order records certificate.order)
+
+-- what is told of a request
+abbrev pub request_line : Records → RequestRow → Option RequestLine
+request_line records request =
+    option_and_then
+    (λ certificate. option_map
+    (λ subscriber. record { request = request; due = deadline request; certificate = certificate; subscriber = subscriber })
+    (subscriber_of_order records certificate.order))
+    (certificate_in records.certificates request.serial)
+
+-- what is told of an order
+abbrev pub order_line : Records → OrderRow → Option OrderLine
+order_line records order =
+    option_map
+    (λ subscriber. record {
+      order = order;
+      subscriber = subscriber;
+      serial = option_map (λ certificate. certificate.serial) (certificate_of_order records.certificates order.id);
+    })
+    (subscriber_in records.subscribers order.subscriber)
+
+-- ---- the row of a list that a record is, where the list has it
+
+-- a certificate is a row of the list of all
+abbrev pub certificate_row : Records → ℕ → CertRow → Option Row
+certificate_row records now certificate = option_map (λ line. kind.Certificate line) (certificate_line records now certificate)
+
+-- a revocation is the row of its certificate
+abbrev pub revoked_row : Records → ℕ → RevocationRow → Option Row
+revoked_row records now revocation =
+    option_and_then (certificate_row records now) (certificate_in records.certificates revocation.serial)
+
+-- a certificate is good, and its notAfter is before a moment
+abbrev pub is_ending : Records → ℕ → ℕ → CertRow → Bool
+is_ending records now before certificate = is_good (status_at records now certificate) && nat_lt certificate.not_after before
+
+abbrev pub ending_row : Records → ℕ → ℕ → CertRow → Option Row
+ending_row records now before certificate =
+    cond (is_ending records now before certificate) (certificate_row records now certificate) None
+
+-- a request that is neither declined nor settled
+abbrev pub open_row : Records → ℕ → RequestRow → Option Row
+open_row records now request =
+    cond (is_open records now request) (option_map (λ line. kind.Request line) (request_line records request)) None
+
+-- one whose deadline is past, too
+abbrev pub overdue_row : Records → ℕ → RequestRow → Option Row
+overdue_row records now request = cond (nat_lt (deadline request) now) (open_row records now request) None
+
+abbrev pub subscriber_row : SubscriberRow → Option Row
+subscriber_row subscriber = Some (kind.Subscriber subscriber)
+
+abbrev pub order_row : Records → OrderRow → Option Row
+order_row records order = option_map (λ line. kind.Order line) (order_line records order)
+
+abbrev pub crl_row : Crl → Option Row
+crl_row crl = Some (kind.Crl (row_of crl))
+
+-- ---- pages
+
+-- a row put before the first of a greater key
+abbrev pub put_in : {A : Type 0} → (A → ℕ) → A → List A → List A
+put_in key row [] = row ∷ []
+put_in key row (next ∷ rest) = cond (nat_lt (key row) (key next)) (row ∷ next ∷ rest) (next ∷ put_in key row rest)
+
+-- rows in ascending order of a key
+abbrev pub in_order : {A : Type 0} → (A → ℕ) → List A → List A
+in_order key [] = []
+in_order key (row ∷ rest) = put_in key row (in_order key rest)
+
+-- the rows past a key, in ascending order of their keys
+abbrev pub past : {A : Type 0} → (A → ℕ) → ℕ → List A → List A
+past key after rows = in_order key (filter (λ row. nat_lt after (key row)) rows)
+
+-- a page: its rows, and where the next one goes on
+pub record ToldPage : Type 0 where
+  pub rows : List Row
+  pub next : Option Cursor
+
+-- where the next page goes on, behind the last of the keys that were looked at; nowhere where fewer were than a page may look at
+abbrev pub next_behind : (ℕ → Cursor) → ℕ → List ℕ → Option Cursor
+next_behind at most keys = cond (length keys == most) (option_map at (slice_get keys (length keys - 1))) None
+
+-- a page looks at the first rows past a key, as many as it may, and has those of them that are rows of the list
+abbrev pub page_over : {A : Type 0} → (A → ℕ) → (A → Option Row) → (ℕ → Cursor) → ℕ → ℕ → List A → ToldPage
+page_over key row_for at after most rows = record {
+  rows = filter_map row_for (take most (past key after rows));
+  next = next_behind at most (map key (take most (past key after rows)));
+}
+
+-- the key behind which a list by serial numbers goes on: 0, which none has, where that is its first row
+abbrev pub key_of : Option ℕ → ℕ
+key_of after = unwrap_or after 0
+
+-- the page of a list from a key on, at a moment
+abbrev pub page : Records → ℕ → ℕ → Cursor → ToldPage
+page records now most (Revoked after) =
+    page_over (λ row. row.serial) (revoked_row records now) (λ serial. Revoked (Some serial)) (key_of after) most records.revocations
+page records now most (Certificates after) =
+    page_over (λ row. row.serial) (certificate_row records now) (λ serial. Certificates (Some serial)) (key_of after) most records.certificates
+page records now most (Ending before after) =
+    page_over (λ row. row.serial) (ending_row records now before) (λ serial. Ending before (Some serial)) (key_of after) most records.certificates
+page records now most (OpenRequests after) =
+    page_over (λ row. row.id) (open_row records now) (λ id. OpenRequests id) after most records.requests
+page records now most (Overdue after) =
+    page_over (λ row. row.id) (overdue_row records now) (λ id. Overdue id) after most records.requests
+page records now most (Subscribers after) =
+    page_over (λ row. row.id) subscriber_row (λ id. Subscribers id) after most records.subscribers
+page records now most (Orders after) =
+    page_over (λ row. row.id) (order_row records) (λ id. Orders id) after most records.orders
+page records now most (Crls after) =
+    page_over (λ crl. crl.number) crl_row (λ number. Crls number) after most records.crls
+
+-- all rows of a list from a key on, at a moment
+abbrev pub rows_from : Records → ℕ → Cursor → List Row
+rows_from records now (Revoked after) = filter_map (revoked_row records now) (past (λ row. row.serial) (key_of after) records.revocations)
+rows_from records now (Certificates after) = filter_map (certificate_row records now) (past (λ row. row.serial) (key_of after) records.certificates)
+rows_from records now (Ending before after) = filter_map (ending_row records now before) (past (λ row. row.serial) (key_of after) records.certificates)
+rows_from records now (OpenRequests after) = filter_map (open_row records now) (past (λ row. row.id) after records.requests)
+rows_from records now (Overdue after) = filter_map (overdue_row records now) (past (λ row. row.id) after records.requests)
+rows_from records now (Subscribers after) = filter_map subscriber_row (past (λ row. row.id) after records.subscribers)
+rows_from records now (Orders after) = filter_map (order_row records) (past (λ row. row.id) after records.orders)
+rows_from records now (Crls after) = filter_map crl_row (past (λ crl. crl.number) after records.crls)

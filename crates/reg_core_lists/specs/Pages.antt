@@ -1,0 +1,60 @@
+-- What an office gives of a list: a page, and all of it page by page.
+use Rattle.std.specs.Prelude.{◌≡◌, ℕ, List, [], ◌∷◌, ◌++◌, Option, Some, None, Result, Ok, Err}
+use Rattle.reg_core.specs.Checks.{clock_checks, first_of_all}
+use Rattle.reg_core.specs.Records.{Records}
+use Rattle.reg_core.specs.Sound.{SoundRows}
+use Rattle.reg_core.specs.declared.refusal.Fault.{Fault}
+use Rattle.reg_core.specs.declared.refusal.Fault.TheVariants.{Refused, Memory, Store, Signer, Read, Write}
+use Rattle.reg_core_lists.specs.Lists.{page, rows_from}
+use Rattle.reg_core_lists.specs.Texts.{list_text}
+use Rattle.reg_core_lists.specs.declared.cursor.Cursor.{Cursor}
+use Rattle.reg_core_lists.specs.declared.rows.Page.{Page}
+use Rattle.reg_core_lists.specs.declared.rows.Row.{Row}
+use Rattle.reg_core_lists.specs.declared.texts.Form.{Form}
+
+-- this is the page that the records have at a moment
+pub record IsPage (records : Records) (now most : ℕ) (from : Cursor) (given : Page) : Type 0 where
+  pub rows : given.rows.items ≡ (page records now most from).rows
+  pub next : given.next ≡ (page records now most from).next
+
+-- what is given for a list from a key on: its page, where the clock lets the moment pass; else the refusal of the clock; or want of
+-- memory or a failure of the store
+abbrev pub IsPaged : Records → ℕ → ℕ → Cursor → Result Page Fault → Type 0
+IsPaged records now most from (Ok given) = (first_of_all (clock_checks now records.last) ≡ None) × IsPage records now most from given
+IsPaged records now most from (Err (Refused refusal)) = first_of_all (clock_checks now records.last) ≡ Some refusal
+IsPaged records now most from (Err Memory) = Unit {0}
+IsPaged records now most from (Err Store) = Unit {0}
+IsPaged records now most from (Err Signer) = ⊥
+IsPaged records now most from (Err Read) = ⊥
+IsPaged records now most from (Err Write) = ⊥
+
+-- the same of records that hold together
+abbrev pub IsPagedSoundly : Records → ℕ → ℕ → Cursor → Result Page Fault → Type 0
+IsPagedSoundly records now most from given = SoundRows records × IsPaged records now most from given
+
+-- the same of records that stay
+abbrev pub Pages : Records → ℕ → ℕ → Cursor → Result Page Fault → Records → Type 0
+Pages before now most from given after = IsPagedSoundly before now most from given × (after ≡ before)
+
+-- the rows of the pages from a key on, one page behind the other up to the last
+abbrev pub ArePages : Records → ℕ → ℕ → Option Cursor → List Row → List (List Row) → Type 0
+ArePages records now most None rows [] = rows ≡ []
+ArePages records now most None rows (first ∷ rest) = ⊥
+ArePages records now most (Some from) rows [] = ⊥
+ArePages records now most (Some from) rows (first ∷ rest) =
+    (first ≡ (page records now most from).rows)
+    × ((others : List Row) × (rows ≡ first ++ others) × ArePages records now most (page records now most from).next others rest)
+
+-- what is given for a whole list as a text: all its rows from a key on, each once and in order
+abbrev pub IsWholeList : Records → ℕ → Form → Cursor → Result (List ℕ) Fault → Type 0
+IsWholeList records now form from (Ok text) = (first_of_all (clock_checks now records.last) ≡ None) × (text ≡ list_text form from (rows_from records now from))
+IsWholeList records now form from (Err (Refused refusal)) = first_of_all (clock_checks now records.last) ≡ Some refusal
+IsWholeList records now form from (Err Memory) = Unit {0}
+IsWholeList records now form from (Err Store) = Unit {0}
+IsWholeList records now form from (Err Signer) = ⊥
+IsWholeList records now form from (Err Read) = ⊥
+IsWholeList records now form from (Err Write) = ⊥
+
+-- the same of records that stay
+abbrev pub GivesWholeList : Records → ℕ → Form → Cursor → Result (List ℕ) Fault → Records → Type 0
+GivesWholeList before now form from given after = IsWholeList before now form from given × (after ≡ before)

@@ -1,0 +1,81 @@
+-- Lists as CSV (RFC 4180, each record ended by LF alone) and as JSON (RFC 8259). No field has a byte that either of them would have
+-- quoted.
+use Rattle.std.specs.Prelude.{ℕ, List, [], ◌∷◌, ◌++◌, Option, Some, None, codes, flat_map}
+use Rattle.reg_core_lists.specs.Cursors.{key_cell, list_word}
+use Rattle.reg_core_lists.specs.Fields.{json_text, plain_text, row_fields}
+use Rattle.reg_core_lists.specs.declared.cursor.Cursor.{Cursor}
+use Rattle.reg_core_lists.specs.declared.cursor.Cursor.TheVariants.{Revoked, Certificates, Ending, OpenRequests, Overdue, Subscribers, Orders, Crls}
+use Rattle.reg_core_lists.specs.declared.fields.Cell.{Cell}
+use Rattle.reg_core_lists.specs.declared.rows.Row.{Row}
+use Rattle.reg_core_lists.specs.declared.texts.Form.{Form}
+use Rattle.reg_core_lists.specs.declared.texts.Form.TheVariants.{Csv, Json}
+
+-- the header of a list as CSV: the names of its fields
+abbrev pub header_text : Cursor → List ℕ
+header_text (Revoked after) = codes "serial,subscriber,name,order,notBefore,notAfter,status,revokedAt,reason,firstCrl,lastCrl\n"
+header_text (Certificates after) = codes "serial,subscriber,name,order,notBefore,notAfter,status,revokedAt,reason,firstCrl,lastCrl\n"
+header_text (Ending before after) = codes "serial,subscriber,name,order,notBefore,notAfter,status,revokedAt,reason,firstCrl,lastCrl\n"
+header_text (OpenRequests after) = codes "request,serial,ground,received,due,subscriber,name,order,notBefore,notAfter\n"
+header_text (Overdue after) = codes "request,serial,ground,received,due,subscriber,name,order,notBefore,notAfter\n"
+header_text (Subscribers after) = codes "subscriber,name\n"
+header_text (Orders after) = codes "order,subscriber,name,days,serial\n"
+header_text (Crls after) = codes "crl,thisUpdate\n"
+
+-- a field of a record behind another one (44 is the code of `,`)
+abbrev pub record_rest : List ℕ × Cell → List ℕ
+record_rest field = 44 ∷ plain_text field.1
+
+-- a record: what stands in its fields, with commas between them
+unfoldable pub record_text : List (List ℕ × Cell) → List ℕ
+record_text [] = []
+record_text (first ∷ rest) = plain_text first.1 ++ flat_map record_rest rest
+
+-- a member of an object: its name and its value
+unfoldable pub member_text : List ℕ × Cell → List ℕ
+member_text field = 34 ∷ field.0 ++ codes "\":" ++ json_text field.1
+
+-- a member behind another one
+abbrev pub member_rest : List ℕ × Cell → List ℕ
+member_rest field = 44 ∷ member_text field
+
+-- the members, with commas between them
+abbrev pub members_text : List (List ℕ × Cell) → List ℕ
+members_text [] = []
+members_text (first ∷ rest) = member_text first ++ flat_map member_rest rest
+
+-- an object of fields (123 and 125 are the codes of `{` and `}`)
+unfoldable pub object_text : List (List ℕ × Cell) → List ℕ
+object_text fields = 123 ∷ members_text fields ++ 125 ∷ []
+
+-- a row as a line
+unfoldable pub row_text : Form → Row → List ℕ
+row_text Csv row = record_text (row_fields row) ++ 10 ∷ []
+row_text Json row = object_text (row_fields row) ++ 10 ∷ []
+
+-- what stands before the rows of a list: of CSV the header
+abbrev pub opening_text : Form → Cursor → List ℕ
+opening_text Csv from = header_text from
+opening_text Json from = []
+
+-- a whole list: a line for each row
+abbrev pub list_text : Form → Cursor → List Row → List ℕ
+list_text form from rows = opening_text form from ++ flat_map (row_text form) rows
+
+-- a row of a page behind another one
+abbrev pub row_rest : Row → List ℕ
+row_rest row = 44 ∷ object_text (row_fields row)
+
+-- the rows of a page, with commas between them
+abbrev pub rows_json : List Row → List ℕ
+rows_json [] = []
+rows_json (first ∷ rest) = object_text (row_fields first) ++ flat_map row_rest rest
+
+-- the key behind which the next page goes on, as a string; `null` where there is none
+unfoldable pub next_text : Option Cursor → List ℕ
+next_text None = codes "null"
+next_text (Some next) = 34 ∷ plain_text (key_cell next) ++ 34 ∷ []
+
+-- a page as an object: the word of its list, the key of the next page, and its rows
+unfoldable pub page_body : Cursor → Option Cursor → List Row → List ℕ
+page_body from next rows =
+    codes "{\"list\":\"" ++ list_word from ++ codes "\",\"next\":" ++ next_text next ++ codes ",\"rows\":[" ++ rows_json rows ++ codes "]}"

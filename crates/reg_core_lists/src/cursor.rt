@@ -1,0 +1,110 @@
+//! A list of a register, from a key on.
+
+ghost use Rattle.std.specs.Prelude.{◌≡◌, Some, None};
+ghost use Rattle.reg_core_lists.specs.Cursors.{cursor_named, cursor_past, list_word};
+
+use reg_core::{Moment, Serial, read_number};
+
+/// A list, and the key behind which it goes on: from its first row on where that is none, or 0. Serial numbers and ids are
+/// above 0.
+#[derive(Clone, Copy)]
+pub enum Cursor {
+    /// The revocations, by their serial numbers.
+    Revoked(Option<Serial>),
+    /// The certificates, by their serial numbers.
+    Certificates(Option<Serial>),
+    /// The good certificates whose notAfter is before a moment, by their serial numbers.
+    Ending {
+        before: Moment,
+        after: Option<Serial>,
+    },
+    /// The requests that are neither declined nor settled, by their ids.
+    OpenRequests(u64),
+    /// The open requests whose deadline is past, by their ids.
+    Overdue(u64),
+    /// The subscribers, by their ids.
+    Subscribers(u64),
+    /// The orders, by their ids.
+    Orders(u64),
+    /// The issued CRLs, by their numbers.
+    Crls(u64),
+}
+
+impl Cursor {
+    /// The list that a word names, from its first row on. `ending` wants a moment, and no other list takes one; `None` for
+    /// any other word.
+    pub fn named(word: &[u8], before: Option<Moment>) -> Option<Cursor>
+        ensures { result ≡ cursor_named word.now before }
+    {
+        match before {
+            Some(before) => ending(word, before),
+            None => whole(word),
+        }
+    }
+
+    /// The same list behind the row with this key: 1 to 40 hexadecimal digits of a serial number, or 1 to 18 decimal digits
+    /// of an id or a number. `None` for any other text.
+    pub fn past(self, key: &[u8]) -> Option<Cursor>
+        ensures { result ≡ cursor_past key.now self }
+    {
+        match self {
+            Cursor::Revoked(_) => Some(Cursor::Revoked(Some(Serial::read(key)?))),
+            Cursor::Certificates(_) => Some(Cursor::Certificates(Some(Serial::read(key)?))),
+            Cursor::Ending { before, after: _ } => Some(Cursor::Ending {
+                before,
+                after: Some(Serial::read(key)?),
+            }),
+            Cursor::OpenRequests(_) => Some(Cursor::OpenRequests(read_number(key)?)),
+            Cursor::Overdue(_) => Some(Cursor::Overdue(read_number(key)?)),
+            Cursor::Subscribers(_) => Some(Cursor::Subscribers(read_number(key)?)),
+            Cursor::Orders(_) => Some(Cursor::Orders(read_number(key)?)),
+            Cursor::Crls(_) => Some(Cursor::Crls(read_number(key)?)),
+        }
+    }
+
+    /// The word that names the list.
+    pub(crate) fn word(self) -> &'static str
+        ensures { result.now ≡ list_word self }
+    {
+        match self {
+            Cursor::Revoked(_) => "revoked",
+            Cursor::Certificates(_) => "certificates",
+            Cursor::Ending { .. } => "ending",
+            Cursor::OpenRequests(_) => "open-requests",
+            Cursor::Overdue(_) => "overdue",
+            Cursor::Subscribers(_) => "subscribers",
+            Cursor::Orders(_) => "orders",
+            Cursor::Crls(_) => "crls",
+        }
+    }
+}
+
+/// The certificates that end before a moment, where the word names that list.
+fn ending(word: &[u8], before: Moment) -> Option<Cursor>
+    ensures { result ≡ cursor_named word.now (Some before) }
+{
+    if word == b"ending".as_slice() {
+        Some(Cursor::Ending {
+            before,
+            after: None,
+        })
+    } else {
+        None
+    }
+}
+
+/// The list that a word names and that wants no moment.
+fn whole(word: &[u8]) -> Option<Cursor>
+    ensures { result ≡ cursor_named word.now None }
+{
+    match word {
+        _ if word == b"revoked".as_slice() => Some(Cursor::Revoked(None)),
+        _ if word == b"certificates".as_slice() => Some(Cursor::Certificates(None)),
+        _ if word == b"open-requests".as_slice() => Some(Cursor::OpenRequests(0)),
+        _ if word == b"overdue".as_slice() => Some(Cursor::Overdue(0)),
+        _ if word == b"subscribers".as_slice() => Some(Cursor::Subscribers(0)),
+        _ if word == b"orders".as_slice() => Some(Cursor::Orders(0)),
+        _ if word == b"crls".as_slice() => Some(Cursor::Crls(0)),
+        _ => None,
+    }
+}

@@ -1,0 +1,250 @@
+//! Lists as CSV (RFC 4180, each record ended by LF alone) and as JSON (RFC 8259). No field has a byte that either of them would
+//! have quoted: names are of letters, digits, `.`, `-` and `_`.
+
+ghost use Rattle.std.specs.Prelude.{◌≡◌, ◌∷◌, ◌++◌, [], IfOk, OnOk, flat_map, map};
+ghost use Rattle.reg_core_lists.specs.Cursors.{key_cell};
+ghost use Rattle.reg_core_lists.specs.Fields.{json_text, plain_text, row_fields, told_field};
+ghost use Rattle.reg_core_lists.specs.Texts.{header_text, member_rest, member_text, next_text, object_text, page_body, record_rest, record_text, row_rest, row_text, rows_json};
+
+use crate::cursor::Cursor;
+use crate::fields::{Cell, Field, fields_of, serial_in};
+use crate::rows::{Page, Row};
+use reg_core::Decimal;
+use std::alloc::{AllocError, Global};
+
+/// How a list is written.
+#[derive(Clone, Copy, PartialEq, Eq)]
+pub enum Form {
+    /// A record for each row, behind a header.
+    Csv,
+    /// An object for each row, each in a line.
+    Json,
+}
+
+const OF_CERTIFICATES: &str =
+    "serial,subscriber,name,order,notBefore,notAfter,status,revokedAt,reason,firstCrl,lastCrl\n";
+
+const OF_REQUESTS: &str =
+    "request,serial,ground,received,due,subscriber,name,order,notBefore,notAfter\n";
+
+/// The header of a list as CSV, with its LF.
+pub fn header(from: Cursor) -> &'static str
+    ensures { result.now ≡ header_text from }
+{
+    match from {
+        Cursor::Revoked(_) | Cursor::Certificates(_) | Cursor::Ending { .. } => OF_CERTIFICATES,
+        Cursor::OpenRequests(_) | Cursor::Overdue(_) => OF_REQUESTS,
+        Cursor::Subscribers(_) => "subscriber,name\n",
+        Cursor::Orders(_) => "order,subscriber,name,days,serial\n",
+        Cursor::Crls(_) => "crl,thisUpdate\n",
+    }
+}
+
+/// Puts rows behind a text, each a line.
+///
+/// # Errors
+/// Memory could not be had.
+pub fn put_rows(
+    alloc: Global,
+    out: &mut Vec<u8>,
+    form: Form,
+    rows: &[Row],
+) -> Result<(), AllocError>
+    ensures { OnOk result (out.new.items ≡ out.old.items ++ flat_map (row_text form) rows.now) }
+{
+    for row in rows {
+        put_row(alloc, out, form, row)?;
+    }
+    Ok(())
+}
+
+/// Puts a row behind a text, as a line.
+#[tactic(auto, unfolding(crate::specs::Texts::row_text))]
+fn put_row(alloc: Global, out: &mut Vec<u8>, form: Form, row: &Row) -> Result<(), AllocError>
+    ensures { OnOk result (out.new.items ≡ out.old.items ++ row_text form row.now) }
+{
+    let fields = fields_of(alloc, row)?;
+    match form {
+        Form::Csv => put_record(out, &fields)?,
+        Form::Json => put_object(out, &fields)?,
+    }
+    out.push(b'\n')?;
+    Ok(())
+}
+
+/// Puts fields behind a text, with commas between them.
+#[tactic(auto, unfolding(crate::specs::Texts::record_text))]
+fn put_record(out: &mut Vec<u8>, fields: &[Field]) -> Result<(), AllocError>
+    ensures { OnOk result (out.new.items ≡ out.old.items ++ record_text (map told_field fields.now)) }
+{
+    match fields.split_first() {
+        Some((first, rest)) => {
+            put_plain(out, &first.cell)?;
+            put_record_rest(out, rest)
+        }
+        None => Ok(()),
+    }
+}
+
+/// Puts fields behind a text, with a comma before each.
+fn put_record_rest(out: &mut Vec<u8>, fields: &[Field]) -> Result<(), AllocError>
+    ensures { OnOk result (out.new.items ≡ out.old.items ++ flat_map record_rest (map told_field fields.now)) }
+{
+    for field in fields {
+        out.push(b',')?;
+        put_plain(out, &field.cell)?;
+    }
+    Ok(())
+}
+
+/// Puts what stands in a field behind a text.
+#[tactic(auto, unfolding(crate::specs::Fields::plain_text))]
+fn put_plain(out: &mut Vec<u8>, cell: &Cell) -> Result<(), AllocError>
+    ensures { OnOk result (out.new.items ≡ out.old.items ++ plain_text cell.now) }
+{
+    match cell {
+        Cell::Empty => Ok(()),
+        Cell::Number(number) => out.extend_from_slice(Decimal::of(*number).as_bytes()),
+        Cell::Serial(serial) => out.extend_from_slice(&serial.text()),
+        Cell::At(moment) => out.extend_from_slice(&moment.text()),
+        Cell::Text(text) => out.extend_from_slice(text.as_bytes()),
+    }
+}
+
+/// Puts an object of fields behind a text.
+#[tactic(auto, unfolding(crate::specs::Texts::object_text))]
+fn put_object(out: &mut Vec<u8>, fields: &[Field]) -> Result<(), AllocError>
+    ensures { OnOk result (out.new.items ≡ out.old.items ++ object_text (map told_field fields.now)) }
+{
+    out.push(b'{')?;
+    match fields.split_first() {
+        Some((first, rest)) => {
+            put_member(out, first)?;
+            put_members_rest(out, rest)?;
+        }
+        None => {}
+    }
+    out.push(b'}')?;
+    Ok(())
+}
+
+/// Puts members behind a text, with a comma before each.
+fn put_members_rest(out: &mut Vec<u8>, fields: &[Field]) -> Result<(), AllocError>
+    ensures { OnOk result (out.new.items ≡ out.old.items ++ flat_map member_rest (map told_field fields.now)) }
+{
+    for field in fields {
+        out.push(b',')?;
+        put_member(out, field)?;
+    }
+    Ok(())
+}
+
+/// Puts a member behind a text: its name and its value.
+#[tactic(auto, unfolding(crate::specs::Texts::member_text))]
+fn put_member(out: &mut Vec<u8>, field: &Field) -> Result<(), AllocError>
+    ensures { OnOk result (out.new.items ≡ out.old.items ++ member_text (told_field field.now)) }
+{
+    out.push(b'"')?;
+    out.extend_from_slice(field.name.as_bytes())?;
+    out.extend_from_slice(b"\":")?;
+    put_value(out, &field.cell)
+}
+
+/// Puts a value behind a text: `null` where nothing stands in the field, and else a number or a string.
+#[tactic(auto, unfolding(crate::specs::Fields::json_text))]
+fn put_value(out: &mut Vec<u8>, cell: &Cell) -> Result<(), AllocError>
+    ensures { OnOk result (out.new.items ≡ out.old.items ++ json_text cell.now) }
+{
+    match cell {
+        Cell::Empty => out.extend_from_slice(b"null"),
+        Cell::Number(_) => put_plain(out, cell),
+        Cell::Serial(_) | Cell::At(_) | Cell::Text(_) => put_string(out, cell),
+    }
+}
+
+/// Puts what stands in a field behind a text, as a string.
+fn put_string(out: &mut Vec<u8>, cell: &Cell) -> Result<(), AllocError>
+    ensures { OnOk result (out.new.items ≡ out.old.items ++ (34 ∷ plain_text cell.now ++ 34 ∷ [])) }
+{
+    out.push(b'"')?;
+    put_plain(out, cell)?;
+    out.push(b'"')?;
+    Ok(())
+}
+
+/// A page as a JSON object: the word of its list, the key behind which the next page goes on, or `null`, and its rows.
+///
+/// # Errors
+/// Memory could not be had.
+#[tactic(auto, unfolding(crate::specs::Texts::page_body))]
+pub fn page_text(alloc: Global, from: Cursor, page: &Page) -> Result<Vec<u8>, AllocError>
+    ensures { IfOk result (λ text. text.items ≡ page_body from page.now.next page.now.rows.items) }
+{
+    let mut out = Vec::from_slice(alloc, b"{\"list\":\"")?;
+    out.extend_from_slice(from.word().as_bytes())?;
+    out.extend_from_slice(b"\",\"next\":")?;
+    put_next(&mut out, page.next)?;
+    out.extend_from_slice(b",\"rows\":[")?;
+    put_json_rows(alloc, &mut out, &page.rows)?;
+    out.extend_from_slice(b"]}")?;
+    Ok(out)
+}
+
+/// Puts the key of the next page behind a text, as a string.
+#[tactic(auto, unfolding(crate::specs::Texts::next_text))]
+fn put_next(out: &mut Vec<u8>, next: Option<Cursor>) -> Result<(), AllocError>
+    ensures { OnOk result (out.new.items ≡ out.old.items ++ next_text next) }
+{
+    match next {
+        Some(next) => put_string(out, &key_of(next)),
+        None => out.extend_from_slice(b"null"),
+    }
+}
+
+/// The key behind which a list goes on.
+fn key_of(from: Cursor) -> Cell
+    ensures { result ≡ key_cell from }
+{
+    match from {
+        Cursor::Revoked(after) => serial_in(after),
+        Cursor::Certificates(after) => serial_in(after),
+        Cursor::Ending { before: _, after } => serial_in(after),
+        Cursor::OpenRequests(after) => Cell::Number(after),
+        Cursor::Overdue(after) => Cell::Number(after),
+        Cursor::Subscribers(after) => Cell::Number(after),
+        Cursor::Orders(after) => Cell::Number(after),
+        Cursor::Crls(after) => Cell::Number(after),
+    }
+}
+
+/// Puts rows behind a text, with commas between them.
+fn put_json_rows(alloc: Global, out: &mut Vec<u8>, rows: &[Row]) -> Result<(), AllocError>
+    ensures { OnOk result (out.new.items ≡ out.old.items ++ rows_json rows.now) }
+{
+    match rows.split_first() {
+        Some((first, rest)) => {
+            put_json_row(alloc, out, first)?;
+            put_json_rest(alloc, out, rest)
+        }
+        None => Ok(()),
+    }
+}
+
+/// Puts rows behind a text, with a comma before each.
+fn put_json_rest(alloc: Global, out: &mut Vec<u8>, rows: &[Row]) -> Result<(), AllocError>
+    ensures { OnOk result (out.new.items ≡ out.old.items ++ flat_map row_rest rows.now) }
+{
+    for row in rows {
+        out.push(b',')?;
+        put_json_row(alloc, out, row)?;
+    }
+    Ok(())
+}
+
+/// Puts a row behind a text, as an object.
+fn put_json_row(alloc: Global, out: &mut Vec<u8>, row: &Row) -> Result<(), AllocError>
+    ensures { OnOk result (out.new.items ≡ out.old.items ++ object_text (row_fields row.now)) }
+{
+    let fields = fields_of(alloc, row)?;
+    put_object(out, &fields)
+}

@@ -1,0 +1,18 @@
+-- What comes of asking a signer for a signature.
+use Rattle.std.specs.Prelude.{◌≡◌, ℕ, ◌-◌, ◌^◌, ◌<◌, ◌≤◌, List, length, Result, Vec, IfOk, IsErrOf, OnOk}
+use Rattle.std.specs.Global.{Global}
+use Rattle.reg_crl.specs.Signing.{Identity}
+use Rattle.reg_crl.specs.declared.signer.SignFault.{SignFault}
+use Rattle.reg_crl.specs.declared.signer.SignFault.TheVariants.{Device, Memory}
+
+-- A signer, by its identity, its relation of signatures and its count of failures, was asked to sign a message, and is `new` afterwards.
+-- The count rises with each failure of the device, and so none is told at u64::MAX; it stays otherwise.
+pub record SignsOrFails {S : Type 0} (identity : S → Identity) (signs : Identity → List ℕ → List ℕ → Type 0) (failure_count : S → ℕ)
+    (old new : S) (message : List ℕ) (result : Result (Vec ℕ Global) SignFault) : Type 0 where
+  pub signed : IfOk result (λ signature. signs (identity old) message signature.items)
+  pub short : IfOk result (λ signature. length signature.items ≤ 65536)
+  pub device : IsErrOf result Device → failure_count old < failure_count new
+  pub exhausted : failure_count old ≡ 2 ^ 64 - 1 → ¬ (IsErrOf result Device)
+  pub memory : IsErrOf result Memory → failure_count new ≡ failure_count old
+  pub ok : OnOk result (failure_count new ≡ failure_count old)
+  pub same_identity : identity new ≡ identity old

@@ -1,0 +1,5 @@
+mod Carried
+mod Identifiers
+mod Pairs
+mod Signings
+mod Sizes

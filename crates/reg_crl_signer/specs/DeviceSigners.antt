@@ -1,0 +1,47 @@
+-- The signer over a device.
+use Rattle.std.specs.Prelude.{◌≡◌, ◌⊎◌, ℕ, ◌≤◌, List, length, Result, Vec, None, IfOk, IsErrOf}
+use Rattle.std.specs.Global.{Global}
+use Rattle.reg_crl.specs.Signatures.{SignsOrFails}
+use Rattle.reg_crl.specs.Signing.{Identity}
+use Rattle.reg_crl.specs.declared.signer.SignFault.{SignFault}
+use Rattle.reg_crl.specs.declared.signer.SignFault.TheVariants.{Device}
+use Rattle.reg_crl_signer.specs.Forms.{HasForm, IsKeyOf, IsSignature, identity_of}
+use Rattle.reg_crl_signer.specs.declared.algorithm.Algorithm.{Algorithm}
+use Rattle.reg_crl_signer.specs.declared.device.Device.{Ghosts}
+use Rattle.reg_crl_signer.specs.declared.signer.DeviceSigner.{DeviceSigner}
+
+module _ {D : Type 0} (g : Ghosts D) where
+  -- the algorithm and the key under which a signer signs
+  abbrev pub device_identity : DeviceSigner D g → Identity
+  device_identity it = identity_of it.algorithm (g.public_key it.device)
+
+  -- a signer over this device, with a key of this algorithm, which has counted no failure, and for which no signature was preset
+  pub record IsNew (device : D) (algorithm : Algorithm) (signer : DeviceSigner D g) : Type 0 where
+    pub device_is : signer.device ≡ device
+    pub algorithm_is : signer.algorithm ≡ algorithm
+    pub failures : signer.failures ≡ 0
+    pub primed : signer.primed ≡ None
+    pub key : IsKeyOf algorithm (g.public_key device)
+
+  -- under an identity: the device answered the message so, and that has the form of a signature
+  abbrev pub SignsByDevice : Identity → List ℕ → List ℕ → Type 0
+  SignsByDevice identity message signature = g.answers identity.public_key message signature × HasForm identity signature
+
+  -- what comes of asking the signer for a signature
+  abbrev pub SigningByDevice : DeviceSigner D g → DeviceSigner D g → List ℕ → Result (Vec ℕ Global) SignFault → Type 0
+  SigningByDevice = SignsOrFails device_identity SignsByDevice (λ it. it.failures)
+
+  -- the device, asked to sign a message, failed, or its answer has not the form of a signature
+  abbrev pub GivesNone : DeviceSigner D g → List ℕ → DeviceSigner D g → Type 0
+  GivesNone it message after =
+      g.fails it.device message after.device
+      ⊎ ((answer : List ℕ) × g.answers (g.public_key it.device) message answer × ¬ (IsSignature it.algorithm (g.public_key it.device) answer))
+
+  -- The device is asked at its place and nowhere else; where a signature was preset, that is taken, and the device is not asked. A signature
+  -- has at most 4,096 bytes. Where the device is asked, a fault of it comes only where it gave none.
+  pub record AsksAtItsPlace (old new : DeviceSigner D g) (message : List ℕ) (result : Result (Vec ℕ Global) SignFault) : Type 0 where
+    pub asked : old.primed ≡ None → IfOk result (λ signature. g.asked (g.place old.device) message signature.items)
+    pub given : ¬ (old.primed ≡ None) → IfOk result (λ signature. ∥ g.gave (g.place old.device) message signature.items ∥₁)
+    pub within : IfOk result (λ signature. length signature.items ≤ 4096)
+    pub why : old.primed ≡ None → IsErrOf result Device → GivesNone old message new
+    pub same_place : g.place new.device ≡ g.place old.device

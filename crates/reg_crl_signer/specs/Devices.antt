@@ -1,0 +1,14 @@
+-- One exchange with a device that holds a key.
+use Rattle.std.specs.Prelude.{◌≡◌, ℕ, ◌<◌, List, length, take, Result, IfOk, OnErr}
+use Rattle.reg_crl_signer.specs.declared.device.DeviceFault.{DeviceFault}
+
+-- A device was asked for the answer to a message: the answer is the front of the room, and leaves room, or the device failed. It is where
+-- it was, with the key that it had.
+pub record Exchanges {S : Type 0} (public_key place : S → List ℕ) (asked answers : List ℕ → List ℕ → List ℕ → Type 0)
+    (fails : S → List ℕ → S → Type 0) (old new : S) (message room : List ℕ) (result : Result ℕ DeviceFault) : Type 0 where
+  pub answered : IfOk result (λ count. answers (public_key old) message (take count room))
+  pub asked_there : IfOk result (λ count. asked (place old) message (take count room))
+  pub short : IfOk result (λ count. count < length room)
+  pub failed : OnErr result (fails old message new)
+  pub same_place : place new ≡ place old
+  pub same_key : public_key new ≡ public_key old

@@ -1,0 +1,91 @@
+-- The forms of public keys and of signatures: what can be told of them without the mathematics.
+use Rattle.std.specs.Prelude.{◌≡◌, ◌⊎◌, ℕ, ◌+◌, ◌*◌, ◌^◌, ◌<◌, ◌≤◌, List, ◌++◌, length, get_or}
+use Rattle.reg_core.specs.Integer.{IsInteger}
+use Rattle.reg_crl.specs.Signing.{Identity}
+use Rattle.reg_der.specs.Der.{IsTlv}
+use Rattle.reg_crl_signer.specs.Algorithms.{identifier_of}
+use Rattle.reg_crl_signer.specs.declared.algorithm.Algorithm.{Algorithm}
+use Rattle.reg_crl_signer.specs.declared.algorithm.Algorithm.TheVariants.{EcdsaSha256, EcdsaSha384, RsaSha256, Ed25519}
+
+-- the INTEGER of a number above 0, in the fewest octets (X.690 8.3)
+pub record IsPositive (bytes : List ℕ) (number : ℕ) : Type 0 where
+  pub octets : List ℕ
+  pub integer : IsTlv bytes 2 octets
+  pub spells : IsInteger octets number
+  pub positive : 0 < number
+
+-- a SEQUENCE of two INTEGERs, both above 0, and of nothing else
+pub record IsPair (bytes : List ℕ) (first second : ℕ) : Type 0 where
+  pub first_bytes : List ℕ
+  pub second_bytes : List ℕ
+  pub sequence : IsTlv bytes 48 (first_bytes ++ second_bytes)
+  pub first_is : IsPositive first_bytes first
+  pub second_is : IsPositive second_bytes second
+
+-- so many octets are the fewest that hold the number
+pub record HasOctets (number size : ℕ) : Type 0 where
+  pub below : number < 256 ^ size
+  pub no_fewer : 256 ^ size ≤ 256 * number
+
+-- a SEQUENCE of two INTEGERs, both above 0, of numbers of so many octets each
+pub record HoldsPair (bytes : List ℕ) (first_size second_size : ℕ) : Type 0 where
+  pub first : ℕ
+  pub second : ℕ
+  pub pair : IsPair bytes first second
+  pub first_octets : HasOctets first first_size
+  pub second_octets : HasOctets second second_size
+
+-- the INTEGER of a number above 0 and of so many octets stands before the rest of the bytes
+pub record BeginsPositive (bytes : List ℕ) (size : ℕ) (rest : List ℕ) : Type 0 where
+  pub raw : List ℕ
+  pub number : ℕ
+  pub is : IsPositive raw number
+  pub octets : HasOctets number size
+  pub parts : bytes ≡ raw ++ rest
+
+-- an RSAPublicKey, the modulus and the public exponent, with a modulus of so many octets (RFC 8017 A.1.1)
+pub record IsRsaKey (key : List ℕ) (size : ℕ) : Type 0 where
+  pub modulus : ℕ
+  pub exponent : ℕ
+  pub pair : IsPair key modulus exponent
+  pub modulus_size : HasOctets modulus size
+
+-- an ECPoint whose coordinates have so many octets, uncompressed or compressed (RFC 5480 2.2; SEC 1 2.3.3)
+abbrev pub IsPoint : ℕ → List ℕ → Type 0
+IsPoint size key =
+    ((get_or key 0 0 ≡ 4) × (length key ≡ 1 + 2 * size))
+    ⊎ (((get_or key 0 0 ≡ 2) ⊎ (get_or key 0 0 ≡ 3)) × (length key ≡ 1 + size))
+
+-- A public key of an algorithm, the bits of a subjectPublicKey: a point of P-256 or of P-384 with ECDSA, an RSAPublicKey with RSA,
+-- 32 octets with Ed25519 (RFC 8410 4)
+abbrev pub IsKeyOf : Algorithm → List ℕ → Type 0
+IsKeyOf EcdsaSha256 key = IsPoint 32 key
+IsKeyOf EcdsaSha384 key = IsPoint 48 key
+IsKeyOf RsaSha256 key = (size : ℕ) × IsRsaKey key size
+IsKeyOf Ed25519 key = length key ≡ 32
+
+-- an Ecdsa-Sig-Value: r and s, both above 0 and below this bound (RFC 3279 2.2.3)
+pub record IsEcdsaValue (bound : ℕ) (signature : List ℕ) : Type 0 where
+  pub r : ℕ
+  pub s : ℕ
+  pub pair : IsPair signature r s
+  pub r_below : r < bound
+  pub s_below : s < bound
+
+-- The form of a signature of an algorithm under a key: an Ecdsa-Sig-Value of numbers below 2^256 or 2^384, as many octets as the
+-- key's modulus has (RFC 8017 8.2.1), or 64 octets (RFC 8032 5.1.6)
+abbrev pub IsSignature : Algorithm → List ℕ → List ℕ → Type 0
+IsSignature EcdsaSha256 key signature = IsEcdsaValue (2 ^ 256) signature
+IsSignature EcdsaSha384 key signature = IsEcdsaValue (2 ^ 384) signature
+IsSignature RsaSha256 key signature = IsRsaKey key (length signature)
+IsSignature Ed25519 key signature = length signature ≡ 64
+
+-- who signs under an algorithm and a key
+abbrev pub identity_of : Algorithm → List ℕ → Identity
+identity_of algorithm key = record { algorithm = identifier_of algorithm; public_key = key }
+
+-- the form of a signature under an identity: that of the algorithm that the identity names, under its key
+pub record HasForm (identity : Identity) (signature : List ℕ) : Type 0 where
+  pub algorithm : Algorithm
+  pub named : identity.algorithm ≡ identifier_of algorithm
+  pub form : IsSignature algorithm identity.public_key signature

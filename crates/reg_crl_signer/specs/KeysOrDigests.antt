@@ -1,0 +1,51 @@
+-- The signer of a register: its issuer's key, the digest, or nobody.
+use Rattle.std.specs.Prelude.{◌≡◌, ℕ, List, Option, Some, None, Result, Vec, option_map}
+use Rattle.std.specs.Global.{Global}
+use Rattle.reg_crl.specs.Signatures.{SignsOrFails}
+use Rattle.reg_crl.specs.Signing.{Identity}
+use Rattle.reg_crl.specs.declared.signer.SignFault.{SignFault}
+use Rattle.reg_crl_signer.specs.Both.{SignsBoth, digest}
+use Rattle.reg_crl_signer.specs.DeviceSigners.{device_identity}
+use Rattle.reg_crl_signer.specs.declared.device.Device.{Ghosts}
+use Rattle.reg_crl_signer.specs.declared.key_or_digest.KeyOrDigest.{KeyOrDigest}
+use Rattle.reg_crl_signer.specs.declared.key_or_digest.KeyOrDigest.TheVariants as by
+use Rattle.reg_crl_signer.specs.declared.signer.DeviceSigner.{DeviceSigner}
+
+module _ {D : Type 0} (g : Ghosts D) where
+  -- the signer with the key, if one holds it
+  abbrev pub key_of : KeyOrDigest D g → Option (DeviceSigner D g)
+  key_of (by.Key signer) = Some signer
+  key_of (by.Digest seal) = None
+  key_of (by.Nobody seal failures) = None
+
+  -- the algorithm and the key under which it signs; where nobody does, those of the digest
+  abbrev pub either_identity : KeyOrDigest D g → Identity
+  either_identity (by.Key signer) = device_identity g signer
+  either_identity (by.Digest seal) = digest
+  either_identity (by.Nobody seal failures) = digest
+
+  -- how many failures it has counted; the digest never fails
+  abbrev pub either_failures : KeyOrDigest D g → ℕ
+  either_failures (by.Key signer) = signer.failures
+  either_failures (by.Digest seal) = 0
+  either_failures (by.Nobody seal failures) = failures
+
+  -- nobody signs
+  abbrev pub IsNobody : KeyOrDigest D g → Type 0
+  IsNobody (by.Key signer) = ⊥
+  IsNobody (by.Digest seal) = ⊥
+  IsNobody (by.Nobody seal failures) = Unit {0}
+
+  -- where the key is asked for
+  abbrev pub either_place : KeyOrDigest D g → Option (List ℕ)
+  either_place it = option_map (λ signer. g.place signer.device) (key_of it)
+
+  -- what comes of asking it for a signature
+  abbrev pub SigningByEither : KeyOrDigest D g → KeyOrDigest D g → List ℕ → Result (Vec ℕ Global) SignFault → Type 0
+  SigningByEither = SignsOrFails either_identity (SignsBoth g.answers) either_failures
+
+  -- it signs as before, at the same place, and has counted as many failures
+  pub record SignsAsBefore (old new : KeyOrDigest D g) : Type 0 where
+    pub same_identity : either_identity new ≡ either_identity old
+    pub same_failures : either_failures new ≡ either_failures old
+    pub same_place : either_place new ≡ either_place old

@@ -1,0 +1,12 @@
+pub mod Algorithms
+pub mod Asking
+pub mod Backoff
+pub mod BackoffDevices
+pub mod Both
+pub mod DeviceSigners
+pub mod Devices
+pub mod Exchange
+pub mod Forms
+pub mod KeysOrDigests
+pub mod Primed
+pub mod Signed

@@ -1,0 +1,105 @@
+//! The algorithms of signatures.
+
+ghost use Rattle.std.specs.Prelude.{◌≡◌, ◌≢◌, ◌↔◌, IsTrue, MatchOption};
+ghost use Rattle.reg_crl.specs.Signing.{IsAlgorithm};
+ghost use Rattle.reg_crl_signer.specs.Algorithms.{algorithm_named, identifier_of, algorithm_name};
+ghost use Rattle.reg_crl_signer.specs.declared.algorithm.Algorithm.{Algorithm};
+
+/// ecdsa-with-SHA256, 1.2.840.10045.4.3.2.
+const ECDSA_SHA256: [u8; 12] = [
+    0x30, 0x0A, 0x06, 0x08, 0x2A, 0x86, 0x48, 0xCE, 0x3D, 0x04, 0x03, 0x02,
+];
+
+/// ecdsa-with-SHA384, 1.2.840.10045.4.3.3.
+const ECDSA_SHA384: [u8; 12] = [
+    0x30, 0x0A, 0x06, 0x08, 0x2A, 0x86, 0x48, 0xCE, 0x3D, 0x04, 0x03, 0x03,
+];
+
+/// sha256WithRSAEncryption, 1.2.840.113549.1.1.11, and NULL.
+const RSA_SHA256: [u8; 15] = [
+    0x30, 0x0D, 0x06, 0x09, 0x2A, 0x86, 0x48, 0x86, 0xF7, 0x0D, 0x01, 0x01, 0x0B, 0x05, 0x00,
+];
+
+/// id-Ed25519, 1.3.101.112.
+const ED25519: [u8; 7] = [0x30, 0x05, 0x06, 0x03, 0x2B, 0x65, 0x70];
+
+/// An algorithm of signatures.
+#[derive(Clone, Copy, Debug, PartialEq, Eq)]
+pub enum Algorithm {
+    /// ECDSA with SHA-256 (RFC 5758 3.2), under a key of the curve P-256.
+    EcdsaSha256,
+    /// ECDSA with SHA-384 (RFC 5758 3.2), under a key of the curve P-384.
+    EcdsaSha384,
+    /// RSASSA-PKCS1-v1_5 with SHA-256 (RFC 4055 5, RFC 8017 8.2).
+    RsaSha256,
+    /// Ed25519 (RFC 8410 3, RFC 8032 5.1).
+    Ed25519,
+}
+
+impl Algorithm {
+    /// Reads a name, as [`Algorithm::name`] gives it. `None` for any other text.
+    pub fn read(name: &str) -> Option<Algorithm>
+        ensures named { MatchOption result ((algorithm : Algorithm) → algorithm_name algorithm ≢ name.now)
+            (λ algorithm. algorithm_name algorithm ≡ name.now) }
+        ensures exact { result ≡ algorithm_named name.now }
+    {
+        match name {
+            "ecdsa-sha256" => Some(Algorithm::EcdsaSha256),
+            "ecdsa-sha384" => Some(Algorithm::EcdsaSha384),
+            "rsa-sha256" => Some(Algorithm::RsaSha256),
+            "ed25519" => Some(Algorithm::Ed25519),
+            _ => None,
+        }
+    }
+
+    /// The algorithm of an AlgorithmIdentifier. `None` for any other bytes.
+    pub fn identified(identifier: &[u8]) -> Option<Algorithm>
+        ensures { MatchOption result ((algorithm : Algorithm) → identifier_of algorithm ≢ identifier.now)
+            (λ algorithm. identifier_of algorithm ≡ identifier.now) }
+    {
+        if Algorithm::EcdsaSha256.is(identifier) {
+            Some(Algorithm::EcdsaSha256)
+        } else if Algorithm::EcdsaSha384.is(identifier) {
+            Some(Algorithm::EcdsaSha384)
+        } else if Algorithm::RsaSha256.is(identifier) {
+            Some(Algorithm::RsaSha256)
+        } else if Algorithm::Ed25519.is(identifier) {
+            Some(Algorithm::Ed25519)
+        } else {
+            None
+        }
+    }
+
+    /// Whether this is its AlgorithmIdentifier.
+    fn is(self, identifier: &[u8]) -> bool
+        ensures { IsTrue result ↔ (identifier_of self ≡ identifier.now) }
+    {
+        self.identifier() == identifier
+    }
+
+    /// Its name: `ecdsa-sha256`, `ecdsa-sha384`, `rsa-sha256` or `ed25519`.
+    pub fn name(self) -> &'static str
+        ensures { result.now ≡ algorithm_name self }
+    {
+        match self {
+            Algorithm::EcdsaSha256 => "ecdsa-sha256",
+            Algorithm::EcdsaSha384 => "ecdsa-sha384",
+            Algorithm::RsaSha256 => "rsa-sha256",
+            Algorithm::Ed25519 => "ed25519",
+        }
+    }
+
+    /// The DER of its AlgorithmIdentifier (RFC 5280 4.1.1.2): without parameters, and with RSA the parameters NULL.
+    #[tactic(auto, using(crate::proofs::Identifiers::identifier_is), unfolding(reg_der::specs::Der::tlv, reg_der::specs::Der::length_octets))]
+    pub fn identifier(self) -> &'static [u8]
+        ensures value { result.now ≡ identifier_of self }
+        ensures within { IsAlgorithm result.now }
+    {
+        match self {
+            Algorithm::EcdsaSha256 => &ECDSA_SHA256,
+            Algorithm::EcdsaSha384 => &ECDSA_SHA384,
+            Algorithm::RsaSha256 => &RSA_SHA256,
+            Algorithm::Ed25519 => &ED25519,
+        }
+    }
+}

@@ -1,0 +1,179 @@
+//! A connection on which a signature is on its way.
+
+ghost use Rattle.std.specs.Prelude.{◌≡◌, ◌≤◌, [], IfOk, IfSome, IsTrue, OnSome, length};
+ghost use Rattle.std.specs.Io.KnownBytes.{Consumes, IsAtEnd};
+ghost use Rattle.reg_crl_signer.specs.Asking.{IsAsking};
+
+use crate::exchange::DeviceConnection;
+use crate::signer::LONGEST_ANSWER;
+use mio::event::Source;
+use mio::net::UnixStream;
+use mio::{Interest, Registry, Token};
+use reg_io::{fill_to_end, write_whole};
+use std::alloc::Global;
+use std::io;
+use std::io::{ErrorKind, Read, Write};
+use std::net::Shutdown;
+
+/// A connection to a signer at a path, on which it is asked to sign a message, and which never waits. It keeps both: so an answer on it is
+/// taken only for the one who asked, and only for this message.
+#[derive(Drop)]
+pub struct Asking {
+    stream: UnixStream,
+    path: String,
+    /// What went out on it.
+    message: Vec<u8>,
+}
+
+impl Asking {
+    /// Asks the signer at a path to sign a message.
+    ///
+    /// # Errors
+    /// As [`Asking::connect`]; also where the message is not taken at once, as one of some hundred thousand bytes may be.
+    pub fn ask(rt: &HostRuntime, path: &str, message: &[u8]) -> io::Result<Asking>
+        ensures { IfOk result (IsAsking path.now message.now) }
+    {
+        let mut asking = Asking::connect(rt, path)?;
+        asking.message.extend_from_slice(message)?;
+        match write_whole(&mut asking.stream, message) {
+            Ok(()) => {
+                asking.finish()?;
+                Ok(asking)
+            }
+            Err(_) => Err(io::Error::from(ErrorKind::BrokenPipe)),
+        }
+    }
+
+    /// Whether the signer at this path is asked on it, and to sign this message.
+    pub fn is_for(&self, path: &str, message: &[u8]) -> bool
+        ensures { IsTrue result → IsAsking path.now message.now self.now }
+    {
+        if self.path.as_str() != path {
+            return false;
+        }
+        self.message.as_slice() == message
+    }
+
+    /// The answer that came on it, up to its end. `None` where it fails, is not at its end, or gave more than 4,096 bytes, and where memory
+    /// is out.
+    pub fn answer(&mut self, alloc: Global) -> Option<Vec<u8>>
+        ensures { IfSome result (λ answer. length answer.items ≤ 4096) }
+    {
+        read_answer(alloc, &mut self.stream)
+    }
+}
+
+/// The answer that a reader gives up to its end. `None` where it fails, has not come to its end, or gives more than 4,096 bytes, and where
+/// memory is out.
+fn read_answer<R: Read>(alloc: Global, reader: &mut R) -> Option<Vec<u8>>
+    ensures came { IfSome result (λ answer.
+        Consumes (R.remaining reader.old) (R.remaining reader.new) answer.items) }
+    ensures ended { OnSome result (IsAtEnd (R.remaining reader.new)) }
+    ensures short { IfSome result (λ answer. length answer.items ≤ 4096) }
+{
+    let Ok(mut answer) = vec![in alloc; 0; LONGEST_ANSWER + 1] else {
+        return None;
+    };
+    match fill_to_end(reader, &mut answer) {
+        Ok(count) => {
+            answer.truncate(count);
+            Some(answer)
+        }
+        Err(_) => None,
+    }
+}
+
+/// Reads never wait.
+impl Read for Asking {
+    fn read(&mut self, buf: &mut [u8]) -> io::Result<usize> {
+        self.stream.read(buf)
+    }
+}
+
+/// Bytes that are written on it go behind the message.
+impl Write for Asking {
+    ghost use Rattle.std.specs.Prelude.{Some};
+
+    ghost contents = { λ it. Some it.message.items };
+
+    fn write(&mut self, buf: &[u8]) -> io::Result<usize> {
+        let before = self.message.len();
+        self.message.extend_from_slice(buf)?;
+        match self.stream.write(buf) {
+            Ok(count) => {
+                self.message.truncate(before + count);
+                Ok(count)
+            }
+            Err(error) => {
+                self.message.truncate(before);
+                Err(error)
+            }
+        }
+    }
+
+    fn flush(&mut self) -> io::Result<()> {
+        Ok(())
+    }
+}
+
+/// It is connected with no message yet, and stays as it was where no more is written.
+impl DeviceConnection for Asking {
+    ghost use Rattle.std.specs.Prelude.{◌≡◌, []};
+    ghost use Rattle.reg_crl_signer.specs.Asking.{IsAsking};
+
+    ghost connected = { λ path it. IsAsking path [] it };
+
+    ghost unconnected = { λ path. Unit {0} };
+
+    ghost finished = { λ it after. after ≡ it };
+
+    ghost gave = { λ path message answer. Unit {0} };
+
+    /// Connects to the signer at a path, and waits for nothing.
+    ///
+    /// # Errors
+    /// `WouldBlock` where the socket has no room for one more connection. What else the system says where nothing listens there, and
+    /// `OutOfMemory`.
+    fn connect(rt: &HostRuntime, path: &str) -> io::Result<Asking>
+        ensures ok { IfOk result (IsAsking path.now []) }
+        ensures err { Unit {0} }
+    {
+        let kept = String::from_str(rt.alloc(), path)?;
+        match UnixStream::connect(rt, path) {
+            Ok(stream) => Ok(Asking {
+                stream,
+                path: kept,
+                message: Vec::new(rt.alloc()),
+            }),
+            Err(error) => Err(error),
+        }
+    }
+
+    fn finish(&mut self) -> io::Result<()> {
+        self.stream.shutdown(Shutdown::Write)
+    }
+}
+
+impl Source for Asking {
+    fn register(
+        &mut self,
+        registry: &Registry,
+        token: Token,
+        interests: Interest,
+    ) -> io::Result<()> {
+        self.stream.register(registry, token, interests)
+    }
+
+    fn reregister(
+        &mut self,
+        registry: &Registry,
+        token: Token,
+        interests: Interest,
+    ) -> io::Result<()> {
+        self.stream.reregister(registry, token, interests)
+    }
+
+    fn deregister(&mut self, registry: &Registry) -> io::Result<()> {
+        self.stream.deregister(registry)
+    }
+}

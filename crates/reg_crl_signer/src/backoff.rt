@@ -1,0 +1,158 @@
+//! The back-off from a signer that timed out.
+
+ghost use Rattle.std.specs.Prelude.{◌≡◌, ◌↔◌, ◌≤◌, ◌<◌, ◌-◌, IsTrue, IfSome, MatchOption, None, OnErr, OnOk, length};
+ghost use Rattle.std.specs.Duration.{as_nanos};
+ghost use Rattle.reg_crl_signer.specs.Backoff.{IsBackedOff};
+ghost use Rattle.reg_crl_signer.specs.BackoffDevices.{ExchangesUnlessBackedOff};
+
+use crate::device::{Device, DeviceFault};
+use crate::unix_connection::PATIENCE;
+use std::time::{Clock, Duration};
+
+/// How many nanoseconds a signer is not asked after a timeout.
+const REST: u128 = 10_000_000_000;
+
+/// The back-off from a signer: after a timeout it is not asked again for ten seconds. Times are readings of one clock that never goes back.
+#[derive(Clone, Copy, Debug, PartialEq, Eq)]
+pub struct Backoff {
+    /// When the signer timed out, unless it was asked again since.
+    since: Option<Duration>,
+}
+
+impl Backoff {
+    /// No back-off: the signer is asked.
+    pub fn none() -> Backoff
+        ensures { result.since ≡ None }
+    {
+        Backoff { since: None }
+    }
+
+    /// The back-off after an exchange that failed: from its end on, where it took as long as the timeout; else none.
+    pub fn after_failure(began: Duration, ended: Duration, timeout: Duration) -> Backoff
+        ensures { MatchOption result.since (as_nanos ended - as_nanos began < as_nanos timeout)
+            (λ since. (since ≡ ended) × (as_nanos timeout ≤ as_nanos ended - as_nanos began)) }
+    {
+        let took = ended.saturating_sub(began);
+        if took.as_nanos() < timeout.as_nanos() {
+            Backoff { since: None }
+        } else {
+            Backoff { since: Some(ended) }
+        }
+    }
+
+    /// Whether the signer is not to be asked at this time.
+    pub fn is_active(&self, now: Duration) -> bool
+        ensures { IsTrue result ↔ IsBackedOff self.now.since now }
+    {
+        match self.since {
+            Some(since) => now.saturating_sub(since).as_nanos() < REST,
+            None => false,
+        }
+    }
+}
+
+/// A device with a back-off: after an exchange that failed and took ten seconds, exchanges fail at once for ten seconds, and the device is
+/// not asked. An exchange that fails sooner costs nobody much time, and the next one asks the device.
+#[derive(Drop)]
+pub struct BackoffDevice<D: Device, C: Clock> {
+    device: D,
+    clock: C,
+    backoff: Backoff,
+}
+
+impl<D: Device, C: Clock> BackoffDevice<D, C> {
+    /// The device, without a back-off. The clock gives the time by its monotonic readings.
+    pub fn new(device: D, clock: C) -> BackoffDevice<D, C>
+        ensures device { result.device ≡ device }
+        ensures asked { result.backoff.since ≡ None }
+    {
+        BackoffDevice {
+            device,
+            clock,
+            backoff: Backoff::none(),
+        }
+    }
+
+    /// One exchange that begins at a time of the clock.
+    ///
+    /// # Errors
+    /// [`DeviceFault`] where the back-off is active, and where the device fails.
+    fn exchange_at(
+        &mut self,
+        began: Duration,
+        message: &[u8],
+        room: &mut [u8],
+    ) -> Result<usize, DeviceFault>
+        requires { length room.old ≤ 4097 }
+        ensures exchanged { ExchangesUnlessBackedOff D.Device self.old self.new message.now room.new result }
+        ensures refused { IsBackedOff self.old.backoff.since began → OnOk result ⊥ × (self.new ≡ self.old) }
+        ensures asked { ¬ IsBackedOff self.old.backoff.since began
+            → OnErr result (D.fails self.old.device message.now self.new.device) }
+        ensures late { ¬ IsBackedOff self.old.backoff.since began
+            → IfSome self.new.backoff.since (λ since. 10000000000 ≤ as_nanos since - as_nanos began) }
+        ensures reset { OnOk result (self.new.backoff.since ≡ None) }
+    {
+        if self.backoff.is_active(began) {
+            return Err(DeviceFault);
+        }
+        match self.device.exchange(message, room) {
+            Ok(count) => {
+                self.backoff = Backoff::none();
+                Ok(count)
+            }
+            Err(fault) => {
+                self.backoff = backoff_after(&self.clock, began);
+                Err(fault)
+            }
+        }
+    }
+}
+
+impl<D: Device, C: Clock> Device for BackoffDevice<D, C> {
+    ghost use Rattle.reg_crl_signer.specs.BackoffDevices.{FailsOrIsBackedOff};
+
+    ghost public_key = { λ it. D.public_key it.device };
+
+    ghost place = { λ it. D.place it.device };
+
+    ghost asked = { D.asked };
+
+    ghost answers = { D.answers };
+
+    ghost gave = { D.gave };
+
+    ghost gave_answers = { D.gave_answers };
+
+    ghost fails = { FailsOrIsBackedOff D.Device };
+
+    fn public_key(&self) -> &[u8] {
+        self.device.public_key()
+    }
+
+    fn exchange(&mut self, message: &[u8], room: &mut [u8]) -> Result<usize, DeviceFault> {
+        match self.clock.monotonic() {
+            Ok(began) => self.exchange_at(began, message, room),
+            // Without a clock nobody can tell how long ago a timeout was.
+            Err(_) => self.device.exchange(message, room),
+        }
+    }
+
+    fn rouse(&mut self)
+        ensures same_place { D.place self.new.device ≡ D.place self.old.device }
+        ensures same_key { D.public_key self.new.device ≡ D.public_key self.old.device }
+        ensures reset { self.new.backoff.since ≡ None }
+    {
+        self.device.rouse();
+        self.backoff = Backoff::none();
+    }
+}
+
+/// The back-off after an exchange that began at a time and has failed by now.
+fn backoff_after<C: Clock>(clock: &C, began: Duration) -> Backoff
+    ensures { IfSome result.since (λ since. 10000000000 ≤ as_nanos since - as_nanos began) }
+{
+    match clock.monotonic() {
+        Ok(ended) => Backoff::after_failure(began, ended, Duration::from_secs(PATIENCE)),
+        Err(_) => Backoff::none(),
+    }
+}

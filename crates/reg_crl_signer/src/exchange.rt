@@ -1,0 +1,122 @@
+//! One exchange over a connection, and the device at its other end.
+
+ghost use Rattle.std.specs.Prelude.{◌≡◌, ◌<◌, IfOk, length, take};
+ghost use Rattle.reg_crl_signer.specs.Exchange.{GivesBack};
+
+use crate::device::{Device, DeviceFault};
+use reg_io::{fill_to_end, write_whole};
+use std::io;
+use std::io::{Read, Write};
+use std::marker::PhantomData;
+
+/// A connection to the socket of a device, for one message and its answer.
+pub trait DeviceConnection: Read + Write {
+    ghost use Rattle.std.specs.Prelude.{ℕ, List, IfOk, OnErr, OnOk};
+
+    // This connection was made to what listens at the path.
+    ghost connected: { List ℕ → Self → Type 0 };
+
+    // No connection could be made to what listens at the path, if anything does.
+    ghost unconnected: { List ℕ → Type 0 };
+
+    // The peer was told that no more is written: the connection before and after it.
+    ghost finished: { Self → Self → Type 0 };
+
+    // Over another kind of connection, what listens at the path answered this message so.
+    ghost gave: { List ℕ → List ℕ → List ℕ → Type 0 };
+
+    /// Connects to the socket at a path.
+    ///
+    /// # Errors
+    /// What the system says, where nothing listens there or no connection is taken.
+    fn connect(rt: &HostRuntime, path: &str) -> io::Result<Self>
+        ensures ok { IfOk result (connected path.now) }
+        ensures err { OnErr result (unconnected path.now) };
+
+    /// Tells the peer that no more is written.
+    ///
+    /// # Errors
+    /// What the system says, where the peer can't be told.
+    fn finish(&mut self) -> io::Result<()>
+        ensures { OnOk result (finished self.old self.new) };
+}
+
+/// A device that listens at a path. For each signature it is sent the message over a connection of its own, and told that
+/// no more comes; its answer is all that it sends until it closes.
+#[derive(Drop)]
+pub struct SocketDevice<L: DeviceConnection> {
+    rt: HostRuntime,
+    path: String,
+    key: Vec<u8>,
+    connections: PhantomData<L>,
+}
+
+impl<L: DeviceConnection> SocketDevice<L> {
+    /// The device that listens at a path, with the public key that its signatures are to be verified with.
+    pub fn new(rt: HostRuntime, path: String, key: Vec<u8>) -> SocketDevice<L>
+        ensures path { result.path ≡ path }
+        ensures key { result.key ≡ key }
+    {
+        SocketDevice {
+            rt,
+            path,
+            key,
+            connections: PhantomData,
+        }
+    }
+}
+
+impl<L: DeviceConnection + Drop> Device for SocketDevice<L> {
+    ghost use Rattle.std.proofs.Common.{inr};
+    ghost use Rattle.std.specs.Prelude.{ℕ, List, ◌⊎◌, string_bytes};
+    ghost use Rattle.reg_crl_signer.specs.Exchange.{GivesBackAt};
+
+    ghost public_key = { λ it. it.key.items };
+
+    ghost place = { λ it. string_bytes it.path };
+
+    ghost asked = { GivesBackAt L.connected L.Read.remaining L.Write.contents L.finished };
+
+    // What listens at some path answered so, over such a connection or another kind.
+    ghost answers = { λ key message answer.
+        ((path : List ℕ)
+        × GivesBackAt L.connected L.Read.remaining L.Write.contents L.finished path message answer)
+        ⊎ ((path : List ℕ) × ∥ L.gave path message answer ∥₁) };
+
+    ghost gave = { L.gave };
+
+    ghost gave_answers = { λ key place message answer given. inr (place, given) };
+
+    // No connection could be made, or one was made and gave no answer.
+    ghost fails = { λ it message after. L.unconnected (string_bytes it.path)
+        ⊎ ((link : L) × L.connected (string_bytes it.path) link) };
+
+    fn public_key(&self) -> &[u8] {
+        &self.key
+    }
+
+    fn exchange(&mut self, message: &[u8], room: &mut [u8]) -> Result<usize, DeviceFault> {
+        match L::connect(&self.rt, self.path.as_str()) {
+            Ok(mut link) => converse(&mut link, message, room),
+            Err(_) => Err(DeviceFault),
+        }
+    }
+
+    fn rouse(&mut self) {}
+}
+
+/// One exchange over a connection: the whole message goes out, the peer is told that no more comes, and its answer is read
+/// to the end.
+fn converse<L: DeviceConnection>(
+    link: &mut L,
+    message: &[u8],
+    room: &mut [u8],
+) -> Result<usize, DeviceFault>
+    ensures short { IfOk result (λ count. count < length room.new) }
+    ensures answered { IfOk result (λ count.
+        GivesBack L.Read.remaining L.Write.contents L.finished link.old message.now (take count room.new)) }
+{
+    write_whole(link, message).map_err(|_| DeviceFault)?;
+    link.finish().map_err(|_| DeviceFault)?;
+    fill_to_end(link, room).map_err(|_| DeviceFault)
+}

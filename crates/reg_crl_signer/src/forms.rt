@@ -1,0 +1,94 @@
+//! The forms of public keys and of signatures.
+
+ghost use Rattle.std.specs.Prelude.{◌≡◌, ◌↔◌, ◌<◌, ◌^◌, IsTrue, length};
+ghost use Rattle.std.specs.Bool.{OnTrue};
+ghost use Rattle.reg_crl_signer.specs.Forms.{HasForm, IsEcdsaValue, IsKeyOf, IsPoint, IsRsaKey, IsSignature};
+
+use crate::algorithm::Algorithm;
+use crate::numbers::octets_of_pair;
+
+/// The octets of a coordinate of a point of P-256 (RFC 5480 2.1.1.1), and of r and s of a signature under its key.
+const P256_OCTETS: usize = 32;
+
+/// The octets of a coordinate of a point of P-384, and of r and s of a signature under its key.
+const P384_OCTETS: usize = 48;
+
+/// The octets of a public key of Ed25519 (RFC 8032 5.1.5).
+const ED25519_KEY: usize = 32;
+
+/// The octets of a signature of Ed25519 (RFC 8032 5.1.6).
+const ED25519_SIGNATURE: usize = 64;
+
+impl Algorithm {
+    /// Whether the bytes are a public key of the algorithm by their form, as the bits of a subjectPublicKey
+    /// (RFC 5280 4.1.2.7): a point of P-256 or of P-384, uncompressed or compressed (RFC 5480 2.2); an RSAPublicKey
+    /// (RFC 8017 A.1.1); or the 32 octets of Ed25519 (RFC 8410 4).
+    pub fn is_key(self, key: &[u8]) -> bool
+        ensures { IsTrue result ↔ IsKeyOf self key.now }
+    {
+        match self {
+            Algorithm::EcdsaSha256 => is_point(key, P256_OCTETS),
+            Algorithm::EcdsaSha384 => is_point(key, P384_OCTETS),
+            Algorithm::RsaSha256 => octets_of_pair(key).is_some(),
+            Algorithm::Ed25519 => key.len() == ED25519_KEY,
+        }
+    }
+
+    /// Whether the bytes are a signature under the key by their form: the DER of r and s, positive and below 2^256 or
+    /// 2^384, with ECDSA (RFC 3279 2.2.3); as many octets as the key's modulus has, with RSA (RFC 8017 8.2.1); 64 octets
+    /// with Ed25519 (RFC 8032 5.1.6). Whether it verifies is not looked at.
+    pub fn is_signature(self, key: &[u8], signature: &[u8]) -> bool
+        ensures { IsTrue result ↔ IsSignature self key.now signature.now }
+    {
+        match self {
+            Algorithm::EcdsaSha256 => is_ecdsa_value(signature, P256_OCTETS),
+            Algorithm::EcdsaSha384 => is_ecdsa_value(signature, P384_OCTETS),
+            Algorithm::RsaSha256 => has_modulus_of(key, signature.len()),
+            Algorithm::Ed25519 => signature.len() == ED25519_SIGNATURE,
+        }
+    }
+}
+
+/// Whether bytes have the form of a signature of the algorithm that an AlgorithmIdentifier names, under a key. None has where it names
+/// none that is known here.
+pub fn has_form(identifier: &[u8], key: &[u8], signature: &[u8]) -> bool
+    ensures { OnTrue result
+        (HasForm (record { algorithm = identifier.now; public_key = key.now }) signature.now) }
+{
+    match Algorithm::identified(identifier) {
+        Some(algorithm) => algorithm.is_signature(key, signature),
+        None => false,
+    }
+}
+
+/// Whether the bytes are a point whose coordinates have so many octets.
+fn is_point(key: &[u8], octets: usize) -> bool
+    requires { octets < 100 }
+    ensures { IsTrue result ↔ IsPoint octets key.now }
+{
+    match key {
+        [first, ..] if *first == 4 => key.len() == 1 + 2 * octets,
+        [first, ..] if *first == 2 || *first == 3 => key.len() == 1 + octets,
+        _ => false,
+    }
+}
+
+/// Whether the bytes are an Ecdsa-Sig-Value of two numbers of at most so many octets.
+fn is_ecdsa_value(signature: &[u8], octets: usize) -> bool
+    ensures { IsTrue result ↔ IsEcdsaValue (256 ^ octets) signature.now }
+{
+    match octets_of_pair(signature) {
+        Some((r, s)) => r <= octets && s <= octets,
+        None => false,
+    }
+}
+
+/// Whether the bytes are an RSAPublicKey with a modulus of so many octets.
+fn has_modulus_of(key: &[u8], octets: usize) -> bool
+    ensures { IsTrue result ↔ IsRsaKey key.now octets }
+{
+    match octets_of_pair(key) {
+        Some((modulus, _)) => modulus == octets,
+        None => false,
+    }
+}

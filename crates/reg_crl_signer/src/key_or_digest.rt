@@ -1,0 +1,109 @@
+//! The signer of a register.
+
+ghost use Rattle.std.specs.Prelude.{◌≡◌, None};
+ghost use Rattle.std.specs.Option.{ForSome};
+ghost use Rattle.reg_crl_signer.specs.KeysOrDigests.{IsNobody, SignsAsBefore, either_identity, key_of};
+ghost use Rattle.reg_crl_signer.specs.Primed.{IsPrimed};
+
+use crate::device::Device;
+use crate::primed::Primed;
+use crate::signer::{DeviceSigner, count_failure};
+use reg_crl::{DigestSeal, SignFault, Signer};
+use std::alloc::Global;
+
+/// The signer of a register.
+#[derive(Drop)]
+pub enum KeyOrDigest<D: Device> {
+    /// The issuer's key.
+    Key(DeviceSigner<D>),
+    /// No key: a digest stands in the place of a signature, and is none.
+    Digest(DigestSeal),
+    /// Nobody signs, where the digest would: each time counts as a failure.
+    Nobody(DigestSeal, u64),
+}
+
+impl<D: Device + Drop> KeyOrDigest<D> {
+    /// The same, but nobody where the digest would sign.
+    pub fn silent(self) -> KeyOrDigest<D>
+        ensures key { key_of D.Device result ≡ key_of D.Device self }
+        ensures same_identity { either_identity D.Device result ≡ either_identity D.Device self }
+        ensures nobody { key_of D.Device result ≡ None → IsNobody D.Device result }
+    {
+        match self {
+            KeyOrDigest::Key(signer) => KeyOrDigest::Key(signer),
+            KeyOrDigest::Digest(digest) => KeyOrDigest::Nobody(digest, 0),
+            KeyOrDigest::Nobody(digest, failures) => KeyOrDigest::Nobody(digest, failures),
+        }
+    }
+
+    /// Presets the key's next signature, as [`DeviceSigner::prime`] does. A digest needs nothing.
+    pub fn prime(&mut self, primed: Option<Primed>)
+        requires { ForSome (key_of D.Device self.old)
+            (λ signer. IsPrimed (D.gave (D.place signer.device)) primed) }
+        ensures { SignsAsBefore D.Device self.old self.new }
+    {
+        match self {
+            KeyOrDigest::Key(signer) => signer.prime(primed),
+            KeyOrDigest::Digest(_) => {}
+            KeyOrDigest::Nobody(_, _) => {}
+        }
+    }
+}
+
+impl<D: Device + Drop> Signer for KeyOrDigest<D> {
+    ghost use Rattle.std.specs.Prelude.{◌≡◌, None, IfOk, IfSome, OnOk};
+    ghost use Rattle.reg_crl_signer.specs.Both.{SignsBoth};
+    ghost use Rattle.reg_crl_signer.specs.KeysOrDigests.{IsNobody, SigningByEither, either_identity, either_failures, either_place, key_of};
+
+    ghost identity = { either_identity D.Device };
+
+    ghost signs = { SignsBoth D.answers };
+
+    ghost failure_count = { either_failures D.Device };
+
+    fn algorithm(&self) -> &[u8] {
+        match self {
+            KeyOrDigest::Key(signer) => signer.algorithm(),
+            KeyOrDigest::Digest(digest) => digest.algorithm(),
+            KeyOrDigest::Nobody(digest, _) => digest.algorithm(),
+        }
+    }
+
+    fn public_key(&self) -> Option<&[u8]> {
+        match self {
+            KeyOrDigest::Key(signer) => signer.public_key(),
+            KeyOrDigest::Digest(_) => None,
+            KeyOrDigest::Nobody(_, _) => None,
+        }
+    }
+
+    fn sign(&mut self, alloc: Global, message: &[u8]) -> Result<Vec<u8>, SignFault>
+        ensures signing { SigningByEither D.Device self.old self.new message.now result }
+        ensures asked { IfSome (key_of D.Device self.old) (λ signer. signer.primed ≡ None
+            → IfOk result (λ signature. D.asked (D.place signer.device) message.now signature.items)) }
+        ensures nobody { IsNobody D.Device self.old → OnOk result ⊥ }
+        ensures same_place { either_place D.Device self.new ≡ either_place D.Device self.old }
+    {
+        match self {
+            KeyOrDigest::Key(signer) => signer.sign(alloc, message),
+            KeyOrDigest::Digest(digest) => digest.sign(alloc, message),
+            KeyOrDigest::Nobody(_, failures) => Err(count_failure(failures)),
+        }
+    }
+
+    fn rouse(&mut self) {
+        match self {
+            KeyOrDigest::Key(signer) => signer.rouse(),
+            KeyOrDigest::Digest(_) => {}
+            KeyOrDigest::Nobody(_, _) => {}
+        }
+    }
+
+    fn failures(&self) -> u64 {
+        match self {
+            KeyOrDigest::Key(signer) => signer.failures(),
+            KeyOrDigest::Digest(_) => 0,
+            KeyOrDigest::Nobody(_, failures) => *failures,
+        }
+    }
+}

@@ -1,0 +1,29 @@
+//! Signers over a device that holds a key, and a device that is behind a Unix socket.
+#![tactic(auto)]
+
+mod algorithm;
+mod asking;
+mod backoff;
+mod certified;
+mod device;
+mod exchange;
+mod forms;
+mod key_or_digest;
+mod numbers;
+mod primed;
+mod signed;
+mod signer;
+mod unix_connection;
+
+pub use algorithm::Algorithm;
+pub use asking::Asking;
+pub use backoff::{Backoff, BackoffDevice};
+pub use certified::is_key_identifier;
+pub use device::{Device, DeviceFault};
+pub use exchange::{DeviceConnection, SocketDevice};
+pub use forms::has_form;
+pub use key_or_digest::KeyOrDigest;
+pub use primed::Primed;
+pub use signed::crl_algorithm;
+pub use signer::{DeviceSigner, KeyFault};
+pub use unix_connection::UnixConnection;

@@ -1,0 +1,61 @@
+//! Positive INTEGERs in DER (X.690 8.3), and SEQUENCEs of two.
+
+ghost use Rattle.std.specs.Prelude.{◌≡◌, ℕ, ◌<◌, ◌++◌, List, MatchOption};
+ghost use Rattle.reg_core.specs.Integer.{IsInteger};
+ghost use Rattle.reg_crl_signer.specs.Forms.{BeginsPositive, HasOctets, HoldsPair, IsPair, IsPositive};
+
+use reg_der::take;
+
+/// The tag octet of an INTEGER (X.690 8.3).
+const INTEGER: u8 = 0x02;
+
+/// The tag octet of a SEQUENCE (X.690 8.9).
+const SEQUENCE: u8 = 0x30;
+
+/// The first octet of an INTEGER that is not negative is below this (X.690 8.3.3).
+const SIGN_BIT: u8 = 0x80;
+
+/// How many octets the two numbers have whose INTEGERs are all that a SEQUENCE holds. `None` where the bytes are no such
+/// SEQUENCE, or a number is not above 0.
+pub(crate) fn octets_of_pair(bytes: &[u8]) -> Option<(usize, usize)>
+    ensures { MatchOption result ((first second : ℕ) → ¬ IsPair bytes.now first second)
+        (λ counts. HoldsPair bytes.now counts.0 counts.1) }
+{
+    let (sequence, after) = take(bytes)?;
+    if sequence.tag != SEQUENCE || !after.is_empty() {
+        return None;
+    }
+    let (first, rest) = take_positive(sequence.contents)?;
+    let (second, rest) = take_positive(rest)?;
+    if !rest.is_empty() {
+        return None;
+    }
+    Some((first, second))
+}
+
+/// How many octets the number has whose INTEGER is at the front, and what follows. `None` where no INTEGER is there, or
+/// its number is not above 0.
+fn take_positive(bytes: &[u8]) -> Option<(usize, &[u8])>
+    ensures { MatchOption result
+        ((raw rest : List ℕ) (number : ℕ) → IsPositive raw number → bytes.now ≡ raw ++ rest → ⊥)
+        (λ taken. BeginsPositive bytes.now taken.0 taken.1.now) }
+{
+    let (value, rest) = take(bytes)?;
+    if value.tag != INTEGER {
+        return None;
+    }
+    Some((octets_of(value.contents)?, rest))
+}
+
+/// How many octets the number above 0 has whose INTEGER has these contents. `None` where they are those of no such number.
+fn octets_of(contents: &[u8]) -> Option<usize>
+    ensures { MatchOption result ((number : ℕ) → 0 < number → ¬ IsInteger contents.now number)
+        (λ count. (number : ℕ) × (0 < number) × IsInteger contents.now number × HasOctets number count) }
+{
+    match contents {
+        // A zero leads where the number's own first bit is set, and nowhere else.
+        [first, second, ..] if *first == 0 && *second >= SIGN_BIT => Some(contents.len() - 1),
+        [first, ..] if *first != 0 && *first < SIGN_BIT => Some(contents.len()),
+        _ => None,
+    }
+}

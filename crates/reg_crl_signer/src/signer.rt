@@ -1,0 +1,180 @@
+//! The signer over a device.
+
+ghost use Rattle.std.specs.Prelude.{◌≡◌, ◌<◌, ◌≤◌, Some, None, IfOk, OnErr, length, vec_len};
+ghost use Rattle.std.specs.Bool.{OnFalse, OnTrue};
+ghost use Rattle.reg_crl_signer.specs.Forms.{IsKeyOf, IsSignature};
+ghost use Rattle.reg_crl_signer.specs.Primed.{IsPrimed};
+
+use crate::algorithm::Algorithm;
+use crate::device::Device;
+use crate::primed::{Primed, answer_to};
+use reg_crl::{SignFault, Signer};
+use std::alloc::Global;
+
+/// The most bytes of an answer.
+pub(crate) const LONGEST_ANSWER: usize = 4_096;
+
+/// The device's key is none of the algorithm.
+#[derive(Clone, Copy, Debug, PartialEq, Eq)]
+pub struct KeyFault;
+
+/// Signs with the key of a device under one algorithm, and counts how often the device gave no signature.
+///
+/// A signature is what has the form of one under the device's key, and at most 4,096 bytes. Whether it verifies is not
+/// looked at.
+#[derive(Drop)]
+pub struct DeviceSigner<D: Device> {
+    device: D,
+    algorithm: Algorithm,
+    failures: u64,
+    /// The preset of the next signature, for which the device is not asked then.
+    primed: Option<Primed>,
+    ghost came: { IsPrimed (D.gave (D.place device)) primed },
+}
+
+impl<D: Device + Drop> DeviceSigner<D> {
+    ghost use Rattle.reg_crl_signer.specs.DeviceSigners.{AsksAtItsPlace, GivesNone, IsNew, SigningByDevice, SignsByDevice, device_identity};
+
+    /// The signer over a device that has not failed yet.
+    ///
+    /// # Errors
+    /// [`KeyFault`] where the device's public key is none of the algorithm by its form.
+    pub fn new(device: D, algorithm: Algorithm) -> Result<DeviceSigner<D>, KeyFault>
+        ensures ok { IfOk result (IsNew D.Device device algorithm) }
+        ensures err { OnErr result (¬ (IsKeyOf algorithm (D.public_key device))) }
+    {
+        if !algorithm.is_key(device.public_key()) {
+            return Err(KeyFault);
+        }
+        Ok(DeviceSigner {
+            device,
+            algorithm,
+            failures: 0,
+            primed: None,
+        })
+    }
+
+    /// Presets the next signature, for which the device is not asked then: what the device gave to others, who asked it at its place to sign
+    /// a message, or that it gave nothing. To sign another message is a failure then. `None` has the device asked again.
+    pub fn prime(&mut self, primed: Option<Primed>)
+        requires { IsPrimed (D.gave (D.place self.old.device)) primed }
+        ensures primed { self.new.primed ≡ primed }
+        ensures same_device { self.new.device ≡ self.old.device }
+        ensures same_algorithm { self.new.algorithm ≡ self.old.algorithm }
+        ensures same_failures { self.new.failures ≡ self.old.failures }
+    {
+        self.primed = primed;
+    }
+
+    /// Asks the device for a signature, and whether it gave one, which is then all of `answer`.
+    fn ask(&mut self, message: &[u8], answer: &mut Vec<u8>) -> bool
+        requires { vec_len answer.old ≤ 4097 }
+        ensures signed { OnTrue result
+            (SignsByDevice D.Device (device_identity D.Device self.old) message.now answer.new.items) }
+        ensures asked { OnTrue result (D.asked (D.place self.old.device) message.now answer.new.items) }
+        ensures short { OnTrue result (length answer.new.items ≤ 4096) }
+        ensures failed { OnFalse result (GivesNone D.Device self.old message.now self.new) }
+        ensures same_place { D.place self.new.device ≡ D.place self.old.device }
+        ensures same_identity { device_identity D.Device self.new ≡ device_identity D.Device self.old }
+        ensures same_failures { self.new.failures ≡ self.old.failures }
+    {
+        match self.device.exchange(message, answer) {
+            Ok(count) => {
+                answer.truncate(count);
+                self.algorithm
+                    .is_signature(self.device.public_key(), answer)
+            }
+            Err(_) => false,
+        }
+    }
+
+    /// A signature of the message: what the device answers, where that has the form of one.
+    fn sign_asking(&mut self, alloc: Global, message: &[u8]) -> Result<Vec<u8>, SignFault>
+        requires { self.old.primed ≡ None }
+        ensures signing { SigningByDevice D.Device self.old self.new message.now result }
+        ensures asks { AsksAtItsPlace D.Device self.old self.new message.now result }
+    {
+        let mut answer = vec![in alloc; 0; LONGEST_ANSWER + 1]?;
+        if self.ask(message, &mut answer) {
+            return Ok(answer);
+        }
+        Err(count_failure(&mut self.failures))
+    }
+
+    /// A signature of the message: the preset one, where that is for this message and has the form of one.
+    fn sign_primed(&mut self, primed: Primed, message: &[u8]) -> Result<Vec<u8>, SignFault>
+        requires { IsPrimed (D.gave (D.place self.old.device)) (Some primed) }
+        ensures signing { SigningByDevice D.Device self.old self.new message.now result }
+        ensures given { IfOk result (λ signature.
+            ∥ D.gave (D.place self.old.device) message.now signature.items ∥₁) }
+        ensures within { IfOk result (λ signature. length signature.items ≤ 4096) }
+        ensures same_device { self.new.device ≡ self.old.device }
+    {
+        match answer_to(primed, message) {
+            Some(answer) if self.is_signature(&answer) => Ok(answer),
+            _ => Err(count_failure(&mut self.failures)),
+        }
+    }
+
+    /// Whether an answer is a signature by its form, and short enough for one.
+    fn is_signature(&self, answer: &[u8]) -> bool
+        ensures { OnTrue result (IsSignature self.now.algorithm (D.public_key self.now.device) answer.now
+            × (length answer.now ≤ 4096)) }
+    {
+        answer.len() <= LONGEST_ANSWER
+            && self
+                .algorithm
+                .is_signature(self.device.public_key(), answer)
+    }
+}
+
+impl<D: Device + Drop> Signer for DeviceSigner<D> {
+    ghost use Rattle.reg_crl_signer.specs.DeviceSigners.{AsksAtItsPlace, SigningByDevice, SignsByDevice, device_identity};
+
+    ghost identity = { device_identity D.Device };
+
+    ghost signs = { SignsByDevice D.Device };
+
+    ghost failure_count = { λ it. it.failures };
+
+    fn algorithm(&self) -> &[u8] {
+        self.algorithm.identifier()
+    }
+
+    fn public_key(&self) -> Option<&[u8]> {
+        Some(self.device.public_key())
+    }
+
+    /// A signature of the message: the device's answer, now or as it was preset, where that has the form of one.
+    fn sign(&mut self, alloc: Global, message: &[u8]) -> Result<Vec<u8>, SignFault>
+        ensures signing { SigningByDevice D.Device self.old self.new message.now result }
+        ensures asks { AsksAtItsPlace D.Device self.old self.new message.now result }
+    {
+        match self.primed.take() {
+            Some(primed) => self.sign_primed(primed, message),
+            None => self.sign_asking(alloc, message),
+        }
+    }
+
+    fn rouse(&mut self) {
+        self.device.rouse();
+    }
+
+    fn failures(&self) -> u64 {
+        self.failures
+    }
+}
+
+/// Counts a failure of a device. At `u64::MAX` the count can't rise, and callers tell a failed device by a count that rose: the fault is
+/// `Memory` then.
+pub(crate) fn count_failure(failures: &mut u64) -> SignFault
+    ensures device { result ≡ SignFault.Device → failures.old < failures.new }
+    ensures exhausted { failures.old ≡ u64.MAX → result ≡ SignFault.Memory }
+    ensures memory { result ≡ SignFault.Memory → failures.new ≡ failures.old }
+{
+    if *failures == u64::MAX {
+        return SignFault::Memory;
+    }
+    *failures += 1;
+    SignFault::Device
+}

@@ -1,0 +1,144 @@
+//! Connections to the machine's Unix sockets that wait, ten seconds in all.
+
+ghost use Rattle.std.specs.Prelude.{◌≡◌, ◌≤◌, ◌<◌, ◌+◌, ◌-◌, MatchOption};
+ghost use Rattle.std.specs.Duration.{as_nanos};
+ghost use Rattle.std.specs.Time.{instant_nanos};
+
+use crate::exchange::DeviceConnection;
+use mio::net::UnixStream as UnwaitingStream;
+use std::io::{ErrorKind, Read, Write};
+use std::net::Shutdown;
+use std::os::unix::net::UnixStream;
+use std::time::{Duration, Instant};
+use std::{io, thread};
+
+/// How many seconds an exchange may take in all.
+pub(crate) const PATIENCE: u64 = 10;
+
+/// How many milliseconds pass before a socket is tried again that has no room for one more connection.
+const PAUSE_MILLIS: u64 = 10;
+
+/// The most bytes that one write is handed. The system may wait anew for each part of a longer one.
+const LONGEST_PIECE: usize = 32_768;
+
+/// A connection to a Unix socket, for one exchange of ten seconds in all by the monotonic clock.
+#[derive(Drop)]
+pub struct UnixConnection {
+    rt: HostRuntime,
+    stream: UnixStream,
+    began: Instant,
+}
+
+impl UnixConnection {
+    /// How much is left of the time.
+    ///
+    /// # Errors
+    /// `TimedOut` where nothing is.
+    fn left(&self) -> io::Result<Duration> {
+        left_now(&self.rt, self.began)
+    }
+}
+
+/// A signal that comes while it waits ends no read.
+impl Read for UnixConnection {
+    fn read(&mut self, buf: &mut [u8]) -> io::Result<usize> {
+        for _ in 0..u64::MAX {
+            self.stream.set_read_timeout(Some(self.left()?))?;
+            match self.stream.read(buf) {
+                Err(error) if error.kind() == ErrorKind::Interrupted => {}
+                ended => return ended,
+            }
+        }
+        Err(io::Error::from(ErrorKind::TimedOut))
+    }
+}
+
+/// A signal that comes while it waits ends no write.
+impl Write for UnixConnection {
+    fn write(&mut self, bytes: &[u8]) -> io::Result<usize> {
+        let piece = &bytes[..bytes.len().min(LONGEST_PIECE)];
+        for _ in 0..u64::MAX {
+            self.stream.set_write_timeout(Some(self.left()?))?;
+            match self.stream.write(piece) {
+                Err(error) if error.kind() == ErrorKind::Interrupted => {}
+                ended => return ended,
+            }
+        }
+        Err(io::Error::from(ErrorKind::TimedOut))
+    }
+
+    fn flush(&mut self) -> io::Result<()> {
+        Ok(())
+    }
+}
+
+/// What listens at a path, and what it answers, no clause can say.
+impl DeviceConnection for UnixConnection {
+    ghost connected = { λ path link. Unit {0} };
+
+    ghost unconnected = { λ path. Unit {0} };
+
+    ghost finished = { λ link after. Unit {0} };
+
+    ghost gave = { λ path message answer. Unit {0} };
+
+    /// Where the socket has no room for one more connection, it is tried again, as long as there is time.
+    fn connect(rt: &HostRuntime, path: &str) -> io::Result<UnixConnection>
+        ensures ok { Unit {0} }
+        ensures err { Unit {0} }
+    {
+        let began = Instant::now(rt)?;
+        for _ in 0..u64::MAX {
+            let left = left_now(rt, began)?;
+            match UnwaitingStream::connect(rt, path) {
+                Ok(stream) => return waiting_connection(rt, UnixStream::from(stream), began),
+                Err(error) if error.kind() == ErrorKind::WouldBlock => {
+                    thread::sleep(rt, left.min(Duration::from_millis(PAUSE_MILLIS)));
+                }
+                Err(error) => return Err(error),
+            }
+        }
+        Err(io::Error::from(ErrorKind::TimedOut))
+    }
+
+    fn finish(&mut self) -> io::Result<()>
+        ensures { Unit {0} }
+    {
+        self.stream.shutdown(Shutdown::Write)
+    }
+}
+
+/// The connection over a stream, whose reads and writes are made to wait.
+fn waiting_connection(
+    rt: &HostRuntime,
+    stream: UnixStream,
+    began: Instant,
+) -> io::Result<UnixConnection> {
+    stream.set_nonblocking(false)?;
+    Ok(UnixConnection {
+        rt: *rt,
+        stream,
+        began,
+    })
+}
+
+/// How much is left by the clock of the time of an exchange that began at an instant.
+///
+/// # Errors
+/// `TimedOut` where nothing is.
+fn left_now(rt: &HostRuntime, began: Instant) -> io::Result<Duration> {
+    match time_left(began, Instant::now(rt)?) {
+        Some(left) => Ok(left),
+        None => Err(io::Error::from(ErrorKind::TimedOut)),
+    }
+}
+
+/// How much is left of the time of an exchange that began at an instant. `None` where nothing is.
+fn time_left(began: Instant, now: Instant) -> Option<Duration>
+    ensures { MatchOption result (10000000000 ≤ instant_nanos now - instant_nanos began)
+        (λ left. (as_nanos left + (instant_nanos now - instant_nanos began) ≡ 10000000000)
+        × (0 < as_nanos left)) }
+{
+    let left = Duration::from_secs(PATIENCE).checked_sub(now.duration_since(began))?;
+    if left.is_zero() { None } else { Some(left) }
+}

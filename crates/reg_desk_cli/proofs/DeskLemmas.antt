@@ -1,0 +1,99 @@
+-- What clap says of the command line as a whole.
+use Rattle.std.proofs.Common.{◌≡◌, ◌⊎◌, true, List, [], Option, Some, None, Bor, refl, sym, ap, ◌∙◌, subst, inl, inr}
+use Rattle.std.specs.Prelude.{option_map}
+use Rattle.clap.specs.Words.{App, HasKind, HasMatchesOf, IsAmong, Row, Text, fault_of, is_simple, is_simple_and_free, matches_of, subcommand_of}
+use Rattle.clap.specs.declared.error.Error.{Error}
+use Rattle.clap.specs.declared.error.kind.ErrorKind.{ErrorKind}
+use Rattle.clap.specs.declared.error.kind.ErrorKind.TheVariants.{OutOfMemory, ValueValidation}
+use Rattle.clap.proofs.OnLiterals.{clap_on_literals}
+use Rattle.std.specs.Box.{box_value}
+use Rattle.clap.specs.Words.{found_of, rows_of, subcommand_name_of, subcommand_rows_of}
+use Rattle.clap.specs.declared.parser.matches.ArgMatches.{ArgMatches}
+use Rattle.clap.specs.declared.parser.matches.ArgMatches.TheViews.{out-ArgMatches, out-SubCommand}
+use Rattle.reg_desk_cli.specs.Desk.{desk_app}
+use Rattle.reg_desk_cli.specs.Jobs.{ClapAccepts, IsNoInvocation, IsInvocationIn, IsInvocationOf, IsUsageOf, TellsUsage, job_found}
+use Rattle.reg_desk_cli.specs.declared.job.Invocation.{Invocation}
+use Rattle.reg_desk_cli.specs.declared.job.Usage.{Usage}
+use Rattle.reg_desk_cli.specs.declared.job.Usage.TheVariants.{Help, Version, Bad, Memory}
+
+-- clap's clauses are exact for this command line
+pub simple : is_simple desk_app ≡ true
+unfolding clap_on_literals
+simple = refl
+
+pub simple_and_free : is_simple_and_free desk_app ≡ true
+unfolding clap_on_literals
+simple_and_free = refl
+
+-- what is answered for an error of clap
+pub tells_usage : (words : List Text) (kind : ErrorKind) (usage : Usage) → TellsUsage kind usage
+    → (kind ≡ OutOfMemory) ⊎ IsAmong kind (fault_of desk_app words) → IsUsageOf words usage
+tells_usage words kind (Help text) help (inl none) = cc (sym help ∙ none)
+tells_usage words kind (Help text) help (inr among) = subst (λ k. IsAmong k (fault_of desk_app words)) help among
+tells_usage words kind (Version text) version (inl none) = cc (sym version ∙ none)
+tells_usage words kind (Version text) version (inr among) = subst (λ k. IsAmong k (fault_of desk_app words)) version among
+tells_usage words kind (Bad text) other (inl none) = absurd (other.2 none)
+tells_usage words kind (Bad text) other (inr among) = inl (kind, other.0, other.1, among)
+tells_usage words kind Memory none how = tt
+
+-- a name and rows, told apart, are those of the subcommand
+both_told : {X : Type 0} (name : X → Text) (rows : X → List Row) (found : Option X) (told : Option (Text × List Row))
+    → option_map name found ≡ option_map (λ p. p.0) told → option_map rows found ≡ option_map (λ p. p.1) told
+    → option_map (λ x. (name x, rows x)) found ≡ told
+both_told name rows None None named rowed = refl
+both_told name rows None (Some p) named rowed = cc named
+both_told name rows (Some x) None named rowed = cc named
+both_told name rows (Some x) (Some p) named rowed =
+    let is_name : name x ≡ p.0 = cc in
+    let is_rows : rows x ≡ p.1 = cc in
+    λ i. Some (is_name i, is_rows i)
+
+fused : {X A B : Type 0} (f : X → A) (g : X → B) (o : Option X) → option_map f o ≡ option_map (λ (p : A × B). p.0) (option_map (λ x. (f x, g x)) o)
+fused f g None = refl
+fused f g (Some x) = refl
+
+-- the name of the subcommand is that of its rows
+by_name : (m : ArgMatches) → subcommand_name_of m ≡ option_map (λ p. p.0) (subcommand_rows_of m)
+by_name m =
+    fused (λ b. (out-SubCommand (box_value b)).name.now) (λ b. rows_of (found_of (out-SubCommand (box_value b)).matches)) (out-ArgMatches m).subcommand
+
+-- the name and the rows of what `subcommand` answers are those behind the command
+pub behind : (found : Option (Bor Text × Bor ArgMatches)) (m : ArgMatches) → option_map (λ (p : Bor Text × Bor ArgMatches). p.0.now) found ≡ subcommand_name_of m
+    → option_map (λ (p : Bor Text × Bor ArgMatches). rows_of (found_of p.1.now)) found ≡ option_map (λ (p : Text × List Row). p.1) (subcommand_rows_of m)
+    → option_map (λ (p : Bor Text × Bor ArgMatches). (p.0.now, rows_of (found_of p.1.now))) found ≡ subcommand_rows_of m
+behind found m name rows =
+    both_told (λ (p : Bor Text × Bor ArgMatches). p.0.now) (λ (p : Bor Text × Bor ArgMatches). rows_of (found_of p.1.now))
+    found (subcommand_rows_of m) (name ∙ by_name m) rows
+
+-- what clap's clauses say of a command line that is the program's
+pub accepted : (app : App) (words : List Text) → app ≡ desk_app → (is_simple_and_free app ≡ true → fault_of app words ≡ []) → ClapAccepts words
+accepted app words is clean = subst (λ a. fault_of a words ≡ []) is (clean (ap is_simple_and_free is ∙ simple_and_free))
+
+pub refused : (app : App) (words : List Text) (error : Error) → app ≡ desk_app → (is_simple_and_free app ≡ true → HasKind (fault_of app words) error)
+    → HasKind (fault_of desk_app words) error
+refused app words error is fails = subst (λ a. HasKind (fault_of a words) error) is (fails (ap is_simple_and_free is ∙ simple_and_free))
+
+-- what it found before the command and behind it
+rows_before : (app : App) (words : List Text) (m : ArgMatches) → app ≡ desk_app → HasMatchesOf app words m
+    → rows_of (found_of m) ≡ matches_of desk_app words
+rows_before app words m is has = (has (ap is_simple is ∙ simple)).0 ∙ ap (λ a. matches_of a words) is
+
+rows_behind : (app : App) (words : List Text) (m : ArgMatches) → app ≡ desk_app → HasMatchesOf app words m
+    → subcommand_rows_of m ≡ subcommand_of desk_app words
+rows_behind app words m is has = (has (ap is_simple is ∙ simple)).1 ∙ ap (λ a. subcommand_of a words) is
+
+-- so what was read of it is what the words say
+pub invocations : (app : App) (words : List Text) (m : ArgMatches) (invocation : Invocation) → app ≡ desk_app → (is_simple_and_free app ≡ true → fault_of app words ≡ [])
+    → HasMatchesOf app words m → IsInvocationIn (rows_of (found_of m)) (subcommand_rows_of m) invocation → IsInvocationOf words invocation
+invocations app words m invocation is clean has read =
+    let whole : IsInvocationIn (matches_of desk_app words) (subcommand_of desk_app words) invocation =
+    subst (λ before. IsInvocationIn before (subcommand_of desk_app words) invocation) (rows_before app words m is has)
+    (subst (λ found. IsInvocationIn (rows_of (found_of m)) found invocation) (rows_behind app words m is has) read) in
+    ((accepted app words is clean, whole.0), whole.1, whole.2, whole.3)
+
+pub no_invocation : (app : App) (words : List Text) (m : ArgMatches) (usage : Usage) → app ≡ desk_app → (is_simple_and_free app ≡ true → fault_of app words ≡ [])
+    → HasMatchesOf app words m → IsNoInvocation (subcommand_rows_of m) usage → IsUsageOf words usage
+no_invocation app words m (Help text) is clean has never = absurd never
+no_invocation app words m (Version text) is clean has never = absurd never
+no_invocation app words m (Bad text) is clean has none = inr (accepted app words is clean, sym (ap job_found (rows_behind app words m is has)) ∙ none)
+no_invocation app words m Memory is clean has free = tt

@@ -1,0 +1,4 @@
+pub mod DeskLemmas
+pub mod StepTexts
+pub mod TableLemmas
+pub mod PublicLaws

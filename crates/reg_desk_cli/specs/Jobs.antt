@@ -1,0 +1,303 @@
+-- What the words of a command line say.
+use Rattle.std.specs.Prelude.{◌≡◌, ◌≢◌, ◌⊎◌, ◌||◌, ℕ, Bool, true, false, List, [], codes, bytes_eq, if◌then◌else◌, Option, Some, None, option_map, option_and_then}
+use Rattle.std.specs.Option.{option_map_or}
+use Rattle.clap.specs.Words.{IsAmong, Row, Text, all_of, fault_of, first_of, matches_of, subcommand_of}
+use Rattle.clap.specs.declared.error.kind.ErrorKind.{ErrorKind}
+use Rattle.clap.specs.declared.error.kind.ErrorKind.TheVariants.{DisplayHelp, DisplayVersion, OutOfMemory}
+use Rattle.reg_core.specs.Calendar.{moment_of}
+use Rattle.reg_core.specs.Number.{number_of}
+use Rattle.reg_core.specs.Sequence.{◌>>=◌}
+use Rattle.reg_core_lists.specs.Cursors.{cursor_named}
+use Rattle.reg_core_lists.specs.declared.texts.Form.{Form}
+use Rattle.reg_core_lists.specs.declared.texts.Form.TheVariants.{Csv, Json}
+use Rattle.reg_desk_cli.specs.Desk.{desk_app}
+use Rattle.reg_desk_cli.specs.WordValues.{steps_of, within}
+use Rattle.reg_crl_signer.specs.Algorithms.{algorithm_named}
+use Rattle.reg_desk_cli.specs.declared.job.Answerer.{Answerer}
+use Rattle.reg_desk_cli.specs.declared.job.Answerer.TheVariants.{Issuer, Delegate}
+use Rattle.reg_desk_cli.specs.declared.job.Job.{Job}
+use Rattle.reg_desk_cli.specs.declared.job.Job.TheVariants.{Init, Script, Lines, Import, Crl, Serve, Open, At, Schedule, KeyId, Listing, Copy, Audit}
+use Rattle.reg_desk_cli.specs.declared.job.KeyHolder.{KeyHolder}
+use Rattle.reg_desk_cli.specs.declared.job.Invocation.{Invocation}
+use Rattle.reg_desk_cli.specs.declared.commands.Terms.{Terms}
+use Rattle.reg_desk_cli.specs.declared.job.Usage.{Usage}
+use Rattle.reg_desk_cli.specs.declared.job.Way.{Way}
+use Rattle.reg_desk_cli.specs.declared.job.Usage.TheVariants.{Help, Version, Bad, Memory}
+
+-- the number of an option, or the usual one where the option is left out
+abbrev pub given_or : ℕ → Text → List Row → Option ℕ
+given_or usual id rows = option_map_or number_of (first_of id rows) (Some usual)
+
+-- the number of an option, if it is given
+abbrev pub given : Text → List Row → Option (Option ℕ)
+given id rows = option_map_or (λ text. option_map (λ n. Some n) (number_of text)) (first_of id rows) (Some None)
+
+-- the number of an option, within bounds
+abbrev pub number_in : ℕ → ℕ → Text → List Row → Option ℕ
+number_in least most id rows = option_and_then (within least most) (option_and_then number_of (first_of id rows))
+
+-- what holds the key, by the words of both options or neither; one alone says nothing, and nor does another name of an algorithm
+abbrev pub holder_told : Option Text → Option Text → Option (Option KeyHolder)
+holder_told (Some socket) (Some name) =
+    option_map (λ algorithm. Some (record { socket = socket; algorithm = algorithm })) (algorithm_named name)
+holder_told (Some socket) None = None
+holder_told None (Some name) = None
+holder_told None None = Some None
+
+-- the same by the ids of the two options
+abbrev pub holder_by_options : Text → Text → List Row → Option (Option KeyHolder)
+holder_by_options socket algorithm rows = holder_told (first_of socket rows) (first_of algorithm rows)
+
+-- what holds the key, if it is told
+abbrev pub holder_in : List Row → Option (Option KeyHolder)
+holder_in rows = holder_by_options (codes "signer") (codes "algorithm") rows
+
+-- who answers OCSP requests, by the file of a responder's certificate, what holds its key, and the file of a certificate that stands
+-- with the issuer's own answers: a responder is told whole, or not at all, and then the issuer's certificate may be told
+abbrev pub answerer_told : Option Text → Option KeyHolder → Option Text → Option Answerer
+answerer_told (Some certificate) (Some holder) None = Some (Delegate certificate holder)
+answerer_told (Some certificate) (Some holder) (Some embedded) = None
+answerer_told (Some certificate) None embedded = None
+answerer_told None (Some holder) embedded = None
+answerer_told None None embedded = Some (Issuer embedded)
+
+-- who answers OCSP requests, by the words of these options
+unfoldable pub answerer_in : List Row → Option Answerer
+answerer_in rows = do
+  holder ← holder_by_options (codes "responder-signer") (codes "responder-algorithm") rows
+  answerer_told (first_of (codes "responder") rows) holder (first_of (codes "embed") rows)
+
+-- whether an option is given that takes no value
+abbrev pub is_given : Text → List Row → Bool
+is_given id rows = option_map_or (λ text. bytes_eq text (codes "true")) (first_of id rows) false
+
+-- whether who answers has a key of its own
+abbrev pub has_own_key : Answerer → Bool
+has_own_key (Issuer certificate) = false
+has_own_key (Delegate certificate holder) = true
+
+-- what holds the issuer's key where it is to be chosen: one that does, or the word that a digest alone seals; neither and both say nothing.
+-- Beside one who answers with a key of its own it is one that does, or neither.
+abbrev pub chosen : Option KeyHolder → Bool → Bool → Option (Option KeyHolder)
+chosen (Some holder) false own = Some (Some holder)
+chosen (Some holder) true own = None
+chosen None false false = None
+chosen None true false = Some None
+chosen None false true = Some None
+chosen None true true = None
+
+-- what holds the issuer's key, by `--signer` with `--algorithm`, or none by `--unsigned`, or by neither beside a responder
+abbrev pub holder_chosen : Answerer → List Row → Option (Option KeyHolder)
+holder_chosen answerer rows = option_and_then (λ signer. chosen signer (is_given (codes "unsigned") rows) (has_own_key answerer)) (holder_in rows)
+
+-- how the lines of a script are run
+abbrev pub way_in : List Row → Way
+way_in rows = record { is_clocked = is_given (codes "clock") rows; is_strict = is_given (codes "strict") rows }
+
+-- a script by its words; only one over a register at a path is run line by line
+abbrev pub script_by : Option Text → Option KeyHolder → Way → Option Job
+script_by None signer way = if way.is_clocked || way.is_strict then None else Some (Script None signer)
+script_by (Some file) signer way = if way.is_clocked || way.is_strict then Some (Lines (record { file = file; signer = signer; way = way })) else Some (Script (Some file) signer)
+
+-- what an issuer is to keep to; what is left out is as in the usual policy
+unfoldable pub terms_of : List Row → Option Terms
+terms_of rows = do
+  days ← given_or 398 (codes "days") rows
+  crl_life ← given_or 691200 (codes "crl-life") rows
+  ocsp_life ← given_or 345600 (codes "ocsp-life") rows
+  cap ← given_or 1000000 (codes "cap") rows
+  Some (record { days = days; crl_life = crl_life; ocsp_life = ocsp_life; cap = cap })
+
+-- each command by its words and options
+unfoldable pub init_of : List Row → Option Job
+init_of rows = do
+  file ← first_of (codes "file") rows
+  name ← first_of (codes "name") rows
+  key ← first_of (codes "key") rows
+  terms ← terms_of rows
+  Some (Init (record {
+    file = file;
+    name = name;
+    key = key;
+    key_id = first_of (codes "key-id") rows;
+    days = terms.days;
+    crl_life = terms.crl_life;
+    ocsp_life = terms.ocsp_life;
+    cap = terms.cap;
+  }))
+
+unfoldable pub script_of : List Row → Option Job
+script_of rows = do
+  signer ← holder_in rows
+  script_by (first_of (codes "file") rows) signer (way_in rows)
+
+unfoldable pub import_of : List Row → Option Job
+import_of rows = do
+  file ← first_of (codes "file") rows
+  moment ← option_and_then moment_of (first_of (codes "now") rows)
+  Some (Import (record { file = file; moment = moment; is_strict = is_given (codes "strict") rows }))
+
+unfoldable pub crl_job : List Row → Option Job
+crl_job rows = do
+  file ← first_of (codes "file") rows
+  number ← given (codes "number") rows
+  Some (Crl file number)
+
+unfoldable pub serve_of : List Row → Option Job
+serve_of rows = do
+  file ← first_of (codes "file") rows
+  port ← number_in 1 65535 (codes "port") rows
+  requests ← number_in 1 1000000 (codes "requests") rows
+  signer ← holder_in rows
+  answerer ← answerer_in rows
+  Some (Serve (record { file = file; port = port; requests = requests; signer = signer; answerer = answerer }))
+
+unfoldable pub open_of : List Row → Option Job
+open_of rows = do
+  file ← first_of (codes "file") rows
+  port ← number_in 1 65535 (codes "port") rows
+  counter ← first_of (codes "counter") rows
+  answerer ← answerer_in rows
+  signer ← holder_chosen answerer rows
+  Some (Open (record { file = file; port = port; counter = counter; signer = signer; answerer = answerer }))
+
+unfoldable pub at_of : List Row → Option Job
+at_of rows = do
+  counter ← first_of (codes "counter") rows
+  Some (At counter (first_of (codes "import") rows))
+
+unfoldable pub schedule_of : List Row → Option Job
+schedule_of rows = do
+  file ← first_of (codes "file") rows
+  steps ← option_and_then steps_of (all_of (codes "steps") rows)
+  Some (Schedule file steps)
+
+unfoldable pub key_id_of : List Row → Option Job
+key_id_of rows = do
+  file ← first_of (codes "file") rows
+  key_id ← first_of (codes "key-id") rows
+  Some (KeyId file key_id)
+
+-- a moment that is told, if one is
+abbrev pub moment_given : Text → List Row → Option (Option ℕ)
+moment_given id rows = option_map_or (λ text. option_map (λ moment. Some moment) (moment_of text)) (first_of id rows) (Some None)
+
+-- how a list is written
+abbrev pub form_in : List Row → Form
+form_in rows = if is_given (codes "json") rows then Json else Csv
+
+unfoldable pub list_of : List Row → Option Job
+list_of rows = do
+  file ← first_of (codes "file") rows
+  word ← first_of (codes "list") rows
+  before ← moment_given (codes "before") rows
+  from ← cursor_named word before
+  moment ← moment_given (codes "now") rows
+  Some (Listing (record { file = file; from = from; moment = moment; form = form_in rows }))
+
+unfoldable pub copy_of : List Row → Option Job
+copy_of rows = do
+  file ← first_of (codes "file") rows
+  path ← first_of (codes "path") rows
+  Some (Copy file path)
+
+unfoldable pub audit_of : List Row → Option Job
+audit_of rows = do
+  file ← first_of (codes "file") rows
+  Some (Audit file)
+
+-- the job of a command, by its name and what was found for its words and options
+unfoldable pub keeping_job_in : Text → List Row → Option Job
+keeping_job_in name rows =
+    if bytes_eq name (codes "schedule") then schedule_of rows
+    else if bytes_eq name (codes "key-id") then key_id_of rows
+    else if bytes_eq name (codes "list") then list_of rows
+    else if bytes_eq name (codes "copy") then copy_of rows
+    else if bytes_eq name (codes "audit") then audit_of rows
+    else None
+
+unfoldable pub serving_job_in : Text → List Row → Option Job
+serving_job_in name rows =
+    if bytes_eq name (codes "serve") then serve_of rows
+    else if bytes_eq name (codes "open") then open_of rows
+    else if bytes_eq name (codes "at") then at_of rows
+    else keeping_job_in name rows
+
+unfoldable pub job_in : Text → List Row → Option Job
+job_in name rows =
+    if bytes_eq name (codes "init") then init_of rows
+    else if bytes_eq name (codes "script") then script_of rows
+    else if bytes_eq name (codes "import") then import_of rows
+    else if bytes_eq name (codes "crl") then crl_job rows
+    else serving_job_in name rows
+
+-- the job of the command that was named, by its name and rows
+abbrev pub job_found : Option (Text × List Row) → Option Job
+job_found found = option_and_then (λ found. job_in found.0 found.1) found
+
+-- whether an option that takes no value is given behind the command
+abbrev pub is_given_behind : Text → Option (Text × List Row) → Bool
+is_given_behind id found = option_map_or (λ found. is_given id found.1) found false
+
+-- the word of an option that is given behind the command
+abbrev pub told_behind : Text → Option (Text × List Row) → Option Text
+told_behind id found = option_and_then (λ found. first_of id found.1) found
+
+-- the job that words say which clap accepts
+abbrev pub job_of : List Text → Option Job
+job_of words = job_found (subcommand_of desk_app words)
+
+-- whether words ask for the cause of a fault, by `--why` before the command or behind it
+abbrev pub asks_cause : List Text → Bool
+asks_cause words = is_given (codes "why") (matches_of desk_app words) || is_given_behind (codes "why") (subcommand_of desk_app words)
+
+-- whether words ask for a log, by `--log` behind the command
+abbrev pub asks_log : List Text → Bool
+asks_log words = is_given_behind (codes "log") (subcommand_of desk_app words)
+
+-- the file of a log that words tell, by `--log-file` behind the command
+abbrev pub log_file_of : List Text → Option Text
+log_file_of words = told_behind (codes "log-file") (subcommand_of desk_app words)
+
+-- clap accepts the words
+abbrev pub ClapAccepts : List Text → Type 0
+ClapAccepts words = fault_of desk_app words ≡ []
+
+-- clap accepts the words, and they say the job
+abbrev pub IsJobOf : List Text → Job → Type 0
+IsJobOf words job = ClapAccepts words × (job_of words ≡ Some job)
+
+-- clap accepts the words, and they say the job and what is told beside it
+abbrev pub IsInvocationOf : List Text → Invocation → Type 0
+IsInvocationOf words invocation = IsJobOf words invocation.job × (invocation.is_explained ≡ asks_cause words) × (invocation.has_log ≡ asks_log words)
+    × (invocation.log_file ≡ log_file_of words)
+
+-- the same, of what was found before the command and behind it
+abbrev pub IsInvocationIn : List Row → Option (Text × List Row) → Invocation → Type 0
+IsInvocationIn before found invocation = (job_found found ≡ Some invocation.job)
+    × (invocation.is_explained ≡ (is_given (codes "why") before || is_given_behind (codes "why") found)) × (invocation.has_log ≡ is_given_behind (codes "log") found)
+    × (invocation.log_file ≡ told_behind (codes "log-file") found)
+
+-- what is answered for an error of a kind: help for help, the version for the version, and bad words for the rest, unless memory runs out
+abbrev pub TellsUsage : ErrorKind → Usage → Type 0
+TellsUsage kind (Help text) = kind ≡ DisplayHelp
+TellsUsage kind (Version text) = kind ≡ DisplayVersion
+TellsUsage kind (Bad text) = (kind ≢ DisplayHelp) × (kind ≢ DisplayVersion) × (kind ≢ OutOfMemory)
+TellsUsage kind Memory = Unit {0}
+
+-- help or the version, where clap answers it; bad words, where clap finds another fault or a value is out of its form or range;
+-- memory may run out at any words
+abbrev pub IsUsageOf : List Text → Usage → Type 0
+IsUsageOf words (Help text) = IsAmong DisplayHelp (fault_of desk_app words)
+IsUsageOf words (Version text) = IsAmong DisplayVersion (fault_of desk_app words)
+IsUsageOf words (Bad text) =
+    ((kind : ErrorKind) × (kind ≢ DisplayHelp) × (kind ≢ DisplayVersion) × IsAmong kind (fault_of desk_app words))
+    ⊎ (ClapAccepts words × (job_of words ≡ None))
+IsUsageOf words Memory = Unit {0}
+
+-- what is answered where clap takes the words and they say no invocation
+abbrev pub IsNoInvocation : Option (Text × List Row) → Usage → Type 0
+IsNoInvocation found (Help text) = ⊥
+IsNoInvocation found (Version text) = ⊥
+IsNoInvocation found (Bad text) = job_found found ≡ None
+IsNoInvocation found Memory = Unit {0}

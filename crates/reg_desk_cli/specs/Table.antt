@@ -1,0 +1,32 @@
+-- What the rows of the table say, in clap's own terms.
+use Rattle.std.specs.Prelude.{◌≡◌, false, List, [], ◌∷◌, map}
+use Rattle.clap.specs.Words.{App, Rule, app_of, new_app, with_subcommand}
+use Rattle.clap.specs.declared.builder.command.Command.{Command}
+use Rattle.clap.specs.declared.builder.command.Command.TheViews.{out-Command as fields_of}
+use Rattle.reg_desk_cli.specs.Desk.{must, may, needs, takes_value, flag, some, with_rules}
+use Rattle.reg_desk_cli.specs.declared.table.CommandEntry.{CommandEntry}
+use Rattle.reg_desk_cli.specs.declared.table.Part.{Part}
+use Rattle.reg_desk_cli.specs.declared.table.Part.TheVariants.{Must, May, Rest, Needs, Takes, Flag}
+
+-- a word or an option
+abbrev pub rule_told : Part → Rule
+rule_told (Must id name help) = must id.now
+rule_told (May id name help) = may id.now
+rule_told (Rest id name help) = some id.now
+rule_told (Needs id name help) = needs id.now
+rule_told (Takes id name help) = takes_value id.now
+rule_told (Flag id help) = flag id.now
+
+-- a command
+abbrev pub app_told : CommandEntry → App
+app_told entry = with_rules (new_app entry.name.now) (map rule_told entry.parts.now)
+
+-- the command line with commands that were made, each behind those before it
+abbrev pub with_made : App → List Command → App
+with_made app [] = app
+with_made app (command ∷ rest) = with_made (with_subcommand app (app_of command).top) rest
+
+-- no command has an option that those below it have too
+abbrev pub AreLocal : List Command → Type 0
+AreLocal [] = Unit {0}
+AreLocal (command ∷ rest) = ((fields_of command).has_globals ≡ false) × AreLocal rest

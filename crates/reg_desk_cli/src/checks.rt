@@ -1,0 +1,127 @@
+//! What is checked before a register is opened.
+
+ghost use Rattle.std.specs.Prelude.{◌≡◌, ◌⊎◌, IfErr, IfOk, IsErr, Ok};
+ghost use Rattle.reg_core.specs.Schedule.{IsSchedule};
+ghost use Rattle.reg_desk_cli.specs.Checks.{WritesIssuer, WritesIdentifier, WritesIdentified, IsNoIssuer, IsNoIdentifier, IsNotIdentified, IsNoPolicy, IsNoOffice, IsNoSchedule, terms_of_days};
+ghost use Rattle.reg_core.specs.Policy.{IsPolicy};
+ghost use Rattle.hex.specs.Hex.{decode_of};
+
+use crate::failure::Failure;
+use crate::{Steps, Word};
+use hex::FromHexError;
+use reg_core::{Fault, Label, Memory, Policy, Schedule};
+use reg_der::{Issuer, IssuerFault};
+use std::alloc::Global;
+
+/// The number of a register's first CRL.
+const FIRST_CRL: u64 = 1;
+
+/// The issuer whose Name and key the two words write in hexadecimal. `BadIssuer` where a word is no hexadecimal
+/// text, or the Name or the key is not what an issuer has (RFC 5280 4.1.2.4, 4.1.2.7); else only want of memory.
+pub fn issuer_of(alloc: Global, name: &Word<'_>, key: &Word<'_>) -> Result<Issuer, Failure>
+    ensures ok { IfOk result (WritesIssuer name.now key.now) }
+    ensures err { IfErr result (IsNoIssuer name.now key.now) }
+{
+    let name = bytes_of(alloc, name)?;
+    let key = bytes_of(alloc, key)?;
+    match Issuer::new(alloc, &name, &key) {
+        Ok(issuer) => Ok(issuer),
+        Err(IssuerFault::BadName) => Err(Failure::BadIssuer),
+        Err(IssuerFault::BadKey) => Err(Failure::BadIssuer),
+        Err(IssuerFault::Memory) => Err(Failure::Fault(Fault::Memory)),
+    }
+}
+
+/// The key identifier that the word writes in hexadecimal. `BadIssuer` where it is no hexadecimal text of 1 to 64 bytes; else
+/// only want of memory.
+pub fn key_identifier_of(alloc: Global, key_id: &Word<'_>) -> Result<Label, Failure>
+    ensures ok { IfOk result (WritesIdentifier key_id.now) }
+    ensures err { IfErr result (IsNoIdentifier key_id.now) }
+{
+    let octets = bytes_of(alloc, key_id)?;
+    match Label::of(&octets) {
+        Some(octets) => Ok(octets),
+        None => Err(Failure::BadIssuer),
+    }
+}
+
+/// The issuer whose Name and key the two words write, with the key identifier that a third one writes, where there is one,
+/// in each of its CRLs. `BadIssuer` as for the Name and the key, and then for the key identifier.
+pub fn identified_issuer_of(
+    alloc: Global,
+    name: &Word<'_>,
+    key: &Word<'_>,
+    key_id: &Option<Word<'_>>,
+) -> Result<Issuer, Failure>
+    ensures ok { IfOk result (WritesIdentified name.now key.now key_id.now) }
+    ensures err { IfErr result (IsNotIdentified name.now key.now key_id.now) }
+{
+    let issuer = issuer_of(alloc, name, key)?;
+    match key_id {
+        None => Ok(issuer),
+        Some(key_id) => {
+            let octets = key_identifier_of(alloc, key_id)?;
+            match issuer.with_key_identifier(alloc, FIRST_CRL, octets) {
+                Ok(issuer) => Ok(issuer),
+                Err(Memory) => Err(Failure::Fault(Fault::Memory)),
+            }
+        }
+    }
+}
+
+/// The bytes that a word writes in hexadecimal.
+fn bytes_of(alloc: Global, word: &Word<'_>) -> Result<Vec<u8>, Failure>
+    ensures ok { IfOk result (λ bytes. decode_of word.now ≡ Ok bytes.items) }
+    ensures err { IfErr result (λ failure. (failure ≡ Failure.Fault Fault.Memory)
+        ⊎ ((failure ≡ Failure.BadIssuer) × IsErr (decode_of word.now))) }
+{
+    match hex::decode(alloc, word.as_str().as_bytes()) {
+        Ok(bytes) => Ok(bytes),
+        Err(FromHexError::OutOfMemory) => Err(Failure::Fault(Fault::Memory)),
+        Err(_) => Err(Failure::BadIssuer),
+    }
+}
+
+/// The policy of one longest validity in days, of the lives of CRLs and OCSP answers in seconds, and of the most rows
+/// of a table; `BadPolicy` where it is none.
+pub fn policy_of(days: u64, crl_life: u64, ocsp_life: u64, cap: u64) -> Result<Policy, Failure>
+    ensures ok { IfOk result (λ policy. (policy ≡ terms_of_days days crl_life ocsp_life cap) × IsPolicy policy) }
+    ensures err { IfErr result (IsNoPolicy (terms_of_days days crl_life ocsp_life cap)) }
+{
+    match Policy::new(days, crl_life, ocsp_life, cap) {
+        Some(policy) => Ok(policy),
+        None => Err(Failure::BadPolicy),
+    }
+}
+
+/// The issuer and the policy of a new register. The issuer is looked at first: `BadPolicy` comes only where the words
+/// write an issuer.
+pub fn office_of(
+    alloc: Global,
+    name: &Word<'_>,
+    key: &Word<'_>,
+    key_id: &Option<Word<'_>>,
+    days: u64,
+    crl_life: u64,
+    ocsp_life: u64,
+    cap: u64,
+) -> Result<(Issuer, Policy), Failure>
+    ensures ok { IfOk result (λ made. WritesIdentified name.now key.now key_id.now made.0
+        × (made.1 ≡ terms_of_days days crl_life ocsp_life cap) × IsPolicy made.1) }
+    ensures err { IfErr result (IsNoOffice name.now key.now key_id.now (terms_of_days days crl_life ocsp_life cap)) }
+{
+    let issuer = identified_issuer_of(alloc, name, key, key_id)?;
+    let policy = policy_of(days, crl_life, ocsp_life, cap)?;
+    Ok((issuer, policy))
+}
+
+/// The schedule of these steps; `BadPolicy` where they are none.
+pub fn schedule_of(steps: &Steps) -> Result<Schedule, Failure>
+    ensures ok { IfOk result (λ schedule. (schedule ≡ steps.now) × IsSchedule schedule) }
+    ensures err { IfErr result (IsNoSchedule steps.now) }
+{
+    match Schedule::new(steps.as_slice()) {
+        Some(schedule) => Ok(schedule),
+        None => Err(Failure::BadPolicy),
+    }
+}

@@ -1,0 +1,300 @@
+//! The job of each command, by its words and options.
+
+ghost use Rattle.std.specs.Prelude.{◌≡◌, codes, IfOk};
+ghost use Rattle.clap.specs.Words.{found_of, rows_of};
+ghost use Rattle.reg_desk_cli.specs.Jobs.{job_in, serving_job_in, keeping_job_in, init_of, terms_of, script_by, script_of, import_of, crl_job, number_in, serve_of, open_of, at_of, schedule_of, key_id_of, form_in, list_of, copy_of, audit_of};
+
+use crate::given_values::{
+    answerer, chosen_holder, is_set, key_holder, moment, moment_if_given, number_if_given,
+    number_or, number_within, steps, text_of, way_of, word_of,
+};
+use crate::job::{
+    Job, KeptOpen, KeyHolder, LinedScript, ListToWrite, NewRegister, RowsToImport, Serving, Way,
+};
+use crate::word::Word;
+use crate::wrong::{LAST_PORT, MOST_REQUESTS};
+use clap::ArgMatches;
+use reg_core_lists::{Cursor, Form};
+use std::alloc::{AllocError, Global};
+
+/// What a new register is to keep to.
+#[derive(Clone, Copy)]
+struct Terms {
+    days: u64,
+    crl_life: u64,
+    ocsp_life: u64,
+    cap: u64,
+}
+
+/// The most days of validity of the usual policy.
+const USUAL_DAYS: u64 = 398;
+
+/// The seconds from thisUpdate to nextUpdate of a CRL by the usual policy: eight days.
+const USUAL_CRL_LIFE: u64 = 691_200;
+
+/// The seconds from thisUpdate to nextUpdate of an OCSP answer by the usual policy: four days.
+const USUAL_OCSP_LIFE: u64 = 345_600;
+
+/// The most rows of a table of the usual policy.
+const USUAL_CAP: u64 = 1_000_000;
+
+/// The job of a command by its name.
+#[tactic(auto, unfolding(crate::specs::Jobs::job_in))]
+pub(crate) fn read_command<'a>(
+    alloc: Global,
+    name: &str,
+    given: &ArgMatches<'a>,
+) -> Result<Option<Job<'a>>, AllocError>
+    ensures { IfOk result (λ job. job ≡ job_in name.now (rows_of (found_of given.now))) }
+{
+    if name == "init" {
+        Ok(read_init(given))
+    } else if name == "script" {
+        Ok(read_script(given))
+    } else if name == "import" {
+        Ok(read_import(given))
+    } else if name == "crl" {
+        Ok(read_crl(given))
+    } else {
+        read_serving(alloc, name, given)
+    }
+}
+
+/// The same of a command that serves, or one behind those.
+#[tactic(auto, unfolding(crate::specs::Jobs::serving_job_in))]
+fn read_serving<'a>(
+    alloc: Global,
+    name: &str,
+    given: &ArgMatches<'a>,
+) -> Result<Option<Job<'a>>, AllocError>
+    ensures { IfOk result (λ job. job ≡ serving_job_in name.now (rows_of (found_of given.now))) }
+{
+    if name == "serve" {
+        Ok(read_serve(given))
+    } else if name == "open" {
+        Ok(read_open(given))
+    } else if name == "at" {
+        Ok(read_at(given))
+    } else {
+        read_keeping(alloc, name, given)
+    }
+}
+
+/// The same of a command that looks after a register.
+#[tactic(auto, unfolding(crate::specs::Jobs::keeping_job_in))]
+fn read_keeping<'a>(
+    alloc: Global,
+    name: &str,
+    given: &ArgMatches<'a>,
+) -> Result<Option<Job<'a>>, AllocError>
+    ensures { IfOk result (λ job. job ≡ keeping_job_in name.now (rows_of (found_of given.now))) }
+{
+    if name == "schedule" {
+        read_schedule(alloc, given)
+    } else if name == "key-id" {
+        Ok(read_key_id(given))
+    } else if name == "list" {
+        Ok(read_list(given))
+    } else if name == "copy" {
+        Ok(read_copy(given))
+    } else if name == "audit" {
+        Ok(read_audit(given))
+    } else {
+        Ok(None)
+    }
+}
+
+#[tactic(auto, unfolding(crate::specs::Jobs::init_of))]
+fn read_init<'a>(given: &ArgMatches<'a>) -> Option<Job<'a>>
+    ensures { result ≡ init_of (rows_of (found_of given.now)) }
+{
+    let file = word_of(given, "file")?;
+    let name = word_of(given, "name")?;
+    let key = word_of(given, "key")?;
+    let terms = read_terms(given)?;
+    Some(Job::Init(NewRegister {
+        file,
+        name,
+        key,
+        key_id: word_of(given, "key-id"),
+        days: terms.days,
+        crl_life: terms.crl_life,
+        ocsp_life: terms.ocsp_life,
+        cap: terms.cap,
+    }))
+}
+
+#[tactic(auto, unfolding(crate::specs::Jobs::terms_of))]
+fn read_terms(given: &ArgMatches<'_>) -> Option<Terms>
+    ensures { result ≡ terms_of (rows_of (found_of given.now)) }
+{
+    Some(Terms {
+        days: number_or(given, "days", USUAL_DAYS)?,
+        crl_life: number_or(given, "crl-life", USUAL_CRL_LIFE)?,
+        ocsp_life: number_or(given, "ocsp-life", USUAL_OCSP_LIFE)?,
+        cap: number_or(given, "cap", USUAL_CAP)?,
+    })
+}
+
+#[tactic(auto, unfolding(crate::specs::Jobs::script_of))]
+fn read_script<'a>(given: &ArgMatches<'a>) -> Option<Job<'a>>
+    ensures { result ≡ script_of (rows_of (found_of given.now)) }
+{
+    let signer = key_holder(given)?;
+    script_job(word_of(given, "file"), signer, way_of(given))
+}
+
+/// A script by its words; only one over FILE is run line by line.
+fn script_job<'a>(
+    file: Option<Word<'a>>,
+    signer: Option<KeyHolder<'a>>,
+    way: Way,
+) -> Option<Job<'a>>
+    ensures { result ≡ script_by file.entry signer.entry way }
+{
+    let by_lines = way.is_clocked || way.is_strict;
+    match file {
+        Some(file) if by_lines => Some(Job::Lines(LinedScript { file, signer, way })),
+        None if by_lines => None,
+        file => Some(Job::Script { file, signer }),
+    }
+}
+
+#[tactic(auto, unfolding(crate::specs::Jobs::import_of))]
+fn read_import<'a>(given: &ArgMatches<'a>) -> Option<Job<'a>>
+    ensures { result ≡ import_of (rows_of (found_of given.now)) }
+{
+    Some(Job::Import(RowsToImport {
+        file: word_of(given, "file")?,
+        moment: moment(given, "now")?,
+        is_strict: is_set(given, "strict"),
+    }))
+}
+
+#[tactic(auto, unfolding(crate::specs::Jobs::crl_job))]
+fn read_crl<'a>(given: &ArgMatches<'a>) -> Option<Job<'a>>
+    ensures { result ≡ crl_job (rows_of (found_of given.now)) }
+{
+    Some(Job::Crl {
+        file: word_of(given, "file")?,
+        number: number_if_given(given, "number")?,
+    })
+}
+
+/// The TCP port that is given.
+fn port_of(given: &ArgMatches<'_>) -> Option<u16>
+    ensures { result ≡ number_in 1 65535 (codes "port") (rows_of (found_of given.now)) }
+{
+    Some(number_within(given, "port", 1, LAST_PORT)? as u16)
+}
+
+#[tactic(auto, unfolding(crate::specs::Jobs::serve_of))]
+fn read_serve<'a>(given: &ArgMatches<'a>) -> Option<Job<'a>>
+    ensures { result ≡ serve_of (rows_of (found_of given.now)) }
+{
+    Some(Job::Serve(Serving {
+        file: word_of(given, "file")?,
+        port: port_of(given)?,
+        requests: number_within(given, "requests", 1, MOST_REQUESTS)? as u32,
+        signer: key_holder(given)?,
+        answerer: answerer(given)?,
+    }))
+}
+
+#[tactic(auto, unfolding(crate::specs::Jobs::open_of))]
+fn read_open<'a>(given: &ArgMatches<'a>) -> Option<Job<'a>>
+    ensures { result ≡ open_of (rows_of (found_of given.now)) }
+{
+    let file = word_of(given, "file")?;
+    let port = port_of(given)?;
+    let counter = word_of(given, "counter")?;
+    let answering = answerer(given)?;
+    let signer = chosen_holder(given, &answering)?;
+    Some(Job::Open(KeptOpen {
+        file,
+        port,
+        counter,
+        signer,
+        answerer: answering,
+    }))
+}
+
+#[tactic(auto, unfolding(crate::specs::Jobs::at_of))]
+fn read_at<'a>(given: &ArgMatches<'a>) -> Option<Job<'a>>
+    ensures { result ≡ at_of (rows_of (found_of given.now)) }
+{
+    Some(Job::At {
+        counter: word_of(given, "counter")?,
+        rows: word_of(given, "import"),
+    })
+}
+
+#[tactic(auto, unfolding(crate::specs::Jobs::schedule_of))]
+fn read_schedule<'a>(alloc: Global, given: &ArgMatches<'a>) -> Result<Option<Job<'a>>, AllocError>
+    ensures { IfOk result (λ job. job ≡ schedule_of (rows_of (found_of given.now))) }
+{
+    let Some(file) = word_of(given, "file") else {
+        return Ok(None);
+    };
+    match steps(alloc, given, "steps")? {
+        Some(steps) => Ok(Some(Job::Schedule { file, steps })),
+        None => Ok(None),
+    }
+}
+
+#[tactic(auto, unfolding(crate::specs::Jobs::key_id_of))]
+fn read_key_id<'a>(given: &ArgMatches<'a>) -> Option<Job<'a>>
+    ensures { result ≡ key_id_of (rows_of (found_of given.now)) }
+{
+    Some(Job::KeyId {
+        file: word_of(given, "file")?,
+        key_id: word_of(given, "key-id")?,
+    })
+}
+
+#[tactic(auto, unfolding(crate::specs::Jobs::list_of))]
+fn read_list<'a>(given: &ArgMatches<'a>) -> Option<Job<'a>>
+    ensures { result ≡ list_of (rows_of (found_of given.now)) }
+{
+    let file = word_of(given, "file")?;
+    let word = text_of(given, "list")?;
+    let before = moment_if_given(given, "before")?;
+    let from = Cursor::named(word.as_bytes(), before)?;
+    let moment = moment_if_given(given, "now")?;
+    Some(Job::Listing(ListToWrite {
+        file,
+        from,
+        moment,
+        form: form_of(given),
+    }))
+}
+
+/// How a list is written.
+fn form_of(given: &ArgMatches<'_>) -> Form
+    ensures { result ≡ form_in (rows_of (found_of given.now)) }
+{
+    if is_set(given, "json") {
+        Form::Json
+    } else {
+        Form::Csv
+    }
+}
+
+#[tactic(auto, unfolding(crate::specs::Jobs::copy_of))]
+fn read_copy<'a>(given: &ArgMatches<'a>) -> Option<Job<'a>>
+    ensures { result ≡ copy_of (rows_of (found_of given.now)) }
+{
+    Some(Job::Copy {
+        file: word_of(given, "file")?,
+        path: word_of(given, "path")?,
+    })
+}
+
+#[tactic(auto, unfolding(crate::specs::Jobs::audit_of))]
+fn read_audit<'a>(given: &ArgMatches<'a>) -> Option<Job<'a>>
+    ensures { result ≡ audit_of (rows_of (found_of given.now)) }
+{
+    Some(Job::Audit {
+        file: word_of(given, "file")?,
+    })
+}

@@ -1,0 +1,124 @@
+//! How a job ends that is not done.
+
+ghost use Rattle.std.specs.Prelude.{◌≡◌, ◌≤◌, length};
+ghost use Rattle.reg_desk_cli.specs.Endings.{failure_line, exit_status};
+
+use reg_core::{Fault, Label};
+use reg_store_tables::{DatabaseFault, StoreFault};
+
+/// Why a job is not done.
+#[derive(Clone, Copy, PartialEq, Eq)]
+pub enum Failure {
+    /// A refusal of the register, or a fault of memory, store, signer, input or output.
+    Fault(Fault),
+    /// The file of a new register has tables already.
+    NotEmpty,
+    /// The file holds no register.
+    NotARegister,
+    /// The register is of a newer version.
+    NewVersion,
+    /// The register that is to be audited is of an older version.
+    OldVersion,
+    /// The Name or the key is not what an issuer has.
+    BadIssuer,
+    /// The terms are not those of a policy.
+    BadPolicy,
+    /// The latest CRL was signed under another algorithm, or the issuer's key is none of the algorithm.
+    BadSigner,
+    /// A certificate that is to stand with OCSP answers is none, or is of another key than it is told for.
+    BadResponder,
+    /// A reply at a counter, in a strict script or in a strict import was a refusal or a fault.
+    Refused,
+    /// The last line of standard input has no end, and was not run.
+    NoLineEnd,
+    /// Both: a reply was a refusal or a fault, and the last line has no end.
+    RefusedNoLineEnd,
+    /// An audit told what is not sound.
+    Broken,
+}
+
+impl Failure {
+    /// The line of standard error that tells it, without LF; where two things are told, the lines of both with an LF between them.
+    #[tactic(auto, unfolding(crate::specs::Endings::failure_line))]
+    pub fn line(&self) -> Label
+        ensures { result ≡ failure_line self.now }
+    {
+        match *self {
+            Failure::Fault(fault) => fault.line(),
+            Failure::NotEmpty => words(b"not-empty"),
+            Failure::NotARegister => words(b"not-a-register"),
+            Failure::NewVersion => words(b"new-version"),
+            Failure::OldVersion => words(b"old-version"),
+            Failure::BadIssuer => words(b"bad-issuer"),
+            Failure::BadPolicy => words(b"bad-policy"),
+            Failure::BadSigner => words(b"bad-signer"),
+            Failure::BadResponder => words(b"bad-responder"),
+            Failure::Refused => words(b"refused"),
+            Failure::NoLineEnd => words(b"no-line-end"),
+            Failure::RefusedNoLineEnd => words(b"refused\nno-line-end"),
+            Failure::Broken => words(b"broken"),
+        }
+    }
+}
+
+impl From<Fault> for Failure {
+    ghost use Rattle.std.specs.Prelude.{◌≡◌};
+    ghost use Rattle.reg_desk_cli.specs.declared.failure.Failure.TheVariants.{Fault as HasFault};
+
+    ghost from_gives = { λ fault failure. failure ≡ HasFault fault };
+
+    fn from(fault: Fault) -> Failure {
+        Failure::Fault(fault)
+    }
+}
+
+impl From<StoreFault> for Failure {
+    ghost use Rattle.reg_desk_cli.specs.Endings.{store_failure};
+
+    ghost from_gives = { λ fault failure. failure ≡ store_failure fault };
+
+    fn from(fault: StoreFault) -> Failure {
+        match fault {
+            StoreFault::Memory => Failure::Fault(Fault::Memory),
+            StoreFault::Store => Failure::Fault(Fault::Store),
+            StoreFault::NotEmpty => Failure::NotEmpty,
+            StoreFault::NotARegister => Failure::NotARegister,
+            StoreFault::NewVersion => Failure::NewVersion,
+        }
+    }
+}
+
+impl From<DatabaseFault> for Failure {
+    ghost use Rattle.std.specs.Prelude.{◌≡◌};
+    ghost use Rattle.reg_store_tables.specs.Faults.{fault_of};
+    ghost use Rattle.reg_desk_cli.specs.declared.failure.Failure.TheVariants.{Fault as HasFault};
+
+    ghost from_gives = { λ fault failure. failure ≡ HasFault (fault_of fault) };
+
+    fn from(fault: DatabaseFault) -> Failure {
+        Failure::Fault(Fault::from(fault))
+    }
+}
+
+/// The exit status of a job: 0 where it is done; 3 where a reply at a counter, in a strict script or in a strict import was a refusal
+/// or a fault, or the last line there has no end; 1 where it is not done.
+pub fn status_of(ending: &Result<(), Failure>) -> u8
+    ensures { result ≡ exit_status ending.now }
+{
+    match ending {
+        Ok(()) => 0,
+        Err(Failure::Refused) => 3,
+        Err(Failure::NoLineEnd) => 3,
+        Err(Failure::RefusedNoLineEnd) => 3,
+        Err(_) => 1,
+    }
+}
+
+/// A line of words alone.
+fn words(text: &[u8]) -> Label
+    requires not_empty { 1 ≤ length text.now }
+    requires short { length text.now ≤ 64 }
+    ensures { result ≡ text.now }
+{
+    Label::joined(text, b"")
+}

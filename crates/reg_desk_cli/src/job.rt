@@ -1,0 +1,220 @@
+//! What the program is asked to do.
+
+ghost use Rattle.std.specs.Prelude.{◌≡◌};
+ghost use Rattle.reg_desk_cli.specs.Statuses.{usage_status};
+
+use crate::word::{Steps, Word};
+use reg_core::Moment;
+use reg_core_lists::{Cursor, Form};
+use reg_crl_signer::Algorithm;
+
+/// What holds the issuer's key: what listens at a Unix socket, and the algorithm of its signatures.
+#[derive(Drop)]
+pub struct KeyHolder<'a> {
+    /// The path of the socket.
+    pub socket: Word<'a>,
+    /// The algorithm.
+    pub algorithm: Algorithm,
+}
+
+/// Who answers OCSP requests where a register is served (RFC 6960 2.2).
+#[derive(Drop)]
+pub enum Answerer<'a> {
+    /// Who signs its CRLs. A certificate stands with each answer, where the path of the file that has it is told.
+    Issuer {
+        certificate: Option<Word<'a>>,
+    },
+    /// What holds a key of its own, by the certificate in the file at a path, which stands with each answer (RFC 6960 4.2.2.2).
+    Delegate {
+        certificate: Word<'a>,
+        holder: KeyHolder<'a>,
+    },
+}
+
+/// How the lines of a script are run that is run line by line.
+#[derive(Clone, Copy, PartialEq, Eq)]
+pub struct Way {
+    /// A line has no moment: the machine's clock tells it.
+    pub is_clocked: bool,
+    /// The script ends at the first refusal or fault, and runs no last line without its end.
+    pub is_strict: bool,
+}
+
+/// A register that is to be made.
+#[derive(Drop)]
+pub struct NewRegister<'a> {
+    /// Its path.
+    pub file: Word<'a>,
+    /// The DER of the issuer's Name, in hexadecimal.
+    pub name: Word<'a>,
+    /// The bytes of the issuer's public key, in hexadecimal.
+    pub key: Word<'a>,
+    /// The key identifier of the issuer's certificate, in hexadecimal, where it is told.
+    pub key_id: Option<Word<'a>>,
+    /// The longest validity in days.
+    pub days: u64,
+    /// The seconds from thisUpdate to nextUpdate of a CRL.
+    pub crl_life: u64,
+    /// The same of an OCSP answer.
+    pub ocsp_life: u64,
+    /// The most rows of a table.
+    pub cap: u64,
+}
+
+/// A script that is run line by line over a register.
+#[derive(Drop)]
+pub struct LinedScript<'a> {
+    /// The register's path.
+    pub file: Word<'a>,
+    /// What holds the key, where one does.
+    pub signer: Option<KeyHolder<'a>>,
+    /// How the lines are run.
+    pub way: Way,
+}
+
+/// Rows that are to be registered.
+#[derive(Drop)]
+pub struct RowsToImport<'a> {
+    /// The register's path.
+    pub file: Word<'a>,
+    /// The moment of their registration.
+    pub moment: Moment,
+    /// The import ends at the first refusal or fault, and registers no last row without its line end.
+    pub is_strict: bool,
+}
+
+/// A register that is served to so many peers.
+#[derive(Drop)]
+pub struct Serving<'a> {
+    /// The register's path.
+    pub file: Word<'a>,
+    /// The port, 1 to 65,535.
+    pub port: u16,
+    /// How many requests are answered.
+    pub requests: u32,
+    /// What holds the key, where one does.
+    pub signer: Option<KeyHolder<'a>>,
+    /// Who answers OCSP requests.
+    pub answerer: Answerer<'a>,
+}
+
+/// A register that is kept open, with a counter.
+#[derive(Drop)]
+pub struct KeptOpen<'a> {
+    /// The register's path.
+    pub file: Word<'a>,
+    /// The port, 1 to 65,535.
+    pub port: u16,
+    /// The path of the counter's socket.
+    pub counter: Word<'a>,
+    /// What holds the key, where one does.
+    pub signer: Option<KeyHolder<'a>>,
+    /// Who answers OCSP requests.
+    pub answerer: Answerer<'a>,
+}
+
+/// A list of a register that is to be written.
+#[derive(Drop)]
+pub struct ListToWrite<'a> {
+    /// The register's path.
+    pub file: Word<'a>,
+    /// The list.
+    pub from: Cursor,
+    /// The moment of which it is told, where it is not that of the machine's clock.
+    pub moment: Option<Moment>,
+    /// How it is written.
+    pub form: Form,
+}
+
+/// A job of the program, with all that the command line says of it. FILE is the path of a register.
+#[derive(Drop)]
+pub enum Job<'a> {
+    /// Makes a register.
+    Init(NewRegister<'a>),
+    /// Runs the script of standard input, without FILE over a register in memory. What holds the key signs, or else a digest
+    /// seals.
+    Script {
+        file: Option<Word<'a>>,
+        signer: Option<KeyHolder<'a>>,
+    },
+    /// Runs the script of standard input line by line. What holds the key signs, or else a digest seals.
+    Lines(LinedScript<'a>),
+    /// Registers the rows of standard input at a moment.
+    Import(RowsToImport<'a>),
+    /// Writes a CRL, the latest where no number is given.
+    Crl {
+        file: Word<'a>,
+        number: Option<u64>,
+    },
+    /// Answers so many requests over HTTP at a port. What holds the key signs, or else a digest seals.
+    Serve(Serving<'a>),
+    /// Keeps a register open until the program is ended: answers requests over HTTP at a port, and lines at a counter, a Unix socket
+    /// at a path. What holds the key signs; a digest seals only where `--unsigned` says that none does. Where one answers with a key
+    /// of its own and nothing holds the issuer's, no CRL is signed.
+    Open(KeptOpen<'a>),
+    /// Tells the lines of standard input to the counter at a path; or the rows of a file that is told.
+    At {
+        counter: Word<'a>,
+        rows: Option<Word<'a>>,
+    },
+    /// Gives the register another schedule of longest validities.
+    Schedule {
+        file: Word<'a>,
+        steps: Steps,
+    },
+    /// Gives the issuer a key identifier of its own, in hexadecimal, for the CRLs from the next one on.
+    KeyId {
+        file: Word<'a>,
+        key_id: Word<'a>,
+    },
+    /// Writes a list of the register, as CSV with a header or as an object of JSON a line, at a moment or at the machine's clock.
+    Listing(ListToWrite<'a>),
+    /// Copies the register, which no program has open, to a path at which nothing lies.
+    Copy {
+        file: Word<'a>,
+        path: Word<'a>,
+    },
+    /// Looks whether the tables are those of sound records, and changes nothing.
+    Audit {
+        file: Word<'a>,
+    },
+}
+
+/// A job, and what is told beside it.
+#[derive(Drop)]
+pub struct Invocation<'a> {
+    /// The job.
+    pub job: Job<'a>,
+    /// The cause of a fault is told, where it is known.
+    pub is_explained: bool,
+    /// Each exchange is told on standard error, where the job serves.
+    pub has_log: bool,
+    /// The path of the file in which each exchange is told, where the job serves.
+    pub log_file: Option<Word<'a>>,
+}
+
+/// Why there is no invocation.
+#[derive(Drop)]
+pub enum Usage {
+    /// Help was asked for: its text, for standard output.
+    Help(String),
+    /// The version was asked for: its text, for standard output.
+    Version(String),
+    /// The words can't be read: what is wrong, for standard error.
+    Bad(String),
+    /// Memory could not be had.
+    Memory,
+}
+
+impl Usage {
+    /// The exit status: 0 where help or the version was asked for, 2 where the words can't be read, 1 for want of memory.
+    pub fn status(&self) -> u8
+        ensures { result ≡ usage_status self.now }
+    {
+        match self {
+            Usage::Help(_) | Usage::Version(_) => 0,
+            Usage::Bad(_) => 2,
+            Usage::Memory => 1,
+        }
+    }
+}

@@ -1,0 +1,25 @@
+//! The command line of the program `desk`: what its words say.
+#![tactic(auto)]
+
+mod checks;
+mod commands;
+mod desk;
+mod failure;
+mod given_values;
+mod job;
+mod reading_words;
+mod table;
+mod word;
+mod wrong;
+
+pub use checks::{
+    identified_issuer_of, issuer_of, key_identifier_of, office_of, policy_of, schedule_of,
+};
+pub use failure::{Failure, status_of};
+pub use given_values::read_step;
+pub use job::{
+    Answerer, Invocation, Job, KeptOpen, KeyHolder, LinedScript, ListToWrite, NewRegister,
+    RowsToImport, Serving, Usage, Way,
+};
+pub use reading_words::{no_text, read_words};
+pub use word::{Steps, Word};

@@ -1,0 +1,155 @@
+//! What the words of a command line say.
+
+ghost use Rattle.std.specs.Prelude.{◌≡◌, IfErr, IfOk, map};
+ghost use Rattle.clap.specs.Words.{app_of, found_of, rows_of, subcommand_rows_of, kind_of};
+ghost use Rattle.reg_desk_cli.specs.Desk.{desk_app};
+ghost use Rattle.reg_desk_cli.specs.Jobs.{IsNoInvocation, IsInvocationIn, IsInvocationOf, IsUsageOf, TellsUsage, is_given_behind, job_found, told_behind};
+
+use crate::commands::read_command;
+use crate::desk::desk;
+use crate::given_values::{is_set, word_of};
+use crate::job::{Invocation, Job, Usage};
+use crate::word::Word;
+use crate::wrong::wrong_text;
+use clap::error::ErrorKind;
+use clap::{ArgMatches, Command, Error};
+use std::alloc::{AllocError, Global};
+use std::convert::AsStr;
+
+/// What is said where a word of the command line is no text.
+const TEXT_WANTED: &str = "a word is no UTF-8 text: the name of a FILE is to be UTF-8";
+
+/// Reads the words of a command line, of which the first is the program's name.
+///
+/// An invocation comes where clap accepts the words and each value is in its form and range, with options left out as in the
+/// usual policy. `Help` and `Version` come where clap answers them, `Bad` where clap finds another fault, where a value is
+/// out of its form or range, or where `open` is told of no signer and not `--unsigned`, or of both, `Memory` where memory
+/// could not be had.
+pub fn read_words<'a, S: AsStr>(alloc: Global, words: &'a [S]) -> Result<Invocation<'a>, Usage>
+    ensures invocation { IfOk result (IsInvocationOf (map S.text words.entry.now)) }
+    ensures usage { IfErr result (IsUsageOf (map S.text words.entry.now)) }
+{
+    match desk(alloc) {
+        Ok(mut desk) => read_by(alloc, &mut desk, words),
+        Err(_) => Err(Usage::Memory),
+    }
+}
+
+/// Reads the words by the program's command line.
+fn read_by<'a, S: AsStr>(
+    alloc: Global,
+    desk: &mut Command<'a>,
+    words: &'a [S],
+) -> Result<Invocation<'a>, Usage>
+    requires { app_of desk.old ≡ desk_app }
+    ensures invocation { IfOk result (IsInvocationOf (map S.text words.entry.now)) }
+    ensures usage { IfErr result (IsUsageOf (map S.text words.entry.now)) }
+{
+    match desk.try_get_matches_from_mut(words) {
+        Ok(matches) => read_invocation(alloc, desk, &matches),
+        Err(error) => Err(usage_of(alloc, &error)),
+    }
+}
+
+/// The invocation that the words say which clap took.
+fn read_invocation<'a>(
+    alloc: Global,
+    desk: &mut Command<'_>,
+    matches: &ArgMatches<'a>,
+) -> Result<Invocation<'a>, Usage>
+    ensures invocation { IfOk result (IsInvocationIn (rows_of (found_of matches.now)) (subcommand_rows_of matches.now)) }
+    ensures usage { IfErr result (IsNoInvocation (subcommand_rows_of matches.now)) }
+{
+    match read_job(alloc, matches) {
+        Ok(Some(job)) => Ok(Invocation {
+            job,
+            is_explained: is_set(matches, "why") || is_set_behind(matches, "why"),
+            has_log: is_set_behind(matches, "log"),
+            log_file: word_behind(matches, "log-file"),
+        }),
+        Ok(None) => Err(bad_value(alloc, desk, matches)),
+        Err(_) => Err(Usage::Memory),
+    }
+}
+
+/// Whether an option that takes no value is given behind the command.
+fn is_set_behind(matches: &ArgMatches<'_>, id: &str) -> bool
+    ensures { result ≡ is_given_behind id.now (subcommand_rows_of matches.now) }
+{
+    match matches.subcommand() {
+        Some((_, given)) => is_set(given, id),
+        None => false,
+    }
+}
+
+/// The word of an option that is given behind the command.
+fn word_behind<'a>(matches: &ArgMatches<'a>, id: &str) -> Option<Word<'a>>
+    ensures { result ≡ told_behind id.now (subcommand_rows_of matches.now) }
+{
+    match matches.subcommand() {
+        Some((_, given)) => word_of(given, id),
+        None => None,
+    }
+}
+
+/// The job of the command that was named; `None` where a value of it is out of its form or range.
+fn read_job<'a>(alloc: Global, matches: &ArgMatches<'a>) -> Result<Option<Job<'a>>, AllocError>
+    ensures { IfOk result (λ job. job ≡ job_found (subcommand_rows_of matches.now)) }
+{
+    match matches.subcommand() {
+        Some((name, given)) => read_command(alloc, name, given),
+        None => Ok(None),
+    }
+}
+
+/// What is answered where a word of the command line is no text.
+pub fn no_text(alloc: Global) -> Usage
+    ensures { TellsUsage ErrorKind.InvalidValue result }
+{
+    match desk(alloc) {
+        Ok(mut desk) => text_wanted(alloc, &mut desk),
+        Err(_) => Usage::Memory,
+    }
+}
+
+/// The same, by the program's command line.
+fn text_wanted(alloc: Global, desk: &mut Command<'_>) -> Usage
+    ensures { TellsUsage ErrorKind.InvalidValue result }
+{
+    told(alloc, desk, ErrorKind::InvalidValue, TEXT_WANTED)
+}
+
+/// What is answered where clap took the words, and a value is out of its form or range: the option and its value are named.
+fn bad_value(alloc: Global, desk: &mut Command<'_>, matches: &ArgMatches<'_>) -> Usage
+    ensures { TellsUsage ErrorKind.ValueValidation result }
+{
+    match wrong_text(alloc, matches) {
+        Some(text) => told(alloc, desk, ErrorKind::ValueValidation, &text),
+        None => Usage::Memory,
+    }
+}
+
+/// An error of our own, in the form of clap's.
+fn told(alloc: Global, desk: &mut Command<'_>, kind: ErrorKind, text: &str) -> Usage
+    ensures { TellsUsage kind result }
+{
+    match desk.error(kind, text) {
+        Ok(error) => usage_of(alloc, &error),
+        Err(_) => Usage::Memory,
+    }
+}
+
+/// What is answered for an error of clap.
+fn usage_of(alloc: Global, error: &Error) -> Usage
+    ensures { TellsUsage (kind_of error.now) result }
+{
+    let Ok(text) = format!(in alloc; "{error}") else {
+        return Usage::Memory;
+    };
+    match error.kind() {
+        ErrorKind::DisplayHelp => Usage::Help(text),
+        ErrorKind::DisplayVersion => Usage::Version(text),
+        ErrorKind::OutOfMemory => Usage::Memory,
+        _ => Usage::Bad(text),
+    }
+}

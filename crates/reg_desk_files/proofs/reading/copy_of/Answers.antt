@@ -1,0 +1,14 @@
+use Rattle.std.proofs.Common.{◌≡◌, ◌∙◌, length, ap, rules, arith}
+use Rattle.reg_desk_files.proofs.Finding.{over_all, whole}
+use Rattle.reg_desk_files.proofs.reading.copy_of.Goals as goal
+
+pub returns-in-Ok-fill-clause-bytes : goal.returns-in-Ok-fill-clause-bytes
+returns-in-Ok-fill-clause-bytes g c honest =
+    let zeros = c.in-Ok-zeros.copy in
+    let new = c.fill.new.buf in
+    let sized : c.in-Ok.size ≡ length (g.F.Source.bytes c.args.file.now) = c.in-Ok.ensures honest in
+    let zeroed : length zeros.items ≡ c.in-Ok.size = c.in-Ok-zeros.ensures in
+    let filled : length new ≡ length zeros.items = search rules in
+    let all : zeros.len ≡ length zeros.items = search rules in
+    over_all zeros.len new zeros.items filled all
+    ∙ whole (g.F.Source.bytes c.args.file.now) new (filled ∙ zeroed ∙ sized) (λ some. c.in-Ok-fill.ensures honest (omega (arith, ap length c.deref_mut.ensures.value, filled)))

@@ -1,0 +1,10 @@
+-- Why files are not opened to be read.
+use Rattle.std.specs.Prelude.{◌≡◌, ◌⊎◌}
+use Rattle.reg_core.specs.declared.refusal.Fault.TheVariants.{Memory, Store}
+use Rattle.reg_desk_files.specs.declared.reading.Unread.{Unread}
+use Rattle.reg_desk_files.specs.declared.reading.Unread.TheVariants as unread
+
+-- no database was begun in them, memory was wanting, or the store failed
+abbrev pub IsUnread : Unread → Type 0
+IsUnread unread.Nothing = Unit {0}
+IsUnread (unread.Fault why) = (why.fault ≡ Memory) ⊎ (why.fault ≡ Store)

@@ -1,0 +1,100 @@
+-- What a desk answers to what came on a connection, over an office that keeps records.
+use Rattle.std.proofs.Common.{◌≡◌, ℕ, Bool, List, inl, inr, sym, subst}
+use Rattle.std.specs.Prelude.{Result, Ok, Err, IfOk}
+use Rattle.reg_office_api.specs.CallSteps.{Signs}
+use Rattle.reg_office_api.specs.Drafts.{Drafts}
+use Rattle.reg_office_api.specs.Leads.{Leads}
+use Rattle.reg_office_api.specs.Signatories.{Signatory}
+use Rattle.reg_office_api.proofs.PublicLaws.{follows, stays}
+use Rattle.reg_core.specs.Records.{Records}
+use Rattle.reg_core.specs.declared.memory.Memory.{Memory}
+use Rattle.reg_crl.specs.Signing.{Identity}
+use Rattle.reg_http_head.specs.Collected.{HoldsRequest}
+use Rattle.reg_http_head.specs.Frame.{asked, refused}
+use Rattle.reg_http.specs.Bodies.{http_refusal}
+use Rattle.reg_http.specs.Exchanges.{TellsBegun}
+use Rattle.reg_http.specs.Told.{plain, told}
+use Rattle.reg_http.specs.declared.answered.Answered.{Answered}
+use Rattle.reg_http.specs.declared.exchange.Exchange.{Exchange}
+use Rattle.reg_http.specs.declared.exchange.Left.{Left}
+use Rattle.reg_http.specs.declared.route.Route.{Route}
+use Rattle.reg_http.proofs.PublicLaws.{nothing_added}
+use Rattle.reg_desk_server.specs.Exchange.{Outcome, said, pending, later}
+use Rattle.reg_ocsp.specs.Drafts.{Drafted}
+use Rattle.reg_crl_signer.specs.Forms.{HasForm}
+use Rattle.reg_desk_metrics.specs.declared.tally.Tally.{Tally}
+use Rattle.reg_io.specs.declared.begun.Begun.{Begun}
+use Rattle.reg_io.specs.declared.begun.Begun.TheVariants.{Ready, Unsigned}
+use Rattle.reg_desk_jobs.specs.Beginning.{AnswersBegun, BeginsAt, ready_of}
+use Rattle.reg_desk_jobs.specs.Counted.{CountsBegun}
+use Rattle.reg_desk_jobs.specs.Exchanges.{AnswersBy}
+use Rattle.reg_desk_jobs.specs.Leaving.{FinishesAt, FinishesUnsigned, Meets}
+use Rattle.reg_desk_jobs.specs.declared.leaving.Unsigned.{Unsigned as UnsignedOf}
+use Rattle.reg_desk_jobs.proofs.Finishing.{left_exchange}
+
+-- What stands in an office before and after, who signs, and the moment.
+module _ {S : Type 0} (is_clean : S → Type 0) (stands : Signatory → S → Records → Type 0) (signs : Signs) (now : ℕ) (is_open : Bool) (s t : S) where
+  -- The signer gave this, and what that is; the bytes that came.
+  module _ (gave : List ℕ → List ℕ → Type 0)
+      (gave_signs : (identity : Identity) (message answer : List ℕ) → gave message answer → HasForm identity answer → signs identity message answer)
+      (came : List ℕ) where
+    -- an exchange, or what is left of one
+    abbrev pub Answer : Begun Exchange Left → Signatory → Records → Records → Type 0
+    Answer begun who before after = AnswersBegun gave is_open signs now who before came begun after
+
+    -- a request that asks something
+    pub asked_answers : (method target body : List ℕ) (route : Route) (begun : Result (Begun Answered Drafted) Memory) (made : Begun Exchange Left)
+        → ∥ HoldsRequest came (asked method target body) ∥₁ → TellsBegun now route begun made
+        → Leads is_clean stands (λ who before after. BeginsAt is_open signs now who before method target body begun after) s t
+        → Leads is_clean stands (Answer made) s t
+    asked_answers method target body route (Ok (Ready answered)) (Ready exchange) holds tells moved =
+        follows is_clean stands _ _
+        (λ who before after said. (inl (asked method target body, told answered, holds, said.0, tells.1), said.1)) s t moved
+    asked_answers method target body route (Ok (Ready answered)) (Unsigned left) holds tells moved = absurd tells
+    asked_answers method target body route (Ok (Unsigned draft)) (Ready exchange) holds tells moved = absurd tells
+    asked_answers method target body route (Ok (Unsigned draft)) (Unsigned left) holds tells moved =
+        follows is_clean stands _ _
+        (λ who before after (to, (request, asks_it, drafted)).
+        let P : Drafted → Type 0 = λ it. Drafts who before now request it after in (
+          (λ text finished. left_exchange signs gave gave_signs now who before after is_open came method target body request text left.draft holds to asks_it
+              (subst P (sym tells.1) drafted) finished),
+          nothing_added now before after drafted.1,
+        ))
+        s t moved
+    asked_answers method target body route (Err memory) (Ready exchange) holds tells moved =
+        follows is_clean stands _ _
+        (λ who before after same. (inr (tells.2, inr tells.1, same), nothing_added now before after same)) s t moved
+    asked_answers method target body route (Err memory) (Unsigned left) holds tells moved = absurd tells
+
+    -- one that is refused before any route
+    pub refused_answers : (status : ℕ) (route : Route) (answered : Result Answered Memory) (made : Begun Exchange Left)
+        → ∥ HoldsRequest came (refused status) ∥₁ → IfOk answered (λ it. told it ≡ plain (http_refusal status)) → TellsBegun now route (ready_of answered) made
+        → t ≡ s → Leads is_clean stands (Answer made) s t
+    refused_answers status route (Ok answered) (Ready exchange) holds is tells same =
+        follows is_clean stands _ _
+        (λ who before after stayed. (inl (refused status, told answered, holds, (is, stayed), tells.1), nothing_added now before after stayed)) s t
+        (stays is_clean stands s t same)
+    refused_answers status route (Ok answered) (Unsigned left) holds is tells same = absurd tells
+    refused_answers status route (Err memory) (Ready exchange) holds is tells same =
+        follows is_clean stands _ _
+        (λ who before after stayed. (inr (tells.2, inr tells.1, stayed), nothing_added now before after stayed)) s t (stays is_clean stands s t same)
+    refused_answers status route (Err memory) (Unsigned left) holds is tells same = absurd tells
+
+    -- what was begun and counted meets what is wanted of its text
+    pub answers_meet : (clock : ℕ → Type 0) (begun : Begun Exchange Left) (outcome : Outcome UnsignedOf) (before_it behind : Tally)
+        → clock now → CountsBegun now came begun outcome before_it behind → Leads is_clean stands (Answer begun) s t
+        → Leads is_clean stands
+        (λ who before after. Meets (FinishesUnsigned gave) (λ text. AnswersBy is_open signs clock who before came text after) outcome) s t
+    answers_meet clock (Ready exchange) (said text) first last at is moved =
+        follows is_clean stands _ _
+        (λ who before after made. (now, at, record { exchange = exchange; is_exchange = made.0; text_is = is.0; adds = made.1 })) s t moved
+    answers_meet clock (Unsigned left) (pending unsigned) first last at is moved =
+        follows is_clean stands _ _
+        (λ who before after made text finished.
+        let P : Drafted → ℕ → Type 0 = λ it moment. FinishesAt gave it moment text in
+        (now, at, made.0 text (subst (λ it. P it now) is.0 (subst (P unsigned.draft) is.1 finished))))
+        s t moved
+    answers_meet clock (Ready exchange) (pending unsigned) first last at is moved = absurd is
+    answers_meet clock (Ready exchange) later first last at is moved = absurd is
+    answers_meet clock (Unsigned left) (said text) first last at is moved = absurd is
+    answers_meet clock (Unsigned left) later first last at is moved = absurd is

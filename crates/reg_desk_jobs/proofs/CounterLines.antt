@@ -1,0 +1,59 @@
+-- What a line at the control socket comes to, over an office that keeps records.
+use Rattle.std.proofs.Common.{◌≡◌, ◌<◌, ℕ, List, [], ◌∷◌, ◌++◌, arith, lit<, inl, inr, refl, sym, subst}
+use Rattle.std.specs.Prelude.{codes, decimal, get_or}
+use Rattle.reg_core.specs.Records.{Records}
+use Rattle.reg_core.specs.Lines.{fault_line}
+use Rattle.reg_core.specs.declared.refusal.Fault.{Fault}
+use Rattle.reg_office_api.specs.Leads.{Leads}
+use Rattle.reg_office_api.specs.Signatories.{Signatory}
+use Rattle.reg_office_api.specs.CallSteps.{Signs}
+use Rattle.reg_office_api.proofs.PublicLaws.{follows, stays}
+use Rattle.reg_desk_cli.specs.Endings.{failure_line}
+use Rattle.reg_desk_cli.specs.declared.failure.Failure.TheVariants as failure
+use Rattle.reg_desk_jobs.specs.ControlReplies.{IsOf, TellsCame}
+use Rattle.reg_desk_jobs.specs.Copies.{TellsCopy, copied_text}
+use Rattle.reg_desk_jobs.specs.Reasons.{noted_why_text}
+use Rattle.reg_desk_jobs.specs.CounterWords.{TellsWord, WordAt, copies, said_in}
+use Rattle.reg_desk_jobs.specs.declared.control_reply.Came.{Came}
+use Rattle.reg_desk_jobs.specs.declared.control_reply.Came.TheVariants.{Done, Failed}
+
+-- ---- replies
+
+-- what is told of a word that came to this
+pub came_told : (bytes : List ℕ) (came : Came) (text : List ℕ) (told : Came) → IsOf bytes came text told → TellsCame came bytes → TellsCame told text
+came_told bytes came text told (inl (is, same)) shown = subst (λ c. TellsCame c text) (sym same) (subst (TellsCame came) (sym is) shown)
+came_told bytes came text told (inr (none, silent)) shown = subst (λ c. TellsCame c text) (sym silent) none
+
+pub fault_came : (why : Fault) (text : List ℕ) (told : Came) → IsOf (fault_line why ++ 10 ∷ []) (Failed (failure.Fault why)) text told → TellsCame told text
+unfolding failure_line
+fault_came why text told is = came_told (fault_line why ++ 10 ∷ []) (Failed (failure.Fault why)) text told is refl
+
+-- a text that begins with a later letter than b is accepted
+later_accepted : (text : List ℕ) → 98 < get_or text 0 0 → TellsCame Done text
+later_accepted [] later = absurd (omega arith)
+later_accepted (first ∷ rest) later = (((λ is. omega (arith, is)), (λ is. omega (arith, is)), (λ is. omega (arith, is))), omega arith)
+
+pub why_accepted : (noted : List ℕ) → TellsCame Done (noted_why_text noted)
+unfolding noted_why_text
+why_accepted [] = later_accepted (codes "why nothing\n") (lit< tt)
+why_accepted (first ∷ rest) = later_accepted (codes "why " ++ first ∷ rest) (lit< tt)
+
+pub copy_accepted : (bytes millis : ℕ) → TellsCame Done (copied_text bytes millis)
+unfolding copied_text
+copy_accepted bytes millis =
+    later_accepted (codes "copied " ++ decimal bytes ++ codes " bytes in " ++ decimal millis ++ codes " ms\n") (lit< tt)
+
+-- ---- lines
+
+-- a line that asks for a copy
+pub copied : {S : Type 0} (is_clean : S → Type 0) (stands : Signatory → S → Records → Type 0) (signs : Signs) (now : ℕ) (s t : S) (line text : List ℕ)
+    → said_in line ≡ copies → t ≡ s → TellsCopy (λ bytes. Unit {0}) text
+    → Leads is_clean stands (λ identity before after. WordAt signs now identity before line text after) s t
+copied is_clean stands signs now s t line text is same told =
+    follows is_clean stands
+    (λ identity before after. after ≡ before)
+    (λ identity before after. WordAt signs now identity before line text after)
+    (λ identity before after stayed. inl (subst (λ w. TellsWord signs now identity before line w text after) (sym is) (told, stayed)))
+    s
+    t
+    (stays is_clean stands s t same)

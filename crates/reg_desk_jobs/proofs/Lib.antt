@@ -1,0 +1,13 @@
+pub mod Answering
+pub mod CounterLines
+pub mod DeskRuns
+pub mod Fates
+pub mod Finishing
+pub mod LookedAt
+pub mod Looks
+pub mod NextLines
+pub mod PageByPage
+pub mod Peers
+pub mod Setting
+pub mod StepWords
+pub mod Talking

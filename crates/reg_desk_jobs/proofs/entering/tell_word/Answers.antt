@@ -1,0 +1,15 @@
+use Rattle.std.proofs.Common.{refl}
+use Rattle.reg_core.specs.declared.refusal.Fault.TheVariants.{Memory, Read}
+use Rattle.reg_desk_jobs.proofs.CounterLines.{copied, fault_came}
+use Rattle.reg_desk_jobs.proofs.entering.tell_word.Goals as goal
+
+pub returns-in-Ok-Copy-clause-moves : goal.returns-in-Ok-Copy-clause-moves
+returns-in-Ok-Copy-clause-moves g c =
+    copied g.M.Office.Office.is_clean g.M.Office.Office.stands g.M.Office.Office.signs c.args.now _ _ c.args.line.now _
+    (rw c.in-Ok-Copy.field-0-is at c.in-Ok-Copy.ensures) refl c.tell_copy.ensures.told
+
+pub returns-in-Ok-Line-None-clause-came : goal.returns-in-Ok-Line-None-clause-came
+returns-in-Ok-Line-None-clause-came g c = fault_came Read _ _ c.fault.ensures
+
+pub returns-in-Err-clause-came : goal.returns-in-Err-clause-came
+returns-in-Err-clause-came g c = fault_came Memory _ _ c.fault-in-Err.ensures

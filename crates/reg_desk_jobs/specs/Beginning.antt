@@ -1,0 +1,53 @@
+-- What a request comes to at a desk, where an OCSP response may be left to be signed.
+use Rattle.std.specs.Prelude.{◌≡◌, ℕ, Bool, List, Result, Ok, Err}
+use Rattle.reg_office_api.specs.CallSteps.{Signs}
+use Rattle.reg_office_api.specs.Drafts.{Drafts}
+use Rattle.reg_office_api.specs.Signatories.{Signatory}
+use Rattle.reg_core.specs.Records.{Records}
+use Rattle.reg_core.specs.declared.memory.Memory.{Memory}
+use Rattle.reg_http_head.specs.Frame.{asked}
+use Rattle.reg_http.specs.Added.{AddsARequestAtMost}
+use Rattle.reg_http.specs.Asked.{ocsp_of, path_of, asked as asks_for}
+use Rattle.reg_http.specs.RouteNames.{route_at}
+use Rattle.reg_http.specs.Told.{told}
+use Rattle.reg_http.specs.declared.answered.Answered.{Answered}
+use Rattle.reg_http.specs.declared.exchange.Exchange.{Exchange}
+use Rattle.reg_http.specs.declared.exchange.Left.{Left}
+use Rattle.reg_ocsp.specs.Drafts.{Drafted}
+use Rattle.reg_io.specs.declared.begun.Begun.{Begun}
+use Rattle.reg_io.specs.declared.begun.Begun.TheVariants.{Ready, Unsigned}
+use Rattle.reg_desk_jobs.specs.Exchanges.{AnswersAt, IsExchange, IsRouteOf, Says, dispatch}
+use Rattle.reg_desk_jobs.specs.Leaving.{BegunMeets, FinishesAt}
+use Rattle.reg_desk_jobs.specs.declared.visiting.Dispatch.TheVariants.{ToRegister}
+
+-- an answer that is ready, or out of memory
+abbrev pub ready_of : Result Answered Memory → Result (Begun Answered Drafted) Memory
+ready_of (Ok answered) = Ok (Ready answered)
+ready_of (Err memory) = Err memory
+
+-- what a request that was read comes to: it is told; or what is left to be signed for it, by the register alone; or out of memory
+abbrev pub BeginsAt
+    : Bool → Signs → ℕ → Signatory → Records → List ℕ → List ℕ → List ℕ → Result (Begun Answered Drafted) Memory → Records → Type 0
+BeginsAt is_open signs now who before method target body (Ok (Ready answered)) after =
+    Says signs now who before (told answered) after is_open (asked method target body) × AddsARequestAtMost now before after
+BeginsAt is_open signs now who before method target body (Ok (Unsigned draft)) after =
+    (dispatch is_open (route_at (path_of target)) ≡ ToRegister)
+    × ((request : List ℕ) × (asks_for method target body ≡ ocsp_of request) × Drafts who before now request draft after)
+BeginsAt is_open signs now who before method target body (Err memory) after = after ≡ before
+
+-- what the bytes that came are answered: an exchange that is ready; or what is left to be signed, and whatever text finishes that is one's. The
+-- records gain one request for revocation at most.
+abbrev pub AnswersBegun
+    : (List ℕ → List ℕ → Type 0) → Bool → Signs → ℕ → Signatory → Records → List ℕ → Begun Exchange Left → Records → Type 0
+AnswersBegun gave is_open signs now who before request begun after =
+    BegunMeets
+    (λ draft text. FinishesAt gave draft now text)
+    (λ exchange. IsExchange is_open signs now who before request exchange after)
+    (λ text. AnswersAt is_open signs now who before request text after)
+    begun
+    × AddsARequestAtMost now before after
+
+-- the route under which it is counted
+abbrev pub IsBegunRoute : List ℕ → Begun Exchange Left → Type 0
+IsBegunRoute request (Ready exchange) = IsRouteOf request exchange.route
+IsBegunRoute request (Unsigned left) = IsRouteOf request left.route

@@ -1,0 +1,20 @@
+-- A copy of a register: the word at the control socket that asks for one, and what is told of it.
+use Rattle.std.specs.Prelude.{◌≡◌, ◌⊎◌, ℕ, Bool, List, [], ◌∷◌, ◌++◌, ◌==◌, codes, decimal}
+use Rattle.std.specs.List.{starts_with}
+use Rattle.reg_core.specs.Lines.{fault_line}
+use Rattle.reg_core.specs.declared.refusal.Fault.{Fault}
+use Rattle.reg_office_api.specs.LookUps.{IsOfStore}
+
+-- whether a line asks for a copy: its path stands behind that word and a space
+abbrev pub asks_copy : List ℕ → Bool
+asks_copy line = starts_with (λ a b. a == b) line (codes "copy ")
+
+-- what is told of a copy: how many bytes it has, and in how many milliseconds it was created
+unfoldable pub copied_text : ℕ → ℕ → List ℕ
+copied_text bytes millis = codes "copied " ++ decimal bytes ++ codes " bytes in " ++ decimal millis ++ codes " ms\n"
+
+-- the reply: that a copy was created, or the fault for which none was; or there was no memory for it, and that is nothing
+abbrev pub TellsCopy : (ℕ → Type 0) → List ℕ → Type 0
+TellsCopy Copied text =
+    ((bytes millis : ℕ) × Copied bytes × (text ≡ copied_text bytes millis))
+    ⊎ (((fault : Fault) × IsOfStore fault × (text ≡ fault_line fault ++ 10 ∷ [])) ⊎ (text ≡ []))

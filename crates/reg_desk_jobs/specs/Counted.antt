@@ -1,0 +1,44 @@
+-- That an open register counts each exchange once, where its text is made.
+use Rattle.std.specs.Prelude.{◌≡◌, ◌⊎◌, ◌↔◌, ◌<◌, ℕ, Bool, IsTrue, List, Option}
+use Rattle.reg_http.specs.declared.exchange.Exchange.{Exchange}
+use Rattle.reg_http.specs.declared.exchange.Left.{Left}
+use Rattle.reg_desk_server.specs.Exchange.{Outcome, said, pending}
+use Rattle.reg_desk_jobs.specs.ControlReplies.{TellsCame, effects_of}
+use Rattle.reg_desk_jobs.specs.declared.control_reply.Came.{Came}
+use Rattle.reg_desk_jobs.specs.Exchanges.{IsRouteOf}
+use Rattle.reg_desk_jobs.specs.Leaving.{IsFinished, IsSignatureOf}
+use Rattle.reg_desk_jobs.specs.declared.leaving.Unsigned.{Unsigned}
+use Rattle.reg_desk_metrics.specs.Tallies.{with_exchange, with_line}
+use Rattle.reg_desk_metrics.specs.declared.tally.Tally.{Tally}
+use Rattle.reg_io.specs.declared.begun.Begun.{Begun}
+use Rattle.reg_io.specs.declared.begun.Begun.TheVariants as begun
+
+-- What came of a request of this moment, whose exchange was begun so: where it is ready its text is said, and it is counted, whatever time it took. What
+-- is left to be signed is not counted yet, and has the moment and the route by which it will be.
+abbrev pub CountsBegun : ℕ → List ℕ → Begun Exchange Left → Outcome Unsigned → Tally → Tally → Type 0
+CountsBegun now request (begun.Ready exchange) (said text) tally tally' =
+    (text ≡ exchange.text.items) × IsRouteOf request exchange.route × ((micros : ℕ) × (tally' ≡ with_exchange now exchange micros tally))
+CountsBegun now request (begun.Unsigned left) (pending unsigned) tally tally' =
+    (unsigned.draft ≡ left.draft) × (unsigned.moment ≡ now) × (unsigned.route ≡ left.route) × IsRouteOf request left.route × (tally' ≡ tally)
+CountsBegun now request begun outcome tally tally' = ⊥
+
+-- what finishes an exchange that was left is counted, by its moment and its route
+pub record CountsFinished (gave : List ℕ → List ℕ → Type 0) (unsigned : Unsigned) (text : List ℕ) (tally tally' : Tally) : Type 0 where
+  pub signature : Option (List ℕ)
+  pub signed : IsSignatureOf gave unsigned.draft signature
+  pub exchange : Exchange
+  pub finished : IsFinished unsigned.draft unsigned.moment signature exchange
+  pub text_is : text ≡ exchange.text.items
+  pub route_is : exchange.route ≡ unsigned.route
+  pub micros : ℕ
+  pub counted : tally' ≡ with_exchange unsigned.moment exchange micros tally
+
+-- whether a signature failed between two states of an office, by its counts of those: of CRLs, and of OCSP answers
+abbrev pub SignatureFailed : {S : Type 0} → (S → ℕ) → (S → ℕ) → S → S → Type 0
+SignatureFailed crls answers before after = (crls before < crls after) ⊎ (answers before < answers after)
+
+-- a line is counted, by what it came to, which its reply tells
+abbrev pub CountsLine : Type 0 → ℕ → List ℕ → Tally → Tally → Type 0
+CountsLine failed now reply tally tally' =
+    (micros : ℕ) × (came : Came) × (is_unsigned : Bool) × TellsCame came reply × (IsTrue is_unsigned ↔ failed)
+    × (tally' ≡ with_line now (effects_of is_unsigned came) micros tally)

@@ -1,0 +1,14 @@
+-- Who signs for the registers of the program.
+use Rattle.std.specs.Prelude.{◌≡◌, ℕ, List}
+use Rattle.sha1.specs.Sha1.{sha1}
+use Rattle.reg_crl.specs.Signing.{Identity}
+use Rattle.reg_office_api.specs.Signatories.{Signatory, signs_both}
+use Rattle.reg_crl_signer.specs.Both.{digest}
+
+-- the digest stands for both signatures: of CRLs and of OCSP answers
+abbrev pub digest_alone : Signatory
+digest_alone = signs_both digest
+
+-- its signature of a message: the SHA-1 of it
+abbrev pub digests : Identity → List ℕ → List ℕ → Type 0
+digests identity message signature = signature ≡ sha1 message

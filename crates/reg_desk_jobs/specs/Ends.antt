@@ -1,0 +1,278 @@
+-- How a job of the program ends.
+use Rattle.std.specs.Prelude.{◌≡◌, ◌≢◌, ◌⊎◌, ℕ, Bool, true, false, List, codes, Result, Ok, Err, Some, None}
+use Rattle.std.specs.declared.option.Option.{Option}
+use Rattle.std.specs.Io.KnownBytes.{Appends}
+use Rattle.reg_core.specs.Issuer.{Issuer}
+use Rattle.reg_core.specs.Policy.{Terms, IsPolicy}
+use Rattle.reg_core.specs.Records.{Records, no_records}
+use Rattle.reg_core.specs.Schedule.{IsSchedule}
+use Rattle.reg_core.specs.declared.refusal.Fault.{Fault}
+use Rattle.reg_core.specs.declared.refusal.Fault.TheVariants as fault
+use Rattle.reg_office_api.specs.Signatories.{Signatory}
+use Rattle.reg_lines.specs.ByCalls.{Lines}
+use Rattle.reg_office_api.specs.CallSteps.{Crls}
+use Rattle.reg_office_api.specs.declared.office.Office.{Ghosts as Office}
+use Rattle.reg_desk_server.specs.Exchange.{Input, Outcome}
+use Rattle.reg_desk_cli.specs.Checks.{WritesIdentified, WritesIdentifier, IsNoIdentifier, IsNoOffice, IsNoSchedule, terms_of_days}
+use Rattle.reg_desk_cli.specs.Endings.{exit_status}
+use Rattle.reg_desk_cli.specs.declared.failure.Failure.{Failure}
+use Rattle.reg_desk_cli.specs.declared.failure.Failure.TheVariants as failure
+use Rattle.reg_lines.specs.Import.{ImportEnds}
+use Rattle.reg_core_lists.specs.Pages.{GivesWholeList}
+use Rattle.reg_lines.specs.Script.{LinesEnd, ScriptEnds}
+use Rattle.reg_lines.specs.Strict.{StrictEnds}
+use Rattle.reg_lines.specs.declared.answered.Ended.{Ended}
+use Rattle.reg_audit_rows.specs.FindingLines.{broken_text, sound_text}
+use Rattle.reg_audit_rows.specs.declared.lines.TheConstants.{OTHER_SCHEMA}
+use Rattle.reg_audit_rows.specs.declared.verdict.Verdict.{Verdict}
+use Rattle.reg_audit_rows.specs.declared.verdict.Verdict.TheVariants as verdict
+use Rattle.reg_io.specs.Put.{AppendsFront}
+use Rattle.reg_desk_cli.specs.declared.job.Job.{Job}
+use Rattle.reg_desk_cli.specs.declared.job.Job.TheVariants as job
+use Rattle.reg_desk_cli.specs.declared.job.KeptOpen.{KeptOpen}
+use Rattle.reg_desk_cli.specs.declared.job.KeyHolder.{KeyHolder}
+use Rattle.reg_desk_cli.specs.declared.job.LinedScript.{LinedScript}
+use Rattle.reg_desk_cli.specs.declared.job.ListToWrite.{ListToWrite}
+use Rattle.reg_desk_cli.specs.declared.job.NewRegister.{NewRegister}
+use Rattle.reg_desk_cli.specs.declared.job.Serving.{Serving}
+use Rattle.reg_desk_jobs.specs.Asking.{AtCounter, RowsAtCounter}
+use Rattle.reg_desk_jobs.specs.Copies.{copied_text}
+use Rattle.reg_desk_jobs.specs.Digest.{digest_alone, digests}
+use Rattle.reg_desk_jobs.specs.RegisterFailures.{IsMaking}
+use Rattle.reg_office_api.specs.LookUps.{IsOfStore}
+use Rattle.reg_office_api.specs.Settings.{Identifies, Reschedules}
+use Rattle.reg_desk_jobs.specs.Given.{GaveAt}
+use Rattle.reg_desk_jobs.specs.Sample.{sample_records}
+use Rattle.reg_desk_jobs.specs.Registers.{Audits}
+use Rattle.reg_desk_jobs.specs.Serving.{IsControlSocket, OpenedAt, ServesOpen, Serves, ServedAt}
+use Rattle.reg_desk_jobs.specs.Told.{Explains}
+use Rattle.reg_desk_jobs.specs.WhoSigns.{Signing, answer_socket, by_itself, signing_told, unsigned}
+use Rattle.reg_desk_jobs.specs.Visits.{Visits, NotAudited, NotCopied, NotOpened, Makes, NotMade, ending_of, ending_of_run}
+use Rattle.reg_desk_jobs.specs.declared.leaving.Unsigned.{Unsigned}
+use Rattle.reg_desk_jobs.specs.declared.machine.Machine.{Ghosts as Machine}
+
+-- a text is said and the job is done; or a front of it, where the writer fails
+abbrev pub SaysText : List ℕ → Option (List ℕ) → Option (List ℕ) → Result (Unit {0}) Failure → Type 0
+SaysText text out out' (Ok done) = Appends out out' text
+SaysText text out out' (Err why) = (why ≡ failure.Fault fault.Write) × AppendsFront out out' text
+
+-- what is given is said, or why nothing is given is the end
+abbrev pub SaysGiven : {W : Type 0} → (W → Option (List ℕ)) → W → W → Result (List ℕ) Fault → Result (Unit {0}) Failure → Type 0
+SaysGiven contents writer writer' (Ok text) result = SaysText text (contents writer) (contents writer') result
+SaysGiven contents writer writer' (Err why) result = (result ≡ Err (failure.Fault why)) × (writer' ≡ writer)
+
+-- that something was set is told by a text, or why it was not set is the end
+abbrev pub TellsSet : {W : Type 0} → List ℕ → (W → Option (List ℕ)) → W → W → Result (Unit {0}) Fault → Result (Unit {0}) Failure → Type 0
+TellsSet text contents writer writer' (Ok done) result = SaysText text (contents writer) (contents writer') result
+TellsSet text contents writer writer' (Err why) result = (result ≡ Err (failure.Fault why)) × IsOfStore why × (writer' ≡ writer)
+
+-- the text of a line is said, or there was no memory for it
+abbrev pub TellsLine : {W : Type 0} → List ℕ → (W → Option (List ℕ)) → W → W → Result (Unit {0}) Failure → Type 0
+TellsLine text contents writer writer' result =
+    SaysText text (contents writer) (contents writer') result ⊎ ((result ≡ Err (failure.Fault fault.Memory)) × (writer' ≡ writer))
+
+-- the text of an audit that found a broken row is said, and the job is not done; or a front of it, where the writer fails; or there was
+-- no memory for it
+abbrev pub TellsBroken : {W : Type 0} → List ℕ → (W → Option (List ℕ)) → W → W → Result (Unit {0}) Failure → Type 0
+TellsBroken text contents writer writer' result =
+    ((result ≡ Err failure.Broken) × Appends (contents writer) (contents writer') text)
+    ⊎ (((result ≡ Err (failure.Fault fault.Write)) × AppendsFront (contents writer) (contents writer') text)
+    ⊎ ((result ≡ Err (failure.Fault fault.Memory)) × (writer' ≡ writer)))
+
+-- what an audit found, as it is told
+abbrev pub TellsVerdict : {W : Type 0} → (W → Option (List ℕ)) → W → W → Verdict → Result (Unit {0}) Failure → Type 0
+TellsVerdict contents writer writer' (verdict.Sound found) result = TellsLine (sound_text found) contents writer writer' result
+TellsVerdict contents writer writer' (verdict.Broken broken) result = TellsBroken (broken_text broken) contents writer writer' result
+TellsVerdict contents writer writer' verdict.OtherSchema result = TellsBroken OTHER_SCHEMA.now contents writer writer' result
+TellsVerdict contents writer writer' verdict.Older result = (result ≡ Err failure.OldVersion) × (writer' ≡ writer)
+
+-- the moment that is told, or else one that a clock told
+abbrev pub IsMomentOf : (ℕ → Type 0) → Option ℕ → ℕ → Type 0
+IsMomentOf clock (Some told) now = now ≡ told
+IsMomentOf clock None now = clock now
+
+-- the terms of the policy of a register that is to be made
+abbrev pub terms_told : NewRegister → Terms
+terms_told new = terms_of_days new.days new.crl_life new.ocsp_life new.cap
+
+-- A job over a machine that writes: the machine before the job and after it, and the writer.
+module _ {M O D S R W : Type 0} (machines : Machine M O D S R) (offices : Office O) (contents : W → Option (List ℕ))
+    (machine machine' : M) (writer writer' : W) where
+  -- a new register at a path, which begins with no records
+  abbrev pub MakesAt : List ℕ → Issuer → Terms → Result (Unit {0}) Failure → Type 0
+  MakesAt path issuer terms result =
+      (NotMade machines machine machine' path result × (writer' ≡ writer))
+      ⊎ (Makes machines offices machine machine' path (no_records issuer terms)
+      × SaysText (codes "created\n") (contents writer) (contents writer') result)
+
+  -- over the register at a path: it could not be opened, and nothing was written; or this
+  abbrev pub Over : List ℕ → Signing → Result (Unit {0}) Failure → Type 0 → Type 0
+  Over path signing result Done = (NotOpened machines machine machine' path signing result × (writer' ≡ writer)) ⊎ Done
+
+  -- the bytes of a CRL of the register at a path (RFC 5280 5), of which no record changes
+  abbrev pub CrlAt : List ℕ → Option ℕ → Result (Unit {0}) Failure → Type 0
+  CrlAt path number result = Over path unsigned result ((given : Result (List ℕ) Fault)
+      × Visits machines offices machine machine' path unsigned (λ identity before after. Crls before number given after)
+      × SaysGiven contents writer writer' given result)
+
+  -- a list of the register at a path, of which no record changes, at a moment: all of its rows are said, each once and in order, or
+  -- none; a clock that can't be read is the end before the path is looked at
+  abbrev pub ListAt : ListToWrite → Result (Unit {0}) Failure → Type 0
+  ListAt it result =
+      ((result ≡ Err (failure.Fault fault.Read)) × (writer' ≡ writer) × (machine' ≡ machine))
+      ⊎ ((now : ℕ) × IsMomentOf machines.told it.moment now × Over it.file unsigned result ((given : Result (List ℕ) Fault)
+      × Visits machines offices machine machine' it.file unsigned
+      (λ identity before after. GivesWholeList before now it.form it.from given after)
+      × SaysGiven contents writer writer' given result))
+
+  -- an audit of the register at a path: it could not be looked at, or what was found is told; the machine is as it was
+  abbrev pub AuditAt : List ℕ → Result (Unit {0}) Failure → Type 0
+  AuditAt path result =
+      (machine' ≡ machine) × ((NotAudited machines machine path result × (writer' ≡ writer))
+      ⊎ ((found : Verdict) × Audits machines machine path found × TellsVerdict contents writer writer' found result))
+
+  -- a copy of the register at a path, under another that nothing had: none was created; or one of so many bytes was, and that is told, with
+  -- how many milliseconds it took
+  abbrev pub CopyAt : List ℕ → List ℕ → Result (Unit {0}) Failure → Type 0
+  CopyAt path to result =
+      (NotCopied machines machine machine' path to result × (writer' ≡ writer))
+      ⊎ ((bytes millis : ℕ) × machines.copied machine path to bytes machine'
+      × TellsLine (copied_text bytes millis) contents writer writer' result)
+
+  -- another schedule for the register at a path: its steps are looked at before the path is
+  abbrev pub ScheduleAt : List ℕ → List (ℕ × ℕ) → Result (Unit {0}) Failure → Type 0
+  ScheduleAt path steps result =
+      ((why : Failure) × (result ≡ Err why) × IsNoSchedule steps why × (writer' ≡ writer) × (machine' ≡ machine))
+      ⊎ (IsSchedule steps × Over path unsigned result ((set : Result (Unit {0}) Fault)
+      × Visits machines offices machine machine' path unsigned (λ identity. Reschedules steps set)
+      × TellsSet (codes "schedule set\n") contents writer writer' set result))
+
+  -- a key identifier of its own for the issuer of the register at a path: the word is looked at before the path is
+  abbrev pub KeyIdAt : List ℕ → List ℕ → Result (Unit {0}) Failure → Type 0
+  KeyIdAt path key_id result =
+      ((why : Failure) × (result ≡ Err why) × IsNoIdentifier key_id why × (writer' ≡ writer) × (machine' ≡ machine))
+      ⊎ ((octets : List ℕ) × WritesIdentifier key_id octets × Over path unsigned result ((set : Result (Unit {0}) Fault)
+      × Visits machines offices machine machine' path unsigned (λ identity. Identifies octets set)
+      × TellsSet (codes "key-id set\n") contents writer writer' set result))
+
+  -- HTTP requests over the register at a path (RFC 9112), which is opened before the port is bound: what came of each connection and what
+  -- came of that, in this order. A signature that was waited for is one that the signer at the path of who answers gave.
+  abbrev pub ServeAt : Serving → Result (Unit {0}) Failure → Type 0
+  ServeAt it result = Over it.file (signing_told it.signer it.answerer) result ((inputs : List Input) × (outcomes : List (Outcome Unsigned))
+      × Visits machines offices machine machine' it.file (signing_told it.signer it.answerer)
+      (Serves offices.signs (GaveAt machines.gave (answer_socket it.signer it.answerer)) machines.told inputs outcomes)
+      × ServedAt contents writer writer' machines.bound it.port it.requests inputs result)
+
+  -- the same, and lines at a control socket, until the program is ended
+  abbrev pub OpenAt : KeptOpen → Result (Unit {0}) Failure → Type 0
+  OpenAt it result = Over it.file (signing_told it.signer it.answerer) result ((inputs : List Input) × (outcomes : List (Outcome Unsigned))
+      × Visits machines offices machine machine' it.file (signing_told it.signer it.answerer)
+      (ServesOpen offices.signs (GaveAt machines.gave (answer_socket it.signer it.answerer)) machines.told inputs outcomes)
+      × OpenedAt contents writer writer' machines.bound (IsControlSocket machines.laid machines.moded) it.port it.counter inputs result)
+
+-- A new register at a path.
+module _ {M O D S R W : Type 0} (machines : Machine M O D S R) (offices : Office O) (contents : W → Option (List ℕ))
+    (machine machine' : M) (writer writer' : W) where
+  -- a path at which nothing lay was claimed, and the machine after that; or something lay there, and the machine is as it was
+  abbrev pub Claims : List ℕ → M → Type 0
+  Claims path start = machines.claimed machine path start ⊎ (machines.lies machine path × (start ≡ machine))
+
+  -- what is left at a path where a register was to be made, from the machine after that on: all stays where the job is done, where
+  -- somebody else made a register there meanwhile, and where something lay there before; else what was created there is removed
+  abbrev pub Leaves : List ℕ → M → M → Result (Unit {0}) Failure → Type 0
+  Leaves path start between (Ok done) = machine' ≡ between
+  Leaves path start between (Err why) =
+      (((why ≡ failure.NotEmpty) ⊎ (machines.lies machine path × (start ≡ machine))) × (machine' ≡ between))
+      ⊎ (machines.claimed machine path start × (why ≢ failure.NotEmpty) × machines.removed between path machine')
+
+  -- a new register at a path, of the issuer and the policy that are written, which are looked at before the path is
+  abbrev pub InitAt : NewRegister → Result (Unit {0}) Failure → Type 0
+  InitAt new result =
+      ((why : Failure) × (result ≡ Err why) × IsNoOffice new.name new.key new.key_id (terms_told new) why
+      × (writer' ≡ writer) × (machine' ≡ machine))
+      ⊎ ((issuer : Issuer) × WritesIdentified new.name new.key new.key_id issuer × IsPolicy (terms_told new)
+      × ((start between : M) × Claims new.file start
+      × MakesAt machines offices contents start between writer writer' new.file issuer (terms_told new) result
+      × Leaves new.file start between result))
+
+-- a script without FILE: no register could be made, or it ran over a new one in memory
+abbrev pub ScriptInMemory
+    : {E W : Type 0} → (E → Option (List ℕ)) → (W → Option (List ℕ)) → E → E → W → W → Result (Unit {0}) Failure → Type 0
+ScriptInMemory remaining contents reader reader' writer writer' result =
+    ((why : Failure) × (result ≡ Err why) × IsMaking why × (reader' ≡ reader) × (writer' ≡ writer))
+    ⊎ ((ran : Result (Unit {0}) Fault) × (result ≡ ending_of ran) × ((after : Records)
+    × ScriptEnds (Lines digests digest_alone) remaining contents sample_records after reader reader' writer writer' ran))
+
+-- A job over a machine that reads and writes.
+module _ {M O D S R E W : Type 0} (machines : Machine M O D S R) (offices : Office O)
+    (remaining : E → Option (List ℕ)) (contents : W → Option (List ℕ))
+    (machine machine' : M) (reader reader' : E) (writer writer' : W) where
+  -- the register at a path could not be opened, and nothing was read and nothing written
+  abbrev pub Unread : List ℕ → Signing → Result (Unit {0}) Failure → Type 0
+  Unread path signing result = NotOpened machines machine machine' path signing result × (reader' ≡ reader) × (writer' ≡ writer)
+
+  -- a run over the register at a path: it could not be opened, or the run led from its records to those after it
+  abbrev pub RunsAt : List ℕ → Signing → (Result (Unit {0}) Fault → Signatory → Records → Records → Type 0) → Result (Unit {0}) Failure → Type 0
+  RunsAt path signing Ran result = Unread path signing result
+      ⊎ ((ran : Result (Unit {0}) Fault) × (result ≡ ending_of ran) × Visits machines offices machine machine' path signing (Ran ran))
+
+  -- the same of a run of lines or rows that may be strict
+  abbrev pub EndsAt : List ℕ → Signing → (Result Ended Fault → Signatory → Records → Records → Type 0) → Result (Unit {0}) Failure → Type 0
+  EndsAt path signing Ran result = Unread path signing result
+      ⊎ ((ran : Result Ended Fault) × (result ≡ ending_of_run ran) × Visits machines offices machine machine' path signing (Ran ran))
+
+  -- a script over the register at a path
+  abbrev pub ScriptAt : List ℕ → Option KeyHolder → Result (Unit {0}) Failure → Type 0
+  ScriptAt path signer = RunsAt path (signing_told signer by_itself) (λ ran identity before after.
+      ScriptEnds (Lines offices.signs identity) remaining contents before after reader reader' writer writer' ran)
+
+  -- a script over the register at a path, run line by line
+  abbrev pub LinesAt : LinedScript → Result (Unit {0}) Failure → Type 0
+  LinesAt it = EndsAt it.file (signing_told it.signer by_itself) (λ ran identity before after.
+      LinesEnd (Lines offices.signs identity) remaining contents before after reader reader' writer writer' machines.told
+      it.way.is_clocked it.way.is_strict ran)
+
+  -- a strict import into the register at a path, at a moment
+  abbrev pub StrictImportAt : List ℕ → ℕ → Result (Unit {0}) Failure → Type 0
+  StrictImportAt path now = EndsAt path unsigned (λ ran identity before after.
+      StrictEnds (Lines offices.signs identity) remaining contents now before after reader reader' writer writer' ran)
+
+  -- an import into the register at a path, at a moment, which is strict or is not
+  abbrev pub ImportAt : Bool → List ℕ → ℕ → Result (Unit {0}) Failure → Type 0
+  ImportAt false path now = RunsAt path unsigned (λ ran identity before after.
+      ImportEnds (Lines offices.signs identity) remaining contents now before after reader reader' writer writer' ran)
+  ImportAt true path now = StrictImportAt path now
+
+  -- a job that reads nothing
+  abbrev pub Writes : (Result (Unit {0}) Failure → Type 0) → Result (Unit {0}) Failure → Type 0
+  Writes Done result = (reader' ≡ reader) × Done result
+
+  -- the end of a job: what it read, what it did at its machine to the register at its path and nothing else, and what it wrote; nothing
+  -- holds the key of the sample issuer in memory
+  abbrev pub Ends : Job → Result (Unit {0}) Failure → Type 0
+  Ends (job.Init it) = Writes (InitAt machines offices contents machine machine' writer writer' it)
+  Ends (job.Script (Some file) signer) = ScriptAt file signer
+  Ends (job.Script None None) = λ result. (machine' ≡ machine) × ScriptInMemory remaining contents reader reader' writer writer' result
+  Ends (job.Script None (Some holder)) = λ result.
+      (machine' ≡ machine) × (reader' ≡ reader) × (writer' ≡ writer) × (result ≡ Err failure.BadSigner)
+  Ends (job.Lines it) = LinesAt it
+  Ends (job.Import it) = ImportAt it.is_strict it.file it.moment
+  Ends (job.Crl file number) = Writes (CrlAt machines offices contents machine machine' writer writer' file number)
+  Ends (job.Schedule file steps) = Writes (ScheduleAt machines offices contents machine machine' writer writer' file steps)
+  Ends (job.KeyId file key_id) = Writes (KeyIdAt machines offices contents machine machine' writer writer' file key_id)
+  Ends (job.Serve it) = Writes (ServeAt machines offices contents machine machine' writer writer' it)
+  Ends (job.Open it) = Writes (OpenAt machines offices contents machine machine' writer writer' it)
+  Ends (job.Listing it) = Writes (ListAt machines offices contents machine machine' writer writer' it)
+  Ends (job.Copy file to) = Writes (CopyAt machines offices contents machine machine' writer writer' file to)
+  Ends (job.Audit file) = Writes (AuditAt machines offices contents machine machine' writer writer' file)
+  Ends (job.At counter None) = λ result.
+      (machine' ≡ machine) × AtCounter (machines.met counter) (remaining reader) (contents writer) (contents writer') result
+  Ends (job.At counter (Some file)) = λ result. (machine' ≡ machine)
+      × RowsAtCounter (machines.met counter) (remaining reader) (remaining reader') (contents writer) (contents writer') result
+
+  -- A job that is done and told: how it ended, its exit status, and what standard error got of that, with the cause where it is asked for.
+  pub record Performs (job : Job) (is_told : Bool) (errors errors' : Option (List ℕ)) (status : ℕ) : Type 0 where
+    pub ending : Result (Unit {0}) Failure
+    pub ends : Ends job ending
+    pub exits : status ≡ exit_status ending
+    pub told : Explains is_told ending errors errors'

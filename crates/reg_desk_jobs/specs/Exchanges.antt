@@ -1,0 +1,87 @@
+-- What a register is asked from outside: requests of clients, and lines at the control socket.
+use Rattle.std.specs.Prelude.{◌≡◌, ◌⊎◌, ℕ, Bool, true, false, List}
+use Rattle.reg_core.specs.Records.{Records}
+use Rattle.reg_office_api.specs.Signatories.{Signatory}
+use Rattle.reg_office_api.specs.CallSteps.{Signs, Runs, Asks, Crls}
+use Rattle.reg_office_api.specs.Responses.{Replies}
+use Rattle.reg_http_head.specs.Collected.{HoldsRequest}
+use Rattle.reg_http_head.specs.Frame.{IsUnfinished, Part, asked, refused}
+use Rattle.reg_http.specs.Added.{AddsARequestAtMost}
+use Rattle.reg_http.specs.Answers.{Answers}
+use Rattle.reg_http.specs.Asked.{path_of, asked as asks_for}
+use Rattle.reg_http.specs.Bodies.{http_refusal}
+use Rattle.reg_http.specs.Exchanges.{IsEmpty, IsUntold, SaysNothing, TellsAnswered}
+use Rattle.reg_http.specs.Lists.{RespondsList, list_asked}
+use Rattle.reg_http.specs.RouteNames.{named_route, route_at}
+use Rattle.reg_http.specs.Told.{Told, plain}
+use Rattle.reg_http.specs.declared.exchange.Exchange.{Exchange as HttpExchange}
+use Rattle.reg_http.specs.declared.route.Route.{Route}
+use Rattle.reg_http.specs.declared.route.Route.TheVariants.{List as ListOf, Health, Metrics}
+use Rattle.reg_desk_jobs.specs.Watched.{ByGet, SaysHealth, SaysMetrics}
+use Rattle.reg_desk_jobs.specs.declared.visiting.Dispatch.{Dispatch}
+use Rattle.reg_desk_jobs.specs.declared.visiting.Dispatch.TheVariants.{ToRegister, ToList, ToHealth, ToMetrics}
+
+-- ---- requests
+
+-- what answers a request: the register; or an open desk, with a page of a list, its health or its metrics
+abbrev pub dispatch : Bool → Route → Dispatch
+dispatch true ListOf = ToList
+dispatch true Health = ToHealth
+dispatch true Metrics = ToMetrics
+dispatch true _ = ToRegister
+dispatch false _ = ToRegister
+
+-- What a request that was read is told. The register is asked at most once, and then the records gain one request for revocation at most.
+module _ (signs : Signs) (now : ℕ) (who : Signatory) (before : Records) (it : Told) (after : Records) where
+  -- by what answers it
+  abbrev pub SaysBy : Dispatch → List ℕ → List ℕ → List ℕ → Type 0
+  SaysBy ToRegister method target body = Answers (Runs signs who) Asks (Replies signs who) Crls now before (asks_for method target body) it after
+  SaysBy ToList method target body = RespondsList before now (list_asked method target) it × (after ≡ before)
+  SaysBy ToHealth method target body = ByGet method (SaysHealth now before) it × (after ≡ before)
+  SaysBy ToMetrics method target body = ByGet method (SaysMetrics now before) it × (after ≡ before)
+
+  -- by a desk that is open, or is not
+  abbrev pub Says : Bool → Part → Type 0
+  Says is_open (refused status) = (it ≡ plain (http_refusal status)) × (after ≡ before)
+  Says is_open (asked method target body) = SaysBy (dispatch is_open (route_at (path_of target))) method target body
+
+-- the route under which a request is counted: that of its target, or the one that its first line names
+abbrev pub IsRouteOf : List ℕ → Route → Type 0
+IsRouteOf request route =
+    (route ≡ named_route request)
+    ⊎ ((method target body : List ℕ) × ∥ HoldsRequest request (asked method target body) ∥₁ × (route ≡ route_at (path_of target)))
+
+-- One HTTP exchange (RFC 9112) of a desk at a moment, over the bytes that came on a connection: they begin with a whole request, and this was
+-- told to it; or they do not, and nothing was; or there was no memory for it, and the records are as they were.
+abbrev pub IsExchange : Bool → Signs → ℕ → Signatory → Records → List ℕ → HttpExchange → Records → Type 0
+IsExchange is_open signs now who before request exchange after =
+    ((part : Part) × (it : Told) × ∥ HoldsRequest request part ∥₁ × Says signs now who before it after is_open part × TellsAnswered now it exchange)
+    ⊎ (SaysNothing exchange × ((∥ IsUnfinished request ∥₁ × IsEmpty exchange) ⊎ IsUntold exchange) × (after ≡ before))
+
+-- the same by its text alone; the records gain one request for revocation at most, and no count changes
+pub record AnswersAt (is_open : Bool) (signs : Signs) (now : ℕ) (who : Signatory) (before : Records) (request text : List ℕ) (after : Records) : Type 0 where
+  pub exchange : HttpExchange
+  pub is_exchange : IsExchange is_open signs now who before request exchange after
+  pub text_is : text ≡ exchange.text.items
+  pub adds : AddsARequestAtMost now before after
+
+-- the same at a moment that a clock told
+abbrev pub AnswersBy : Bool → Signs → (ℕ → Type 0) → Signatory → Records → List ℕ → List ℕ → Records → Type 0
+AnswersBy is_open signs told who before request text after = (now : ℕ) × told now × AnswersAt is_open signs now who before request text after
+
+-- an exchange of a register that is served, and one of an open register
+abbrev pub Exchange : Signs → (ℕ → Type 0) → Signatory → Records → List ℕ → List ℕ → Records → Type 0
+Exchange = AnswersBy false
+
+abbrev pub Visit : Signs → (ℕ → Type 0) → Signatory → Records → List ℕ → List ℕ → Records → Type 0
+Visit = AnswersBy true
+
+-- ---- lines
+
+-- a line that is only looked at changes no record
+abbrev pub Unmoved : Records → List ℕ → Records → Type 0
+Unmoved before line after = after ≡ before
+
+-- where there is no control socket, no line comes
+abbrev pub NoEntry : {S A : Type 0} → S → List ℕ → A → S → Type 0
+NoEntry before line answer after = ⊥

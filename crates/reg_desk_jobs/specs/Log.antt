@@ -1,0 +1,48 @@
+-- The lines of the log: one line an exchange, whatever came.
+use Rattle.std.specs.Prelude.{ℕ, Bool, false, cond, ◌||◌, List, [], ◌∷◌, ◌++◌, ◌+◌, ◌/◌, ◌%◌, ◌==◌, nat_lt, take, length, codes, decimal}
+use Rattle.std.specs.List.{flat_map, position}
+use Rattle.reg_core.specs.Calendar.{moment_text}
+use Rattle.reg_http.specs.RouteNames.{before}
+
+-- whether a byte is told as it is: ASCII from the space to the tilde (RFC 20 2), but the quotation mark and the backslash
+abbrev pub is_plain : ℕ → Bool
+is_plain byte = cond (byte == 34) false (cond (byte == 92) false (cond (nat_lt byte 32) false (nat_lt byte 127)))
+
+-- a hexadecimal digit, in lower case
+abbrev pub digit : ℕ → ℕ
+digit number = cond (nat_lt number 10) (48 + number) (87 + number)
+
+-- what a byte is told as: itself, or `\x` and its two hexadecimal digits
+unfoldable pub told_byte : ℕ → List ℕ
+told_byte byte = cond (is_plain byte) (byte ∷ []) (92 ∷ 120 ∷ digit (byte / 16) ∷ digit (byte % 16) ∷ [])
+
+-- whether a byte ends a line: CR or LF
+abbrev pub ends_line : ℕ → Bool
+ends_line byte = (byte == 13) || (byte == 10)
+
+-- the first line of a text
+abbrev pub first_line : List ℕ → List ℕ
+first_line text = before (position ends_line text) text
+
+-- how many bytes of a text are told
+abbrev pub most_told : ℕ
+most_told = 256
+
+-- what a text is told as: its first line, as far as it is told, in quotation marks
+abbrev pub told_text : List ℕ → List ℕ
+told_text text = 34 ∷ flat_map told_byte (take most_told (first_line text)) ++ (34 ∷ [])
+
+-- what the line of an exchange ends with where a signature was asked for and did not come
+abbrev pub unsigned_end : Bool → List ℕ
+unsigned_end is_unsigned = cond is_unsigned (codes " signer") []
+
+-- the line of an exchange, without LF: the moment, who asked, what was asked and answered, how many bytes the answer has, in how many
+-- microseconds it was made, and whether a signature did not come
+abbrev pub exchange_line : ℕ → List ℕ → List ℕ → List ℕ → ℕ → Bool → List ℕ
+exchange_line now who asked answered micros is_unsigned =
+    moment_text now ++ (32 ∷ who) ++ (32 ∷ told_text asked) ++ (32 ∷ told_text answered) ++ (32 ∷ decimal (length answered)) ++ (32 ∷ decimal micros)
+    ++ unsigned_end is_unsigned
+
+-- the line of a connection that ended by a fault, without LF
+abbrev pub lost_line : ℕ → List ℕ → List ℕ → List ℕ
+lost_line now who why = moment_text now ++ (32 ∷ who) ++ codes " lost " ++ why

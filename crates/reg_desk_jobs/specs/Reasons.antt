@@ -1,0 +1,33 @@
+-- Why a registration was refused, as it is told behind that.
+use Rattle.std.specs.Prelude.{◌≡◌, ℕ, ◌+◌, ◌-◌, ◌*◌, List, [], ◌∷◌, ◌++◌, codes, decimal, Option, Some, None}
+use Rattle.reg_core.specs.Calendar.{moment_text}
+use Rattle.reg_desk_jobs.specs.declared.reasons.Reason.{Reason}
+use Rattle.reg_desk_jobs.specs.declared.reasons.Reason.TheVariants.{NoOrder, Filled, Latest}
+
+-- what is told: what was noted, or nothing
+unfoldable pub noted_why_text : List ℕ → List ℕ
+noted_why_text [] = codes "why nothing\n"
+noted_why_text (first ∷ rest) = codes "why " ++ first ∷ rest
+
+-- the last second of so many days from a moment on, both ends counted (RFC 5280 4.1.2.5)
+abbrev pub last_second : ℕ → ℕ → ℕ
+last_second not_before days = not_before + (days * 86400 - 1)
+
+-- what is told of a validity that is too long: the latest notAfter
+unfoldable pub latest_text : ℕ → List ℕ
+latest_text at = codes "notAfter at most " ++ moment_text at
+
+-- what is told of an order
+abbrev pub order_text : List ℕ → ℕ → List ℕ → List ℕ
+order_text front order end = front ++ decimal order ++ end
+
+-- the words of a reason
+abbrev pub reason_text : Reason → List ℕ
+reason_text (NoOrder order) = order_text (codes "no order ") order []
+reason_text (Filled order) = order_text (codes "order ") order (codes " has its certificate")
+reason_text (Latest at) = latest_text at
+
+-- the line of a reason, with an LF, behind what stands before it
+abbrev pub IsReasonLine : List ℕ → Option Reason → List ℕ → Type 0
+IsReasonLine front (Some reason) line = line ≡ front ++ reason_text reason ++ 10 ∷ []
+IsReasonLine front None line = ⊥

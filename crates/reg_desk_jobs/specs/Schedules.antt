@@ -1,0 +1,34 @@
+-- A schedule that is set.
+use Rattle.std.specs.Prelude.{◌≡◌, ◌⊎◌, ℕ, List, [], ◌∷◌, ◌++◌, codes, Result, Ok, Err}
+use Rattle.std.specs.Result.{result_map_both}
+use Rattle.reg_core.specs.Records.{Records}
+use Rattle.reg_core.specs.Schedule.{IsSchedule}
+use Rattle.reg_desk_cli.specs.Checks.{IsNoSchedule}
+use Rattle.reg_desk_cli.specs.Endings.{failure_line}
+use Rattle.reg_desk_cli.specs.declared.failure.Failure.{Failure}
+use Rattle.reg_desk_cli.specs.declared.failure.Failure.TheVariants as failure
+use Rattle.reg_core.specs.declared.refusal.Fault.{Fault}
+use Rattle.reg_office_api.specs.Settings.{Reschedules}
+
+-- how the setting of steps ends that are a schedule: they are set, or why they are not
+abbrev pub set_ending : Result (Unit {0}) Fault → Result (Unit {0}) Failure
+set_ending set = result_map_both (λ done. done) (λ fault. failure.Fault fault) set
+
+-- steps are set as the schedule; those that are none are refused, and the records stay
+abbrev pub SetsSteps : List (ℕ × ℕ) → Result (Unit {0}) Failure → Records → Records → Type 0
+SetsSteps steps result before after =
+    ((why : Failure) × (result ≡ Err why) × IsNoSchedule steps why × (after ≡ before))
+    ⊎ (IsSchedule steps × (set : Result (Unit {0}) Fault) × (result ≡ set_ending set) × Reschedules steps set before after)
+
+-- the reply that tells it, without its LF
+abbrev pub set_line : Result (Unit {0}) Failure → List ℕ
+set_line (Ok done) = codes "schedule set"
+set_line (Err why) = failure_line why
+
+-- that is told, or nothing where there was no memory for it
+abbrev pub TellsSetting : Result (Unit {0}) Failure → List ℕ → Type 0
+TellsSetting set text = (text ≡ set_line set ++ 10 ∷ []) ⊎ (text ≡ [])
+
+-- a line at the control socket that sets steps
+abbrev pub SetAt : List (ℕ × ℕ) → Records → List ℕ → Records → Type 0
+SetAt steps before text after = (result : Result (Unit {0}) Failure) × SetsSteps steps result before after × TellsSetting result text

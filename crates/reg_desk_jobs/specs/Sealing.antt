@@ -1,0 +1,14 @@
+-- The first CRL of a register, where a digest seals it.
+use Rattle.std.specs.Prelude.{◌≡◌, ℕ, List, codes, Ok}
+use Rattle.reg_core.specs.declared.command.Reply.TheVariants as reply
+use Rattle.reg_lines.specs.declared.answered.Answered.{Answered}
+use Rattle.reg_lines.specs.declared.answered.Answered.TheVariants.{CameTo}
+use Rattle.reg_lines.specs.declared.answered.Asked.{Asked}
+
+-- a line came to the first CRL of its register: CRLs are numbered from 1 on
+abbrev pub IsFirstCrl : Answered → Type 0
+IsFirstCrl answered = (what : Asked) × (entries : ℕ) × (answered ≡ CameTo what (Ok (reply.Crl 1 entries)))
+
+-- the line that says that this is no signature, with its LF
+unfoldable pub sealed_line : List ℕ
+sealed_line = codes "warning: CRL 1 is sealed by a digest, which is no signature; to sign: --signer SOCKET --algorithm NAME\n"

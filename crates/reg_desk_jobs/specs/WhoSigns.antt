@@ -1,0 +1,96 @@
+-- Who signs for a register that is opened.
+use Rattle.std.specs.Prelude.{◌≡◌, ◌⊎◌, ℕ, List, Option, Some, None, IfSome, MatchOption, option_map}
+use Rattle.reg_office_api.specs.Signatories.{Responder, Signatory, signs_both}
+use Rattle.reg_core.specs.Crls.{latest}
+use Rattle.reg_core.specs.Records.{Crl, Records}
+use Rattle.reg_crl.specs.Signing.{Identity}
+use Rattle.reg_ocsp.specs.Certificate.{IsCertificateOf}
+use Rattle.reg_crl_signer.specs.Algorithms.{key_identifier_of}
+use Rattle.reg_crl_signer.specs.Both.{digest}
+use Rattle.reg_crl_signer.specs.Forms.{identity_of}
+use Rattle.reg_crl_signer.specs.Signed.{IsCrlUnder}
+use Rattle.reg_desk_jobs.specs.declared.crl_signer.CrlSigner.{CrlSigner}
+use Rattle.reg_desk_jobs.specs.declared.crl_signer.CrlSigner.TheVariants.{Nobody, Digest, Holder}
+use Rattle.reg_desk_cli.specs.declared.job.Answerer.{Answerer}
+use Rattle.reg_desk_cli.specs.declared.job.Answerer.TheVariants.{Issuer, Delegate}
+use Rattle.reg_desk_cli.specs.declared.job.KeyHolder.{KeyHolder}
+
+-- who signs CRLs, as the words say: the holder of the issuer's key; or where none is told, a digest, or nobody where a responder answers
+abbrev pub signs_crls : Option KeyHolder → Answerer → CrlSigner
+signs_crls (Some holder) answerer = Holder holder
+signs_crls None (Issuer certificate) = Digest
+signs_crls None (Delegate certificate holder) = Nobody
+
+-- for which signatures a register is opened: who signs its CRLs, and who answers OCSP requests
+abbrev pub Signing : Type 0
+Signing = CrlSigner × Answerer
+
+-- the same as the words say
+abbrev pub signing_told : Option KeyHolder → Answerer → Signing
+signing_told signer answerer = (signs_crls signer answerer, answerer)
+
+-- who signs CRLs answers too, and no certificate stands with an answer
+abbrev pub by_itself : Answerer
+by_itself = Issuer None
+
+-- nothing will be signed
+abbrev pub unsigned : Signing
+unsigned = (Nobody, by_itself)
+
+-- a certificate is told that is to stand with answers
+abbrev pub HasCertificate : Answerer → Type 0
+HasCertificate (Issuer None) = ⊥
+HasCertificate (Issuer (Some path)) = Unit {0}
+HasCertificate (Delegate path holder) = Unit {0}
+
+-- the path of what signs CRLs, where what holds a key does
+abbrev pub crl_socket : Option KeyHolder → Option (List ℕ)
+crl_socket signer = option_map (λ holder. holder.socket) signer
+
+-- the path of what signs OCSP answers, where what holds a key does: the responder's, or that of what signs CRLs
+abbrev pub answer_socket : Option KeyHolder → Answerer → Option (List ℕ)
+answer_socket signer (Issuer certificate) = crl_socket signer
+answer_socket signer (Delegate certificate holder) = Some holder.socket
+
+-- who signs over an issuer's key (RFC 5280 4.1.2.7): what holds it, under its algorithm, or the digest
+abbrev pub identity_told : Option KeyHolder → List ℕ → Identity
+identity_told None key = digest
+identity_told (Some holder) key = identity_of holder.algorithm key
+
+-- who signs CRLs of a register that is opened: as it is told; and where nothing will be signed, who would be told so
+abbrev pub IsSigning : CrlSigner → List ℕ → Identity → Type 0
+IsSigning Nobody key identity = (signer : Option KeyHolder) × (identity ≡ identity_told signer key)
+IsSigning Digest key identity = identity ≡ identity_told None key
+IsSigning (Holder holder) key identity = identity ≡ identity_told (Some holder) key
+
+-- a responder by a certificate of its own (RFC 6960 4.2.2.2): under the key of that certificate, which is one of the algorithm, and named
+-- by it; the certificate stands with each answer
+pub record IsDelegate (holder : KeyHolder) (responder : Responder) : Type 0 where
+  pub certificate : List ℕ
+  pub key : List ℕ
+  pub certified : IsCertificateOf certificate (key_identifier_of holder.algorithm) key
+  pub is : responder ≡ record { identity = identity_of holder.algorithm key; own_key = Some key; certificate = Some certificate }
+
+-- who answers OCSP requests, as it is told, beside who signs CRLs: the same, also with a certificate; or a responder
+abbrev pub IsAnswering : Answerer → Signatory → Type 0
+IsAnswering (Issuer None) who = who ≡ signs_both who.crls
+IsAnswering (Issuer (Some path)) who =
+    (certificate : List ℕ) × (who.answers ≡ record { identity = who.crls; own_key = None; certificate = Some certificate })
+IsAnswering (Delegate path holder) who = IsDelegate holder who.answers
+
+-- a certificate that stands with answers by the issuer's key is of that key
+abbrev pub EmbedsOwn : List ℕ → Responder → Type 0
+EmbedsOwn key responder =
+    MatchOption responder.own_key
+    (IfSome responder.certificate (λ certificate. (algorithm : List ℕ) × IsCertificateOf certificate algorithm key))
+    (λ own. Unit {0})
+
+-- what is signed under an algorithm may stand behind a CRL under this one: it is the same, or that of the digest, which any key may follow
+-- (RFC 5280 5.1.1.2)
+abbrev pub MayFollow : List ℕ → List ℕ → Type 0
+MayFollow algorithm earlier = (earlier ≡ algorithm) ⊎ (earlier ≡ digest.algorithm)
+
+-- no CRL was issued yet, or what is signed under this algorithm may stand behind the latest one
+abbrev pub Follows : Records → List ℕ → Type 0
+Follows records algorithm =
+    (crl : Crl) → latest records.crls ≡ Some crl → (other : List ℕ) → IsCrlUnder crl.bytes other → MayFollow algorithm other

@@ -1,0 +1,224 @@
+//! The job `at`: lines sent to the control socket of an open desk, or rows as lines, and its replies.
+
+ghost use Rattle.std.specs.Prelude.{◌≡◌, ◌⊎◌, ◌↔◌, IsFalse, IsTrue, IfErr, IfOk, MatchResult};
+ghost use Rattle.std.specs.Io.{StopsAt};
+ghost use Rattle.std.specs.Io.BufRead.{ends_with_byte};
+ghost use Rattle.std.specs.Io.KnownBytes.{Consumes};
+ghost use Rattle.reg_desk_jobs.specs.Asking.{AtCounter, IsOfTalk, IsReadAs, NextIs, RowsAtCounter, Talks, TalksOnce, TalksOver};
+
+use crate::machine::Machine;
+use crate::telling::say;
+use reg_core::Fault;
+use reg_desk_cli::Failure;
+use reg_lines::{is_accepted, lines_of_rows};
+use std::alloc::Global;
+use std::io::{BufRead, BufReader, Read, Write};
+use std::os::unix::net::UnixStream;
+
+/// What an input has next.
+#[derive(Drop)]
+enum Next {
+    /// A line, with its LF.
+    Line(Vec<u8>),
+    /// A last line without its end.
+    Cut,
+    /// Nothing.
+    End,
+}
+
+/// What the next line of a talk came to.
+#[derive(Clone, Copy)]
+enum Step {
+    /// It was told, and its reply was accepted or was not.
+    Told(bool),
+    /// It has no end, and was not told.
+    Cut,
+    /// There is none.
+    End,
+}
+
+/// Sends each line of standard input to the control socket at a path, and writes its replies. A last line without its end is not sent.
+pub fn at<M: Machine, R: Read, W: Write>(
+    alloc: Global,
+    machine: &M,
+    counter: &str,
+    reader: &mut R,
+    writer: &mut W,
+) -> Result<(), Failure>
+    ensures { AtCounter (M.met counter.now) (R.remaining reader.old) (W.contents writer.old) (W.contents writer.new) result }
+{
+    match machine.meet(counter) {
+        Ok(link) => talk_over(alloc, &link, reader, writer),
+        Err(_) => Err(Failure::Fault(Fault::Read)),
+    }
+}
+
+/// Sends each row of a CSV file to the control socket at a path, as the line of a registration, and writes its replies.
+///
+/// # Errors
+///
+/// As of [`at`]; `Read` and `Memory` where the file can't be read whole: nothing is sent then.
+pub fn at_rows<M: Machine, R: Read, W: Write>(
+    alloc: Global,
+    machine: &M,
+    counter: &str,
+    reader: &mut R,
+    writer: &mut W,
+) -> Result<(), Failure>
+    ensures { RowsAtCounter (M.met counter.now) (R.remaining reader.old) (R.remaining reader.new) (W.contents writer.old) (W.contents writer.new) result }
+{
+    match lines_of_rows(alloc, reader) {
+        Ok(lines) => at(alloc, machine, counter, &mut lines.as_slice(), writer),
+        Err(fault) => Err(Failure::Fault(fault)),
+    }
+}
+
+/// Sends each line of a reader over a connection to a control socket, and writes its replies.
+fn talk_over<R: Read, W: Write>(
+    alloc: Global,
+    link: &UnixStream,
+    reader: &mut R,
+    writer: &mut W,
+) -> Result<(), Failure>
+    ensures { TalksOver (R.remaining reader.old) (W.contents writer.old) (W.contents writer.new) result }
+{
+    let Ok(mut came) = BufReader::new(alloc, link) else {
+        return Err(Failure::Fault(Fault::Memory));
+    };
+    let mut sent = link;
+    match BufReader::new(alloc, reader) {
+        Ok(mut input) => talk(alloc, &mut input, writer, &mut came, &mut sent),
+        Err(_) => Err(Failure::Fault(Fault::Memory)),
+    }
+}
+
+/// Sends each line of the input to a control socket, each once the reply to the one before it came, and writes each reply. A last line
+/// without its end is not sent.
+///
+/// # Errors
+///
+/// Once all lines are sent, `Refused` where a reply was a refusal or a fault, `NoLineEnd` where a last line without its end is left, and
+/// `RefusedNoLineEnd` for both. `Read` where the input fails, or the connection fails or ends before a reply is whole; `Write` where no
+/// line can be sent, or a reply can't be written; `Memory`.
+pub fn talk<R: BufRead, W: Write, C: BufRead, S: Write>(
+    alloc: Global,
+    input: &mut R,
+    writer: &mut W,
+    came: &mut C,
+    sent: &mut S,
+) -> Result<(), Failure>
+    ensures { Talks (S.contents sent.old) (S.contents sent.new) (C.remaining came.old) (C.remaining came.new)
+        (W.contents writer.old) (W.contents writer.new) (R.remaining input.old) result }
+{
+    let mut is_accepted = true;
+    for _ in 0..u64::MAX {
+        let step = match talk_once(alloc, input, writer, came, sent) {
+            Ok(step) => step,
+            Err(why) => return Err(why),
+        };
+        match step {
+            Step::Told(accepted) => is_accepted = both(is_accepted, accepted),
+            Step::Cut => return Err(cut_off(is_accepted)),
+            Step::End => return ended(is_accepted),
+        }
+    }
+    Err(Failure::Fault(Fault::Read))
+}
+
+/// Whether both hold.
+fn both(first: bool, second: bool) -> bool
+    ensures { IsTrue result ↔ (IsTrue first × IsTrue second) }
+{
+    first && second
+}
+
+/// How a talk ends in which each reply was accepted, or was not.
+fn ended(is_accepted: bool) -> Result<(), Failure>
+    ensures { MatchResult result (λ done. IsTrue is_accepted) (λ why. (why ≡ Failure.Refused) × IsFalse is_accepted) }
+{
+    if is_accepted {
+        Ok(())
+    } else {
+        Err(Failure::Refused)
+    }
+}
+
+/// The same where a last line without its end is left.
+fn cut_off(is_accepted: bool) -> Failure
+    ensures { ((result ≡ Failure.NoLineEnd) × IsTrue is_accepted) ⊎ ((result ≡ Failure.RefusedNoLineEnd) × IsFalse is_accepted) }
+{
+    if is_accepted {
+        Failure::NoLineEnd
+    } else {
+        Failure::RefusedNoLineEnd
+    }
+}
+
+/// Sends the next line, and writes its reply.
+fn talk_once<R: BufRead, W: Write, C: BufRead, S: Write>(
+    alloc: Global,
+    input: &mut R,
+    writer: &mut W,
+    came: &mut C,
+    sent: &mut S,
+) -> Result<Step, Failure>
+    ensures { TalksOnce (S.contents sent.old) (S.contents sent.new) (C.remaining came.old) (C.remaining came.new)
+        (W.contents writer.old) (W.contents writer.new) (R.remaining input.old) (R.remaining input.new) result }
+{
+    let next = next_line(alloc, input)?;
+    let line = match next {
+        Next::Line(line) => line,
+        Next::Cut => return Ok(Step::Cut),
+        Next::End => return Ok(Step::End),
+    };
+    say(sent, &line)?;
+    let reply = next_reply(alloc, came)?;
+    say(writer, &reply)?;
+    Ok(Step::Told(is_accepted(&reply)))
+}
+
+/// What the input has next.
+fn next_line<R: BufRead>(alloc: Global, input: &mut R) -> Result<Next, Failure>
+    ensures ok { IfOk result (NextIs (R.remaining input.old) (R.remaining input.new)) }
+    ensures err { IfErr result IsOfTalk }
+{
+    let mut line = Vec::new(alloc);
+    match input.read_until(b'\n', &mut line) {
+        Ok(_) => Ok(next_of(line)),
+        Err(_) => Err(Failure::Fault(Fault::Read)),
+    }
+}
+
+/// What the bytes are that were read up to and with the first LF.
+fn next_of(line: Vec<u8>) -> Next
+    requires { StopsAt line.items 10 }
+    ensures { IsReadAs line.items result }
+{
+    if has_end(line.as_slice()) {
+        return Next::Line(line);
+    }
+    if line.as_slice().is_empty() {
+        return Next::End;
+    }
+    Next::Cut
+}
+
+/// Whether a line ends with its LF.
+fn has_end(line: &[u8]) -> bool
+    ensures { result ≡ ends_with_byte 10 line.now }
+{
+    let len = line.len();
+    len > 0 && line[len - 1] == b'\n'
+}
+
+/// The next reply at the control socket, with its LF.
+fn next_reply<C: BufRead>(alloc: Global, came: &mut C) -> Result<Vec<u8>, Failure>
+    ensures ok { IfOk result (λ reply. Consumes (C.remaining came.old) (C.remaining came.new) reply.items) }
+    ensures err { IfErr result IsOfTalk }
+{
+    let mut reply = Vec::new(alloc);
+    match came.read_until(b'\n', &mut reply) {
+        Ok(_) if reply.ends_with(b"\n") => Ok(reply),
+        _ => Err(Failure::Fault(Fault::Read)),
+    }
+}

@@ -1,0 +1,29 @@
+//! The moment that a clock tells.
+
+ghost use Rattle.std.specs.Prelude.{◌≡◌};
+ghost use Rattle.reg_desk_jobs.specs.Clocks.{TellsAt};
+
+use reg_core::Moment;
+
+/// The last moment, 9999-12-31T23:59:59Z.
+const LAST_SECOND: u64 = 253_402_300_799;
+
+/// The moment so many seconds after 1970 began, or the last one.
+pub(crate) fn moment_at(seconds: u64) -> Moment
+    ensures { TellsAt seconds result }
+{
+    match Moment::of_secs(seconds) {
+        Some(moment) => moment,
+        None => last_moment(),
+    }
+}
+
+/// The last moment.
+fn last_moment() -> Moment
+    ensures { result ≡ 253402300799 }
+{
+    match Moment::of_secs(LAST_SECOND) {
+        Some(moment) => moment,
+        None => Moment::EPOCH,
+    }
+}

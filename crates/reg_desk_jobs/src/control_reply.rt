@@ -1,0 +1,184 @@
+//! A reply at the control socket, and what is counted of its line.
+
+ghost use Rattle.std.specs.Prelude.{◌≡◌, ◌≤◌, ◌++◌, ◌∷◌, [], ℕ, List, IfOk, vec_capacity};
+ghost use Rattle.reg_core.specs.Lines.{fault_line};
+ghost use Rattle.reg_lines.specs.Answer.{reply_of};
+ghost use Rattle.reg_desk_jobs.specs.ControlReplies.{IsOf, came_of, crl_fate, effects_of, failed_if as failed_where, kind_of, kind_of_fault as kind_by_fault, ocsp_fate, store_effect};
+
+use reg_core::{Command, Fault, Outcome};
+use reg_desk_cli::Failure;
+use reg_lines::{Answered, Asked};
+use reg_office_api::{LineEffects, LineReply, SignatureFate, StoreEffect};
+use std::alloc::{AllocError, Global};
+
+/// What a line at the control socket came to.
+#[derive(Clone, Copy)]
+pub(crate) enum Came {
+    /// A command line: what it asked, and what that came to.
+    CameTo(Asked, Outcome),
+    /// A command line: an OCSP response, and whether it refuses.
+    Response(bool),
+    /// Another word was done.
+    Done,
+    /// It was not done.
+    Failed(Failure),
+    /// There was no memory for its reply.
+    Silent,
+}
+
+impl Came {
+    /// What a command line came to.
+    fn of(answered: &Answered) -> Came
+        ensures { result ≡ came_of answered.now }
+    {
+        match answered {
+            Answered::CameTo(asked, outcome) => Came::CameTo(*asked, *outcome),
+            Answered::Response(reply) => Came::Response(reply.is_refusal),
+        }
+    }
+
+    /// What is counted of the line, at which a signature failed or did not.
+    pub(crate) fn effects(&self, is_unsigned: bool) -> LineEffects
+        ensures { result ≡ effects_of is_unsigned self.now }
+    {
+        LineEffects {
+            reply: self.kind(),
+            crl: self.crl(is_unsigned),
+            ocsp: self.ocsp(is_unsigned),
+            store: self.store(),
+        }
+    }
+
+    /// How the line was answered.
+    pub(crate) fn kind(&self) -> LineReply
+        ensures { result ≡ kind_of self.now }
+    {
+        match self {
+            Came::CameTo(_, Ok(_)) => LineReply::Accepted,
+            Came::CameTo(_, Err(fault)) => kind_of_fault(fault),
+            Came::Response(_) => LineReply::Accepted,
+            Came::Done => LineReply::Accepted,
+            Came::Failed(Failure::Fault(fault)) => kind_of_fault(fault),
+            Came::Failed(_) => LineReply::Refused,
+            Came::Silent => LineReply::Fault,
+        }
+    }
+
+    /// What became of the signature of a CRL.
+    fn crl(&self, is_unsigned: bool) -> SignatureFate
+        ensures { result ≡ crl_fate is_unsigned self.now }
+    {
+        match self {
+            Came::CameTo(Asked::Command(Command::Crl), Ok(_)) => SignatureFate::Made,
+            Came::CameTo(Asked::Command(Command::Crl), Err(_)) => failed_if(is_unsigned),
+            _ => SignatureFate::NotAsked,
+        }
+    }
+
+    /// What became of the signature of an OCSP response.
+    fn ocsp(&self, is_unsigned: bool) -> SignatureFate
+        ensures { result ≡ ocsp_fate is_unsigned self.now }
+    {
+        match self {
+            Came::CameTo(Asked::Ocsp, _) => failed_if(is_unsigned),
+            Came::Response(true) => failed_if(is_unsigned),
+            Came::Response(false) if !is_unsigned => SignatureFate::Made,
+            Came::Response(false) => SignatureFate::Failed,
+            _ => SignatureFate::NotAsked,
+        }
+    }
+
+    /// What the line says of the store.
+    fn store(&self) -> StoreEffect
+        ensures { result ≡ store_effect self.now }
+    {
+        match self {
+            Came::CameTo(Asked::Command(_), Ok(_)) => StoreEffect::Written,
+            Came::CameTo(_, Err(Fault::Store)) => StoreEffect::Failed,
+            Came::Failed(Failure::Fault(Fault::Store)) => StoreEffect::Failed,
+            _ => StoreEffect::Unwritten,
+        }
+    }
+}
+
+/// How a line was answered that came to a refusal or a fault.
+fn kind_of_fault(fault: &Fault) -> LineReply
+    ensures { result ≡ kind_by_fault fault.now }
+{
+    match fault {
+        Fault::Refused(_) => LineReply::Refused,
+        _ => LineReply::Fault,
+    }
+}
+
+/// What became of a signature that did not come: it failed, or was not asked for.
+fn failed_if(is_unsigned: bool) -> SignatureFate
+    ensures { result ≡ failed_where is_unsigned }
+{
+    if is_unsigned {
+        SignatureFate::Failed
+    } else {
+        SignatureFate::NotAsked
+    }
+}
+
+/// A reply at the control socket, and what its line came to.
+#[derive(Drop)]
+pub(crate) struct ControlReply {
+    /// The reply with its LF; nothing where there was no memory for it.
+    pub(crate) text: Vec<u8>,
+    pub(crate) came: Came,
+}
+
+impl ControlReply {
+    /// The reply to a command line, in a room that is empty. It takes no memory.
+    pub(crate) fn of(answered: Answered, room: Vec<u8>) -> ControlReply
+        requires empty { room.items ≡ [] }
+        requires room { 84 ≤ vec_capacity room }
+        ensures text { result.text.items ≡ reply_of answered }
+        ensures came { result.came ≡ came_of answered }
+    {
+        let came = Came::of(&answered);
+        ControlReply {
+            text: answered.into_reply(room),
+            came,
+        }
+    }
+
+    /// A line as the reply, to a word that came to this; nothing where there is no memory for it.
+    pub(crate) fn line(alloc: Global, line: &[u8], came: Came) -> ControlReply
+        ensures { IsOf (line.now ++ 10 ∷ []) came result.text.items result.came }
+    {
+        ControlReply::made(alloc, with_lf(alloc, line), came)
+    }
+
+    /// The line of a fault.
+    pub(crate) fn fault(alloc: Global, fault: Fault) -> ControlReply
+        ensures { IsOf (fault_line fault ++ 10 ∷ []) (Came.Failed (Failure.Fault fault)) result.text.items result.came }
+    {
+        let line = fault.line();
+        ControlReply::line(alloc, line.as_bytes(), Came::Failed(Failure::Fault(fault)))
+    }
+
+    /// The reply to a word that came to this, where there was memory for its text.
+    pub(crate) fn made(alloc: Global, text: Result<Vec<u8>, AllocError>, came: Came) -> ControlReply
+        ensures { (bytes : List ℕ) → IfOk text (λ made. made.items ≡ bytes) → IsOf bytes came result.text.items result.came }
+    {
+        match text {
+            Ok(text) => ControlReply { text, came },
+            Err(_) => ControlReply {
+                text: Vec::new(alloc),
+                came: Came::Silent,
+            },
+        }
+    }
+}
+
+/// A line with its LF.
+fn with_lf(alloc: Global, line: &[u8]) -> Result<Vec<u8>, AllocError>
+    ensures { IfOk result (λ text. text.items ≡ line.now ++ 10 ∷ []) }
+{
+    let mut text = Vec::from_slice(alloc, line)?;
+    text.push(b'\n')?;
+    Ok(text)
+}

@@ -1,0 +1,79 @@
+//! The control socket: a Unix socket that only its owner may connect to.
+
+ghost use Rattle.std.specs.Prelude.{OnOk};
+ghost use Rattle.reg_desk_jobs.specs.Serving.{IsControlSocket};
+
+use crate::machine::Machine;
+use mio::net::UnixListener;
+use reg_core::of_io;
+use std::io;
+use std::io::ErrorKind;
+
+/// The mode of a socket that only its owner may connect to.
+const OWNER_ALONE: u32 = 0o600;
+
+/// The most connections that can wait before the mode is set.
+const MOST_WAITING: usize = 4_096;
+
+/// Creates a socket at a path, which only its owner may connect to, and listens there without waiting. A socket at which no program listens
+/// any more is taken over.
+///
+/// # Errors
+///
+/// What the system says, which the machine keeps: `AddrInUse` where a program listens there, `AlreadyExists` where something else than a
+/// socket lies there.
+pub(crate) fn lay_socket<M: Machine>(machine: &M, path: &str) -> io::Result<UnixListener>
+    ensures { OnOk result (IsControlSocket M.laid M.moded path.now) }
+{
+    match lay_for_owner(machine, path) {
+        Ok(listener) => Ok(listener),
+        Err(error) => {
+            machine.note(of_io(error.kind()));
+            Err(error)
+        }
+    }
+}
+
+/// Listens at a new socket at a path, and lets only its owner connect from then on.
+fn lay_for_owner<M: Machine>(machine: &M, path: &str) -> io::Result<UnixListener>
+    ensures { OnOk result (IsControlSocket M.laid M.moded path.now) }
+{
+    let listener = lay_anew(machine, path)?;
+    machine.set_mode(path, OWNER_ALONE)?;
+    drop_waiting(&listener);
+    Ok(listener)
+}
+
+/// Listens at a new socket at a path, also where one lies at which no program listens any more.
+fn lay_anew<M: Machine>(machine: &M, path: &str) -> io::Result<UnixListener>
+    ensures { OnOk result (M.laid path.now) }
+{
+    match machine.lay(path) {
+        Ok(listener) => Ok(listener),
+        Err(error) if error.kind() == ErrorKind::AddrInUse => {
+            remove_stale(machine, path)?;
+            machine.lay(path)
+        }
+        Err(error) => Err(error),
+    }
+}
+
+/// Removes a socket at which no program listens.
+fn remove_stale<M: Machine>(machine: &M, path: &str) -> io::Result<()> {
+    if !machine.is_socket(path)? {
+        return Err(io::Error::from(ErrorKind::AlreadyExists));
+    }
+    if !machine.is_deserted(path) {
+        return Err(io::Error::from(ErrorKind::AddrInUse));
+    }
+    machine.unlink(path)
+}
+
+/// Closes the connections of those who connected before the mode was set.
+fn drop_waiting(listener: &UnixListener) {
+    for _ in 0..MOST_WAITING {
+        if listener.accept().is_err() {
+            return;
+        }
+    }
+}

@@ -1,0 +1,158 @@
+//! A copy of a register: the job `copy`, and the word at the control socket by which the register that is open is copied.
+
+ghost use Rattle.std.specs.Prelude.{◌≡◌, ◌++◌, ◌∷◌, [], IfErr, IfOk};
+ghost use Rattle.reg_core.specs.Lines.{fault_line};
+ghost use Rattle.reg_desk_jobs.specs.ControlReplies.{IsOf, TellsCame};
+ghost use Rattle.reg_desk_jobs.specs.Copies.{TellsCopy, asks_copy as asks, copied_text};
+ghost use Rattle.reg_desk_jobs.specs.Ends.{CopyAt, TellsLine};
+ghost use Rattle.reg_office_api.specs.LookUps.{IsOfStore};
+
+use crate::control_reply::{Came, ControlReply};
+use crate::logging::micros_since;
+use crate::machine::Machine;
+use crate::reasons::front_and_end;
+use crate::telling::say;
+use reg_core::{Cause, Decimal, Fault};
+use reg_desk_cli::Failure;
+use std::alloc::{AllocError, Global};
+use std::io::Write;
+
+/// Why no copy was created: the fault, and its cause where that is known.
+#[derive(Clone, Copy, PartialEq, Eq)]
+pub struct Uncopied {
+    /// The fault.
+    pub fault: Fault,
+    /// The cause that the call told which failed.
+    pub cause: Option<Cause>,
+}
+
+/// Whether a line asks for a copy of the register.
+pub(crate) fn asks_copy(line: &[u8]) -> bool
+    ensures { result ≡ asks line.now }
+{
+    line.starts_with(b"copy ")
+}
+
+/// Copies the register that is open, whose file lies at a path, to another path, and tells that; who comes meanwhile waits. Where none is
+/// created, why is noted for the connection. No record changes.
+pub(crate) fn tell_copy<M: Machine>(
+    alloc: Global,
+    machine: &M,
+    file: &str,
+    path: Option<&str>,
+    noted: &mut Vec<u8>,
+) -> ControlReply
+    ensures copied { TellsCopy (M.copied_open file.now) result.text.items }
+    ensures told { TellsCopy (λ bytes. Unit {0}) result.text.items }
+    ensures came { TellsCame result.came result.text.items }
+{
+    let began = machine.micros();
+    match copy_to(machine, file, path) {
+        Ok(bytes) => told_copied(alloc, bytes, millis_since(machine, began)),
+        Err(why) => told_uncopied(alloc, why, noted),
+    }
+}
+
+/// Copies the register that is open to a path, if a line has one that can be read.
+fn copy_to<M: Machine>(machine: &M, file: &str, path: Option<&str>) -> Result<u64, Uncopied>
+    ensures ok { IfOk result (M.copied_open file.now) }
+    ensures err { IfErr result (λ why. IsOfStore why.fault) }
+{
+    match path {
+        Some(path) => machine.copy_open(file, path),
+        None => Err(Uncopied {
+            fault: Fault::Store,
+            cause: None,
+        }),
+    }
+}
+
+/// The path behind the word of a line: all that is left of it, without its end. `None` where that is no text of UTF-8.
+pub(crate) fn path_in(line: &[u8]) -> Option<&str> {
+    let path = line.strip_prefix(b"copy ")?;
+    let path = path.strip_suffix(b"\n").unwrap_or(path);
+    let path = path.strip_suffix(b"\r").unwrap_or(path);
+    str::from_utf8(path).ok()
+}
+
+/// How many whole milliseconds went by since these microseconds.
+fn millis_since<M: Machine>(machine: &M, began: u64) -> u64 {
+    micros_since(machine, began) / 1_000
+}
+
+/// The reply that tells a copy.
+fn told_copied(alloc: Global, bytes: u64, millis: u64) -> ControlReply
+    ensures { IsOf (copied_text bytes millis) Came.Done result.text.items result.came }
+{
+    ControlReply::made(alloc, copied_line(alloc, bytes, millis), Came::Done)
+}
+
+/// The text that tells a copy.
+#[tactic(auto, unfolding(crate::specs::Copies::copied_text))]
+fn copied_line(alloc: Global, bytes: u64, millis: u64) -> Result<Vec<u8>, AllocError>
+    ensures { IfOk result (λ text. text.items ≡ copied_text bytes millis) }
+{
+    let mut text = Vec::from_slice(alloc, b"copied ")?;
+    text.extend_from_slice(Decimal::of(bytes).as_bytes())?;
+    text.extend_from_slice(b" bytes in ")?;
+    text.extend_from_slice(Decimal::of(millis).as_bytes())?;
+    text.extend_from_slice(b" ms\n")?;
+    Ok(text)
+}
+
+/// The reply that tells why no copy was created, whose cause is noted.
+fn told_uncopied(alloc: Global, why: Uncopied, noted: &mut Vec<u8>) -> ControlReply
+    ensures { IsOf (fault_line why.fault ++ 10 ∷ []) (Came.Failed (Failure.Fault why.fault)) result.text.items result.came }
+{
+    noted.clear();
+    let reply = ControlReply::fault(alloc, why.fault);
+    note_cause(alloc, why.cause, &reply.text, noted);
+    reply
+}
+
+/// Notes the words of a cause; where none is known, or there is no memory for them, the reply itself.
+fn note_cause(alloc: Global, cause: Option<Cause>, reply: &[u8], noted: &mut Vec<u8>) {
+    match cause_text(alloc, cause) {
+        Some(text) => *noted = text,
+        None => {
+            let _ = noted.extend_from_slice(reply);
+        }
+    }
+}
+
+/// The words of a cause with an LF behind them, where it is known and there is memory for them.
+fn cause_text(alloc: Global, cause: Option<Cause>) -> Option<Vec<u8>> {
+    let line = cause?.line();
+    front_and_end(alloc, b"", line.as_bytes().strip_prefix(b"  ")?).ok()
+}
+
+/// Copies the register at a path, which no program has open, to another path, and tells it. It only reads what lies at the first.
+pub fn copy<M: Machine, W: Write>(
+    alloc: Global,
+    machine: &mut M,
+    file: &str,
+    to: &str,
+    writer: &mut W,
+) -> Result<(), Failure>
+    ensures { CopyAt M.Machine M.Office.Office W.contents machine.old machine.new writer.old writer.new file.now to.now
+        result }
+{
+    let began = machine.micros();
+    let bytes = machine.copy(file, to)?;
+    say_copied(alloc, writer, bytes, millis_since(machine, began))
+}
+
+/// Writes that a copy was created.
+fn say_copied<W: Write>(
+    alloc: Global,
+    writer: &mut W,
+    bytes: u64,
+    millis: u64,
+) -> Result<(), Failure>
+    ensures { TellsLine (copied_text bytes millis) W.contents writer.old writer.new result }
+{
+    match copied_line(alloc, bytes, millis) {
+        Ok(text) => say(writer, &text),
+        Err(_) => Err(Failure::Fault(Fault::Memory)),
+    }
+}

@@ -1,0 +1,365 @@
+//! A line at the control socket for which something is to be signed: it is looked at, what is to be signed goes out, and then the line is run, once.
+
+ghost use Rattle.std.specs.Prelude.{◌≡◌, [], None, IfOk, IfSome, OnErr, option_copied};
+ghost use Rattle.reg_office_api.specs.Leads.{Leads};
+ghost use Rattle.reg_desk_jobs.specs.Deferring.{IsKnown, socket_for};
+ghost use Rattle.reg_desk_jobs.specs.Given.{AtTold, GaveAt};
+ghost use Rattle.reg_desk_jobs.specs.WhoSigns.{crl_socket};
+ghost use Rattle.reg_desk_jobs.specs.CounterWords.{Word};
+ghost use Rattle.reg_crl_signer.specs.Asking.{IsAsking};
+
+use crate::desks::Desk;
+use crate::entering::tell_counted;
+use crate::leaving::heard_for;
+use crate::machine::Machine;
+use reg_core::{Command, Memory, Moment};
+use reg_crl_signer::{Asking, Backoff, Primed};
+use reg_desk_cli::{Answerer, KeyHolder};
+use reg_desk_server::{Deferred, HubFault};
+use reg_io::Begun;
+use reg_lines::{CommandLine, command_in, read_line};
+use reg_ocsp::Draft;
+use reg_office_api::{OcspResponse, Office};
+use std::alloc::Global;
+use std::io;
+use std::io::ErrorKind;
+use std::time::Duration;
+
+/// For what a line wants a signature.
+#[derive(Clone, Copy, PartialEq, Eq)]
+pub enum Wanted {
+    /// A CRL.
+    Crl,
+    /// An OCSP answer.
+    Answer,
+}
+
+/// What is kept of a line until what is to be signed for it is signed.
+#[derive(Clone, Copy)]
+pub struct Looked {
+    pub(crate) wanted: Wanted,
+    /// The moment at which it was looked at.
+    pub(crate) moment: Moment,
+    /// The microseconds at which it was.
+    pub(crate) began: u64,
+    /// Whether who signs is left alone, and is not asked.
+    pub(crate) is_left_alone: bool,
+}
+
+/// What is known of the signature for a line, and the moment at which the line is told.
+#[derive(Drop)]
+pub(crate) struct Known {
+    pub(crate) moment: Moment,
+    pub(crate) primed: Primed,
+}
+
+/// How many milliseconds after a line was looked at its signer has timed out: its ten seconds began a little before.
+const TIMEOUT: u64 = 9_500;
+
+/// A line with an OCSP request whose answer nobody signs: who would is left alone.
+fn unasked(alloc: Global, began: u64) -> Deferred<Looked> {
+    Deferred {
+        message: Vec::new(alloc),
+        ticket: Looked {
+            wanted: Wanted::Answer,
+            moment: Moment::EPOCH,
+            began,
+            is_left_alone: true,
+        },
+    }
+}
+
+/// For what a command line wants a signature, if for anything.
+fn wanted_by(said: &CommandLine<'_>) -> Option<Wanted> {
+    match *said {
+        CommandLine::Command(Command::Crl) => Some(Wanted::Crl),
+        CommandLine::Ocsp(_) => Some(Wanted::Answer),
+        _ => None,
+    }
+}
+
+/// Looks at a command line that wants a signature: what is to be signed for it. Nothing changes.
+fn look_at<M: Machine>(
+    alloc: Global,
+    office: &mut M::Office,
+    looked: Looked,
+    said: &CommandLine<'_>,
+) -> Option<Deferred<Looked>>
+    ensures { Leads M.Office.is_clean M.Office.stands (λ identity before after. after ≡ before) office.old office.new }
+{
+    match *said {
+        CommandLine::Ocsp(digits) => look_at_request(alloc, office, looked, digits),
+        _ => deferred_for(office.crl_message(alloc, looked.moment), looked),
+    }
+}
+
+/// Looks at an OCSP request, by its digits.
+fn look_at_request<O: Office>(
+    alloc: Global,
+    office: &mut O,
+    looked: Looked,
+    digits: &[u8],
+) -> Option<Deferred<Looked>>
+    ensures { Leads O.is_clean O.stands (λ identity before after. after ≡ before) office.old office.new }
+{
+    let Ok(request) = hex::decode(alloc, digits) else {
+        return None;
+    };
+    let begun = office.begin_ocsp(alloc, looked.moment, &request);
+    deferred_for(message_of(alloc, begun), looked)
+}
+
+/// A line that was looked at, and what is to be signed for it, where something is.
+fn deferred_for(message: Option<Vec<u8>>, ticket: Looked) -> Option<Deferred<Looked>> {
+    match message {
+        Some(message) => Some(Deferred { message, ticket }),
+        None => None,
+    }
+}
+
+/// What is to be signed for an answer that was begun by what holds a key. `None` where nothing is, and for want of memory.
+fn message_of(alloc: Global, begun: Result<Begun<OcspResponse, Draft>, Memory>) -> Option<Vec<u8>> {
+    match begun {
+        Ok(Begun::Unsigned(draft)) => Vec::from_slice(alloc, draft.message()).ok(),
+        Ok(Begun::Ready(_)) => None,
+        Err(_) => None,
+    }
+}
+
+/// The socket of what signs this, where what holds a key does: OCSP answers, the responder's, or else the one that signs CRLs.
+pub(crate) fn socket_of<'w>(
+    signer: &Option<KeyHolder<'w>>,
+    answerer: &Answerer<'w>,
+    wanted: Wanted,
+) -> Option<&'w str>
+    ensures { socket_for signer.now answerer.now wanted ≡ option_copied result }
+{
+    match wanted {
+        Wanted::Crl => crls_at(signer),
+        Wanted::Answer => match answerer {
+            Answerer::Delegate { holder, .. } => Some(holder.socket.as_str()),
+            Answerer::Issuer { .. } => crls_at(signer),
+        },
+    }
+}
+
+/// The socket of what signs CRLs, where what holds a key does.
+fn crls_at<'w>(signer: &Option<KeyHolder<'w>>) -> Option<&'w str>
+    ensures { crl_socket signer.now ≡ option_copied result }
+{
+    match signer {
+        Some(holder) => Some(holder.socket.as_str()),
+        None => None,
+    }
+}
+
+/// Connects to what signs for a line, as it was told, and waits for nothing.
+pub(crate) fn reach_for<M: Machine>(
+    machine: &M,
+    signer: &Option<KeyHolder<'_>>,
+    answerer: &Answerer<'_>,
+    looked: &Looked,
+) -> io::Result<Asking>
+    ensures { IfOk result (λ asking. AtTold (socket_for signer.now answerer.now looked.now.wanted)
+        (λ path. M.reached path × IsAsking path [] asking)) }
+{
+    match socket_of(signer, answerer, looked.wanted) {
+        Some(socket) if !looked.is_left_alone => machine.reach(socket),
+        _ => Err(io::Error::from(ErrorKind::NotFound)),
+    }
+}
+
+/// What is known of the signature for a line that was looked at, and the moment at which the line is told: with what came for what was to be
+/// signed, the moment at which it was looked at; without a signature, that of the clock. `None` where the register's clock is past that
+/// moment: what is to be signed is another message then. Nothing changes.
+///
+/// # Errors
+///
+/// [`HubFault`] where the clock can't be read, and nothing was done.
+pub(crate) fn known_of<M: Machine>(
+    alloc: Global,
+    office: &mut M::Office,
+    machine: &M,
+    signer: &Option<KeyHolder<'_>>,
+    answerer: &Answerer<'_>,
+    looked: Looked,
+    message: Vec<u8>,
+    link: Option<Asking>,
+) -> Result<Option<Known>, HubFault>
+    ensures moves { Leads M.Office.is_clean M.Office.stands (λ identity before after. after ≡ before) office.old office.new }
+    ensures known { IfOk result (λ found. IfSome found (IsKnown (GaveAt M.gave (socket_for signer.now answerer.now looked.wanted)) M.told)) }
+    ensures err { OnErr result (office.new ≡ office.old) }
+{
+    match link {
+        Some(link) => Ok(recalled::<M>(
+            alloc, office, machine, signer, answerer, looked, message, link,
+        )),
+        None => Ok(Some(unsigned_now(alloc, machine)?)),
+    }
+}
+
+/// Nothing is known of a signature, at the moment of the clock.
+fn unsigned_now<M: Machine>(alloc: Global, machine: &M) -> Result<Known, HubFault>
+    ensures told { IfOk result (λ known. M.told known.moment) }
+    ensures nothing { IfOk result (λ known. known.primed.answer ≡ None) }
+{
+    match machine.moment() {
+        Ok(moment) => Ok(Known {
+            moment,
+            primed: Primed {
+                message: Vec::new(alloc),
+                answer: None,
+            },
+        }),
+        Err(_) => Err(HubFault),
+    }
+}
+
+/// What came for what was to be signed, at the moment at which the line was looked at, unless the register's clock is past it.
+fn recalled<M: Machine>(
+    alloc: Global,
+    office: &mut M::Office,
+    machine: &M,
+    signer: &Option<KeyHolder<'_>>,
+    answerer: &Answerer<'_>,
+    looked: Looked,
+    message: Vec<u8>,
+    link: Asking,
+) -> Option<Known>
+    ensures moves { Leads M.Office.is_clean M.Office.stands (λ identity before after. after ≡ before) office.old office.new }
+    ensures known { IfSome result (IsKnown (GaveAt M.gave (socket_for signer.now answerer.now looked.wanted)) M.told) }
+{
+    if is_past(office, looked.moment) {
+        return None;
+    }
+    match machine.recall(looked.moment) {
+        Some(moment) => {
+            let answer = heard_for::<M>(
+                alloc,
+                signer,
+                answerer,
+                looked.wanted,
+                &message,
+                Some(link),
+            );
+            let primed = Primed { message, answer };
+            Some(Known { moment, primed })
+        }
+        None => None,
+    }
+}
+
+/// Whether the register's clock is past a moment: something was accepted at a later one. Where it can't be read, it is not.
+fn is_past<O: Office>(office: &mut O, moment: Moment) -> bool
+    ensures { Leads O.is_clean O.stands (λ identity before after. after ≡ before) office.old office.new }
+{
+    match office.standing() {
+        Ok(standing) => moment < standing.last,
+        Err(_) => false,
+    }
+}
+
+/// What a line has signed.
+impl<'a, 'w, M: Machine> Desk<'a, 'w, M> {
+    /// The socket of who signs what a line wants signed.
+    pub(crate) fn signer_of(&self, wanted: Wanted) -> Option<&'w str> {
+        socket_of(self.signer, self.answerer, wanted)
+    }
+
+    /// Looks at a line: what is to be signed before it is told, where its signer has a key.
+    pub(crate) fn look(&mut self, line: &[u8]) -> Option<Deferred<Looked>>
+        ensures open { self.new.is_open ≡ self.old.is_open }
+        ensures moves { Leads M.Office.is_clean M.Office.stands (λ identity before after. after ≡ before)
+            self.old.office self.new.office }
+    {
+        match command_in(line) {
+            Some(command) => match read_line(command) {
+                Some(said) => self.look_for(&said),
+                None => None,
+            },
+            None => None,
+        }
+    }
+
+    /// Looks at what a line says.
+    fn look_for(&mut self, said: &CommandLine<'_>) -> Option<Deferred<Looked>>
+        ensures open { self.new.is_open ≡ self.old.is_open }
+        ensures moves { Leads M.Office.is_clean M.Office.stands (λ identity before after. after ≡ before)
+            self.old.office self.new.office }
+    {
+        let wanted = wanted_by(said)?;
+        if self.signer_of(wanted).is_none() {
+            return None;
+        }
+        let began = self.machine.micros();
+        if wanted == Wanted::Answer && self.backoff.is_active(Duration::from_micros(began)) {
+            return Some(unasked(self.alloc, began));
+        }
+        let Ok(moment) = self.machine.moment() else {
+            return None;
+        };
+        let looked = Looked {
+            wanted,
+            moment,
+            began,
+            is_left_alone: false,
+        };
+        look_at::<M>(self.alloc, &mut self.office, looked, said)
+    }
+
+    /// The back-off of lines from the signer of OCSP answers, once it was asked for one, or for a CRL, and has answered or not.
+    pub(crate) fn backoff_after(&self, looked: Looked, has_come: bool) -> Backoff {
+        let answers = self.signer_of(Wanted::Answer);
+        if looked.is_left_alone || !is_same(self.signer_of(looked.wanted), answers) {
+            return self.backoff;
+        }
+        if has_come {
+            return Backoff::none();
+        }
+        Backoff::after_failure(
+            Duration::from_micros(looked.began),
+            Duration::from_micros(self.machine.micros()),
+            Duration::from_millis(TIMEOUT),
+        )
+    }
+
+    /// Answers a line with what is known of the signature that it wants: who signs asks nobody. It is counted as any line is.
+    pub(crate) fn tell_known(
+        &mut self,
+        line: &[u8],
+        noted: &mut Vec<u8>,
+        looked: Looked,
+        known: Known,
+    ) -> Vec<u8>
+        requires { IsKnown (GaveAt M.gave (socket_for self.old.signer.now self.old.answerer.now looked.wanted)) M.told known }
+        ensures open { self.new.is_open ≡ self.old.is_open }
+        ensures moves { Leads M.Office.is_clean M.Office.stands
+            (λ identity before after. Word M.Office.signs M.told identity before line.now result.items after) self.old.office self.new.office }
+    {
+        let Known { moment, primed } = known;
+        M::prime(&mut self.office, looked.wanted, Some(primed));
+        let mut tally = self.tally.get();
+        let reply = tell_counted::<M>(
+            self.alloc,
+            &mut self.office,
+            self.machine,
+            self.file,
+            &mut tally,
+            looked.began,
+            moment,
+            line,
+            noted,
+        );
+        self.tally.set(tally);
+        M::prime(&mut self.office, looked.wanted, None);
+        reply
+    }
+}
+
+/// Whether two sockets are one.
+fn is_same(first: Option<&str>, second: Option<&str>) -> bool {
+    match (first, second) {
+        (Some(first), Some(second)) => first == second,
+        _ => false,
+    }
+}

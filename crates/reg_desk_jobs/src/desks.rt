@@ -1,0 +1,217 @@
+//! A desk, as it answers who comes: HTTP requests, and lines at the control socket.
+
+ghost use Rattle.std.specs.Prelude.{◌≡◌, IfOk, MatchOption, OnErr};
+
+use crate::deferring::{Looked, known_of, reach_for};
+use crate::entering::tell_counted_now;
+use crate::leaving::{Unsigned, ask_for, finish_visit};
+use crate::logging::log_lost;
+use crate::machine::Machine;
+use crate::visiting::visit;
+use reg_crl_signer::{Asking, Backoff};
+use reg_desk_cli::{Answerer, KeyHolder};
+use reg_desk_metrics::{Heard, Tally};
+use reg_desk_server::{Crowd, Deferred, Handler, HubFault, PeerFault};
+use reg_http_head::Collected;
+use reg_io::Begun;
+use std::alloc::Global;
+use std::cell::Cell;
+use std::io;
+use std::net::SocketAddr;
+
+/// A desk that answers HTTP requests, each at a moment of the clock. An open one tells of itself, too, and answers lines at the control
+/// socket.
+#[derive(Drop)]
+pub(crate) struct Desk<'a, 'w, M: Machine> {
+    pub(crate) office: M::Office,
+    pub(crate) alloc: Global,
+    pub(crate) machine: &'a M,
+    /// Whether it is open.
+    pub(crate) is_open: bool,
+    /// The path of the register's file.
+    pub(crate) file: &'a str,
+    /// Who signs CRLs, and who answers OCSP requests, as it was told.
+    pub(crate) signer: &'a Option<KeyHolder<'w>>,
+    pub(crate) answerer: &'a Answerer<'w>,
+    /// The back-off of lines from the signer of OCSP answers.
+    pub(crate) backoff: Backoff,
+    /// What was counted since the register was opened. No clause of the desk reads it: an answer that was left to be signed is counted where it
+    /// is finished, at which the desk stays as it is.
+    pub(crate) tally: &'a Cell<Tally>,
+    /// What was heard of connections.
+    pub(crate) heard: &'a Cell<Heard>,
+}
+
+impl<'a, 'w, M: Machine> Handler for Desk<'a, 'w, M> {
+    ghost use Rattle.std.specs.Prelude.{[], IsTrue};
+    ghost use Rattle.reg_office_api.specs.Leads.{Leads};
+    ghost use Rattle.reg_desk_jobs.specs.CounterWords.{Word};
+    ghost use Rattle.reg_desk_jobs.specs.Deferring.{socket_for};
+    ghost use Rattle.reg_desk_jobs.specs.Exchanges.{AnswersBy};
+    ghost use Rattle.reg_desk_jobs.specs.Given.{AtTold, GaveAt, WasGiven};
+    ghost use Rattle.reg_desk_jobs.specs.Leaving.{FinishesUnsigned, Meets};
+    ghost use Rattle.reg_desk_jobs.specs.WhoSigns.{answer_socket};
+    ghost use Rattle.reg_crl_signer.specs.Asking.{IsAsking};
+
+    type Ticket = Unsigned;
+
+    type Line = Looked;
+
+    ghost answers = { λ s request outcome t. (t.is_open ≡ s.is_open) × Leads M.Office.is_clean M.Office.stands
+        (λ identity before after. Meets (FinishesUnsigned (WasGiven M.gave))
+        (λ text. AnswersBy s.is_open M.Office.signs M.told identity before request text after) outcome)
+        s.office t.office };
+
+    // only an open desk is told lines
+    ghost tells = { λ s line text t. IsTrue s.is_open × IsTrue t.is_open × Leads M.Office.is_clean M.Office.stands
+        (λ identity before after. Word M.Office.signs M.told identity before line text after) s.office t.office };
+
+    ghost defers = { λ s line t. (t.is_open ≡ s.is_open)
+        × Leads M.Office.is_clean M.Office.stands (λ identity before after. after ≡ before) s.office t.office };
+
+    ghost finishes = { λ s. FinishesUnsigned (GaveAt M.gave (answer_socket s.signer.now s.answerer.now)) };
+
+    fn answer(
+        &mut self,
+        peer: SocketAddr,
+        request: &Collected,
+    ) -> Result<Begun<Vec<u8>, Unsigned>, HubFault> {
+        let Ok(now) = self.machine.moment() else {
+            return Err(HubFault);
+        };
+        let mut tally = self.tally.get();
+        let begun = visit::<M>(
+            self.alloc,
+            &mut self.office,
+            self.machine,
+            self.is_open,
+            &mut tally,
+            self.heard.get(),
+            now,
+            peer,
+            request,
+        );
+        self.tally.set(tally);
+        Ok(begun)
+    }
+
+    fn ask(&self, ticket: &Unsigned) -> io::Result<Asking>
+        ensures { IfOk result (λ asking. AtTold (answer_socket self.now.signer.now self.now.answerer.now)
+            (λ path. M.asked path ticket.now.draft.message × IsAsking path ticket.now.draft.message asking)) }
+    {
+        ask_for(self.machine, self.signer, self.answerer, ticket)
+    }
+
+    fn finish(&self, ticket: Unsigned, link: Option<Asking>) -> Vec<u8> {
+        let mut tally = self.tally.get();
+        let text = finish_visit::<M>(
+            self.alloc,
+            self.machine,
+            &mut tally,
+            self.signer,
+            self.answerer,
+            ticket,
+            link,
+        );
+        self.tally.set(tally);
+        text
+    }
+
+    fn tell(&mut self, line: &[u8], noted: &mut Vec<u8>) -> Result<Vec<u8>, HubFault> {
+        if !self.is_open {
+            return Err(HubFault);
+        }
+        let mut tally = self.tally.get();
+        let told = tell_counted_now::<M>(
+            self.alloc,
+            &mut self.office,
+            self.machine,
+            self.file,
+            &mut tally,
+            line,
+            noted,
+        );
+        self.tally.set(tally);
+        told
+    }
+
+    fn defer(&mut self, line: &[u8]) -> Option<Deferred<Looked>> {
+        self.look(line)
+    }
+
+    fn reach(&self, ticket: &Looked) -> io::Result<Asking>
+        ensures { IfOk result (λ asking. AtTold (socket_for self.now.signer.now self.now.answerer.now ticket.now.wanted)
+            (λ path. M.reached path × IsAsking path [] asking)) }
+    {
+        reach_for(self.machine, self.signer, self.answerer, ticket)
+    }
+
+    fn tell_deferred(
+        &mut self,
+        line: &[u8],
+        noted: &mut Vec<u8>,
+        deferred: Deferred<Looked>,
+        link: Option<Asking>,
+    ) -> Result<Option<Vec<u8>>, HubFault>
+        ensures ok { IfOk result (λ told. MatchOption told
+            ((self.new.is_open ≡ self.old.is_open)
+            × Leads M.Office.is_clean M.Office.stands (λ identity before after. after ≡ before) self.old.office self.new.office)
+            (λ text. IsTrue self.old.is_open × IsTrue self.new.is_open × Leads M.Office.is_clean M.Office.stands
+            (λ identity before after. Word M.Office.signs M.told identity before line.now text.items after) self.old.office self.new.office)) }
+        ensures err { OnErr result ((self.new ≡ self.old) × (noted.new ≡ noted.old)) }
+    {
+        if !self.is_open {
+            return Err(HubFault);
+        }
+        let Deferred { message, ticket } = deferred;
+        let looked = ticket;
+        let asked = ticket;
+        let has_come = link.is_some();
+        let known = known_of::<M>(
+            self.alloc,
+            &mut self.office,
+            self.machine,
+            self.signer,
+            self.answerer,
+            looked,
+            message,
+            link,
+        )?;
+        self.backoff = self.backoff_after(asked, has_come);
+        match known {
+            Some(known) => Ok(Some(self.tell_known(line, noted, ticket, known))),
+            None => Ok(None),
+        }
+    }
+
+    fn lose(&self, peer: Option<SocketAddr>, why: PeerFault) {
+        self.heard.set(with_loss(self.heard.get(), why));
+        log_lost(self.alloc, self.machine, peer, why);
+    }
+
+    fn hold(&self, crowd: Crowd) {
+        self.heard.set(with_crowd(self.heard.get(), crowd));
+    }
+}
+
+/// What was heard, with a connection more that ended by a fault.
+fn with_loss(heard: Heard, why: PeerFault) -> Heard {
+    let mut heard = heard;
+    match why {
+        PeerFault::Broken => heard.broken = heard.broken.saturating_add(1),
+        PeerFault::Late => heard.late = heard.late.saturating_add(1),
+        PeerFault::Crowded => heard.crowded = heard.crowded.saturating_add(1),
+        PeerFault::Memory => heard.memory = heard.memory.saturating_add(1),
+    }
+    heard
+}
+
+/// What was heard, with so many connections.
+fn with_crowd(heard: Heard, crowd: Crowd) -> Heard {
+    Heard {
+        peers: crowd.peers as u64,
+        counters: crowd.counters as u64,
+        accepted: crowd.accepted,
+        ..heard
+    }
+}

@@ -1,0 +1,346 @@
+//! The jobs but `serve`.
+
+ghost use Rattle.std.specs.Prelude.{◌≡◌, Result, IfErr, false};
+ghost use Rattle.reg_office_api.specs.Items.{items_of};
+ghost use Rattle.reg_office_api.specs.CallSteps.{Crls};
+ghost use Rattle.reg_office_api.specs.Leads.{Leads};
+ghost use Rattle.reg_lines.specs.ByCalls.{Lines};
+ghost use Rattle.reg_lines.specs.Strict.{StrictEnds};
+ghost use Rattle.reg_desk_jobs.specs.Ends.{AuditAt, CrlAt, ImportAt, InitAt, KeyIdAt, MakesAt, ScheduleAt, ScriptAt, StrictImportAt};
+ghost use Rattle.reg_desk_jobs.specs.Ends.{SaysGiven, TellsBroken, TellsSet, TellsLine, TellsVerdict};
+ghost use Rattle.reg_desk_jobs.specs.Visits.{ending_of, ending_of_run};
+ghost use Rattle.reg_office_api.specs.LookUps.{IsOfStore};
+ghost use Rattle.reg_audit_rows.specs.FindingLines.{broken_text, sound_text};
+
+use crate::lines_job::run_script_over;
+use crate::machine::Machine;
+use crate::reasons::{Reason, keep_reason};
+use crate::registers::{audit_at, make, open_signed, open_unsigned};
+use crate::telling::say;
+use reg_audit_rows::{Audited, BrokenRow, OTHER_SCHEMA, Verdict, broken_line, sound_line};
+use reg_core::{Fault, Moment, Policy};
+use reg_der::Issuer;
+use reg_desk_cli::{
+    Answerer, Failure, KeyHolder, NewRegister, RowsToImport, Steps, Word, key_identifier_of,
+    office_of, schedule_of,
+};
+use reg_lines::{Ended, import, import_strictly};
+use reg_office_api::Office;
+use std::alloc::Global;
+use std::cell::Cell;
+use std::io::{Read, Write};
+
+/// How a job ends whose run of a register ended so.
+pub fn ended(ran: Result<(), Fault>) -> Result<(), Failure>
+    ensures { result ≡ ending_of ran }
+{
+    match ran {
+        Ok(()) => Ok(()),
+        Err(fault) => Err(Failure::Fault(fault)),
+    }
+}
+
+/// Makes a register at a path. The issuer and then the policy are looked at before the path is. Where that fails, a path
+/// at which nothing lay has nothing there afterwards, but for a register that somebody else made there meanwhile.
+pub fn init<M: Machine, W: Write>(
+    alloc: Global,
+    machine: &mut M,
+    new: &NewRegister<'_>,
+    writer: &mut W,
+) -> Result<(), Failure>
+    ensures { InitAt M.Machine M.Office.Office W.contents machine.old machine.new writer.old writer.new new.now result }
+{
+    let path = new.file.as_str();
+    let (issuer, policy) = office_of(
+        alloc,
+        &new.name,
+        &new.key,
+        &new.key_id,
+        new.days,
+        new.crl_life,
+        new.ocsp_life,
+        new.cap,
+    )?;
+    let is_ours = match machine.claim(path) {
+        Ok(is_ours) => is_ours,
+        Err(_) => return Err(Failure::Fault(Fault::Memory)),
+    };
+    match make_at(machine, path, issuer, policy, writer) {
+        Ok(()) => Ok(()),
+        Err(Failure::NotEmpty) => Err(Failure::NotEmpty),
+        Err(why) => {
+            if is_ours {
+                machine.remove(path);
+                return Err(why);
+            }
+            Err(why)
+        }
+    }
+}
+
+/// Makes a register at a path, and tells it.
+fn make_at<M: Machine, W: Write>(
+    machine: &mut M,
+    path: &str,
+    issuer: Issuer,
+    policy: Policy,
+    writer: &mut W,
+) -> Result<(), Failure>
+    ensures { MakesAt M.Machine M.Office.Office W.contents machine.old machine.new writer.old writer.new path.now issuer policy
+        result }
+{
+    let register = make(machine, path, issuer, policy)?;
+    machine.close(path, register);
+    say(writer, b"created\n")
+}
+
+/// Runs the script of standard input over the register at a path. Where a digest seals its first CRL, that is said at the front.
+pub fn script<M: Machine, R: Read, W: Write>(
+    alloc: Global,
+    machine: &mut M,
+    path: &str,
+    signer: &Option<KeyHolder<'_>>,
+    reader: &mut R,
+    writer: &mut W,
+) -> Result<(), Failure>
+    ensures { ScriptAt M.Machine M.Office.Office R.remaining W.contents machine.old machine.new
+        reader.old reader.new writer.old writer.new path.now signer.now result }
+{
+    let answerer = Answerer::Issuer { certificate: None };
+    let mut office = open_signed(machine, path, signer, &answerer)?;
+    let is_unsigned = signer.is_none();
+    let ran = run_script_over::<M, R, W>(alloc, machine, &mut office, is_unsigned, reader, writer);
+    machine.close(path, office);
+    ended(ran)
+}
+
+/// Imports standard input into the register at a path. A strict import ends at the first refusal or fault, and runs no last row without
+/// its line end; why its last row was refused, if it was, is kept.
+pub fn import_rows<M: Machine, R: Read, W: Write>(
+    alloc: Global,
+    machine: &mut M,
+    rows: &RowsToImport<'_>,
+    reason: &Cell<Option<Reason>>,
+    reader: &mut R,
+    writer: &mut W,
+) -> Result<(), Failure>
+    ensures { ImportAt M.Machine M.Office.Office R.remaining W.contents machine.old machine.new
+        reader.old reader.new writer.old writer.new rows.now.is_strict rows.now.file rows.now.moment result }
+{
+    let path = rows.file.as_str();
+    if rows.is_strict {
+        return import_to_refusal(alloc, machine, path, rows.moment, reason, reader, writer);
+    }
+    import_all(alloc, machine, path, rows.moment, reader, writer)
+}
+
+/// Imports standard input into the register at a path, up to the first refusal or fault.
+fn import_to_refusal<M: Machine, R: Read, W: Write>(
+    alloc: Global,
+    machine: &mut M,
+    path: &str,
+    now: Moment,
+    reason: &Cell<Option<Reason>>,
+    reader: &mut R,
+    writer: &mut W,
+) -> Result<(), Failure>
+    ensures { StrictImportAt M.Machine M.Office.Office R.remaining W.contents machine.old machine.new
+        reader.old reader.new writer.old writer.new path.now now result }
+{
+    let mut office = open_unsigned(machine, path)?;
+    let imported = import_kept::<M, R, W>(alloc, &mut office, now, reason, reader, writer);
+    machine.close(path, office);
+    run_ended(imported)
+}
+
+/// Imports rows up to the first refusal or fault, and keeps why the last one was refused, if it was.
+fn import_kept<M: Machine, R: Read, W: Write>(
+    alloc: Global,
+    office: &mut M::Office,
+    now: Moment,
+    reason: &Cell<Option<Reason>>,
+    reader: &mut R,
+    writer: &mut W,
+) -> Result<Ended, Fault>
+    ensures { Leads M.Office.is_clean M.Office.stands
+        (λ identity before after. StrictEnds (Lines M.Office.signs identity) R.remaining W.contents now before after
+        reader.old reader.new writer.old writer.new result) office.old office.new }
+{
+    let imported = import_strictly(alloc, reader, writer, now, office);
+    keep_reason::<M>(office, &imported, reason);
+    imported
+}
+
+/// How a job ends whose run of lines or rows ended so.
+pub(crate) fn run_ended(ran: Result<Ended, Fault>) -> Result<(), Failure>
+    ensures { result ≡ ending_of_run ran }
+{
+    match ran {
+        Ok(Ended::Whole) => Ok(()),
+        Ok(Ended::Refused(_)) => Err(Failure::Refused),
+        Ok(Ended::NoLineEnd) => Err(Failure::NoLineEnd),
+        Err(fault) => Err(Failure::Fault(fault)),
+    }
+}
+
+/// Imports standard input into the register at a path, also what is behind a refusal or a fault.
+fn import_all<M: Machine, R: Read, W: Write>(
+    alloc: Global,
+    machine: &mut M,
+    path: &str,
+    now: Moment,
+    reader: &mut R,
+    writer: &mut W,
+) -> Result<(), Failure>
+    ensures { ImportAt M.Machine M.Office.Office R.remaining W.contents machine.old machine.new
+        reader.old reader.new writer.old writer.new false path.now now result }
+{
+    let mut office = open_unsigned(machine, path)?;
+    let imported = import(alloc, reader, writer, now, &mut office);
+    machine.close(path, office);
+    ended(imported)
+}
+
+/// Writes the bytes of a CRL of the register at a path.
+pub fn crl<M: Machine, W: Write>(
+    alloc: Global,
+    machine: &mut M,
+    path: &str,
+    number: Option<u64>,
+    writer: &mut W,
+) -> Result<(), Failure>
+    ensures { CrlAt M.Machine M.Office.Office W.contents machine.old machine.new writer.old writer.new path.now number
+        result }
+{
+    let mut register = open_unsigned(machine, path)?;
+    let given = given_crl(alloc, &mut register, number);
+    machine.close(path, register);
+    say_given(writer, given)
+}
+
+/// The bytes of a CRL of a register.
+fn given_crl<O: Office>(
+    alloc: Global,
+    register: &mut O,
+    number: Option<u64>,
+) -> Result<Vec<u8>, Fault>
+    ensures { Leads O.is_clean O.stands (λ identity before after. Crls before number (items_of result) after) register.old register.new }
+{
+    register.crl_bytes(alloc, number)
+}
+
+/// Says the bytes that are given.
+pub(crate) fn say_given<W: Write>(
+    writer: &mut W,
+    given: Result<Vec<u8>, Fault>,
+) -> Result<(), Failure>
+    ensures { SaysGiven W.contents writer.old writer.new (items_of given) result }
+{
+    match given {
+        Ok(bytes) => say(writer, &bytes),
+        Err(fault) => Err(Failure::Fault(fault)),
+    }
+}
+
+/// Gives the register at a path another schedule, which is looked at before the path is.
+pub fn schedule<M: Machine, W: Write>(
+    alloc: Global,
+    machine: &mut M,
+    path: &str,
+    steps: &Steps,
+    writer: &mut W,
+) -> Result<(), Failure>
+    ensures { ScheduleAt M.Machine M.Office.Office W.contents machine.old machine.new writer.old writer.new path.now
+        steps.now result }
+{
+    let schedule = schedule_of(steps)?;
+    let mut register = open_unsigned(machine, path)?;
+    let set = register.set_schedule(alloc, schedule);
+    machine.close(path, register);
+    tell_set(writer, b"schedule set\n", set)
+}
+
+/// Gives the issuer of the register at a path a key identifier of its own, for the CRLs from the next one on. The word is looked
+/// at before the path is.
+pub fn key_identifier<M: Machine, W: Write>(
+    alloc: Global,
+    machine: &mut M,
+    path: &str,
+    key_id: &Word<'_>,
+    writer: &mut W,
+) -> Result<(), Failure>
+    ensures { KeyIdAt M.Machine M.Office.Office W.contents machine.old machine.new writer.old writer.new path.now
+        key_id.now result }
+{
+    let octets = key_identifier_of(alloc, key_id)?;
+    let mut register = open_unsigned(machine, path)?;
+    let set = register.set_key_identifier(alloc, octets);
+    machine.close(path, register);
+    tell_set(writer, b"key-id set\n", set)
+}
+
+/// Tells by this text that something was set.
+fn tell_set<W: Write>(writer: &mut W, text: &[u8], set: Result<(), Fault>) -> Result<(), Failure>
+    requires { IfErr set IsOfStore }
+    ensures { TellsSet text.now W.contents writer.old writer.new set result }
+{
+    match set {
+        Ok(()) => say(writer, text),
+        Err(fault) => Err(Failure::Fault(fault)),
+    }
+}
+
+/// Audits the register at a path, and tells what was found. It only reads: the place is as it was.
+pub fn audit<M: Machine, W: Write>(
+    alloc: Global,
+    machine: &M,
+    path: &str,
+    writer: &mut W,
+) -> Result<(), Failure>
+    ensures { AuditAt M.Machine M.Office.Office W.contents machine.now machine.now writer.old writer.new path.now result }
+{
+    let verdict = audit_at(machine, path)?;
+    tell_verdict(alloc, writer, verdict)
+}
+
+/// Tells what an audit found.
+fn tell_verdict<W: Write>(alloc: Global, writer: &mut W, verdict: Verdict) -> Result<(), Failure>
+    ensures { TellsVerdict W.contents writer.old writer.new verdict result }
+{
+    match verdict {
+        Verdict::Sound(found) => tell_sound(alloc, writer, found),
+        Verdict::Broken(broken) => tell_broken(alloc, writer, broken),
+        Verdict::OtherSchema => say_broken(writer, OTHER_SCHEMA.as_bytes()),
+        Verdict::Older => Err(Failure::OldVersion),
+    }
+}
+
+/// Tells that all rows are sound.
+fn tell_sound<W: Write>(alloc: Global, writer: &mut W, found: Audited) -> Result<(), Failure>
+    ensures { TellsLine (sound_text found) W.contents writer.old writer.new result }
+{
+    match sound_line(alloc, found) {
+        Ok(line) => say(writer, &line),
+        Err(_) => Err(Failure::Fault(Fault::Memory)),
+    }
+}
+
+/// Tells a row that breaks a rule.
+fn tell_broken<W: Write>(alloc: Global, writer: &mut W, broken: BrokenRow) -> Result<(), Failure>
+    ensures { TellsBroken (broken_text broken) W.contents writer.old writer.new result }
+{
+    match broken_line(alloc, broken) {
+        Ok(line) => say_broken(writer, &line),
+        Err(_) => Err(Failure::Fault(Fault::Memory)),
+    }
+}
+
+/// Says the line of what is broken: the job is not done.
+fn say_broken<W: Write>(writer: &mut W, line: &[u8]) -> Result<(), Failure>
+    ensures { TellsBroken line.now W.contents writer.old writer.new result }
+{
+    match say(writer, line) {
+        Ok(()) => Err(Failure::Broken),
+        Err(why) => Err(why),
+    }
+}

@@ -1,0 +1,146 @@
+//! The job `script`: lines of standard input over a register.
+
+ghost use Rattle.std.specs.Prelude.{◌↔◌, IsTrue};
+ghost use Rattle.reg_office_api.specs.Leads.{Leads};
+ghost use Rattle.reg_lines.specs.ByCalls.{Lines};
+ghost use Rattle.reg_lines.specs.Script.{LinesEnd, ScriptEnds};
+ghost use Rattle.reg_desk_jobs.specs.Ends.{LinesAt};
+ghost use Rattle.reg_desk_jobs.specs.Sealing.{IsFirstCrl, sealed_line};
+
+use crate::jobs::run_ended;
+use crate::machine::Machine;
+use crate::reasons::{Reason, keep_reason};
+use crate::registers::open_signed;
+use reg_core::{Fault, Moment, Reply};
+use reg_desk_cli::{Answerer, Failure, LinedScript, Way};
+use reg_lines::{Answered, Ended, Host, run_lines, run_script_for};
+use std::alloc::Global;
+use std::cell::Cell;
+use std::io::{Read, Write};
+
+/// The host of a script: the clock of the machine, and a warning on its standard error where the first CRL of the register has a placeholder
+/// digest and no signature.
+#[derive(Clone, Copy)]
+struct ScriptHost<'a, M: Machine> {
+    machine: &'a M,
+    is_clocked: bool,
+    /// Whether a digest stands in for signatures.
+    is_unsigned: bool,
+}
+
+impl<'a, M: Machine> Host for ScriptHost<'a, M> {
+    ghost clocked = { λ host. host.is_clocked };
+
+    ghost told = { M.told };
+
+    fn is_clocked(&self) -> bool {
+        self.is_clocked
+    }
+
+    fn moment(&self) -> Result<Moment, Fault> {
+        self.machine.moment()
+    }
+
+    fn observe(&self, answered: &Answered) {
+        if self.is_unsigned && is_first_crl(answered) {
+            warn(self.machine);
+        }
+    }
+}
+
+/// Runs the script of standard input over the register at a path, line by line. A strict one ends at the first refusal or fault, and runs
+/// no last line without its end; why its last line was refused, if that was a registration, is kept. Where a digest seals its first CRL, that
+/// is said on standard error.
+pub fn script_by_lines<M: Machine, R: Read, W: Write>(
+    alloc: Global,
+    machine: &mut M,
+    script: &LinedScript<'_>,
+    reason: &Cell<Option<Reason>>,
+    reader: &mut R,
+    writer: &mut W,
+) -> Result<(), Failure>
+    ensures { LinesAt M.Machine M.Office.Office R.remaining W.contents machine.old machine.new
+        reader.old reader.new writer.old writer.new script.now result }
+{
+    let path = script.file.as_str();
+    let answerer = Answerer::Issuer { certificate: None };
+    let mut office = open_signed(machine, path, &script.signer, &answerer)?;
+    let is_unsigned = script.signer.is_none();
+    let ran = run_over::<M, R, W>(
+        alloc,
+        machine,
+        &mut office,
+        is_unsigned,
+        script.way,
+        reader,
+        writer,
+    );
+    keep_reason::<M>(&mut office, &ran, reason);
+    machine.close(path, office);
+    run_ended(ran)
+}
+
+/// Runs a script over an office of the machine. Whether a digest stands in for signatures is told.
+pub(crate) fn run_script_over<M: Machine, R: Read, W: Write>(
+    alloc: Global,
+    machine: &M,
+    office: &mut M::Office,
+    is_unsigned: bool,
+    reader: &mut R,
+    writer: &mut W,
+) -> Result<(), Fault>
+    ensures { Leads M.Office.is_clean M.Office.stands
+        (λ identity before after. ScriptEnds (Lines M.Office.signs identity) R.remaining W.contents before after
+        reader.old reader.new writer.old writer.new result)
+        office.old office.new }
+{
+    let host: ScriptHost<'_, M> = ScriptHost {
+        machine,
+        is_clocked: false,
+        is_unsigned,
+    };
+    run_script_for(alloc, reader, writer, office, &host)
+}
+
+/// Runs lines over an office of the machine, in this way.
+fn run_over<M: Machine, R: Read, W: Write>(
+    alloc: Global,
+    machine: &M,
+    office: &mut M::Office,
+    is_unsigned: bool,
+    way: Way,
+    reader: &mut R,
+    writer: &mut W,
+) -> Result<Ended, Fault>
+    ensures { Leads M.Office.is_clean M.Office.stands
+        (λ identity before after. LinesEnd (Lines M.Office.signs identity) R.remaining W.contents before after
+        reader.old reader.new writer.old writer.new M.told way.is_clocked way.is_strict result)
+        office.old office.new }
+{
+    let host: ScriptHost<'_, M> = ScriptHost {
+        machine,
+        is_clocked: way.is_clocked,
+        is_unsigned,
+    };
+    run_lines(alloc, reader, writer, office, &host, way.is_strict)
+}
+
+/// Whether a line came to the first CRL of its register.
+fn is_first_crl(answered: &Answered) -> bool
+    ensures { IsTrue result ↔ IsFirstCrl answered.now }
+{
+    match answered {
+        Answered::CameTo(_, Ok(Reply::Crl { number, .. })) => *number == 1,
+        _ => false,
+    }
+}
+
+/// Says that the first CRL is no signature.
+#[tactic(auto, unfolding(crate::specs::Sealing::sealed_line))]
+fn warn<M: Machine>(machine: &M)
+    ensures { M.warned sealed_line }
+{
+    machine.warn(
+        b"warning: CRL 1 is sealed by a digest, which is no signature; to sign: --signer SOCKET --algorithm NAME\n",
+    );
+}

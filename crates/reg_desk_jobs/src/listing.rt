@@ -1,0 +1,106 @@
+//! The job `list`: a list of a register, whole.
+
+ghost use Rattle.std.specs.Prelude.{◌≡◌, ◌++◌, IfErr, IfOk, OnOk, flat_map};
+ghost use Rattle.reg_office_api.specs.Items.{items_of};
+ghost use Rattle.reg_office_api.specs.Leads.{Leads};
+ghost use Rattle.reg_core_lists.specs.Pages.{GivesWholeList};
+ghost use Rattle.reg_core_lists.specs.Texts.{opening_text, row_text};
+ghost use Rattle.reg_desk_jobs.specs.Ends.{IsMomentOf, ListAt};
+
+use crate::jobs::say_given;
+use crate::machine::Machine;
+use crate::registers::open_unsigned;
+use reg_core::{Fault, Moment};
+use reg_core_lists::{Cursor, Form, Row, header, put_rows};
+use reg_desk_cli::{Failure, ListToWrite};
+use reg_office_api::Office;
+use std::alloc::Global;
+use std::io::Write;
+
+/// The rows that each page looks at.
+const MOST_ROWS: u64 = 1_000;
+
+/// Writes a list of the register at a path, at a moment that is told, or else at that of the clock. Nothing is written unless
+/// all of it was read.
+pub fn list<M: Machine, W: Write>(
+    alloc: Global,
+    machine: &mut M,
+    wanted: &ListToWrite<'_>,
+    writer: &mut W,
+) -> Result<(), Failure>
+    ensures { ListAt M.Machine M.Office.Office W.contents machine.old machine.new writer.old writer.new wanted.now result }
+{
+    let now = moment_of(machine, wanted.moment)?;
+    let path = wanted.file.as_str();
+    let mut register = open_unsigned(machine, path)?;
+    let given = given_list::<M>(alloc, &mut register, now, wanted.from, wanted.form);
+    machine.close(path, register);
+    say_given(writer, given)
+}
+
+/// The moment that is told, or else that of the clock.
+fn moment_of<M: Machine>(machine: &M, told: Option<Moment>) -> Result<Moment, Failure>
+    ensures ok { IfOk result (IsMomentOf M.told told) }
+    ensures err { IfErr result (λ why. why ≡ Failure.Fault Fault.Read) }
+{
+    match told {
+        Some(now) => Ok(now),
+        None => match machine.moment() {
+            Ok(now) => Ok(now),
+            Err(_) => Err(Failure::Fault(Fault::Read)),
+        },
+    }
+}
+
+/// The text of a list of a register, page by page.
+fn given_list<M: Machine>(
+    alloc: Global,
+    register: &mut M::Office,
+    now: Moment,
+    from: Cursor,
+    form: Form,
+) -> Result<Vec<u8>, Fault>
+    ensures { Leads M.Office.is_clean M.Office.stands (λ identity before after. GivesWholeList before now form from (items_of result) after)
+        register.old register.new }
+{
+    let first = from;
+    let mut text = opening(alloc, form, first)?;
+    let mut next = Some(from);
+    for _ in 0..u64::MAX {
+        match next {
+            Some(at) => {
+                let page = register.page(alloc, now, at, MOST_ROWS)?;
+                put(alloc, &mut text, form, &page.rows)?;
+                next = page.next;
+            }
+            None => return Ok(text),
+        }
+    }
+    Err(Fault::Store)
+}
+
+/// What stands before the rows of a list.
+fn opening(alloc: Global, form: Form, from: Cursor) -> Result<Vec<u8>, Fault>
+    ensures ok { IfOk result (λ text. text.items ≡ opening_text form from) }
+    ensures err { IfErr result (λ fault. fault ≡ Fault.Memory) }
+{
+    let start = match form {
+        Form::Csv => header(from),
+        Form::Json => "",
+    };
+    match Vec::from_slice(alloc, start.as_bytes()) {
+        Ok(text) => Ok(text),
+        Err(_) => Err(Fault::Memory),
+    }
+}
+
+/// Puts rows behind a text.
+fn put(alloc: Global, text: &mut Vec<u8>, form: Form, rows: &[Row]) -> Result<(), Fault>
+    ensures ok { OnOk result (text.new.items ≡ text.old.items ++ flat_map (row_text form) rows.now) }
+    ensures err { IfErr result (λ fault. fault ≡ Fault.Memory) }
+{
+    match put_rows(alloc, text, form, rows) {
+        Ok(()) => Ok(()),
+        Err(_) => Err(Fault::Memory),
+    }
+}

@@ -1,0 +1,168 @@
+//! The lines of the log: that of an exchange, whatever came, and that of a connection that ended by a fault.
+
+ghost use Rattle.std.specs.Prelude.{◌≡◌, ◌++◌, ◌∷◌, ◌<◌, ◌≤◌, [], IfOk, IfSome, OnOk, decimal, length, take};
+ghost use Rattle.std.specs.List.{flat_map, position};
+ghost use Rattle.reg_desk_jobs.specs.Log.{digit as hexadecimal, is_plain as plain, ends_line, first_line as first_line_of, told_text, told_byte, exchange_line as exchanged, lost_line as lost, unsigned_end};
+
+use reg_core::{Decimal, Moment};
+use std::alloc::{AllocError, Global};
+
+/// How many bytes of a text are told.
+const MOST_TOLD: usize = 256;
+
+/// The line of an exchange, with no LF behind it. Who asked stands there as it is; what was asked and answered puts no control character and
+/// no byte outside ASCII there, so that no peer can put a line of its own into the log. Where a signature did not come, its last word is
+/// `signer`.
+pub(crate) fn exchange_line(
+    alloc: Global,
+    now: Moment,
+    who: &[u8],
+    asked: &[u8],
+    answered: &[u8],
+    micros: u64,
+    is_unsigned: bool,
+) -> Result<Vec<u8>, AllocError>
+    ensures { IfOk result (λ line. line.items ≡ exchanged now who.now asked.now answered.now micros is_unsigned) }
+{
+    let mut line = Vec::from_slice(alloc, &now.text())?;
+    put_word(&mut line, who)?;
+    put_told(&mut line, asked)?;
+    put_told(&mut line, answered)?;
+    put_number(&mut line, answered.len() as u64)?;
+    put_number(&mut line, micros)?;
+    put_unsigned(&mut line, is_unsigned)?;
+    Ok(line)
+}
+
+/// The line of a connection that ended by a fault, with no LF behind it.
+pub(crate) fn lost_line(
+    alloc: Global,
+    now: Moment,
+    who: &[u8],
+    why: &[u8],
+) -> Result<Vec<u8>, AllocError>
+    ensures { IfOk result (λ line. line.items ≡ lost now who.now why.now) }
+{
+    let mut line = Vec::from_slice(alloc, &now.text())?;
+    put_word(&mut line, who)?;
+    line.extend_from_slice(b" lost ")?;
+    line.extend_from_slice(why)?;
+    Ok(line)
+}
+
+/// Puts a space and a word behind a line.
+fn put_word(line: &mut Vec<u8>, word: &[u8]) -> Result<(), AllocError>
+    ensures { OnOk result (line.new.items ≡ line.old.items ++ (32 ∷ word.now)) }
+{
+    line.push(b' ')?;
+    line.extend_from_slice(word)
+}
+
+/// Puts a space and a number behind a line.
+fn put_number(line: &mut Vec<u8>, number: u64) -> Result<(), AllocError>
+    ensures { OnOk result (line.new.items ≡ line.old.items ++ (32 ∷ decimal number)) }
+{
+    let digits = Decimal::of(number);
+    put_word(line, digits.as_bytes())
+}
+
+/// Puts the word behind a line that tells of a signature that did not come, where one did not.
+fn put_unsigned(line: &mut Vec<u8>, is_unsigned: bool) -> Result<(), AllocError>
+    ensures { OnOk result (line.new.items ≡ line.old.items ++ unsigned_end is_unsigned) }
+{
+    if !is_unsigned {
+        return Ok(());
+    }
+    line.extend_from_slice(b" signer")
+}
+
+/// Puts a space and what a text is told as behind a line.
+fn put_told(line: &mut Vec<u8>, text: &[u8]) -> Result<(), AllocError>
+    ensures { OnOk result (line.new.items ≡ line.old.items ++ (32 ∷ told_text text.now)) }
+{
+    line.extend_from_slice(b" \"")?;
+    put_plainly(line, front_of(first_line(text)))?;
+    line.push(b'"')?;
+    Ok(())
+}
+
+/// The first line of a text, or all of it where no line ends.
+fn first_line(text: &[u8]) -> &[u8]
+    ensures { result.now ≡ first_line_of text.now }
+{
+    match line_end(text) {
+        Some(end) => &text[..end],
+        None => text,
+    }
+}
+
+/// Where the first line of a text ends.
+fn line_end(text: &[u8]) -> Option<usize>
+    ensures place { result ≡ position ends_line text.now }
+    ensures within { IfSome result (λ end. end ≤ length text.now) }
+{
+    text.iter()
+        .position(|byte| *byte == b'\r' || *byte == b'\n')
+}
+
+/// As much of a text as is told.
+fn front_of(text: &[u8]) -> &[u8]
+    ensures { result.now ≡ take 256 text.now }
+{
+    if text.len() > MOST_TOLD {
+        &text[..MOST_TOLD]
+    } else {
+        text
+    }
+}
+
+/// Puts the bytes of a text behind a line, each as it is told.
+fn put_plainly(line: &mut Vec<u8>, text: &[u8]) -> Result<(), AllocError>
+    ensures { OnOk result (line.new.items ≡ line.old.items ++ flat_map told_byte text.now) }
+{
+    for byte in text {
+        put_byte(line, *byte)?;
+    }
+    Ok(())
+}
+
+/// Puts a byte behind a line, as it is told.
+#[tactic(auto, unfolding(crate::specs::Log::told_byte))]
+fn put_byte(line: &mut Vec<u8>, byte: u8) -> Result<(), AllocError>
+    ensures { OnOk result (line.new.items ≡ line.old.items ++ told_byte byte) }
+{
+    if is_plain(byte) {
+        line.push(byte)?;
+        return Ok(());
+    }
+    let escape = [b'\\', b'x', digit(byte / 16), digit(byte % 16)];
+    line.extend_from_slice(&escape)
+}
+
+/// Whether a byte is told as it is.
+fn is_plain(byte: u8) -> bool
+    ensures { result ≡ plain byte }
+{
+    if byte == b'"' {
+        return false;
+    }
+    if byte == b'\\' {
+        return false;
+    }
+    if byte < b' ' {
+        return false;
+    }
+    byte < 127
+}
+
+/// The hexadecimal digit of a number below 16.
+fn digit(number: u8) -> u8
+    requires { number < 16 }
+    ensures { result ≡ hexadecimal number }
+{
+    if number < 10 {
+        b'0' + number
+    } else {
+        b'a' - 10 + number
+    }
+}

@@ -1,0 +1,206 @@
+//! Why a registration was refused: as the word `why` at the control socket tells it behind the line, and a strict script or import under `--why`.
+
+ghost use Rattle.std.specs.Prelude.{◌≡◌, ◌++◌, ◌∷◌, [], IfOk, IfSome};
+ghost use Rattle.reg_office_api.specs.Leads.{Leads};
+ghost use Rattle.reg_desk_jobs.specs.ControlReplies.{TellsCame};
+ghost use Rattle.reg_desk_jobs.specs.Reasons.{IsReasonLine, last_second, latest_text, order_text, reason_text, noted_why_text};
+
+use crate::control_reply::{Came, ControlReply};
+use crate::machine::Machine;
+use reg_core::{Command, Decimal, Fault, Moment, Refusal};
+use reg_lines::{Ended, RefusedCommand};
+use reg_office_api::Office;
+use std::alloc::{AllocError, Global};
+use std::cell::Cell;
+
+/// The seconds of a day.
+const DAY: u64 = 86_400;
+
+/// Why a registration was refused, where more is told of that than the refusal.
+#[derive(Clone, Copy, PartialEq, Eq)]
+pub enum Reason {
+    /// There is no order of this number.
+    NoOrder(u64),
+    /// The order of this number has its certificate.
+    Filled(u64),
+    /// The order and the schedule allow no later notAfter than this.
+    Latest(Moment),
+}
+
+/// The reply that tells what is noted of a connection.
+pub(crate) fn told_why(alloc: Global, noted: &[u8]) -> ControlReply
+    ensures { TellsCame result.came result.text.items }
+{
+    ControlReply::made(alloc, why_reply(alloc, noted), Came::Done)
+}
+
+/// Its text.
+#[tactic(auto, unfolding(crate::specs::Reasons::noted_why_text))]
+fn why_reply(alloc: Global, noted: &[u8]) -> Result<Vec<u8>, AllocError>
+    ensures { IfOk result (λ text. text.items ≡ noted_why_text noted.now) }
+{
+    let mut text = Vec::from_slice(alloc, b"why ")?;
+    if noted.is_empty() {
+        text.extend_from_slice(b"nothing\n")?;
+        return Ok(text);
+    }
+    text.extend_from_slice(noted)?;
+    Ok(text)
+}
+
+/// Notes why a line was refused by this reply. Where no command was, the register does not tell it, or there is no memory for it, that is
+/// the reply itself.
+pub(crate) fn note<M: Machine>(
+    alloc: Global,
+    office: &mut M::Office,
+    refused: Option<RefusedCommand>,
+    reply: &[u8],
+    noted: &mut Vec<u8>,
+)
+    ensures { Leads M.Office.is_clean M.Office.stands (λ identity before after. after ≡ before) office.old office.new }
+{
+    match refused {
+        Some(refused) => {
+            let reason = reason_of::<M>(office, &refused);
+            note_reason(alloc, reason, reply, noted);
+        }
+        None => note_reply(reply, noted),
+    }
+}
+
+/// Notes a reason in place of what was noted; where there is none, or no memory for it, the reply.
+fn note_reason(alloc: Global, reason: Option<Reason>, reply: &[u8], noted: &mut Vec<u8>) {
+    match reason_line(alloc, b"", reason) {
+        Some(text) => *noted = text,
+        None => note_reply(reply, noted),
+    }
+}
+
+/// Notes a reply in place of what was noted. What there is no memory for is left out.
+pub(crate) fn note_reply(reply: &[u8], noted: &mut Vec<u8>) {
+    noted.clear();
+    let _ = noted.extend_from_slice(reply);
+}
+
+/// Why a command was refused, if it is a registration, as the register tells it. Nothing changes.
+fn reason_of<M: Machine>(office: &mut M::Office, refused: &RefusedCommand) -> Option<Reason>
+    ensures { Leads M.Office.is_clean M.Office.stands (λ identity before after. after ≡ before) office.old office.new }
+{
+    match refused.command {
+        Command::Register {
+            order,
+            not_before,
+            ..
+        } => reason_for::<M>(office, order, not_before, refused.why),
+        _ => None,
+    }
+}
+
+/// Why a registration was refused, of a certificate that is valid from a moment on.
+fn reason_for<M: Machine>(
+    office: &mut M::Office,
+    order: u64,
+    not_before: Moment,
+    why: Refusal,
+) -> Option<Reason>
+    ensures { Leads M.Office.is_clean M.Office.stands (λ identity before after. after ≡ before) office.old office.new }
+{
+    match why {
+        Refusal::NoOrder => Some(Reason::NoOrder(order)),
+        Refusal::OrderFilled => Some(Reason::Filled(order)),
+        Refusal::TooLong => latest_of::<M>(office, order, not_before),
+        _ => None,
+    }
+}
+
+/// Up to when a certificate that is valid from a moment on may be valid by its order.
+fn latest_of<M: Machine>(office: &mut M::Office, order: u64, not_before: Moment) -> Option<Reason>
+    ensures { Leads M.Office.is_clean M.Office.stands (λ identity before after. after ≡ before) office.old office.new }
+{
+    match office.longest(order, not_before) {
+        Ok(Some(days)) => latest_in(not_before, days),
+        Ok(None) => None,
+        Err(_) => None,
+    }
+}
+
+/// The same by the days that it may be valid.
+fn latest_in(not_before: Moment, days: u64) -> Option<Reason> {
+    Some(Reason::Latest(last_of(not_before, days)?))
+}
+
+/// Keeps why the last command of a run was refused, if the run ended at that and it was a registration.
+pub(crate) fn keep_reason<M: Machine>(
+    office: &mut M::Office,
+    ran: &Result<Ended, Fault>,
+    reason: &Cell<Option<Reason>>,
+)
+    ensures { Leads M.Office.is_clean M.Office.stands (λ identity before after. after ≡ before) office.old office.new }
+{
+    match *ran {
+        Ok(Ended::Refused(Some(refused))) => reason.set(reason_of::<M>(office, &refused)),
+        _ => reason.set(None),
+    }
+}
+
+/// The last second of so many days from a moment on, both ends counted (RFC 5280 4.1.2.5).
+fn last_of(not_before: Moment, days: u64) -> Option<Moment>
+    ensures { IfSome result (λ at. at ≡ last_second not_before days) }
+{
+    let seconds = days.checked_mul(DAY)?.checked_sub(1)?;
+    Moment::of_secs(not_before.secs().checked_add(seconds)?)
+}
+
+/// A text and the words of a reason behind it, with an LF, where there is a reason and memory for them.
+pub(crate) fn reason_line(alloc: Global, front: &[u8], reason: Option<Reason>) -> Option<Vec<u8>>
+    ensures { IfSome result (λ text. IsReasonLine front.now reason text.items) }
+{
+    let words = reason_words(alloc, reason?).ok()?;
+    front_and_end(alloc, front, &words).ok()
+}
+
+/// A text, words behind it and an LF.
+pub(crate) fn front_and_end(
+    alloc: Global,
+    front: &[u8],
+    words: &[u8],
+) -> Result<Vec<u8>, AllocError>
+    ensures { IfOk result (λ text. text.items ≡ front.now ++ words.now ++ 10 ∷ []) }
+{
+    let mut text = Vec::from_slice(alloc, front)?;
+    text.extend_from_slice(words)?;
+    text.push(b'\n')?;
+    Ok(text)
+}
+
+/// The words of a reason.
+fn reason_words(alloc: Global, reason: Reason) -> Result<Vec<u8>, AllocError>
+    ensures { IfOk result (λ text. text.items ≡ reason_text reason) }
+{
+    match reason {
+        Reason::NoOrder(order) => order_text_of(alloc, b"no order ", order, b""),
+        Reason::Filled(order) => order_text_of(alloc, b"order ", order, b" has its certificate"),
+        Reason::Latest(at) => latest_text_of(alloc, at),
+    }
+}
+
+/// The text that tells the latest notAfter.
+#[tactic(auto, unfolding(crate::specs::Reasons::latest_text))]
+fn latest_text_of(alloc: Global, at: Moment) -> Result<Vec<u8>, AllocError>
+    ensures { IfOk result (λ text. text.items ≡ latest_text at) }
+{
+    let mut text = Vec::from_slice(alloc, b"notAfter at most ")?;
+    text.extend_from_slice(&at.text())?;
+    Ok(text)
+}
+
+/// A text that tells of an order.
+fn order_text_of(alloc: Global, front: &[u8], order: u64, end: &[u8]) -> Result<Vec<u8>, AllocError>
+    ensures { IfOk result (λ text. text.items ≡ order_text front.now order end.now) }
+{
+    let digits = Decimal::of(order);
+    let mut text = Vec::from_slice(alloc, front)?;
+    text.extend_from_slice(digits.as_bytes())?;
+    text.extend_from_slice(end)?;
+    Ok(text)
+}

@@ -1,0 +1,115 @@
+//! What a job says.
+
+ghost use Rattle.std.specs.Prelude.{◌∷◌, []};
+ghost use Rattle.reg_core.specs.Causes.{cause_line};
+ghost use Rattle.reg_desk_jobs.specs.Ends.{SaysText};
+ghost use Rattle.reg_desk_jobs.specs.Told.{Adds, Explains, IsToldLine, IsWritten, TellsEnding, TellsReason};
+
+use crate::reasons::{Reason, reason_line};
+use reg_core::{Cause, Fault};
+use reg_desk_cli::{Failure, status_of};
+use reg_io::write_whole;
+use std::alloc::Global;
+use std::io::Write;
+
+/// Says a text of the job.
+///
+/// # Errors
+/// `Write` where the writer fails, or takes no byte of what is left.
+pub(crate) fn say<W: Write>(writer: &mut W, text: &[u8]) -> Result<(), Failure>
+    ensures { SaysText text.now (W.contents writer.old) (W.contents writer.new) result }
+{
+    match write_whole(writer, text) {
+        Ok(()) => Ok(()),
+        Err(_) => Err(Failure::Fault(Fault::Write)),
+    }
+}
+
+/// Tells on standard error why a job is not done, in one line; and where that is asked for and known, in one line more, the cause of a fault,
+/// or why a registration was refused at which the job ended. A device that fails is told nothing more.
+pub fn tell_ending<W: Write>(
+    alloc: Global,
+    errors: &mut W,
+    ending: &Result<(), Failure>,
+    is_asked: bool,
+    cause: Option<Cause>,
+    reason: Option<Reason>,
+)
+    ensures { Explains is_asked ending.now (W.contents errors.old) (W.contents errors.new) }
+{
+    tell_failure(errors, ending);
+    explain(alloc, errors, is_asked, status_of(ending), cause, reason);
+}
+
+/// Tells why a job is not done, if it is not.
+fn tell_failure<W: Write>(errors: &mut W, ending: &Result<(), Failure>)
+    ensures { TellsEnding ending.now (W.contents errors.old) (W.contents errors.new) }
+{
+    match ending {
+        Ok(()) => {}
+        Err(failure) => tell_line(errors, failure.line().as_bytes()),
+    }
+}
+
+/// Tells a line, and ends it.
+fn tell_line<W: Write>(errors: &mut W, line: &[u8])
+    ensures { IsToldLine (W.contents errors.old) (W.contents errors.new) line.now }
+{
+    match write_whole(errors, line) {
+        Ok(()) => end_line(errors),
+        Err(_) => {}
+    }
+}
+
+/// Tells in one line, where that is asked for and known, the cause of a fault by its exit status, or why a registration was refused by that
+/// of a refusal.
+fn explain<W: Write>(
+    alloc: Global,
+    errors: &mut W,
+    is_asked: bool,
+    status: u8,
+    cause: Option<Cause>,
+    reason: Option<Reason>,
+)
+    ensures { Adds is_asked status (W.contents errors.old) (W.contents errors.new) }
+{
+    if !is_asked {
+        return;
+    }
+    match (status, cause) {
+        (1, Some(cause)) => tell_cause(errors, cause),
+        (3, _) => tell_reason(alloc, errors, reason),
+        _ => {}
+    }
+}
+
+/// Tells a reason in one line, if there is one and memory for that.
+fn tell_reason<W: Write>(alloc: Global, errors: &mut W, reason: Option<Reason>)
+    ensures { TellsReason (W.contents errors.old) (W.contents errors.new) }
+{
+    match reason_line(alloc, b"  ", reason) {
+        Some(line) => match write_whole(errors, &line) {
+            Ok(()) => {}
+            Err(_) => {}
+        },
+        None => {}
+    }
+}
+
+/// Tells a cause in one line.
+fn tell_cause<W: Write>(errors: &mut W, cause: Cause)
+    ensures { IsToldLine (W.contents errors.old) (W.contents errors.new) (cause_line cause) }
+{
+    let line = cause.line();
+    tell_line(errors, line.as_bytes());
+}
+
+/// Ends a line.
+fn end_line<W: Write>(errors: &mut W)
+    ensures { IsWritten (W.contents errors.old) (W.contents errors.new) (10 ∷ []) }
+{
+    match write_whole(errors, b"\n") {
+        Ok(()) => {}
+        Err(_) => {}
+    }
+}

@@ -1,0 +1,88 @@
+-- One place more of the answers, and of the ranges.
+use Rattle.std.proofs.Common.{◌≡◌, ◌∙◌, ℕ, ◌+◌, ◌-◌, List, ◌++◌, min, refl, sym, ap, add-one, append-nil, append_assoc}
+use Rattle.std.specs.Prelude.{slice_index_or}
+use Rattle.reg_core.specs.declared.rows.CrlRow.{CrlRow}
+use Rattle.reg_desk_metrics.specs.Metrics.{answer_text, answers_front, bucket_name, bucket_text, buckets_text, issued_text, sum_of}
+use Rattle.reg_desk_metrics.specs.Samples.{sample}
+use Rattle.reg_desk_metrics.specs.declared.names.TheConstants.{CRL_AGE, CRL_NUMBER, NEXT_UPDATE, THIS_UPDATE}
+use Rattle.reg_desk_metrics.specs.Tallies.{greatest}
+
+-- behind a text and a front, one part more
+one_more : (before front text part more : List ℕ) → text ≡ before ++ front → more ≡ text ++ part → more ≡ before ++ (front ++ part)
+one_more before front text part more is added = added ∙ ap (λ (it : List ℕ). it ++ part) is ∙ append_assoc before front part
+
+-- ---- so many parts, one behind the other
+
+pub parts_3 : (t0 t1 t2 t3 a b c : List ℕ) → t1 ≡ t0 ++ a → t2 ≡ t1 ++ b → t3 ≡ t2 ++ c → t3 ≡ t0 ++ ((a ++ b) ++ c)
+parts_3 t0 t1 t2 t3 a b c one two three = one_more t0 (a ++ b) t2 c t3 (one_more t0 a t1 b t2 one two) three
+
+pub parts_4 : (t0 t1 t2 t3 t4 a b c d : List ℕ) → t1 ≡ t0 ++ a → t2 ≡ t1 ++ b → t3 ≡ t2 ++ c → t4 ≡ t3 ++ d → t4 ≡ t0 ++ (((a ++ b) ++ c) ++ d)
+parts_4 t0 t1 t2 t3 t4 a b c d one two three four = one_more t0 ((a ++ b) ++ c) t3 d t4 (parts_3 t0 t1 t2 t3 a b c one two three) four
+
+pub parts_5 : (t0 t1 t2 t3 t4 t5 a b c d e : List ℕ) → t1 ≡ t0 ++ a → t2 ≡ t1 ++ b → t3 ≡ t2 ++ c → t4 ≡ t3 ++ d → t5 ≡ t4 ++ e
+    → t5 ≡ t0 ++ ((((a ++ b) ++ c) ++ d) ++ e)
+parts_5 t0 t1 t2 t3 t4 t5 a b c d e one two three four five =
+    one_more t0 (((a ++ b) ++ c) ++ d) t4 e t5 (parts_4 t0 t1 t2 t3 t4 a b c d one two three four) five
+
+-- the latest CRL, by the numbers that were told
+pub issued_is : (t0 t1 t2 t3 t4 : List ℕ) (now : ℕ) (crl : CrlRow) (life at next age : ℕ) → t1 ≡ t0 ++ sample CRL_NUMBER.now crl.number
+    → t2 ≡ t1 ++ sample THIS_UPDATE.now at → t3 ≡ t2 ++ sample NEXT_UPDATE.now next → t4 ≡ t3 ++ sample CRL_AGE.now age
+    → at ≡ crl.this_update → next ≡ min (at + life) greatest → age ≡ now - at → t4 ≡ t0 ++ issued_text now crl life
+unfolding issued_text
+issued_is t0 t1 t2 t3 t4 now crl life at next age one two three four at_is next_is age_is =
+    parts_4 t0 t1 t2 t3 t4 (sample CRL_NUMBER.now crl.number) (sample THIS_UPDATE.now at) (sample NEXT_UPDATE.now next) (sample CRL_AGE.now age) one two three four
+    ∙ (λ i. t0 ++ (((sample CRL_NUMBER.now crl.number ++ sample THIS_UPDATE.now (at_is i)) ++ sample NEXT_UPDATE.now (next_told i)) ++ sample CRL_AGE.now (age_told i)))
+  where
+    next_told : next ≡ min (crl.this_update + life) greatest
+    next_told = next_is ∙ ap (λ (it : ℕ). min (it + life) greatest) at_is
+
+    age_told : age ≡ now - crl.this_update
+    age_told = age_is ∙ ap (λ (it : ℕ). now - it) at_is
+
+-- ---- answers
+
+pub answers_begin : (text answers : List ℕ) → text ≡ text ++ answers_front answers 0
+unfolding answers_front
+answers_begin text answers = sym (append-nil text)
+
+answers_next : (answers : List ℕ) (place : ℕ) → answers_front answers (place + 1) ≡ answers_front answers place ++ answer_text place (slice_index_or answers place 0)
+unfolding answers_front
+answers_next answers place = rw add-one
+
+pub answers_more : (before text more answers : List ℕ) (place : ℕ) → text ≡ before ++ answers_front answers place
+    → more ≡ text ++ answer_text place (slice_index_or answers place 0) → more ≡ before ++ answers_front answers (place + 1)
+answers_more before text more answers place is added =
+    one_more before (answers_front answers place) text (answer_text place (slice_index_or answers place 0)) more is added
+    ∙ ap (λ (it : List ℕ). before ++ it) (sym (answers_next answers place))
+
+-- ---- ranges
+
+pub sum_begin : (buckets : List ℕ) → 0 ≡ sum_of buckets 0
+unfolding sum_of
+sum_begin buckets = refl
+
+sum_next : (buckets : List ℕ) (place : ℕ) → sum_of buckets (place + 1) ≡ min (sum_of buckets place + slice_index_or buckets place 0) greatest
+unfolding sum_of
+sum_next buckets place = rw add-one
+
+pub sum_more : (sum more : ℕ) (buckets : List ℕ) (place : ℕ) → sum ≡ sum_of buckets place → more ≡ min (sum + slice_index_or buckets place 0) greatest
+    → more ≡ sum_of buckets (place + 1)
+sum_more sum more buckets place is added =
+    added ∙ ap (λ (it : ℕ). min (it + slice_index_or buckets place 0) greatest) is ∙ sym (sum_next buckets place)
+
+pub buckets_begin : (text buckets : List ℕ) → text ≡ text ++ buckets_text buckets 0
+unfolding buckets_text
+buckets_begin text buckets = sym (append-nil text)
+
+buckets_next : (buckets : List ℕ) (place : ℕ)
+    → buckets_text buckets (place + 1) ≡ buckets_text buckets place ++ bucket_text (bucket_name place) (sum_of buckets (place + 1))
+unfolding buckets_text
+buckets_next buckets place = rw add-one
+
+pub buckets_more : (before text more name buckets : List ℕ) (place count : ℕ) → text ≡ before ++ buckets_text buckets place → more ≡ text ++ bucket_text name count
+    → name ≡ bucket_name place → count ≡ sum_of buckets (place + 1) → more ≡ before ++ buckets_text buckets (place + 1)
+buckets_more before text more name buckets place count is added named counted =
+    one_more before (buckets_text buckets place) text (bucket_text name count) more is added
+    ∙ ap (λ (it : List ℕ). before ++ (buckets_text buckets place ++ bucket_text it count)) named
+    ∙ ap (λ (it : ℕ). before ++ (buckets_text buckets place ++ bucket_text (bucket_name place) it)) counted
+    ∙ ap (λ (it : List ℕ). before ++ it) (sym (buckets_next buckets place))

@@ -1,0 +1,4 @@
+pub mod Healths
+pub mod Metrics
+pub mod Samples
+pub mod Tallies

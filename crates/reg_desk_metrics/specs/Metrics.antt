@@ -1,0 +1,178 @@
+-- The metrics of an open register, in the text form of Prometheus, version 0.0.4: each family with its lines of help and of type, which stand in the name
+-- of its first series.
+use Rattle.std.specs.Prelude.{ℕ, zero, suc, ◌==◌, ◌+◌, ◌-◌, ◌/◌, ◌%◌, ◌^◌, min, List, [], ◌∷◌, ◌++◌, codes, slice_index_or, if◌then◌else◌, Some, None, Result, Ok, Err}
+use Rattle.std.specs.declared.option.Option.{Option}
+use Rattle.reg_core.specs.declared.command.Counts.{Counts}
+use Rattle.reg_core.specs.declared.refusal.Fault.{Fault}
+use Rattle.reg_core.specs.declared.refusal.Fault.TheVariants.{Refused}
+use Rattle.reg_core.specs.declared.refusal.Refusal.TheVariants.{ClockBack}
+use Rattle.reg_core.specs.declared.rows.CrlRow.{CrlRow}
+use Rattle.reg_desk_metrics.specs.Samples.{moment_or_none, sample, sample_of_seconds}
+use Rattle.reg_desk_metrics.specs.Tallies.{greatest}
+use Rattle.reg_desk_metrics.specs.declared.names.TheConstants.{ACCEPTED, ACCEPTED_LINES, ANSWER, ANSWER_CODE, ANSWERED, BEHIND, BROKEN, CLOCK, COUNTED, COUNTERS, CRL_AGE, CRL_DUE, CRL_FAILING, CRL_LAST, CRL_LAST_FAILED, CRL_NUMBER, CRL_SIGNED, CRL_UNSIGNED, CROWDED, EXPIRED, FAULTS, GOOD, LABEL_END, LAST_COMMAND, LATE, NEXT_UPDATE, NO_MEMORY, OCSP_FAILING, OCSP_LAST, OCSP_LAST_FAILED, OCSP_SIGNED, OCSP_UNSIGNED, OPEN, OVERDUE, PEERS, READABLE, REFUSED_LINES, REVOKED, SECONDS, SECONDS_COUNT, SECONDS_SUM, SECONDS_TO, STORE_FAILING, THIS_UPDATE}
+use Rattle.reg_desk_metrics.specs.declared.numbers.Heard.{Heard}
+use Rattle.reg_desk_metrics.specs.declared.numbers.Numbers.{Numbers}
+use Rattle.reg_desk_metrics.specs.declared.numbers.Requests.{Requests}
+use Rattle.reg_desk_metrics.specs.declared.signing.Signing.{Signing}
+use Rattle.reg_desk_metrics.specs.declared.tally.Tally.{Tally}
+
+-- how many seconds the clock is behind the last command
+abbrev pub seconds_behind : ℕ → Result Numbers Fault → ℕ
+seconds_behind now (Err (Refused (ClockBack last))) = last - now
+seconds_behind now other = 0
+
+-- the clock
+unfoldable pub clock_text : ℕ → Result Numbers Fault → List ℕ
+clock_text now found = sample CLOCK.now now ++ sample BEHIND.now (seconds_behind now found)
+
+-- how many certificates have each status
+unfoldable pub certificates_text : Counts → List ℕ
+certificates_text counts = sample GOOD.now counts.good ++ sample REVOKED.now counts.revoked ++ sample EXPIRED.now counts.expired
+
+-- a CRL: its number, its thisUpdate and nextUpdate (RFC 5280 5.1.2), and its age
+unfoldable pub issued_text : ℕ → CrlRow → ℕ → List ℕ
+issued_text now crl life =
+    sample CRL_NUMBER.now crl.number ++ sample THIS_UPDATE.now crl.this_update
+    ++ sample NEXT_UPDATE.now (min (crl.this_update + life) greatest) ++ sample CRL_AGE.now (now - crl.this_update)
+
+-- the latest CRL, of a life in seconds; number 0 where there is none
+abbrev pub crl_text : ℕ → Option CrlRow → ℕ → List ℕ
+crl_text now (Some crl) life = issued_text now crl life
+crl_text now None life = sample CRL_NUMBER.now 0
+
+-- what a register has
+unfoldable pub numbers_text : ℕ → Numbers → List ℕ
+numbers_text now numbers =
+    sample READABLE.now 1 ++ certificates_text numbers.counts ++ sample LAST_COMMAND.now numbers.standing.last
+    ++ crl_text now numbers.standing.latest numbers.standing.crl_life ++ sample CRL_DUE.now (moment_or_none numbers.due)
+
+-- the same, or that it tells nothing
+unfoldable pub register_text : ℕ → Result Numbers Fault → List ℕ
+register_text now (Ok numbers) = numbers_text now numbers
+register_text now (Err fault) = sample READABLE.now 0
+
+-- requests for revocation that were counted
+unfoldable pub counted_text : Requests → List ℕ
+counted_text counted = sample OPEN.now counted.waiting ++ sample OVERDUE.now counted.overdue ++ sample COUNTED.now counted.at
+
+-- the same, where they were
+unfoldable pub requests_text : Option Requests → List ℕ
+requests_text None = []
+requests_text (Some counted) = counted_text counted
+
+-- the name of a route, and of a status, by its place
+unfoldable pub route_name : ℕ → List ℕ
+route_name place =
+    if place == 0 then codes "/ocsp"
+    else if place == 1 then codes "/ocsp/{request}"
+    else if place == 2 then codes "/crl"
+    else if place == 3 then codes "/crl/{number}"
+    else if place == 4 then codes "/status/{serial}"
+    else if place == 5 then codes "/counts"
+    else if place == 6 then codes "/requests"
+    else if place == 7 then codes "/list/{word}"
+    else if place == 8 then codes "/health"
+    else if place == 9 then codes "/metrics"
+    else codes "other"
+
+unfoldable pub code_name : ℕ → List ℕ
+code_name place =
+    if place == 0 then codes "200"
+    else if place == 1 then codes "400"
+    else if place == 2 then codes "404"
+    else if place == 3 then codes "405"
+    else if place == 4 then codes "409"
+    else if place == 5 then codes "411"
+    else if place == 6 then codes "413"
+    else if place == 7 then codes "431"
+    else if place == 8 then codes "500"
+    else if place == 9 then codes "503"
+    else codes "none"
+
+-- how often there was an answer of a route and a status
+abbrev pub named_answer_text : List ℕ → List ℕ → ℕ → List ℕ
+named_answer_text route code count = ANSWER.now ++ route ++ ANSWER_CODE.now ++ code ++ sample LABEL_END.now count
+
+-- the same of a place; nothing of one that there was not
+abbrev pub answer_text : ℕ → ℕ → List ℕ
+answer_text place count = if count == 0 then [] else named_answer_text (route_name (place / 11)) (code_name (place % 11)) count
+
+-- the first so many places, in their order
+unfoldable pub answers_front : List ℕ → ℕ → List ℕ
+answers_front answers zero = []
+answers_front answers (suc place) = answers_front answers place ++ answer_text place (slice_index_or answers place 0)
+
+-- the answers, by route and status
+abbrev pub answers_text : List ℕ → List ℕ
+answers_text answers = ANSWERED.now ++ answers_front answers 121
+
+-- the lines at the counter
+unfoldable pub lines_text : Tally → List ℕ
+lines_text tally = sample ACCEPTED_LINES.now tally.accepted ++ sample REFUSED_LINES.now tally.refused ++ sample FAULTS.now tally.faults
+
+-- signatures: how many came, and how many did not
+unfoldable pub signed_text : Signing → Signing → List ℕ
+signed_text crls ocsp =
+    sample CRL_SIGNED.now crls.came ++ sample OCSP_SIGNED.now ocsp.came
+    ++ sample CRL_UNSIGNED.now crls.failed ++ sample OCSP_UNSIGNED.now ocsp.failed
+
+-- when the last one came, and when one did not come last
+unfoldable pub last_text : Signing → Signing → List ℕ
+last_text crls ocsp =
+    sample CRL_LAST.now (moment_or_none crls.last) ++ sample OCSP_LAST.now (moment_or_none ocsp.last)
+    ++ sample CRL_LAST_FAILED.now (moment_or_none crls.last_failed) ++ sample OCSP_LAST_FAILED.now (moment_or_none ocsp.last_failed)
+
+-- since when nothing is signed, and since when the store fails
+unfoldable pub signers_text : Tally → List ℕ
+signers_text tally =
+    sample CRL_FAILING.now (moment_or_none tally.crls.failing_since) ++ sample OCSP_FAILING.now (moment_or_none tally.ocsp.failing_since)
+    ++ sample STORE_FAILING.now (moment_or_none tally.store_since)
+
+-- the connections, and those that ended by a fault
+unfoldable pub connections_text : Heard → List ℕ
+connections_text heard = sample PEERS.now heard.peers ++ sample COUNTERS.now heard.counters ++ sample ACCEPTED.now heard.accepted
+
+unfoldable pub lost_text : Heard → List ℕ
+lost_text heard =
+    sample BROKEN.now heard.broken ++ sample LATE.now heard.late ++ sample CROWDED.now heard.crowded ++ sample NO_MEMORY.now heard.memory
+
+-- the end of a range in seconds, by its place
+unfoldable pub bucket_name : ℕ → List ℕ
+bucket_name place =
+    if place == 0 then codes "0.0001"
+    else if place == 1 then codes "0.0003"
+    else if place == 2 then codes "0.001"
+    else if place == 3 then codes "0.003"
+    else if place == 4 then codes "0.01"
+    else if place == 5 then codes "0.03"
+    else if place == 6 then codes "0.1"
+    else if place == 7 then codes "0.3"
+    else if place == 8 then codes "1"
+    else if place == 9 then codes "3"
+    else if place == 10 then codes "10"
+    else codes "+Inf"
+
+-- how many exchanges took no longer than the end of a range
+abbrev pub bucket_text : List ℕ → ℕ → List ℕ
+bucket_text name count = SECONDS_TO.now ++ name ++ sample LABEL_END.now count
+
+-- the sum of the first so many ranges, up to the greatest number
+unfoldable pub sum_of : List ℕ → ℕ → ℕ
+sum_of buckets zero = 0
+sum_of buckets (suc place) = min (sum_of buckets place + slice_index_or buckets place 0) greatest
+
+-- the first so many ranges in their order, each with those below it
+unfoldable pub buckets_text : List ℕ → ℕ → List ℕ
+buckets_text buckets zero = []
+buckets_text buckets (suc place) = buckets_text buckets place ++ bucket_text (bucket_name place) (sum_of buckets (suc place))
+
+-- the seconds of exchanges, as a histogram
+unfoldable pub seconds_text : Tally → List ℕ
+seconds_text tally =
+    SECONDS.now ++ buckets_text tally.buckets 12 ++ sample_of_seconds SECONDS_SUM.now tally.micros ++ sample SECONDS_COUNT.now (sum_of tally.buckets 12)
+
+-- all of it
+abbrev pub metrics_text : ℕ → Result Numbers Fault → Tally → Heard → List ℕ
+metrics_text now found tally heard =
+    clock_text now found ++ register_text now found ++ requests_text tally.requests ++ answers_text tally.answers ++ lines_text tally
+    ++ signed_text tally.crls tally.ocsp ++ last_text tally.crls tally.ocsp ++ signers_text tally ++ connections_text heard ++ lost_text heard ++ seconds_text tally

@@ -1,0 +1,358 @@
+//! The metrics of an open register, in the text form of Prometheus, version 0.0.4.
+
+ghost use Rattle.std.specs.Prelude.{◌≡◌, ◌++◌, IfOk, OnOk};
+ghost use Rattle.reg_desk_metrics.specs.Metrics.{answer_text, answers_text, seconds_behind as behind_told, bucket_name as bucket_named, bucket_text, buckets_text, certificates_text, clock_text, code_name as code_named, connections_text, counted_text, crl_text as crl_told, issued_text, last_text, lines_text, lost_text, metrics_text, named_answer_text, numbers_text, register_text, requests_text, route_name as route_named, seconds_text, signers_text, signed_text, sum_of};
+
+use crate::names::{
+    ACCEPTED, ACCEPTED_LINES, ANSWER, ANSWER_CODE, ANSWERED, BEHIND, BROKEN, CLOCK, COUNTED,
+    COUNTERS, CRL_AGE, CRL_DUE, CRL_FAILING, CRL_LAST, CRL_LAST_FAILED, CRL_NUMBER, CRL_SIGNED,
+    CRL_UNSIGNED, CROWDED, EXPIRED, FAULTS, GOOD, LABEL_END, LAST_COMMAND, LATE, NEXT_UPDATE,
+    NO_MEMORY, OCSP_FAILING, OCSP_LAST, OCSP_LAST_FAILED, OCSP_SIGNED, OCSP_UNSIGNED, OPEN,
+    OVERDUE, PEERS, READABLE, REFUSED_LINES, REVOKED, SECONDS, SECONDS_COUNT, SECONDS_SUM,
+    SECONDS_TO, STORE_FAILING, THIS_UPDATE,
+};
+use crate::numbers::{Found, Heard, Numbers, Requests};
+use crate::samples::{put_moment, put_sample, put_seconds};
+use crate::signing::Signing;
+use crate::tally::{ANSWERS, BUCKETS, CODES, Tally};
+use reg_core::{Counts, CrlRow, Fault, Moment, Refusal};
+use std::alloc::{AllocError, Global};
+
+/// The bytes of room that are made for the text.
+const ROOM: usize = 8_192;
+
+/// The metrics of a register at a moment: what was found there, what was counted and what was heard.
+///
+/// # Errors
+///
+/// [`AllocError`], where memory is refused.
+pub fn metrics(
+    alloc: Global,
+    now: Moment,
+    found: &Found,
+    tally: &Tally,
+    heard: Heard,
+) -> Result<Vec<u8>, AllocError>
+    ensures { IfOk result (λ text. text.items ≡ metrics_text now found.now tally.now heard) }
+{
+    let mut text = Vec::with_capacity(alloc, ROOM)?;
+    put_clock(&mut text, now, found)?;
+    put_register(&mut text, now, found)?;
+    put_requests(&mut text, tally.requests)?;
+    put_answers(&mut text, &tally.answers)?;
+    put_lines(&mut text, tally)?;
+    put_signed(&mut text, tally.crls, tally.ocsp)?;
+    put_last(&mut text, tally.crls, tally.ocsp)?;
+    put_signers(&mut text, tally)?;
+    put_connections(&mut text, heard)?;
+    put_lost(&mut text, heard)?;
+    put_times(&mut text, tally)?;
+    Ok(text)
+}
+
+/// How many seconds the clock is behind the last command.
+fn behind(now: Moment, found: &Found) -> u64
+    ensures { result ≡ behind_told now found.now }
+{
+    match *found {
+        Err(Fault::Refused(Refusal::ClockBack { last })) => last.secs().saturating_sub(now.secs()),
+        _ => 0,
+    }
+}
+
+/// Puts the clock behind a text.
+#[tactic(auto, unfolding(crate::specs::Metrics::clock_text))]
+fn put_clock(text: &mut Vec<u8>, now: Moment, found: &Found) -> Result<(), AllocError>
+    ensures { OnOk result (text.new.items ≡ text.old.items ++ clock_text now found.now) }
+{
+    put_sample(text, CLOCK, now.secs())?;
+    put_sample(text, BEHIND, behind(now, found))
+}
+
+/// Puts what the register has behind a text, or that it tells nothing.
+#[tactic(auto, unfolding(crate::specs::Metrics::register_text))]
+fn put_register(text: &mut Vec<u8>, now: Moment, found: &Found) -> Result<(), AllocError>
+    ensures { OnOk result (text.new.items ≡ text.old.items ++ register_text now found.now) }
+{
+    match found {
+        Ok(numbers) => put_numbers(text, now, numbers),
+        Err(_) => put_sample(text, READABLE, 0),
+    }
+}
+
+/// Puts what the register has behind a text.
+#[tactic(auto, unfolding(crate::specs::Metrics::numbers_text))]
+fn put_numbers(text: &mut Vec<u8>, now: Moment, numbers: &Numbers) -> Result<(), AllocError>
+    ensures { OnOk result (text.new.items ≡ text.old.items ++ numbers_text now numbers.now) }
+{
+    put_sample(text, READABLE, 1)?;
+    put_certificates(text, numbers.counts)?;
+    put_moment(text, LAST_COMMAND, Some(numbers.standing.last))?;
+    put_crl(
+        text,
+        now,
+        numbers.standing.latest,
+        numbers.standing.crl_life,
+    )?;
+    put_moment(text, CRL_DUE, numbers.due)?;
+    Ok(())
+}
+
+/// Puts how many certificates have each status behind a text.
+#[tactic(auto, unfolding(crate::specs::Metrics::certificates_text))]
+fn put_certificates(text: &mut Vec<u8>, counts: Counts) -> Result<(), AllocError>
+    ensures { OnOk result (text.new.items ≡ text.old.items ++ certificates_text counts) }
+{
+    put_sample(text, GOOD, counts.good)?;
+    put_sample(text, REVOKED, counts.revoked)?;
+    put_sample(text, EXPIRED, counts.expired)
+}
+
+/// Puts the latest CRL, of a life in seconds, behind a text.
+fn put_crl(
+    text: &mut Vec<u8>,
+    now: Moment,
+    latest: Option<CrlRow>,
+    life: u64,
+) -> Result<(), AllocError>
+    ensures { OnOk result (text.new.items ≡ text.old.items ++ crl_told now latest life) }
+{
+    match latest {
+        Some(crl) => put_issued(text, now, crl, life),
+        None => put_sample(text, CRL_NUMBER, 0),
+    }
+}
+
+/// Puts a CRL behind a text.
+#[tactic(auto, unfolding(crate::specs::Metrics::issued_text))]
+fn put_issued(text: &mut Vec<u8>, now: Moment, crl: CrlRow, life: u64) -> Result<(), AllocError>
+    ensures { OnOk result (text.new.items ≡ text.old.items ++ issued_text now crl life) }
+{
+    let this_update = crl.this_update.secs();
+    put_sample(text, CRL_NUMBER, crl.number)?;
+    put_sample(text, THIS_UPDATE, this_update)?;
+    put_sample(text, NEXT_UPDATE, this_update.saturating_add(life))?;
+    put_sample(text, CRL_AGE, now.secs().saturating_sub(this_update))?;
+    Ok(())
+}
+
+/// Puts the requests for revocation behind a text, where they were counted.
+#[tactic(auto, unfolding(crate::specs::Metrics::requests_text))]
+fn put_requests(text: &mut Vec<u8>, requests: Option<Requests>) -> Result<(), AllocError>
+    ensures { OnOk result (text.new.items ≡ text.old.items ++ requests_text requests) }
+{
+    match requests {
+        Some(counted) => put_counted(text, counted),
+        None => Ok(()),
+    }
+}
+
+/// Puts requests for revocation that were counted behind a text.
+#[tactic(auto, unfolding(crate::specs::Metrics::counted_text))]
+fn put_counted(text: &mut Vec<u8>, counted: Requests) -> Result<(), AllocError>
+    ensures { OnOk result (text.new.items ≡ text.old.items ++ counted_text counted) }
+{
+    put_sample(text, OPEN, counted.waiting)?;
+    put_sample(text, OVERDUE, counted.overdue)?;
+    put_moment(text, COUNTED, Some(counted.at))?;
+    Ok(())
+}
+
+/// The name of a route, by its place.
+#[tactic(auto, unfolding(crate::specs::Metrics::route_name))]
+fn route_name(place: usize) -> &'static str
+    ensures { result.now ≡ route_named place }
+{
+    match place {
+        0 => "/ocsp",
+        1 => "/ocsp/{request}",
+        2 => "/crl",
+        3 => "/crl/{number}",
+        4 => "/status/{serial}",
+        5 => "/counts",
+        6 => "/requests",
+        7 => "/list/{word}",
+        8 => "/health",
+        9 => "/metrics",
+        _ => "other",
+    }
+}
+
+/// The name of a status, by its place.
+#[tactic(auto, unfolding(crate::specs::Metrics::code_name))]
+fn code_name(place: usize) -> &'static str
+    ensures { result.now ≡ code_named place }
+{
+    match place {
+        0 => "200",
+        1 => "400",
+        2 => "404",
+        3 => "405",
+        4 => "409",
+        5 => "411",
+        6 => "413",
+        7 => "431",
+        8 => "500",
+        9 => "503",
+        _ => "none",
+    }
+}
+
+/// Puts the answers behind a text: those routes and statuses that there were.
+fn put_answers(text: &mut Vec<u8>, answers: &[u64; ANSWERS]) -> Result<(), AllocError>
+    ensures { OnOk result (text.new.items ≡ text.old.items ++ answers_text answers.now) }
+{
+    text.extend_from_slice(ANSWERED.as_bytes())?;
+    for place in 0..ANSWERS {
+        put_answer(text, place, answers[place])?;
+    }
+    Ok(())
+}
+
+/// Puts how often there was the answer of a place behind a text, where there was one.
+fn put_answer(text: &mut Vec<u8>, place: usize, count: u64) -> Result<(), AllocError>
+    ensures { OnOk result (text.new.items ≡ text.old.items ++ answer_text place count) }
+{
+    if count == 0 {
+        return Ok(());
+    }
+    put_named_answer(
+        text,
+        route_name(place / CODES),
+        code_name(place % CODES),
+        count,
+    )
+}
+
+/// Puts how often there was an answer of a route and a status behind a text.
+fn put_named_answer(
+    text: &mut Vec<u8>,
+    route: &str,
+    code: &str,
+    count: u64,
+) -> Result<(), AllocError>
+    ensures { OnOk result (text.new.items ≡ text.old.items ++ named_answer_text route.now code.now count) }
+{
+    text.extend_from_slice(ANSWER.as_bytes())?;
+    text.extend_from_slice(route.as_bytes())?;
+    text.extend_from_slice(ANSWER_CODE.as_bytes())?;
+    text.extend_from_slice(code.as_bytes())?;
+    put_sample(text, LABEL_END, count)
+}
+
+/// Puts the lines at the counter behind a text.
+#[tactic(auto, unfolding(crate::specs::Metrics::lines_text))]
+fn put_lines(text: &mut Vec<u8>, tally: &Tally) -> Result<(), AllocError>
+    ensures { OnOk result (text.new.items ≡ text.old.items ++ lines_text tally.now) }
+{
+    put_sample(text, ACCEPTED_LINES, tally.accepted)?;
+    put_sample(text, REFUSED_LINES, tally.refused)?;
+    put_sample(text, FAULTS, tally.faults)
+}
+
+/// Puts the signatures behind a text: how many came, and how many did not.
+#[tactic(auto, unfolding(crate::specs::Metrics::signed_text))]
+fn put_signed(text: &mut Vec<u8>, crls: Signing, ocsp: Signing) -> Result<(), AllocError>
+    ensures { OnOk result (text.new.items ≡ text.old.items ++ signed_text crls ocsp) }
+{
+    put_sample(text, CRL_SIGNED, crls.came)?;
+    put_sample(text, OCSP_SIGNED, ocsp.came)?;
+    put_sample(text, CRL_UNSIGNED, crls.failed)?;
+    put_sample(text, OCSP_UNSIGNED, ocsp.failed)
+}
+
+/// Puts behind a text when the last one came, and when one did not come last.
+#[tactic(auto, unfolding(crate::specs::Metrics::last_text))]
+fn put_last(text: &mut Vec<u8>, crls: Signing, ocsp: Signing) -> Result<(), AllocError>
+    ensures { OnOk result (text.new.items ≡ text.old.items ++ last_text crls ocsp) }
+{
+    put_moment(text, CRL_LAST, crls.last)?;
+    put_moment(text, OCSP_LAST, ocsp.last)?;
+    put_moment(text, CRL_LAST_FAILED, crls.last_failed)?;
+    put_moment(text, OCSP_LAST_FAILED, ocsp.last_failed)
+}
+
+/// Puts since when nothing is signed behind a text, and since when the store fails.
+#[tactic(auto, unfolding(crate::specs::Metrics::signers_text))]
+fn put_signers(text: &mut Vec<u8>, tally: &Tally) -> Result<(), AllocError>
+    ensures { OnOk result (text.new.items ≡ text.old.items ++ signers_text tally.now) }
+{
+    put_moment(text, CRL_FAILING, tally.crls.failing_since)?;
+    put_moment(text, OCSP_FAILING, tally.ocsp.failing_since)?;
+    put_moment(text, STORE_FAILING, tally.store_since)
+}
+
+/// Puts the connections behind a text.
+#[tactic(auto, unfolding(crate::specs::Metrics::connections_text))]
+fn put_connections(text: &mut Vec<u8>, heard: Heard) -> Result<(), AllocError>
+    ensures { OnOk result (text.new.items ≡ text.old.items ++ connections_text heard) }
+{
+    put_sample(text, PEERS, heard.peers)?;
+    put_sample(text, COUNTERS, heard.counters)?;
+    put_sample(text, ACCEPTED, heard.accepted)
+}
+
+/// Puts those that ended by a fault behind a text.
+#[tactic(auto, unfolding(crate::specs::Metrics::lost_text))]
+fn put_lost(text: &mut Vec<u8>, heard: Heard) -> Result<(), AllocError>
+    ensures { OnOk result (text.new.items ≡ text.old.items ++ lost_text heard) }
+{
+    put_sample(text, BROKEN, heard.broken)?;
+    put_sample(text, LATE, heard.late)?;
+    put_sample(text, CROWDED, heard.crowded)?;
+    put_sample(text, NO_MEMORY, heard.memory)
+}
+
+/// The end of a range, in seconds, by its place.
+#[tactic(auto, unfolding(crate::specs::Metrics::bucket_name))]
+fn bucket_name(place: usize) -> &'static str
+    ensures { result.now ≡ bucket_named place }
+{
+    match place {
+        0 => "0.0001",
+        1 => "0.0003",
+        2 => "0.001",
+        3 => "0.003",
+        4 => "0.01",
+        5 => "0.03",
+        6 => "0.1",
+        7 => "0.3",
+        8 => "1",
+        9 => "3",
+        10 => "10",
+        _ => "+Inf",
+    }
+}
+
+/// Puts the seconds of exchanges behind a text: their ranges, their sum, and how many there were.
+#[tactic(auto, unfolding(crate::specs::Metrics::seconds_text))]
+fn put_times(text: &mut Vec<u8>, tally: &Tally) -> Result<(), AllocError>
+    ensures { OnOk result (text.new.items ≡ text.old.items ++ seconds_text tally.now) }
+{
+    text.extend_from_slice(SECONDS.as_bytes())?;
+    let count = put_buckets(text, &tally.buckets)?;
+    put_seconds(text, SECONDS_SUM, tally.micros)?;
+    put_sample(text, SECONDS_COUNT, count)
+}
+
+/// Puts the ranges behind a text, each with those below it; how many exchanges there were.
+fn put_buckets(text: &mut Vec<u8>, buckets: &[u64; BUCKETS]) -> Result<u64, AllocError>
+    ensures { IfOk result (λ count. (count ≡ sum_of buckets.now 12)
+        × (text.new.items ≡ text.old.items ++ buckets_text buckets.now 12)) }
+{
+    let mut sum: u64 = 0;
+    for place in 0..BUCKETS {
+        sum = sum.saturating_add(buckets[place]);
+        put_bucket(text, bucket_name(place), sum)?;
+    }
+    Ok(sum)
+}
+
+/// Puts how many exchanges took no longer than a range's end behind a text.
+fn put_bucket(text: &mut Vec<u8>, name: &str, count: u64) -> Result<(), AllocError>
+    ensures { OnOk result (text.new.items ≡ text.old.items ++ bucket_text name.now count) }
+{
+    text.extend_from_slice(SECONDS_TO.as_bytes())?;
+    text.extend_from_slice(name.as_bytes())?;
+    put_sample(text, LABEL_END, count)
+}

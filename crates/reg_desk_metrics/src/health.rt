@@ -1,0 +1,211 @@
+//! Whether all is well with an open register, and since when what is not.
+
+ghost use Rattle.std.specs.Prelude.{◌≡◌, ◌++◌, IfOk, OnOk};
+ghost use Rattle.reg_desk_metrics.specs.Tallies.{or_now};
+ghost use Rattle.reg_desk_metrics.specs.Healths.{clock_of as clock_told, crl_since as crl_told, crl_text as crl_said, has_no_crl as lacks_crl, health_of, health_text, is_none as is_without, is_well as all_well, if_past as past_told, quoted, signers_text, since_text, health_member, store_since_at as store_told};
+
+use crate::numbers::Found;
+use crate::tally::Tally;
+use reg_core::{Fault, Moment, Refusal};
+use std::alloc::{AllocError, Global};
+
+/// What is not well with an open register; nothing where each is none.
+#[derive(Clone, Copy, PartialEq, Eq)]
+pub struct Health {
+    /// Up to when the clock is behind the last command.
+    pub(crate) clock: Option<Moment>,
+    /// There is no CRL yet.
+    pub(crate) has_no_crl: bool,
+    /// Since when the next CRL is due.
+    pub(crate) crl: Option<Moment>,
+    /// Since when no CRL is signed.
+    pub(crate) crl_signer: Option<Moment>,
+    /// Since when no OCSP answer is signed.
+    pub(crate) ocsp_signer: Option<Moment>,
+    /// Since when the store fails.
+    pub(crate) store: Option<Moment>,
+}
+
+impl Health {
+    /// The health of a register at a moment, by what was found there and by what was counted.
+    pub fn of(now: Moment, found: &Found, tally: &Tally) -> Health
+        ensures { result ≡ health_of now found.now tally.now }
+    {
+        Health {
+            clock: clock_of(now, found),
+            has_no_crl: has_no_crl(found),
+            crl: crl_since(now, found),
+            crl_signer: tally.crls.failing_since,
+            ocsp_signer: tally.ocsp.failing_since,
+            store: store_of(now, found, tally.store_since),
+        }
+    }
+
+    /// Whether all is well.
+    pub fn is_well(&self) -> bool
+        ensures { result ≡ all_well self.now }
+    {
+        is_none(self.clock)
+            && !self.has_no_crl
+            && is_none(self.crl)
+            && is_none(self.crl_signer)
+            && is_none(self.ocsp_signer)
+            && is_none(self.store)
+    }
+
+    /// The text that tells it, as JSON (RFC 8259): each member is null, or since when it is not well.
+    ///
+    /// # Errors
+    ///
+    /// [`AllocError`], where memory is refused.
+    #[tactic(auto, unfolding(crate::specs::Healths::health_text))]
+    pub fn text(&self, alloc: Global) -> Result<Vec<u8>, AllocError>
+        ensures { IfOk result (λ text. text.items ≡ health_text self.now) }
+    {
+        let mut text = Vec::from_slice(alloc, b"{\"clock\":")?;
+        put_since(&mut text, self.clock)?;
+        put_crl(&mut text, self.has_no_crl, self.crl)?;
+        put_signers(&mut text, self.crl_signer, self.ocsp_signer)?;
+        put_status(&mut text, self.is_well())?;
+        put_since(&mut text, self.store)?;
+        text.push(b'}')?;
+        Ok(text)
+    }
+}
+
+/// Whether there is no moment.
+fn is_none(moment: Option<Moment>) -> bool
+    ensures { result ≡ is_without moment }
+{
+    match moment {
+        Some(_) => false,
+        None => true,
+    }
+}
+
+/// Up to when the clock is behind the last command; now, where it is past its end.
+fn clock_of(now: Moment, found: &Found) -> Option<Moment>
+    ensures { result ≡ clock_told now found.now }
+{
+    match *found {
+        Err(Fault::Refused(Refusal::ClockBack { last })) => Some(last),
+        Err(Fault::Refused(_)) => Some(now),
+        _ => None,
+    }
+}
+
+/// Whether there is no CRL yet.
+fn has_no_crl(found: &Found) -> bool
+    ensures { result ≡ lacks_crl found.now }
+{
+    match found {
+        Ok(numbers) => is_none(numbers.due),
+        Err(_) => false,
+    }
+}
+
+/// Since when the next CRL is due, where that moment is past.
+fn crl_since(now: Moment, found: &Found) -> Option<Moment>
+    ensures { result ≡ crl_told now found.now }
+{
+    match found {
+        Ok(numbers) => past(now, numbers.due),
+        Err(_) => None,
+    }
+}
+
+/// A moment that is past.
+fn past(now: Moment, due: Option<Moment>) -> Option<Moment>
+    ensures { result ≡ past_told now due }
+{
+    match due {
+        Some(at) => { if at < now { Some(at) } else { None } }
+        None => None,
+    }
+}
+
+/// Since when the store fails, as was counted; or now, where it tells nothing.
+fn store_of(now: Moment, found: &Found, since: Option<Moment>) -> Option<Moment>
+    ensures { result ≡ store_told now found.now since }
+{
+    match *found {
+        Ok(_) => since,
+        Err(Fault::Refused(_)) => since,
+        Err(_) => failing(now, since),
+    }
+}
+
+/// A moment that was noted, or now.
+fn failing(now: Moment, since: Option<Moment>) -> Option<Moment>
+    ensures { result ≡ or_now since now }
+{
+    match since {
+        Some(at) => Some(at),
+        None => Some(now),
+    }
+}
+
+/// Puts a moment behind a text, in quotation marks, or null.
+fn put_since(text: &mut Vec<u8>, since: Option<Moment>) -> Result<(), AllocError>
+    ensures { OnOk result (text.new.items ≡ text.old.items ++ since_text since) }
+{
+    match since {
+        Some(at) => put_moment(text, at),
+        None => text.extend_from_slice(b"null"),
+    }
+}
+
+/// Puts a moment behind a text, in quotation marks.
+fn put_moment(text: &mut Vec<u8>, at: Moment) -> Result<(), AllocError>
+    ensures { OnOk result (text.new.items ≡ text.old.items ++ quoted at) }
+{
+    text.push(b'"')?;
+    text.extend_from_slice(&at.text())?;
+    text.push(b'"')?;
+    Ok(())
+}
+
+/// Puts the member of the CRL behind a text.
+#[tactic(auto, unfolding(crate::specs::Healths::crl_text))]
+fn put_crl(text: &mut Vec<u8>, has_no_crl: bool, crl: Option<Moment>) -> Result<(), AllocError>
+    ensures { OnOk result (text.new.items ≡ text.old.items ++ crl_said has_no_crl crl) }
+{
+    text.extend_from_slice(b",\"crl\":")?;
+    if has_no_crl {
+        return text.extend_from_slice(b"\"at-once\"");
+    }
+    put_since(text, crl)
+}
+
+/// Puts the members of who signs behind a text.
+#[tactic(auto, unfolding(crate::specs::Healths::signers_text))]
+fn put_signers(
+    text: &mut Vec<u8>,
+    crl: Option<Moment>,
+    ocsp: Option<Moment>,
+) -> Result<(), AllocError>
+    ensures { OnOk result (text.new.items ≡ text.old.items ++ signers_text crl ocsp) }
+{
+    put_member(text, b",\"crl_signer\":", crl)?;
+    put_member(text, b",\"ocsp_signer\":", ocsp)?;
+    Ok(())
+}
+
+/// Puts a member behind a text: its name, and a moment or null.
+fn put_member(text: &mut Vec<u8>, name: &[u8], since: Option<Moment>) -> Result<(), AllocError>
+    ensures { OnOk result (text.new.items ≡ text.old.items ++ (name.now ++ since_text since)) }
+{
+    text.extend_from_slice(name)?;
+    put_since(text, since)
+}
+
+/// Puts the word that tells whether all is well behind a text, and the name of the last member.
+#[tactic(auto, unfolding(crate::specs::Healths::health_member))]
+fn put_status(text: &mut Vec<u8>, is_well: bool) -> Result<(), AllocError>
+    ensures { OnOk result (text.new.items ≡ text.old.items ++ health_member is_well) }
+{
+    if is_well {
+        return text.extend_from_slice(b",\"status\":\"ok\",\"store\":");
+    }
+    text.extend_from_slice(b",\"status\":\"failing\",\"store\":")
+}

@@ -1,0 +1,15 @@
+//! What an open register tells of itself: what was counted, its health, and its metrics.
+#![tactic(auto)]
+
+mod families;
+mod health;
+mod names;
+mod numbers;
+mod samples;
+mod signing;
+mod tally;
+
+pub use families::metrics;
+pub use health::Health;
+pub use numbers::{Found, Heard, Numbers, Requests};
+pub use tally::Tally;

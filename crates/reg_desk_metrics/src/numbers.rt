@@ -1,0 +1,62 @@
+//! What is told that was not counted here.
+
+use reg_core::{Counts, Fault, Moment};
+use reg_office_api::Standing;
+
+/// What a register has at a moment.
+#[derive(Clone, Copy, PartialEq, Eq)]
+pub struct Numbers {
+    /// How many certificates have each status.
+    pub counts: Counts,
+    /// When the next CRL is due; `None`: at once.
+    pub due: Option<Moment>,
+    pub standing: Standing,
+}
+
+/// What a register has, or why it tells nothing.
+pub type Found = Result<Numbers, Fault>;
+
+/// Its requests for revocation at a moment. To count them takes a walk, so they are told with that moment.
+#[derive(Clone, Copy, PartialEq, Eq)]
+pub struct Requests {
+    /// When they were counted.
+    pub at: Moment,
+    /// Those that wait for a decision.
+    pub waiting: u64,
+    /// Those of them whose limit has passed.
+    pub overdue: u64,
+}
+
+/// What is heard of connections.
+#[derive(Clone, Copy, PartialEq, Eq)]
+pub struct Heard {
+    /// How many peers there are.
+    pub peers: u64,
+    /// How many counters there are.
+    pub counters: u64,
+    /// How many peers were accepted.
+    pub accepted: u64,
+    /// How many connections failed.
+    pub broken: u64,
+    /// How many came to the end of their time.
+    pub late: u64,
+    /// How many were let go for others.
+    pub crowded: u64,
+    /// For how many there was no memory.
+    pub memory: u64,
+}
+
+impl Heard {
+    /// Nothing was heard yet.
+    pub fn nothing() -> Heard {
+        Heard {
+            peers: 0,
+            counters: 0,
+            accepted: 0,
+            broken: 0,
+            late: 0,
+            crowded: 0,
+            memory: 0,
+        }
+    }
+}

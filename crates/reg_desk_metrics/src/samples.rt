@@ -1,0 +1,67 @@
+//! Samples of the text form of Prometheus, version 0.0.4, each behind a text.
+
+ghost use Rattle.std.specs.Prelude.{◌≡◌, ◌<◌, ◌++◌, OnOk};
+ghost use Rattle.reg_desk_metrics.specs.Samples.{digit_at as digit_told, moment_or_none, fraction as fraction_told, sample, sample_of_seconds};
+
+use reg_core::{Decimal, Moment};
+use std::alloc::AllocError;
+
+/// Puts a sample behind a text: its series, its value, and an LF.
+pub(crate) fn put_sample(text: &mut Vec<u8>, series: &str, value: u64) -> Result<(), AllocError>
+    ensures { OnOk result (text.new.items ≡ text.old.items ++ sample series.now value) }
+{
+    let digits = Decimal::of(value);
+    text.extend_from_slice(series.as_bytes())?;
+    text.extend_from_slice(digits.as_bytes())?;
+    text.push(b'\n')?;
+    Ok(())
+}
+
+/// The same of a moment, in seconds since 1970; 0 where there is none.
+pub(crate) fn put_moment(
+    text: &mut Vec<u8>,
+    series: &str,
+    moment: Option<Moment>,
+) -> Result<(), AllocError>
+    ensures { OnOk result (text.new.items ≡ text.old.items ++ sample series.now (moment_or_none moment)) }
+{
+    match moment {
+        Some(at) => put_sample(text, series, at.secs()),
+        None => put_sample(text, series, 0),
+    }
+}
+
+/// The same of a time in microseconds, told in seconds.
+pub(crate) fn put_seconds(text: &mut Vec<u8>, series: &str, micros: u64) -> Result<(), AllocError>
+    ensures { OnOk result (text.new.items ≡ text.old.items ++ sample_of_seconds series.now micros) }
+{
+    let whole = Decimal::of(micros / 1_000_000);
+    text.extend_from_slice(series.as_bytes())?;
+    text.extend_from_slice(whole.as_bytes())?;
+    text.extend_from_slice(&fraction(micros))?;
+    text.push(b'\n')?;
+    Ok(())
+}
+
+/// The point, and the six digits behind it.
+fn fraction(micros: u64) -> [u8; 7]
+    ensures { result ≡ fraction_told micros }
+{
+    [
+        b'.',
+        digit_at(micros, 100_000),
+        digit_at(micros, 10_000),
+        digit_at(micros, 1_000),
+        digit_at(micros, 100),
+        digit_at(micros, 10),
+        digit_at(micros, 1),
+    ]
+}
+
+/// The decimal digit of a number at a unit.
+fn digit_at(number: u64, unit: u64) -> u8
+    requires { 0 < unit }
+    ensures { result ≡ digit_told number unit }
+{
+    b'0' + (number / unit % 10) as u8
+}

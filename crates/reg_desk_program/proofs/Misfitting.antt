@@ -1,0 +1,31 @@
+-- Why no CRL follows another, by what was found of it.
+use Rattle.std.proofs.Common.{◌≡◌, ◌∙◌, ℕ, List, Option, Some, None, sym, subst}
+use Rattle.std.specs.Prelude.{MatchOption}
+use Rattle.reg_core.specs.declared.cause.Cause.{Cause}
+use Rattle.reg_desk_jobs.specs.WhoSigns.{MayFollow}
+use Rattle.reg_crl_signer.specs.Signed.{IsCrlUnder}
+use Rattle.reg_desk_program.specs.Misfits.{Differs, IsMisfit, IsMisfitAfter}
+
+-- by the algorithm that was found in it
+pub of_found : (crl found algorithm : List ℕ) (result : Option Cause)
+    → ((other : List ℕ) → IsCrlUnder crl other → found ≡ other)
+    → MatchOption result (MayFollow algorithm found) (Differs found algorithm)
+    → MatchOption result ((other : List ℕ) → IsCrlUnder crl other → MayFollow algorithm other) (IsMisfit crl algorithm)
+of_found crl found algorithm None told follows = λ other under.
+    let P : List ℕ → Type 0 = λ b. MayFollow algorithm b in
+    subst P (told other under) follows
+of_found crl found algorithm (Some cause) told differs = λ other under.
+    let P : List ℕ → Type 0 = λ b. Differs b algorithm cause in
+    subst P (told other under) differs
+
+-- by what was found of the latest
+pub of_latest : (latest : Option (List ℕ)) (crl algorithm : List ℕ) (result : Option Cause) → latest ≡ Some crl
+    → MatchOption result ((other : List ℕ) → IsCrlUnder crl other → MayFollow algorithm other) (IsMisfit crl algorithm)
+    → MatchOption result ((it : List ℕ) → latest ≡ Some it → (other : List ℕ) → IsCrlUnder it other → MayFollow algorithm other)
+    (IsMisfitAfter latest algorithm)
+of_latest latest crl algorithm None is follows = λ it same other under.
+    let both : Some it ≡ Some crl = sym same ∙ is in
+    let one : it ≡ crl = cc in
+    let P : List ℕ → Type 0 = λ b. IsCrlUnder b other in
+    follows other (subst P one under)
+of_latest latest crl algorithm (Some cause) is misfits = (crl, is, misfits)

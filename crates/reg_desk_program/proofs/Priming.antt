@@ -1,0 +1,21 @@
+-- An office that has what is known of a signature taken for it.
+use Rattle.std.proofs.Common.{◌≡◌, refl, subst, sym}
+use Rattle.sqlite.specs.Held.{Held, state}
+use Rattle.sqlite.specs.State.{HasCleanDisk}
+use Rattle.sqlite_trees.specs.declared.store.Store.{Ghosts}
+use Rattle.reg_office_api.specs.Signatories.{Signatory}
+use Rattle.reg_office_api.specs.CallSteps.{Signs}
+use Rattle.reg_office.specs.Calls.{LeadsOver, StandsFor}
+
+-- where its store and who signs are the same, what stood stands
+pub same_stands : {C : Type 0} (g : Ghosts C) (signs : Signs) (old new : Held C) (who who' : Signatory) → new ≡ old → who' ≡ who
+    → LeadsOver g signs (λ those before after. after ≡ before) (old, who) (new, who')
+same_stands {C = C} g signs old new who who' stored same = (
+  (λ clean. subst (λ (held : Held C). HasCleanDisk (state g held)) stored clean),
+  (λ those before stood clean.
+      (before, refl, subst (λ (office : Held C × Signatory). StandsFor g signs office those before) (λ i. (sym stored i, sym same i)) stood)),
+)
+
+-- what a socket gave no clause says, so anything was given
+pub given_anyhow : ∥ Unit {0} ∥₁
+given_anyhow = ∣ tt ∣₁

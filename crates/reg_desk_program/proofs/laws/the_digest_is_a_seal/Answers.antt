@@ -1,0 +1,13 @@
+-- No algorithm of a key is that of the digest, so what has the form of a key's signature does not stand under it.
+use Rattle.std.proofs.Common.{refl, inl, inr}
+use Rattle.reg_desk_program.proofs.Signers.{no_key}
+use Rattle.reg_desk_program.proofs.laws.the_digest_is_a_seal.Goals as goal
+
+pub returns : goal.returns
+returns g c = record {
+  algorithm = refl;
+  seals = λ message signature signed. elim signed [
+    | inl sealed ↦ sealed.1
+    | inr keyed ↦ absurd (no_key keyed.1.algorithm keyed.1.named)
+  ];
+}

@@ -1,0 +1,52 @@
+-- What an audit that found all sound gives of an office over the same tables.
+use Rattle.std.specs.Prelude.{◌≡◌, ◌≤◌, ℕ, List}
+use Rattle.sqlite.specs.Effect.{Database}
+use Rattle.sqlite.specs.Files.{file_state, over_files}
+use Rattle.sqlite.specs.Held.{Held}
+use Rattle.sqlite.specs.State.{HasCleanDisk}
+use Rattle.sqlite_disk.specs.declared.Disk as disk
+use Rattle.sqlite_store.specs.declared.store.FileStore.{FileStore}
+use Rattle.reg_core.specs.Crls.{next_number}
+use Rattle.reg_core.specs.Records.{Records}
+use Rattle.reg_core.specs.Sound.{CrlsSigned}
+use Rattle.reg_office_api.specs.Signatories.{Signatory}
+use Rattle.reg_crl.specs.Signing.{Identity, sealed_until}
+use Rattle.reg_office.specs.Stands.{Stands}
+use Rattle.reg_store_tables.specs.Columns.{Columns}
+use Rattle.reg_store_tables.specs.Shows.{AreBoth}
+use Rattle.reg_audit.specs.Complete.{ShowsSound}
+use Rattle.reg_audit.specs.Presumed.{IsPresumed}
+use Rattle.reg_audit.specs.Verdicts.{CountedBy, IsSound}
+use Rattle.reg_audit_rows.specs.declared.verdict.Verdict.{Verdict}
+use Rattle.reg_desk_program.specs.Files.{IsAudited, IsOpenedFrom}
+use Rattle.reg_desk_jobs.specs.declared.crl_signer.CrlSigner.{CrlSigner}
+
+-- an audit of a file that said that all is sound, with a disk that returned what was written, and where what is presumed of the
+-- connection and of the file holds
+pub record FoundSound {D : Type 0} (g : disk.Ghosts D) : Type 0 where
+  pub verdict : Verdict
+  pub audited : IsAudited g verdict
+  pub sound : IsSound verdict
+  pub clean : HasCleanDisk (file_state audited.after)
+  pub presumed : IsPresumed over_files audited.connection
+
+-- the tables that were audited
+abbrev pub tables_of : {D : Type 0} {g : disk.Ghosts D} → FoundSound g → Database
+tables_of found = (file_state found.audited.connection).now
+
+-- a register that was opened over the very tables that were audited: those of a file that is read alone, and then of one that is written
+pub record OpensSame {A D : Type 0} {a : disk.Ghosts A} {g : disk.Ghosts D} (found : FoundSound a) (register : Held (FileStore D g)) (who : Signatory) : Type 0 where
+  pub signing : CrlSigner
+  pub opened : IsOpenedFrom signing register who
+  pub same : (file_state opened.connection).now ≡ tables_of found
+
+-- There are records that the audited tables show: they are sound, what is kept beside them follows from them, and they are as many as
+-- was told. And whatever records the tables show, they stand in each register that is opened over these tables, where each stored CRL
+-- has the signature of who signs there, or below some number, the next one at the latest, the digest's seal: that an audit does not tell.
+pub record StandsOnceAudited {A D : Type 0} {a : disk.Ghosts A} (g : disk.Ghosts D) (signs : Identity → List ℕ → List ℕ → Type 0) (found : FoundSound a) : Type 0 where
+  pub shown : ShowsSound (tables_of found)
+  pub counted : CountedBy found.verdict shown.records
+  pub stand : (records : Records) (columns : Columns) → AreBoth (tables_of found) records columns
+      → (register : Held (FileStore D g)) (who : Signatory) → OpensSame found register who
+      → (since : ℕ) → since ≤ next_number records.crls → CrlsSigned (sealed_until since signs who.crls) records
+      → Stands over_files signs register who.crls records

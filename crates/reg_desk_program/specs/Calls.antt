@@ -1,0 +1,15 @@
+-- What the calls of the machine give.
+use Rattle.std.specs.Prelude.{◌≡◌, Bool, true, false, Result, Ok, Err}
+use Rattle.reg_core.specs.declared.memory.Memory.{Memory}
+use Rattle.reg_desk_files.specs.declared.file.ClaimFault.{ClaimFault}
+use Rattle.reg_desk_files.specs.declared.file.ClaimFault.TheVariants as claim
+
+-- a call was made with these arguments: no clause can say what it did outside the program, so this holds of any
+abbrev pub Unsaid : {A : Type 0} → A → Type 0
+Unsaid arguments = arguments ≡ arguments
+
+-- whether a path was claimed
+abbrev pub is_claimed : Result (Unit {0}) ClaimFault → Result Bool Memory
+is_claimed (Ok done) = Ok true
+is_claimed (Err claim.Memory) = Err (record {})
+is_claimed (Err (claim.Taken cause)) = Ok false

@@ -1,0 +1,131 @@
+-- What is known of a register in a file.
+use Rattle.std.specs.Prelude.{◌≡◌, ◌≤◌, ◌⊎◌, Some, None}
+use Rattle.sqlite.specs.Files.{file_state, over_files, IsOpened}
+use Rattle.sqlite.specs.Held.{Held, IsNew, state}
+use Rattle.sqlite.specs.Start.{FindsIn}
+use Rattle.sqlite.specs.State.{HasCleanDisk, IsLive, Opens}
+use Rattle.sqlite_trees.specs.declared.store.Store.{Ghosts}
+use Rattle.sqlite_wal.specs.Recovery.{Image}
+use Rattle.sqlite_disk.specs.declared.Disk as disk
+use Rattle.sqlite_store.specs.declared.store.FileStore.{FileStore}
+use Rattle.sqlite_trees.specs.View.{doubt}
+use Rattle.reg_core.specs.Records.{Records}
+use Rattle.reg_core.specs.Sound.{Sound, SoundRows}
+use Rattle.reg_store_migration.specs.Older.{ShowsOlder}
+use Rattle.reg_store_migration.specs.declared.version.OlderVersion.{OlderVersion}
+use Rattle.reg_store_tables.specs.Columns.{Columns}
+use Rattle.reg_store_tables.specs.Kept.{Kept, ShowsKept}
+use Rattle.reg_store_tables.specs.Schema.{no_schema}
+use Rattle.reg_store_tables.specs.Shows.{ShowsBoth}
+use Rattle.reg_store_tables.specs.Stays.{IsRegister, Stays}
+use Rattle.reg_audit.specs.Complete.{ShowsSound}
+use Rattle.reg_audit.specs.Stored.{IsSomeCrl}
+use Rattle.reg_audit.specs.ReadableValues.{HasAllowedDays}
+use Rattle.reg_audit.specs.Presumed.{IsPresumed}
+use Rattle.reg_audit.specs.Verdicts.{CountedBy, DeniedBy, IsSound, TellsOf}
+use Rattle.reg_audit_rows.specs.declared.verdict.Verdict.{Verdict}
+use Rattle.reg_office_api.specs.CallSteps.{Signs}
+use Rattle.reg_office_api.specs.Signatories.{Signatory}
+use Rattle.reg_crl.specs.Signing.{Identity}
+use Rattle.reg_crl.specs.declared.signer.Signer.{Ghosts as Signer}
+use Rattle.reg_desk_cli.specs.declared.failure.Failure.{Failure}
+use Rattle.reg_desk_cli.specs.declared.failure.Failure.TheVariants as failure
+use Rattle.reg_desk_files.specs.declared.reading.Unread.{Unread}
+use Rattle.reg_desk_files.specs.declared.reading.Unread.TheVariants as unread
+use Rattle.reg_office.specs.AfterStoppedCommand.{LeavesThese, LeavesTold}
+use Rattle.reg_office.specs.Calls.{seen}
+use Rattle.reg_office.specs.Stands.{Stands}
+use Rattle.reg_office.specs.declared.office.Office.{Office}
+use Rattle.reg_office.specs.declared.responder.Responder.{Responder}
+use Rattle.reg_desk_jobs.specs.WhoSigns.{EmbedsOwn, Follows, IsSigning}
+use Rattle.reg_desk_jobs.specs.declared.crl_signer.CrlSigner.{CrlSigner}
+
+-- tables showed the records of a register, of this program's version or of an older one
+abbrev pub Showed : {C : Type 0} → Ghosts C → Held C → Records → Type 0
+Showed g held records = ShowsKept g held records ⊎ ((version : OlderVersion) × ShowsOlder version g held records × SoundRows records)
+
+-- A connection to a database.
+module _ {C : Type 0} (g : Ghosts C) (connection : Held C) where
+  -- its database is whole where its store returned what was written
+  abbrev pub IsWhole : Type 0
+  IsWhole = HasCleanDisk (state g connection) → Opens (state g connection) × IsLive (state g connection)
+
+  -- What a register holds that was opened over it shows the records that it showed, also those that its tables showed as ones of an
+  -- older version. Who signs CRLs is as it was told, or as the latest CRL tells where nothing will be signed; over the issuer's key, and
+  -- under the algorithm of the latest CRL, or behind one that the digest sealed. A certificate that stands with OCSP answers by the
+  -- issuer's key is of that key. A stop leaves the records that it showed.
+  pub record OpensOver (signing : CrlSigner) (register : Held C) (who : Signatory) : Type 0 where
+    pub kept : (records : Records) → ShowsKept g connection records → ShowsKept g register records
+    pub migrated : (version : OlderVersion) (records : Records) → ShowsOlder version g connection records → SoundRows records → ShowsKept g register records
+    pub clean : doubt (state g connection).is_clean ≤ doubt (state g register).is_clean
+    pub told : (records : Records) → Showed g connection records → HasCleanDisk (state g register) → IsSigning signing records.issuer.key who.crls
+    pub follows : (records : Records) → Showed g connection records → SoundRows records → HasCleanDisk (state g register)
+        → Follows records who.crls.algorithm
+    pub embeds : (records : Records) → Showed g connection records → HasCleanDisk (state g register) → EmbedsOwn records.issuer.key who.answers
+    pub leaves : IsWhole → (records : Records) → ShowsKept g connection records → LeavesThese g register records
+
+  -- In what a register holds that was made over it these records stand, and a stop leaves them, or one change more; it had no table, index
+  -- or view.
+  pub record MakesOver (signs : Signs) (register : Held C) (who : Identity) (records : Records) : Type 0 where
+    pub stands : Stands g signs register who records
+    pub leaves : IsWhole → LeavesTold g signs register who records
+    pub empty : connection.schema ≡ no_schema
+    pub clean : doubt (state g connection).is_clean ≤ doubt (state g register).is_clean
+
+module _ {D : Type 0} {g : disk.Ghosts D} where
+  -- a connection that is new and in no transaction, to a database that is whole where the disk returned what was written
+  pub record IsConnection (connection : Held (FileStore D g)) : Type 0 where
+    pub fresh : IsNew connection
+    pub whole : HasCleanDisk (file_state connection) → IsOpened connection
+
+  -- what a register holds was opened over a connection to a file
+  pub record IsOpenedFrom (signing : CrlSigner) (register : Held (FileStore D g)) (who : Signatory) : Type 0 where
+    pub connection : Held (FileStore D g)
+    pub connects : IsConnection connection
+    pub opens : OpensOver over_files connection signing register who
+
+  -- what a register holds was made by a connection to a database with no table, index or view
+  pub record IsMadeFrom (connection register : Held (FileStore D g)) : Type 0 where
+    pub empty : connection.schema ≡ no_schema
+    pub clean : doubt (file_state connection).is_clean ≤ doubt (file_state register).is_clean
+
+  -- an office was opened over a connection to a file, with this signer of CRLs and this responder
+  pub record OpensFor {S : Type 0} (signer : Signer S) (connection : Held (FileStore D g)) (crls : CrlSigner) (responder : Responder S)
+      (office : Office (FileStore D g) S) : Type 0 where
+    pub opens : OpensOver over_files connection crls office.store (seen signer office).1
+    pub answers : office.responder ≡ responder
+
+-- What an audit says of a database, before and after it: its tables are as they were. Where all was said to be sound, they are a register's,
+-- whatever records they showed are sound, each CRL's bytes are those of what it lists, whatever its signature, and what is kept beside the
+-- records follows from them, the office was made with days that a schedule can allow, and they are as many as was told; and there are
+-- such records, where what is presumed of the connection holds. Where a row was told, they showed no such records whose values are a
+-- register's; and where it was not told for the bytes of a CRL, none whatever the bytes of CRLs are. That it is of an older version, or
+-- of other tables, is told where they say so.
+pub record Says {D : Type 0} {g : disk.Ghosts D} (connection after : Held (FileStore D g)) (verdict : Verdict) : Type 0 where
+  pub sound : (records : Records) (columns : Columns) → ShowsBoth over_files connection records columns → HasCleanDisk (file_state after)
+      → IsSound verdict → Sound IsSomeCrl records × Kept columns records × HasAllowedDays columns
+  pub shown : IsPresumed over_files connection → HasCleanDisk (file_state after) → IsSound verdict → ShowsSound (file_state connection).now
+  pub counted : (records : Records) (columns : Columns) → ShowsBoth over_files connection records columns → HasCleanDisk (file_state after)
+      → CountedBy verdict records
+  pub broken : (records : Records) (columns : Columns) → ShowsBoth over_files connection records columns → HasCleanDisk (file_state after)
+      → DeniedBy verdict records columns
+  pub tells : HasCleanDisk (file_state after) → TellsOf verdict (file_state connection).now
+  pub register : IsSound verdict → IsRegister (file_state after)
+  pub stays : Stays (file_state connection) (file_state after)
+
+-- a database was audited by a connection, and this was said of it
+pub record IsAudited {D : Type 0} (g : disk.Ghosts D) (verdict : Verdict) : Type 0 where
+  pub connection : Held (FileStore D g)
+  pub after : Held (FileStore D g)
+  pub connects : IsConnection connection
+  pub says : Says connection after verdict
+
+-- the same of files that hold these bytes: the connection finds what these stand for
+pub record IsAuditOf {D : Type 0} (g : disk.Ghosts D) (image : Image) (verdict : Verdict) : Type 0 where
+  pub audited : IsAudited g verdict
+  pub found : HasCleanDisk (file_state audited.connection) → FindsIn image (file_state audited.connection)
+
+-- how it is told why files are not opened
+abbrev pub failure_of : Unread → Failure
+failure_of unread.Nothing = failure.NotARegister
+failure_of (unread.Fault why) = failure.Fault why.fault

@@ -1,0 +1,129 @@
+//! A job is done, and its end told.
+
+ghost use Rattle.reg_desk_jobs.specs.Ends.{Ends, Performs};
+
+use crate::memory::script_in_memory;
+use reg_core::{Cause, of_terms};
+use reg_desk_cli::{Failure, Job, status_of};
+use reg_desk_jobs::{
+    Machine, Reason, at, at_rows, audit, copy, crl, hold_open, import_rows, init, key_identifier,
+    list, schedule, script, script_by_lines, serve, tell_ending,
+};
+use std::cell::Cell;
+use std::io::{Read, Write};
+
+/// Does a job at a machine, over standard input and output, and gives its exit status: 0 where it is done; 3 where a reply at the control
+/// socket, or in a strict script or import, was a refusal or a fault, or the last line there has no end; else 1; with the line of that on
+/// standard error. Where that is asked for, one line more tells the cause of a fault, if the machine knows it, or why a registration was
+/// refused at which a strict script or import ended.
+pub fn perform<M: Machine, R: Read, W: Write, E: Write>(
+    rt: &HostRuntime,
+    machine: &mut M,
+    job: &Job<'_>,
+    is_explained: bool,
+    reader: &mut R,
+    writer: &mut W,
+    errors: &mut E,
+) -> u8
+    ensures { Performs M.Machine M.Office.Office R.remaining W.contents machine.old machine.new reader.old reader.new
+        writer.old writer.new job.now is_explained (E.contents errors.old) (E.contents errors.new) result }
+{
+    let reason = Cell::new(None);
+    let ending = run(rt, machine, job, &reason, reader, writer);
+    note_terms(machine, job, &ending);
+    let alloc = rt.alloc();
+    tell_ending(
+        alloc,
+        errors,
+        &ending,
+        is_explained,
+        machine.noted(),
+        reason.get(),
+    );
+    status_of(&ending)
+}
+
+/// Does the same, and says nothing of it. Where a caller's machine is known, the clause of [`perform`] would be written out over its files and
+/// sockets, where nothing stands on it, and take the prover minutes.
+pub(crate) fn perform_untold<M: Machine, R: Read, W: Write, E: Write>(
+    rt: &HostRuntime,
+    machine: &mut M,
+    job: &Job<'_>,
+    is_explained: bool,
+    reader: &mut R,
+    writer: &mut W,
+    errors: &mut E,
+) -> u8 {
+    perform(rt, machine, job, is_explained, reader, writer, errors)
+}
+
+/// Does a job. Why a registration was refused, at which it ended, is kept.
+fn run<M: Machine, R: Read, W: Write>(
+    rt: &HostRuntime,
+    machine: &mut M,
+    job: &Job<'_>,
+    reason: &Cell<Option<Reason>>,
+    reader: &mut R,
+    writer: &mut W,
+) -> Result<(), Failure>
+    ensures { Ends M.Machine M.Office.Office R.remaining W.contents machine.old machine.new reader.old reader.new
+        writer.old writer.new job.now result }
+{
+    let alloc = rt.alloc();
+    match job {
+        Job::Init(new) => init(alloc, machine, new, writer),
+        Job::Script {
+            file: Some(file),
+            signer,
+        } => script(alloc, machine, file.as_str(), signer, reader, writer),
+        Job::Script {
+            file: None,
+            signer: None,
+        } => script_in_memory(alloc, reader, writer),
+        Job::Script {
+            file: None,
+            signer: Some(_),
+        } => Err(Failure::BadSigner),
+        Job::Lines(lined) => script_by_lines(alloc, machine, lined, reason, reader, writer),
+        Job::Import(rows) => import_rows(alloc, machine, rows, reason, reader, writer),
+        Job::Crl { file, number } => crl(alloc, machine, file.as_str(), *number, writer),
+        Job::Serve(serving) => serve(rt, machine, serving, writer),
+        Job::Open(kept) => hold_open(rt, machine, kept, writer),
+        Job::At {
+            counter,
+            rows: None,
+        } => at(alloc, &*machine, counter.as_str(), reader, writer),
+        Job::At {
+            counter,
+            rows: Some(_),
+        } => at_rows(alloc, &*machine, counter.as_str(), reader, writer),
+        Job::Schedule { file, steps } => schedule(alloc, machine, file.as_str(), steps, writer),
+        Job::KeyId { file, key_id } => key_identifier(
+            alloc,
+            machine,
+            file.as_str(),
+            key_id,
+            writer,
+        ),
+        Job::Listing(wanted) => list(alloc, machine, wanted, writer),
+        Job::Copy { file, path } => copy(alloc, machine, file.as_str(), path.as_str(), writer),
+        Job::Audit { file } => audit(alloc, &*machine, file.as_str(), writer),
+    }
+}
+
+/// Keeps which of the terms that a job is told make no policy, where it ended by that.
+fn note_terms<M: Machine>(machine: &M, job: &Job<'_>, ending: &Result<(), Failure>) {
+    match ending {
+        Err(Failure::BadPolicy) => machine.note(wrong_terms(job)),
+        _ => {}
+    }
+}
+
+/// Which of the terms that a job is told make no policy.
+fn wrong_terms(job: &Job<'_>) -> Option<Cause> {
+    match job {
+        Job::Init(new) => of_terms(new.days, new.crl_life, new.ocsp_life, new.cap),
+        Job::Schedule { .. } => Some(Cause::Steps),
+        _ => None,
+    }
+}

@@ -1,0 +1,93 @@
+//! The office of a register in a file.
+
+use crate::file_signer::FileSigner;
+use reg_core::{Command, Fault, Label, Memory, Moment, Outcome, Query, Schedule};
+use reg_core_lists::{Cursor, Page};
+use reg_io::Begun;
+use reg_ocsp::Draft;
+use reg_office::Office;
+use reg_office_api::{OcspResponse, Standing};
+use sqlite::{FileFrom, FileStore};
+use sqlite_disk::Unknown;
+use std::alloc::Global;
+
+/// An office over a file, with its checks for damage, and the holder of a key or a digest as its signer.
+pub(crate) type OfficeInFile = Office<FileStore<FileFrom<Unknown>>, FileSigner>;
+
+/// The office of a register in a file. Each call is the one of [`reg_office::Office`].
+///
+/// It is a type without parameters: where the jobs are given the program's machine, the prover compares the machine's office by its name. By all
+/// the types that the office is made of, that one check takes more steps than the prover allows.
+#[derive(Drop)]
+pub struct FileOffice {
+    pub(crate) office: OfficeInFile,
+}
+
+impl reg_office_api::Office for FileOffice {
+    ghost is_clean = { λ it. ⟦<OfficeInFile as reg_office_api::Office>⟧.is_clean it.office };
+
+    ghost stands = { λ who it records. ⟦<OfficeInFile as reg_office_api::Office>⟧.stands who it.office records };
+
+    ghost signs = { ⟦<OfficeInFile as reg_office_api::Office>⟧.signs };
+
+    ghost failures = { λ it. ⟦<OfficeInFile as reg_office_api::Office>⟧.failures it.office };
+
+    ghost answer_failures = { λ it. ⟦<OfficeInFile as reg_office_api::Office>⟧.answer_failures it.office };
+
+    fn run_one(&mut self, alloc: Global, now: Moment, command: &Command) -> Outcome {
+        self.office.run_one(alloc, now, command)
+    }
+
+    fn ask(&mut self, alloc: Global, now: Moment, query: &Query) -> Outcome {
+        self.office.ask(alloc, now, query)
+    }
+
+    fn ocsp(&mut self, alloc: Global, now: Moment, request: &[u8]) -> Result<Vec<u8>, Memory> {
+        self.office.ocsp(alloc, now, request)
+    }
+
+    fn begin_ocsp(
+        &mut self,
+        alloc: Global,
+        now: Moment,
+        request: &[u8],
+    ) -> Result<Begun<OcspResponse, Draft>, Memory> {
+        self.office.begin_ocsp(alloc, now, request)
+    }
+
+    fn crl_bytes(&mut self, alloc: Global, number: Option<u64>) -> Result<Vec<u8>, Fault> {
+        self.office.crl_bytes(alloc, number)
+    }
+
+    fn crl_message(&mut self, alloc: Global, now: Moment) -> Option<Vec<u8>> {
+        self.office.crl_message(alloc, now)
+    }
+
+    fn page(&mut self, alloc: Global, now: Moment, from: Cursor, most: u64) -> Result<Page, Fault> {
+        self.office.page(alloc, now, from, most)
+    }
+
+    fn standing(&mut self) -> Result<Standing, Fault> {
+        self.office.standing()
+    }
+
+    fn open_count(&mut self, now: Moment) -> Result<u64, Fault> {
+        self.office.open_count(now)
+    }
+
+    fn longest(&mut self, order: u64, not_before: Moment) -> Result<Option<u64>, Fault> {
+        self.office.longest(order, not_before)
+    }
+
+    fn set_schedule(&mut self, alloc: Global, schedule: Schedule) -> Result<(), Fault> {
+        self.office.set_schedule(alloc, schedule)
+    }
+
+    fn set_key_identifier(&mut self, alloc: Global, octets: Label) -> Result<(), Fault> {
+        self.office.set_key_identifier(alloc, octets)
+    }
+
+    fn failure_counts(&self) -> (u64, u64) {
+        self.office.failure_counts()
+    }
+}

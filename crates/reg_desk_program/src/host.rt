@@ -1,0 +1,450 @@
+//! The machine that the program runs on.
+
+ghost use Rattle.std.specs.Prelude.{◌≡◌, ◌≤◌, ◌/◌, ℕ, List, [], Ok, IfOk, IfSome, MatchResult, length};
+ghost use Rattle.std.specs.Duration.{as_nanos};
+ghost use Rattle.reg_office_api.specs.LookUps.{IsOfStore};
+ghost use Rattle.reg_office_api.specs.Leads.{Leads};
+ghost use Rattle.reg_desk_files.specs.Reading.{IsUnread};
+ghost use Rattle.reg_desk_jobs.specs.RegisterFailures.{IsOpening};
+ghost use Rattle.reg_desk_program.specs.Calls.{Unsaid, is_claimed};
+ghost use Rattle.reg_desk_program.specs.Files.{failure_of};
+ghost use Rattle.reg_crl_signer.specs.Asking.{IsAsking};
+
+use crate::answering::responder_told;
+use crate::file_audit::audit_sources;
+use crate::file_office::FileOffice;
+use crate::file_signer::FileSigner;
+use crate::offices::{FileConnection, close, connection_of, make_in, open_in, prime_in};
+use mio::net::{TcpListener, UnixListener, UnixStream as UnwaitingStream};
+use reg_audit_rows::Verdict;
+use reg_core::{Cause, Fault, Memory, Policy, of_io, of_port};
+use reg_crl::{DigestSeal, Signer};
+use reg_crl_signer::{Asking, DeviceConnection, KeyOrDigest, Primed};
+use reg_der::Issuer;
+use reg_desk_cli::{Answerer, Failure};
+use reg_desk_files::{
+    ClaimFault, FileFault, Overlay, ReadFile, Source, Sources, Unread, claim_file, copy_closed,
+    copy_open, look_at, open_file, read_at, remove_file,
+};
+use reg_desk_jobs::{CrlSigner, Machine, Uncopied, Wanted};
+use reg_io::write_whole;
+use reg_office::Responder;
+use sqlite_disk::{Disk, Unknown};
+use std::alloc::Global;
+use std::cell::Cell;
+use std::fs::{File, OpenOptions, Permissions};
+use std::io::ErrorKind;
+use std::net::SocketAddr;
+use std::os::unix::fs::{FileTypeExt, OpenOptionsExt, PermissionsExt};
+use std::os::unix::net::UnixStream;
+use std::time::{Clock, Duration};
+use std::{fs, io};
+
+/// The mode of a log that its owner alone may read and write.
+const OWNER_ALONE: u32 = 0o600;
+
+/// What the system says where too many files are open, in this process or in all (EMFILE, ENFILE).
+const TOO_MANY_HERE: i32 = 24;
+
+const TOO_MANY: i32 = 23;
+
+/// The machine that the program runs on: its files, its clock, its ports and its sockets. It keeps why the call that failed last failed.
+#[derive(Clone, Copy)]
+pub struct Host<'a> {
+    pub(crate) rt: HostRuntime,
+    /// Where it keeps why a call failed.
+    pub(crate) noted: &'a Cell<Option<Cause>>,
+    /// Whether exchanges are logged on standard error.
+    pub(crate) has_log: bool,
+    /// The path of the file in which they are logged, where one is told.
+    pub(crate) log_file: Option<&'a str>,
+    /// Whether an audit tells on standard error how far it is.
+    pub(crate) is_watched: bool,
+}
+
+impl<'a> Host<'a> {
+    /// Keeps why files can't be read, and gives how that is told.
+    pub(crate) fn unread(&self, why: Unread) -> Failure
+        requires { IsUnread why }
+        ensures told { result ≡ failure_of why }
+        ensures opening { IsOpening result }
+    {
+        match why {
+            Unread::Nothing => Failure::NotARegister,
+            Unread::Fault(why) => Failure::Fault(self.fault_of(why)),
+        }
+    }
+
+    /// Keeps why a file is not opened, and gives the fault.
+    fn fault_of(&self, why: FileFault) -> Fault
+        ensures { result ≡ why.fault }
+    {
+        self.note(why.cause);
+        why.fault
+    }
+
+    /// Keeps why a path was not claimed, and gives whether it was.
+    fn is_claimed(&self, claim: Result<(), ClaimFault>) -> Result<bool, Memory>
+        ensures { result ≡ is_claimed claim }
+    {
+        match claim {
+            Ok(()) => Ok(true),
+            Err(ClaimFault::Memory) => Err(Memory),
+            Err(ClaimFault::Taken(cause)) => {
+                self.note(cause);
+                Ok(false)
+            }
+        }
+    }
+}
+
+/// Each method is one call of reg_desk_files or std with the arguments that it was given. What it did outside the program no clause can say, so
+/// those relations of [`Machine`] say nothing here (`Unsaid`).
+impl<'a> Machine for Host<'a> {
+    ghost use Rattle.std.specs.Prelude.{false};
+    ghost use Rattle.std.proofs.Common.{inr};
+    ghost use Rattle.sqlite.specs.Files.{over_files};
+    ghost use Rattle.reg_crl.specs.Signing.{Identity};
+    ghost use Rattle.reg_desk_files.specs.Overlaid.{image};
+    ghost use Rattle.reg_desk_jobs.specs.WhoSigns.{IsAnswering};
+    ghost use Rattle.reg_office.specs.Answering.{signatory_of};
+    ghost use Rattle.reg_desk_program.specs.Files.{IsAuditOf, IsConnection, IsMadeFrom, OpensFor};
+
+    type Office = FileOffice;
+
+    type Database = FileConnection;
+
+    type Sources = Sources<ReadFile>;
+
+    type Responder = Responder<FileSigner>;
+
+    ghost lies = { λ host path. Unsaid path };
+
+    ghost absent = { λ host path. Unsaid path };
+
+    ghost claimed = { λ host path after. Unsaid path };
+
+    ghost removed = { λ host path after. Unsaid path };
+
+    ghost begun = { λ host path. Unsaid path };
+
+    ghost unread = { λ host path why. Unsaid path };
+
+    ghost connected = { λ host path database after. Unsaid path };
+
+    ghost unconnected = { λ host path why after. Unsaid path };
+
+    ghost fresh = { λ database. (database.in_transaction ≡ false) × IsConnection database };
+
+    ghost certified = { λ answerer responder. (crls : Identity) → IsAnswering answerer (signatory_of ⟦<FileSigner as Signer>⟧.identity crls responder) };
+
+    ghost opened = { λ database crls responder office. OpensFor ⟦<FileSigner as Signer>⟧ database crls responder office.office };
+
+    ghost made = { λ database office. IsMadeFrom database office.office.store };
+
+    ghost closed = { λ host path office after. Unsaid path };
+
+    ghost read = { λ host path sources. Unsaid path };
+
+    ghost audited = { λ sources. IsAuditOf ⟦<Overlay<ReadFile> as Disk>⟧ (image sources.log.items (⟦<ReadFile as Source>⟧.bytes sources.db)) };
+
+    ghost copied = { λ host path to bytes after. Unsaid path };
+
+    ghost uncopied = { λ host path to why after. Unsaid path };
+
+    ghost copied_open = { λ path bytes. Unsaid path };
+
+    ghost stood = { λ seconds. Unsaid seconds };
+
+    ghost told = { λ now. Unsaid now };
+
+    ghost bound = { λ address port. Unsaid address };
+
+    ghost laid = { λ path. Unsaid path };
+
+    ghost moded = { λ path mode. Unsaid path };
+
+    ghost deserted = { λ path. Unsaid path };
+
+    ghost met = { λ path. Unsaid path };
+
+    ghost asked = { λ path message. Unsaid path };
+
+    ghost reached = { λ path. Unsaid path };
+
+    ghost gave = { λ path message answer. Unsaid path };
+
+    ghost warned = { λ line. Unsaid line };
+
+    ghost gave_signs = { λ identity path message answer given form. inr (inr (path, ∣ tt ∣₁), form) };
+
+    fn claim(&mut self, path: &str) -> Result<bool, Memory> {
+        self.is_claimed(claim_file(&self.rt, path))
+    }
+
+    fn is_there(&self, path: &str) -> bool {
+        fs::exists(&self.rt, path).unwrap_or(false)
+    }
+
+    fn remove(&mut self, path: &str) {
+        remove_file(&self.rt, path);
+    }
+
+    fn look_at(&self, path: &str) -> Result<(), Failure> {
+        match look_at(&self.rt, path) {
+            Ok(()) => Ok(()),
+            Err(why) => Err(self.unread(why)),
+        }
+    }
+
+    fn connect(&mut self, path: &str) -> Result<FileConnection, Failure> {
+        match open_file(&self.rt, path, Unknown) {
+            Ok(connection) => Ok(connection),
+            Err(why) => Err(Failure::Fault(self.fault_of(why))),
+        }
+    }
+
+    fn certify(&self, answerer: &Answerer<'_>) -> Result<Responder<FileSigner>, Failure> {
+        responder_told(self, answerer)
+    }
+
+    fn open_in(
+        &self,
+        database: FileConnection,
+        crls: &CrlSigner<'_>,
+        responder: Responder<FileSigner>,
+    ) -> Result<FileOffice, Failure> {
+        match open_in(self, database, crls, responder) {
+            Ok(office) => Ok(FileOffice { office }),
+            Err(why) => Err(why),
+        }
+    }
+
+    fn make_in(
+        &self,
+        database: FileConnection,
+        issuer: Issuer,
+        policy: Policy,
+    ) -> Result<FileOffice, Failure> {
+        let signer = FileSigner {
+            signer: KeyOrDigest::Digest(DigestSeal),
+        };
+        match make_in(database, issuer, policy, signer) {
+            Ok(office) => Ok(FileOffice { office }),
+            Err(why) => Err(why),
+        }
+    }
+
+    fn close(&mut self, path: &str, office: FileOffice) {
+        close(connection_of(office.office));
+    }
+
+    fn read(&self, path: &str) -> Result<Sources<ReadFile>, Failure> {
+        match read_at(&self.rt, path) {
+            Ok(sources) => Ok(sources),
+            Err(why) => Err(Failure::Fault(self.fault_of(why))),
+        }
+    }
+
+    fn audit_in(&self, sources: Sources<ReadFile>) -> Result<Verdict, Failure> {
+        audit_sources(self, sources)
+    }
+
+    fn copy(&mut self, path: &str, to: &str) -> Result<u64, Failure> {
+        match copy_closed(&self.rt, path, to) {
+            Ok(bytes) => Ok(bytes),
+            Err(why) => Err(self.unread(why)),
+        }
+    }
+
+    fn copy_open(&self, path: &str, to: &str) -> Result<u64, Uncopied> {
+        match copy_open(&self.rt, path, to) {
+            Ok(bytes) => Ok(bytes),
+            Err(why) => Err(uncopied_by(why)),
+        }
+    }
+
+    fn seconds(&self) -> io::Result<u64> {
+        seconds_of(self.rt.since_1970())
+    }
+
+    fn micros(&self) -> u64 {
+        match self.rt.monotonic() {
+            Ok(passed) => micros_of(passed),
+            Err(_) => 0,
+        }
+    }
+
+    fn listen(&self, address: [u8; 4], port: u16) -> io::Result<TcpListener> {
+        match TcpListener::bind(&self.rt, SocketAddr::from((address, port))) {
+            Ok(listener) => Ok(listener),
+            Err(error) => {
+                self.note(of_port(error.kind()));
+                Err(error)
+            }
+        }
+    }
+
+    fn lay(&self, path: &str) -> io::Result<UnixListener> {
+        UnixListener::bind(&self.rt, path)
+    }
+
+    fn set_mode(&self, path: &str, mode: u32) -> io::Result<()> {
+        fs::set_permissions(&self.rt, path, Permissions::from_mode(mode))
+    }
+
+    fn is_socket(&self, path: &str) -> io::Result<bool> {
+        let found = fs::symlink_metadata(&self.rt, path)?;
+        Ok(found.file_type().is_socket())
+    }
+
+    fn is_deserted(&self, path: &str) -> bool {
+        match UnwaitingStream::connect(&self.rt, path) {
+            Ok(_) => false,
+            Err(error) => error.kind() == ErrorKind::ConnectionRefused,
+        }
+    }
+
+    fn unlink(&self, path: &str) -> io::Result<()> {
+        fs::remove_file(&self.rt, path)
+    }
+
+    fn meet(&self, path: &str) -> io::Result<UnixStream> {
+        match UnixStream::connect(&self.rt, path) {
+            Ok(stream) => Ok(stream),
+            Err(error) => {
+                self.note(of_io(error.kind()));
+                Err(error)
+            }
+        }
+    }
+
+    fn ask(&self, path: &str, message: &[u8]) -> io::Result<Asking> {
+        match Asking::ask(&self.rt, path, message) {
+            Ok(link) => Ok(link),
+            Err(error) => Err(for_room(error)),
+        }
+    }
+
+    fn reach(&self, path: &str) -> io::Result<Asking> {
+        match Asking::connect(&self.rt, path) {
+            Ok(link) => Ok(link),
+            Err(error) => Err(for_room(error)),
+        }
+    }
+
+    fn hear(alloc: Global, link: &mut Asking) -> Option<Vec<u8>>
+        ensures given { IfSome result (λ answer. (path message : List ℕ) → IsAsking path message link.old → Unsaid path) }
+        ensures short { IfSome result (λ answer. length answer.items ≤ 4096) }
+    {
+        link.answer(alloc)
+    }
+
+    fn prime(office: &mut FileOffice, wanted: Wanted, primed: Option<Primed>)
+        ensures { Leads ⟦<FileOffice as reg_office_api::Office>⟧.is_clean ⟦<FileOffice as reg_office_api::Office>⟧.stands (λ identity before after. after ≡ before) office.old office.new }
+    {
+        prime_in(&mut office.office, wanted, primed);
+    }
+
+    fn has_log(&self) -> bool {
+        self.has_log || self.log_file.is_some()
+    }
+
+    fn log(&self, line: &[u8]) {
+        if self.has_log {
+            self.warn(line);
+        }
+        if let Some(path) = self.log_file {
+            append(&self.rt, path, line);
+        }
+    }
+
+    fn warn(&self, line: &[u8]) {
+        let mut errors = self.rt.stderr();
+        let _ = write_whole(&mut errors, line);
+    }
+
+    fn note(&self, cause: Option<Cause>) {
+        self.noted.set(cause);
+    }
+
+    fn noted(&self) -> Option<Cause> {
+        self.noted.get()
+    }
+}
+
+/// Why no copy was created of files that this program has open. Files in which no database was begun are not those.
+fn uncopied_by(why: Unread) -> Uncopied
+    requires { IsUnread why }
+    ensures { IsOfStore result.fault }
+{
+    match why {
+        Unread::Nothing => Uncopied {
+            fault: Fault::Store,
+            cause: Some(Cause::Damaged),
+        },
+        Unread::Fault(why) => Uncopied {
+            fault: why.fault,
+            cause: why.cause,
+        },
+    }
+}
+
+/// The whole seconds of a time since 1970 began; 0 where the clock stands before that.
+///
+/// # Errors
+///
+/// What the system says where the clock can't be read.
+fn seconds_of(time: io::Result<Duration>) -> io::Result<u64>
+    ensures { IfOk time (λ time. result ≡ Ok (as_nanos time / 1000000000)) }
+{
+    match time {
+        Ok(time) => Ok(time.as_secs()),
+        Err(error) if error.kind() == ErrorKind::InvalidData => Ok(0),
+        Err(error) => Err(error),
+    }
+}
+
+/// A time in microseconds.
+fn micros_of(passed: Duration) -> u64 {
+    passed
+        .as_secs()
+        .saturating_mul(1_000_000)
+        .saturating_add(u64::from(passed.subsec_micros()))
+}
+
+/// Why a signer can't be asked. Where too many files are open, a connection that is closed gives it room.
+fn for_room(error: io::Error) -> io::Error {
+    if is_crowded(&error) {
+        return io::Error::from(ErrorKind::WouldBlock);
+    }
+    error
+}
+
+/// Whether no socket could be had since too many files are open.
+fn is_crowded(error: &io::Error) -> bool {
+    match error.raw_os_error() {
+        Some(code) => code == TOO_MANY_HERE || code == TOO_MANY,
+        None => false,
+    }
+}
+
+/// Writes a line behind a log, which is opened for it alone: so a log that was renamed is followed by a new one at its path. A line that can't
+/// be written is left out.
+fn append(rt: &HostRuntime, path: &str, line: &[u8]) {
+    if let Ok(mut file) = open_log(rt, path) {
+        let _ = write_whole(&mut file, line);
+    }
+}
+
+/// The file of a log, opened so that what is written goes behind what is there. Where none is, one is made that its owner alone may read and
+/// write.
+///
+/// # Errors
+///
+/// What the system says where it can't be opened.
+pub(crate) fn open_log(rt: &HostRuntime, path: &str) -> io::Result<File> {
+    let mut options = OpenOptions::new();
+    options.append(true).create(true).mode(OWNER_ALONE);
+    options.open(rt, path)
+}

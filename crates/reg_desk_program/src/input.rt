@@ -1,0 +1,38 @@
+//! What a job reads.
+
+use reg_desk_cli::Job;
+use std::fs::File;
+use std::io;
+use std::io::{Read, Stdin};
+
+/// What a job reads: standard input, or the file whose rows it tells.
+#[derive(Drop)]
+pub(crate) enum Input {
+    Standard(Stdin),
+    Rows(File),
+}
+
+impl Input {
+    /// What a job reads.
+    ///
+    /// # Errors
+    /// What the system says where the file of its rows can't be opened.
+    pub(crate) fn of(rt: &HostRuntime, job: &Job<'_>) -> io::Result<Input> {
+        match job {
+            Job::At {
+                rows: Some(path),
+                ..
+            } => Ok(Input::Rows(File::open(rt, path.as_str())?)),
+            _ => Ok(Input::Standard(rt.stdin())),
+        }
+    }
+}
+
+impl Read for Input {
+    fn read(&mut self, buf: &mut [u8]) -> io::Result<usize> {
+        match self {
+            Input::Standard(input) => input.read(buf),
+            Input::Rows(file) => file.read(buf),
+        }
+    }
+}

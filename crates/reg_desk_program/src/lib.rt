@@ -1,0 +1,24 @@
+//! The program `desk`: its words, the machine that it runs on, and the registers in its files.
+#![tactic(auto)]
+
+mod answering;
+mod audit_progress;
+mod desk;
+mod dispatch;
+mod file_audit;
+mod file_office;
+mod file_signer;
+mod host;
+mod input;
+pub mod laws;
+mod memory;
+mod offices;
+mod progress;
+mod signing;
+
+pub use desk::run_desk;
+pub use dispatch::perform;
+pub use file_office::FileOffice;
+pub use file_signer::FileSigner;
+pub use host::Host;
+pub use offices::FileConnection;

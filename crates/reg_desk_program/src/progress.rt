@@ -1,0 +1,134 @@
+//! How far a long job is, told on standard error where that is a terminal.
+
+use reg_core::{Cause, of_io};
+use reg_desk_cli::Job;
+use std::cell::Cell;
+use std::io::{IsTerminal, Stdout, Write};
+use std::time::Clock;
+use std::{fs, io};
+
+/// The bytes of a file from which on its opening is told.
+const LARGE: u64 = 67_108_864;
+
+/// The bytes of a megabyte.
+const MEGABYTE: u64 = 1_000_000;
+
+/// Standard output, to which a script or an import writes a line for each line or row that is done; once a second it tells how many
+/// were. The cause of a write that fails is noted.
+#[derive(Drop)]
+pub(crate) struct CountedOutput<'a> {
+    rt: &'a HostRuntime,
+    output: Stdout,
+    noted: &'a Cell<Option<Cause>>,
+    is_told: bool,
+    lines: u64,
+    /// The seconds of the clock when it began, and when it told last.
+    began: u64,
+    told: u64,
+}
+
+impl<'a> CountedOutput<'a> {
+    /// Standard output for a job. What it writes is counted where standard error is a terminal, and standard output is none: who reads
+    /// the replies there sees them.
+    pub(crate) fn of(
+        rt: &'a HostRuntime,
+        job: &Job<'_>,
+        noted: &'a Cell<Option<Cause>>,
+    ) -> CountedOutput<'a> {
+        let output = rt.stdout();
+        let is_told = is_long(job) && rt.stderr().is_terminal() && !output.is_terminal();
+        let now = seconds(rt);
+        CountedOutput {
+            rt,
+            output,
+            noted,
+            is_told,
+            lines: 0,
+            began: now,
+            told: now,
+        }
+    }
+
+    /// Counts a reply, and tells how many there were, where a second has gone by.
+    fn count(&mut self) {
+        self.lines = self.lines.saturating_add(1);
+        let now = seconds(self.rt);
+        if now == self.told {
+            return;
+        }
+        self.told = now;
+        let gone = now.saturating_sub(self.began);
+        let each = self.lines.checked_div(gone).unwrap_or(self.lines);
+        let lines = self.lines;
+        // What can't be told is left out.
+        drop(eprintln!(self.rt; "{lines} lines done, {each} a second"));
+    }
+}
+
+impl<'a> Write for CountedOutput<'a> {
+    fn write(&mut self, buf: &[u8]) -> io::Result<usize> {
+        let count = match self.output.write(buf) {
+            Ok(count) => count,
+            Err(error) => {
+                self.noted.set(of_io(error.kind()));
+                return Err(error);
+            }
+        };
+        if self.is_told && buf.ends_with(b"\n") {
+            self.count();
+        }
+        Ok(count)
+    }
+
+    fn flush(&mut self) -> io::Result<()> {
+        self.output.flush()
+    }
+}
+
+/// Tells that a large file is opened, where standard error is a terminal.
+pub(crate) fn tell_opening(rt: &HostRuntime, job: &Job<'_>) {
+    let Some(path) = file_of(job) else {
+        return;
+    };
+    let bytes = fs::metadata(rt, path).map_or(0, |it| it.len());
+    if bytes >= LARGE && rt.stderr().is_terminal() {
+        let megabytes = bytes / MEGABYTE;
+        drop(eprintln!(rt; "opening {path}, {megabytes} MB"));
+    }
+}
+
+/// The seconds of the machine's clock since an arbitrary start; 0 where it can't be read.
+pub(crate) fn seconds(rt: &HostRuntime) -> u64 {
+    match rt.monotonic() {
+        Ok(time) => time.as_secs(),
+        Err(_) => 0,
+    }
+}
+
+/// Whether a job writes a line for each that it reads, and may read many.
+fn is_long(job: &Job<'_>) -> bool {
+    matches!(
+        job,
+        Job::Script { .. } | Job::Lines(_) | Job::Import(_) | Job::At { rows: Some(_), .. }
+    )
+}
+
+/// The path of the register that a job opens, if it opens one.
+fn file_of<'a>(job: &Job<'a>) -> Option<&'a str> {
+    match job {
+        Job::Script { file, .. } => Some(file.as_ref()?.as_str()),
+        Job::Lines(lined) => Some(lined.file.as_str()),
+        Job::Import(rows) => Some(rows.file.as_str()),
+        Job::Crl { file, .. } => Some(file.as_str()),
+        Job::Serve(serving) => Some(serving.file.as_str()),
+        Job::Open(kept) => Some(kept.file.as_str()),
+        Job::Schedule { file, .. } => Some(file.as_str()),
+        Job::KeyId { file, .. } => Some(file.as_str()),
+        Job::Listing(wanted) => Some(wanted.file.as_str()),
+        Job::Audit { file } => Some(file.as_str()),
+        // It is read as it lies, and not opened.
+        Job::Copy { .. } => None,
+        Job::Init(_) => None,
+        Job::At { .. } => None,
+    }
+}

@@ -1,0 +1,90 @@
+-- What is held of what came, and what is sent of a text, one step after the other.
+use Rattle.std.proofs.Common.{◌≡◌, ℕ, ◌+◌, ◌-◌, ◌≤◌, List, [], ◌∷◌, ◌++◌, length, take, drop, sym, subst, ap, ◌∙◌, arith, take-append-drop}
+use Rattle.std.specs.Prelude.{Option, None, Some, MatchOption}
+use Rattle.std.specs.Io.KnownBytes.{Appends}
+use Rattle.std.proofs.KnownBytes.{Appends-trans, Consumes-trans}
+use Rattle.std.proofs.lemmas.List.{append_assoc, drop-drop, take-take, take_all}
+use Rattle.reg_io.specs.Mark.{EndsWith, FirstMark, HasNoMark}
+use Rattle.reg_io.proofs.PublicLaws.{no_mark_in_front}
+use Rattle.reg_desk_server.specs.Stages.{HoldsAnswer, HoldsRest, IsDropped, Sends}
+use Rattle.reg_desk_server.specs.Held.{AddsTo, Receives, SendsOn}
+use Rattle.reg_desk_server.specs.declared.http_peer.HttpPeer.{HttpPeer}
+use Rattle.reg_desk_server.specs.declared.http_peer.Stage.{Stage}
+use Rattle.reg_desk_server.specs.declared.http_peer.Stage.TheVariants as stage
+use Rattle.reg_desk_server.specs.declared.receiving.Received.{Received}
+use Rattle.reg_desk_server.specs.declared.receiving.Received.TheVariants as received
+use Rattle.reg_desk_server.specs.declared.unsent.Sent.{Sent}
+use Rattle.reg_desk_server.specs.declared.unsent.Sent.TheVariants as sent
+
+-- bytes that came before stand before those that came then
+pub adds_then : (x y z first came : List ℕ) (t : Received) → y ≡ x ++ first → AddsTo y came z t → AddsTo x (first ++ came) z t
+adds_then x y z first came received.OutOfMemory before (kept, lost, parted, after) = (
+  first ++ kept,
+  lost,
+  ap (λ (l : List ℕ). first ++ l) parted ∙ sym (append_assoc first kept lost),
+  after ∙ ap (λ (l : List ℕ). l ++ kept) before ∙ append_assoc x first kept,
+)
+adds_then x y z first came other before after = after ∙ ap (λ (l : List ℕ). l ++ came) before ∙ append_assoc x first came
+
+-- some were received, and then others
+pub takes_then : (a b c : Option (List ℕ)) (x y z : List ℕ) (t : Received) → Receives a b x y received.More → Receives b c y z t → Receives a c x z t
+takes_then a b c x y z t first rest = record {
+  came = first.came ++ rest.came;
+  consumed = Consumes-trans a b c first.came rest.came first.consumed rest.consumed;
+  held = adds_then x y z first.came rest.came t first.held rest.held;
+}
+
+-- some was sent, and then more
+pub sends_then : (a b c : Option (List ℕ)) (x y z : List ℕ) (t : Sent) → SendsOn a b x y sent.More → SendsOn b c y z t → SendsOn a c x z t
+sends_then a b c x y z t first rest = record {
+  went = first.went ++ rest.went;
+  appended = Appends-trans a b c first.went rest.went first.appended rest.appended;
+  parted = first.parted ∙ ap (λ (l : List ℕ). first.went ++ l) rest.parted ∙ sym (append_assoc first.went rest.went z);
+  all = rest.all;
+}
+
+-- a piece was sent, or a front of it
+pub sends_piece : (old new : Option (List ℕ)) (text : List ℕ) (at end count : ℕ) → count ≤ end - at
+    → Appends old new (take count (take (end - at) (drop at text))) → SendsOn old new (drop at text) (drop (at + count) text) sent.More
+sends_piece old new text at end count few appended = record {
+  went = take count (drop at text);
+  appended = subst (Appends old new) (take-take count (end - at) (drop at text) few) appended;
+  parted = sym (take-append-drop count (drop at text)) ∙ ap (λ (l : List ℕ). take count (drop at text) ++ l) (drop-drop count at text);
+  all = tt;
+}
+
+-- the end of the first line, or none
+pub found_or_none : (bytes mark : List ℕ) (r : Option ℕ)
+    → MatchOption r ((n : ℕ) → n ≤ length bytes → ¬ EndsWith (take n bytes) mark) (λ end. (end ≤ length bytes) × FirstMark mark bytes end)
+    → MatchOption r (HasNoMark mark bytes) (λ end. FirstMark mark bytes end)
+found_or_none bytes mark None none =
+    let P : List ℕ → Type 0 = λ l. HasNoMark mark l in
+    subst P (take_all (length bytes) bytes (omega arith)) (no_mark_in_front mark bytes (length bytes) none)
+found_or_none bytes mark (Some end) found = found.1
+
+-- the same behind a reply that was sent
+pub due_or_none : (unsent bytes : List ℕ) (r : Option ℕ) → unsent ≡ [] → MatchOption r (HasNoMark (10 ∷ []) bytes) (λ end. FirstMark (10 ∷ []) bytes end)
+    → MatchOption r (unsent ≡ [] → HasNoMark (10 ∷ []) bytes) (λ end. (unsent ≡ []) × FirstMark (10 ∷ []) bytes end)
+due_or_none unsent bytes None sent none = λ is. none
+due_or_none unsent bytes (Some end) sent found = (sent, found)
+
+-- some were dropped, and then others
+pub dropped_then : (a b c : Option (List ℕ)) → IsDropped a b → IsDropped b c → IsDropped a c
+dropped_then a b c first rest = (first.0 ++ rest.0, Consumes-trans a b c first.0 rest.0 first.1 rest.1)
+
+-- where nothing is left of an answer that is held, that is the rest
+none_left : {T : Type 0} (at : Stage T) (rest : List ℕ) → HoldsRest at rest → HoldsAnswer at [] → rest ≡ []
+none_left (stage.Sending unsent exact) rest left empty = left ∙ sym empty
+none_left _ rest left empty = absurd empty
+
+-- all of an answer was sent, and the client has it
+pub sends_last : {S H T L : Type 0} (contents : S → Option (List ℕ)) (old between new : HttpPeer S H T L) → Sends contents old between
+    → HoldsAnswer between.stage [] → new.link ≡ between.link → new.stage ≡ stage.Draining → Sends contents old new
+sends_last {S = S} {T = T} contents old between new sends empty same drains text holds =
+    let (went, rest, parted, appended, left) = sends text holds in (
+      went,
+      rest,
+      parted,
+      subst (λ (v : S). Appends (contents old.link) (contents v) went) (sym same) appended,
+      subst (λ (v : Stage T). HoldsRest v rest) (sym drains) (none_left between.stage rest left empty),
+    )

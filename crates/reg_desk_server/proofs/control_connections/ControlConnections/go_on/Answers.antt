@@ -1,0 +1,7 @@
+use Rattle.reg_desk_server.proofs.Exchanges.{handled_told_later}
+use Rattle.reg_desk_server.proofs.control_connections.ControlConnections.go_on.Goals as goal
+
+pub returns-then-is_due : goal.returns-then-is_due
+returns-then-is_due g c made =
+    handled_told_later g.H.Handler _ c.tell_deferred-told.result _ _ made c.into_parts-slot.result.1 c.tell_deferred-told.new.self
+    c.tell_deferred-told.ensures.ok c.tell_deferred-told.ensures.err

@@ -1,0 +1,52 @@
+-- What became of a handler: exchanges on HTTP connections and on control connections, one after the other.
+use Rattle.std.specs.Prelude.{◌≡◌, ℕ, zero, suc, ◌+◌, List, [], ◌∷◌}
+use Rattle.reg_io.specs.RunsOfAnswers.{Answered}
+
+-- what came: the bytes of a request, or of a line of a control connection
+pub data Input : Type 0 where
+  request : List ℕ → Input
+  line : List ℕ → Input
+
+-- what came of it: the text that answers it; or what was left to be signed, and is finished by a text later; or nothing yet, of a line that
+-- was looked at and is answered later
+pub data Outcome (T : Type 0) : Type 0 where
+  said : List ℕ → Outcome T
+  pending : T → Outcome T
+  later : Outcome T
+
+-- how many requests are among these
+abbrev pub asked_in : List Input → ℕ
+asked_in [] = zero
+asked_in (request bytes ∷ inputs) = suc (asked_in inputs)
+asked_in (line bytes ∷ inputs) = asked_in inputs
+
+-- the relation of a handler before and after it to what came and what came of it: a line is answered at once, or only looked at
+abbrev pub Handles
+    : {S T : Type 0}
+    → (S → List ℕ → Outcome T → S → Type 0)
+    → (S → List ℕ → List ℕ → S → Type 0)
+    → (S → List ℕ → S → Type 0)
+    → S
+    → Input
+    → Outcome T
+    → S
+    → Type 0
+Handles answers tells defers s (request bytes) outcome t = answers s bytes outcome t
+Handles answers tells defers s (line bytes) (said text) t = tells s bytes text t
+Handles answers tells defers s (line bytes) (pending ticket) t = ⊥
+Handles answers tells defers s (line bytes) later t = defers s bytes t
+
+-- s became t by these exchanges and nothing else, and their requests were counted; each that was left to be signed stands where its answer
+-- was begun
+pub record Exchanged
+    {S T : Type 0}
+    (answers : S → List ℕ → Outcome T → S → Type 0)
+    (tells : S → List ℕ → List ℕ → S → Type 0)
+    (defers : S → List ℕ → S → Type 0)
+    (s t : S)
+    (made made' : ℕ)
+    : Type 0 where
+  pub inputs : List Input
+  pub outcomes : List (Outcome T)
+  pub run : Answered (Handles answers tells defers) s inputs outcomes t
+  pub counted : made' ≡ made + asked_in inputs

@@ -1,0 +1,12 @@
+-- What becomes of a handler.
+use Rattle.std.specs.Prelude.{ℕ}
+use Rattle.reg_desk_server.specs.Exchange.{Exchanged}
+use Rattle.reg_desk_server.specs.declared.handler.Handler.{Ghosts}
+
+-- the handler went from s to t by exchanges with clients and by lines of control connections, and their requests were counted
+abbrev pub Handled : {H T L : Type 0} → Ghosts H T L → H → H → ℕ → ℕ → Type 0
+Handled g = Exchanged g.answers g.tells g.defers
+
+-- the same by lines alone, of which none is counted
+abbrev pub ToldLines : {H T L : Type 0} → Ghosts H T L → H → H → Type 0
+ToldLines g s t = (made : ℕ) → Handled g s t made made

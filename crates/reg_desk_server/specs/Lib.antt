@@ -1,0 +1,9 @@
+pub mod Connections
+pub mod CounterLines
+pub mod Exchange
+pub mod Handling
+pub mod Held
+pub mod Notes
+pub mod Outcomes
+pub mod Stages
+pub mod Unsent

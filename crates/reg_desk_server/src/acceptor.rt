@@ -1,0 +1,177 @@
+//! The acceptor of HTTP connections.
+
+ghost use Rattle.std.specs.Prelude.{◌≡◌, ◌≤◌, IfOk, false, true};
+
+use crate::handler::{Handler, HubFault};
+use crate::http_connections::HttpConnections;
+use crate::http_peer::HttpPeer;
+use crate::poller::{HTTP_LISTENER, Poller};
+use crate::shared::Shared;
+use mio::Interest;
+use mio::net::{TcpListener, TcpStream};
+use std::io;
+use std::io::ErrorKind;
+use std::net::SocketAddr;
+
+/// The most connections that are accepted in an iteration.
+const MOST_ACCEPTED: usize = 64;
+
+/// A listener, and the connection that it gave last.
+#[derive(Drop)]
+pub(crate) struct Acceptor {
+    listener: TcpListener,
+    /// The connection that was accepted and has no slot yet.
+    next: Option<(TcpStream, SocketAddr)>,
+    /// Whether the listener may have one more connection.
+    may_have_more: bool,
+    /// Whether it has one for sure: it was ready, and none was accepted since.
+    has_more: bool,
+    /// How many connections were accepted.
+    pub(crate) accepted: u64,
+}
+
+impl Acceptor {
+    /// An acceptor over a listener that does not wait.
+    ///
+    /// # Errors
+    ///
+    /// What the system says where the listener can't be polled.
+    pub(crate) fn new(mut listener: TcpListener, poller: &Poller) -> io::Result<Acceptor>
+        ensures { IfOk result (λ acceptor. acceptor.accepted ≡ 0) }
+    {
+        poller.register(&mut listener, HTTP_LISTENER, Interest::READABLE, false)?;
+        Ok(Acceptor {
+            listener,
+            next: None,
+            may_have_more: true,
+            has_more: false,
+            accepted: 0,
+        })
+    }
+
+    /// Notes that a connection waits to be accepted.
+    pub(crate) fn note_ready(&mut self)
+        ensures { self.new.has_more ≡ true }
+    {
+        self.may_have_more = true;
+        self.has_more = true;
+    }
+
+    /// Whether a connection may be accepted, or has no slot yet, where so many are accepted at most.
+    pub(crate) fn is_ready(&self, most: u64) -> bool {
+        self.next.is_some() || (self.may_have_more && self.accepted < most)
+    }
+
+    /// Accepts connections, as long as there are any, at most so many in all.
+    ///
+    /// # Errors
+    ///
+    /// [`HubFault`], where the system gives no connection and none is there whose end could help.
+    pub(crate) fn accept_all<H: Handler>(
+        &mut self,
+        most: u64,
+        connections: &mut HttpConnections<H>,
+        shared: &mut Shared,
+        now: u64,
+    ) -> Result<(), HubFault>
+        ensures { self.old.accepted ≤ most → self.new.accepted ≤ most }
+    {
+        for _ in 0..MOST_ACCEPTED {
+            match self.accept(most, connections, shared, now) {
+                Ok(true) => {}
+                Ok(false) => return Ok(()),
+                Err(stopped) => return Err(stopped),
+            }
+        }
+        Ok(())
+    }
+
+    /// Accepts the next connection and gives it a slot; whether there may be one more.
+    fn accept<H: Handler>(
+        &mut self,
+        most: u64,
+        connections: &mut HttpConnections<H>,
+        shared: &mut Shared,
+        now: u64,
+    ) -> Result<bool, HubFault>
+        ensures { self.old.accepted ≤ most → self.new.accepted ≤ most }
+    {
+        self.accept_next(most, connections, shared)?;
+        if self.next.is_some() && !connections.slots.has_free() {
+            connections.evict(shared);
+            return Ok(false);
+        }
+        match self.next.take() {
+            Some((link, peer)) => {
+                let connection = HttpPeer::new(shared.alloc, link, peer, self.accepted, now);
+                connections.add(connection, shared, now);
+                Ok(true)
+            }
+            None => Ok(false),
+        }
+    }
+
+    /// Accepts the next connection, if there is one and none waits for a slot.
+    fn accept_next<H: Handler>(
+        &mut self,
+        most: u64,
+        connections: &mut HttpConnections<H>,
+        shared: &mut Shared,
+    ) -> Result<(), HubFault>
+        ensures within { self.old.accepted ≤ most → self.new.accepted ≤ most }
+        ensures kept { self.old.has_more ≡ false → connections.new ≡ connections.old }
+    {
+        if self.next.is_some() || !self.may_have_more || self.accepted >= most {
+            return Ok(());
+        }
+        match self.listener.accept() {
+            Ok((link, peer)) => {
+                self.accepted += 1;
+                self.has_more = false;
+                self.next = Some((link, peer));
+                Ok(())
+            }
+            Err(error) => self.after_fault(error.kind(), connections, shared),
+        }
+    }
+
+    /// No connection was accepted. One is evicted only if another one is waiting.
+    fn after_fault<H: Handler>(
+        &mut self,
+        why: ErrorKind,
+        connections: &mut HttpConnections<H>,
+        shared: &mut Shared,
+    ) -> Result<(), HubFault>
+        ensures same { self.new.accepted ≡ self.old.accepted }
+        ensures kept { self.old.has_more ≡ false → connections.new ≡ connections.old }
+    {
+        match why {
+            ErrorKind::WouldBlock => {
+                self.may_have_more = false;
+                Ok(())
+            }
+            ErrorKind::Interrupted | ErrorKind::ConnectionAborted => Ok(()),
+            // No descriptor may be left, which Linux says also where no connection waits.
+            _ if !self.has_more => {
+                self.poll_again(&shared.poller);
+                Ok(())
+            }
+            _ if connections.slots.reserved() == 0 => Err(HubFault),
+            _ => {
+                connections.evict(shared);
+                Ok(())
+            }
+        }
+    }
+
+    /// Has the listener told as ready once more, if a connection waits. Where it can't be polled, one may.
+    fn poll_again(&mut self, poller: &Poller)
+        ensures { self.new.accepted ≡ self.old.accepted }
+    {
+        let is_polled = poller
+            .register(&mut self.listener, HTTP_LISTENER, Interest::READABLE, true)
+            .is_ok();
+        self.may_have_more = !is_polled;
+        self.has_more = !is_polled;
+    }
+}

@@ -1,0 +1,263 @@
+//! The control connections: their listener, and each connection in its slot.
+
+ghost use Rattle.std.specs.Prelude.{◌≡◌};
+ghost use Rattle.reg_desk_server.specs.Handling.{ToldLines};
+
+use crate::counter_peer::CounterPeer;
+use crate::handler::{Handler, HubFault, PeerFault};
+use crate::http_connections::SWEEP;
+use crate::http_peer::Next;
+use crate::lost_connections::LostConnection;
+use crate::poller::{CONTROL_LISTENER, FIRST_CONTROL, Poller};
+use crate::shared::Shared;
+use crate::signature_requests::PAUSE;
+use crate::slots::Slots;
+use crate::waiting_line::WaitingLine;
+use mio::Interest;
+use mio::net::{UnixListener, UnixStream};
+use std::alloc::Global;
+use std::io;
+use std::io::ErrorKind;
+use std::time::Duration;
+
+/// How many control connections there may be at once.
+const MOST_CONTROL_CONNECTIONS: usize = 8;
+
+/// The control connections, each in its slot.
+#[derive(Drop)]
+pub(crate) struct ControlConnections<H: Handler> {
+    listener: Option<UnixListener>,
+    pub(crate) slots: Slots<CounterPeer<UnixStream>>,
+    /// The line that waits for a signature, if one does. Until it is answered no other line is.
+    pub(crate) waiting: Option<WaitingLine<H>>,
+    /// Whether the listener may have one more connection.
+    pub(crate) may_accept: bool,
+    /// Whether a connection may have a line that was not answered yet.
+    has_lines: bool,
+}
+
+impl<H: Handler> ControlConnections<H> {
+    /// No connection yet, where they come by a listener that does not wait, or not at all.
+    ///
+    /// # Errors
+    ///
+    /// What the system says where the listener can't be polled, and `OutOfMemory`.
+    pub(crate) fn new(
+        alloc: Global,
+        mut listener: Option<UnixListener>,
+        poller: &Poller,
+    ) -> io::Result<ControlConnections<H>> {
+        if let Some(listener) = &mut listener {
+            poller.register(listener, CONTROL_LISTENER, Interest::READABLE, false)?;
+        }
+        let slots = Slots::new(alloc, MOST_CONTROL_CONNECTIONS)?;
+        Ok(ControlConnections {
+            listener,
+            slots,
+            waiting: None,
+            may_accept: true,
+            has_lines: false,
+        })
+    }
+
+    /// Whether something is to be done without waiting: a line to be answered, or a connection to be accepted.
+    pub(crate) fn is_ready(&self) -> bool {
+        let has_work = match &self.waiting {
+            Some(waiting) => waiting.has_ended(),
+            None => self.has_lines,
+        };
+        has_work || (self.may_accept && self.slots.has_free() && self.listener.is_some())
+    }
+
+    /// How long may be waited at the longest, where a line waits for a signature.
+    pub(crate) fn longest_wait(&self) -> Duration {
+        match &self.waiting {
+            Some(waiting) if waiting.is_unconnected() => Duration::from_millis(PAUSE),
+            Some(_) => Duration::from_millis(SWEEP),
+            None => Duration::MAX,
+        }
+    }
+
+    /// No line is answered any more.
+    pub(crate) fn stop(&mut self) {
+        self.has_lines = false;
+        self.waiting = None;
+    }
+
+    /// Accepts connections, as long as slots are free; further ones wait in the system's queue.
+    pub(crate) fn accept_all(&mut self, shared: &mut Shared) {
+        for _ in 0..MOST_CONTROL_CONNECTIONS {
+            if !self.may_accept || !self.slots.has_free() {
+                return;
+            }
+            let Some(connection) = self.accept(shared.alloc) else {
+                return;
+            };
+            if let Some(slot) = self.slots.reserve() {
+                self.drive(slot, connection, shared);
+            }
+        }
+    }
+
+    /// Accepts the next connection, if there is one.
+    fn accept(&mut self, alloc: Global) -> Option<CounterPeer<UnixStream>> {
+        let Some(listener) = &self.listener else {
+            return None;
+        };
+        match listener.accept() {
+            Ok((link, _)) => Some(CounterPeer::new(alloc, link)),
+            Err(error) => {
+                self.may_accept = error.kind() == ErrorKind::Interrupted;
+                None
+            }
+        }
+    }
+
+    /// Goes on with the connection of a slot.
+    pub(crate) fn advance(&mut self, slot: usize, shared: &mut Shared) {
+        if let Some(connection) = self.slots.take(slot) {
+            self.drive(slot, connection, shared);
+        }
+    }
+
+    /// Goes on with a connection that was taken out of a slot, and puts it back unless it is to be closed.
+    fn drive(&mut self, slot: usize, mut connection: CounterPeer<UnixStream>, shared: &mut Shared) {
+        match connection.advance(shared.room.as_mut_slice()) {
+            Next::Due => {
+                self.has_lines = true;
+                self.slots.put(slot, connection);
+            }
+            Next::Poll(interest) => self.poll_for(slot, connection, shared, interest),
+            Next::Park => self.slots.put(slot, connection),
+            Next::Close => {
+                if connection.unsent.len() > 0 {
+                    let why = PeerFault::Broken;
+                    shared.lost.note(LostConnection { peer: None, why });
+                }
+                self.close(slot, connection);
+            }
+        }
+    }
+
+    /// Has a connection polled.
+    fn poll_for(
+        &mut self,
+        slot: usize,
+        mut connection: CounterPeer<UnixStream>,
+        shared: &Shared,
+        interest: Interest,
+    ) {
+        let token = slot.saturating_add(FIRST_CONTROL);
+        let is_polled = shared.poller.register_noted(
+            &mut connection.link,
+            token,
+            interest,
+            &mut connection.is_registered,
+        );
+        if is_polled {
+            self.slots.put(slot, connection);
+        } else {
+            self.close(slot, connection);
+        }
+    }
+
+    /// Closes a connection that was taken out of a slot.
+    fn close(&mut self, slot: usize, connection: CounterPeer<UnixStream>)
+        ensures { self.new.has_lines ≡ self.old.has_lines }
+    {
+        drop(connection);
+        self.slots.release(slot);
+    }
+
+    /// Answers one line of each connection; or goes on with the one that waits for a signature, until which no other is answered.
+    ///
+    /// # Errors
+    ///
+    /// [`HubFault`], where the handler is.
+    pub(crate) fn tell_all(
+        &mut self,
+        shared: &mut Shared,
+        handler: &mut H,
+        now: u64,
+    ) -> Result<(), HubFault>
+        ensures { ToldLines H.Handler handler.old handler.new }
+    {
+        match self.waiting.take() {
+            Some(waiting) => self.go_on(waiting, shared, handler, now),
+            None => self.tell_lines(shared, handler, now),
+        }
+    }
+
+    /// Goes on with a line that waits for a signature, and answers it where it waits no more.
+    #[tactic(auto, using(crate::proofs::Exchanges::exchanged_none))]
+    fn go_on(
+        &mut self,
+        mut waiting: WaitingLine<H>,
+        shared: &mut Shared,
+        handler: &mut H,
+        now: u64,
+    ) -> Result<(), HubFault>
+        ensures { ToldLines H.Handler handler.old handler.new }
+    {
+        if waiting.is_due(now) {
+            let (slot, mut connection, deferred, link) = waiting.into_parts();
+            let told = connection.tell_deferred(handler, deferred, link);
+            self.drive(slot, connection, shared);
+            return told;
+        }
+        waiting.begin(handler, &shared.poller);
+        self.waiting = Some(waiting);
+        Ok(())
+    }
+
+    /// Answers one line of each connection.
+    #[tactic(auto, using(crate::proofs::Exchanges::exchanged_none))]
+    fn tell_lines(&mut self, shared: &mut Shared, handler: &mut H, now: u64) -> Result<(), HubFault>
+        ensures { ToldLines H.Handler handler.old handler.new }
+    {
+        if !self.has_lines {
+            return Ok(());
+        }
+        self.has_lines = false;
+        for slot in 0..MOST_CONTROL_CONNECTIONS {
+            match self.tell_at(slot, shared, handler, now) {
+                Ok(()) => {}
+                Err(stopped) => return Err(stopped),
+            }
+        }
+        Ok(())
+    }
+
+    /// Answers one line of the connection of a slot, unless a line waits for a signature: this one, or one before it.
+    #[tactic(auto, using(crate::proofs::Exchanges::exchanged_none))]
+    fn tell_at(
+        &mut self,
+        slot: usize,
+        shared: &mut Shared,
+        handler: &mut H,
+        now: u64,
+    ) -> Result<(), HubFault>
+        ensures { ToldLines H.Handler handler.old handler.new }
+    {
+        if self.waiting.is_some() {
+            self.has_lines = true;
+            return Ok(());
+        }
+        let Some(mut connection) = self.slots.take(slot) else {
+            return Ok(());
+        };
+        match connection.defer(handler) {
+            Some(deferred) => {
+                let mut waiting = WaitingLine::new(slot, connection, deferred, now);
+                waiting.begin(handler, &shared.poller);
+                self.waiting = Some(waiting);
+                Ok(())
+            }
+            None => {
+                let told = connection.tell(handler);
+                self.drive(slot, connection, shared);
+                told
+            }
+        }
+    }
+}

@@ -1,0 +1,354 @@
+//! The HTTP connections, each in its slot.
+
+ghost use Rattle.std.specs.Prelude.{◌≡◌, ◌+◌, ◌-◌, ◌^◌, min, [], IfOk};
+ghost use Rattle.reg_desk_server.specs.Notes.{Notes};
+
+use crate::handler::{Handler, PeerFault};
+use crate::http_peer::{HttpPeer, Next};
+use crate::lost_connections::LostConnection;
+use crate::poller::{FIRST_HTTP, Poller};
+use crate::selection::Selection;
+use crate::shared::Shared;
+use crate::signature_requests::Requester;
+use crate::slots::Slots;
+use mio::Interest;
+use mio::net::TcpStream;
+use std::alloc::{AllocError, Global};
+use std::io;
+use std::io::ErrorKind;
+
+/// How many HTTP connections there may be at once: with what else a program has open, that fits the usual limit of 1,024 descriptors.
+pub const MOST_HTTP_PEERS: usize = 1_000;
+
+/// The most bytes of answers that are not sent yet.
+const MOST_UNSENT: usize = 67_108_864;
+
+/// How many milliseconds pass between two looks for connections whose time is over.
+pub(crate) const SWEEP: u64 = 250;
+
+/// The HTTP connections, each in its slot.
+#[derive(Drop)]
+pub(crate) struct HttpConnections<H: Handler> {
+    pub(crate) slots: Slots<HttpPeer<TcpStream, H>>,
+    /// Those that are to be answered in this iteration.
+    pub(crate) due: Vec<usize>,
+    /// How many bytes of the answers are not sent yet.
+    unsent: usize,
+    /// When the times were looked at last.
+    swept: u64,
+}
+
+impl<H: Handler> HttpConnections<H> {
+    /// So many free slots.
+    pub(crate) fn new(alloc: Global, count: usize) -> Result<HttpConnections<H>, AllocError>
+        ensures { IfOk result (λ connections. connections.due.items ≡ []) }
+    {
+        let due = Vec::with_capacity(alloc, count)?;
+        let slots = Slots::new(alloc, count)?;
+        Ok(HttpConnections {
+            slots,
+            due,
+            unsent: 0,
+            swept: 0,
+        })
+    }
+
+    /// Counts the bytes of an answer that are not sent yet: so many before, and so many now.
+    pub(crate) fn count_unsent(&mut self, before: usize, after: usize)
+        ensures count { self.new.unsent ≡ min (self.old.unsent - before + after) (2 ^ 64 - 1) }
+        ensures due { self.new.due ≡ self.old.due }
+    {
+        self.unsent = self.unsent.saturating_sub(before).saturating_add(after);
+    }
+}
+
+/// How they go on.
+impl<H: Handler> HttpConnections<H> {
+    /// Puts a connection into a free slot, and goes on with it: most requests are whole when it was accepted.
+    pub(crate) fn add(
+        &mut self,
+        connection: HttpPeer<TcpStream, H>,
+        shared: &mut Shared,
+        now: u64,
+    ) {
+        if let Some(slot) = self.slots.reserve() {
+            self.drive(slot, connection, shared, now);
+        }
+    }
+
+    /// Goes on with the connection of a slot.
+    pub(crate) fn advance(&mut self, slot: usize, shared: &mut Shared, now: u64) {
+        if let Some(connection) = self.slots.take(slot) {
+            self.drive(slot, connection, shared, now);
+        }
+    }
+
+    /// Goes on with a connection that was taken out of a slot, and puts it back unless it is to be closed.
+    pub(crate) fn drive(
+        &mut self,
+        slot: usize,
+        mut connection: HttpPeer<TcpStream, H>,
+        shared: &mut Shared,
+        now: u64,
+    ) {
+        let before = connection.unsent();
+        let next = connection.advance(shared.room.as_mut_slice(), now);
+        self.count_unsent(before, connection.unsent());
+        match next {
+            Next::Due => self.put_due(slot, connection),
+            Next::Poll(interest) => self.poll_for(slot, connection, shared, interest),
+            Next::Park => self.slots.put(slot, connection),
+            Next::Close => self.close(slot, connection, shared, PeerFault::Broken),
+        }
+    }
+
+    /// Puts back a connection that is to be answered.
+    fn put_due(&mut self, slot: usize, connection: HttpPeer<TcpStream, H>)
+        ensures { Notes slot self.old.due.items self.new.due.items }
+    {
+        self.slots.put(slot, connection);
+        match self.due.push(slot) {
+            Ok(()) => {}
+            // Where there is no memory for it, the end of its time comes again.
+            Err(_) => {}
+        }
+    }
+
+    /// Has a connection polled.
+    fn poll_for(
+        &mut self,
+        slot: usize,
+        mut connection: HttpPeer<TcpStream, H>,
+        shared: &mut Shared,
+        interest: Interest,
+    ) {
+        let token = slot.saturating_add(FIRST_HTTP);
+        let is_polled = shared.poller.register_noted(
+            &mut connection.link,
+            token,
+            interest,
+            &mut connection.is_registered,
+        );
+        if is_polled {
+            self.slots.put(slot, connection);
+        } else {
+            self.close(slot, connection, shared, PeerFault::Broken);
+        }
+    }
+
+    /// Closes a connection that was taken out of a slot. Why is reported where its answer is not sent, and no fault was reported of it
+    /// before.
+    fn close(
+        &mut self,
+        slot: usize,
+        connection: HttpPeer<TcpStream, H>,
+        shared: &mut Shared,
+        why: PeerFault,
+    )
+        ensures { self.new.due ≡ self.old.due }
+    {
+        let is_unanswered = connection.unsent() > 0 || connection.is_signing();
+        if is_unanswered && connection.fault.is_none() {
+            let peer = Some(connection.peer);
+            shared.lost.note(LostConnection { peer, why });
+        }
+        self.count_unsent(connection.unsent(), 0);
+        drop(connection);
+        self.slots.release(slot);
+    }
+}
+
+/// Those that are closed for others, or whose time is over.
+impl<H: Handler> HttpConnections<H> {
+    /// Closes one connection for others: the oldest that has its answer, or else the oldest, which is answered first as it is, unless its
+    /// answer is left to be signed.
+    pub(crate) fn evict(&mut self, shared: &mut Shared) {
+        if let Some(slot) = self.oldest(Selection::Answered) {
+            self.expire(slot, shared, PeerFault::Crowded);
+            return;
+        }
+        let Some(slot) = self.oldest(Selection::Unanswered) else {
+            return;
+        };
+        if let Some(mut connection) = self.slots.take(slot) {
+            if connection.is_receiving() {
+                connection.fault = Some(PeerFault::Crowded);
+                self.put_due(slot, connection);
+            } else {
+                self.close(slot, connection, shared, PeerFault::Crowded);
+            }
+        }
+    }
+
+    /// The slot of the oldest of those that meet a criterion.
+    fn oldest(&self, selection: Selection) -> Option<usize> {
+        let mut found = None;
+        let mut least = u64::MAX;
+        for slot in 0..self.slots.count() {
+            let number = self.number_at(slot, selection);
+            if number < least {
+                least = number;
+                found = Some(slot);
+            }
+        }
+        found
+    }
+
+    /// The number of the connection of a slot, if it meets a criterion, or else one that no connection has.
+    fn number_at(&self, slot: usize, selection: Selection) -> u64 {
+        match self.slots.get(slot) {
+            Some(connection) if selection.takes(connection, slot) => connection.number,
+            _ => u64::MAX,
+        }
+    }
+
+    /// Looks for connections whose time is over: one that still receives is answered, and one that has an answer is closed.
+    pub(crate) fn sweep(&mut self, shared: &mut Shared, now: u64) {
+        if now.saturating_sub(self.swept) < SWEEP {
+            return;
+        }
+        self.swept = now;
+        for slot in 0..self.slots.count() {
+            if self.is_late(slot, now) {
+                self.expire(slot, shared, PeerFault::Late);
+            }
+        }
+    }
+
+    /// Whether the time of the connection of a slot is over.
+    fn is_late(&self, slot: usize, now: u64) -> bool {
+        match self.slots.get(slot) {
+            Some(connection) => connection.is_late(now),
+            None => false,
+        }
+    }
+
+    /// Ends the time of the connection of a slot.
+    fn expire(&mut self, slot: usize, shared: &mut Shared, why: PeerFault) {
+        if let Some(connection) = self.slots.take(slot) {
+            if connection.is_receiving() {
+                self.put_due(slot, connection);
+            } else {
+                self.close(slot, connection, shared, why);
+            }
+        }
+    }
+
+    /// Holds no more unsent bytes than there may be: closes the oldest whose answer is not sent, but for the newest answer.
+    pub(crate) fn limit_unsent(&mut self, newest: usize, shared: &mut Shared) {
+        for _ in 0..MOST_HTTP_PEERS {
+            if self.unsent <= MOST_UNSENT {
+                return;
+            }
+            match self.oldest(Selection::UnsentBut(newest)) {
+                Some(slot) => self.expire(slot, shared, PeerFault::Crowded),
+                None => return,
+            }
+        }
+    }
+
+    /// Closes all that still receive.
+    pub(crate) fn close_all(&mut self, shared: &mut Shared) {
+        for slot in 0..self.slots.count() {
+            self.close_unanswered(slot, shared);
+        }
+    }
+
+    /// Closes those that are due.
+    pub(crate) fn close_due(&mut self, shared: &mut Shared)
+        ensures { self.new.due.items ≡ [] }
+    {
+        for index in 0..self.due.len() {
+            if let Some(slot) = self.due.get(index).copied() {
+                self.close_unanswered(slot, shared);
+            }
+        }
+        self.due.clear();
+    }
+
+    /// Closes the connection of a slot, if it still receives.
+    fn close_unanswered(&mut self, slot: usize, shared: &mut Shared) {
+        if let Some(connection) = self.slots.take(slot) {
+            if connection.is_receiving() {
+                self.close(slot, connection, shared, PeerFault::Late);
+            } else {
+                self.slots.put(slot, connection);
+            }
+        }
+    }
+}
+
+/// Those whose answers are left to be signed.
+impl<H: Handler> HttpConnections<H> {
+    /// Whether the requester of a signature still waits for it.
+    pub(crate) fn is_waiting(&self, requester: Requester) -> bool {
+        match self.slots.get(requester.slot) {
+            Some(connection) => connection.number == requester.number && connection.is_signing(),
+            None => false,
+        }
+    }
+
+    /// Takes the requester of a signature out of its slot, if it still waits for it.
+    fn take_waiting(&mut self, requester: Requester) -> Option<HttpPeer<TcpStream, H>> {
+        if self.is_waiting(requester) {
+            self.slots.take(requester.slot)
+        } else {
+            None
+        }
+    }
+
+    /// Requests the signature for which a requester waits; it will come under a token.
+    ///
+    /// # Errors
+    ///
+    /// As [`HttpPeer::ask`].
+    pub(crate) fn ask(
+        &mut self,
+        requester: Requester,
+        handler: &H,
+        poller: &Poller,
+        token: usize,
+    ) -> io::Result<()> {
+        match self.take_waiting(requester) {
+            Some(mut connection) => {
+                let asked = connection.ask(handler, poller, token);
+                self.slots.put(requester.slot, connection);
+                asked
+            }
+            None => Err(io::Error::from(ErrorKind::NotConnected)),
+        }
+    }
+
+    /// Finishes the answer for which a requester waits, with its signature where that has come, and sends it on.
+    pub(crate) fn complete(
+        &mut self,
+        requester: Requester,
+        has_come: bool,
+        handler: &H,
+        shared: &mut Shared,
+        now: u64,
+    ) {
+        if let Some(mut connection) = self.take_waiting(requester) {
+            connection.complete(handler, has_come, now);
+            self.count_unsent(0, connection.unsent());
+            self.drive(requester.slot, connection, shared, now);
+            self.limit_unsent(requester.slot, shared);
+        }
+    }
+
+    /// Closes the connection of a requester whose side has ended; whether it waits no more.
+    pub(crate) fn has_gone(&mut self, requester: Requester, shared: &mut Shared, now: u64) -> bool {
+        self.advance(requester.slot, shared, now);
+        match self.take_waiting(requester) {
+            Some(connection) if connection.has_ended => {
+                self.close(requester.slot, connection, shared, PeerFault::Broken);
+                true
+            }
+            Some(connection) => {
+                self.slots.put(requester.slot, connection);
+                false
+            }
+            None => true,
+        }
+    }
+}

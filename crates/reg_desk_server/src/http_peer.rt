@@ -1,0 +1,388 @@
+//! One HTTP connection, whose request is answered once.
+
+ghost use Rattle.std.specs.Prelude.{◌≡◌, ◌≤◌, ◌+◌, [], OnOk, OnErr, is_some, IsSome, false};
+ghost use Rattle.reg_desk_server.specs.Handling.{Handled};
+ghost use Rattle.reg_desk_server.specs.Stages.{Answering, Drops, Finishing, HasReceived, HoldsAnswer, IsDropped, KeepsSigning, ReceivesMore, SameLinkAndFault, Sends};
+
+use crate::handler::{Handler, HubFault, PeerFault, answer_one};
+use crate::link::Link;
+use crate::poller::Poller;
+use crate::receiving::{Received, receive};
+use crate::unsent::{Sent, Unsent};
+use mio::Interest;
+use reg_crl_signer::Asking;
+use reg_http_head::Collected;
+use reg_io::Begun;
+use std::alloc::Global;
+use std::io::{ErrorKind, Read};
+use std::net::SocketAddr;
+use std::{io, mem};
+
+/// How many milliseconds a client has to send its request, and as many to take its answer.
+const PATIENCE: u64 = 30_000;
+
+/// How many milliseconds what a client still sends is dropped, once it has its answer.
+const LINGER: u64 = 1_000;
+
+/// The most reads of what is dropped in an iteration.
+const MOST_DROPPED: usize = 32;
+
+/// How far a connection is.
+#[derive(Drop)]
+pub(crate) enum Stage<T> {
+    /// The request comes in.
+    Receiving(Collected),
+    /// The request came, and this is left to be signed for its answer; the connection on which the signature was requested, once it was;
+    /// whether the connection is closed at once when the answer was sent.
+    Signing(T, Option<Asking>, bool),
+    /// The answer goes out; whether the connection is closed at once then.
+    Sending(Unsent, bool),
+    /// The client has the answer, and what it still sends is dropped.
+    Draining,
+}
+
+/// What is to be done with a connection next.
+#[derive(Clone, Copy)]
+pub enum Next {
+    /// Answer it: no more of its request is waited for.
+    Due,
+    /// Poll it.
+    Poll(Interest),
+    /// Keep it, unpolled.
+    Park,
+    /// Close it.
+    Close,
+}
+
+/// What is to be done with a connection once its answer was sent on.
+#[derive(Clone, Copy)]
+enum AfterSending {
+    /// The client takes no more of it yet.
+    Blocked,
+    /// The client has it, and may still send.
+    Finished,
+    /// The client has it and sends no more, or is gone.
+    Close,
+}
+
+/// What is to be done where receiving ended so.
+fn after_receiving(received: Received) -> Next {
+    match received {
+        Received::Whole | Received::Ended | Received::Broken | Received::OutOfMemory => Next::Due,
+        Received::Blocked | Received::More => Next::Poll(Interest::READABLE),
+    }
+}
+
+/// The fault by which receiving ended so, if there is one.
+fn fault_of(received: Received) -> Option<PeerFault>
+    ensures { received ≡ Received.OutOfMemory → IsSome result }
+{
+    match received {
+        Received::Broken => Some(PeerFault::Broken),
+        Received::OutOfMemory => Some(PeerFault::Memory),
+        Received::Whole | Received::Ended | Received::Blocked | Received::More => None,
+    }
+}
+
+/// What is to be done where sending an answer ended so; the connection is closed at once behind the last answer.
+fn after_sending(sent: Sent, is_last: bool) -> AfterSending
+    ensures { result ≡ AfterSending.Finished → sent ≡ Sent.All }
+{
+    match sent {
+        Sent::All if is_last => AfterSending::Close,
+        Sent::All => AfterSending::Finished,
+        Sent::Blocked | Sent::More => AfterSending::Blocked,
+        Sent::Broken => AfterSending::Close,
+    }
+}
+
+/// Drops what has come, for so many reads.
+fn drop_all<R: Read>(reader: &mut R, room: &mut [u8]) -> Received
+    ensures { IsDropped (R.remaining reader.old) (R.remaining reader.new) }
+{
+    for _ in 0..MOST_DROPPED {
+        match drop_once(reader, room) {
+            Received::More => {}
+            received => return received,
+        }
+    }
+    Received::More
+}
+
+/// Drops what one read gives.
+fn drop_once<R: Read>(reader: &mut R, room: &mut [u8]) -> Received
+    ensures { IsDropped (R.remaining reader.old) (R.remaining reader.new) }
+{
+    match reader.read(room) {
+        Ok(0) => Received::Ended,
+        Ok(_) => Received::More,
+        Err(error) if error.kind() == ErrorKind::WouldBlock => Received::Blocked,
+        Err(_) => Received::Broken,
+    }
+}
+
+/// A connection of a client whose request is answered once by a handler. What is left to be signed for the answer is kept here, so the
+/// signature goes to no other client.
+#[derive(Drop)]
+pub struct HttpPeer<S: Link, H: Handler> {
+    pub(crate) link: S,
+    pub(crate) peer: SocketAddr,
+    pub(crate) stage: Stage<H::Ticket>,
+    /// The fault by which no more of the request is waited for, if there is one.
+    pub(crate) fault: Option<PeerFault>,
+    /// Whether the client's side has ended while it waits for its answer.
+    pub(crate) has_ended: bool,
+    pub(crate) until: u64,
+    pub(crate) number: u64,
+    pub(crate) is_registered: bool,
+}
+
+impl<S: Link, H: Handler> HttpPeer<S, H> {
+    /// A connection from an address that was accepted at this moment, in milliseconds of a clock that never goes back.
+    pub fn new(alloc: Global, link: S, peer: SocketAddr, number: u64, now: u64) -> HttpPeer<S, H>
+        ensures link { result.link ≡ link }
+        ensures receives { HasReceived result.stage [] }
+        ensures open { is_some result.fault ≡ false }
+    {
+        HttpPeer {
+            link,
+            peer,
+            stage: Stage::Receiving(Collected::new(alloc)),
+            fault: None,
+            has_ended: false,
+            until: now.saturating_add(PATIENCE),
+            number,
+            is_registered: false,
+        }
+    }
+
+    /// Whether the request still comes in.
+    pub fn is_receiving(&self) -> bool {
+        matches!(self.stage, Stage::Receiving(_))
+    }
+
+    /// Whether the answer is left to be signed.
+    pub fn is_signing(&self) -> bool {
+        matches!(self.stage, Stage::Signing(..))
+    }
+
+    /// Whether there is an answer.
+    pub fn has_answer(&self) -> bool {
+        !self.is_receiving() && !self.is_signing()
+    }
+
+    /// Whether the time is over.
+    pub fn is_late(&self, now: u64) -> bool {
+        self.until <= now
+    }
+
+    /// The fault by which it is answered at this moment before its request is whole, if there is one.
+    pub fn fault(&self, now: u64) -> Option<PeerFault> {
+        if !self.is_receiving() {
+            return None;
+        }
+        match self.fault {
+            None if self.is_late(now) => Some(PeerFault::Late),
+            fault => fault,
+        }
+    }
+
+    /// How many bytes of the answer are not sent yet.
+    pub fn unsent(&self) -> usize {
+        match &self.stage {
+            Stage::Sending(unsent, _) => unsent.len(),
+            _ => 0,
+        }
+    }
+
+    /// Goes on as far as the connection does without waiting.
+    pub fn advance(&mut self, room: &mut [u8], now: u64) -> Next
+        ensures receives { ReceivesMore S.Read.remaining self.old self.new }
+        ensures sends { Sends S.Write.contents self.old self.new }
+        ensures drops { Drops S.Read.remaining self.old self.new }
+    {
+        match &self.stage {
+            Stage::Receiving(_) => self.receive(room),
+            Stage::Signing(..) => self.wait(room),
+            Stage::Sending(..) => self.send_on(now),
+            Stage::Draining => self.drain(room),
+        }
+    }
+
+    /// Receives more of the request, as long as more of it is waited for.
+    fn receive(&mut self, room: &mut [u8]) -> Next
+        ensures { ReceivesMore S.Read.remaining self.old self.new }
+    {
+        if self.fault.is_some() {
+            return Next::Due;
+        }
+        match &mut self.stage {
+            Stage::Receiving(collected) => {
+                let received = receive(&mut self.link, collected, room);
+                self.fault = fault_of(received);
+                after_receiving(received)
+            }
+            Stage::Signing(..) => Next::Close,
+            Stage::Sending(..) => Next::Close,
+            Stage::Draining => Next::Close,
+        }
+    }
+
+    /// Drops what the client still sends while it waits for its answer, and sees whether it is gone.
+    fn wait(&mut self, room: &mut [u8]) -> Next
+        ensures { Drops S.Read.remaining self.old self.new }
+    {
+        let received = drop_all(&mut self.link, room);
+        self.has_ended = self.has_ended || received == Received::Ended;
+        if received == Received::Broken {
+            Next::Close
+        } else {
+            Next::Park
+        }
+    }
+
+    /// Sends on the answer; once the client has all of it, it is told that no more is written.
+    fn send_on(&mut self, now: u64) -> Next
+        ensures { Sends S.Write.contents self.old self.new }
+    {
+        match self.send() {
+            AfterSending::Blocked => Next::Poll(Interest::WRITABLE),
+            AfterSending::Finished => self.finish(now),
+            AfterSending::Close => Next::Close,
+        }
+    }
+
+    /// Sends on the answer.
+    fn send(&mut self) -> AfterSending
+        ensures sends { Sends S.Write.contents self.old self.new }
+        ensures all { result ≡ AfterSending.Finished → HoldsAnswer self.new.stage [] }
+    {
+        match &mut self.stage {
+            Stage::Sending(unsent, is_last) => after_sending(
+                unsent.send_on(&mut self.link),
+                *is_last,
+            ),
+            Stage::Receiving(_) => AfterSending::Close,
+            Stage::Signing(..) => AfterSending::Close,
+            Stage::Draining => AfterSending::Close,
+        }
+    }
+
+    /// Tells the client that no more is written. A connection that is closed over unread bytes may cost the client the answer that it
+    /// has not read yet: so what it still sends is received for a short time.
+    fn finish(&mut self, now: u64) -> Next
+        ensures link { self.new.link ≡ self.old.link }
+        ensures drains { self.new.stage ≡ Stage.Draining }
+    {
+        self.stage = Stage::Draining;
+        self.until = now.saturating_add(LINGER);
+        match self.link.finish() {
+            Ok(()) => Next::Poll(Interest::READABLE),
+            Err(_) => Next::Close,
+        }
+    }
+
+    /// Drops what the client still sends.
+    fn drain(&mut self, room: &mut [u8]) -> Next
+        ensures { Drops S.Read.remaining self.old self.new }
+    {
+        match drop_all(&mut self.link, room) {
+            Received::Blocked | Received::More => Next::Poll(Interest::READABLE),
+            _ => Next::Close,
+        }
+    }
+
+    /// Whether one whole request came, and nothing behind it.
+    fn is_exact(&self) -> bool {
+        match &self.stage {
+            Stage::Receiving(collected) => collected.is_exact(),
+            _ => false,
+        }
+    }
+
+    /// Answers what came of the request, whatever it is; whether something is left to be signed for the answer. A connection that has an
+    /// answer, or waits for one, is not answered again.
+    ///
+    /// # Errors
+    ///
+    /// [`HubFault`], and nothing was answered.
+    #[tactic(auto, using(crate::proofs::Exchanges::exchanged_none))]
+    pub fn answer(&mut self, handler: &mut H, made: &mut u64, now: u64) -> Result<bool, HubFault>
+        ensures exchanged { Handled H.Handler handler.old handler.new made.old made.new }
+        ensures one { made.new ≤ made.old + 1 }
+        ensures answered { OnOk result (
+            Answering H.answers handler.old handler.new self.old.stage self.new.stage) }
+        ensures kept { SameLinkAndFault self.old self.new }
+        ensures err { OnErr result ((self.new ≡ self.old) × (handler.new ≡ handler.old)) }
+    {
+        let begun = match &self.stage {
+            Stage::Receiving(collected) => answer_one(handler, made, self.peer, collected)?,
+            Stage::Signing(..) => return Ok(false),
+            Stage::Sending(..) => return Ok(false),
+            Stage::Draining => return Ok(false),
+        };
+        let is_exact = self.is_exact();
+        match begun {
+            Begun::Ready(text) => {
+                self.hold_answer(text, is_exact, now);
+                Ok(false)
+            }
+            Begun::Unsigned(ticket) => {
+                self.until = now.saturating_add(PATIENCE);
+                self.stage = Stage::Signing(ticket, None, is_exact);
+                Ok(true)
+            }
+        }
+    }
+
+    /// Holds the answer, which goes out from now on, to a request that was exact or was not.
+    fn hold_answer(&mut self, text: Vec<u8>, is_exact: bool, now: u64)
+        ensures holds { HoldsAnswer self.new.stage text.items }
+        ensures kept { SameLinkAndFault self.old self.new }
+    {
+        // Where nothing is sent, there is no answer that unread bytes could cost.
+        let is_last = is_exact || text.is_empty();
+        self.stage = Stage::Sending(Unsent::new(text), is_last);
+        self.until = now.saturating_add(PATIENCE);
+    }
+
+    /// Requests the signature of what is left of the answer, and waits for nothing: the connection on which it will come is polled under a
+    /// token.
+    ///
+    /// # Errors
+    ///
+    /// As [`Handler::ask`]; what the system says where the connection can't be polled; `NotConnected` where no answer is waited for.
+    pub(crate) fn ask(&mut self, handler: &H, poller: &Poller, token: usize) -> io::Result<()>
+        ensures waits { KeepsSigning self.old.stage self.new.stage }
+        ensures kept { SameLinkAndFault self.old self.new }
+    {
+        match &mut self.stage {
+            Stage::Signing(ticket, held, _) => {
+                let mut link = handler.ask(ticket)?;
+                poller.register(&mut link, token, Interest::READABLE, false)?;
+                *held = Some(link);
+                Ok(())
+            }
+            Stage::Receiving(_) => Err(io::Error::from(ErrorKind::NotConnected)),
+            Stage::Sending(..) => Err(io::Error::from(ErrorKind::NotConnected)),
+            Stage::Draining => Err(io::Error::from(ErrorKind::NotConnected)),
+        }
+    }
+
+    /// Finishes the answer that is waited for: with what came on the connection on which its signature was requested, where that is at its
+    /// end, or without a signature. A connection that does not wait is as it was.
+    pub fn complete(&mut self, handler: &H, has_come: bool, now: u64)
+        ensures finished { Finishing (H.finishes handler.now) self.old.stage self.new.stage }
+        ensures kept { SameLinkAndFault self.old self.new }
+    {
+        match mem::replace(&mut self.stage, Stage::Draining) {
+            Stage::Signing(ticket, link, is_exact) => {
+                let finished = handler.finish(ticket, if has_come { link } else { None });
+                self.hold_answer(finished, is_exact, now);
+            }
+            Stage::Receiving(collected) => self.stage = Stage::Receiving(collected),
+            Stage::Sending(unsent, is_last) => self.stage = Stage::Sending(unsent, is_last),
+            Stage::Draining => {}
+        }
+    }
+}

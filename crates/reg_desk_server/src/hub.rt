@@ -1,0 +1,432 @@
+//! The event loop: the listeners, the slots of the connections, and their turns.
+
+ghost use Rattle.std.specs.Prelude.{◌≡◌, ◌≤◌, ◌+◌, IsSome, OnOk};
+ghost use Rattle.reg_desk_server.specs.Handling.{Handled};
+
+use crate::acceptor::Acceptor;
+use crate::control_connections::ControlConnections;
+use crate::handler::{Crowd, Handler, HubFault};
+use crate::http_connections::{HttpConnections, MOST_HTTP_PEERS, SWEEP};
+use crate::http_peer::HttpPeer;
+use crate::lost_connections::{LostConnection, LostConnections};
+use crate::poller::{
+    CONTROL_LISTENER, FIRST_CONTROL, FIRST_HTTP, FIRST_SIGNATURE, HTTP_LISTENER, LINE, LINE_ENDED,
+    MOST_SIGNATURES,
+};
+use crate::shared::Shared;
+use crate::signature_requests::{Pending, Requester, SignatureRequests};
+use mio::net::{TcpListener, TcpStream, UnixListener};
+use std::alloc::AllocGlobal;
+use std::io;
+use std::io::ErrorKind;
+use std::net::Net;
+use std::time::{Clock, Duration};
+
+/// How many seconds may be waited where there is no HTTP connection.
+const IDLE: u64 = 3_600;
+
+/// The event loop of one thread: the connections that a handler answers.
+#[derive(Drop)]
+pub struct Hub<H: Handler> {
+    shared: Shared,
+    acceptor: Acceptor,
+    http: HttpConnections<H>,
+    control: ControlConnections<H>,
+    signatures: SignatureRequests,
+}
+
+/// The time of a clock that never goes back, in milliseconds.
+fn now_of<C: Clock>(clock: &C) -> Result<u64, HubFault> {
+    match clock.monotonic() {
+        Ok(passed) => Ok(
+            passed
+                .as_secs()
+                .saturating_mul(1_000)
+                .saturating_add(u64::from(passed.subsec_millis())),
+        ),
+        Err(_) => Err(HubFault),
+    }
+}
+
+impl<H: Handler> Hub<H> {
+    /// An event loop over a listener for HTTP connections, and one for control connections, neither of which waits, with slots for so many
+    /// HTTP connections.
+    ///
+    /// # Errors
+    ///
+    /// What the system says where the listeners can't be polled, and `OutOfMemory`.
+    pub fn new(
+        rt: &(impl Net + AllocGlobal),
+        listener: TcpListener,
+        control: Option<UnixListener>,
+        slots: usize,
+    ) -> io::Result<Hub<H>> {
+        let shared = Shared::new(rt, slots)?;
+        let acceptor = Acceptor::new(listener, &shared.poller)?;
+        let control = ControlConnections::new(shared.alloc, control, &shared.poller)?;
+        let http = HttpConnections::new(shared.alloc, slots)?;
+        let signatures = SignatureRequests::new(shared.alloc);
+        Ok(Hub {
+            shared,
+            acceptor,
+            http,
+            control,
+            signatures,
+        })
+    }
+
+    /// Answers so many requests, and lines of control connections meanwhile. Each HTTP connection that is accepted is one of them, and is
+    /// answered once: when its request is whole, when nothing more of it comes, when its time is over, or when it is evicted. What is
+    /// left to be signed for an answer is requested, and no other client waits for it: the answer is finished by [`Hub::finish`] at the
+    /// latest.
+    ///
+    /// # Errors
+    ///
+    /// [`HubFault`], where the handler or the sockets are.
+    pub fn serve_all<C: Clock>(
+        &mut self,
+        clock: &C,
+        handler: &mut H,
+        made: &mut u64,
+        most: u64,
+    ) -> Result<(), HubFault>
+        requires { made.old ≤ most }
+        ensures exchanged { Handled H.Handler handler.old handler.new made.old made.new }
+        ensures all { OnOk result (made.new ≡ most) }
+    {
+        for _ in 0..u64::MAX {
+            if *made == most {
+                return Ok(());
+            }
+            match self.poll_once(clock, handler, made, most) {
+                Ok(()) => {}
+                Err(stopped) => return Err(stopped),
+            }
+        }
+        Err(HubFault)
+    }
+
+    /// One iteration: waits until something is to be done, and does it. Each connection gets on a little, each answer whose signature came
+    /// is finished, each control connection has at most one line answered, each request that is whole is answered, and what is left to be
+    /// signed is requested.
+    ///
+    /// # Errors
+    ///
+    /// [`HubFault`], where the handler or the sockets are.
+    #[tactic(auto, using(crate::proofs::Exchanges::exchanged_none))]
+    fn poll_once<C: Clock>(
+        &mut self,
+        clock: &C,
+        handler: &mut H,
+        made: &mut u64,
+        most: u64,
+    ) -> Result<(), HubFault>
+        requires { made.old ≤ most }
+        ensures exchanged { Handled H.Handler handler.old handler.new made.old made.new }
+        ensures within { made.new ≤ most }
+    {
+        let now = self.poll(clock, most)?;
+        self.shared.lost.report(handler);
+        handler.hold(self.connections());
+        self.finish_all(handler, now);
+        self.control.tell_all(&mut self.shared, handler, now)?;
+        let answered = self.answer_all(handler, made, most, now);
+        self.request_all(handler, now);
+        answered
+    }
+
+    /// Sends on what was answered, finishes what is left to be signed, and closes all connections, until none is left or the time of each is
+    /// over. Those that end by a fault are reported to the handler.
+    ///
+    /// # Errors
+    ///
+    /// [`HubFault`], where the sockets are.
+    pub fn finish<C: Clock>(&mut self, clock: &C, handler: &H) -> Result<(), HubFault> {
+        let most = self.acceptor.accepted;
+        self.http.close_all(&mut self.shared);
+        for _ in 0..u64::MAX {
+            self.shared.lost.report(handler);
+            if self.http.slots.reserved() == 0 {
+                return Ok(());
+            }
+            let now = self.poll(clock, most)?;
+            self.finish_all(handler, now);
+            self.request_all(handler, now);
+            self.http.close_due(&mut self.shared);
+            self.control.stop();
+        }
+        Ok(())
+    }
+}
+
+/// What is done without the handler.
+impl<H: Handler> Hub<H> {
+    /// How many connections there are.
+    fn connections(&self) -> Crowd {
+        Crowd {
+            peers: self.http.slots.reserved(),
+            counters: self.control.slots.reserved(),
+            accepted: self.acceptor.accepted,
+        }
+    }
+
+    /// Waits until something is to be done, receives and sends on, accepts, and looks for connections whose time is over.
+    fn poll<C: Clock>(&mut self, clock: &C, most: u64) -> Result<u64, HubFault> {
+        let longest = self.longest_wait(most);
+        self.shared.poller.poll(longest)?;
+        let now = now_of(clock)?;
+        self.advance_all(now);
+        self.control.accept_all(&mut self.shared);
+        self.acceptor
+            .accept_all(most, &mut self.http, &mut self.shared, now)?;
+        self.http.sweep(&mut self.shared, now);
+        Ok(now)
+    }
+
+    /// How long may be waited.
+    fn longest_wait(&mut self, most: u64) -> Duration {
+        let for_signatures = self
+            .signatures
+            .longest_wait()
+            .min(self.control.longest_wait());
+        if self.acceptor.is_ready(most) || self.control.is_ready() || self.has_work() {
+            return Duration::ZERO;
+        }
+        let idle = if self.http.slots.reserved() == 0 {
+            Duration::from_secs(IDLE)
+        } else {
+            Duration::from_millis(SWEEP)
+        };
+        idle.min(for_signatures)
+    }
+
+    /// Whether a connection is due, or a lost one is to be reported.
+    fn has_work(&self) -> bool {
+        !self.http.due.is_empty() || !self.shared.lost.is_empty()
+    }
+
+    /// Goes on with each that is ready.
+    fn advance_all(&mut self, now: u64) {
+        for index in 0..self.shared.poller.count() {
+            if let Some(token) = self.shared.poller.token_at(index) {
+                self.advance(token, now);
+            }
+        }
+    }
+
+    /// Goes on with what is ready under a token.
+    fn advance(&mut self, token: usize, now: u64) {
+        if token == HTTP_LISTENER {
+            self.acceptor.note_ready();
+        } else if token == CONTROL_LISTENER {
+            self.control.may_accept = true;
+        } else if token < FIRST_SIGNATURE {
+            let slot = token.saturating_sub(FIRST_CONTROL);
+            self.control.advance(slot, &mut self.shared);
+        } else if token < LINE {
+            self.signatures
+                .note_end(token.saturating_sub(FIRST_SIGNATURE));
+        } else if token <= LINE_ENDED {
+            self.advance_line(token);
+        } else {
+            let slot = token.saturating_sub(FIRST_HTTP);
+            self.http.advance(slot, &mut self.shared, now);
+        }
+    }
+
+    /// Goes on with the line that waits for a signature: its connection to the signer is ready, or at its end.
+    fn advance_line(&mut self, token: usize) {
+        if let Some(waiting) = &mut self.control.waiting {
+            if token == LINE_ENDED {
+                waiting.note_end();
+            } else {
+                waiting.send_on(&self.shared.poller);
+            }
+        }
+    }
+}
+
+/// What is done with the handler.
+impl<H: Handler> Hub<H> {
+    /// Answers each connection that is due.
+    fn answer_all(
+        &mut self,
+        handler: &mut H,
+        made: &mut u64,
+        most: u64,
+        now: u64,
+    ) -> Result<(), HubFault>
+        requires { made.old ≤ most }
+        ensures exchanged { Handled H.Handler handler.old handler.new made.old made.new }
+        ensures within { made.new ≤ most }
+    {
+        for index in 0..self.http.due.len() {
+            if *made == most {
+                return Ok(());
+            }
+            match self.answer_due(index, handler, made, now) {
+                Ok(()) => {}
+                Err(stopped) => return Err(stopped),
+            }
+        }
+        self.http.due.clear();
+        Ok(())
+    }
+
+    /// Answers one of the connections that are due, if it still receives, and sends on its answer. What is left to be signed of it waits for
+    /// its turn.
+    #[tactic(auto, using(crate::proofs::Exchanges::exchanged_none))]
+    fn answer_due(
+        &mut self,
+        index: usize,
+        handler: &mut H,
+        made: &mut u64,
+        now: u64,
+    ) -> Result<(), HubFault>
+        ensures exchanged { Handled H.Handler handler.old handler.new made.old made.new }
+        ensures one { made.new ≤ made.old + 1 }
+    {
+        let Some(slot) = self.http.due.get(index).copied() else {
+            return Ok(());
+        };
+        let Some(mut connection) = self.http.slots.take(slot) else {
+            return Ok(());
+        };
+        let before = connection.unsent();
+        note_fault(&mut connection, &mut self.shared.lost, now);
+        match connection.answer(handler, made, now) {
+            Ok(true) => {
+                self.wait_for_signature(slot, connection, handler, now);
+                Ok(())
+            }
+            Ok(false) => {
+                self.send_on(slot, connection, before, now);
+                Ok(())
+            }
+            Err(stopped) => {
+                self.send_on(slot, connection, before, now);
+                Err(stopped)
+            }
+        }
+    }
+
+    /// Sends on the answer of a connection that was taken out of a slot, of whose answer so many bytes were not sent before.
+    fn send_on(
+        &mut self,
+        slot: usize,
+        connection: HttpPeer<TcpStream, H>,
+        before: usize,
+        now: u64,
+    ) {
+        self.http.count_unsent(before, connection.unsent());
+        self.http.drive(slot, connection, &mut self.shared, now);
+        self.http.limit_unsent(slot, &mut self.shared);
+    }
+}
+
+/// What is left to be signed.
+impl<H: Handler> Hub<H> {
+    /// Has a connection that was taken out of a slot wait for the signature of its answer, which is requested once it is its turn.
+    fn wait_for_signature(
+        &mut self,
+        slot: usize,
+        connection: HttpPeer<TcpStream, H>,
+        handler: &H,
+        now: u64,
+    ) {
+        let number = connection.number;
+        let requester = Requester { slot, number };
+        self.http.slots.put(slot, connection);
+        // Where there is no memory for it, nobody signs.
+        if !self.signatures.add(requester, now) {
+            self.complete(requester, false, handler, now);
+        }
+    }
+
+    /// Requests what is left to be signed, as far as there is room.
+    fn request_all(&mut self, handler: &H, now: u64) {
+        for _ in 0..MOST_HTTP_PEERS {
+            match self.signatures.next(now) {
+                Some(pending) => self.request(pending, handler, now),
+                None => return,
+            }
+        }
+    }
+
+    /// Requests the next signature, unless a requester that had to wait for its turn has gone.
+    fn request(&mut self, pending: Pending, handler: &H, now: u64) {
+        let requester = pending.requester;
+        if pending.has_waited(now) && self.http.has_gone(requester, &mut self.shared, now) {
+            return;
+        }
+        let Some(index) = self.signatures.free_index() else {
+            self.signatures.put_off(pending, now);
+            return;
+        };
+        let token = index.saturating_add(FIRST_SIGNATURE);
+        match self
+            .http
+            .ask(requester, handler, &self.shared.poller, token)
+        {
+            Ok(()) => {
+                if !self.signatures.put(index, pending) {
+                    self.complete(requester, false, handler, now);
+                }
+            }
+            Err(error) if error.kind() == ErrorKind::WouldBlock => {
+                self.signatures.put_off(pending, now);
+            }
+            Err(_) => self.complete(requester, false, handler, now),
+        }
+    }
+
+    /// Finishes the answers whose signatures came, and those whose time is over; drops the signatures whose requesters wait no more.
+    fn finish_all(&mut self, handler: &H, now: u64) {
+        for index in 0..MOST_SIGNATURES {
+            self.finish_at(index, handler, now);
+        }
+        for _ in 0..MOST_HTTP_PEERS {
+            match self.signatures.take_late(now) {
+                Some(late) => self.complete(late.requester, false, handler, now),
+                None => return,
+            }
+        }
+    }
+
+    /// The same of the one at an index.
+    fn finish_at(&mut self, index: usize, handler: &H, now: u64) {
+        let Some(requester) = self.signatures.requester_at(index) else {
+            return;
+        };
+        if !self.http.is_waiting(requester) {
+            self.signatures.drop_at(index);
+            return;
+        }
+        if let Some(has_come) = self.signatures.take_done(index, now) {
+            self.complete(requester, has_come, handler, now);
+        }
+    }
+
+    /// Finishes the answer for which a requester waits, with its signature where that has come.
+    fn complete(&mut self, requester: Requester, has_come: bool, handler: &H, now: u64) {
+        self.http
+            .complete(requester, has_come, handler, &mut self.shared, now);
+    }
+}
+
+/// Notes by what fault a request is answered at this moment before it is whole, if by one.
+fn note_fault<H: Handler>(
+    connection: &mut HttpPeer<TcpStream, H>,
+    lost: &mut LostConnections,
+    now: u64,
+)
+    ensures same_link { connection.new.link ≡ connection.old.link }
+    ensures same_stage { connection.new.stage ≡ connection.old.stage }
+    ensures noted { IsSome connection.old.fault → IsSome connection.new.fault }
+{
+    if let Some(why) = connection.fault(now) {
+        connection.fault = Some(why);
+        let peer = Some(connection.peer);
+        lost.note(LostConnection { peer, why });
+    }
+}

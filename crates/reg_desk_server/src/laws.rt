@@ -1,0 +1,49 @@
+//! Laws of whole connections. The functions do nothing: their contracts are the laws.
+
+ghost use Rattle.std.specs.Prelude.{◌≡◌, []};
+ghost use Rattle.reg_desk_server.specs.Connections.{HasServed, HasTold, KeepsServed, ServesOn, TellsNoneAnew, TellsOneAnew};
+ghost use Rattle.reg_desk_server.specs.CounterLines.{Deferring, IsFresh, Telling, TellingLater};
+ghost use Rattle.reg_desk_server.specs.Stages.{Answering, Finishing, HasReceived, KeepsSigning};
+ghost use Rattle.reg_desk_server.specs.declared.counter_peer.CounterPeer.{CounterPeer};
+ghost use Rattle.reg_desk_server.specs.declared.http_peer.HttpPeer.{HttpPeer};
+
+use crate::handler::Handler;
+use crate::link::Link;
+
+/// On a control connection each line is answered once, in order, and so is each reply.
+///
+/// Take a control connection, from when it was accepted, over any steps. What came on it are the lines that were answered, one after the
+/// other, and then what is held, of a line that is not whole or is answered next; what went out on it, and behind it what is unsent, are the
+/// replies to these lines (`HasTold`). It begins so, with no line ([`CounterPeer::new`](crate::CounterPeer::new)). Where it goes on
+/// ([`CounterPeer::advance`](crate::CounterPeer::advance)), the same lines were answered. Where it is told
+/// ([`CounterPeer::tell`](crate::CounterPeer::tell), [`CounterPeer::tell_deferred`](crate::CounterPeer::tell_deferred)), one line more
+/// was, with its reply, or none. What else is done with it leaves as they are what is held and unsent, and the connection. The bytes are
+/// those of a link that tells them: of a socket no clause does.
+pub fn a_counter_is_told_line_by_line<S: Link, H: Handler>()
+    ensures begins { (peer : CounterPeer S) → IsFresh peer
+        → HasTold S.Write.contents S.Read.remaining H.tells peer.link peer [] [] }
+    ensures advances { TellsNoneAnew S.Write.contents S.Read.remaining H.tells }
+    ensures tells { TellsOneAnew S.Write.contents S.Read.remaining H.tells
+        (Telling H.tells) (λ s t _. t ≡ s) }
+    ensures later { TellsOneAnew S.Write.contents S.Read.remaining H.tells
+        (TellingLater H.tells H.defers) (Deferring H.defers) }
+{}
+
+/// A request is answered once.
+///
+/// Take an HTTP connection, from when it was accepted, over any steps. Until it is answered, what came on it is held, and nothing went
+/// out; from then on what went out, and behind it what is unsent, is the answer to a front of what came, which is asked of the handler
+/// once, and what came behind that is dropped (`HasServed`). It begins so ([`HttpPeer::new`](crate::HttpPeer::new)), and stays so where it
+/// goes on ([`HttpPeer::advance`](crate::HttpPeer::advance)), is answered ([`HttpPeer::answer`](crate::HttpPeer::answer)), has its answer
+/// finished ([`HttpPeer::complete`](crate::HttpPeer::complete)), and where a signature is requested, or no more of its request is waited
+/// for.
+pub fn a_peer_is_answered_once<S: Link, H: Handler>()
+    ensures begins { (peer : HttpPeer S H H.Ticket H.Line) → HasReceived peer.stage []
+        → HasServed S.Write.contents S.Read.remaining H.Handler peer.link peer }
+    ensures advances { ServesOn S.Write.contents S.Read.remaining H.Handler }
+    ensures answers { (s t : H)
+        → KeepsServed S.Write.contents S.Read.remaining H.Handler (Answering H.answers s t) }
+    ensures finishes { (s : H)
+        → KeepsServed S.Write.contents S.Read.remaining H.Handler (Finishing (H.finishes s)) }
+    ensures waits { KeepsServed S.Write.contents S.Read.remaining H.Handler KeepsSigning }
+{}

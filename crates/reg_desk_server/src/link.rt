@@ -1,0 +1,29 @@
+//! A connection that never waits.
+
+use mio::event::Source;
+use mio::net::{TcpStream, UnixStream};
+use std::io;
+use std::io::{Read, Write};
+use std::net::Shutdown;
+
+/// A connection whose reads and writes never wait.
+pub trait Link: Read + Write + Source {
+    /// Tells the client that no more is written.
+    ///
+    /// # Errors
+    ///
+    /// What the system says, where the client can't be told.
+    fn finish(&self) -> io::Result<()>;
+}
+
+impl Link for TcpStream {
+    fn finish(&self) -> io::Result<()> {
+        self.shutdown(Shutdown::Write)
+    }
+}
+
+impl Link for UnixStream {
+    fn finish(&self) -> io::Result<()> {
+        self.shutdown(Shutdown::Write)
+    }
+}

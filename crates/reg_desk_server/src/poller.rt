@@ -1,0 +1,148 @@
+//! The poller, which tells which connections are ready.
+
+ghost use Rattle.std.specs.Prelude.{◌≡◌, [], IfOk, slice_get, true, vec_len};
+
+use crate::handler::HubFault;
+use mio::event::Source;
+use mio::{Events, Interest, Poll, Token};
+use std::alloc::AllocGlobal;
+use std::io;
+use std::net::Net;
+use std::time::Duration;
+
+/// The most events of an iteration.
+const MOST_EVENTS: usize = 1_024;
+
+/// How many signatures are requested at once.
+pub(crate) const MOST_SIGNATURES: usize = 32;
+
+/// The tokens of the listeners; behind them come those of the control connections, of the signature requests, of the one for a line, and of
+/// the HTTP connections.
+pub(crate) const HTTP_LISTENER: usize = 0;
+
+pub(crate) const CONTROL_LISTENER: usize = 1;
+
+pub(crate) const FIRST_CONTROL: usize = 2;
+
+pub(crate) const FIRST_SIGNATURE: usize = 10;
+
+pub(crate) const LINE: usize = FIRST_SIGNATURE + MOST_SIGNATURES;
+
+/// The connection under the token before is at its end.
+pub(crate) const LINE_ENDED: usize = LINE + 1;
+
+pub(crate) const FIRST_HTTP: usize = LINE + 2;
+
+/// Polls connections, and holds the tokens of those that are ready in this iteration.
+#[derive(Drop)]
+pub(crate) struct Poller {
+    poll: Poll,
+    events: Events,
+    tokens: Vec<usize>,
+}
+
+impl Poller {
+    /// Polls nothing yet.
+    pub(crate) fn new(rt: &(impl Net + AllocGlobal)) -> io::Result<Poller>
+        ensures { IfOk result (λ poller. poller.tokens.items ≡ []) }
+    {
+        let alloc = rt.alloc();
+        let tokens = Vec::with_capacity(alloc, MOST_EVENTS)?;
+        let events = Events::with_capacity(alloc, MOST_EVENTS)?;
+        let poll = Poll::new(rt)?;
+        Ok(Poller {
+            poll,
+            events,
+            tokens,
+        })
+    }
+
+    /// Registers a connection under a token, or once more where it was registered.
+    ///
+    /// # Errors
+    ///
+    /// What the system says where it can't be polled.
+    pub(crate) fn register<S: Source>(
+        &self,
+        source: &mut S,
+        token: usize,
+        interest: Interest,
+        was_registered: bool,
+    ) -> io::Result<()>
+        ensures { S.keeps source.old source.new }
+    {
+        let registry = self.poll.registry();
+        if was_registered {
+            registry.reregister(source, Token(token), interest)
+        } else {
+            registry.register(source, Token(token), interest)
+        }
+    }
+
+    /// Registers a connection, or once more where it is noted that it was; whether that could be done.
+    pub(crate) fn register_noted<S: Source>(
+        &self,
+        source: &mut S,
+        token: usize,
+        interest: Interest,
+        is_registered: &mut bool,
+    ) -> bool
+        ensures kept { S.keeps source.old source.new }
+        ensures registered { is_registered.new ≡ true }
+    {
+        let was_registered = *is_registered;
+        *is_registered = true;
+        self.register(source, token, interest, was_registered)
+            .is_ok()
+    }
+
+    /// Waits until something is ready, no longer than this.
+    ///
+    /// # Errors
+    ///
+    /// [`HubFault`], where the system can't tell what is ready.
+    pub(crate) fn poll(&mut self, longest: Duration) -> Result<(), HubFault> {
+        if self.poll.poll(&mut self.events, Some(longest)).is_err() {
+            return Err(HubFault);
+        }
+        self.copy_tokens();
+        Ok(())
+    }
+
+    /// Copies the tokens of what is ready. A signature is, where all of it is there.
+    fn copy_tokens(&mut self) {
+        self.tokens.clear();
+        for event in &self.events {
+            let Token(token) = event.token();
+            if let Some(token) = ready_token(token, event.is_read_closed()) {
+                // There is room for each event.
+                let _ = self.tokens.push(token);
+            }
+        }
+    }
+
+    /// How many are ready.
+    pub(crate) fn count(&self) -> usize
+        ensures { result ≡ vec_len self.now.tokens }
+    {
+        self.tokens.len()
+    }
+
+    /// The token of one that is ready.
+    pub(crate) fn token_at(&self, index: usize) -> Option<usize>
+        ensures { result ≡ slice_get self.now.tokens.items index }
+    {
+        self.tokens.get(index).copied()
+    }
+}
+
+/// The token under which an event is told: of a signature, only where its connection is at its end.
+fn ready_token(token: usize, is_ended: bool) -> Option<usize> {
+    if FIRST_SIGNATURE <= token && token < LINE && !is_ended {
+        return None;
+    }
+    if token == LINE && is_ended {
+        return Some(LINE_ENDED);
+    }
+    Some(token)
+}

@@ -1,0 +1,86 @@
+//! Receiving the bytes of a request.
+
+ghost use Rattle.std.specs.Prelude.{◌≡◌, ◌⊎◌};
+ghost use Rattle.reg_http_head.specs.Bytes.{collected_bytes};
+ghost use Rattle.reg_desk_server.specs.Held.{AddsTo, Collects, IsWholeAt};
+
+use reg_http_head::Collected;
+use std::io::{ErrorKind, Read};
+
+/// The most reads of one connection in an iteration.
+const MOST_READS: usize = 32;
+
+/// How receiving on a connection ended.
+#[derive(Clone, Copy, Debug, PartialEq, Eq)]
+pub(crate) enum Received {
+    /// The bytes begin with a whole request.
+    Whole,
+    /// Nothing more has come yet.
+    Blocked,
+    /// More may have come.
+    More,
+    /// Nothing more comes.
+    Ended,
+    /// The connection fails.
+    Broken,
+    /// There was no memory for the last bytes that came.
+    OutOfMemory,
+}
+
+/// Receives what has come, until it is a whole request, or for so many reads.
+pub(crate) fn receive<R: Read>(
+    reader: &mut R,
+    collected: &mut Collected,
+    room: &mut [u8],
+) -> Received
+    ensures { Collects (R.remaining reader.old) (R.remaining reader.new)
+        collected.old collected.new result }
+{
+    for _ in 0..MOST_READS {
+        match receive_once(reader, collected, room) {
+            Received::More => {}
+            received => return received,
+        }
+    }
+    Received::More
+}
+
+/// Receives what one read gives.
+fn receive_once<R: Read>(reader: &mut R, collected: &mut Collected, room: &mut [u8]) -> Received
+    ensures { Collects (R.remaining reader.old) (R.remaining reader.new)
+        collected.old collected.new result }
+{
+    match reader.read(room) {
+        Ok(0) => Received::Ended,
+        Ok(count) => add(collected, &room[..count]),
+        Err(error) => match error.kind() {
+            ErrorKind::WouldBlock => Received::Blocked,
+            ErrorKind::Interrupted => Received::More,
+            _ => Received::Broken,
+        },
+    }
+}
+
+/// Adds bytes that came.
+fn add(collected: &mut Collected, came: &[u8]) -> Received
+    ensures kept { AddsTo (collected_bytes collected.old) came.now (collected_bytes collected.new) result }
+    ensures whole { IsWholeAt (collected_bytes collected.new) result }
+{
+    match collected.add(came) {
+        Ok(()) => told(collected),
+        Err(_) => Received::OutOfMemory,
+    }
+}
+
+/// Whether what was collected is whole.
+fn told(collected: &mut Collected) -> Received
+    ensures same { collected_bytes collected.new ≡ collected_bytes collected.old }
+    ensures rests { (result ≡ Received.Whole) ⊎ (result ≡ Received.More) }
+    ensures whole { IsWholeAt (collected_bytes collected.new) result }
+{
+    if collected.is_whole() {
+        Received::Whole
+    } else {
+        Received::More
+    }
+}

@@ -1,0 +1,181 @@
+//! The signatures that are requested for HTTP answers.
+
+use crate::poller::MOST_SIGNATURES;
+use std::alloc::Global;
+use std::collections::VecDeque;
+use std::time::Duration;
+
+/// How many milliseconds a signature may take, from when its answer was begun.
+const PATIENCE: u64 = 10_000;
+
+/// How many milliseconds pass before a signer is asked again that had no room for one more request.
+pub(crate) const PAUSE: u64 = 10;
+
+/// How often a signature that was requested is looked for before it is waited for, a hundred microseconds or two: most are there by then,
+/// and to be woken takes as long as to sign.
+const LOOKS: u32 = 100;
+
+/// An HTTP connection that waits for a signature: its slot, and its number, which no other connection has.
+#[derive(Clone, Copy)]
+pub(crate) struct Requester {
+    pub(crate) slot: usize,
+    pub(crate) number: u64,
+}
+
+/// A signature that is not requested yet, and until when it may be.
+#[derive(Clone, Copy)]
+pub(crate) struct Pending {
+    pub(crate) requester: Requester,
+    until: u64,
+}
+
+impl Pending {
+    /// Whether it had to wait for its turn: what was begun at this moment did not.
+    pub(crate) fn has_waited(&self, now: u64) -> bool {
+        self.until < now.saturating_add(PATIENCE)
+    }
+}
+
+/// A signature that was requested on a connection, which its requester holds.
+#[derive(Clone, Copy)]
+struct Requested {
+    pending: Pending,
+    /// Whether the connection is at its end: what came on it is there.
+    has_come: bool,
+}
+
+/// The signatures that were requested, each on a connection of its own, and those that wait for their turn.
+#[derive(Drop)]
+pub(crate) struct SignatureRequests {
+    queue: VecDeque<Pending>,
+    requested: Vec<Option<Requested>>,
+    /// Until when the signer is not asked, since it had no room.
+    paused: Option<u64>,
+    /// How often a signature is still looked for before it is waited for.
+    looks: u32,
+}
+
+impl SignatureRequests {
+    /// None yet.
+    pub(crate) fn new(alloc: Global) -> SignatureRequests {
+        SignatureRequests {
+            queue: VecDeque::new(alloc),
+            requested: Vec::new(alloc),
+            paused: None,
+            looks: 0,
+        }
+    }
+
+    /// One more waits for its turn; whether there was memory for it.
+    pub(crate) fn add(&mut self, requester: Requester, now: u64) -> bool {
+        let until = now.saturating_add(PATIENCE);
+        self.queue.push_back(Pending { requester, until }).is_ok()
+    }
+
+    /// How long may be waited at the longest, where a signature is looked for, or a signer is to be asked again.
+    pub(crate) fn longest_wait(&mut self) -> Duration {
+        if self.looks > 0 {
+            self.looks = self.looks.saturating_sub(1);
+            return Duration::ZERO;
+        }
+        match self.paused {
+            Some(_) => Duration::from_millis(PAUSE),
+            None => Duration::MAX,
+        }
+    }
+
+    /// The next whose turn it is, where there is room for one more request.
+    pub(crate) fn next(&mut self, now: u64) -> Option<Pending> {
+        if let Some(paused) = self.paused {
+            if now < paused {
+                return None;
+            }
+        }
+        self.paused = None;
+        if self.free_index().is_none() {
+            return None;
+        }
+        self.queue.pop_front()
+    }
+
+    /// Puts one back to the front, for which the signer had no room at this moment.
+    pub(crate) fn put_off(&mut self, pending: Pending, now: u64) {
+        self.paused = Some(now.saturating_add(PAUSE));
+        // There is room for it: it was taken from there.
+        let _ = self.queue.push_front(pending);
+    }
+
+    /// The first of those that wait for their turn whose time is over.
+    pub(crate) fn take_late(&mut self, now: u64) -> Option<Pending> {
+        match self.queue.front() {
+            Some(first) if first.until <= now => self.queue.pop_front(),
+            _ => None,
+        }
+    }
+}
+
+/// Those that were requested.
+impl SignatureRequests {
+    /// A free index for one more.
+    pub(crate) fn free_index(&self) -> Option<usize> {
+        for index in 0..MOST_SIGNATURES {
+            match self.requested.get(index) {
+                Some(Some(_)) => {}
+                Some(None) => return Some(index),
+                None => return Some(index),
+            }
+        }
+        None
+    }
+
+    /// Waits for one at a free index; whether there was memory for it.
+    pub(crate) fn put(&mut self, index: usize, pending: Pending) -> bool {
+        self.looks = LOOKS;
+        let requested = Requested {
+            pending,
+            has_come: false,
+        };
+        if let Some(held) = self.requested.get_mut(index) {
+            *held = Some(requested);
+            return true;
+        }
+        self.requested.push(Some(requested)).is_ok()
+    }
+
+    /// The connection of the one at an index is at its end.
+    pub(crate) fn note_end(&mut self, index: usize) {
+        if let Some(Some(requested)) = self.requested.get_mut(index) {
+            requested.has_come = true;
+        }
+    }
+
+    /// The requester of the one at an index.
+    pub(crate) fn requester_at(&self, index: usize) -> Option<Requester> {
+        match self.requested.get(index) {
+            Some(Some(requested)) => Some(requested.pending.requester),
+            _ => None,
+        }
+    }
+
+    /// Drops the one at an index: its requester waits no more.
+    pub(crate) fn drop_at(&mut self, index: usize) {
+        if let Some(held) = self.requested.get_mut(index) {
+            *held = None;
+        }
+    }
+
+    /// Takes the one at an index, where it has come or its time is over; whether it has come.
+    pub(crate) fn take_done(&mut self, index: usize, now: u64) -> Option<bool> {
+        match self.requested.get_mut(index) {
+            Some(held) => {
+                let requested = (*held)?;
+                if !requested.has_come && requested.pending.until > now {
+                    return None;
+                }
+                *held = None;
+                Some(requested.has_come)
+            }
+            None => None,
+        }
+    }
+}

@@ -1,0 +1,94 @@
+//! A text on its way to a client.
+
+ghost use Rattle.std.specs.Prelude.{◌≤◌, length};
+
+use std::io::{ErrorKind, Write};
+
+/// The most bytes that one write is handed.
+const LONGEST_PIECE: usize = 65_536;
+
+/// The most writes to one connection in an iteration.
+const MOST_WRITES: usize = 4;
+
+/// How sending ended.
+#[derive(Clone, Copy, Debug, PartialEq, Eq)]
+pub(crate) enum Sent {
+    /// All of the text was taken.
+    All,
+    /// The client takes no more yet.
+    Blocked,
+    /// The client may take more.
+    More,
+    /// The connection fails, or takes nothing more.
+    Broken,
+}
+
+/// A text of which a front was sent.
+#[derive(Drop)]
+pub(crate) struct Unsent {
+    pub(crate) text: Vec<u8>,
+    pub(crate) sent: usize,
+    ghost within: { sent ≤ length text.items },
+}
+
+impl Unsent {
+    ghost use Rattle.std.specs.Prelude.{◌≡◌};
+    ghost use Rattle.reg_desk_server.specs.Unsent.{SendsUnsent, unsent_of};
+
+    /// The whole of a text.
+    pub(crate) fn new(text: Vec<u8>) -> Unsent
+        ensures { unsent_of result ≡ text.items }
+    {
+        Unsent { text, sent: 0 }
+    }
+
+    /// The whole text again.
+    pub(crate) fn into_text(self) -> Vec<u8>
+        ensures { result ≡ self.text }
+    {
+        let Unsent { text, sent: _ } = self;
+        text
+    }
+
+    /// How many bytes are left.
+    pub(crate) fn len(&self) -> usize
+        ensures { result ≡ length (unsent_of self.now) }
+    {
+        self.text.len() - self.sent
+    }
+
+    /// Sends what is left, as far as the writer takes it, or for so many writes.
+    pub(crate) fn send_on<W: Write>(&mut self, writer: &mut W) -> Sent
+        ensures { SendsUnsent W.contents writer.old writer.new self.old self.new result }
+    {
+        for _ in 0..MOST_WRITES {
+            match self.send_once(writer) {
+                Sent::More => {}
+                sent => return sent,
+            }
+        }
+        Sent::More
+    }
+
+    /// Sends the next piece.
+    fn send_once<W: Write>(&mut self, writer: &mut W) -> Sent
+        ensures { SendsUnsent W.contents writer.old writer.new self.old self.new result }
+    {
+        let end = self.text.len().min(self.sent.saturating_add(LONGEST_PIECE));
+        if end == self.sent {
+            return Sent::All;
+        }
+        match writer.write(&self.text[self.sent..end]) {
+            Ok(0) => Sent::Broken,
+            Ok(count) => {
+                self.sent += count;
+                Sent::More
+            }
+            Err(error) => match error.kind() {
+                ErrorKind::WouldBlock => Sent::Blocked,
+                ErrorKind::Interrupted => Sent::More,
+                _ => Sent::Broken,
+            },
+        }
+    }
+}

@@ -1,2 +1,0 @@
-pub mod Faces
-pub mod Twice

@@ -1,0 +1,18 @@
+use Rattle.std.specs.Prelude.{string_bytes}
+use Rattle.reg_office_api.specs.CallSteps.{Runs, Asks, Ocsps, Crls}
+use Rattle.reg_office_api.proofs.PublicLaws.{follows}
+use Rattle.reg_http_head.specs.Response.{shown}
+use Rattle.reg_http.proofs.Replying.{reply_ends}
+use Rattle.reg_http.proofs.serve.reply.Goals as goal
+
+pub returns-in-Ok-clause-ends : goal.returns-in-Ok-clause-ends
+returns-in-Ok-clause-ends g c =
+    rw c.in-Asked.is
+    (follows g.O.Office.is_clean g.O.Office.stands _ _
+    (λ who before after made. (
+      reply_ends (Runs g.O.Office.signs who) Asks (Ocsps g.O.Office.signs who) Crls c.args.now before after
+          c.in-Asked.method (string_bytes c.in-Asked.target) c.in-Asked.body.items (shown c.in-Ok.answer) _ _ c.send.result
+          made.0 c.send.ensures.ok c.send.ensures.err,
+      made.1,
+    ))
+    _ _ (rw (c.as_str.ensures.value, c.as_slice.ensures.value) at c.in-Ok.ensures.ok))

@@ -1,0 +1,47 @@
+-- One exchange, once its text is made.
+use Rattle.std.specs.Prelude.{◌≡◌, ◌⊎◌, ℕ, List, [], Some, None, Result, Ok, Err}
+use Rattle.reg_office_api.specs.declared.effects.SignatureFate.TheVariants.{NotAsked}
+use Rattle.reg_office_api.specs.declared.effects.StoreEffect.TheVariants.{Unwritten}
+use Rattle.reg_core.specs.declared.memory.Memory.{Memory as NoMemory}
+use Rattle.reg_http_head.specs.Response.{IsText, Response, memory_text}
+use Rattle.reg_http.specs.Told.{Told, told}
+use Rattle.reg_http.specs.declared.answered.Answered.{Answered}
+use Rattle.reg_http.specs.declared.route.Route.{Route}
+use Rattle.reg_ocsp.specs.Drafts.{Drafted}
+use Rattle.reg_io.specs.declared.begun.Begun.{Begun}
+use Rattle.reg_io.specs.declared.begun.Begun.TheVariants.{Ready, Unsigned}
+use Rattle.reg_http.specs.declared.exchange.Exchange.{Exchange}
+use Rattle.reg_http.specs.declared.exchange.Left.{Left}
+
+-- the text of a response at a moment, whole, with its status; or the constant text of status 500, where there was no memory for its body
+abbrev pub PutsText : ℕ → Response → ℕ → List ℕ → Type 0
+PutsText now response status text = ((status ≡ response.status) × IsText response now text) ⊎ ((status ≡ 500) × (text ≡ memory_text))
+
+-- nothing is answered
+abbrev pub IsEmpty : Exchange → Type 0
+IsEmpty exchange = (exchange.status ≡ None) × (exchange.text.items ≡ [])
+
+-- out of memory is told by the constant text, or by nothing where there was no memory for that either
+abbrev pub IsUntold : Exchange → Type 0
+IsUntold exchange = ((exchange.status ≡ Some 500) × (exchange.text.items ≡ memory_text)) ⊎ IsEmpty exchange
+
+-- the response at a moment: its whole text, so no answer is cut; or out of memory
+abbrev pub TellsText : ℕ → Response → Exchange → Type 0
+TellsText now response exchange = ((exchange.status ≡ Some response.status) × IsText response now exchange.text.items) ⊎ IsUntold exchange
+
+-- the same, with what became of the signature and what is said of the store
+abbrev pub TellsAnswered : ℕ → Told → Exchange → Type 0
+TellsAnswered now it exchange = (exchange.signature ≡ it.signature) × (exchange.store ≡ it.store) × TellsText now it.response exchange
+
+-- nothing is said of a signature, nor of the store
+abbrev pub SaysNothing : Exchange → Type 0
+SaysNothing exchange = (exchange.signature ≡ NotAsked) × (exchange.store ≡ Unwritten)
+
+-- what a request comes to, as an exchange of this route: it is told; or this is left to be signed for it; or there was no memory
+abbrev pub TellsBegun : ℕ → Route → Result (Begun Answered Drafted) NoMemory → Begun Exchange Left → Type 0
+TellsBegun now route (Ok (Ready answered)) (Ready exchange) = (exchange.route ≡ route) × TellsAnswered now (told answered) exchange
+TellsBegun now route (Ok (Ready answered)) (Unsigned left) = ⊥
+TellsBegun now route (Ok (Unsigned draft)) (Ready exchange) = ⊥
+TellsBegun now route (Ok (Unsigned draft)) (Unsigned left) = (left.route ≡ route) × (left.draft ≡ draft)
+TellsBegun now route (Err memory) (Ready exchange) = (exchange.route ≡ route) × IsUntold exchange × SaysNothing exchange
+TellsBegun now route (Err memory) (Unsigned left) = ⊥

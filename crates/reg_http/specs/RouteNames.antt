@@ -1,0 +1,51 @@
+-- By which route a path is dispatched and counted.
+use Rattle.std.specs.Prelude.{ℕ, Bool, true, cond, ◌==◌, ◌+◌, nat_eq, List, [], take, drop, codes, bytes_eq, if◌then◌else◌, Some, None}
+use Rattle.std.specs.List.{position, starts_with}
+use Rattle.std.specs.declared.option.Option.{Option}
+use Rattle.reg_http.specs.declared.route.Route.{Route}
+use Rattle.reg_http.specs.declared.route.Route.TheVariants.{Ocsp, OcspRest, Crl, CrlNumber, Status, Counts, Requests, List as ListOf, Health, Metrics, Other}
+
+-- the route of a path; of those that leave a part open, by how it begins
+unfoldable pub route_at : List ℕ → Route
+route_at path =
+    if bytes_eq path (codes "/ocsp") then Ocsp
+    else if starts_with nat_eq path (codes "/ocsp/") then OcspRest
+    else if bytes_eq path (codes "/crl") then Crl
+    else if starts_with nat_eq path (codes "/crl/") then CrlNumber
+    else if starts_with nat_eq path (codes "/status/") then Status
+    else if bytes_eq path (codes "/counts") then Counts
+    else if bytes_eq path (codes "/requests") then Requests
+    else if starts_with nat_eq path (codes "/list/") then ListOf
+    else if bytes_eq path (codes "/health") then Health
+    else if bytes_eq path (codes "/metrics") then Metrics
+    else Other
+
+-- whether a byte is a space
+abbrev pub is_space : ℕ → Bool
+is_space byte = byte == 32
+
+-- whether a byte ends a path: a space, `?`, CR or LF
+abbrev pub ends_path : ℕ → Bool
+ends_path byte = cond (byte == 32) true (cond (byte == 63) true (cond (byte == 13) true (byte == 10)))
+
+-- what stands before this place, or all of a text where there is none
+abbrev pub before : Option ℕ → List ℕ → List ℕ
+before (Some end) text = take end text
+before None text = text
+
+-- what stands behind this place, or nothing where there is none
+abbrev pub behind : Option ℕ → List ℕ → List ℕ
+behind (Some at) text = drop (at + 1) text
+behind None text = []
+
+-- a text up to the end of the path that it begins with
+abbrev pub front_to : List ℕ → List ℕ
+front_to text = before (position ends_path text) text
+
+-- the path that the first line of a request names (RFC 9112 3): behind the first space, up to a `?` or to the next space
+abbrev pub named_path : List ℕ → List ℕ
+named_path request = front_to (behind (position is_space request) request)
+
+-- its route
+abbrev pub named_route : List ℕ → Route
+named_route request = route_at (named_path request)

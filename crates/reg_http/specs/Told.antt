@@ -1,0 +1,60 @@
+-- What a request is told: its response, with what became of its signature and what it says of the store.
+use Rattle.std.specs.Prelude.{ℕ, List, codes, Option, Some, None, Result, Ok, Err}
+use Rattle.reg_office_api.specs.Responses.{signature_of, store_of, store_of_fault}
+use Rattle.reg_office_api.specs.declared.effects.SignatureFate.{SignatureFate}
+use Rattle.reg_office_api.specs.declared.effects.SignatureFate.TheVariants.{NotAsked}
+use Rattle.reg_office_api.specs.declared.effects.StoreEffect.{StoreEffect}
+use Rattle.reg_office_api.specs.declared.effects.StoreEffect.TheVariants.{Unwritten, Written}
+use Rattle.reg_office_api.specs.declared.response.ResponseKind.{ResponseKind}
+use Rattle.reg_core.specs.declared.command.Reply.{Reply}
+use Rattle.reg_core.specs.declared.memory.Memory.{Memory as NoMemory}
+use Rattle.reg_core.specs.declared.refusal.Fault.{Fault}
+use Rattle.reg_core.specs.declared.refusal.Fault.TheVariants.{Memory, Store}
+use Rattle.reg_http_head.specs.Response.{Response, shown}
+use Rattle.reg_http.specs.Bodies.{der, fault_response, json}
+use Rattle.reg_http.specs.declared.answered.Answered.{Answered}
+
+pub record Told : Type 0 where
+  pub response : Response
+  pub signature : SignatureFate
+  pub store : StoreEffect
+
+-- the same of an answer
+abbrev pub told : Answered → Told
+told answered = record { response = shown answered.answer; signature = answered.signature; store = answered.store }
+
+-- a response without a signature, which says this of the store
+abbrev pub told_unsigned : Response → StoreEffect → Told
+told_unsigned response effect = record { response = response; signature = NotAsked; store = effect }
+
+-- a response that says nothing of either
+abbrev pub plain : Response → Told
+plain response = told_unsigned response Unwritten
+
+-- a refusal or a fault is told by its line
+abbrev pub fault_told : Fault → Told
+fault_told fault = told_unsigned (fault_response fault) (store_of_fault fault)
+
+-- 200 with its body; a reply of another kind, which no office gives, is a fault of the store
+abbrev pub told_or : StoreEffect → Option (List ℕ) → Told
+told_or effect (Some body) = told_unsigned (json 200 body) effect
+told_or effect None = fault_told Store
+
+-- an outcome, which says this of the store where it is a reply
+abbrev pub outcome_told : StoreEffect → (Reply → Option (List ℕ)) → Result Reply Fault → Told
+outcome_told effect body_of (Ok reply) = told_or effect (body_of reply)
+outcome_told effect body_of (Err fault) = fault_told fault
+
+-- a CRL (RFC 2585 4.2), or why there is none
+abbrev pub crl_told : Result (List ℕ) Fault → Told
+crl_told (Ok body) = plain (der (codes "application/pkix-crl") body)
+crl_told (Err fault) = fault_told fault
+
+-- an OCSP response, of any status (RFC 6960 A.2), by its kind; out of memory is a fault
+abbrev pub ocsp_told : Result (ResponseKind × List ℕ) NoMemory → Told
+ocsp_told (Ok given) = record {
+  response = der (codes "application/ocsp-response") given.1;
+  signature = signature_of given.0;
+  store = store_of given.0;
+}
+ocsp_told (Err memory) = fault_told Memory

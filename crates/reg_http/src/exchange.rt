@@ -1,0 +1,175 @@
+//! One exchange, once its text is made: what is sent, and what is counted and logged of it.
+
+ghost use Rattle.std.specs.Prelude.{◌≡◌, ◌≤◌, [], IfOk, vec_capacity};
+ghost use Rattle.reg_office_api.specs.Items.{items_of};
+ghost use Rattle.reg_http_head.specs.Response.{shown};
+ghost use Rattle.reg_http.specs.Bodies.{ocsp_reply};
+ghost use Rattle.reg_http.specs.Exchanges.{IsEmpty, IsUntold, PutsText, SaysNothing, TellsAnswered, TellsBegun, TellsText};
+ghost use Rattle.reg_http.specs.Told.{told};
+
+use crate::answered::{Answered, ocsp_answer};
+use crate::bodies::JSON_ROOM;
+use crate::route::Route;
+use reg_core::{Memory, Moment};
+use reg_http_head::{Answer, put_answer, put_memory_fault, status};
+use reg_io::Begun;
+use reg_ocsp::Draft;
+use reg_office_api::{SignatureFate, StoreEffect};
+use std::alloc::Global;
+
+/// The bytes of room that are made for the text of a response before anything is asked. Each response that tells of something entered
+/// fits, and so do most of an OCSP answer: memory can't be wanting for them once the office was asked.
+const TEXT_ROOM: usize = 4_096;
+
+/// Room for the text of a response.
+///
+/// # Errors
+///
+/// [`Memory`] where memory is refused.
+pub fn text_room(alloc: Global) -> Result<Vec<u8>, Memory>
+    ensures empty { IfOk result (λ room. room.items ≡ []) }
+    ensures room { IfOk result (λ room. 512 ≤ vec_capacity room) }
+{
+    match Vec::with_capacity(alloc, TEXT_ROOM) {
+        Ok(room) => Ok(room),
+        Err(_) => Err(Memory),
+    }
+}
+
+/// One exchange, once its text is made.
+#[derive(Drop)]
+pub struct Exchange {
+    /// The route that was asked.
+    pub route: Route,
+    /// The status code of the text; `None` where that is empty.
+    pub status: Option<u16>,
+    /// What became of its signature.
+    pub signature: SignatureFate,
+    /// What it says of the store.
+    pub store: StoreEffect,
+    /// The bytes of the response.
+    pub text: Vec<u8>,
+}
+
+impl Exchange {
+    /// One that is answered by nothing, for which this became of its signature.
+    pub fn empty(alloc: Global, route: Route, signature: SignatureFate) -> Exchange
+        ensures empty { IsEmpty result }
+        ensures effects { (result.signature ≡ signature) × (result.store ≡ StoreEffect.Unwritten) }
+        ensures route { result.route ≡ route }
+    {
+        Exchange {
+            route,
+            status: None,
+            signature,
+            store: StoreEffect::Unwritten,
+            text: Vec::new(alloc),
+        }
+    }
+
+    /// One for whose answer there was no memory: the constant text of status 500, in room for a text.
+    pub fn out_of_memory(route: Route, mut room: Vec<u8>) -> Exchange
+        requires empty { room.items ≡ [] }
+        requires room { 512 ≤ vec_capacity room }
+        ensures untold { IsUntold result }
+        ensures effects { SaysNothing result }
+        ensures route { result.route ≡ route }
+    {
+        put_memory_fault(&mut room);
+        Exchange {
+            route,
+            status: Some(status::INTERNAL_SERVER_ERROR),
+            signature: SignatureFate::NotAsked,
+            store: StoreEffect::Unwritten,
+            text: room,
+        }
+    }
+
+    /// One with this answer, in room for a text.
+    pub fn of(route: Route, mut room: Vec<u8>, answered: Answered, now: Moment) -> Exchange
+        requires empty { room.items ≡ [] }
+        requires room { 512 ≤ vec_capacity room }
+        ensures tells { TellsAnswered now (told answered) result }
+        ensures route { result.route ≡ route }
+    {
+        let Answered {
+            answer,
+            signature,
+            store,
+        } = answered;
+        let status = put_text(&mut room, &answer, now);
+        Exchange {
+            route,
+            status: Some(status),
+            signature,
+            store,
+            text: room,
+        }
+    }
+
+    /// One with the OCSP response that was begun at a moment and is finished now, or none for want of memory.
+    pub fn finished(
+        alloc: Global,
+        route: Route,
+        now: Moment,
+        response: Result<Vec<u8>, Memory>,
+        signature: SignatureFate,
+    ) -> Exchange
+        ensures tells { TellsText now (ocsp_reply (items_of response)) result }
+        ensures effects { (result.signature ≡ signature) × (result.store ≡ StoreEffect.Unwritten) }
+        ensures route { result.route ≡ route }
+    {
+        let (Ok(text), Ok(body)) = (text_room(alloc), Vec::with_capacity(alloc, JSON_ROOM)) else {
+            return Exchange::empty(alloc, route, signature);
+        };
+        let answered = Answered {
+            answer: ocsp_answer(body, response),
+            signature,
+            store: StoreEffect::Unwritten,
+        };
+        Exchange::of(route, text, answered, now)
+    }
+}
+
+/// An OCSP response that is left to be signed, with the route that was asked.
+#[derive(Drop)]
+pub struct Left {
+    /// The route that was asked.
+    pub route: Route,
+    /// What is to be signed.
+    pub draft: Draft,
+}
+
+/// The exchange of what a request comes to at a route, in room for a text; or what is left to be signed for it.
+pub fn begun_exchange(
+    route: Route,
+    room: Vec<u8>,
+    begun: Result<Begun<Answered, Draft>, Memory>,
+    now: Moment,
+) -> Begun<Exchange, Left>
+    requires empty { room.items ≡ [] }
+    requires room { 512 ≤ vec_capacity room }
+    ensures { TellsBegun now route begun result }
+{
+    match begun {
+        Ok(Begun::Ready(answered)) => Begun::Ready(Exchange::of(route, room, answered, now)),
+        Ok(Begun::Unsigned(draft)) => Begun::Unsigned(Left { route, draft }),
+        Err(_) => Begun::Ready(Exchange::out_of_memory(route, room)),
+    }
+}
+
+/// Puts the text of an answer into an empty room, or the constant text where there is no memory for its body; the status of that.
+fn put_text(text: &mut Vec<u8>, answer: &Answer, now: Moment) -> u16
+    requires empty { text.old.items ≡ [] }
+    requires room { 512 ≤ vec_capacity text.old }
+    ensures { PutsText now (shown answer.now) result text.new.items }
+{
+    match put_answer(text, answer, now) {
+        Ok(()) => answer.status,
+        Err(_) => {
+            text.clear();
+            put_memory_fault(text);
+            status::INTERNAL_SERVER_ERROR
+        }
+    }
+}

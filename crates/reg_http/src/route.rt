@@ -1,0 +1,131 @@
+//! The routes of the desk, as it dispatches and counts by them.
+
+ghost use Rattle.std.specs.Prelude.{◌≡◌, ◌<◌, IfSome, length};
+ghost use Rattle.std.specs.List.{position};
+ghost use Rattle.reg_http.specs.Asked.{path_of as path_in};
+ghost use Rattle.reg_http.specs.RouteNames.{ends_path as ends_a_path, front_to, is_space, named_path, named_route, route_at as route_of_path};
+
+/// A route, whatever stands at the part of the path that it leaves open.
+#[derive(Clone, Copy, PartialEq, Eq)]
+pub enum Route {
+    /// `/ocsp`
+    Ocsp,
+    /// `/ocsp/{*rest}`: the request in the path, slashes too.
+    OcspRest,
+    /// `/crl`
+    Crl,
+    /// `/crl/{n}`
+    CrlNumber,
+    /// `/status/{serial}`
+    Status,
+    /// `/counts`
+    Counts,
+    /// `/requests`
+    Requests,
+    /// `/list/{word}`, at an open desk alone.
+    List,
+    /// `/health`, at an open desk alone.
+    Health,
+    /// `/metrics`, at an open desk alone.
+    Metrics,
+    /// Any other path.
+    Other,
+}
+
+impl Route {
+    /// The route of a target. One that leaves a part of the path open is told by how the path begins.
+    pub fn of(target: &str) -> Route
+        ensures { result ≡ route_of_path (path_in target.now) }
+    {
+        route_at(path_of(target).as_bytes())
+    }
+
+    /// The route that the first line of a request names, which may be no head.
+    pub fn named_in(request: &[u8]) -> Route
+        ensures { result ≡ named_route request.now }
+    {
+        route_at(path_in(request))
+    }
+}
+
+/// The path of a target: up to the first `?` (RFC 3986 3.3).
+pub(crate) fn path_of(target: &str) -> &str
+    ensures { result.now ≡ path_in target.now }
+{
+    match target.split_once('?') {
+        Some((path, _)) => path,
+        None => target,
+    }
+}
+
+/// The path that a first line names: behind the first space, up to a `?`, to the next space or to the end of the line.
+fn path_in(request: &[u8]) -> &[u8]
+    ensures { result.now ≡ named_path request.now }
+{
+    match space_in(request) {
+        Some(at) => front_of(&request[at + 1..]),
+        None => &request[..0],
+    }
+}
+
+/// Where the first space stands.
+fn space_in(text: &[u8]) -> Option<usize>
+    ensures place { result ≡ position is_space text.now }
+    ensures within { IfSome result (λ at. at < length text.now) }
+{
+    text.iter().position(|byte| *byte == b' ')
+}
+
+/// A text up to the end of the path that it begins with.
+fn front_of(text: &[u8]) -> &[u8]
+    ensures { result.now ≡ front_to text.now }
+{
+    match path_end(text) {
+        Some(end) => &text[..end],
+        None => text,
+    }
+}
+
+/// Where a path ends.
+fn path_end(text: &[u8]) -> Option<usize>
+    ensures place { result ≡ position ends_a_path text.now }
+    ensures within { IfSome result (λ at. at < length text.now) }
+{
+    text.iter().position(|byte| ends_path(*byte))
+}
+
+/// Whether a byte ends a path: a space, a `?`, or the end of a line.
+fn ends_path(byte: u8) -> bool
+    ensures { result ≡ ends_a_path byte }
+{
+    if byte == b' ' {
+        return true;
+    }
+    if byte == b'?' {
+        return true;
+    }
+    if byte == b'\r' {
+        return true;
+    }
+    byte == b'\n'
+}
+
+/// The route of a path.
+#[tactic(auto, unfolding(crate::specs::RouteNames::route_at))]
+fn route_at(path: &[u8]) -> Route
+    ensures { result ≡ route_of_path path.now }
+{
+    match path {
+        _ if path == b"/ocsp".as_slice() => Route::Ocsp,
+        _ if path.starts_with(b"/ocsp/") => Route::OcspRest,
+        _ if path == b"/crl".as_slice() => Route::Crl,
+        _ if path.starts_with(b"/crl/") => Route::CrlNumber,
+        _ if path.starts_with(b"/status/") => Route::Status,
+        _ if path == b"/counts".as_slice() => Route::Counts,
+        _ if path == b"/requests".as_slice() => Route::Requests,
+        _ if path.starts_with(b"/list/") => Route::List,
+        _ if path == b"/health".as_slice() => Route::Health,
+        _ if path == b"/metrics".as_slice() => Route::Metrics,
+        _ => Route::Other,
+    }
+}

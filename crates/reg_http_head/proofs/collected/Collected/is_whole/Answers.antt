@@ -1,0 +1,29 @@
+use Rattle.std.proofs.Common.{◌≤◌, ◌<◌, arith, length}
+use Rattle.std.proofs.Math.Logic.{∥∥₁_map}
+use Rattle.std.proofs.lemmas.Bool.{leb-true, leb-false}
+use Rattle.reg_http_head.specs.Bytes.{collected_bytes}
+use Rattle.reg_http_head.proofs.CollectLemmas.{known_of_told, whole_of_refused, whole_of_needs, unfinished_of_unmarked, unfinished_of_needs}
+use Rattle.reg_http_head.proofs.collected.Collected.is_whole.Goals as goal
+
+pub invariant_of-self : goal.invariant_of-self
+invariant_of-self c = record {
+  is_known = ∥∥₁_map (rw c.as_slice.ensures.value at c.told-self.ensures) (known_of_told c.args.self.now.bytes.items c.told-self.result);
+}
+
+pub returns-in-Unmarked-clause-unfinished : goal.returns-in-Unmarked-clause-unfinished
+returns-in-Unmarked-clause-unfinished c is =
+    ∥∥₁_map (rw (c.as_slice.ensures.value, c.in-Unmarked.is) at c.told-self.ensures) (λ told. unfinished_of_unmarked (collected_bytes c.args.self.now) c.in-Unmarked.field-0 told)
+
+pub returns-in-Refused-clause-whole : goal.returns-in-Refused-clause-whole
+returns-in-Refused-clause-whole c is =
+    ∥∥₁_map (rw (c.as_slice.ensures.value, c.in-Refused.is) at c.told-self.ensures) (λ told. whole_of_refused (collected_bytes c.args.self.now) c.in-Refused.field-0 c.in-Refused.field-1 told.1)
+
+pub returns-in-Asked-clause-whole : goal.returns-in-Asked-clause-whole
+returns-in-Asked-clause-whole c is =
+    let there : c.in-Asked.head.needed ≤ length c.args.self.now.bytes.items = omega (arith, leb-true c.in-Asked.head.needed c.len.result is, c.len.ensures) in
+    ∥∥₁_map (rw (c.as_slice.ensures.value, c.in-Asked.is) at c.told-self.ensures) (λ needs. whole_of_needs (collected_bytes c.args.self.now) c.in-Asked.head needs there)
+
+pub returns-in-Asked-clause-unfinished : goal.returns-in-Asked-clause-unfinished
+returns-in-Asked-clause-unfinished c is =
+    let short : length c.args.self.now.bytes.items < c.in-Asked.head.needed = omega (arith, leb-false c.in-Asked.head.needed c.len.result is, c.len.ensures) in
+    ∥∥₁_map (rw (c.as_slice.ensures.value, c.in-Asked.is) at c.told-self.ensures) (λ needs. unfinished_of_needs (collected_bytes c.args.self.now) c.in-Asked.head needs short)

@@ -1,0 +1,58 @@
+-- One request in the bytes that were taken from a connection (RFC 9112 2.1).
+use Rattle.std.specs.Prelude.{◌≡◌, ℕ, ◌+◌, ◌<◌, ◌≤◌, ◌⊎◌, List, length, take, drop, Ok, string_bytes}
+use Rattle.httparse.specs.Grammar.{RequestHead}
+use Rattle.reg_io.specs.Mark.{FirstMark, HasNoMark}
+use Rattle.reg_http_head.specs.Head.{blank_line, longest_head, IsHead, RefusesHead, body_size}
+use Rattle.reg_http_head.specs.declared.request.Request.{Request}
+use Rattle.reg_http_head.specs.declared.request.Request.TheVariants.{Refused, Asked}
+use Rattle.reg_http_head.specs.declared.request.RequestRef.{RequestRef}
+use Rattle.reg_http_head.specs.declared.request.RequestRef.TheVariants as collected
+
+-- what the bytes come to: a refusal by its status, or what is asked by method, target and body
+pub data Part : Type 0 where
+  refused : ℕ → Part
+  asked : List ℕ → List ℕ → List ℕ → Part
+
+-- the bytes have a head and the whole of its body, and ask this
+pub record AsksFor (took method target body : List ℕ) : Type 0 where
+  pub end : ℕ
+  pub head : RequestHead
+  pub within : end ≤ longest_head
+  pub ends : FirstMark blank_line took end
+  pub reads : IsHead (take end took) head
+  pub method_is : method ≡ head.method
+  pub target_is : target ≡ head.target
+  pub size : body_size head ≡ Ok (length body)
+  pub body_is : body ≡ take (length body) (drop end took)
+
+-- the bytes are 8,192, and no head ends in them
+abbrev pub IsTooLong : List ℕ → Type 0
+IsTooLong took = (length took ≡ longest_head) × HasNoMark blank_line took
+
+-- the head ends at this place, within the first 8,192 bytes
+pub record HasHead (took : List ℕ) (end : ℕ) : Type 0 where
+  pub within : end ≤ longest_head
+  pub ends : FirstMark blank_line took end
+
+-- what the bytes that were taken come to
+abbrev pub Framed : List ℕ → Part → Type 0
+Framed took (refused status) =
+    ((status ≡ 431) × IsTooLong took) ⊎ ((end : ℕ) × HasHead took end × RefusesHead (take end took) status)
+Framed took (asked method target body) = AsksFor took method target body
+
+-- the bytes are no whole request yet: the head has no end, or its body is shorter than its length
+abbrev pub IsUnfinished : List ℕ → Type 0
+IsUnfinished took =
+    ((length took < longest_head) × HasNoMark blank_line took)
+    ⊎ ((end : ℕ) × (head : RequestHead) × (size : ℕ) × HasHead took end × IsHead (take end took) head
+    × (body_size head ≡ Ok size) × (length took < end + size))
+
+-- the same of a request that was read
+abbrev pub part_of : Request → Part
+part_of (Refused status) = refused status
+part_of (Asked method target body) = asked method (string_bytes target) body.items
+
+-- the same of one that was collected
+abbrev pub part_of_ref : RequestRef → Part
+part_of_ref (collected.Refused status) = refused status
+part_of_ref (collected.Asked method target body) = asked method target.now body.now

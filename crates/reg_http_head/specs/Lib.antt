@@ -1,0 +1,9 @@
+pub mod Allow
+pub mod Bytes
+pub mod Collected
+pub mod Fields
+pub mod Frame
+pub mod Head
+pub mod Response
+pub mod Spans
+pub mod Laws

@@ -1,0 +1,120 @@
+//! The bytes of a connection, as they come, until they hold a whole request.
+
+ghost use Rattle.std.specs.Prelude.{◌≡◌, ◌≤◌, length, IfErr, IfOk};
+ghost use Rattle.reg_http_head.specs.Collected.{HoldsRequest, Knows, NeedsBytes};
+ghost use Rattle.reg_http_head.specs.Frame.{part_of_ref};
+
+use crate::known::{HeadIn, Known, told};
+use crate::request::{RequestRef, method_of};
+use reg_core::Fault;
+use std::alloc::{AllocError, Global};
+
+/// The bytes that came on a connection. Each of them is searched once for the end of a head, and the head is read once,
+/// in however many pieces they come.
+#[derive(Drop)]
+pub struct Collected {
+    bytes: Vec<u8>,
+    known: Known,
+    ghost is_known: { ∥ Knows bytes.items known ∥₁ },
+}
+
+impl Collected {
+    ghost use Rattle.std.specs.Prelude.{◌≡◌, ◌⊎◌, ◌+◌, ◌<◌, ◌≤◌, ◌++◌, [], length, true, false, IfErr, IfOk, OnOk, OnErr};
+    ghost use Rattle.reg_http_head.specs.Bytes.{collected_bytes, room_of, IsExact};
+    ghost use Rattle.reg_http_head.specs.Collected.{HoldsRequest, IsWholeRequest};
+    ghost use Rattle.reg_http_head.specs.Frame.{IsUnfinished, part_of_ref};
+
+    /// No bytes yet.
+    pub fn new(alloc: Global) -> Collected
+        ensures { collected_bytes result ≡ [] }
+    {
+        Collected {
+            bytes: Vec::new(alloc),
+            known: Known::Unmarked(0),
+        }
+    }
+
+    /// The bytes that came.
+    pub fn as_slice(&self) -> &[u8]
+        ensures { result.now ≡ collected_bytes self.now }
+    {
+        self.bytes.as_slice()
+    }
+
+    /// Takes more bytes behind those that came before.
+    ///
+    /// # Errors
+    ///
+    /// `AllocError` only where what is held has no capacity for them. None of them was taken.
+    pub fn add(&mut self, more: &[u8]) -> Result<(), AllocError>
+        ensures ok { OnOk result (collected_bytes self.new ≡ collected_bytes self.old ++ more.now) }
+        ensures err { OnErr result (collected_bytes self.new ≡ collected_bytes self.old) }
+        ensures full { OnErr result (room_of self.old < length (collected_bytes self.old) + length more.now) }
+        ensures room { room_of self.old ≤ room_of self.new }
+    {
+        self.bytes.extend_from_slice(more)
+    }
+
+    /// Whether the bytes begin with a whole request (RFC 9112 2.1): one that is asked with all of its body, or one that
+    /// is refused by its head. Whoever reads it from these bytes is not kept waiting for more.
+    pub fn is_whole(&mut self) -> bool
+        ensures same { collected_bytes self.new ≡ collected_bytes self.old }
+        ensures whole { result ≡ true → ∥ IsWholeRequest (collected_bytes self.old) ∥₁ }
+        ensures unfinished { result ≡ false → ∥ IsUnfinished (collected_bytes self.old) ∥₁ }
+    {
+        self.known = told(self.bytes.as_slice(), self.known);
+        match self.known {
+            Known::Unmarked(_) => false,
+            Known::Refused(..) => true,
+            Known::Asked(head) => head.needed <= self.bytes.len(),
+        }
+    }
+
+    /// Whether the bytes were found to be one whole request that is asked, and nothing behind it.
+    pub fn is_exact(&self) -> bool
+        ensures { result ≡ true → ∥ IsExact (collected_bytes self.now) ∥₁ }
+    {
+        match self.known {
+            Known::Asked(head) => head.needed == self.bytes.len(),
+            _ => false,
+        }
+    }
+
+    /// The request that the bytes begin with, in slices of them. Its head is not read again.
+    ///
+    /// # Errors
+    ///
+    /// [`Fault::Read`] where they hold no whole request, [`Fault::Memory`] where memory is refused.
+    pub fn request(&self, alloc: Global) -> Result<RequestRef<'_>, Fault>
+        ensures ok { IfOk result (λ request. ∥ HoldsRequest (collected_bytes self.now) (part_of_ref request) ∥₁) }
+        ensures err { IfErr result (λ fault.
+            ((fault ≡ Fault.Read) × ∥ IsUnfinished (collected_bytes self.now) ∥₁) ⊎ (fault ≡ Fault.Memory)) }
+    {
+        let bytes = self.bytes.as_slice();
+        match told(bytes, self.known) {
+            Known::Unmarked(_) => Err(Fault::Read),
+            Known::Refused(_, status) => Ok(RequestRef::Refused(status)),
+            Known::Asked(head) if head.needed <= bytes.len() => asked_at(alloc, bytes, head),
+            Known::Asked(_) => Err(Fault::Read),
+        }
+    }
+}
+
+/// The request with this head and the whole of its body.
+fn asked_at(alloc: Global, bytes: &[u8], head: HeadIn) -> Result<RequestRef<'_>, Fault>
+    requires head { ∥ NeedsBytes bytes.now head ∥₁ }
+    requires ordered { head.end ≤ head.needed }
+    requires whole { head.needed ≤ length bytes.now }
+    ensures ok { IfOk result (λ request. ∥ HoldsRequest bytes.now (part_of_ref request) ∥₁) }
+    ensures err { IfErr result (λ fault. fault ≡ Fault.Memory) }
+{
+    let front = &bytes[..head.end];
+    match method_of(alloc, head.spans.method_in(front)) {
+        Ok(method) => Ok(RequestRef::Asked {
+            method,
+            target: head.spans.target_in(front),
+            body: &bytes[head.end..head.needed],
+        }),
+        Err(_) => Err(Fault::Memory),
+    }
+}

@@ -1,0 +1,19 @@
+//! The head of an HTTP/1.1 request read exactly, and the text of a response written exactly.
+#![tactic(auto)]
+
+mod answer;
+mod collected;
+mod fields;
+mod head;
+mod known;
+pub mod laws;
+mod request;
+mod response;
+pub mod status;
+
+pub use answer::Answer;
+pub use collected::Collected;
+pub use request::{Request, RequestRef, read_request};
+pub use response::{
+    HEAD_ROOM, put, put_answer, put_memory_fault, write_answer, write_memory_fault,
+};

@@ -1,0 +1,183 @@
+//! The text of a response (RFC 9112 4 to 6), and its way out.
+
+ghost use Rattle.std.specs.Prelude.{◌≡◌, ◌+◌, ◌≤◌, ◌++◌, ℕ, List, [], length, codes, decimal, OnOk, OnErr, option_map, vec_capacity};
+ghost use Rattle.std.specs.Io.KnownBytes.{Appends};
+ghost use Rattle.reg_io.specs.Put.{AppendsFront};
+ghost use Rattle.reg_http_head.specs.Allow.{allowed};
+ghost use Rattle.reg_http_head.specs.Response.{shown, phrase, field_line, status_line, allow_line, head_text, IsDateOf, IsText, memory_text};
+
+use crate::answer::Answer;
+use crate::status;
+use httpdate::HttpDate;
+use reg_core::{Decimal, Moment};
+use reg_io::{WriteFault, write_whole};
+use std::alloc::AllocError;
+use std::io::Write;
+
+/// The bytes of room that [`write_answer`] wants for the head of a response.
+pub const HEAD_ROOM: usize = 512;
+
+/// What is written where there was no memory for an answer.
+const MEMORY_TEXT: &[u8] =
+    b"HTTP/1.1 500 Internal Server Error\r\nConnection: close\r\nContent-Length: 0\r\n\r\n";
+
+/// Appends bytes for which there is room. It takes no memory.
+pub fn put(out: &mut Vec<u8>, bytes: &[u8])
+    requires { length out.old.items + length bytes.now ≤ vec_capacity out.old }
+    ensures items { out.new.items ≡ out.old.items ++ bytes.now }
+    ensures room { vec_capacity out.old ≤ vec_capacity out.new }
+{
+    let _ = out.extend_from_slice(bytes);
+}
+
+/// Appends one line: what it starts with, its value, and CR LF.
+#[tactic(auto, unfolding(crate::specs::Response::field_line))]
+fn put_line(out: &mut Vec<u8>, start: &[u8], value: &[u8])
+    requires { length out.old.items + length start.now + length value.now + 2 ≤ vec_capacity out.old }
+    ensures items { out.new.items ≡ out.old.items ++ field_line start.now value.now }
+    ensures room { vec_capacity out.old ≤ vec_capacity out.new }
+    ensures length { length out.new.items ≡ length out.old.items + length start.now + length value.now + 2 }
+{
+    put(out, start);
+    put(out, value);
+    put(out, b"\r\n");
+}
+
+/// The phrase of a status code (RFC 9112 4).
+fn phrase(code: u16) -> &'static [u8]
+    ensures text { result.now ≡ phrase code }
+    ensures short { length result.now ≤ 31 }
+{
+    match code {
+        status::OK => b"OK",
+        status::BAD_REQUEST => b"Bad Request",
+        status::NOT_FOUND => b"Not Found",
+        status::METHOD_NOT_ALLOWED => b"Method Not Allowed",
+        status::CONFLICT => b"Conflict",
+        status::LENGTH_REQUIRED => b"Length Required",
+        status::PAYLOAD_TOO_LARGE => b"Payload Too Large",
+        status::HEADERS_TOO_LARGE => b"Request Header Fields Too Large",
+        status::INTERNAL_SERVER_ERROR => b"Internal Server Error",
+        status::SERVICE_UNAVAILABLE => b"Service Unavailable",
+        _ => b"",
+    }
+}
+
+/// Appends the status line (RFC 9112 4).
+#[tactic(auto, unfolding(crate::specs::Response::status_line))]
+fn put_status_line(out: &mut Vec<u8>, code: u16)
+    requires { length out.old.items + 64 ≤ vec_capacity out.old }
+    ensures items { out.new.items ≡ out.old.items ++ status_line code }
+    ensures room { vec_capacity out.old ≤ vec_capacity out.new }
+    ensures length { length out.new.items ≤ length out.old.items + 64 }
+{
+    put(out, b"HTTP/1.1 ");
+    put(out, Decimal::of(u64::from(code)).as_bytes());
+    put_line(out, b" ", phrase(code));
+}
+
+/// Appends the line that names the method of a 405, where one is named (RFC 9110 10.2.1).
+#[tactic(auto, unfolding(crate::specs::Response::allow_line))]
+fn put_allow(out: &mut Vec<u8>, allow: Option<&'static str>)
+    requires short { length (allowed (option_map (λ method. method.now) allow)) ≤ 64 }
+    requires room { length out.old.items + 80 ≤ vec_capacity out.old }
+    ensures items { out.new.items ≡ out.old.items ++ allow_line (option_map (λ method. method.now) allow.entry) }
+    ensures room { vec_capacity out.old ≤ vec_capacity out.new }
+    ensures length { length out.new.items ≤ length out.old.items + 80 }
+{
+    if let Some(method) = allow {
+        put_line(out, b"Allow: ", method.as_bytes());
+    }
+}
+
+/// Writes the head of a response into an empty room.
+#[tactic(auto, unfolding(crate::specs::Response::head_text))]
+fn put_head(out: &mut Vec<u8>, answer: &Answer, date: &[u8])
+    requires empty { out.old.items ≡ [] }
+    requires room { 512 ≤ vec_capacity out.old }
+    requires date { length date.now ≤ 29 }
+    ensures items { out.new.items ≡ head_text date.now (shown answer.now) }
+    ensures room { vec_capacity out.old ≤ vec_capacity out.new }
+{
+    put_status_line(out, answer.status);
+    put_line(out, b"Date: ", date);
+    put_allow(out, answer.allow);
+    put_line(out, b"Content-Type: ", answer.kind.as_bytes());
+    let length = answer.body.as_slice().len() as u64;
+    put_line(out, b"Content-Length: ", Decimal::of(length).as_bytes());
+    put_line(out, b"Connection: close", b"");
+    put_line(out, b"", b"");
+}
+
+/// The date of a moment as IMF-fixdate (RFC 9110 5.6.7).
+fn date_of(now: Moment) -> [u8; 29]
+    ensures { IsDateOf now result }
+{
+    HttpDate::from_unix_secs(now.secs()).unwrap().to_bytes()
+}
+
+/// Puts the response into an empty room.
+///
+/// # Errors
+///
+/// `AllocError` where memory for its body is refused. Its head stands in the room then.
+pub fn put_answer(text: &mut Vec<u8>, answer: &Answer, now: Moment) -> Result<(), AllocError>
+    requires empty { text.old.items ≡ [] }
+    requires room { HEAD_ROOM ≤ vec_capacity text.old }
+    ensures ok { OnOk result (IsText (shown answer.now) now text.new.items) }
+    ensures room { vec_capacity text.old ≤ vec_capacity text.new }
+{
+    put_head(text, answer, &date_of(now));
+    match text.extend_from_slice(answer.body.as_slice()) {
+        Ok(()) => Ok(()),
+        Err(error) => Err(error),
+    }
+}
+
+/// Puts the constant response that says that there was no memory for an answer into an empty room.
+#[tactic(auto, unfolding(crate::specs::Response::memory_text))]
+pub fn put_memory_fault(text: &mut Vec<u8>)
+    requires empty { text.old.items ≡ [] }
+    requires room { HEAD_ROOM ≤ vec_capacity text.old }
+    ensures { text.new.items ≡ memory_text }
+{
+    put(text, MEMORY_TEXT);
+}
+
+/// Writes the response: its head, made in the room, and the body.
+///
+/// # Errors
+///
+/// [`WriteFault`] where the writer fails or takes nothing more: less than the whole text went out, from the front.
+pub fn write_answer<W: Write>(
+    writer: &mut W,
+    mut room: Vec<u8>,
+    answer: &Answer,
+    now: Moment,
+) -> Result<(), WriteFault>
+    requires empty { room.items ≡ [] }
+    requires room { HEAD_ROOM ≤ vec_capacity room }
+    ensures ok { OnOk result ((text : List ℕ) × IsText (shown answer.now) now text
+        × Appends (W.contents writer.old) (W.contents writer.new) text) }
+    ensures err { OnErr result ((text : List ℕ) × IsText (shown answer.now) now text
+        × AppendsFront (W.contents writer.old) (W.contents writer.new) text) }
+{
+    put_head(&mut room, answer, &date_of(now));
+    match write_whole(writer, room.as_slice()) {
+        Ok(()) => write_whole(writer, answer.body.as_slice()),
+        Err(fault) => Err(fault),
+    }
+}
+
+/// Writes the constant response that says that there was no memory for an answer.
+///
+/// # Errors
+///
+/// As [`write_answer`].
+#[tactic(auto, unfolding(crate::specs::Response::memory_text))]
+pub fn write_memory_fault<W: Write>(writer: &mut W) -> Result<(), WriteFault>
+    ensures ok { OnOk result (Appends (W.contents writer.old) (W.contents writer.new) memory_text) }
+    ensures err { OnErr result (AppendsFront (W.contents writer.old) (W.contents writer.new) memory_text) }
+{
+    write_whole(writer, MEMORY_TEXT)
+}

@@ -1,0 +1,45 @@
+-- The laws, for proofs above: they cite these alone. Each is stated in specs/, and is what a function of `laws` ensures.
+use Rattle.reg_io.specs.Fill.{HoldsWhatCame, PartsAtMark}
+use Rattle.reg_io.specs.Mark.{OneFirstMark, FirstMarkGoesOn, FirstMarkInFront, NoMarkInFront, FirstMarkOfByte, NoMarkOfByte}
+use Rattle.reg_io.specs.Put.{FrontOfFirst, FrontOfSecond}
+use Rattle.reg_io.specs.RunsOfAnswers.{RunsGoOn, RunsStepOn}
+use Rattle.reg_io.proofs.Marks as marks
+use Rattle.reg_io.proofs.Parts as parts
+use Rattle.reg_io.proofs.Runs as runs
+use Rattle.reg_io.proofs.Searches as searches
+
+pub one_first_mark : OneFirstMark
+one_first_mark = marks.FirstMark-unique
+
+pub first_mark_goes_on : FirstMarkGoesOn
+first_mark_goes_on = marks.FirstMark-append
+
+pub first_mark_in_front : FirstMarkInFront
+first_mark_in_front = marks.FirstMark-take
+
+pub no_mark_in_front : NoMarkInFront
+no_mark_in_front = marks.no_mark_of_fronts
+
+pub byte_first : FirstMarkOfByte
+byte_first = marks.byte_first
+
+pub no_byte : NoMarkOfByte
+no_byte = marks.no_byte
+
+pub held_now : HoldsWhatCame
+held_now = searches.held_now
+
+pub cut_at_mark : PartsAtMark
+cut_at_mark = searches.cut_at_mark
+
+pub front_of_first : FrontOfFirst
+front_of_first = parts.front_of_first
+
+pub front_of_second : FrontOfSecond
+front_of_second = parts.front_of_second
+
+pub answered_append : {S Q A : Type 0} (answers : S → Q → A → S → Type 0) → RunsGoOn answers
+answered_append answers = runs.answered_append answers
+
+pub answered_push : {S Q A : Type 0} (answers : S → Q → A → S → Type 0) → RunsStepOn answers
+answered_push answers = runs.answered_push answers

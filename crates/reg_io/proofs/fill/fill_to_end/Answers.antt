@@ -1,0 +1,10 @@
+use Rattle.std.proofs.Common.{rules, ℕ, arith, length-drop, length-take}
+use Rattle.reg_io.proofs.Buffers.{so_far_more}
+use Rattle.reg_io.proofs.fill.fill_to_end.Goals as goal
+
+pub loop-filled-preserved : goal.loop-filled-preserved
+loop-filled-preserved g c =
+    so_far_more _ _ _ c.args.buf.now c.loop-filled.buf c.read.new.buf 0 c.loop-filled.filled _ c.in-Ok.count
+    c.loop-filled.invariant c.in-Ok.ensures.bound.0
+    (omega (arith, c.read.auto.buf, length-take {A = ℕ}, length-drop {A = ℕ}))
+    (search rules) c.in-Ok.ensures.bytes.0

@@ -1,0 +1,130 @@
+//! Reading into a buffer, behind the bytes that it holds already.
+
+ghost use Rattle.std.specs.Prelude.{◌≡◌, ℕ, ◌+◌, ◌<◌, ◌≤◌, ◌++◌, List, length, take, IfOk, MatchOption, OnErr, OnOk};
+ghost use Rattle.std.specs.Io.KnownBytes.{Consumes, IsAtEnd};
+ghost use Rattle.reg_io.specs.Mark.{EndsWith, FirstMark};
+ghost use Rattle.reg_io.specs.Fill.{Fills, FillsShort, FillsTo};
+
+use std::io::Read;
+
+/// The reader failed, or it ended before the buffer was whole.
+#[derive(Clone, Copy, PartialEq, Eq)]
+pub struct ReadFault;
+
+/// Where a reading up to a mark came to rest. `held` counts the bytes at the front of the buffer.
+#[derive(Clone, Copy, PartialEq, Eq)]
+pub enum Reached {
+    /// The first mark of the held bytes ends at `end`: the first `end` bytes end with it.
+    Mark { end: usize, held: usize },
+    /// The held bytes fill the buffer, and no mark is in them.
+    Full,
+    /// The reader is at its end. The held bytes leave room, and no mark is in them.
+    End { held: usize },
+}
+
+/// Reads on behind the first `held` bytes of `buf` until the held bytes contain the mark or fill
+/// the buffer, or the reader is at its end. Once a mark is held, no more is read.
+///
+/// # Errors
+///
+/// [`ReadFault`] at the first read that fails, of whatever kind. What was read before is consumed,
+/// stands in the buffer, and has no mark in it.
+pub fn fill_to_mark<R: Read>(
+    reader: &mut R,
+    buf: &mut [u8],
+    held: usize,
+    mark: &[u8],
+) -> Result<Reached, ReadFault>
+    requires held_fits { held ≤ length buf.old }
+    requires mark_is_there { 0 < length mark.now }
+    ensures ok { IfOk result (FillsTo mark.now
+        (R.remaining reader.old) (R.remaining reader.new) buf.old buf.new held) }
+    ensures err { OnErr result (FillsShort mark.now
+        (R.remaining reader.old) (R.remaining reader.new) buf.old buf.new held) }
+
+    // Where a mark is held already, or there is no room, nothing is read.
+    ensures marked { (end : ℕ) → end ≤ held → EndsWith (take end buf.old) mark.now
+        → (reader.new ≡ reader.old) × (buf.new ≡ buf.old) }
+    ensures no_room { held ≡ length buf.old → (reader.new ≡ reader.old) × (buf.new ≡ buf.old) }
+{
+    let mut filled = held;
+    let mut searched: usize = 0;
+    'reading: loop {
+        if let Some(end) = first_mark(buf, filled, mark, searched) {
+            return Ok(Reached::Mark { end, held: filled });
+        }
+        if filled == buf.len() {
+            return Ok(Reached::Full);
+        }
+        searched = filled;
+        match reader.read(&mut buf[filled..]) {
+            Ok(0) => return Ok(Reached::End { held: filled }),
+            Ok(count) => filled += count,
+            Err(_) => return Err(ReadFault),
+        }
+    }
+}
+
+/// Where the first mark ends among the first `held` bytes, none of whose first `searched` ends one.
+pub fn first_mark(buf: &[u8], held: usize, mark: &[u8], searched: usize) -> Option<usize>
+    requires held_fits { held ≤ length buf.now }
+    requires none_before { (n : ℕ) → n ≤ searched → ¬ EndsWith (take n buf.now) mark.now }
+    ensures { MatchOption result
+        ((n : ℕ) → n ≤ held → ¬ EndsWith (take n buf.now) mark.now)
+        (λ end. (end ≤ held) × FirstMark mark.now buf.now end) }
+{
+    for end in searched..held {
+        if buf[..end + 1].ends_with(mark) {
+            return Some(end + 1);
+        }
+    }
+    None
+}
+
+/// Reads on behind the first `held` bytes of `buf` until the buffer is full.
+///
+/// # Errors
+///
+/// [`ReadFault`] at the first read that fails, of whatever kind, and where the reader ends before
+/// the buffer is full. What was read before is consumed and stands in the buffer.
+pub fn fill_whole<R: Read>(reader: &mut R, buf: &mut [u8], held: usize) -> Result<(), ReadFault>
+    requires { held ≤ length buf.old }
+    ensures ok { OnOk result ((took : List ℕ)
+        × Consumes (R.remaining reader.old) (R.remaining reader.new) took
+        × (buf.new ≡ take held buf.old ++ took)) }
+    ensures err { OnErr result ((took : List ℕ)
+        × Fills (R.remaining reader.old) (R.remaining reader.new) buf.old buf.new held took
+        × (held + length took < length buf.new)) }
+    ensures no_room { held ≡ length buf.old → (reader.new ≡ reader.old) × (buf.new ≡ buf.old) }
+{
+    let mut filled = held;
+    while filled < buf.len() {
+        match reader.read(&mut buf[filled..]) {
+            Ok(0) | Err(_) => return Err(ReadFault),
+            Ok(count) => filled += count,
+        }
+    }
+    Ok(())
+}
+
+/// Reads until the reader is at its end, and returns how many bytes came. They stand at the front of `buf`, which is longer.
+///
+/// # Errors
+///
+/// [`ReadFault`] at the first read that fails, of whatever kind, and where the buffer is full before the reader is at its end.
+pub fn fill_to_end<R: Read>(reader: &mut R, buf: &mut [u8]) -> Result<usize, ReadFault>
+    ensures came { IfOk result (λ count.
+        Consumes (R.remaining reader.old) (R.remaining reader.new) (take count buf.new)) }
+    ensures ended { OnOk result (IsAtEnd (R.remaining reader.new)) }
+    ensures short { IfOk result (λ count. count < length buf.new) }
+{
+    let mut filled: usize = 0;
+    while filled < buf.len() {
+        match reader.read(&mut buf[filled..]) {
+            Ok(0) => return Ok(filled),
+            Ok(count) => filled += count,
+            Err(_) => return Err(ReadFault),
+        }
+    }
+    Err(ReadFault)
+}

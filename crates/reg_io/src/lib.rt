@@ -1,0 +1,12 @@
+//! Bytes over any reader and any writer: whole writes with the exact front that went out at an
+//! error, and reads into a buffer up to a mark, to the buffer's end or to the reader's.
+#![tactic(auto)]
+
+mod begun;
+mod fill;
+pub mod laws;
+mod put;
+
+pub use begun::Begun;
+pub use fill::{Reached, ReadFault, fill_to_end, fill_to_mark, fill_whole, first_mark};
+pub use put::{WriteFault, write_whole};

@@ -1,6 +1,0 @@
--- What the history of CRLs says follows from the records' growth over runs.
-use Rattle.reg_laws.proofs.Told.{history_stands}
-use Rattle.reg_laws.proofs.laws.history.Goals as goal
-
-pub returns : goal.returns
-returns g c = λ signer. history_stands (g.S.SignsCrls.signed signer)

@@ -1,0 +1,228 @@
+-- Runs of lines, and imports, over an office that keeps records.
+use Rattle.std.proofs.Common.{◌≡◌, ℕ, Bool, true, false, List, map, refl, sym, subst, inl, inr}
+use Rattle.std.specs.Prelude.{Result, Ok, Err}
+use Rattle.std.specs.Result.{result_map_both}
+use Rattle.std.specs.declared.option.Option.{Option}
+use Rattle.std.proofs.lemmas.Bool.{false≢true}
+use Rattle.reg_core.specs.declared.refusal.Fault.{Fault}
+use Rattle.reg_core.specs.declared.refusal.Fault.TheVariants.{Memory, Read, Write}
+use Rattle.reg_io.specs.RunsOfAnswers.{Answered}
+use Rattle.reg_lines.specs.Answer.{ComesTo, IsAsked, LineComesTo, LineReplies}
+use Rattle.reg_lines.specs.ByCalls.{Call, ran, asked, responded}
+use Rattle.reg_lines.specs.Import.{Row, RowReplies, RowsEnd, ImportEnds, data_rows}
+use Rattle.reg_lines.specs.Meaning.{Meaning, tells, asks, asks_ocsp}
+use Rattle.reg_lines.specs.Script.{LinesEnd, RunEnds, ScriptEnds, line_of, longest_of, pieces}
+use Rattle.reg_lines.specs.Strict.{StrictEnds, StrictRan, ended_part}
+use Rattle.reg_lines.specs.declared.answered.Answered.{Answered as Came}
+use Rattle.reg_lines.specs.declared.answered.Ended.{Ended}
+use Rattle.reg_lines.specs.declared.answered.Ended.TheVariants as ended
+use Rattle.reg_lines.specs.declared.answered.Passed.{Passed}
+use Rattle.reg_lines.specs.declared.answered.Passed.TheVariants as passed
+use Rattle.reg_office_api.specs.Leads.{Leads}
+use Rattle.reg_office_api.proofs.PublicLaws.{stays, follows, chains, runs}
+
+-- ---- lines
+
+module _ {S I R : Type 0} (is_clean : S → Type 0) (stands : I → S → R → Type 0)
+    (answers : S → List ℕ → List ℕ → S → Type 0) (kept : I → R → List ℕ → List ℕ → R → Type 0)
+    (lifts : (s : S) (line reply : List ℕ) (t : S) → answers s line reply t
+    → Leads is_clean stands (λ i before after. kept i before line reply after) s t)
+    (longest : ℕ) (s t : S) (input input' out out' : Option (List ℕ)) where
+  -- a run
+  pub run_moves : (is_clocked is_strict : Bool) (result : Result Ended Fault)
+      → RunEnds longest input input' out out' answers s t is_clocked is_strict result
+      → Leads is_clean stands (λ i before after. RunEnds longest input input' out out' (kept i) before after is_clocked is_strict result) s t
+  run_moves is_clocked is_strict (Ok ended.Whole) (lines, run, all) =
+      follows is_clean stands _ _ (λ i before after moved. (lines, moved, all)) s t
+      (runs is_clean stands answers kept lifts s t (map line_of (pieces lines.took)) lines.replies run)
+  run_moves is_clocked is_strict (Ok (ended.Refused refused)) (lines, run, strict, ends, why) =
+      follows is_clean stands _ _ (λ i before after moved. (lines, moved, strict, ends, why)) s t
+      (runs is_clean stands answers kept lifts s t (map line_of lines.done) lines.replies run)
+  run_moves is_clocked is_strict (Ok ended.NoLineEnd) (lines, run, strict, each, cut, at_end) =
+      follows is_clean stands _ _ (λ i before after moved. (lines, moved, strict, each, cut, at_end)) s t
+      (runs is_clean stands answers kept lifts s t (map line_of lines.done) lines.replies run)
+  run_moves is_clocked is_strict (Err Read) (lines, run, each, fails) =
+      follows is_clean stands _ _ (λ i before after moved. (lines, moved, each, fails)) s t
+      (runs is_clean stands answers kept lifts s t (map line_of lines.done) lines.replies run)
+  run_moves is_clocked is_strict (Err Write) (lines, middle, run, last, each) =
+      follows is_clean stands _ _ (λ i before after both. (lines, both.0, both.1, both.2, each)) s t
+      (chains is_clean stands _ _ s middle t
+      (runs is_clean stands answers kept lifts s middle (map line_of lines.done) lines.replies run)
+      (lifts middle (line_of lines.piece) lines.reply t last))
+  run_moves is_clocked is_strict (Err other) ends = absurd ends
+
+-- a run for which there was memory
+pub lines_end : {S E W : Type 0} (answers : S → ℕ → Call → S → Type 0) (told : ℕ → Type 0) (remaining : E → Option (List ℕ)) (contents : W → Option (List ℕ))
+    (s t : S) (reader reader' : E) (writer writer' : W) (is_clocked is_strict : Bool) (result : Result Ended Fault)
+    → RunEnds (longest_of is_clocked) (remaining reader) (remaining reader') (contents writer) (contents writer') (LineReplies answers told is_clocked)
+    s t is_clocked is_strict result
+    → LinesEnd answers remaining contents s t reader reader' writer writer' told is_clocked is_strict result
+lines_end answers told remaining contents s t reader reader' writer writer' is_clocked is_strict (Err Memory) ends = absurd ends
+lines_end answers told remaining contents s t reader reader' writer writer' is_clocked is_strict result ends = ends
+
+-- ---- by what the office is asked
+
+module _ {S I R : Type 0} (is_clean : S → Type 0) (stands : I → S → R → Type 0)
+    (answers : S → ℕ → Call → S → Type 0) (kept : I → R → ℕ → Call → R → Type 0)
+    (lifts : (s : S) (now : ℕ) (call : Call) (t : S) → answers s now call t
+    → Leads is_clean stands (λ i before after. kept i before now call after) s t) where
+  asked_moves : (now : ℕ) (s : S) (meaning : Meaning) (came : Came) (t : S) → IsAsked answers now s meaning came t
+      → Leads is_clean stands (λ i before after. IsAsked (kept i) now before meaning came after) s t
+  asked_moves now s (tells command) came t (outcome, did, is) =
+      follows is_clean stands _ _ (λ i before after made. (outcome, made, is)) s t (lifts s now (ran command outcome) t did)
+  asked_moves now s (asks query) came t (outcome, did, is) =
+      follows is_clean stands _ _ (λ i before after made. (outcome, made, is)) s t (lifts s now (asked query outcome) t did)
+  asked_moves now s (asks_ocsp request) came t (given, did, told) =
+      follows is_clean stands _ _ (λ i before after made. (given, made, told)) s t (lifts s now (responded request given) t did)
+
+  -- a command line at a moment
+  pub comes_moves : (now : ℕ) (s : S) (line : List ℕ) (came : Came) (t : S) → ComesTo answers now s line came t
+      → Leads is_clean stands (λ i before after. ComesTo (kept i) now before line came after) s t
+  comes_moves now s line came t (inl (meaning, means, did)) =
+      follows is_clean stands _ _ (λ i before after made. inl (meaning, means, made)) s t (asked_moves now s meaning came t did)
+  comes_moves now s line came t (inr (unread, is, same)) =
+      follows is_clean stands _ _ (λ i before after stayed. inr (unread, is, stayed)) s t (stays is_clean stands s t same)
+
+  -- a line of an input, and with its reply
+  line_moves : (told : ℕ → Type 0) (is_clocked : Bool) (s : S) (line : List ℕ) (came : Came) (t : S) → LineComesTo answers told is_clocked s line came t
+      → Leads is_clean stands (λ i before after. LineComesTo (kept i) told is_clocked before line came after) s t
+  line_moves told true s line came t (now, at, comes) =
+      follows is_clean stands _ _ (λ i before after made. (now, at, made)) s t (comes_moves now s line came t comes)
+  line_moves told false s line came t (inl (now, command, begins, comes)) =
+      follows is_clean stands _ _ (λ i before after made. inl (now, command, begins, made)) s t (comes_moves now s command came t comes)
+  line_moves told false s line came t (inr (unread, is, same)) =
+      follows is_clean stands _ _ (λ i before after stayed. inr (unread, is, stayed)) s t (stays is_clean stands s t same)
+
+  reply_moves : (told : ℕ → Type 0) (is_clocked : Bool) (s : S) (line reply : List ℕ) (t : S) → LineReplies answers told is_clocked s line reply t
+      → Leads is_clean stands (λ i before after. LineReplies (kept i) told is_clocked before line reply after) s t
+  reply_moves told is_clocked s line reply t (came, comes, is) =
+      follows is_clean stands _ _ (λ i before after made. (came, made, is)) s t (line_moves told is_clocked s line came t comes)
+
+  -- a run of lines
+  pub input_moves : {E W : Type 0} (told : ℕ → Type 0) (is_clocked is_strict : Bool) (remaining : E → Option (List ℕ)) (contents : W → Option (List ℕ))
+      (s t : S) (reader reader' : E) (writer writer' : W) (result : Result Ended Fault)
+      → LinesEnd answers remaining contents s t reader reader' writer writer' told is_clocked is_strict result
+      → Leads is_clean stands
+      (λ i before after. LinesEnd (kept i) remaining contents before after reader reader' writer writer' told is_clocked is_strict result) s t
+  input_moves told is_clocked is_strict remaining contents s t reader reader' writer writer' (Err Memory) ends =
+      follows is_clean stands _ _ (λ i before after stayed. (stayed, ends.1, ends.2)) s t (stays is_clean stands s t ends.0)
+  input_moves told is_clocked is_strict remaining contents s t reader reader' writer writer' result ends =
+      run_moves is_clean stands (LineReplies answers told is_clocked) (λ i. LineReplies (kept i) told is_clocked) (reply_moves told is_clocked)
+      (longest_of is_clocked) s t (remaining reader) (remaining reader') (contents writer) (contents writer') is_clocked is_strict result ends
+
+  -- one row of an import
+  row_moves : (now : ℕ) (s : S) (row : Row) (reply : List ℕ) (t : S) → RowReplies answers now s row reply t
+      → Leads is_clean stands (λ i before after. RowReplies (kept i) now before row reply after) s t
+  row_moves now s row reply t (inl (command, outcome, means, answered, told)) =
+      follows is_clean stands _ _ (λ i before after made. inl (command, outcome, means, made, told)) s t
+      (lifts s now (ran command outcome) t answered)
+  row_moves now s row reply t (inr (unreadable, told, same)) =
+      follows is_clean stands _ _ (λ i before after stayed. inr (unreadable, told, stayed)) s t (stays is_clean stands s t same)
+
+  -- all rows of a text, its first rows, or its first rows and one whose reply was cut
+  rows_move : (now : ℕ) (s t : S) (rows : List Row) (replies : List (List ℕ)) → Answered (RowReplies answers now) s rows replies t
+      → Leads is_clean stands (λ i before after. Answered (RowReplies (kept i) now) before rows replies after) s t
+  rows_move now s t rows replies = runs is_clean stands (RowReplies answers now) (λ i. RowReplies (kept i) now) (row_moves now) s t rows replies
+
+  cut_move : (now : ℕ) (s middle t : S) (rows : List Row) (replies : List (List ℕ)) (row : Row) (reply : List ℕ)
+      → Answered (RowReplies answers now) s rows replies middle → RowReplies answers now middle row reply t
+      → Leads is_clean stands
+      (λ i before after. (between : R) × Answered (RowReplies (kept i) now) before rows replies between × RowReplies (kept i) now between row reply after) s t
+  cut_move now s middle t rows replies row reply run last =
+      chains is_clean stands _ _ s middle t (rows_move now s middle rows replies run) (row_moves now middle row reply t last)
+
+  -- an import
+  pub import_moves : {E W : Type 0} (remaining : E → Option (List ℕ)) (contents : W → Option (List ℕ)) (now : ℕ) (s t : S) (reader reader' : E)
+      (writer writer' : W) (result : Result (Unit {0}) Fault) → ImportEnds answers remaining contents now s t reader reader' writer writer' result
+      → Leads is_clean stands (λ i before after. ImportEnds (kept i) remaining contents now before after reader reader' writer writer' result) s t
+  import_moves remaining contents now s t reader reader' writer writer' (Ok done) (text, took, (all, run)) =
+      follows is_clean stands _ _ (λ i before after moved. (text, took, (all, moved))) s t (rows_move now s t (data_rows all.rows) all.replies run)
+  import_moves remaining contents now s t reader reader' writer writer' (Err Read) (some, same, unwritten) =
+      follows is_clean stands _ _ (λ i before after stayed. (some, stayed, unwritten)) s t (stays is_clean stands s t same)
+  import_moves remaining contents now s t reader reader' writer writer' (Err Write) (text, took, (cut, middle, run, last)) =
+      follows is_clean stands _ _ (λ i before after moved. (text, took, (cut, moved.0, moved.1, moved.2))) s t
+      (cut_move now s middle t (data_rows cut.rows) cut.replies cut.row cut.reply run last)
+  import_moves remaining contents now s t reader reader' writer writer' (Err Memory) (inl (some, same, unwritten)) =
+      follows is_clean stands _ _ (λ i before after stayed. inl (some, stayed, unwritten)) s t (stays is_clean stands s t same)
+  import_moves remaining contents now s t reader reader' writer writer' (Err Memory) (inr (text, took, (first, run))) =
+      follows is_clean stands _ _ (λ i before after moved. inr (text, took, (first, moved))) s t
+      (rows_move now s t (data_rows first.rows) first.replies run)
+  import_moves remaining contents now s t reader reader' writer writer' (Err other) ended = absurd ended
+
+  -- a run of rows that ends at the first refusal, if it is strict
+  row_run_moves : (is_strict : Bool) (now : ℕ) (s t : S) (out out' : Option (List ℕ)) (text : List ℕ) (result : Result Passed Fault)
+      → RowsEnd answers is_strict now s t out out' text result
+      → Leads is_clean stands (λ i before after. RowsEnd (kept i) is_strict now before after out out' text result) s t
+  row_run_moves is_strict now s t out out' text (Ok passed.On) ((all, run), each) =
+      follows is_clean stands _ _ (λ i before after moved. ((all, moved), each)) s t (rows_move now s t (data_rows all.rows) all.replies run)
+  row_run_moves is_strict now s t out out' text (Ok (passed.Refused refused)) ((first, run), strict, ends, why) =
+      follows is_clean stands _ _ (λ i before after moved. ((first, moved), strict, ends, why)) s t
+      (rows_move now s t (data_rows first.rows) first.replies run)
+  row_run_moves is_strict now s t out out' text (Err Write) ((cut, middle, run, last), each) =
+      follows is_clean stands _ _ (λ i before after moved. ((cut, moved.0, moved.1, moved.2), each)) s t
+      (cut_move now s middle t (data_rows cut.rows) cut.replies cut.row cut.reply run last)
+  row_run_moves is_strict now s t out out' text (Err Memory) ((first, run), each) =
+      follows is_clean stands _ _ (λ i before after moved. ((first, moved), each)) s t (rows_move now s t (data_rows first.rows) first.replies run)
+  row_run_moves is_strict now s t out out' text (Err other) ended = absurd ended
+
+  -- the run of a text up to its last line end
+  strict_run_moves : (now : ℕ) (s t : S) (out out' : Option (List ℕ)) (text : List ℕ) (result : Result Ended Fault)
+      → StrictRan answers now s t out out' text result
+      → Leads is_clean stands (λ i before after. StrictRan (kept i) now before after out out' text result) s t
+  strict_run_moves now s t out out' text (Ok (ended.Refused refused)) run =
+      row_run_moves true now s t out out' (ended_part text) (Ok (passed.Refused refused)) run
+  strict_run_moves now s t out out' text (Ok how) (run, ends) =
+      follows is_clean stands _ _ (λ i before after moved. (moved, ends)) s t (row_run_moves true now s t out out' (ended_part text) (Ok passed.On) run)
+  strict_run_moves now s t out out' text (Err fault) run = row_run_moves true now s t out out' (ended_part text) (Err fault) run
+
+  -- a strict import
+  pub strict_import_moves : {E W : Type 0} (remaining : E → Option (List ℕ)) (contents : W → Option (List ℕ)) (now : ℕ) (s t : S) (reader reader' : E)
+      (writer writer' : W) (result : Result Ended Fault) → StrictEnds answers remaining contents now s t reader reader' writer writer' result
+      → Leads is_clean stands (λ i before after. StrictEnds (kept i) remaining contents now before after reader reader' writer writer' result) s t
+  strict_import_moves remaining contents now s t reader reader' writer writer' result (inl (text, took, run)) =
+      follows is_clean stands _ _ (λ i before after moved. inl (text, took, moved)) s t
+      (strict_run_moves now s t (contents writer) (contents writer') text result run)
+  strict_import_moves remaining contents now s t reader reader' writer writer' result (inr (why, (some, same, unwritten))) =
+      follows is_clean stands _ _ (λ i before after stayed. inr (why, (some, stayed, unwritten))) s t (stays is_clean stands s t same)
+
+-- ---- a script, as a run of lines that begin with their moments and go on behind a refusal
+
+script_of : {S E W : Type 0} (answers : S → ℕ → Call → S → Type 0) (told : ℕ → Type 0) (remaining : E → Option (List ℕ)) (contents : W → Option (List ℕ))
+    (s t : S) (reader reader' : E) (writer writer' : W) (result : Result Ended Fault)
+    → LinesEnd answers remaining contents s t reader reader' writer writer' told false false result
+    → ScriptEnds answers remaining contents s t reader reader' writer writer' (result_map_both (λ ended. tt) (λ fault. fault) result)
+script_of answers told remaining contents s t reader reader' writer writer' (Ok ended.Whole) (lines, run, all) = (lines, run)
+script_of answers told remaining contents s t reader reader' writer writer' (Ok (ended.Refused refused)) ends = absurd (false≢true ends.2)
+script_of answers told remaining contents s t reader reader' writer writer' (Ok ended.NoLineEnd) ends = absurd (false≢true ends.2)
+script_of answers told remaining contents s t reader reader' writer writer' (Err Read) (lines, run, each, inl fails) = (lines, run, fails)
+script_of answers told remaining contents s t reader reader' writer writer' (Err Read) (lines, run, each, inr clocked) = absurd (false≢true clocked)
+script_of answers told remaining contents s t reader reader' writer writer' (Err Write) (lines, middle, run, last, each) = (lines, middle, run, last)
+script_of answers told remaining contents s t reader reader' writer writer' (Err Memory) ends = ends
+script_of answers told remaining contents s t reader reader' writer writer' (Err other) ends = absurd ends
+
+module _ {S E W : Type 0} (answers : S → ℕ → Call → S → Type 0) (told : ℕ → Type 0) (remaining : E → Option (List ℕ)) (contents : W → Option (List ℕ))
+    (s t : S) (reader reader' : E) (writer writer' : W) (result : Result Ended Fault)
+    (ends : LinesEnd answers remaining contents s t reader reader' writer writer' told false false result) where
+  -- over an office that keeps records
+  pub script_moves : {I R : Type 0} (is_clean : S → Type 0) (stands : I → S → R → Type 0) (kept : I → R → ℕ → Call → R → Type 0)
+      → ((s : S) (now : ℕ) (call : Call) (t : S) → answers s now call t → Leads is_clean stands (λ i before after. kept i before now call after) s t)
+      → Leads is_clean stands
+      (λ i before after. ScriptEnds (kept i) remaining contents before after reader reader' writer writer' (result_map_both (λ ended. tt) (λ fault. fault) result)) s t
+  script_moves is_clean stands kept lifts =
+      follows is_clean stands _ _ (λ i before after. script_of (kept i) told remaining contents before after reader reader' writer writer' result) s t
+      (input_moves is_clean stands answers kept lifts told false false remaining contents s t reader reader' writer writer' result ends)
+
+  -- by a relation that follows from each answer
+  pub script_follows : (other : S → ℕ → Call → S → Type 0) → ((s : S) (now : ℕ) (call : Call) (t : S) → answers s now call t → other s now call t)
+      → ScriptEnds other remaining contents s t reader reader' writer writer' (result_map_both (λ ended. tt) (λ fault. fault) result)
+  script_follows other from =
+      let moved =
+      script_moves (λ v. Unit {0}) (λ (i : Unit {0}) (v w : S). v ≡ w) (λ i. other) (λ v now call w answered. (
+        (λ clean. clean),
+        (λ i before is clean.
+            let P : S → Type 0 = λ b. other b now call w in
+            (w, subst P is (from v now call w answered), refl)),
+      )) in
+      let (after, made, is) = moved.1 tt s refl tt in
+      let Q : S → Type 0 = λ a. ScriptEnds other remaining contents s a reader reader' writer writer' (result_map_both (λ ended. tt) (λ fault. fault) result) in
+      subst Q (sym is) made

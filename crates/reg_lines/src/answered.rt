@@ -1,0 +1,136 @@
+//! What a line came to, the reply that tells it, and whether a run goes on behind it.
+
+ghost use Rattle.std.specs.Prelude.{◌≡◌, ◌↔◌, ◌≤◌, [], IsTrue, vec_capacity};
+ghost use Rattle.reg_lines.specs.Accepted.{IsAccepted, Said, Wrote};
+ghost use Rattle.reg_lines.specs.Answer.{accepts, refused_of, reply_of};
+
+use crate::reply::ReplyText;
+use reg_core::{Command, Fault, Outcome, Query, Refusal};
+use reg_io::{WriteFault, write_whole};
+use std::io::Write;
+
+/// What a line asked of the office.
+#[derive(Clone, Copy)]
+pub enum Asked {
+    /// Nothing: it can't be read.
+    Nothing,
+    Command(Command),
+    Query(Query),
+    /// An OCSP response.
+    Ocsp,
+}
+
+/// The reply to an OCSP request.
+#[derive(Drop)]
+pub struct OcspReply {
+    /// The line of the response, with its LF.
+    pub line: Vec<u8>,
+    /// Whether the response has a status and nothing else: then nobody signed it (RFC 6960 4.2.1).
+    pub is_refusal: bool,
+}
+
+/// What a line came to.
+#[derive(Drop)]
+pub enum Answered {
+    /// What it asked, and what that came to. An unreadable line comes to [`Refusal::Syntax`]. An OCSP request comes to
+    /// [`Fault::Memory`] where there is no memory for its response.
+    CameTo(Asked, Outcome),
+    /// An OCSP response.
+    Response(OcspReply),
+}
+
+/// A command that was refused.
+#[derive(Clone, Copy)]
+pub struct RefusedCommand {
+    pub command: Command,
+    pub why: Refusal,
+}
+
+/// How a run of lines or rows ended that met no fault of its own.
+#[derive(Clone, Copy)]
+pub enum Ended {
+    /// Each of them ran. Of a strict run each was accepted.
+    Whole,
+    /// The run is strict, and the last reply is a refusal or a fault. Nothing behind it ran. If a command was refused, which.
+    Refused(Option<RefusedCommand>),
+    /// The run is strict, and each line or row up to the last line end ran and was accepted. The rest did not run.
+    NoLineEnd,
+}
+
+/// Whether a run goes on behind a reply.
+#[derive(Clone, Copy)]
+pub(crate) enum Passed {
+    /// It does.
+    On,
+    /// It is strict, and the reply is a refusal or a fault; of this command, if a command was refused.
+    Refused(Option<RefusedCommand>),
+}
+
+impl Answered {
+    /// Whether it is neither a refusal nor a fault.
+    pub fn is_accepted(&self) -> bool
+        ensures { result ≡ accepts self.now }
+    {
+        match self {
+            Answered::CameTo(_, outcome) => outcome.is_ok(),
+            Answered::Response(_) => true,
+        }
+    }
+
+    /// The command that was refused, if one was.
+    pub fn refused(&self) -> Option<RefusedCommand>
+        ensures { result ≡ refused_of self.now }
+    {
+        match self {
+            Answered::CameTo(Asked::Command(command), Err(Fault::Refused(why))) => {
+                Some(RefusedCommand {
+                    command: *command,
+                    why: *why,
+                })
+            }
+            _ => None,
+        }
+    }
+
+    /// The reply, in a room that is empty. It takes no memory.
+    pub fn into_reply(self, mut room: Vec<u8>) -> Vec<u8>
+        requires empty { room.items ≡ [] }
+        requires room { 84 ≤ vec_capacity room }
+        ensures { result.items ≡ reply_of self }
+    {
+        match self {
+            Answered::CameTo(_, outcome) => {
+                let text = ReplyText::of(&outcome);
+                let _ = room.extend_from_slice(text.as_bytes());
+                room
+            }
+            Answered::Response(reply) => reply.line,
+        }
+    }
+
+    /// Writes the reply.
+    fn write<W: Write>(&self, writer: &mut W) -> Result<(), WriteFault>
+        ensures { Wrote (W.contents writer.old) (W.contents writer.new) (reply_of self.now) result }
+    {
+        match self {
+            Answered::CameTo(_, outcome) => write_whole(writer, ReplyText::of(outcome).as_bytes()),
+            Answered::Response(reply) => write_whole(writer, &reply.line),
+        }
+    }
+
+    /// Writes the reply. Whether the run goes on behind it.
+    pub(crate) fn say<W: Write>(
+        &self,
+        writer: &mut W,
+        is_strict: bool,
+    ) -> Result<Passed, WriteFault>
+        requires { IsTrue (accepts self.now) ↔ IsAccepted (reply_of self.now) }
+        ensures { Said is_strict (W.contents writer.old) (W.contents writer.new) (reply_of self.now) result }
+    {
+        self.write(writer)?;
+        if is_strict && !self.is_accepted() {
+            return Ok(Passed::Refused(self.refused()));
+        }
+        Ok(Passed::On)
+    }
+}

@@ -1,0 +1,234 @@
+//! A run of lines: lines in, reply lines out.
+
+ghost use Rattle.std.specs.Prelude.{◌≡◌, ◌+◌, ◌≤◌, length, take, IfErr, IfOk, IsTrue, OnErr};
+ghost use Rattle.reg_office_api.specs.Leads.{Leads};
+ghost use Rattle.reg_lines.specs.Answer.{HostLines, LineComesTo, TimedComesTo};
+ghost use Rattle.reg_lines.specs.ByCalls.{LineCalls, Lines};
+ghost use Rattle.reg_lines.specs.Script.{LinesEnd, RunEnds, longest_of};
+ghost use Rattle.reg_lines.specs.ScriptSteps.{EndOrMore, LastEnds, LineEnds, NextEnds};
+
+use crate::answered::{Answered, Ended, Passed};
+use crate::host::Host;
+use crate::moments::{MOMENT, take_moment, without_end};
+use crate::run::{run_line, unreadable};
+use reg_core::Fault;
+use reg_io::{Reached, fill_to_mark};
+use reg_office_api::Office;
+use std::alloc::Global;
+use std::io::{Read, Write};
+
+/// The most bytes of a line before its LF; a CR counts.
+pub const LONGEST_LINE: usize = 8192;
+
+/// The most bytes of a command line: those of a line that begins with a moment and a space. A CR counts.
+pub const LONGEST_COMMAND: usize = LONGEST_LINE - MOMENT - 1;
+
+/// The most lines of a run.
+pub const MOST_LINES: u64 = 1_000_000;
+
+/// What comes behind a line.
+#[derive(Clone, Copy)]
+enum Next {
+    /// Other lines, of which so many bytes are held at the front of the buffer.
+    Held(usize),
+    /// Nothing.
+    End(Ended),
+}
+
+/// Runs each line of an input, in turn, and writes each reply before it runs the next line. As the host says, the lines begin with
+/// moments of their own, as in a script, or run at the moments of its clock. A strict run ends behind the first reply that is a
+/// refusal or a fault, and does not run a last line without its LF.
+///
+/// # Errors
+///
+/// As of [`crate::run_script`]. A line that runs at the moment of the clock has at most 8,171 bytes. Where the clock can't be read,
+/// [`Fault::Read`], and the line did not run.
+pub fn run_lines<R: Read, W: Write, O: Office, H: Host>(
+    alloc: Global,
+    reader: &mut R,
+    writer: &mut W,
+    office: &mut O,
+    host: &H,
+    is_strict: bool,
+) -> Result<Ended, Fault>
+    ensures ends { Leads O.is_clean O.stands
+        (λ who before after. LinesEnd (Lines O.signs who) R.remaining W.contents before after
+        reader.old reader.new writer.old writer.new H.told (H.clocked host.now) is_strict result)
+        office.old office.new }
+    ensures device { LinesEnd (LineCalls O.Office) R.remaining W.contents office.old office.new
+        reader.old reader.new writer.old writer.new H.told (H.clocked host.now) is_strict result }
+{
+    let room = room_for(host.is_clocked());
+    match vec![in alloc; 0; room] {
+        Ok(mut buffer) => run_all(alloc, reader, writer, office, host, is_strict, &mut buffer),
+        Err(_) => Err(Fault::Memory),
+    }
+}
+
+/// The bytes of the longest line and one byte more.
+fn room_for(is_clocked: bool) -> usize
+    ensures { result ≡ longest_of is_clocked + 1 }
+{
+    if is_clocked {
+        LONGEST_COMMAND + 1
+    } else {
+        LONGEST_LINE + 1
+    }
+}
+
+/// Runs each line of an input, with room for the longest line and one byte more.
+fn run_all<R: Read, W: Write, O: Office, H: Host>(
+    alloc: Global,
+    reader: &mut R,
+    writer: &mut W,
+    office: &mut O,
+    host: &H,
+    is_strict: bool,
+    buffer: &mut [u8],
+) -> Result<Ended, Fault>
+    requires { length buffer.old ≡ longest_of (H.clocked host.now) + 1 }
+    ensures { RunEnds (longest_of (H.clocked host.now)) (R.remaining reader.old) (R.remaining reader.new)
+        (W.contents writer.old) (W.contents writer.new) (HostLines O.Office H.Host host.now) office.old office.new
+        (H.clocked host.now) is_strict result }
+{
+    let mut held = 0;
+    for _ in 0..MOST_LINES {
+        match run_next(alloc, reader, writer, office, host, is_strict, buffer, held) {
+            Ok(Next::Held(left)) => held = left,
+            Ok(Next::End(ended)) => return Ok(ended),
+            Err(fault) => return Err(fault),
+        }
+    }
+    if held > 0 {
+        return Err(Fault::Read);
+    }
+    end_of_input(reader, &mut buffer[..1])
+}
+
+/// Runs the next line, and tells what comes behind it.
+fn run_next<R: Read, W: Write, O: Office, H: Host>(
+    alloc: Global,
+    reader: &mut R,
+    writer: &mut W,
+    office: &mut O,
+    host: &H,
+    is_strict: bool,
+    buffer: &mut [u8],
+    held: usize,
+) -> Result<Next, Fault>
+    requires room { length buffer.old ≡ longest_of (H.clocked host.now) + 1 }
+    requires held_fits { held ≤ length buffer.old }
+    ensures { NextEnds (HostLines O.Office H.Host host.now) office.old office.new
+        (W.contents writer.old) (W.contents writer.new) (longest_of (H.clocked host.now))
+        (R.remaining reader.old) (R.remaining reader.new) (take held buffer.old)
+        (H.clocked host.now) is_strict buffer.new result }
+{
+    match fill_to_mark(reader, buffer, held, b"\n") {
+        Ok(Reached::Mark { end, held }) => {
+            let line = without_end(&buffer[..end]);
+            match tell_line(alloc, writer, office, host, is_strict, line) {
+                Ok(Passed::On) => {
+                    buffer.rotate_left(end);
+                    Ok(Next::Held(held - end))
+                }
+                Ok(Passed::Refused(refused)) => Ok(Next::End(Ended::Refused(refused))),
+                Err(fault) => Err(fault),
+            }
+        }
+        Ok(Reached::End { held: 0 }) => Ok(Next::End(Ended::Whole)),
+        Ok(Reached::End { held }) => {
+            match tell_last(alloc, writer, office, host, is_strict, &buffer[..held]) {
+                Ok(ended) => Ok(Next::End(ended)),
+                Err(fault) => Err(fault),
+            }
+        }
+        Ok(Reached::Full) => Err(Fault::Read),
+        Err(_) => Err(Fault::Read),
+    }
+}
+
+/// Runs a last line that has no LF, and writes its reply. A strict run does not run it.
+fn tell_last<W: Write, O: Office, H: Host>(
+    alloc: Global,
+    writer: &mut W,
+    office: &mut O,
+    host: &H,
+    is_strict: bool,
+    line: &[u8],
+) -> Result<Ended, Fault>
+    ensures { LastEnds (HostLines O.Office H.Host host.now) office.old office.new
+        (W.contents writer.old) (W.contents writer.new) (H.clocked host.now) is_strict line.now result }
+{
+    if is_strict {
+        return Ok(Ended::NoLineEnd);
+    }
+    match tell_line(alloc, writer, office, host, is_strict, line) {
+        Ok(_) => Ok(Ended::Whole),
+        Err(fault) => Err(fault),
+    }
+}
+
+/// Runs a line, and writes its reply. Whether the run goes on behind it.
+fn tell_line<W: Write, O: Office, H: Host>(
+    alloc: Global,
+    writer: &mut W,
+    office: &mut O,
+    host: &H,
+    is_strict: bool,
+    line: &[u8],
+) -> Result<Passed, Fault>
+    ensures { LineEnds (HostLines O.Office H.Host host.now) office.old office.new
+        (W.contents writer.old) (W.contents writer.new) (H.clocked host.now) is_strict line.now result }
+{
+    let answered = match run_by(alloc, office, host, line) {
+        Ok(answered) => answered,
+        Err(fault) => return Err(fault),
+    };
+    host.observe(&answered);
+    match answered.say(writer, is_strict) {
+        Ok(passed) => Ok(passed),
+        Err(_) => Err(Fault::Write),
+    }
+}
+
+/// Runs a line at the moment of the clock, or at its own.
+fn run_by<O: Office, H: Host>(
+    alloc: Global,
+    office: &mut O,
+    host: &H,
+    line: &[u8],
+) -> Result<Answered, Fault>
+    ensures comes { IfOk result (λ answered. LineComesTo (LineCalls O.Office) H.told (H.clocked host.now)
+        office.old line.now answered office.new) }
+    ensures clock { IfErr result (λ fault. (fault ≡ Fault.Read) × IsTrue (H.clocked host.now)) }
+    ensures err { OnErr result (office.new ≡ office.old) }
+{
+    if !host.is_clocked() {
+        return Ok(run_timed(alloc, office, line));
+    }
+    match host.moment() {
+        Ok(now) => Ok(run_line(alloc, office, now, line)),
+        Err(fault) => Err(fault),
+    }
+}
+
+/// Runs a line of a script, without its end.
+fn run_timed<O: Office>(alloc: Global, office: &mut O, line: &[u8]) -> Answered
+    ensures { TimedComesTo (LineCalls O.Office) office.old line.now result office.new }
+{
+    match take_moment(line) {
+        Some((now, command)) => run_line(alloc, office, now, command),
+        None => unreadable(),
+    }
+}
+
+/// Whether the input is at its end: reads one byte, and fails where there is one.
+fn end_of_input<R: Read>(reader: &mut R, room: &mut [u8]) -> Result<Ended, Fault>
+    requires { length room.old ≡ 1 }
+    ensures { EndOrMore (R.remaining reader.old) (R.remaining reader.new) result }
+{
+    match fill_to_mark(reader, room, 0, b"\n") {
+        Ok(Reached::End { .. }) => Ok(Ended::Whole),
+        Ok(Reached::Mark { .. }) | Ok(Reached::Full) | Err(_) => Err(Fault::Read),
+    }
+}

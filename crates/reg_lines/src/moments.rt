@@ -1,0 +1,59 @@
+//! The moment that a line of a script begins with, and the end of a line.
+
+ghost use Rattle.std.specs.Prelude.{◌≡◌, IfNone, IfSome, MatchOption};
+ghost use Rattle.std.specs.Io.BufRead.{strip_last};
+ghost use Rattle.reg_lines.specs.Meaning.{HasMoment, HasNoMoment, OneBeginning};
+ghost use Rattle.reg_lines.specs.Script.{IsShortCommand, line_of};
+
+use crate::lines::LONGEST_COMMAND;
+use reg_core::Moment;
+
+/// The bytes of a moment.
+pub(crate) const MOMENT: usize = 20;
+
+/// The moment that a line of a script begins with, and the command line behind it. No line has two such readings.
+pub fn take_moment(line: &[u8]) -> Option<(Moment, &[u8])>
+    ensures found { IfSome result (λ taken. HasMoment line.now taken.0 taken.1.now) }
+    ensures none { IfNone result (HasNoMoment line.now) }
+    ensures one { OneBeginning }
+{
+    if line.len() <= MOMENT || line[MOMENT] != b' ' {
+        return None;
+    }
+    let now = Moment::read(&line[..MOMENT])?;
+    Some((now, &line[MOMENT + 1..]))
+}
+
+/// The command line of a line that runs at the moment of a clock: without its end. `None` where it has too many bytes.
+pub fn command_in(line: &[u8]) -> Option<&[u8]>
+    ensures { MatchOption result (¬ IsShortCommand line.now)
+        (λ command. (command.now ≡ line_of line.now) × IsShortCommand line.now) }
+{
+    if without_last(line, b'\n').len() > LONGEST_COMMAND {
+        return None;
+    }
+    Some(without_end(line))
+}
+
+/// A line without its LF, and without one CR before that.
+pub fn without_end(line: &[u8]) -> &[u8]
+    ensures { result.now ≡ line_of line.now }
+{
+    if line.ends_with(b"\n") {
+        without_last(without_last(line, b'\n'), b'\r')
+    } else {
+        line
+    }
+}
+
+/// A text without a byte at its end.
+fn without_last(text: &[u8], byte: u8) -> &[u8]
+    ensures { result.now ≡ strip_last byte text.now }
+{
+    let len = text.len();
+    if len > 0 && text[len - 1] == byte {
+        &text[..len - 1]
+    } else {
+        text
+    }
+}

@@ -1,5 +1,0 @@
-pub mod Numbers
-pub mod Orders
-pub mod Pieces
-pub mod Places
-pub mod Whole

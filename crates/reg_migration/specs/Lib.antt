@@ -1,5 +1,0 @@
-pub mod NumberedRows
-pub mod Older
-pub mod Makes
-pub mod Refilled
-pub mod AfterStoppedMigration

@@ -1,0 +1,2 @@
+-- The lemmas for proofs of crates above: they cite these alone.
+pub use Rattle.reg_ocsp.proofs.Answering.{answers_fit}

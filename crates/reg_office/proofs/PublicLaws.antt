@@ -1,0 +1,6 @@
+-- The lemmas for proofs of crates above: they cite these alone.
+pub use Rattle.reg_office.proofs.Composing.{of_failure}
+pub use Rattle.reg_office.proofs.Following.{created_sound_for}
+pub use Rattle.reg_office.proofs.Issuing.{latest_in}
+pub use Rattle.reg_office.proofs.Leaving.{leaves_made, leaves_opened}
+pub use Rattle.reg_office.proofs.OpenedAgain.{opens_told}

@@ -1,0 +1,34 @@
+-- What each call of an office comes to over the records that stand in it.
+use Rattle.std.specs.Prelude.{◌≡◌, ℕ, List, Option, Result, Ok, Err}
+use Rattle.reg_core.specs.Records.{Records}
+use Rattle.reg_core.specs.declared.command.Command.{Command}
+use Rattle.reg_core.specs.declared.command.Query.{Query}
+use Rattle.reg_core.specs.declared.command.Reply.{Reply}
+use Rattle.reg_core.specs.declared.memory.Memory.{Memory}
+use Rattle.reg_core.specs.declared.refusal.Fault.{Fault}
+use Rattle.reg_crl.specs.Signing.{Identity, signed_by}
+use Rattle.reg_core_laws.specs.Run.{Happens}
+use Rattle.reg_office_api.specs.Answered.{IsAnswered, IsGiven}
+use Rattle.reg_office_api.specs.Ocsp.{IsOcspReply}
+use Rattle.reg_office_api.specs.Signatories.{Signatory}
+
+-- what is a signature, over what and by whom
+abbrev pub Signs : Type 1
+Signs = Identity → List ℕ → List ℕ → Type 0
+
+-- a command: what it comes to by the rules, with CRLs that are signed by who signs them
+abbrev pub Runs : Signs → Signatory → Records → ℕ → Command → Result Reply Fault → Records → Type 0
+Runs signs who = Happens (signed_by signs who.crls)
+
+-- a query: its answer; the records stay
+abbrev pub Asks : Records → ℕ → Query → Result Reply Fault → Records → Type 0
+Asks before now query outcome after = IsAnswered before now query outcome × (after ≡ before)
+
+-- an OCSP request: its response (RFC 6960 4.2), or want of memory; the records stay
+abbrev pub Ocsps : Signs → Signatory → Records → ℕ → List ℕ → Result (List ℕ) Memory → Records → Type 0
+Ocsps signs who before now request (Ok response) after = IsOcspReply signs who.answers before now request response × (after ≡ before)
+Ocsps signs who before now request (Err memory) after = after ≡ before
+
+-- the bytes of a CRL, or why there are none; the records stay
+abbrev pub Crls : Records → Option ℕ → Result (List ℕ) Fault → Records → Type 0
+Crls before number given after = IsGiven before number given × (after ≡ before)

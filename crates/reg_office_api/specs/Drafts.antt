@@ -1,0 +1,57 @@
+-- An OCSP answer that is left to be signed (RFC 6960 2.2, 4.2.1).
+use Rattle.std.specs.Prelude.{◌≡◌, ℕ, List, Option, None, Result, Ok, Err}
+use Rattle.reg_core.specs.Checks.{clock_checks, first_of_all}
+use Rattle.reg_core.specs.Records.{Records}
+use Rattle.reg_core.specs.declared.memory.Memory.{Memory}
+use Rattle.reg_ocsp.specs.Drafts.{Drafted}
+use Rattle.reg_ocsp.specs.Request.{Id, IsOcspRequest}
+use Rattle.reg_office_api.specs.Ocsp.{IsOcspData}
+use Rattle.reg_office_api.specs.Signatories.{Responder, Signatory, responder_key}
+use Rattle.reg_office_api.specs.declared.response.OcspResponse.{OcspResponse}
+use Rattle.reg_office_api.specs.declared.response.ResponseKind.{ResponseKind}
+use Rattle.reg_office_api.specs.declared.response.ResponseKind.TheVariants.{SignerFailure}
+use Rattle.reg_io.specs.declared.begun.Begun.{Begun}
+use Rattle.reg_io.specs.declared.begun.Begun.TheVariants.{Ready, Unsigned}
+
+-- what is to be signed is to be signed by who answers, and the answer has its certificate, where one stands there
+pub record IsBy (responder : Responder) (draft : Drafted) : Type 0 where
+  pub algorithm : draft.algorithm ≡ responder.identity.algorithm
+  pub key : draft.key ≡ responder.identity.public_key
+  pub certificate : draft.certificate ≡ responder.certificate
+
+-- what is left to be signed for a request that was read: the ResponseData of the records at a moment that the clock takes
+pub record IsReadDraft (responder : Responder) (records : Records) (now : ℕ) (ids : List Id) (nonce : Option (List ℕ)) (draft : Drafted) : Type 0 where
+  pub of_records : IsOcspData (responder_key responder records) records now ids nonce draft.message
+  pub by : IsBy responder draft
+
+-- the same for the bytes of a request
+pub record IsDraft (responder : Responder) (records : Records) (now : ℕ) (request : List ℕ) (draft : Drafted) : Type 0 where
+  pub ids : List Id
+  pub nonce : Option (List ℕ)
+  pub is_request : IsOcspRequest request ids nonce
+  pub timely : first_of_all (clock_checks now records.last) ≡ None
+  pub read : IsReadDraft responder records now ids nonce draft
+
+-- what is left to be signed for a request, by who answers; the records stay
+abbrev pub Drafts : Signatory → Records → ℕ → List ℕ → Drafted → Records → Type 0
+Drafts who before now request draft after = IsDraft who.answers before now request draft × (after ≡ before)
+
+-- what a call comes to whose answer may be left to be signed, by what answers that are ready are and what is left
+abbrev pub Begins
+    : {S : Type 0}
+    → (S → ℕ → List ℕ → Result (ResponseKind × List ℕ) Memory → S → Type 0)
+    → (S → ℕ → List ℕ → Drafted → S → Type 0)
+    → S
+    → ℕ
+    → List ℕ
+    → Result (Begun OcspResponse Drafted) Memory
+    → S
+    → Type 0
+Begins replies drafts s now request (Ok (Ready response)) t = replies s now request (Ok (response.kind, response.bytes.items)) t
+Begins replies drafts s now request (Ok (Unsigned draft)) t = drafts s now request draft t
+Begins replies drafts s now request (Err memory) t = replies s now request (Err memory) t
+
+-- the signer failed at it
+abbrev pub IsSignerFailure : {U : Type 0} → Begun OcspResponse U → Type 0
+IsSignerFailure (Ready response) = response.kind ≡ SignerFailure
+IsSignerFailure (Unsigned left) = ⊥

@@ -1,0 +1,11 @@
+pub mod Answered
+pub mod CallSteps
+pub mod Calls
+pub mod Drafts
+pub mod Items
+pub mod Leads
+pub mod LookUps
+pub mod Ocsp
+pub mod Responses
+pub mod Settings
+pub mod Signatories

@@ -1,0 +1,36 @@
+-- What an office tells of its records that is no query.
+use Rattle.std.specs.Prelude.{◌≡◌, ℕ, min, filter, length, Option, option_map, Result, IfOk}
+use Rattle.reg_core.specs.Crls.{latest, row_of}
+use Rattle.reg_core.specs.Due.{is_open}
+use Rattle.reg_core.specs.Records.{Records, order_in}
+use Rattle.reg_core.specs.Schedule.{longest_at}
+use Rattle.reg_core.specs.declared.refusal.Fault.{Fault}
+use Rattle.reg_core.specs.declared.refusal.Fault.TheVariants.{Memory, Store}
+use Rattle.reg_office_api.specs.declared.standing.Standing.{Standing}
+
+-- want of memory, or a failure of the store
+abbrev pub IsOfStore : Fault → Type 0
+IsOfStore Memory = Unit {0}
+IsOfStore Store = Unit {0}
+IsOfStore other = ⊥
+
+-- the last accepted moment, the latest CRL without its bytes, and the life of CRLs
+abbrev pub IsStanding : Records → Standing → Type 0
+IsStanding records standing =
+    (standing.last ≡ records.last) × (standing.latest ≡ option_map row_of (latest records.crls)) × (standing.crl_life ≡ records.policy.crl_life)
+
+-- the same, where it was had
+abbrev pub HasStanding : Records → Result Standing Fault → Type 0
+HasStanding records result = IfOk result (IsStanding records)
+
+-- how many requests for revocation are open, where that was had
+abbrev pub HasOpen : Records → ℕ → Result ℕ Fault → Type 0
+HasOpen records now result = IfOk result (λ count. count ≡ length (filter (is_open records now) records.requests))
+
+-- the longest validity in days that an order and the policy allow from a moment on; none where there is no such order
+abbrev pub longest_allowed : Records → ℕ → ℕ → Option ℕ
+longest_allowed records order not_before = option_map (λ row. min row.days (longest_at records.policy.schedule not_before)) (order_in records.orders order)
+
+-- the same, where it was had
+abbrev pub HasLongest : Records → ℕ → ℕ → Result (Option ℕ) Fault → Type 0
+HasLongest records order not_before result = IfOk result (λ days. days ≡ longest_allowed records order not_before)

@@ -1,0 +1,94 @@
+-- What an OCSP request is answered from the register (RFC 6960 2.2, 2.3, 4.2.1).
+use Rattle.std.specs.Prelude.{◌≡◌, ℕ, ◌+◌, ◌⊎◌, List, Option, Some, None}
+use Rattle.std.specs.List.{AllZip}
+use Rattle.reg_core.specs.Checks.{clock_checks, first_of_all}
+use Rattle.reg_core.specs.Records.{Records}
+use Rattle.reg_core.specs.Status.{status}
+use Rattle.reg_core.specs.declared.command.Status.{Status}
+use Rattle.reg_core.specs.declared.command.Status.TheVariants.{Unknown}
+use Rattle.reg_core.specs.declared.refusal.Refusal.{Refusal}
+use Rattle.reg_crl.specs.Signing.{Identity}
+use Rattle.reg_ocsp.specs.Matching.{IsMatch}
+use Rattle.reg_ocsp.specs.Request.{Id, IsOcspRequest}
+use Rattle.reg_ocsp.specs.Response.{SingleAnswer, ocsp_response, refusal_response, response_data}
+use Rattle.reg_ocsp.specs.declared.response.RefusalStatus.TheVariants.{Malformed, Internal, TryLater}
+use Rattle.reg_office_api.specs.Signatories.{Responder, responder_key}
+
+-- the bytes are no OCSP request (RFC 6960 4.1.1)
+abbrev pub HasNoReading : List ℕ → Type 0
+HasNoReading bytes = (ids : List Id) (nonce : Option (List ℕ)) → ¬ (IsOcspRequest bytes ids nonce)
+
+-- what a CertID is told: the status of the issuer's certificate that it names, and unknown where it names none
+-- (RFC 6960 2.2)
+abbrev pub IsTold : Records → ℕ → Id → Status → Type 0
+IsTold records now id told =
+    ((serial : ℕ) × IsMatch records.issuer id serial × (told ≡ status records serial now))
+    ⊎ (((serial : ℕ) → ¬ (IsMatch records.issuer id serial)) × (told ≡ Unknown))
+
+-- the answer to a CertID: it is repeated byte for byte, with what it is told (SingleResponse, RFC 6960 4.2.1)
+pub record IsAnswer (records : Records) (now : ℕ) (id : Id) (answer : SingleAnswer) : Type 0 where
+  pub repeated : answer.raw ≡ id.raw
+  pub told : IsTold records now id answer.status
+
+-- the ResponseData of the records at a moment, by the key of who answers: one answer for each CertID in the order asked, each
+-- from this moment on for the life that the policy gives it, and the nonce (RFC 6960 4.2.1)
+pub record IsOcspData (key : List ℕ) (records : Records) (now : ℕ) (ids : List Id) (nonce : Option (List ℕ)) (tbs : List ℕ) : Type 0 where
+  pub answers : List SingleAnswer
+  pub each : AllZip (IsAnswer records now) ids answers
+  pub spelled : tbs ≡ response_data key now (now + records.policy.ocsp_life) answers nonce
+
+-- The bytes are the response signed: there is a signature of the ResponseData by who answers, and the bytes are the OCSPResponse
+-- of the ResponseData, the algorithm and the signature, with the certificate of who answers, where one stands there
+-- (RFC 6960 4.2.1, 4.2.2.2).
+abbrev pub response_signed_by : (Identity → List ℕ → List ℕ → Type 0) → Responder → List ℕ → List ℕ → Type 0
+response_signed_by signs responder tbs bytes =
+    (signature : List ℕ)
+    × signs responder.identity tbs signature
+    × (bytes ≡ ocsp_response tbs responder.identity.algorithm signature responder.certificate)
+
+-- the whole response: signed, over the ResponseData of the records
+pub record IsResponse
+    (signs : Identity → List ℕ → List ℕ → Type 0)
+    (responder : Responder)
+    (records : Records)
+    (now : ℕ)
+    (ids : List Id)
+    (nonce : Option (List ℕ))
+    (bytes : List ℕ)
+    : Type 0 where
+  pub tbs : List ℕ
+  pub of_records : IsOcspData (responder_key responder records) records now ids nonce tbs
+  pub signed : response_signed_by signs responder tbs bytes
+
+-- tryLater where the clock refuses the moment, else a response of this kind
+abbrev pub IsTimely : Option Refusal → (List ℕ → Type 0) → List ℕ → Type 0
+IsTimely (Some refusal) IsWhole bytes = bytes ≡ refusal_response TryLater
+IsTimely None IsWhole bytes = IsWhole bytes
+
+-- what a request that was read is answered: internalError; or tryLater exactly where the moment is from the clock's end
+-- on or before the last accepted one, and else the whole response
+abbrev pub IsReadReply
+    : (Identity → List ℕ → List ℕ → Type 0)
+    → Responder
+    → Records
+    → ℕ
+    → List Id
+    → Option (List ℕ)
+    → List ℕ
+    → Type 0
+IsReadReply signs responder records now ids nonce bytes =
+    (bytes ≡ refusal_response Internal)
+    ⊎ IsTimely
+    (first_of_all (clock_checks now records.last))
+    (IsResponse signs responder records now ids nonce)
+    bytes
+
+-- what bytes are answered: malformedRequest where they are no request, else what they ask
+abbrev pub IsOcspReply
+    : (Identity → List ℕ → List ℕ → Type 0) → Responder → Records → ℕ → List ℕ → List ℕ → Type 0
+IsOcspReply signs responder records now request bytes =
+    (HasNoReading request × (bytes ≡ refusal_response Malformed))
+    ⊎ ((ids : List Id)
+    × (nonce : Option (List ℕ))
+    × IsOcspRequest request ids nonce
+    × IsReadReply signs responder records now ids nonce bytes)

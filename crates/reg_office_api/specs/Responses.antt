@@ -1,0 +1,61 @@
+-- What an OCSP response is (RFC 6960 4.2.1), and what it says of its signature and of the store.
+use Rattle.std.specs.Prelude.{◌≡◌, ◌⊎◌, ℕ, List, Option, Some, None, Result, Ok, Err}
+use Rattle.reg_core.specs.Checks.{clock_checks, first_of_all}
+use Rattle.reg_core.specs.Records.{Records}
+use Rattle.reg_core.specs.declared.memory.Memory.{Memory}
+use Rattle.reg_core.specs.declared.refusal.Fault.{Fault}
+use Rattle.reg_core.specs.declared.refusal.Fault.TheVariants as fault
+use Rattle.reg_core.specs.declared.refusal.Refusal.{Refusal}
+use Rattle.reg_ocsp.specs.Request.{Id, IsOcspRequest}
+use Rattle.reg_ocsp.specs.Response.{refusal_response}
+use Rattle.reg_ocsp.specs.declared.response.RefusalStatus.TheVariants as status
+use Rattle.reg_office_api.specs.CallSteps.{Signs}
+use Rattle.reg_office_api.specs.Ocsp.{HasNoReading, IsResponse}
+use Rattle.reg_office_api.specs.Signatories.{Responder, Signatory}
+use Rattle.reg_office_api.specs.declared.effects.SignatureFate.{SignatureFate}
+use Rattle.reg_office_api.specs.declared.effects.SignatureFate.TheVariants as signature
+use Rattle.reg_office_api.specs.declared.effects.StoreEffect.{StoreEffect}
+use Rattle.reg_office_api.specs.declared.effects.StoreEffect.TheVariants as store
+use Rattle.reg_office_api.specs.declared.response.ResponseKind.{ResponseKind}
+use Rattle.reg_office_api.specs.declared.response.ResponseKind.TheVariants.{Signed, Malformed, TryLater, StoreFailure, SignerFailure}
+
+-- a response of this kind to a request that was read
+abbrev pub IsReadResponse : Signs → Responder → Records → ℕ → List Id → Option (List ℕ) → ResponseKind → List ℕ → Type 0
+IsReadResponse signs responder records now ids nonce Signed bytes =
+    (first_of_all (clock_checks now records.last) ≡ None) × IsResponse signs responder records now ids nonce bytes
+IsReadResponse signs responder records now ids nonce Malformed bytes = ⊥
+IsReadResponse signs responder records now ids nonce TryLater bytes =
+    ((refusal : Refusal) × (first_of_all (clock_checks now records.last) ≡ Some refusal)) × (bytes ≡ refusal_response status.TryLater)
+IsReadResponse signs responder records now ids nonce StoreFailure bytes = bytes ≡ refusal_response status.Internal
+IsReadResponse signs responder records now ids nonce SignerFailure bytes = bytes ≡ refusal_response status.Internal
+
+-- a response of this kind to bytes: malformedRequest where they are no request, else to what they ask
+abbrev pub IsOcspResponse : Signs → Responder → Records → ℕ → List ℕ → ResponseKind → List ℕ → Type 0
+IsOcspResponse signs responder records now request kind bytes =
+    (HasNoReading request × (kind ≡ Malformed) × (bytes ≡ refusal_response status.Malformed))
+    ⊎ ((ids : List Id)
+    × (nonce : Option (List ℕ))
+    × IsOcspRequest request ids nonce
+    × IsReadResponse signs responder records now ids nonce kind bytes)
+
+-- the response to a request, with its kind; or out of memory; the records stay
+abbrev pub Replies : Signs → Signatory → Records → ℕ → List ℕ → Result (ResponseKind × List ℕ) Memory → Records → Type 0
+Replies signs who before now request (Ok response) after =
+    IsOcspResponse signs who.answers before now request response.0 response.1 × (after ≡ before)
+Replies signs who before now request (Err memory) after = after ≡ before
+
+-- what became of the signature
+abbrev pub signature_of : ResponseKind → SignatureFate
+signature_of Signed = signature.Made
+signature_of SignerFailure = signature.Failed
+signature_of other = signature.NotAsked
+
+-- what a response says of the store
+abbrev pub store_of : ResponseKind → StoreEffect
+store_of StoreFailure = store.Failed
+store_of other = store.Unwritten
+
+-- what a refusal or a fault says of it
+abbrev pub store_of_fault : Fault → StoreEffect
+store_of_fault fault.Store = store.Failed
+store_of_fault other = store.Unwritten

@@ -1,0 +1,16 @@
+-- What is set in a register by no command.
+use Rattle.std.specs.Prelude.{◌≡◌, ℕ, List, Result, Ok, Err}
+use Rattle.reg_core.specs.Changes.{with_schedule}
+use Rattle.reg_core.specs.Records.{Records}
+use Rattle.reg_core.specs.declared.refusal.Fault.{Fault}
+use Rattle.reg_der.specs.Issuers.{with_key_identifier}
+
+-- the records are as before but for the schedule; at a fault they stay
+abbrev pub Reschedules : List (ℕ × ℕ) → Result (Unit {0}) Fault → Records → Records → Type 0
+Reschedules steps (Ok done) before after = after ≡ with_schedule before steps
+Reschedules steps (Err fault) before after = after ≡ before
+
+-- the records are as before but for the key identifier of the next CRL; at a fault they stay
+abbrev pub Identifies : List ℕ → Result (Unit {0}) Fault → Records → Records → Type 0
+Identifies octets (Ok done) before after = after ≡ with_key_identifier before octets
+Identifies octets (Err fault) before after = after ≡ before

@@ -1,6 +1,0 @@
-pub mod Blank
-pub mod Filled
-pub mod Said
-pub mod Compared
-pub mod Examined
-pub mod AfterStoppedOpening

@@ -1,6 +1,0 @@
-pub mod Fronts
-pub mod Fits
-pub mod Sorted
-pub mod Following
-pub mod Results
-pub mod Contents

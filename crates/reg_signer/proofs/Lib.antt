@@ -1,5 +1,0 @@
-pub mod Carried
-pub mod Coming
-mod Identifiers
-mod Pairs
-mod Sizes

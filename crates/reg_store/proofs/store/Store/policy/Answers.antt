@@ -1,5 +1,0 @@
-use Rattle.std.proofs.Common.{rules}
-use Rattle.reg_store.proofs.store.Store.policy.Goals as goal
-
-pub returns-clause-found : goal.returns-clause-found
-returns-clause-found g c = search rules

@@ -1,0 +1,40 @@
+-- What a change makes of what is kept beside the records.
+use Rattle.std.specs.Prelude.{◌≡◌, ℕ, List}
+use Rattle.reg_core.specs.Records.{Crl}
+use Rattle.reg_core.specs.declared.change.Change.{Change}
+use Rattle.reg_core.specs.declared.change.Change.TheVariants.{Certificate, Revocation, Crl as NewCrl}
+use Rattle.reg_core.specs.declared.rows.CrlRow.{CrlRow}
+use Rattle.reg_store_tables.specs.Columns.{Columns}
+use Rattle.reg_store_tables.specs.RowEffects.{with_counts}
+use Rattle.reg_store_changes.specs.ColumnEffects.{swept, ended_by, with_revoked_letter, good_at, with_good, with_unlisted, marked, shifted}
+
+-- a CRL with its bytes
+abbrev pub crl_of : CrlRow → List ℕ → Crl
+crl_of row bytes = record { number = row.number; this_update = row.this_update; bytes = bytes }
+
+-- how many good certificates it takes
+abbrev pub lost : Change → ℕ
+lost (Revocation row not_after) = 1
+lost change = 0
+
+-- how many it adds
+abbrev pub added : Change → ℕ
+added (Certificate row) = 1
+added change = 0
+
+-- what it revokes has one good letter
+abbrev pub TurnsOne : Change → Columns → Type 0
+TurnsOne (Revocation row not_after) columns = good_at row.serial columns ≡ 1
+TurnsOne change columns = Unit {0}
+
+-- the letters and the listings after it
+abbrev pub kept_rows_after : Change → Columns → Columns
+kept_rows_after (Certificate row) columns = with_good row.serial row.not_after columns
+kept_rows_after (Revocation row not_after) columns = with_unlisted row not_after (with_revoked_letter row.serial columns)
+kept_rows_after (NewCrl row der) columns = marked row.number row.this_update columns
+kept_rows_after change columns = columns
+
+-- all that is kept after it, at a moment
+abbrev pub columns_after : ℕ → Change → Columns → Columns
+columns_after now change columns =
+    with_counts (shifted columns.counts (ended_by now columns) (lost change) (added change)) (kept_rows_after change (swept now columns))

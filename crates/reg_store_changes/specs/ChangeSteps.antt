@@ -1,0 +1,50 @@
+-- What the steps of a change lead to.
+use Rattle.std.specs.Prelude.{◌≡◌, ℕ, List, []}
+use Rattle.sqlite_trees.specs.Tree.{Trees}
+use Rattle.sqlite.specs.Effect.{Database, IsDatabase}
+use Rattle.reg_core.specs.Changes.{Fits, changed_by, with_revocation}
+use Rattle.reg_core.specs.Issuer.{Issuer}
+use Rattle.reg_core.specs.Records.{Records}
+use Rattle.reg_core.specs.Schedule.{IsSchedule}
+use Rattle.reg_core.specs.Sound.{SoundRows}
+use Rattle.reg_core.specs.declared.change.Change.{Change}
+use Rattle.reg_core.specs.declared.command.Counts.{Counts}
+use Rattle.reg_core.specs.declared.rows.RevocationRow.{RevocationRow}
+use Rattle.reg_der.specs.Issuers.{with_issuer}
+use Rattle.reg_store_tables.specs.Columns.{Columns}
+use Rattle.reg_store_tables.specs.Shows.{AreBoth}
+use Rattle.reg_store_tables.specs.Staged.{IsStaged}
+use Rattle.reg_store_tables.specs.Steps.{TurnsWhere}
+use Rattle.reg_store_changes.specs.ChangeEffects.{TurnsOne, columns_after, kept_rows_after}
+use Rattle.reg_store_changes.specs.ColumnEffects.{good_at, swept, with_revoked_letter, with_unlisted}
+
+-- the revocation of a certificate, which had one good letter, with this notAfter
+abbrev pub Revokes : RevocationRow → ℕ → Database → Database → Type 0
+Revokes row not_after old new =
+    (records : Records) (columns : Columns) → AreBoth old records columns
+    → (good_at row.serial columns ≡ 1) × AreBoth new (with_revocation records records.last row) (with_unlisted row not_after (with_revoked_letter row.serial columns))
+
+-- the rows of a change, and what is kept beside the records but for the counts
+pub record Puts (change : Change) (old new : Database) : Type 0 where
+  pub turns : (records : Records) (columns : Columns) (now : ℕ) → SoundRows records → Fits records now change → AreBoth old records columns
+      → AreBoth new (changed_by records records.last change) (kept_rows_after change columns)
+  pub one : (records : Records) (columns : Columns) → AreBoth old records columns → TurnsOne change columns
+
+-- all of a change at a moment, where the counts are those that are kept
+pub record Enters (now : ℕ) (change : Change) (counts : Counts) (old new : Database) : Type 0 where
+  pub turns : (records : Records) (columns : Columns) → counts ≡ columns.counts → SoundRows records → Fits records now change → AreBoth old records columns
+      → AreBoth new (changed_by records now change) (columns_after now change columns) × IsDatabase new
+  pub one : (records : Records) (columns : Columns) → AreBoth old records columns → TurnsOne change (swept now columns)
+
+-- another issuer with the same key
+abbrev pub Renames : Issuer → Database → Database → Type 0
+Renames issuer = TurnsWhere (λ records. records.issuer.key ≡ issuer.key) (λ records. with_issuer records issuer) (λ columns. columns)
+
+-- no step of the schedule stays
+abbrev pub ClearsSteps : Database → Database → Type 0
+ClearsSteps old new = (base : Trees) (steps : List (ℕ × ℕ)) → IsStaged base steps old → IsStaged base [] new
+
+-- these steps in place of those that there were
+pub record WritesSchedule (steps : List (ℕ × ℕ)) (old new : Database) : Type 0 where
+  pub sound : IsSchedule steps
+  pub staged : (base : Trees) (before : List (ℕ × ℕ)) → IsStaged base before old → IsStaged base steps new × IsDatabase new

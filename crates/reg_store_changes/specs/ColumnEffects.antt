@@ -1,0 +1,62 @@
+-- What the steps of a change make of what is kept beside the records.
+use Rattle.std.specs.Prelude.{ℕ, ◌+◌, ◌-◌, Bool, ◌&&◌, ◌==◌, nat_lt, [], ◌∷◌, ◌++◌, map, filter, length, is_none, Some, None}
+use Rattle.reg_core.specs.declared.command.Counts.{Counts}
+use Rattle.reg_core.specs.declared.rows.RevocationRow.{RevocationRow}
+use Rattle.reg_store_tables.specs.Columns.{Letter, good, revoked, expired, is_good_letter, ends_before, Standing, Listed, Columns}
+use Rattle.reg_store_tables.specs.RowEffects.{turned}
+
+-- the row with another letter
+abbrev pub lettered : Letter → Standing → Standing
+lettered letter row = record row { letter = letter }
+
+-- the good certificates that ended before a moment have ended
+abbrev pub swept : ℕ → Columns → Columns
+swept now columns = record columns { letters = map (turned (ends_before now) (lettered expired)) columns.letters }
+
+-- how many they are
+abbrev pub ended_by : ℕ → Columns → ℕ
+ended_by now columns = length (filter (ends_before now) columns.letters)
+
+-- the good certificate with a serial number
+abbrev pub is_good_at : ℕ → Standing → Bool
+is_good_at serial row = (row.serial == serial) && is_good_letter row.letter
+
+-- the good certificate with a serial number is revoked
+abbrev pub with_revoked_letter : ℕ → Columns → Columns
+with_revoked_letter serial columns = record columns { letters = map (turned (is_good_at serial) (lettered revoked)) columns.letters }
+
+-- how many they are
+abbrev pub good_at : ℕ → Columns → ℕ
+good_at serial columns = length (filter (is_good_at serial) columns.letters)
+
+-- the letter of one certificate more, which is good
+abbrev pub with_good : ℕ → ℕ → Columns → Columns
+with_good serial not_after columns =
+    record columns { letters = columns.letters ++ (record { serial = serial; not_after = not_after; letter = good }) ∷ [] }
+
+-- what CRLs list of one revocation more: none has been the last
+abbrev pub with_unlisted : RevocationRow → ℕ → Columns → Columns
+with_unlisted row not_after columns =
+    record columns {
+      listed = columns.listed ++ (record { serial = row.serial; at = row.at; reason = row.reason; first = row.first; not_after = not_after; last = None }) ∷ [];
+    }
+
+-- no CRL has been the last that lists it, and its certificate ended before a moment
+abbrev pub has_passed : ℕ → Listed → Bool
+has_passed now row = is_none row.last && nat_lt row.not_after now
+
+-- the last CRL that lists it is this one
+abbrev pub with_last_listing : ℕ → Listed → Listed
+with_last_listing number row = record row { last = Some number }
+
+-- a CRL is the last that lists what ended before it
+abbrev pub marked : ℕ → ℕ → Columns → Columns
+marked number now columns = record columns { listed = map (turned (has_passed now) (with_last_listing number)) columns.listed }
+
+-- the counts once some good ones have ended, some are revoked, and some are new
+abbrev pub shifted : Counts → ℕ → ℕ → ℕ → Counts
+shifted counts ended lost added = record {
+  good = counts.good + added - (ended + lost);
+  revoked = counts.revoked + lost;
+  expired = counts.expired + ended;
+}

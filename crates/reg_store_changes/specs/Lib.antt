@@ -1,0 +1,6 @@
+pub mod AfterStoppedChange
+pub mod ChangeEffects
+pub mod ChangeSteps
+pub mod ColumnEffects
+pub mod Days
+pub mod MadeChanges

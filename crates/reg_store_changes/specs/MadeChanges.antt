@@ -1,0 +1,48 @@
+-- What a change comes to, whichever it is, and another schedule or issuer.
+use Rattle.std.specs.Prelude.{◌≡◌, ◌≤◌, ℕ, List, Result, OnOk, OnErr}
+use Rattle.sqlite_trees.specs.declared.store.Store.{Ghosts}
+use Rattle.sqlite.specs.Held.{Held, state}
+use Rattle.sqlite.specs.State.{HasCleanDisk}
+use Rattle.reg_core.specs.Changes.{Fits, changed_by, with_schedule}
+use Rattle.reg_core.specs.Issuer.{Issuer}
+use Rattle.reg_core.specs.Records.{Records}
+use Rattle.reg_core.specs.Sound.{SoundRows}
+use Rattle.reg_core.specs.declared.change.Change.{Change}
+use Rattle.reg_der.specs.Issuers.{with_issuer}
+use Rattle.reg_store_tables.specs.Columns.{Columns}
+use Rattle.reg_store_tables.specs.Kept.{ShowsKept}
+use Rattle.reg_store_tables.specs.Shows.{KeepsOfficeDays, Shows, ShowsBoth}
+use Rattle.reg_store_tables.specs.Stays.{Changed, Stays}
+use Rattle.reg_store_changes.specs.AfterStoppedChange.{IsChanged, IsNamed, IsScheduled}
+use Rattle.reg_store_changes.specs.ChangeEffects.{TurnsOne}
+use Rattle.reg_store_changes.specs.ColumnEffects.{swept}
+use Rattle.reg_store_changes.specs.Days.{LeavesOfficeDays}
+
+-- The change was made at a moment, or nothing has changed. Over sound records that allow it, the tables show the records after it, with
+-- what follows from them; where it was made, what it revokes had one good letter, and the office keeps its days. An error leaves the
+-- tables as they were, and a stop finds what it would have found before, or what the change makes.
+pub record MakesChange {S A E : Type 0} (g : Ghosts S) (old new : Held S) (now : ℕ) (change : Change) (result : Result A E) : Type 0 where
+  pub ok : (records : Records) → ShowsKept g old records → SoundRows records → records.last ≤ now → Fits records now change
+      → OnOk result (ShowsKept g new (changed_by records now change))
+  pub one : HasCleanDisk (state g new) → (records : Records) (columns : Columns) → ShowsBoth g old records columns
+      → OnOk result (TurnsOne change (swept now columns))
+  pub days : LeavesOfficeDays g old new now change result
+  pub changed : Changed g old new (IsChanged g old now change) result
+
+-- Another schedule of longest validities was set, or nothing has changed: the records and what is kept beside them stay, and so do the
+-- days of the office.
+pub record SetsSchedule {S A E : Type 0} (g : Ghosts S) (old new : Held S) (steps : List (ℕ × ℕ)) (result : Result A E) : Type 0 where
+  pub ok : (records : Records) → ShowsKept g old records → OnOk result (ShowsKept g new (with_schedule records steps))
+  pub shown : (records : Records) → Shows g old records → OnOk result (Shows g new (with_schedule records steps))
+  pub days : (records : Records) → Shows g old records → OnOk result (KeepsOfficeDays g old new)
+  pub changed : Changed g old new (IsScheduled g old steps) result
+  pub err : OnErr result (Stays (state g old) (state g new))
+
+-- Another issuer with the same key was set, or nothing has changed: the other records and what is kept beside them stay, and so do the
+-- days of the office.
+pub record SetsIssuer {S A E : Type 0} (g : Ghosts S) (old new : Held S) (issuer : Issuer) (result : Result A E) : Type 0 where
+  pub ok : (records : Records) → ShowsKept g old records → (HasCleanDisk (state g new) → records.issuer.key ≡ issuer.key)
+      → OnOk result (ShowsKept g new (with_issuer records issuer))
+  pub days : (records : Records) → ShowsKept g old records → records.issuer.key ≡ issuer.key → OnOk result (KeepsOfficeDays g old new)
+  pub changed : Changed g old new (IsNamed g old issuer) result
+  pub err : OnErr result (Stays (state g old) (state g new))

@@ -1,0 +1,143 @@
+//! What a change does inside its transaction.
+
+ghost use Rattle.std.specs.Prelude.{◌≡◌, ◌+◌, length, IfOk};
+ghost use Rattle.reg_core.specs.Changes.{touched, with_certificate, with_crl};
+ghost use Rattle.reg_store_tables.specs.Stays.{Stepped};
+ghost use Rattle.reg_store_tables.specs.RowEffects.{with_counts};
+ghost use Rattle.reg_store_tables.specs.Steps.{Continues, Makes, MakesRows, Turns, TurnsWhere};
+ghost use Rattle.reg_store_changes.specs.ColumnEffects.{with_good, marked, shifted};
+ghost use Rattle.reg_store_changes.specs.ChangeEffects.{crl_of, lost, added};
+ghost use Rattle.reg_store_changes.specs.ChangeSteps.{Enters, Puts, Revokes};
+
+use crate::statements::{
+    mark_listed, mark_revoked, put_cert, put_crl, put_letter, put_listed, put_order, put_request,
+    put_revocation, put_subscriber, set_declined, set_last, sweep,
+};
+use reg_core::{CertRow, Change, Counts, CrlRow, Moment, RevocationRow};
+use reg_store_tables::{DatabaseFault, set_counts};
+use sqlite::{Alter, Transaction};
+
+/// The counts once some good ones have ended, and a change is made. `Store` where the good ones are fewer than what is taken
+/// from them, or a count is too great.
+fn shift(counts: Counts, ended: usize, change: &Change<'_>) -> Result<Counts, DatabaseFault>
+    ensures shifted { IfOk result (λ next. next ≡ shifted counts ended (lost change.now) (added change.now)) }
+{
+    let (lost, added) = moves_good(change);
+    let ended = ended as u64;
+    let gone = ended.checked_add(lost).ok_or(DatabaseFault::Store)?;
+    let before = counts.good.checked_add(added).ok_or(DatabaseFault::Store)?;
+    Ok(Counts {
+        good: before.checked_sub(gone).ok_or(DatabaseFault::Store)?,
+        revoked: counts
+            .revoked
+            .checked_add(lost)
+            .ok_or(DatabaseFault::Store)?,
+        expired: counts
+            .expired
+            .checked_add(ended)
+            .ok_or(DatabaseFault::Store)?,
+    })
+}
+
+/// How many good certificates the change takes, and how many it adds.
+fn moves_good(change: &Change<'_>) -> (u64, u64)
+    ensures { result ≡ (lost change.now, added change.now) }
+{
+    match *change {
+        Change::Certificate(_) => (0, 1),
+        Change::Revocation(_, _) => (1, 0),
+        _ => (0, 0),
+    }
+}
+
+/// The closing writes: the counts, and the last accepted moment.
+fn close<S: Alter>(
+    tx: &mut Transaction<'_, S>,
+    now: Moment,
+    counts: Counts,
+) -> Result<(), DatabaseFault>
+    ensures made { MakesRows S.Store tx.old tx.new result
+        (Turns (λ records. touched records now) (with_counts counts)) }
+    ensures stepped { Stepped S.Store tx.old tx.new }
+{
+    set_counts(tx, counts)?;
+    set_last(tx, now)
+}
+
+/// One certificate more, with its letter, which is good.
+fn register<S: Alter>(tx: &mut Transaction<'_, S>, row: CertRow) -> Result<(), DatabaseFault>
+    ensures made { Makes S.Store tx.old tx.new result
+        (Turns (λ records. with_certificate records records.last row) (with_good row.serial row.not_after)) }
+    ensures stepped { Stepped S.Store tx.old tx.new }
+{
+    let (serial, not_after) = (row.serial, row.not_after);
+    put_cert(tx, row)?;
+    put_letter(tx, serial, not_after)
+}
+
+/// The revocation, what CRLs list of it, and the letter of its certificate, which was good: else `Store`.
+fn revoke<S: Alter>(
+    tx: &mut Transaction<'_, S>,
+    row: RevocationRow,
+    not_after: Moment,
+) -> Result<(), DatabaseFault>
+    ensures made { Makes S.Store tx.old tx.new result (Revokes row not_after) }
+    ensures stepped { Stepped S.Store tx.old tx.new }
+{
+    put_revocation(tx, row)?;
+    put_listed(tx, row, not_after)?;
+    if mark_revoked(tx, row.serial)? == 1 {
+        Ok(())
+    } else {
+        Err(DatabaseFault::Store)
+    }
+}
+
+/// One CRL more, with its bytes: it is the last that lists the certificates that ended before it.
+fn issue<S: Alter>(
+    tx: &mut Transaction<'_, S>,
+    row: CrlRow,
+    der: &[u8],
+) -> Result<(), DatabaseFault>
+    ensures made { Makes S.Store tx.old tx.new result
+        (TurnsWhere (λ records. row.number ≡ length records.crls + 1)
+        (λ records. with_crl records records.last (crl_of row der.now)) (marked row.number row.this_update)) }
+    ensures stepped { Stepped S.Store tx.old tx.new }
+{
+    let (number, this_update) = (row.number, row.this_update);
+    put_crl(tx, row, der)?;
+    mark_listed(tx, number, this_update)
+}
+
+/// The change itself, in a transaction that is under way: its rows, and what is kept beside the records but for the counts.
+fn put<S: Alter>(tx: &mut Transaction<'_, S>, change: &Change<'_>) -> Result<(), DatabaseFault>
+    ensures made { Continues S.Store tx.old tx.new result (Puts change.now) }
+    ensures stepped { Stepped S.Store tx.old tx.new }
+{
+    match *change {
+        Change::Touch => Ok(()),
+        Change::Subscriber(row) => put_subscriber(tx, row),
+        Change::Order(row) => put_order(tx, row),
+        Change::Certificate(row) => register(tx, row),
+        Change::Request(row) => put_request(tx, row),
+        Change::Decline(id) => set_declined(tx, id),
+        Change::Revocation(row, not_after) => revoke(tx, row, not_after),
+        Change::Crl(row, der) => issue(tx, row, der),
+    }
+}
+
+/// A change: what ended by now has ended, the change is made, and the counts and the last accepted moment are set.
+pub(crate) fn enter<S: Alter>(
+    tx: &mut Transaction<'_, S>,
+    now: Moment,
+    change: &Change<'_>,
+    counts: Counts,
+) -> Result<(), DatabaseFault>
+    ensures made { Makes S.Store tx.old tx.new result (Enters now change.now counts) }
+    ensures stepped { Stepped S.Store tx.old tx.new }
+{
+    let ended = sweep(tx, now)?;
+    put(tx, change)?;
+    let next = shift(counts, ended, change)?;
+    close(tx, now, next)
+}

@@ -1,0 +1,236 @@
+//! The statements of the changes, inside a transaction.
+
+ghost use Rattle.std.specs.Prelude.{◌≡◌, ◌+◌, length};
+ghost use Rattle.reg_core.specs.Changes.{touched, with_subscriber, with_order, with_certificate, with_request, with_declined, with_revocation, with_crl};
+ghost use Rattle.reg_store_tables.specs.Stays.{Stepped};
+ghost use Rattle.reg_store_tables.specs.Steps.{Makes, MakesRows, Turns, TurnsColumns, TurnsCounted, TurnsRecords, TurnsWhere, Yields};
+ghost use Rattle.reg_store_changes.specs.ChangeEffects.{crl_of};
+ghost use Rattle.reg_store_changes.specs.ColumnEffects.{swept, ended_by, with_revoked_letter, good_at, with_good, with_unlisted, marked};
+
+use crate::sql;
+use reg_core::{
+    CertRow, CrlRow, Moment, OrderRow, RequestRow, RevocationRow, Serial, SubscriberRow,
+};
+use reg_store_tables::DatabaseFault;
+use reg_store_tables::writing::{sql_flag, sql_ground, sql_moment, sql_number, sql_reason, write};
+use sqlite::types::ValueRef;
+use sqlite::{Alter, Transaction};
+
+/// Turns the letter of each good certificate that ended before now, and answers how many.
+pub fn sweep<S: Alter>(tx: &mut Transaction<'_, S>, now: Moment) -> Result<usize, DatabaseFault>
+    ensures made { Yields S.Store tx.old tx.new result (TurnsCounted (swept now) (ended_by now)) }
+    ensures stepped { Stepped S.Store tx.old tx.new }
+{
+    write(tx, sql::SWEEP, &[sql_moment(now)])
+}
+
+/// Turns the letter of the good certificate with the serial number, and answers how many they are.
+pub fn mark_revoked<S: Alter>(
+    tx: &mut Transaction<'_, S>,
+    serial: Serial,
+) -> Result<usize, DatabaseFault>
+    ensures made { Yields S.Store tx.old tx.new result
+        (TurnsCounted (with_revoked_letter serial) (good_at serial)) }
+    ensures stepped { Stepped S.Store tx.old tx.new }
+{
+    let bytes = serial.bytes20();
+    write(tx, sql::MARK_REVOKED, &[ValueRef::Blob(&bytes)])
+}
+
+/// Sets what CRLs list: this one is the last that lists what ended before its moment.
+pub(crate) fn mark_listed<S: Alter>(
+    tx: &mut Transaction<'_, S>,
+    number: u64,
+    this_update: Moment,
+) -> Result<(), DatabaseFault>
+    ensures made { Makes S.Store tx.old tx.new result (TurnsColumns (marked number this_update)) }
+    ensures stepped { Stepped S.Store tx.old tx.new }
+{
+    let number = sql_number(number)?;
+    let this_update = sql_moment(this_update);
+    write(tx, sql::MARK_LISTED, &[number, this_update])?;
+    Ok(())
+}
+
+/// Sets the last accepted moment.
+pub(crate) fn set_last<S: Alter>(
+    tx: &mut Transaction<'_, S>,
+    now: Moment,
+) -> Result<(), DatabaseFault>
+    ensures made { MakesRows S.Store tx.old tx.new result (TurnsRecords (λ records. touched records now)) }
+    ensures stepped { Stepped S.Store tx.old tx.new }
+{
+    write(tx, sql::SET_LAST, &[sql_moment(now)])?;
+    Ok(())
+}
+
+/// Declines the request with the id.
+pub(crate) fn set_declined<S: Alter>(
+    tx: &mut Transaction<'_, S>,
+    id: u64,
+) -> Result<(), DatabaseFault>
+    ensures made { Makes S.Store tx.old tx.new result
+        (TurnsRecords (λ records. with_declined records records.last id)) }
+    ensures stepped { Stepped S.Store tx.old tx.new }
+{
+    let id = sql_number(id)?;
+    write(tx, sql::SET_DECLINED, &[id])?;
+    Ok(())
+}
+
+/// Puts a subscriber in.
+pub(crate) fn put_subscriber<S: Alter>(
+    tx: &mut Transaction<'_, S>,
+    row: SubscriberRow,
+) -> Result<(), DatabaseFault>
+    ensures made { Makes S.Store tx.old tx.new result
+        (TurnsWhere (λ records. row.id ≡ length records.subscribers + 1)
+        (λ records. with_subscriber records records.last row) (λ columns. columns)) }
+    ensures stepped { Stepped S.Store tx.old tx.new }
+{
+    let id = sql_number(row.id)?;
+    let name = ValueRef::Text(row.name.as_bytes());
+    write(tx, sql::PUT_SUBSCRIBER, &[id, name])?;
+    Ok(())
+}
+
+/// Puts an order in.
+pub(crate) fn put_order<S: Alter>(
+    tx: &mut Transaction<'_, S>,
+    row: OrderRow,
+) -> Result<(), DatabaseFault>
+    ensures made { Makes S.Store tx.old tx.new result
+        (TurnsWhere (λ records. row.id ≡ length records.orders + 1)
+        (λ records. with_order records records.last row) (λ columns. columns)) }
+    ensures stepped { Stepped S.Store tx.old tx.new }
+{
+    let id = sql_number(row.id)?;
+    let subscriber = sql_number(row.subscriber)?;
+    let days = sql_number(row.days)?;
+    write(tx, sql::PUT_ORDER, &[id, subscriber, days])?;
+    Ok(())
+}
+
+/// Puts a certificate in.
+pub(crate) fn put_cert<S: Alter>(
+    tx: &mut Transaction<'_, S>,
+    row: CertRow,
+) -> Result<(), DatabaseFault>
+    ensures made { Makes S.Store tx.old tx.new result
+        (TurnsRecords (λ records. with_certificate records records.last row)) }
+    ensures stepped { Stepped S.Store tx.old tx.new }
+{
+    let serial = row.serial.bytes20();
+    let order = sql_number(row.order)?;
+    let not_before = sql_moment(row.not_before);
+    let not_after = sql_moment(row.not_after);
+    write(
+        tx,
+        sql::PUT_CERT,
+        &[ValueRef::Blob(&serial), order, not_before, not_after],
+    )?;
+    Ok(())
+}
+
+/// Puts the letter of a good certificate in.
+pub(crate) fn put_letter<S: Alter>(
+    tx: &mut Transaction<'_, S>,
+    serial: Serial,
+    not_after: Moment,
+) -> Result<(), DatabaseFault>
+    ensures made { Makes S.Store tx.old tx.new result (TurnsColumns (with_good serial not_after)) }
+    ensures stepped { Stepped S.Store tx.old tx.new }
+{
+    let serial = serial.bytes20();
+    let not_after = sql_moment(not_after);
+    write(tx, sql::PUT_LETTER, &[ValueRef::Blob(&serial), not_after])?;
+    Ok(())
+}
+
+/// Puts a request in.
+pub(crate) fn put_request<S: Alter>(
+    tx: &mut Transaction<'_, S>,
+    row: RequestRow,
+) -> Result<(), DatabaseFault>
+    ensures made { Makes S.Store tx.old tx.new result
+        (TurnsWhere (λ records. row.id ≡ length records.requests + 1)
+        (λ records. with_request records records.last row) (λ columns. columns)) }
+    ensures stepped { Stepped S.Store tx.old tx.new }
+{
+    let id = sql_number(row.id)?;
+    let serial = row.serial.bytes20();
+    let ground = sql_ground(row.ground);
+    let received = sql_moment(row.received);
+    let declined = sql_flag(row.declined);
+    write(
+        tx,
+        sql::PUT_REQUEST,
+        &[id, ValueRef::Blob(&serial), ground, received, declined],
+    )?;
+    Ok(())
+}
+
+/// Puts a revocation in.
+pub(crate) fn put_revocation<S: Alter>(
+    tx: &mut Transaction<'_, S>,
+    row: RevocationRow,
+) -> Result<(), DatabaseFault>
+    ensures made { Makes S.Store tx.old tx.new result
+        (TurnsRecords (λ records. with_revocation records records.last row)) }
+    ensures stepped { Stepped S.Store tx.old tx.new }
+{
+    let serial = row.serial.bytes20();
+    let at = sql_moment(row.at);
+    let reason = sql_reason(row.reason);
+    let request = sql_number(row.request)?;
+    let first = sql_number(row.first)?;
+    write(
+        tx,
+        sql::PUT_REVOCATION,
+        &[ValueRef::Blob(&serial), at, reason, request, first],
+    )?;
+    Ok(())
+}
+
+/// Puts in what CRLs list of a revocation: no CRL is the last one yet.
+pub(crate) fn put_listed<S: Alter>(
+    tx: &mut Transaction<'_, S>,
+    row: RevocationRow,
+    not_after: Moment,
+) -> Result<(), DatabaseFault>
+    ensures made { Makes S.Store tx.old tx.new result (TurnsColumns (with_unlisted row not_after)) }
+    ensures stepped { Stepped S.Store tx.old tx.new }
+{
+    let serial = row.serial.bytes20();
+    let at = sql_moment(row.at);
+    let reason = sql_reason(row.reason);
+    let first = sql_number(row.first)?;
+    let not_after = sql_moment(not_after);
+    write(
+        tx,
+        sql::PUT_LISTED,
+        &[ValueRef::Blob(&serial), at, reason, first, not_after],
+    )?;
+    Ok(())
+}
+
+/// Puts a CRL in, with its bytes.
+pub(crate) fn put_crl<S: Alter>(
+    tx: &mut Transaction<'_, S>,
+    row: CrlRow,
+    der: &[u8],
+) -> Result<(), DatabaseFault>
+    ensures made { Makes S.Store tx.old tx.new result
+        (TurnsWhere (λ records. row.number ≡ length records.crls + 1)
+        (λ records. with_crl records records.last (crl_of row der.now)) (λ columns. columns)) }
+    ensures stepped { Stepped S.Store tx.old tx.new }
+{
+    let number = sql_number(row.number)?;
+    let this_update = sql_moment(row.this_update);
+    write(
+        tx,
+        sql::PUT_CRL,
+        &[number, this_update, ValueRef::Blob(der)],
+    )?;
+    Ok(())
+}

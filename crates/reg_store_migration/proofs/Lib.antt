@@ -1,0 +1,12 @@
+pub mod Defining
+pub mod Emptying
+pub mod FirstRows
+pub mod LastListings
+pub mod LetterCounts
+pub mod Lettering
+pub mod Listing
+pub mod Questions
+pub mod Refills
+pub mod SchemaTexts
+pub mod Whole
+pub mod PublicLaws

@@ -1,0 +1,22 @@
+-- What is read of a register inside a transaction.
+use Rattle.std.specs.Prelude.{◌≡◌, ◌≤◌, ℕ, List, length}
+use Rattle.sqlite_value.specs.Order.{Row}
+use Rattle.sqlite.specs.Effect.{Database, Reads}
+use Rattle.sqlite.specs.Listing.{understood}
+use Rattle.reg_core.specs.Records.{Records}
+use Rattle.reg_store_tables.specs.Columns.{Columns}
+use Rattle.reg_store_tables.specs.ReadStatements.{command_of}
+use Rattle.reg_store_tables.specs.Schema.{register_schema}
+use Rattle.reg_store_tables.specs.Shows.{AreBoth, IsShownBy}
+
+-- the rows are what a text reads of a register's tables
+abbrev pub AreAnswer : List ℕ → Row → List Row → Database → Type 0
+AreAnswer text params rows db = db.schema ≡ register_schema → Reads (command_of (understood register_schema text)) db params rows
+
+-- this holds of whatever records the tables show
+abbrev pub OfRecords : (Records → Type 0) → Database → Type 0
+OfRecords Holds db = (records : Records) → IsShownBy db records → Holds records
+
+-- and this of what is kept beside them, which has no more letters than a register may have
+abbrev pub OfColumns : (Columns → Type 0) → Database → Type 0
+OfColumns Holds db = (records : Records) (columns : Columns) → length columns.letters ≤ 1000000 → AreBoth db records columns → Holds columns

@@ -1,0 +1,84 @@
+-- What is kept beside the records, made anew from them.
+use Rattle.std.specs.Prelude.{◌≡◌, ℕ, pos, Bool, true, false, ◌&&◌, nat_le, nat_lt, List, [], ◌∷◌, ◌++◌, map, filter, length, take, find, Option, option_map, IsPermutation}
+use Rattle.sqlite.specs.Effect.{Database}
+use Rattle.reg_core.specs.Records.{Records}
+use Rattle.reg_core.specs.Schedule.{greatest_of}
+use Rattle.reg_core.specs.Sound.{NumberedFrom, NeverFalls}
+use Rattle.reg_core.specs.declared.command.Counts.{Counts}
+use Rattle.reg_core.specs.declared.rows.CrlRow.{CrlRow}
+use Rattle.reg_core.specs.declared.rows.RevocationRow.{RevocationRow}
+use Rattle.reg_store_tables.specs.Columns.{Letter, good, revoked, expired, is_good_letter, Standing, Listed, Columns, office_days}
+use Rattle.reg_store_tables.specs.Kept.{Kept, standing_of, listed_of}
+use Rattle.reg_store_tables.specs.Rows.{number}
+use Rattle.reg_store_tables.specs.Shows.{AreBoth}
+
+-- no certificate is counted
+abbrev pub no_counts : Counts
+no_counts = record { good = 0; revoked = 0; expired = 0 }
+
+-- nothing is kept yet; the office's days are the greatest of a schedule
+abbrev pub no_columns : List (ℕ × ℕ) → Columns
+no_columns schedule = record { letters = []; counts = no_counts; listed = []; days = pos (greatest_of schedule) }
+
+-- these letters
+abbrev pub with_letters : List Standing → Columns → Columns
+with_letters letters columns = record columns { letters = letters }
+
+-- one letter for each certificate, as at the last accepted moment
+abbrev pub HasLetters : Columns → Records → Type 0
+HasLetters columns records = IsPermutation (map (standing_of records) records.certificates) columns.letters
+
+abbrev pub is_revoked_letter : Letter → Bool
+is_revoked_letter good = false
+is_revoked_letter revoked = true
+is_revoked_letter expired = false
+
+abbrev pub is_expired_letter : Letter → Bool
+is_expired_letter good = false
+is_expired_letter revoked = false
+is_expired_letter expired = true
+
+-- how many rows have a letter
+abbrev pub with_letter : (Letter → Bool) → List Standing → ℕ
+with_letter test rows = length (filter (λ row. test row.letter) rows)
+
+-- how many rows have each letter
+abbrev pub letter_counts : List Standing → Counts
+letter_counts rows = record { good = with_letter is_good_letter rows; revoked = with_letter is_revoked_letter rows; expired = with_letter is_expired_letter rows }
+
+-- CRLs as they were issued: by their numbers, and no thisUpdate before an earlier one's
+abbrev pub AreIssued : List CrlRow → Type 0
+AreIssued crls = NumberedFrom (λ crl. crl.number) 1 crls × NeverFalls (λ crl. crl.this_update) crls
+
+-- the number of the first CRL from a number on whose thisUpdate is past a moment (RFC 5280 3.3)
+abbrev pub last_in : List CrlRow → ℕ → ℕ → Option ℕ
+last_in crls first not_after = option_map (λ crl. crl.number) (find (λ crl. nat_le first crl.number && nat_lt not_after crl.this_update) crls)
+
+-- what these CRLs list of a revocation whose certificate has this notAfter
+abbrev pub listed_by : List CrlRow → RevocationRow → ℕ → Listed
+listed_by crls revocation not_after = record {
+  serial = revocation.serial;
+  at = revocation.at;
+  reason = revocation.reason;
+  first = revocation.first;
+  not_after = not_after;
+  last = last_in crls revocation.first not_after;
+}
+
+-- it is listed
+abbrev pub with_listed : Listed → Columns → Columns
+with_listed row columns = record columns { listed = columns.listed ++ row ∷ [] }
+
+-- the letters stand for the records, the first of the revocations are listed, and the office's days are the greatest of the schedule
+abbrev pub HasRelisted : Database → Records → ℕ → Type 0
+HasRelisted db records n =
+    (columns : Columns) × AreBoth db records columns × HasLetters columns records × (columns.listed ≡ map (listed_of records) (take n records.revocations))
+    × (columns.days ≡ pos (greatest_of records.policy.schedule))
+
+-- the records are shown, and what is kept beside them stands for them
+abbrev pub HasKept : Database → Records → Type 0
+HasKept db records = (columns : Columns) × AreBoth db records columns × Kept columns records
+
+-- the office's row has the greatest days of the records' schedule
+abbrev pub HasGreatestDays : Database → Records → Type 0
+HasGreatestDays db records = office_days (db.trees 0) ≡ number (greatest_of records.policy.schedule)

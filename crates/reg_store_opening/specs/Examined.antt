@@ -1,0 +1,51 @@
+-- What was found in the tables of an opened database.
+use Rattle.std.specs.Prelude.{◌≡◌, Option, None, Some, Result, Err, IfOk, IsTrue, MatchResult}
+use Rattle.sqlite_trees.specs.declared.store.Store.{Ghosts}
+use Rattle.sqlite.specs.Effect.{Database}
+use Rattle.sqlite.specs.Held.{Held, state}
+use Rattle.sqlite.specs.State.{HasCleanDisk}
+use Rattle.reg_core.specs.Records.{Records}
+use Rattle.reg_core.specs.Schedule.{one_step}
+use Rattle.reg_store_tables.specs.Stays.{IsDatabaseFault}
+use Rattle.reg_store_tables.specs.declared.fault.StoreFault.{StoreFault}
+use Rattle.reg_store_tables.specs.declared.fault.StoreFault.TheVariants.{NewVersion, NotARegister}
+use Rattle.reg_store_tables.specs.Steps.{WhileOpen}
+use Rattle.reg_store_migration.specs.Older.{version_number}
+use Rattle.reg_store_migration.specs.declared.version.OlderVersion.{OlderVersion}
+use Rattle.reg_store_opening.specs.Said.{HasVersion, InRange, IsCurrent, IsNewer, ReadsOlder}
+use Rattle.reg_store_opening.specs.declared.opening.OlderOffice.{OlderOffice}
+
+-- the tables say the program's version and an office, or an older version and its office
+abbrev pub SaysFound : Database → Option OlderOffice → Type 0
+SaysFound db None = IsCurrent db
+SaysFound db (Some older) = HasVersion db (version_number older.version) × ReadsOlder db older.days older.last
+
+-- what was found is of the records that tables of a version show: of an older one its schedule and the last accepted moment
+abbrev pub IsFoundOf : Option OlderVersion → Records → Option OlderOffice → Type 0
+IsFoundOf None records found = found ≡ None
+IsFoundOf (Some version) records None = ⊥
+IsFoundOf (Some version) records (Some older) =
+    (older.version ≡ version) × (records.policy.schedule ≡ one_step older.days) × (records.last ≡ older.last)
+
+-- the version that was found, which is none where it is the program's
+abbrev pub found_version : Option OlderOffice → Option OlderVersion
+found_version None = None
+found_version (Some older) = Some older.version
+
+module _ {S : Type 0} (g : Ghosts S) (old new : Held S) where
+  -- what an answer tells of the database, which was open
+  abbrev pub Tells : {T E : Type 0} → Result T E → (T → Database → Type 0) → Type 0
+  Tells result Told = HasCleanDisk (state g new) → IfOk result (λ found. IsTrue (state g old).is_open × Told found (state g old).now)
+
+  -- what a refusal tells of it: that it is newer, or this
+  abbrev pub TellsNewer : {T : Type 0} → Result T StoreFault → Type 0
+  TellsNewer result = HasCleanDisk (state g new) → result ≡ Err NewVersion → IsNewer (state g old).now
+
+  abbrev pub TellsNone : {T : Type 0} → Result T StoreFault → (Database → Type 0) → Type 0
+  TellsNone result Refused = HasCleanDisk (state g new) → result ≡ Err NotARegister → Refused (state g old).now
+
+  -- of tables that show records what was found is theirs, and if these are within their ranges, memory or the database alone refuses them
+  abbrev pub Finds : {T : Type 0} → Result T StoreFault → (Database → Records → Type 0) → (T → Records → Type 0) → Type 0
+  Finds result Shown Found =
+      HasCleanDisk (state g new) → (records : Records) → WhileOpen (state g old) (λ db. Shown db records)
+      → MatchResult result (λ found. Found found records) (λ fault. InRange records → IsDatabaseFault fault)

@@ -1,0 +1,220 @@
+-- What the tables of an opened database say.
+use Rattle.std.specs.Prelude.{◌≡◌, ◌≢◌, ◌⊎◌, ◌<◌, ◌≤◌, ℕ, Bool, true, false, List, [], ◌∷◌, length, Option, None, Some, Ok, Err, IsTrue}
+use Rattle.std.specs.List.{AllByRecursion}
+use Rattle.sqlite_value.specs.declared.value.Value.TheVariants.{Blob}
+use Rattle.sqlite_value.specs.Order.{Row, column}
+use Rattle.sqlite_trees.specs.declared.store.Store.{Ghosts}
+use Rattle.sqlite_schema.specs.declared.schema.Schema.{Schema}
+use Rattle.sqlite_resolve.specs.declared.compiled.Compiled.{Compiled}
+use Rattle.sqlite_resolve.specs.declared.error.CompileError.{CompileError}
+use Rattle.sqlite.specs.Effect.{Database, Reads, RefusesToRead}
+use Rattle.sqlite.specs.Given.{IsPlain}
+use Rattle.sqlite.specs.Held.{Held}
+use Rattle.sqlite.specs.Listing.{understood, reads_listing, IsSourceOf}
+use Rattle.sqlite.specs.declared.error.Error.{Error}
+use Rattle.sqlite.specs.declared.error.Error.TheVariants.{SqliteFailure}
+use Rattle.sqlite.specs.declared.error.ErrorCode.TheVariants as code
+use Rattle.reg_core.specs.Calendar.{IsMoment, clock_end}
+use Rattle.reg_core.specs.Issuer.{Issuer}
+use Rattle.reg_core.specs.Policy.{Terms, IsPolicy}
+use Rattle.reg_core.specs.Records.{Records}
+use Rattle.reg_core.specs.Schedule.{one_step}
+use Rattle.reg_der.specs.Authority.{IsIssuer}
+use Rattle.reg_store_tables.specs.ReadStatements.{command_of}
+use Rattle.reg_store_tables.specs.Rows.{number}
+use Rattle.reg_store_tables.specs.Schema.{register_schema}
+use Rattle.reg_store_tables.specs.Shows.{Holds, IsShownBy}
+use Rattle.reg_store_tables.specs.declared.sql.TheConstants.{STEPS}
+use Rattle.reg_store_migration.specs.Older.{version_number, older_schema, IsShownByOlder}
+use Rattle.reg_store_migration.specs.declared.version.OlderVersion.{OlderVersion}
+use Rattle.reg_store_opening.specs.declared.sql.TheConstants.{VERSION, OFFICE, OLDER_OFFICE}
+
+-- a failure of memory, of the disk, or of the limit on steps that the caller has set
+abbrev pub is_call_error : Error → Bool
+is_call_error (SqliteFailure code.OutOfMemory) = true
+is_call_error (SqliteFailure code.SystemIoFailure) = true
+is_call_error (SqliteFailure code.DatabaseCorrupt) = true
+is_call_error (SqliteFailure code.DiskFull) = true
+is_call_error (SqliteFailure code.Closed) = true
+is_call_error (SqliteFailure code.OperationInterrupted) = true
+is_call_error _ = false
+
+-- whatever the tables are, the text is one statement that only reads, without parameters or the time
+pub record NeverWrites (text : List ℕ) (compiled : Compiled) : Type 0 where
+  pub returning : compiled.returning ≡ None
+  pub formats : compiled.formats ≡ []
+  pub names : length compiled.names ≡ 0
+  pub whole : length text ≤ compiled.tail
+
+abbrev pub IsQuery : List ℕ → Type 0
+IsQuery text = (schema : Schema) (compiled : Compiled) → understood schema text ≡ Ok compiled → NeverWrites text compiled
+
+-- over the tables of a schema, only memory, the disk or the limit on steps refuses it
+pub record IsNeverRefused (schema : Schema) (text : List ℕ) : Type 0 where
+  pub plain : IsPlain (understood schema text)
+  pub unlisted : reads_listing schema text ≡ false
+  pub never : (limit : Option ℕ) (db : Database) (e : Error) → db.schema ≡ schema → RefusesToRead limit (command_of (understood schema text)) db [] e → IsTrue (is_call_error e)
+
+-- the rows are what a text reads of a database
+pub record IsRead (db : Database) (text : List ℕ) (rows : List Row) : Type 0 where
+  pub compiled : Compiled
+  pub is : understood db.schema text ≡ Ok compiled
+  pub source : Database
+  pub from : IsSourceOf (reads_listing db.schema text) db source
+  pub reads : Reads compiled.command source [] rows
+
+-- there is one row, and it has a property
+abbrev pub IsOne : (Row → Type 0) → List Row → Type 0
+IsOne P rows = (row : Row) × (rows ≡ row ∷ []) × P row
+
+-- the number of the program's version, or of an older one
+abbrev pub version_of : Option OlderVersion → ℕ
+version_of None = 3
+version_of (Some version) = version_number version
+
+-- the tables of that version
+abbrev pub schema_of : Option OlderVersion → Schema
+schema_of None = register_schema
+schema_of (Some version) = older_schema version
+
+-- the tables are of a version, which the one row of the office says too
+pub record IsOfVersion (version : Option OlderVersion) (db : Database) : Type 0 where
+  pub schema : db.schema ≡ schema_of version
+  pub row : Row
+  pub office : db.trees 0 ≡ row ∷ []
+  pub says : column row 2 ≡ number (version_of version)
+
+-- the one row of this version
+abbrev pub AreVersionRows : ℕ → List Row → Type 0
+AreVersionRows version rows = IsOne (λ row. column row 0 ≡ number version) rows
+
+-- the one row of the office has this version
+abbrev pub HasVersion : Database → ℕ → Type 0
+HasVersion db version = (rows : List Row) × IsRead db VERSION.now rows × AreVersionRows version rows
+
+-- it has a newer version than the program's
+abbrev pub IsNewer : Database → Type 0
+IsNewer db = (n : ℕ) × (3 < n) × HasVersion db n
+
+-- the tables of a version show the records
+abbrev pub IsShownAs : Option OlderVersion → Database → Records → Type 0
+IsShownAs None db records = IsShownBy db records
+IsShownAs (Some version) db records = IsShownByOlder version db records
+
+-- the same while the disk is honest and the connection open
+abbrev pub ShowsAs : {S : Type 0} → Option OlderVersion → Ghosts S → Held S → Records → Type 0
+ShowsAs version g held records = Holds g held (λ db. IsShownAs version db records)
+
+-- the rows are these steps of a schedule
+abbrev pub AreSteps : List Row → List (ℕ × ℕ) → Type 0
+AreSteps [] [] = Unit {0}
+AreSteps [] (step ∷ steps) = ⊥
+AreSteps (row ∷ rows) [] = ⊥
+AreSteps (row ∷ rows) (step ∷ steps) = (column row 0 ≡ number step.0) × (column row 1 ≡ number step.1) × AreSteps rows steps
+
+-- each step begins at a moment
+abbrev pub HaveMoments : List (ℕ × ℕ) → Type 0
+HaveMoments steps = AllByRecursion (λ step. IsMoment step.0) steps
+
+-- the row of the office: an issuer within its limits, a policy, and a last accepted moment that the clock lets pass
+pub record IsOfficeRow (issuer : Issuer) (policy : Terms) (last : ℕ) (row : Row) : Type 0 where
+  pub of_issuer : IsIssuer issuer
+  pub of_policy : IsPolicy policy
+  pub of_last : last < clock_end
+  pub name : column row 0 ≡ Blob issuer.name
+  pub key : column row 1 ≡ Blob issuer.key
+  pub crl_life : column row 2 ≡ number policy.crl_life
+  pub ocsp_life : column row 3 ≡ number policy.ocsp_life
+  pub cap : column row 4 ≡ number policy.cap
+  pub at : column row 5 ≡ number last
+
+-- the row of an office that keeps to a schedule
+abbrev pub KeepsTo : List (ℕ × ℕ) → Row → Type 0
+KeepsTo schedule row = (issuer : Issuer) × (policy : Terms) × (last : ℕ) × (policy.schedule ≡ schedule) × IsOfficeRow issuer policy last row
+
+-- the one row of the office and the steps of its schedule, each value within its range
+abbrev pub AreOfficeRows : List Row → List Row → Type 0
+AreOfficeRows rows steps = (schedule : List (ℕ × ℕ)) × HaveMoments schedule × AreSteps steps schedule × IsOne (KeepsTo schedule) rows
+
+-- the tables say an office, each value within its range
+abbrev pub SaysOffice : Database → Type 0
+SaysOffice db = (rows : List Row) × (steps : List Row) × IsRead db OFFICE.now rows × IsRead db STEPS.now steps × AreOfficeRows rows steps
+
+-- the row of an older office: its days and its last accepted moment, and a schedule of the one step
+abbrev pub IsOlderRow : ℕ → ℕ → Row → Type 0
+IsOlderRow days last row = (column row 6 ≡ number days) × (column row 5 ≡ number last) × KeepsTo (one_step days) row
+
+-- the one row of an older office, each value within its range
+abbrev pub AreOlderOffice : ℕ → ℕ → List Row → Type 0
+AreOlderOffice days last rows = IsOne (IsOlderRow days last) rows
+
+-- the tables say the program's version, and an office
+abbrev pub IsCurrent : Database → Type 0
+IsCurrent db = HasVersion db 3 × SaysOffice db
+
+-- the tables say an older office of these days and this last accepted moment
+abbrev pub ReadsOlder : Database → ℕ → ℕ → Type 0
+ReadsOlder db days last = (rows : List Row) × IsRead db OLDER_OFFICE.now rows × AreOlderOffice days last rows
+
+-- the tables say an older office, each value within its range
+abbrev pub SaysOlder : Database → Type 0
+SaysOlder db = (days : ℕ) × (last : ℕ) × ReadsOlder db days last
+
+-- the tables are those of an older version, and say it and its office
+abbrev pub IsOlder : Database → Type 0
+IsOlder db = (version : OlderVersion) × (db.schema ≡ older_schema version) × HasVersion db (version_number version) × SaysOlder db
+
+-- a text that is understood is refused over the rows that are there, and by no limit on steps
+pub record IsRefusedOverRows (db : Database) (text : List ℕ) : Type 0 where
+  pub compiled : Compiled
+  pub is : understood db.schema text ≡ Ok compiled
+  pub source : Database
+  pub from : IsSourceOf (reads_listing db.schema text) db source
+  pub error : Error
+  pub refuses : RefusesToRead None compiled.command source [] error
+
+-- the tables have no answer to a text: it is not understood over them, or it is refused
+abbrev pub IsRefusedText : Database → List ℕ → Type 0
+IsRefusedText db text = ((error : CompileError) × (understood db.schema text ≡ Err error)) ⊎ IsRefusedOverRows db text
+
+-- the tables say no version: they have no answer to its text, or it is not one row of a number from 1 on
+abbrev pub SaysNoVersion : Database → Type 0
+SaysNoVersion db = IsRefusedText db VERSION.now ⊎ ((rows : List Row) × IsRead db VERSION.now rows × ((n : ℕ) → 1 ≤ n → ¬ AreVersionRows n rows))
+
+-- the tables say no office: they have no answer to its texts, or a value is out of its range
+abbrev pub SaysNoOffice : Database → Type 0
+SaysNoOffice db =
+    (IsRefusedText db OFFICE.now ⊎ IsRefusedText db STEPS.now)
+    ⊎ ((rows : List Row) × (steps : List Row) × IsRead db OFFICE.now rows × IsRead db STEPS.now steps × (¬ AreOfficeRows rows steps))
+
+-- the tables say no older office: they have no answer to its text, or a value is out of its range
+abbrev pub SaysNoOlder : Database → Type 0
+SaysNoOlder db = IsRefusedText db OLDER_OFFICE.now ⊎ ((rows : List Row) × IsRead db OLDER_OFFICE.now rows × ((days last : ℕ) → ¬ AreOlderOffice days last rows))
+
+-- the tables say no register of any version: they say no version, or version 3 and no office, or an older version and no older office
+abbrev pub SaysNoRegister : Database → Type 0
+SaysNoRegister db = SaysNoVersion db ⊎ ((HasVersion db 3 × SaysNoOffice db) ⊎ ((version : OlderVersion) × HasVersion db (version_number version) × SaysNoOlder db))
+
+-- the tables say a version up to the program's, and they, or what stands beside them, are others than it has
+abbrev pub HasOthers : Database → Type 0
+HasOthers db = (version : Option OlderVersion) × HasVersion db (version_of version) × (db.schema ≢ schema_of version)
+
+-- no register of any version stands there: the tables say none, or are others than those of the version that they say
+abbrev pub IsNoRegister : Database → Type 0
+IsNoRegister db = SaysNoRegister db ⊎ HasOthers db
+
+-- the tables say the office of a version, each value within its range
+abbrev pub SaysOfficeOf : Option OlderVersion → Database → Type 0
+SaysOfficeOf None db = SaysOffice db
+SaysOfficeOf (Some version) db = SaysOlder db
+
+-- over tables with no view: no version from 1 on stands there but one up to the program's, with no office of its, or whose tables are others
+abbrev pub HoldsNoRegister : Database → Type 0
+HoldsNoRegister db =
+    db.schema.views ≡ [] → (n : ℕ) → 1 ≤ n → HasVersion db n → (version : Option OlderVersion) × (n ≡ version_of version) × ((¬ SaysOfficeOf version db) ⊎ (db.schema ≢ schema_of version))
+
+-- what a register's issuer, moments and last accepted moment always are
+pub record InRange (records : Records) : Type 0 where
+  pub issuer : IsIssuer records.issuer
+  pub moments : HaveMoments records.policy.schedule
+  pub last : records.last < clock_end

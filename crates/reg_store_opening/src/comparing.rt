@@ -1,0 +1,36 @@
+//! Whose tables stand in a database.
+
+ghost use Rattle.std.specs.Prelude.{◌≡◌, ◌↔◌, Some, false, IfOk, IsTrue};
+ghost use Rattle.sqlite.specs.Held.{state};
+ghost use Rattle.reg_store_opening.specs.Compared.{TellsVersion, version_told};
+
+use reg_store_migration::OlderVersion;
+use reg_store_schema::{Version, version_of};
+use sqlite::{Alter, Connection};
+use std::alloc::{AllocError, Global};
+
+/// Whether the tables of a version are those of this one, which is the program's where it is none.
+pub(crate) fn is_same(tables: Option<Version>, version: Option<OlderVersion>) -> bool
+    ensures { IsTrue result ↔ (tables ≡ Some (version_told version)) }
+{
+    match version {
+        None => matches!(tables, Some(Version::Third)),
+        Some(OlderVersion::First) => matches!(tables, Some(Version::First)),
+        Some(OlderVersion::Second) => matches!(tables, Some(Version::Second)),
+    }
+}
+
+/// The version whose tables stand there, if they are a version's, with all that stands beside them. No transaction is under way, so they
+/// are those that were committed last.
+pub(crate) fn look<S: Alter>(
+    alloc: Global,
+    conn: &Connection<S>,
+) -> Result<Option<Version>, AllocError>
+    requires { conn.now.in_transaction ≡ false }
+    ensures tables { IfOk result (λ tables. TellsVersion tables (state S.Store conn.now).now.schema) }
+    ensures settled { IsTrue (state S.Store conn.now).is_open
+        → (state S.Store conn.now).now ≡ (state S.Store conn.now).committed }
+{
+    prove!(conn.is_autocommit());
+    version_of(alloc, conn.schema())
+}

@@ -1,0 +1,187 @@
+//! Whether rows are those of a register's office.
+
+ghost use Rattle.std.specs.Prelude.{◌≡◌, ◌≢◌, ◌⊎◌, ◌<◌, ◌≤◌, ℕ, List, [], ◌∷◌, IfOk, IfErr, Err, MatchOption, MatchResult};
+ghost use Rattle.sqlite_value.specs.Order.{Row as Cells, column};
+ghost use Rattle.reg_core.specs.Issuer as core;
+ghost use Rattle.reg_core.specs.Policy.{Terms};
+ghost use Rattle.reg_core.specs.Schedule.{IsSchedule, one_step};
+ghost use Rattle.reg_store_tables.specs.Rows.{number};
+ghost use Rattle.reg_store_opening.specs.Judged.{Refuses, IsStep, HaveSteps, HasPolicy, HasLast, HasIssuer};
+ghost use Rattle.reg_store_opening.specs.Said.{version_of, AreVersionRows, KeepsTo, AreOfficeRows, IsOlderRow, AreOlderOffice};
+
+use reg_core::{Moment, Policy, Schedule};
+use reg_der::{Issuer, IssuerFault};
+use reg_store_migration::OlderVersion;
+use reg_store_tables::StoreFault;
+use reg_store_tables::sql_values::{bytes_at, clock_moment_at, moment_at, number_at};
+use sqlite::Row;
+use std::alloc::Global;
+
+/// The one row.
+fn only(rows: &[Row]) -> Option<&Row>
+    ensures { MatchOption result ((row : Cells) → rows.now ≢ row ∷ []) (λ row. rows.now ≡ row.now ∷ []) }
+{
+    match rows {
+        [row] => Some(row),
+        _ => None,
+    }
+}
+
+/// The version, which is the one column of the one row.
+fn version_in(rows: &[Row]) -> Option<u64>
+    ensures { MatchOption result ((n : ℕ) → ¬ AreVersionRows n rows.now) (λ n. AreVersionRows n rows.now) }
+{
+    number_at(only(rows)?, 0)
+}
+
+/// The version of the tables where it is older than the program's, and none where it is the program's.
+pub(crate) fn judge_version(rows: &[Row]) -> Result<Option<OlderVersion>, StoreFault>
+    ensures ok { IfOk result (λ found. AreVersionRows (version_of found) rows.now) }
+    ensures newer { result ≡ Err StoreFault.NewVersion → (n : ℕ) × (3 < n) × AreVersionRows n rows.now }
+    ensures none { result ≡ Err StoreFault.NotARegister → (n : ℕ) → 1 ≤ n → ¬ AreVersionRows n rows.now }
+    ensures faults { IfErr result
+        (λ fault. (fault ≡ StoreFault.NotARegister) ⊎ (fault ≡ StoreFault.NewVersion)) }
+{
+    match version_in(rows) {
+        None => Err(StoreFault::NotARegister),
+        Some(0) => Err(StoreFault::NotARegister),
+        Some(1) => Ok(Some(OlderVersion::First)),
+        Some(2) => Ok(Some(OlderVersion::Second)),
+        Some(3) => Ok(None),
+        Some(_) => Err(StoreFault::NewVersion),
+    }
+}
+
+/// A step of the schedule: a moment, and the days of validity from it on.
+fn step_in(row: &Row) -> Option<(Moment, u64)>
+    ensures { MatchOption result ((step : ℕ × ℕ) → ¬ IsStep row.now step) (IsStep row.now) }
+{
+    Some((moment_at(row, 0)?, number_at(row, 1)?))
+}
+
+/// The steps of the schedule.
+fn steps_in(rows: &Vec<Row>) -> Result<Vec<(Moment, u64)>, StoreFault>
+    ensures { MatchResult result (λ steps. HaveSteps rows.now.items steps.items)
+        (Refuses ((steps : List (ℕ × ℕ)) → ¬ HaveSteps rows.now.items steps)) }
+{
+    let mut steps = Vec::new(*rows.allocator());
+    for row in rows {
+        match step_in(row) {
+            Some(step) => steps.push(step)?,
+            None => return Err(StoreFault::NotARegister),
+        }
+    }
+    Ok(steps)
+}
+
+/// The schedule.
+fn schedule_in(rows: &Vec<Row>) -> Result<Schedule, StoreFault>
+    ensures { MatchResult result (HaveSteps rows.now.items)
+        (Refuses ((steps : List (ℕ × ℕ)) → IsSchedule steps → ¬ HaveSteps rows.now.items steps)) }
+{
+    let steps = steps_in(rows)?;
+    match Schedule::new(&steps) {
+        Some(schedule) => Ok(schedule),
+        None => Err(StoreFault::NotARegister),
+    }
+}
+
+/// The policy, of this schedule.
+fn policy_in(row: &Row, schedule: Schedule) -> Option<Policy>
+    ensures { MatchOption result ((policy : Terms) → ¬ HasPolicy schedule row.now policy)
+        (HasPolicy schedule row.now) }
+{
+    let crl_life = number_at(row, 2)?;
+    let ocsp_life = number_at(row, 3)?;
+    let cap = number_at(row, 4)?;
+    Policy::with(schedule, crl_life, ocsp_life, cap)
+}
+
+/// The last accepted moment, one that the register's clock lets pass.
+fn last_in(row: &Row) -> Option<Moment>
+    ensures { MatchOption result ((last : ℕ) → ¬ HasLast row.now last) (HasLast row.now) }
+{
+    clock_moment_at(row, 5)
+}
+
+/// Whether a name and a key are an issuer's.
+fn judge_issuer(alloc: Global, row: &Row) -> Result<(), StoreFault>
+    ensures { MatchResult result (λ _. (issuer : core.Issuer) × HasIssuer row.now issuer)
+        (Refuses ((issuer : core.Issuer) → ¬ HasIssuer row.now issuer)) }
+{
+    match bytes_at(row, 0) {
+        None => Err(StoreFault::NotARegister),
+        Some(name) => match bytes_at(row, 1) {
+            None => Err(StoreFault::NotARegister),
+            Some(key) => match Issuer::of_kept(alloc, name, key) {
+                Ok(_) => Ok(()),
+                Err(IssuerFault::Memory) => Err(StoreFault::Memory),
+                Err(IssuerFault::BadName) => Err(StoreFault::NotARegister),
+                Err(IssuerFault::BadKey) => Err(StoreFault::NotARegister),
+            },
+        },
+    }
+}
+
+/// Whether a row is that of an office with this schedule.
+fn judge_row(alloc: Global, row: &Row, schedule: Schedule) -> Result<(), StoreFault>
+    ensures { MatchResult result (λ _. KeepsTo schedule row.now) (Refuses (¬ KeepsTo schedule row.now)) }
+{
+    match policy_in(row, schedule) {
+        None => Err(StoreFault::NotARegister),
+        Some(_) => match last_in(row) {
+            None => Err(StoreFault::NotARegister),
+            Some(_) => judge_issuer(alloc, row),
+        },
+    }
+}
+
+/// Whether the rows are those of an office and of its schedule.
+pub(crate) fn judge_office(rows: &Vec<Row>, steps: &Vec<Row>) -> Result<(), StoreFault>
+    ensures { MatchResult result (λ _. AreOfficeRows rows.now.items steps.now.items)
+        (Refuses (¬ AreOfficeRows rows.now.items steps.now.items)) }
+{
+    let schedule = schedule_in(steps)?;
+    match only(rows) {
+        None => Err(StoreFault::NotARegister),
+        Some(row) => judge_row(*rows.allocator(), row, schedule),
+    }
+}
+
+/// The days of an older office, and the schedule of that one step.
+fn days_in(row: &Row) -> Option<(u64, Schedule)>
+    ensures { MatchOption result ((days : ℕ) → IsSchedule (one_step days) → column row.now 6 ≢ number days)
+        (λ found. (column row.now 6 ≡ number found.0) × (found.1 ≡ one_step found.0)) }
+{
+    let days = number_at(row, 6)?;
+    let schedule = Schedule::new(&[(Moment::EPOCH, days)])?;
+    Some((days, schedule))
+}
+
+/// The days and the last accepted moment of the row of an older office.
+fn older_in(alloc: Global, row: &Row) -> Result<(u64, Moment), StoreFault>
+    ensures { MatchResult result (λ found. IsOlderRow found.0 found.1 row.now)
+        (Refuses ((days : ℕ) → (last : ℕ) → ¬ IsOlderRow days last row.now)) }
+{
+    match days_in(row) {
+        None => Err(StoreFault::NotARegister),
+        Some((days, schedule)) => match last_in(row) {
+            None => Err(StoreFault::NotARegister),
+            Some(last) => match judge_row(alloc, row, schedule) {
+                Ok(()) => Ok((days, last)),
+                Err(fault) => Err(fault),
+            },
+        },
+    }
+}
+
+/// The days and the last accepted moment, where the rows are those of an older office.
+pub(crate) fn judge_older(rows: &Vec<Row>) -> Result<(u64, Moment), StoreFault>
+    ensures { MatchResult result (λ found. AreOlderOffice found.0 found.1 rows.now.items)
+        (Refuses ((days : ℕ) → (last : ℕ) → ¬ AreOlderOffice days last rows.now.items)) }
+{
+    match only(rows) {
+        None => Err(StoreFault::NotARegister),
+        Some(row) => older_in(*rows.allocator(), row),
+    }
+}

@@ -1,0 +1,56 @@
+//! Which version's a schema is.
+
+ghost use Rattle.std.specs.Prelude.{◌≡◌, ◌↔◌, Some, IfOk, IsTrue};
+ghost use Rattle.reg_store_tables.specs.Schema.{register_schema};
+ghost use Rattle.reg_store_schema.specs.Versions.{version_schema};
+
+use crate::making::{add_kept, add_records, add_schedule_and_indexes};
+use crate::same::Same;
+use crate::versions::Version;
+use sqlite_schema::schema::Schema;
+use std::alloc::{AllocError, Global};
+
+/// The version whose register has this schema: its tables with their columns, keys, CHECKs and references, its indexes, and nothing
+/// besides. None where no version has it.
+///
+/// # Errors
+/// There is not enough memory.
+pub fn version_of(alloc: Global, schema: &Schema) -> Result<Option<Version>, AllocError>
+    ensures { IfOk result (λ found. (version : Version) → (found ≡ Some version) ↔ (schema.now ≡ version_schema version)) }
+{
+    let mut made = Schema::new(alloc);
+    add_records(alloc, &mut made)?;
+    if schema.is_same(&made) {
+        return Ok(Some(Version::First));
+    }
+    add_kept(alloc, &mut made)?;
+    if schema.is_same(&made) {
+        return Ok(Some(Version::Second));
+    }
+    add_schedule_and_indexes(alloc, &mut made)?;
+    if schema.is_same(&made) {
+        return Ok(Some(Version::Third));
+    }
+    Ok(None)
+}
+
+/// Whether a version is the program's.
+fn is_third(version: Option<Version>) -> bool
+    ensures { IsTrue result ↔ (version ≡ Some Version.Third) }
+{
+    match version {
+        Some(Version::Third) => true,
+        _ => false,
+    }
+}
+
+/// Whether a schema is that of a register of the program's version.
+///
+/// # Errors
+/// There is not enough memory.
+pub fn is_register(alloc: Global, schema: &Schema) -> Result<bool, AllocError>
+    ensures { IfOk result (λ is. IsTrue is ↔ (schema.now ≡ register_schema)) }
+{
+    let version = version_of(alloc, schema)?;
+    Ok(is_third(version))
+}

@@ -1,0 +1,20 @@
+use Rattle.std.proofs.Common.{refl}
+use Rattle.reg_core.specs.Queries.{listing}
+use Rattle.reg_core.specs.declared.command.Listing.{Listing}
+use Rattle.reg_store_tables.specs.Kept.{ShowsKept}
+use Rattle.reg_store_tables.proofs.ListingLemmas.{reading_listed, asked_listed, listed_row, listed_few}
+use Rattle.reg_store_tables.proofs.LookingUp.{by_statement_if}
+use Rattle.reg_store_tables.proofs.tables.Tables.listing.Goals as goal
+
+pub returns : goal.returns
+returns g c =
+    rw (← c.self.view_is) (by_statement_if (c.look_up.ensures.reads reading_listed) (rw (c.params-to_sql.ensures, c.as_slice.ensures, c.bytes20.ensures.bytes) refl) (asked_listed c.args.serial) (λ records. listing records c.args.serial)
+    (λ records written clean rows answers.
+    let kept = written.kept in
+    let both = kept.1.tables clean answers.is_open in (
+      listed_row _ records kept.0 both kept.2 c.args.serial c.bytes20.ensures.in_range rows answers.reads (λ (it : Listing). Unit {0} × Unit {0}) (λ it. (tt, tt)),
+      listed_few _ records kept.0 both kept.2 c.args.serial c.bytes20.ensures.in_range rows answers.reads written.sound.revocations.serials_differ,
+    ))
+    (ShowsKept g.S.Store _)
+    (λ records shows kept clean rows answers.
+    listed_row _ records kept.0 (kept.1.tables clean answers.is_open) kept.2 c.args.serial c.bytes20.ensures.in_range rows answers.reads (λ (it : Listing). Unit {0}) (λ it. tt)))

@@ -1,0 +1,29 @@
+use Rattle.std.proofs.Common.{◌≡◌, refl, arith}
+use Rattle.reg_core.specs.Label.{IsLabel}
+use Rattle.reg_core.specs.Records.{subscriber_in}
+use Rattle.reg_core.specs.declared.rows.SubscriberRow.{SubscriberRow}
+use Rattle.reg_store_tables.specs.Rows.{number}
+use Rattle.reg_store_tables.proofs.Few.{all_both}
+use Rattle.reg_store_tables.proofs.FailingLemmas.{none_made, written_shows}
+use Rattle.reg_store_tables.proofs.Greatest.{none_past}
+use Rattle.reg_store_tables.proofs.LookingUp.{by_statement, past_rows}
+use Rattle.reg_store_tables.proofs.Queries.{all_of}
+use Rattle.reg_store_tables.proofs.SubscriberLemmas.{reading_by_id, asked_by_id, by_id_row, by_id_few}
+use Rattle.reg_store_tables.specs.declared.sizes.Table.TheVariants.{Subscribers}
+use Rattle.reg_store_tables.proofs.tables.Tables.subscriber.Goals as goal
+
+pub returns-in_default : goal.returns-in_default
+returns-in_default g c =
+    rw (← c.self.view_is) (past_rows Subscribers (none_made _ c.sql_key.result c.in_default.not-Some c.sql_key.ensures.value) c.none_past.ensures (λ records. subscriber_in records.subscribers c.args.id)
+    (λ records shown past. none_past (λ (row : SubscriberRow). row.id) 1 c.args.id records.subscribers shown.rows.subscribers_numbered (omega arith)))
+
+pub returns : goal.returns
+returns g c =
+    let value : c.in-Some.value ≡ number c.args.id = (rw c.in-Some.is at c.sql_key.ensures.value).1 in
+    let any = all_of (λ (row : SubscriberRow). Unit {0}) (λ _. tt) in
+    rw (← c.self.view_is) (by_statement (c.look_up.ensures.reads reading_by_id) (rw (c.params-to_sql.ensures, value) refl) (asked_by_id c.args.id) (λ records. subscriber_in records.subscribers c.args.id)
+    (λ records written clean rows answers.
+    let shown = (written_shows g.S.Store _ records written).tables clean answers.is_open in
+    let each = all_both (λ (row : SubscriberRow). Unit {0}) (λ (row : SubscriberRow). IsLabel row.name) records.subscribers (any records.subscribers) written.values.names in
+    (by_id_row _ records shown c.args.id rows answers.reads (λ row. Unit {0} × IsLabel row.name) each, by_id_few _ records shown c.args.id rows answers.reads))
+    (λ records shows clean rows answers. by_id_row _ records (shows.tables clean answers.is_open) c.args.id rows answers.reads (λ _. Unit {0}) (any records.subscribers)))

@@ -1,0 +1,70 @@
+-- What is kept beside the records: the state letters, their counts, what CRLs list, and the days that the office was made with.
+use Rattle.std.specs.Prelude.{ℕ, ℤ, Bool, true, false, ◌&&◌, nat_lt, List, [], ◌∷◌, codes, Option, Some, None}
+use Rattle.sqlite_value.specs.declared.value.Value.{Value}
+use Rattle.sqlite_value.specs.declared.value.Value.TheVariants.{Null, Text}
+use Rattle.sqlite_value.specs.Order.{Row, column}
+use Rattle.reg_core.specs.declared.command.Counts.{Counts}
+use Rattle.reg_store_tables.specs.Rows.{number, serial_value}
+
+-- the state of a certificate at the last accepted moment: G, R or X
+pub data Letter : Type 0 where
+  good : Letter
+  revoked : Letter
+  expired : Letter
+
+abbrev pub letter_text : Letter → List ℕ
+letter_text good = codes "G"
+letter_text revoked = codes "R"
+letter_text expired = codes "X"
+
+abbrev pub is_good_letter : Letter → Bool
+is_good_letter good = true
+is_good_letter revoked = false
+is_good_letter expired = false
+
+-- a certificate's state letter
+pub record Standing : Type 0 where
+  pub serial : ℕ
+  pub not_after : ℕ
+  pub letter : Letter
+
+-- the certificate is good, and ends before a moment
+abbrev pub ends_before : ℕ → Standing → Bool
+ends_before now row = is_good_letter row.letter && nat_lt row.not_after now
+
+-- what CRLs list of a revocation: its certificate's notAfter, and the number of the last CRL that lists it, where that has been issued
+pub record Listed : Type 0 where
+  pub serial : ℕ
+  pub at : ℕ
+  pub reason : ℕ
+  pub first : ℕ
+  pub not_after : ℕ
+  pub last : Option ℕ
+
+-- the rows of the three tables, and the days that stand in the office's row
+pub record Columns : Type 0 where
+  pub letters : List Standing
+  pub counts : Counts
+  pub listed : List Listed
+  pub days : ℤ
+
+-- the days in the one row of the office: the greatest of the schedule that the register was made with
+abbrev pub office_days : List Row → Value
+office_days [] = Null
+office_days (row ∷ rows) = column row 5
+
+-- standing: serial, not_after, state
+abbrev pub stored_standing : Standing → Row
+stored_standing row = serial_value row.serial ∷ number row.not_after ∷ Text (letter_text row.letter) ∷ []
+
+-- kept: one, n_good, n_revoked, n_expired
+abbrev pub stored_counts : Counts → Row
+stored_counts counts = number 1 ∷ Null ∷ number counts.good ∷ number counts.revoked ∷ number counts.expired ∷ []
+
+abbrev pub number_or_null : Option ℕ → Value
+number_or_null None = Null
+number_or_null (Some n) = number n
+
+-- listed: serial, at, reason, first_crl, not_after, last_listed
+abbrev pub stored_listed : Listed → Row
+stored_listed row = serial_value row.serial ∷ number row.at ∷ number row.reason ∷ number row.first ∷ number row.not_after ∷ number_or_null row.last ∷ []

@@ -1,0 +1,69 @@
+-- What look-ups find, and what they leave.
+use Rattle.std.specs.Prelude.{◌≡◌, ℕ, List, Option, Result, IsTrue, IfOk, OnOk}
+use Rattle.sqlite_value.specs.Order.{Row}
+use Rattle.sqlite_trees.specs.declared.store.Store.{Ghosts}
+use Rattle.sqlite.specs.Held.{Held, state}
+use Rattle.sqlite.specs.State.{State, HasCleanDisk}
+use Rattle.reg_core.specs.Records.{Records}
+use Rattle.reg_core.specs.Sound.{SoundRows}
+use Rattle.reg_store_tables.specs.Failing.{FailsWith, IsAsked, ShowsWritten}
+use Rattle.reg_store_tables.specs.Kept.{ShowsKept}
+use Rattle.reg_store_tables.specs.ReadStatements.{Answers}
+use Rattle.reg_store_tables.specs.ShownRows.{ShowsRow, ShowsOneRow, ShowsOnly}
+use Rattle.reg_store_tables.specs.Shows.{Shows}
+use Rattle.reg_store_tables.specs.Stays.{IsRegister, Looked}
+use Rattle.reg_store_tables.specs.declared.fault.DatabaseFault.{DatabaseFault}
+use Rattle.reg_store_tables.specs.declared.fault.DatabaseFault.TheVariants.{Store}
+
+-- ---- one statement
+
+-- A query: it changes nothing, the rows are its answer, and it fails for the database's own reasons.
+pub record Queries {C T : Type 0} (g : Ghosts C) (old new : Held C) (text : List ℕ) (params : Row) (result : Result T DatabaseFault) (view : T → List Row) : Type 0 where
+  pub looked : Looked g old new
+  pub rows : IsRegister (state g old) → HasCleanDisk (state g new) → IfOk result (λ found. Answers (state g old) text params (view found))
+  pub fails : IsAsked text params → IsRegister (state g old) → FailsWith Store (state g old) (state g new) result
+
+-- A statement that reads: it changes nothing, what it finds is what its answer shows, and it fails for no value that a register writes.
+pub record ReadsBy {C T W : Type 0} (g : Ghosts C) (old new : Held C) (text : List ℕ) (params : Row) (result : Result T DatabaseFault)
+    (view : T → W) (Shown ShownWell : State → List ℕ → Row → W → Type 0) : Type 0 where
+  pub looked : Looked g old new
+  pub live : IsRegister (state g old) → HasCleanDisk (state g new) → OnOk result (IsTrue (state g old).is_open)
+  pub found : (wanted : W) → IsRegister (state g old) → HasCleanDisk (state g new) → Shown (state g old) text params wanted
+      → IfOk result (λ found. view found ≡ wanted)
+  pub fails : (wanted : W) → IsAsked text params → IsRegister (state g old) → ShownWell (state g old) text params wanted
+      → FailsWith Store (state g old) (state g new) result
+
+module _ {C R : Type 0} (is_keyed has_values : R → Type 0) (shown : R → Row) (g : Ghosts C) (old new : Held C) (text : List ℕ) (params : Row) where
+  -- of one row at most
+  abbrev pub ReadsRow : Result (Option R) DatabaseFault → Type 0
+  ReadsRow result =
+      ReadsBy g old new text params result (λ found. found) (ShowsRow is_keyed shown) (ShowsOneRow (λ it. is_keyed it × has_values it) shown)
+
+  -- of one row
+  abbrev pub ReadsOne : Result R DatabaseFault → Type 0
+  ReadsOne result =
+      ReadsBy g old new text params result (λ found. found) (ShowsOnly is_keyed shown) (ShowsOnly (λ it. is_keyed it × has_values it) shown)
+
+-- ---- a look-up
+
+-- A look-up: it changes nothing, and what it finds is so of the records that the tables show, where the disk is clean behind it. Over
+-- rows that a register writes it tells a failure of the store only where the database failed, if it may be asked so.
+pub record FindsIf {C T : Type 0} (MayBeAsked : Records → Type 0) (g : Ghosts C) (old new : Held C) (result : Result T DatabaseFault) (IsSo : Records → T → Type 0) : Type 0 where
+  pub looked : Looked g old new
+  pub found : (records : Records) → Shows g old records → HasCleanDisk (state g new) → IfOk result (IsSo records)
+  pub fails : (records : Records) → MayBeAsked records → ShowsWritten g old records → FailsWith Store (state g old) (state g new) result
+
+-- whatever is asked
+abbrev pub Finds : {C T : Type 0} → Ghosts C → Held C → Held C → Result T DatabaseFault → (Records → T → Type 0) → Type 0
+Finds g old new result IsSo = FindsIf (λ records. Unit {0}) g old new result IsSo
+
+-- ---- look-ups, one after another
+
+-- They change nothing, and what they tell holds of sound records that the tables show, with what is kept beside them.
+pub record LooksUp {C : Type 0} (g : Ghosts C) (old new : Held C) (Tells : Records → Type 0) : Type 0 where
+  pub looked : Looked g old new
+  pub found : (records : Records) → ShowsKept g old records → SoundRows records → HasCleanDisk (state g new) → Tells records
+
+-- what they find is so of the records
+abbrev pub Learns : {C T E : Type 0} → Ghosts C → Held C → Held C → Result T E → (Records → T → Type 0) → Type 0
+Learns g old new result IsSo = LooksUp g old new (λ records. IfOk result (IsSo records))

@@ -1,0 +1,82 @@
+-- What the tables of a connection show.
+use Rattle.std.specs.Prelude.{◌≡◌, ℕ, ℤ, List, [], ◌∷◌, map, IsTrue}
+use Rattle.std.specs.List.{AllByRecursion}
+use Rattle.reg_core.specs.Serial.{IsSerial}
+use Rattle.sqlite_value.specs.declared.value.Value.TheVariants.{Int}
+use Rattle.sqlite_trees.specs.Tree.{Trees}
+use Rattle.sqlite_trees.specs.declared.store.Store.{Ghosts}
+use Rattle.sqlite.specs.Effect.{Database}
+use Rattle.sqlite.specs.Held.{Held, state}
+use Rattle.sqlite.specs.State.{HasCleanDisk}
+use Rattle.reg_core.specs.Records.{Records}
+use Rattle.reg_core.specs.Policy.{IsPolicy}
+use Rattle.reg_core.specs.Sound.{NumberedFrom}
+use Rattle.reg_store_tables.specs.Schema.{register_schema}
+use Rattle.reg_store_tables.specs.Rows.{number, counted_rows, stored_office, stored_subscriber, stored_order, stored_certificate, stored_request, stored_revocation, stored_crl, stored_step}
+use Rattle.reg_store_tables.specs.Columns.{Columns, office_days, stored_standing, stored_counts, stored_listed}
+
+-- the serial numbers of the rows are serial numbers (RFC 5280 4.1.2.2)
+abbrev pub HaveSerials : {A : Type 0} → (A → ℕ) → List A → Type 0
+HaveSerials serial rows = AllByRecursion (λ row. IsSerial (serial row)) rows
+
+-- each record is one row, in the order of entry, and each row is one record; the rows of office and longest are the issuer,
+-- the policy and the last accepted moment. Ids and CRL numbers are 1, 2, 3 and so on, and so are the rowids of the tables
+-- whose key is a serial number.
+pub record AreRows (trees : Trees) (records : Records) : Type 0 where
+  pub days : ℤ
+  pub office : trees 0 ≡ stored_office days records.issuer records.policy records.last ∷ []
+  pub subscribers : trees 1 ≡ map stored_subscriber records.subscribers
+  pub orders : trees 3 ≡ map stored_order records.orders
+  pub certificates : trees 4 ≡ counted_rows (map stored_certificate records.certificates)
+  pub requests : trees 7 ≡ map stored_request records.requests
+  pub revocations : trees 8 ≡ counted_rows (map stored_revocation records.revocations)
+  pub crls : trees 11 ≡ map stored_crl records.crls
+  pub schedule : trees 17 ≡ map stored_step records.policy.schedule
+  pub policy : IsPolicy records.policy
+  pub subscribers_numbered : NumberedFrom (λ row. row.id) 1 records.subscribers
+  pub orders_numbered : NumberedFrom (λ row. row.id) 1 records.orders
+  pub requests_numbered : NumberedFrom (λ row. row.id) 1 records.requests
+  pub crls_numbered : NumberedFrom (λ crl. crl.number) 1 records.crls
+  pub certificate_serials : HaveSerials (λ row. row.serial) records.certificates
+  pub request_serials : HaveSerials (λ row. row.serial) records.requests
+  pub revocation_serials : HaveSerials (λ row. row.serial) records.revocations
+
+-- the tables that are kept beside the records have these rows, and the office these days
+pub record AreColumns (trees : Trees) (columns : Columns) : Type 0 where
+  pub letters : trees 12 ≡ counted_rows (map stored_standing columns.letters)
+  pub counts : trees 14 ≡ stored_counts columns.counts ∷ []
+  pub listed : trees 15 ≡ counted_rows (map stored_listed columns.listed)
+  pub days : office_days (trees 0) ≡ Int columns.days
+  pub letter_serials : HaveSerials (λ row. row.serial) columns.letters
+  pub listed_serials : HaveSerials (λ row. row.serial) columns.listed
+
+-- a register's tables, and they show the records
+pub record IsShownBy (db : Database) (records : Records) : Type 0 where
+  pub schema : db.schema ≡ register_schema
+  pub rows : AreRows db.trees records
+
+-- and beside them these columns
+pub record AreBoth (db : Database) (records : Records) (columns : Columns) : Type 0 where
+  pub shown : IsShownBy db records
+  pub kept : AreColumns db.trees columns
+
+-- while the disk is honest and the connection open, its database has the property, and all of it is committed
+pub record Holds {S : Type 0} (g : Ghosts S) (h : Held S) (P : Database → Type 0) : Type 0 where
+  pub saved : HasCleanDisk (state g h) → IsTrue (state g h).is_open → (state g h).now ≡ (state g h).committed
+  pub tables : HasCleanDisk (state g h) → IsTrue (state g h).is_open → P (state g h).now
+
+-- the tables show the records
+abbrev pub Shows : {S : Type 0} → Ghosts S → Held S → Records → Type 0
+Shows g h records = Holds g h (λ db. IsShownBy db records)
+
+-- the tables show the records, and these columns beside them
+abbrev pub ShowsBoth : {S : Type 0} → Ghosts S → Held S → Records → Columns → Type 0
+ShowsBoth g h records columns = Holds g h (λ db. AreBoth db records columns)
+
+-- the office's row has these days
+abbrev pub HasOfficeDays : {S : Type 0} → Ghosts S → Held S → ℕ → Type 0
+HasOfficeDays g h days = Holds g h (λ db. office_days (db.trees 0) ≡ number days)
+
+-- the office's row has the days that it had
+abbrev pub KeepsOfficeDays : {S : Type 0} → Ghosts S → Held S → Held S → Type 0
+KeepsOfficeDays g old new = (days : ℕ) → HasOfficeDays g old days → HasOfficeDays g new days

@@ -1,0 +1,59 @@
+-- What a look-up leaves, and what a step of a change leaves.
+use Rattle.std.specs.Prelude.{◌≡◌, ◌⊎◌, false, true, IsTrue, Result, OnOk, OnErr}
+use Rattle.sqlite_trees.specs.Tree.{Trees}
+use Rattle.sqlite_trees.specs.declared.store.Store.{Ghosts}
+use Rattle.sqlite.specs.Held.{Held, state}
+use Rattle.sqlite.specs.Effect.{Database}
+use Rattle.sqlite.specs.State.{State, HasCleanDisk, KeepsCommit, Survives}
+use Rattle.sqlite.specs.declared.transaction.Transaction.{Transaction}
+use Rattle.reg_store_tables.specs.Schema.{register_schema}
+use Rattle.reg_store_tables.specs.declared.fault.StoreFault.{StoreFault}
+use Rattle.reg_store_tables.specs.declared.fault.StoreFault.TheVariants.{Memory, Store}
+
+-- while the disk is honest and the connection open, its tables are those of a register, and were when it last committed
+pub record IsRegister (s : State) : Type 0 where
+  pub now : HasCleanDisk s → IsTrue s.is_open → s.now.schema ≡ register_schema
+  pub committed : HasCleanDisk s → IsTrue s.is_open → s.committed.schema ≡ register_schema
+
+-- nothing has changed: the tables are as they were, or as they were last committed
+pub record Stays (old new : State) : Type 0 where
+  pub was_open : HasCleanDisk new → IsTrue new.is_open → IsTrue old.is_open
+  pub now : HasCleanDisk new → IsTrue new.is_open → (new.now ≡ old.now) ⊎ (new.now ≡ old.committed)
+  pub committed : HasCleanDisk new → IsTrue new.is_open → new.committed ≡ old.committed
+
+-- a call that commits nothing: a stop afterwards leaves what it left before, no fault of the disk is forgotten, only one shuts the
+-- connection, and the limit on the steps of a query stays
+abbrev pub LeavesNothing : State → State → Type 0
+LeavesNothing old new = Survives old new (λ _. ⊥)
+
+-- A look-up: the tables stay those of the register that they are, nothing is committed, and no transaction is under way
+-- afterwards that was not before.
+pub record Looked {S : Type 0} (g : Ghosts S) (old new : Held S) : Type 0 where
+  pub same : IsRegister (state g old) → Stays (state g old) (state g new)
+  pub survives : LeavesNothing (state g old) (state g new)
+  pub idle : old.in_transaction ≡ false → new.in_transaction ≡ false
+
+-- A step of a transaction: whether it comes to an end or fails, nothing is committed by it.
+pub record Stepped {S : Type 0} (g : Ghosts S) (old new : Transaction S) : Type 0 where
+  pub same_reference : new.conn.ghost_name ≡ old.conn.ghost_name
+  pub kept : HasCleanDisk (state g new.conn.now) → KeepsCommit (state g old.conn.now) (state g new.conn.now)
+  pub survives : LeavesNothing (state g old.conn.now) (state g new.conn.now)
+
+-- A change: where it is made the connection is open, an error leaves the tables as they were, and a stop finds what it would
+-- have found before, or what the change makes.
+pub record Changed {S T E : Type 0} (g : Ghosts S) (old new : Held S) (Made : Trees → Type 0) (result : Result T E) : Type 0 where
+  pub live : HasCleanDisk (state g new) → OnOk result (IsTrue (state g new).is_open)
+  pub err : IsRegister (state g old) → OnErr result (Stays (state g old) (state g new))
+  pub survives : Survives (state g old) (state g new) Made
+
+-- a step inside a transaction, which leaves it under way with a database that has the property, and nothing committed
+pub record Moves (old new : State) (P : Database → Type 0) : Type 0 where
+  pub was_open : IsTrue old.is_open
+  pub is_open : IsTrue new.is_open
+  pub committed : new.committed ≡ old.committed
+  pub under_way : new.in_transaction ≡ true
+  pub tables : P new.now
+
+-- the faults of the store that a call on an open register has
+abbrev pub IsDatabaseFault : StoreFault → Type 0
+IsDatabaseFault fault = (fault ≡ Memory) ⊎ (fault ≡ Store)

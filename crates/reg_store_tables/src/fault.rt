@@ -1,0 +1,158 @@
+//! Why a call on the store fails.
+
+ghost use Rattle.std.specs.Prelude.{◌≡◌};
+
+use reg_core::Fault;
+use reg_der::IssuerFault;
+use sqlite::{Error, ErrorCode};
+use std::alloc::{AllocError, AllocFailed};
+
+/// Why a call on an open register fails.
+#[derive(Clone, Copy, PartialEq, Eq)]
+pub enum DatabaseFault {
+    /// Memory could not be had.
+    Memory,
+    /// The database failed, or a row is one that no register writes.
+    Store,
+}
+
+/// Why a store fails: a call on it, or that it is made or opened.
+#[derive(Clone, Copy, PartialEq, Eq)]
+pub enum StoreFault {
+    /// Memory could not be had.
+    Memory,
+    /// The database failed, or a row is one that no register writes.
+    Store,
+    /// There is a table, an index or a view already.
+    NotEmpty,
+    /// The tables are not those of a register.
+    NotARegister,
+    /// The tables are of a newer version.
+    NewVersion,
+}
+
+/// Why rows are not read.
+#[derive(Clone, Copy, PartialEq, Eq)]
+pub enum Unshown {
+    /// Memory could not be had.
+    Memory,
+    /// The row at this place, counted from 0, has a value that no register writes.
+    At(usize),
+}
+
+impl<T: Drop> From<AllocFailed<T>> for Unshown {
+    ghost use Rattle.reg_store_tables.specs.declared.fault.Unshown.TheVariants.{Memory};
+
+    ghost from_gives = { λ _ why. why ≡ Memory };
+
+    fn from(_error: AllocFailed<T>) -> Unshown {
+        Unshown::Memory
+    }
+}
+
+impl From<Unshown> for DatabaseFault {
+    ghost use Rattle.reg_store_tables.specs.Faults.{unshown_fault_of};
+
+    ghost from_gives = { λ why fault. fault ≡ unshown_fault_of why };
+
+    fn from(why: Unshown) -> DatabaseFault {
+        match why {
+            Unshown::Memory => DatabaseFault::Memory,
+            Unshown::At(_) => DatabaseFault::Store,
+        }
+    }
+}
+
+impl From<Error> for DatabaseFault {
+    ghost use Rattle.reg_store_tables.specs.Faults.{database_fault_of};
+
+    ghost from_gives = { λ error fault. fault ≡ database_fault_of error };
+
+    fn from(error: Error) -> DatabaseFault {
+        match error {
+            Error::SqliteFailure(ErrorCode::OutOfMemory) => DatabaseFault::Memory,
+            _ => DatabaseFault::Store,
+        }
+    }
+}
+
+impl From<AllocError> for DatabaseFault {
+    ghost use Rattle.reg_store_tables.specs.declared.fault.DatabaseFault.TheVariants.{Memory};
+
+    ghost from_gives = { λ _ fault. fault ≡ Memory };
+
+    fn from(_error: AllocError) -> DatabaseFault {
+        DatabaseFault::Memory
+    }
+}
+
+impl<T: Drop> From<AllocFailed<T>> for DatabaseFault {
+    ghost use Rattle.reg_store_tables.specs.declared.fault.DatabaseFault.TheVariants.{Memory};
+
+    ghost from_gives = { λ _ fault. fault ≡ Memory };
+
+    fn from(_error: AllocFailed<T>) -> DatabaseFault {
+        DatabaseFault::Memory
+    }
+}
+
+impl From<IssuerFault> for DatabaseFault {
+    ghost use Rattle.reg_store_tables.specs.Faults.{issuer_fault_of};
+
+    ghost from_gives = { λ reason fault. fault ≡ issuer_fault_of reason };
+
+    fn from(reason: IssuerFault) -> DatabaseFault {
+        match reason {
+            IssuerFault::Memory => DatabaseFault::Memory,
+            IssuerFault::BadName | IssuerFault::BadKey => DatabaseFault::Store,
+        }
+    }
+}
+
+impl From<DatabaseFault> for StoreFault {
+    ghost use Rattle.reg_store_tables.specs.Faults.{store_fault_of};
+    ghost use Rattle.reg_store_tables.specs.Stays.{IsDatabaseFault};
+
+    ghost from_gives = { λ call fault. (fault ≡ store_fault_of call) × IsDatabaseFault fault };
+
+    fn from(call: DatabaseFault) -> StoreFault {
+        match call {
+            DatabaseFault::Memory => StoreFault::Memory,
+            DatabaseFault::Store => StoreFault::Store,
+        }
+    }
+}
+
+impl From<Error> for StoreFault {
+    ghost use Rattle.reg_store_tables.specs.Faults.{database_fault_of, store_fault_of};
+    ghost use Rattle.reg_store_tables.specs.Stays.{IsDatabaseFault};
+
+    ghost from_gives = { λ error fault. (fault ≡ store_fault_of (database_fault_of error)) × IsDatabaseFault fault };
+
+    fn from(error: Error) -> StoreFault {
+        StoreFault::from(DatabaseFault::from(error))
+    }
+}
+
+impl<T: Drop> From<AllocFailed<T>> for StoreFault {
+    ghost use Rattle.reg_store_tables.specs.declared.fault.StoreFault.TheVariants.{Memory};
+
+    ghost from_gives = { λ _ fault. fault ≡ Memory };
+
+    fn from(_error: AllocFailed<T>) -> StoreFault {
+        StoreFault::Memory
+    }
+}
+
+impl From<DatabaseFault> for Fault {
+    ghost use Rattle.reg_store_tables.specs.Faults.{fault_of};
+
+    ghost from_gives = { λ call fault. fault ≡ fault_of call };
+
+    fn from(call: DatabaseFault) -> Fault {
+        match call {
+            DatabaseFault::Memory => Fault::Memory,
+            DatabaseFault::Store => Fault::Store,
+        }
+    }
+}

@@ -1,0 +1,29 @@
+//! Look-ups of orders.
+
+ghost use Rattle.std.specs.Prelude.{◌≡◌};
+ghost use Rattle.reg_core.specs.Records.{order_in};
+ghost use Rattle.reg_store_tables.specs.LookUps.{Finds};
+
+use crate::fault::DatabaseFault;
+use crate::read_statements::look_up;
+use crate::sizes::{Table, none_past};
+use crate::sql::ORDER_BY_ID;
+use crate::sql_values::sql_key;
+use crate::tables::Tables;
+use reg_core::OrderRow;
+use sqlite::{Alter, params};
+
+impl<S: Alter> Tables<S> {
+    /// The order with an id.
+    ///
+    /// # Errors
+    /// `Memory`; `Store` where the database fails, or where its row is one that no register writes.
+    pub fn order(&mut self, id: u64) -> Result<Option<OrderRow>, DatabaseFault>
+        ensures { Finds S.Store self.old self.new result (λ records row. row ≡ order_in records.orders id) }
+    {
+        let Some(value) = sql_key(id) else {
+            return none_past(&mut self.connection, Table::Orders, id);
+        };
+        look_up::<S, OrderRow>(&mut self.connection, ORDER_BY_ID, params![&value])
+    }
+}

@@ -1,0 +1,105 @@
+//! The look-up of the requests whose limit has passed.
+
+ghost use Rattle.std.specs.Prelude.{◌≡◌, ◌≤◌, ◌+◌, ◌^◌, ◌&&◌, ◌++◌, List, [], ◌∷◌, length, not, filter, nat_lt, IfOk, IsSome, OnErr};
+ghost use Rattle.reg_core.specs.Due.{deadline, is_open, overdue, overdue_report};
+ghost use Rattle.reg_core.specs.Records.{certificate_in};
+ghost use Rattle.reg_core.specs.Status.{status, is_good};
+ghost use Rattle.reg_store_tables.specs.LookUps.{Finds, FindsIf};
+
+use crate::fault::DatabaseFault;
+use crate::read_statements::look_up_all;
+use crate::sql::UNDECLINED;
+use crate::tables::Tables;
+use reg_core::{Moment, Overdue, RequestRow, Serial, Status, status_of};
+use sqlite::{Alter, Connection};
+
+/// The requests that are not declined, in the order of entry.
+fn undeclined<S: Alter>(conn: &mut Connection<S>) -> Result<Vec<RequestRow>, DatabaseFault>
+    ensures { Finds S.Store conn.old conn.new result (λ records found.
+        found.items ≡ filter (λ row. not row.declined) records.requests) }
+{
+    look_up_all::<S, RequestRow>(conn, UNDECLINED, &[])
+}
+
+/// The report with one request more, whose id is above those in it.
+fn one_more(report: Option<Overdue>, id: u64) -> Result<Option<Overdue>, DatabaseFault>
+    ensures more { (requests : List RequestRow) → (request : RequestRow) → report ≡ overdue_report requests
+        → request.id ≡ id → IfOk result (λ more. more ≡ overdue_report (requests ++ request ∷ [])) }
+    ensures many { (requests : List RequestRow) → report ≡ overdue_report requests
+        → OnErr result (2 ^ 64 ≤ length requests + 1) }
+{
+    match report {
+        None => Ok(Some(Overdue {
+            count: 1,
+            first: id,
+        })),
+        Some(report) => Ok(Some(Overdue {
+            count: report.count.checked_add(1).ok_or(DatabaseFault::Store)?,
+            first: report.first,
+        })),
+    }
+}
+
+impl<S: Alter> Tables<S> {
+    /// Whether a registered certificate is good at a moment. `Store` where it is not registered.
+    fn is_good_at(&mut self, serial: Serial, now: Moment) -> Result<bool, DatabaseFault>
+        ensures { FindsIf (λ records. IsSome (certificate_in records.certificates serial))
+            S.Store self.old self.new result (λ records good. good ≡ is_good (status records serial now)) }
+    {
+        let certificate = self.cert(serial)?;
+        let revoked = self.revocation(serial)?;
+        if certificate.is_none() {
+            return Err(DatabaseFault::Store);
+        }
+        Ok(matches!(status_of(now, certificate, revoked), Status::Good))
+    }
+
+    /// Whether a request that is not declined is overdue: its deadline is past, and its certificate is still good.
+    fn is_late(&mut self, request: RequestRow, now: Moment) -> Result<bool, DatabaseFault>
+        ensures { FindsIf (λ records. IsSome (certificate_in records.certificates request.serial))
+            S.Store self.old self.new result (λ records late. late ≡ (is_good (status records request.serial now) && nat_lt (deadline request) now)) }
+    {
+        let deadline = request.received.secs() + request.ground.limit_secs();
+        let is_past = deadline < now.secs();
+        let is_good = self.is_good_at(request.serial, now)?;
+        Ok(is_good && is_past)
+    }
+
+    /// How many requests are overdue at a moment, and the least id of them. It walks the requests that are not declined.
+    ///
+    /// # Errors
+    /// `Memory`; `Store` where the database fails, or where its rows are ones that no register writes, such as a request
+    /// without its certificate.
+    pub fn open_past_due(&mut self, now: Moment) -> Result<Option<Overdue>, DatabaseFault>
+        ensures { Finds S.Store self.old self.new result (λ records report.
+            report ≡ overdue_report (overdue records now)) }
+    {
+        let requests = undeclined(&mut self.connection)?;
+        let mut report = None;
+        for request in &requests {
+            if self.is_late(*request, now)? {
+                report = one_more(report, request.id)?;
+            }
+        }
+        Ok(report)
+    }
+
+    /// How many requests are open at a moment: not declined, and their certificate is still good. It walks the requests that
+    /// are not declined.
+    ///
+    /// # Errors
+    /// As [`Tables::open_past_due`].
+    pub fn open_count(&mut self, now: Moment) -> Result<u64, DatabaseFault>
+        ensures { Finds S.Store self.old self.new result (λ records count.
+            count ≡ length (filter (is_open records now) records.requests)) }
+    {
+        let requests = undeclined(&mut self.connection)?;
+        let mut count: u64 = 0;
+        for request in &requests {
+            if self.is_good_at(request.serial, now)? {
+                count += 1;
+            }
+        }
+        Ok(count)
+    }
+}

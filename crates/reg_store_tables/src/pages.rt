@@ -1,0 +1,92 @@
+//! Look-ups of the first rows past a key, in the order of keys: as many as are wanted. Each stops at the last of them.
+
+ghost use Rattle.std.specs.Prelude.{◌≡◌, ◌<◌, ◌^◌, map, take};
+ghost use Rattle.reg_core.specs.Crls.{row_of};
+ghost use Rattle.reg_core.specs.Serial.{serial_bytes};
+ghost use Rattle.reg_core.specs.Sound.{SoundRows};
+ghost use Rattle.reg_core_lists.specs.Lists.{key_of, past};
+ghost use Rattle.reg_store_tables.specs.LookUps.{FindsIf};
+
+use crate::fault::DatabaseFault;
+use crate::read_statements::look_up_all;
+use crate::sql::{CERTS_AFTER, CRLS_AFTER, REVOCATIONS_AFTER};
+use crate::sql_values::sql_number;
+use crate::tables::Tables;
+use reg_core::{CertRow, CrlRow, RevocationRow, Serial};
+use sqlite::{Alter, params};
+
+/// The bytes of a serial number, or those of 0, which is below all of them.
+#[tactic(auto, unfolding(reg_core::specs::Serial::serial_bytes))]
+fn bytes_of(after: Option<Serial>) -> [u8; 20]
+    ensures bytes { result ≡ serial_bytes (key_of after) }
+    ensures low { key_of after < 2 ^ 159 }
+{
+    match after {
+        Some(serial) => serial.bytes20(),
+        None => [0; 20],
+    }
+}
+
+impl<S: Alter> Tables<S> {
+    /// The certificates past a serial number, or from the first one on, in ascending order of their serial numbers: as many
+    /// as are wanted, if there are.
+    ///
+    /// # Errors
+    /// `Memory`; `Store` where the database fails, where its rows are ones that no register writes, or where more than
+    /// 2^63 - 1 are wanted.
+    pub fn certs_after(
+        &mut self,
+        after: Option<Serial>,
+        most: u64,
+    ) -> Result<Vec<CertRow>, DatabaseFault>
+        ensures { FindsIf (λ _. most < 2 ^ 63) S.Store self.old self.new result (λ records found.
+            SoundRows records
+            → found.items ≡ take most (past (λ row. row.serial) (key_of after) records.certificates)) }
+    {
+        let limit = sql_number(most)?;
+        let key = bytes_of(after);
+        look_up_all::<S, CertRow>(
+            &mut self.connection,
+            CERTS_AFTER,
+            params![key.as_slice(), &limit],
+        )
+    }
+
+    /// The revocations past a serial number, or from the first one on, in ascending order of their serial numbers: as many
+    /// as are wanted, if there are.
+    ///
+    /// # Errors
+    /// As of [`Tables::certs_after`].
+    pub fn revocations_after(
+        &mut self,
+        after: Option<Serial>,
+        most: u64,
+    ) -> Result<Vec<RevocationRow>, DatabaseFault>
+        ensures { FindsIf (λ _. most < 2 ^ 63) S.Store self.old self.new result (λ records found.
+            SoundRows records
+            → found.items ≡ take most (past (λ row. row.serial) (key_of after) records.revocations)) }
+    {
+        let limit = sql_number(most)?;
+        let key = bytes_of(after);
+        look_up_all::<S, RevocationRow>(
+            &mut self.connection,
+            REVOCATIONS_AFTER,
+            params![key.as_slice(), &limit],
+        )
+    }
+
+    /// The CRLs past a number, without their bytes, in ascending order of their numbers: as many as are wanted, if there
+    /// are.
+    ///
+    /// # Errors
+    /// `Memory`; `Store` where the database fails, where its rows are ones that no register writes, or for a number above
+    /// 2^63 - 1.
+    pub fn crls_after(&mut self, after: u64, most: u64) -> Result<Vec<CrlRow>, DatabaseFault>
+        ensures { FindsIf (λ _. (after < 2 ^ 63) × (most < 2 ^ 63)) S.Store self.old self.new result (λ records found.
+            found.items ≡ map row_of (take most (past (λ crl. crl.number) after records.crls))) }
+    {
+        let limit = sql_number(most)?;
+        let key = sql_number(after)?;
+        look_up_all::<S, CrlRow>(&mut self.connection, CRLS_AFTER, params![&key, &limit])
+    }
+}

@@ -1,0 +1,102 @@
+//! Statements that only read.
+
+ghost use Rattle.std.specs.Prelude.{◌≡◌, ◌≢◌, ◌≤◌, false, [], ◌∷◌, length, IfOk, OnErr, MatchOption};
+ghost use Rattle.sqlite_value.specs.Order.{Row as Values};
+ghost use Rattle.sqlite.specs.Values.{bound};
+ghost use Rattle.reg_store_tables.specs.LookUps.{Queries, ReadsBy, ReadsOne, ReadsRow};
+ghost use Rattle.reg_store_tables.specs.ReadStatements.{IsReading};
+ghost use Rattle.reg_store_tables.specs.ShownRows.{ShowsAll};
+
+use crate::fault::DatabaseFault;
+use crate::rows::{ShownRow, row_in, rows_in};
+use sqlite::types::ValueRef;
+use sqlite::{Alter, Connection, Row};
+
+/// The rows that a query answers.
+pub(crate) fn read<S: Alter>(
+    conn: &mut Connection<S>,
+    sql: &str,
+    params: &[ValueRef<'_>],
+) -> Result<Vec<Row>, DatabaseFault>
+    ensures reads { IsReading sql.now
+        → Queries S.Store conn.old conn.new sql.now (bound params.now) result (λ rows. rows.items) }
+    ensures idle { conn.old.in_transaction ≡ false → conn.new.in_transaction ≡ false }
+{
+    Ok(conn.query_all(sql, params)?)
+}
+
+/// What the one row shows that a query answers, or none where it answers none.
+///
+/// # Errors
+/// `Memory`; `Store` where the database fails, for more rows than one, and for one that has a value that no register writes.
+pub(crate) fn look_up<S: Alter, T: ShownRow>(
+    conn: &mut Connection<S>,
+    sql: &str,
+    params: &[ValueRef<'_>],
+) -> Result<Option<T::Record>, DatabaseFault>
+    ensures reads { IsReading sql.now
+        → ReadsRow T.is_keyed T.has_values T.shown S.Store conn.old conn.new sql.now (bound params.now) result }
+    ensures idle { conn.old.in_transaction ≡ false → conn.new.in_transaction ≡ false }
+{
+    let rows = read(conn, sql, params)?;
+    row_in::<T>(&rows)
+}
+
+/// What the one row shows that a query answers.
+///
+/// # Errors
+/// As of [`look_up`]; `Store` for no row too.
+pub(crate) fn look_up_one<S: Alter, T: ShownRow>(
+    conn: &mut Connection<S>,
+    sql: &str,
+    params: &[ValueRef<'_>],
+) -> Result<T::Record, DatabaseFault>
+    ensures reads { IsReading sql.now
+        → ReadsOne T.is_keyed T.has_values T.shown S.Store conn.old conn.new sql.now (bound params.now) result }
+    ensures idle { conn.old.in_transaction ≡ false → conn.new.in_transaction ≡ false }
+{
+    let found = look_up::<S, T>(conn, sql, params)?;
+    match found {
+        Some(it) => Ok(it),
+        None => Err(DatabaseFault::Store),
+    }
+}
+
+/// What each row shows that a query answers.
+///
+/// # Errors
+/// `Memory`; `Store` where the database fails, and for a row that has a value that no register writes.
+pub(crate) fn look_up_all<S: Alter, T: ShownRow>(
+    conn: &mut Connection<S>,
+    sql: &str,
+    params: &[ValueRef<'_>],
+) -> Result<Vec<T::Record>, DatabaseFault>
+    ensures reads { IsReading sql.now
+        → ReadsBy S.Store conn.old conn.new sql.now (bound params.now) result (λ found. found.items)
+        (ShowsAll T.is_keyed T.shown) (ShowsAll (λ it. T.is_keyed it × T.has_values it) T.shown) }
+    ensures idle { conn.old.in_transaction ≡ false → conn.new.in_transaction ≡ false }
+{
+    let rows = read(conn, sql, params)?;
+    Ok(rows_in::<T>(*rows.allocator(), &rows)?)
+}
+
+/// The one row, or none. `Store` for more.
+pub(crate) fn at_most_one(rows: &[Row]) -> Result<Option<&Row>, DatabaseFault>
+    ensures found { IfOk result (λ found.
+        MatchOption found (rows.now ≡ []) (λ row. rows.now ≡ row.now ∷ [])) }
+    ensures more { OnErr result (2 ≤ length rows.now) }
+{
+    match rows {
+        [] => Ok(None),
+        [row] => Ok(Some(row)),
+        _ => Err(DatabaseFault::Store),
+    }
+}
+
+/// The one row. `Store` for none and for more.
+pub(crate) fn only(rows: &[Row]) -> Result<&Row, DatabaseFault>
+    ensures found { IfOk result (λ row. rows.now ≡ row.now ∷ []) }
+    ensures others { OnErr result ((row : Values) → rows.now ≢ row ∷ []) }
+{
+    at_most_one(rows)?.ok_or(DatabaseFault::Store)
+}

@@ -1,0 +1,356 @@
+//! Rows of the tables as rows of the register, with the columns in the order in which the statements name them.
+
+ghost use Rattle.std.specs.Prelude.{◌≡◌, ◌≤◌, List, Option, map, length, IfOk, IfErr, OnErr};
+ghost use Rattle.std.specs.List.{AllByRecursion};
+ghost use Rattle.reg_store_tables.specs.ShownRows.{IsRowOf};
+
+use crate::fault::{DatabaseFault, Unshown};
+use crate::sql_values::{
+    clock_moment_at, flag_at, ground_at, label_at, moment_at, number_at, number_or_null_at,
+    reason_at, serial_at,
+};
+use reg_core::{
+    CertRow, Counts, CrlRow, Entry, Listing, Moment, OrderRow, RequestRow, RevocationRow,
+    SubscriberRow,
+};
+use sqlite::Row;
+use std::alloc::Global;
+
+/// What one row shows.
+pub trait ShownRow {
+    ghost use Rattle.std.specs.Prelude.{◌≡◌, IfSome, IsSome};
+    ghost use Rattle.sqlite_value.specs.Order.{Row as Cells};
+    ghost use Rattle.reg_store_tables.specs.ShownRows.{HasCells};
+
+    /// What it is read as.
+    type Record: Copy;
+
+    /// Its columns, in the order in which the statement names them.
+    ghost shown: { Self.Record → Cells };
+
+    /// Its serial number, where it has one, is one (RFC 5280 4.1.2.2).
+    ghost is_keyed: { Self.Record → Type 0 };
+
+    /// Its other values are such that the register's types have them.
+    ghost has_values: { Self.Record → Type 0 };
+
+    /// What the row shows, or none where a value in it is none that a register writes.
+    fn in_row(row: &Row) -> Option<Self::Record>
+        ensures read { (it : Self.Record) → is_keyed it → row.now ≡ shown it
+            → IfSome result (λ read. read ≡ it) }
+        ensures has { (it : Self.Record) → is_keyed it → has_values it → row.now ≡ shown it → IsSome result }
+        ensures told { IfSome result (λ it. is_keyed it × HasCells 0 row.now (shown it)) };
+}
+
+impl ShownRow for SubscriberRow {
+    ghost use Rattle.reg_store_tables.specs.ReadStatements.{shown_subscriber};
+    ghost use Rattle.reg_core.specs.Label.{IsLabel};
+
+    type Record = SubscriberRow;
+
+    ghost shown = { shown_subscriber };
+
+    ghost is_keyed = { λ _. Unit {0} };
+
+    ghost has_values = { λ it. IsLabel it.name };
+
+    fn in_row(row: &Row) -> Option<SubscriberRow> {
+        Some(SubscriberRow {
+            id: number_at(row, 0)?,
+            name: label_at(row, 1)?,
+        })
+    }
+}
+
+impl ShownRow for OrderRow {
+    ghost use Rattle.reg_store_tables.specs.ReadStatements.{shown_order};
+
+    type Record = OrderRow;
+
+    ghost shown = { shown_order };
+
+    ghost is_keyed = { λ _. Unit {0} };
+
+    ghost has_values = { λ _. Unit {0} };
+
+    fn in_row(row: &Row) -> Option<OrderRow> {
+        Some(OrderRow {
+            id: number_at(row, 0)?,
+            subscriber: number_at(row, 1)?,
+            days: number_at(row, 2)?,
+        })
+    }
+}
+
+impl ShownRow for CertRow {
+    ghost use Rattle.reg_store_tables.specs.ReadStatements.{shown_certificate};
+    ghost use Rattle.reg_core.specs.Serial.{IsSerial};
+    ghost use Rattle.reg_store_tables.specs.RecordValues.{IsValidity};
+
+    type Record = CertRow;
+
+    ghost shown = { shown_certificate };
+
+    ghost is_keyed = { λ it. IsSerial it.serial };
+
+    ghost has_values = { λ it. IsValidity it.not_before it.not_after };
+
+    fn in_row(row: &Row) -> Option<CertRow> {
+        Some(CertRow {
+            serial: serial_at(row, 0)?,
+            order: number_at(row, 1)?,
+            not_before: moment_at(row, 2)?,
+            not_after: moment_at(row, 3)?,
+        })
+    }
+}
+
+impl ShownRow for RequestRow {
+    ghost use Rattle.reg_store_tables.specs.ReadStatements.{shown_request};
+    ghost use Rattle.reg_core.specs.Serial.{IsSerial};
+    ghost use Rattle.std.specs.Prelude.{◌<◌};
+    ghost use Rattle.reg_core.specs.Calendar.{clock_end};
+
+    type Record = RequestRow;
+
+    ghost shown = { shown_request };
+
+    ghost is_keyed = { λ it. IsSerial it.serial };
+
+    ghost has_values = { λ it. it.received < clock_end };
+
+    fn in_row(row: &Row) -> Option<RequestRow> {
+        Some(RequestRow {
+            id: number_at(row, 0)?,
+            serial: serial_at(row, 1)?,
+            ground: ground_at(row, 2)?,
+            received: clock_moment_at(row, 3)?,
+            declined: flag_at(row, 4)?,
+        })
+    }
+}
+
+impl ShownRow for RevocationRow {
+    ghost use Rattle.reg_store_tables.specs.ReadStatements.{shown_revocation};
+    ghost use Rattle.reg_core.specs.Serial.{IsSerial};
+    ghost use Rattle.reg_store_tables.specs.RecordValues.{AreMomentAndReason};
+
+    type Record = RevocationRow;
+
+    ghost shown = { shown_revocation };
+
+    ghost is_keyed = { λ it. IsSerial it.serial };
+
+    ghost has_values = { λ it. AreMomentAndReason it.at it.reason };
+
+    fn in_row(row: &Row) -> Option<RevocationRow> {
+        Some(RevocationRow {
+            serial: serial_at(row, 0)?,
+            at: clock_moment_at(row, 1)?,
+            reason: reason_at(row, 2)?,
+            request: number_at(row, 3)?,
+            first: number_at(row, 4)?,
+        })
+    }
+}
+
+impl ShownRow for CrlRow {
+    ghost use Rattle.reg_store_tables.specs.ReadStatements.{shown_crl};
+    ghost use Rattle.std.specs.Prelude.{◌<◌};
+    ghost use Rattle.reg_core.specs.Calendar.{clock_end};
+
+    type Record = CrlRow;
+
+    ghost shown = { shown_crl };
+
+    ghost is_keyed = { λ _. Unit {0} };
+
+    ghost has_values = { λ it. it.this_update < clock_end };
+
+    fn in_row(row: &Row) -> Option<CrlRow> {
+        Some(CrlRow {
+            number: number_at(row, 0)?,
+            this_update: clock_moment_at(row, 1)?,
+        })
+    }
+}
+
+impl ShownRow for Entry {
+    ghost use Rattle.reg_store_tables.specs.ReadStatements.{shown_entry};
+    ghost use Rattle.reg_core.specs.Serial.{IsSerial};
+    ghost use Rattle.reg_store_tables.specs.RecordValues.{AreMomentAndReason};
+
+    type Record = Entry;
+
+    ghost shown = { shown_entry };
+
+    ghost is_keyed = { λ it. IsSerial it.serial };
+
+    ghost has_values = { λ it. AreMomentAndReason it.at it.reason };
+
+    fn in_row(row: &Row) -> Option<Entry> {
+        Some(Entry {
+            serial: serial_at(row, 0)?,
+            at: clock_moment_at(row, 1)?,
+            reason: reason_at(row, 2)?,
+        })
+    }
+}
+
+impl ShownRow for Counts {
+    ghost use Rattle.reg_store_tables.specs.ShownRows.{shown_counts};
+
+    type Record = Counts;
+
+    ghost shown = { shown_counts };
+
+    ghost is_keyed = { λ _. Unit {0} };
+
+    ghost has_values = { λ _. Unit {0} };
+
+    fn in_row(row: &Row) -> Option<Counts> {
+        Some(Counts {
+            good: number_at(row, 0)?,
+            revoked: number_at(row, 1)?,
+            expired: number_at(row, 2)?,
+        })
+    }
+}
+
+impl ShownRow for Listing {
+    ghost use Rattle.reg_store_tables.specs.ShownRows.{shown_listing};
+
+    type Record = Listing;
+
+    ghost shown = { shown_listing };
+
+    ghost is_keyed = { λ _. Unit {0} };
+
+    ghost has_values = { λ _. Unit {0} };
+
+    fn in_row(row: &Row) -> Option<Listing> {
+        Some(Listing {
+            first: number_at(row, 0)?,
+            last: number_or_null_at(row, 1)?,
+        })
+    }
+}
+
+/// A step of the schedule: a moment, and the days of validity from it on.
+pub struct Step;
+
+impl ShownRow for Step {
+    ghost use Rattle.reg_store_tables.specs.ReadStatements.{shown_step};
+    ghost use Rattle.reg_core.specs.Calendar.{IsMoment};
+
+    type Record = (Moment, u64);
+
+    ghost shown = { shown_step };
+
+    ghost is_keyed = { λ _. Unit {0} };
+
+    ghost has_values = { λ it. IsMoment it.0 };
+
+    fn in_row(row: &Row) -> Option<(Moment, u64)> {
+        Some((moment_at(row, 0)?, number_at(row, 1)?))
+    }
+}
+
+/// One number.
+pub(crate) struct Number;
+
+impl ShownRow for Number {
+    ghost use Rattle.reg_store_tables.specs.ShownRows.{shown_number};
+
+    type Record = u64;
+
+    ghost shown = { shown_number };
+
+    ghost is_keyed = { λ _. Unit {0} };
+
+    ghost has_values = { λ _. Unit {0} };
+
+    fn in_row(row: &Row) -> Option<u64> {
+        Some(number_at(row, 0)?)
+    }
+}
+
+/// One moment, which the clock lets pass.
+pub(crate) struct ClockMoment;
+
+impl ShownRow for ClockMoment {
+    ghost use Rattle.reg_store_tables.specs.ShownRows.{shown_number};
+    ghost use Rattle.std.specs.Prelude.{◌<◌};
+    ghost use Rattle.reg_core.specs.Calendar.{clock_end};
+
+    type Record = Moment;
+
+    ghost shown = { shown_number };
+
+    ghost is_keyed = { λ _. Unit {0} };
+
+    ghost has_values = { λ it. it < clock_end };
+
+    fn in_row(row: &Row) -> Option<Moment> {
+        Some(clock_moment_at(row, 0)?)
+    }
+}
+
+/// The lives of CRLs and of OCSP answers, and the cap.
+pub(crate) struct Terms;
+
+impl ShownRow for Terms {
+    ghost use Rattle.reg_store_tables.specs.ShownRows.{shown_terms};
+
+    type Record = (u64, u64, u64);
+
+    ghost shown = { shown_terms };
+
+    ghost is_keyed = { λ _. Unit {0} };
+
+    ghost has_values = { λ _. Unit {0} };
+
+    fn in_row(row: &Row) -> Option<(u64, u64, u64)> {
+        Some((number_at(row, 0)?, number_at(row, 1)?, number_at(row, 2)?))
+    }
+}
+
+/// What each row shows, one after the other.
+///
+/// # Errors
+/// `Memory`; `At` with the place, counted from 0, of the first row that has a value that no register writes.
+pub fn rows_in<T: ShownRow>(alloc: Global, rows: &[Row]) -> Result<Vec<T::Record>, Unshown>
+    ensures read { (shown : List T.Record) → AllByRecursion T.is_keyed shown → rows.now ≡ map T.shown shown
+        → IfOk result (λ read. read.items ≡ shown) }
+    ensures has { (shown : List T.Record) → AllByRecursion T.is_keyed shown
+        → AllByRecursion T.has_values shown → rows.now ≡ map T.shown shown → IfErr result (λ why. why ≡ Unshown.Memory) }
+{
+    let mut found = Vec::new(alloc);
+    for row in rows {
+        match T::in_row(row) {
+            Some(it) => found.push(it)?,
+            None => return Err(Unshown::At(found.len())),
+        }
+    }
+    Ok(found)
+}
+
+/// What the one row shows, or none where there is none.
+///
+/// # Errors
+/// `Store` for more rows than one, and for one that has a value that no register writes.
+pub(crate) fn row_in<T: ShownRow>(rows: &[Row]) -> Result<Option<T::Record>, DatabaseFault>
+    ensures read { (wanted : Option T.Record) → IsRowOf T.is_keyed T.shown rows.now wanted
+        → IfOk result (λ found. found ≡ wanted) }
+    ensures has { (wanted : Option T.Record)
+        → IsRowOf (λ it. T.is_keyed it × T.has_values it) T.shown rows.now wanted → OnErr result (2 ≤ length rows.now) }
+{
+    match rows {
+        [] => Ok(None),
+        [row] => match T::in_row(row) {
+            Some(it) => Ok(Some(it)),
+            None => Err(DatabaseFault::Store),
+        },
+        _ => Err(DatabaseFault::Store),
+    }
+}

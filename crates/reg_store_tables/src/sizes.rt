@@ -1,0 +1,78 @@
+//! How many rows the tables of the records have: the number of the last row, since rows are numbered from 1 on.
+
+ghost use Rattle.std.specs.Prelude.{◌≡◌, ◌<◌, ◌≤◌, ◌^◌, None, IsTrue, OnOk};
+ghost use Rattle.sqlite.specs.Held.{state};
+ghost use Rattle.sqlite.specs.State.{HasCleanDisk};
+ghost use Rattle.reg_store_tables.specs.LookUps.{Finds, FindsIf};
+ghost use Rattle.reg_store_tables.specs.Stays.{IsRegister};
+ghost use Rattle.reg_store_tables.specs.Tables.{rows_of, text_of_last};
+
+use crate::fault::DatabaseFault;
+use crate::read_statements::look_up;
+use crate::rows::Number;
+use crate::sql::{LAST_CERT, LAST_CRL, LAST_ORDER, LAST_REQUEST, LAST_SUBSCRIBER};
+use crate::tables::Tables;
+use sqlite::{Alter, Connection};
+
+/// The tables of the records that have a cap.
+#[derive(Clone, Copy, PartialEq, Eq)]
+pub enum Table {
+    Subscribers,
+    Orders,
+    Certs,
+    Requests,
+    Crls,
+}
+
+/// The text that finds the last row of a table.
+fn last_row(table: Table) -> &'static str
+    ensures { result.now ≡ text_of_last table }
+{
+    match table {
+        Table::Subscribers => LAST_SUBSCRIBER,
+        Table::Orders => LAST_ORDER,
+        Table::Certs => LAST_CERT,
+        Table::Requests => LAST_REQUEST,
+        Table::Crls => LAST_CRL,
+    }
+}
+
+impl<S: Alter> Tables<S> {
+    /// How many rows a table has, which is the last id, or for CRLs the latest number. It finds the last row alone.
+    ///
+    /// # Errors
+    /// `Memory`; `Store` where the database fails, or where its row is one that no register writes.
+    pub fn held(&mut self, table: Table) -> Result<u64, DatabaseFault>
+        ensures { Finds S.Store self.old self.new result (λ records rows. rows ≡ rows_of records table) }
+    {
+        held(&mut self.connection, table)
+    }
+}
+
+/// How many rows a table has.
+pub(crate) fn held<S: Alter>(conn: &mut Connection<S>, table: Table) -> Result<u64, DatabaseFault>
+    ensures finds { Finds S.Store conn.old conn.new result (λ records rows. rows ≡ rows_of records table) }
+    ensures live { IsRegister (state S.Store conn.old) → HasCleanDisk (state S.Store conn.new)
+        → OnOk result (IsTrue (state S.Store conn.old).is_open) }
+{
+    let last = look_up::<S, Number>(conn, last_row(table), &[])?;
+    Ok(last.unwrap_or(0))
+}
+
+/// What a table has at a number that SQL doesn't have: nothing, since its rows are numbered from 1 on and the last row's number is
+/// below.
+pub(crate) fn none_past<S: Alter, T>(
+    conn: &mut Connection<S>,
+    table: Table,
+    number: u64,
+) -> Result<Option<T>, DatabaseFault>
+    ensures { FindsIf (λ _. 2 ^ 63 ≤ number) S.Store conn.old conn.new result
+        (λ records found. (found ≡ None) × IsTrue (state S.Store conn.old).is_open × (rows_of records table < number)) }
+{
+    let rows = held(conn, table)?;
+    if rows < number {
+        Ok(None)
+    } else {
+        Err(DatabaseFault::Store)
+    }
+}

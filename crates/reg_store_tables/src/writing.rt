@@ -1,0 +1,96 @@
+//! Statements that write, inside a transaction.
+
+ghost use Rattle.std.specs.Prelude.{◌≡◌, ◌<◌, ◌≤◌, ◌^◌, pos, cond, OnOk, IfOk, IfErr};
+ghost use Rattle.sqlite.specs.Values.{bound};
+ghost use Rattle.sqlite.specs.Held.{state};
+ghost use Rattle.sqlite.specs.State.{HasCleanDisk};
+ghost use Rattle.reg_store_tables.specs.Rows.{ground_place};
+ghost use Rattle.reg_store_tables.specs.Stays.{Stepped};
+ghost use Rattle.reg_store_tables.specs.Commits.{Ends};
+ghost use Rattle.reg_store_tables.specs.Ran.{Ran};
+
+use crate::DatabaseFault;
+use reg_core::{Ground, Moment};
+use sqlite::types::ValueRef;
+use sqlite::{Alter, Transaction};
+
+/// The number as SQL has it.
+///
+/// # Errors
+/// `Store` above 2^63 - 1, which SQL doesn't have.
+pub fn sql_number(n: u64) -> Result<ValueRef<'static>, DatabaseFault>
+    ensures value { IfOk result (λ value. value ≡ ValueRef.Int (pos n)) }
+    ensures had { OnOk result (n < 2 ^ 63) }
+    ensures refused { IfErr result (λ fault. (fault ≡ DatabaseFault.Store) × (2 ^ 63 ≤ n)) }
+{
+    match i64::try_from(n) {
+        Ok(n) => Ok(ValueRef::Int(n)),
+        Err(_) => Err(DatabaseFault::Store),
+    }
+}
+
+/// The moment as SQL has it, in whole seconds.
+pub fn sql_moment(moment: Moment) -> ValueRef<'static>
+    ensures { result ≡ ValueRef.Int (pos moment) }
+{
+    ValueRef::Int(moment.secs() as i64)
+}
+
+/// The flag as SQL has it, 0 or 1.
+pub fn sql_flag(flag: bool) -> ValueRef<'static>
+    ensures { result ≡ ValueRef.Int (pos (cond flag 1 0)) }
+{
+    ValueRef::Int(if flag { 1 } else { 0 })
+}
+
+/// The reasonCode as SQL has it (RFC 5280 5.3.1).
+pub fn sql_reason(reason: u8) -> ValueRef<'static>
+    ensures { result ≡ ValueRef.Int (pos reason) }
+{
+    ValueRef::Int(i64::from(reason))
+}
+
+/// The ground as its place in the list of grounds.
+pub fn sql_ground(ground: Ground) -> ValueRef<'static>
+    ensures { result ≡ ValueRef.Int (pos (ground_place ground)) }
+{
+    ValueRef::Int(match ground {
+        Ground::Asked => 1,
+        Ground::Unauthorized => 2,
+        Ground::KeyCompromise => 3,
+        Ground::ControlLost => 4,
+        Ground::Affiliation => 5,
+        Ground::Superseded => 6,
+        Ground::Cessation => 7,
+        Ground::Misuse => 8,
+        Ground::NameNotPermitted => 9,
+        Ground::Nonconforming => 10,
+        Ground::Inaccurate => 11,
+    })
+}
+
+/// How many rows the statement wrote, inside the transaction.
+///
+/// # Errors
+/// `Memory`; `Store` where the database fails, or refuses the statement.
+pub fn write<S: Alter>(
+    tx: &mut Transaction<'_, S>,
+    sql: &str,
+    params: &[ValueRef<'_>],
+) -> Result<usize, DatabaseFault>
+    ensures ran { HasCleanDisk (state S.Store tx.new.conn.now) → IfOk result
+        (Ran sql.now (bound params.now) (state S.Store tx.old.conn.now) (state S.Store tx.new.conn.now)) }
+    ensures stepped { Stepped S.Store tx.old tx.new }
+{
+    Ok(tx.execute(sql, params)?)
+}
+
+/// Commits the transaction.
+///
+/// # Errors
+/// `Memory`; `Store` where the database fails, or has ended the transaction before. Nothing of it stays then.
+pub fn commit<S: Alter>(tx: Transaction<'_, S>) -> Result<(), DatabaseFault>
+    ensures { Ends S.Store tx.entry.conn.now tx.exit.0.now result }
+{
+    Ok(tx.commit()?)
+}

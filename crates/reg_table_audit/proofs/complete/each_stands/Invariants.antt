@@ -1,7 +1,0 @@
-use Rattle.std.proofs.Common.{take}
-use Rattle.std.specs.List.{AllByRecursion}
-use Rattle.reg_table_audit.specs.Cells.{IsOfSomeRecord}
-use Rattle.reg_table_audit.proofs.complete.each_stands.Given as goal
-
-abbrev pub invariant-loop-row : goal.invariant-loop-row
-invariant-loop-row g l = AllByRecursion (IsOfSomeRecord g.T.ShownRow.is_keyed g.T.ShownRow.shown) (take l.row-index l.rows)

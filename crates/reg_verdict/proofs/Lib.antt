@@ -1,3 +1,0 @@
-pub mod Ordered
-pub mod VerdictLemmas
-pub mod Ends

@@ -1,3 +1,0 @@
-pub mod Verdicts
-pub mod Presumed
-pub mod Judged

@@ -1,9 +1,0 @@
-use Rattle.reg_watch.specs.Metrics.{numbers_text}
-use Rattle.reg_watch.proofs.Fronts.{parts_5}
-use Rattle.reg_watch.proofs.families.put_numbers.Goals as goal
-
-pub returns : goal.returns
-unfolding numbers_text
-returns c =
-    parts_5 _ _ _ _ _ _ _ _ _ _ _ c.in_ok-put_sample.ensures c.in_ok-put_certificates.ensures c.in_ok-put_moment.ensures c.in_ok-put_crl.ensures
-    c.in_ok-put_moment-2.ensures

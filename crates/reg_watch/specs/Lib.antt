@@ -1,5 +1,0 @@
-pub mod Exchanges
-pub mod Healths
-pub mod Metrics
-pub mod Samples
-pub mod Tallies

@@ -1,3 +1,0 @@
-pub mod DeskLemmas
-pub mod StepTexts
-pub mod TableLemmas

@@ -1,5 +1,0 @@
-pub mod Desk
-pub mod Jobs
-pub mod Statuses
-pub mod Table
-pub mod WordValues

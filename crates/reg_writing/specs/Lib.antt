@@ -1,4 +1,0 @@
-pub mod AfterStop
-pub mod Ran
-pub mod RowEffects
-pub mod Staged
