@@ -21,13 +21,13 @@ use Rattle.reg_office_api.specs.declared.response.ResponseKind.TheVariants.{Sign
 
 -- a response of this kind to a request that was read
 abbrev pub IsReadResponse : Signs → Responder → Records → ℕ → List Id → Option (List ℕ) → ResponseKind → List ℕ → Type 0
-IsReadResponse signs responder records now ids nonce Signed bytes =
-    (first_of_all (clock_checks now records.last) ≡ None) × IsResponse signs responder records now ids nonce bytes
-IsReadResponse signs responder records now ids nonce Malformed bytes = ⊥
-IsReadResponse signs responder records now ids nonce TryLater bytes =
+IsReadResponse signs responder records now ids echo Signed bytes =
+    (first_of_all (clock_checks now records.last) ≡ None) × IsResponse signs responder records now ids echo bytes
+IsReadResponse signs responder records now ids echo Malformed bytes = ⊥
+IsReadResponse signs responder records now ids echo TryLater bytes =
     ((refusal : Refusal) × (first_of_all (clock_checks now records.last) ≡ Some refusal)) × (bytes ≡ refusal_response status.TryLater)
-IsReadResponse signs responder records now ids nonce StoreFailure bytes = bytes ≡ refusal_response status.Internal
-IsReadResponse signs responder records now ids nonce SignerFailure bytes = bytes ≡ refusal_response status.Internal
+IsReadResponse signs responder records now ids echo StoreFailure bytes = bytes ≡ refusal_response status.Internal
+IsReadResponse signs responder records now ids echo SignerFailure bytes = bytes ≡ refusal_response status.Internal
 
 -- a response of this kind to bytes: malformedRequest where they are no request, else to what they ask
 abbrev pub IsOcspResponse : Signs → Responder → Records → ℕ → List ℕ → ResponseKind → List ℕ → Type 0
