@@ -54,11 +54,11 @@ IsResponding records now (Err fault.Store) = Unit {0}
 
 -- the ResponseData to a request that was read; the clock refuses this moment; or memory or the store failed
 abbrev pub IsMessage : {Z : Type 0} → List ℕ → Records → ℕ → List Id → Option (List ℕ) → Result (Vec ℕ Z) ResponseFault → Type 0
-IsMessage key records now ids nonce (Ok bytes) =
-    (first_of_all (clock_checks now records.last) ≡ None) × IsOcspData key records now ids nonce bytes.items
-IsMessage key records now ids nonce (Err fault.Clock) = IsSome (first_of_all (clock_checks now records.last))
-IsMessage key records now ids nonce (Err fault.Memory) = Unit {0}
-IsMessage key records now ids nonce (Err fault.Store) = Unit {0}
+IsMessage key records now ids echo (Ok bytes) =
+    (first_of_all (clock_checks now records.last) ≡ None) × IsOcspData key records now ids echo bytes.items
+IsMessage key records now ids echo (Err fault.Clock) = IsSome (first_of_all (clock_checks now records.last))
+IsMessage key records now ids echo (Err fault.Memory) = Unit {0}
+IsMessage key records now ids echo (Err fault.Store) = Unit {0}
 
 -- a refusal before anything is signed, where internalError tells any failure of the store
 abbrev pub IsRefusal : Records → ℕ → List ℕ → ResponseKind → List ℕ → Type 0
