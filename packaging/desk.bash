@@ -11,11 +11,12 @@ _desk() {
         return
     fi
     help=$("$program" "${COMP_WORDS[at]}" --help 2>/dev/null) || return
-    # What the option before wants: a moment is the machine's, a file or a socket is looked for, a number is the caller's.
+    # What the option before wants: a moment is the machine's, a file or a socket is looked for, an algorithm is one that the help names, a number is the caller's.
     value=$(sed -n "s/^ *\(-., \)\?$previous <\([A-Z=]*\)>.*/\2/p" <<<"$help")
     case $previous:$value in
     --*:MOMENT) mapfile -t COMPREPLY < <(compgen -W "$(date -u +%Y-%m-%dT%H:%M:%SZ)" -- "$cur") ;;
     --*:FILE | --*:SOCKET | --*:CERT | --*:PATH) mapfile -t COMPREPLY < <(compgen -f -- "$cur") ;;
+    --*algorithm:*) mapfile -t COMPREPLY < <(compgen -W "$(sed -n "s/^ *$previous <[A-Z]*> .*: //p" <<<"$help" | sed 's/,\| or / /g')" -- "$cur") ;;
     --*:?*) COMPREPLY=() ;;
     *)
         if [[ ${COMP_WORDS[at]} == list && $COMP_CWORD -eq $((at + 2)) ]]; then

@@ -359,6 +359,8 @@ def documented(t, root):
     t.has(" ".join(completed("desk", "open", "ca.db", "--")), opens)
     t.has(" ".join(completed("desk", "import", "ca.db", "--now", "")), time.strftime("%Y-%m-%dT", time.gmtime()))
     t.same(sorted(completed("desk", "list", "ca.db", "o")), ["open-requests", "orders", "overdue"], "desk list ca.db o..")
+    for option in ("--algorithm", "--responder-algorithm"):
+        t.same(sorted(completed("desk", "open", "ca.db", option, "e")), ["ecdsa-sha256", "ecdsa-sha384", "ed25519"], f"desk open ca.db {option} e..")
     t.has(completed("desk", "script", "durs"), "durshavon.deb")
     for unit in sorted((root.path / "lib/systemd/system").glob("desk*@.*")):
         told = root.tried("systemd-analyze", "verify", "--man=no", unit.name.replace("@", "@ca"))
