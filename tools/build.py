@@ -7,8 +7,9 @@ taken as it is.
 Those that take longest go first, by the seconds that each crate took when it was last measured (tools/build-times.txt), and by these it
 also tells how long is left: the longest chain that is not done, at the pace of what was done.
 
-Usage: tools/build.py [--times] [CRATE]        (CRATE is reg_desk if left out; --times prints each crate's seconds of
-the processor, and of the clock, at the end, and writes tools/build-times.txt where all was built anew)
+Usage: tools/build.py [--times] [--lean] [CRATE]        (CRATE is reg_desk if left out; --times prints each crate's seconds of
+the processor, and of the clock, at the end, and writes tools/build-times.txt where all was built anew; --lean removes the proofs of
+each library's functions once the library is built, so that a build needs less of the disk, and a later one proves a changed crate whole)
 """
 import fcntl
 import os
@@ -86,6 +87,15 @@ def below(crates, name):
     return found
 
 
+def folder_of_rooms():
+    """Returns where rooms are made: in the system's temporary folder or, if that is on another disk, where a library can't be linked but is copied, in out/."""
+    other = tempfile.gettempdir()
+    if os.stat(other).st_dev == os.stat(TOP).st_dev:
+        return other
+    os.makedirs(f"{TOP}/out", exist_ok=True)
+    return f"{TOP}/out"
+
+
 def link_or_copy(source, target):
     try:
         os.link(source, target)
@@ -118,10 +128,10 @@ def rt_command(jobs, is_first, *words):
     return [*([] if is_first else ["nice", "-n", "10"]), RT, words[0], "--jobs", str(jobs), *words[1:]]
 
 
-def build_library(crates, crate, jobs, is_first):
+def build_library(crates, crate, is_lean, jobs, is_first):
     """Builds a library in a room of its own, since rt lets only one run at a time into a crate and into those below it, and
     moves what was built into the crate's folder."""
-    with tempfile.TemporaryDirectory(prefix="desk-build-") as room:
+    with tempfile.TemporaryDirectory(prefix="desk-build-", dir=folder_of_rooms()) as room:
         for name in below(crates, crate.name):
             lend(crates[name], room, ["src", "specs", "proofs", "out/rlib"])
         lend(crate, room, ["src", "specs", "proofs", "out"])
@@ -129,6 +139,8 @@ def build_library(crates, crate, jobs, is_first):
             file.write("".join(f"{crates[it].line}\n" for it in [*below(crates, crate.name), crate.name]))
         built = Built(rt_command(jobs, is_first, "lib"), f"{room}/crates/{crate.name}")
         if not built.status:
+            if is_lean:
+                shutil.rmtree(f"{room}/crates/{crate.name}/out/incremental", ignore_errors=True)
             shutil.rmtree(f"{crate.folder}/out", ignore_errors=True)
             shutil.move(f"{room}/crates/{crate.name}/out", f"{crate.folder}/out")
         return built
@@ -207,7 +219,7 @@ def room_for(jobs, running):
     return wanted + promised <= 0.85 * (free_memory() + promised / 2)
 
 
-def build(crates, names):
+def build(crates, names, is_lean=False):
     """Builds these crates side by side, and returns how each one's build ended, or None where one failed."""
     lanes, behind = len(os.sched_getaffinity(0)), chains(crates, names)
     left, running, progress = sorted(names, key=lambda it: -behind[it]), {}, Progress(crates, names, behind)
@@ -227,7 +239,7 @@ def build(crates, names):
                     jobs -= 1
                 if (is_first or idle > 0) and room_for(jobs, running):
                     left.remove(name)
-                    call = (build_program, crates[name]) if crates[name].is_program() else (build_library, crates, crates[name], jobs)
+                    call = (build_program, crates[name]) if crates[name].is_program() else (build_library, crates, crates[name], is_lean, jobs)
                     running[pool.submit(*call, is_first)] = name, jobs
                     progress.started[name] = time.monotonic()
             for it in wait(running, return_when=FIRST_COMPLETED).done:
@@ -245,7 +257,7 @@ def build(crates, names):
 
 
 def main():
-    words = [it for it in sys.argv[1:] if it != "--times"]
+    words = [it for it in sys.argv[1:] if it not in ("--times", "--lean")]
     crates = read_crates()
     if len(words) > 1 or any(it not in crates for it in words):
         raise SystemExit(__doc__)
@@ -255,7 +267,7 @@ def main():
     name, started = (words or ["reg_desk"])[0], time.monotonic()
     with open(f"{TOP}/crates.txt", encoding="utf-8") as held:
         fcntl.flock(held, fcntl.LOCK_EX)
-        took = build(crates, [*below(crates, name), name])
+        took = build(crates, [*below(crates, name), name], "--lean" in sys.argv)
     if took is None:
         raise SystemExit(126)
     if "--times" in sys.argv:

@@ -40,8 +40,9 @@ esac
 END
 chmod +x "$made"
 """
-# What stands for tools/build.py.
+# What stands for tools/build.py. It notes its words.
 BUILD = """#!/bin/sh
+echo "build $*" >>"$(dirname "$0")/../ran"
 made=$(dirname "$0")/../crates/reg_desk/out
 mkdir -p "$made"
 printf '#!/bin/sh\\necho proved "$@"\\n' >"$made/reg_desk"
@@ -65,6 +66,7 @@ class Repository:
             (self.top / it).parent.mkdir(parents=True, exist_ok=True)
             shutil.copy2(program.TOP / it, self.top / it)
         put(self.top / "tools/build.py", BUILD, is_program=True)
+        put(self.top / "tools/trim.py", '#!/bin/sh\necho "trim $*" >>"$(dirname "$0")/../ran"\n', is_program=True)
         put(self.top / "crates.txt", "reg_desk:\n")
         put(self.top / "crates/reg_desk/src/main.rt", "fn main() {}\n")
         put(self.top / "crates/reg_desk/proofs/main.antt", "-- a proof\n")
@@ -158,6 +160,127 @@ def a_proved_program_is_taken_first(t):
     later = (it.top / "crates/reg_desk/out/reg_desk").stat().st_mtime + 10
     os.utime(it.top / "crates/reg_desk/proofs/main.antt", (later, later))
     it.looks(["script"], 1)
+
+
+# The words of ./desk, and what it runs for them.
+BUILDS = {"build": ["build --lean", "trim "], "build --keep": ["build "], "script ca.db": ["build --lean", "trim "]}
+
+
+@each({words: words for words in BUILDS}, seconds=1)
+def a_build_is_trimmed_unless_it_is_to_be_kept(t, words):
+    it = Repository(t)
+    ran = lambda: (it.top / "ran").read_text().splitlines()
+    t.same(it.desk(*words.split())[0], 0, "status")
+    t.same(ran(), BUILDS[words], "what was run")
+    for again in ("build", "build --keep"):
+        t.same(it.desk(*again.split())[:2], (0, ""), f"status and standard output of {again}, where nothing has changed")
+    t.same(ran(), BUILDS[words], "nothing more is run, and nothing is removed, where nothing has changed")
+
+
+@test
+def the_words_of_a_build(t):
+    it = Repository(t)
+    status, out, _ = it.desk("build", "--help")
+    t.same((status, "--keep" in out), (0, True), "status, and what is told")
+    for words in (("build", "--kept"), ("build", "reg_core"), ("build", "--keep", "--keep")):
+        t.same(it.desk(*words), (2, "", "usage: ./desk build [--keep]\n"), f"status, standard output and standard error of {words}")
+    t.true(not (it.top / "ran").exists(), "nothing is built")
+
+
+MB = 1_000_000
+# A repository's crates, those that each stands on, and how many megabytes a build leaves of each one's library, its proofs and all else. `office` comes first in
+# crates.txt, whose order is free.
+MADE = {"office": ("store", 0.9, 3, 0), "core": ("", 0.3, 1, 0), "laws": ("core", 0.2, 0.5, 0), "store": ("core laws", 0.8, 2, 0.1), "reg_desk": ("office", 0, 1, 0.4)}
+
+
+def made_up(t):
+    """Folders out/ of the shape that rt leaves, below a crates.txt."""
+    top = t.room / "made"
+    for name in ("trim.py", "build.py", "build-times.txt"):
+        (top / "tools").mkdir(parents=True, exist_ok=True)
+        shutil.copy2(program.TOP / "tools" / name, top / "tools" / name)
+    fill = lambda path, much: put(path, "x" * int(much * MB)) if much else None
+    put(top / "crates.txt", "# crates\n" + "".join(f"{name}: {uses}\n" for name, (uses, *_) in MADE.items()))
+    for name, (_, library, proofs, rest) in MADE.items():
+        out = top / "crates" / name / "out"
+        put(top / "crates" / name / f"src/{'main' if name == 'reg_desk' else 'lib'}.rt", "fn it() {}\n")
+        fill(out / f"rlib/{name}.rlib/toolchain/checked.a", library)
+        if library:
+            put(out / f"rlib/{name}.rlib/format", "1\n")
+            put(out / "rlib/stamp", f"stamp of {name}")
+        fill(out / f"incremental/antt-checked-81/Rattle-{name}-proofs.it.oantt", proofs)
+        fill(out / "reg_desk.o", rest)
+    # A crate that an older checkout had.
+    fill(top / "crates/gone/out/rlib/gone.rlib/toolchain/checked.a", 0.5)
+    put(top / "crates/reg_desk/out/reg_desk", "#!/bin/sh\necho proved\n", is_program=True)
+    put(top / "crates/reg_desk/out/reg_desk.stamp", "stamp")
+    return top
+
+
+def left_of(top):
+    return sorted(str(it.relative_to(top / "crates")) for it in top.glob("crates/*/out/*"))
+
+
+PROGRAM = ["reg_desk/out/reg_desk", "reg_desk/out/reg_desk.stamp"]
+# By how many megabytes may stay: the crates whose libraries do. One that stands on a library that does not fit is not kept, though it would fit itself.
+LIMITS = {"2000": ["core", "laws", "office", "store"], "1.5": ["core", "laws", "store"], "1.2": ["core", "laws"], "0.4": ["core"], "0": []}
+
+
+@each({limit: limit for limit in LIMITS}, seconds=1)
+def what_a_trim_leaves(t, limit):
+    top = made_up(t)
+    sources = {it: it.read_bytes() for it in top.glob("crates/*/src/*")}
+    ran = t.tried(top / "tools/trim.py", *([] if limit == "2000" else [str(int(float(limit) * MB))]))
+    t.same((ran.returncode, ran.stdout), (0, b""), "status and standard output")
+    t.has(ran.stderr, b"GB kept", "standard error")
+    t.same(left_of(top), sorted([*PROGRAM, *(f"{name}/out/rlib" for name in LIMITS[limit])]), "what is left")
+    t.same([(top / f"crates/{name}/out/rlib/stamp").read_text() for name in LIMITS[limit]], [f"stamp of {name}" for name in LIMITS[limit]], "the libraries are whole")
+    t.same(t.tool(top / "crates/reg_desk/out/reg_desk"), b"proved\n", "the program runs")
+    t.same({it: it.read_bytes() for it in top.glob("crates/*/src/*")}, sources, "the sources")
+    t.same(sorted(it.name for it in (top / "tools").iterdir()), ["build-times.txt", "build.py", "trim.py"], "nothing else is made")
+
+
+@test
+def a_trim_with_nothing_built(t):
+    top = made_up(t)
+    for it in top.glob("crates/*/out"):
+        shutil.rmtree(it)
+    t.tool(top / "tools/trim.py")
+    t.same(left_of(top), [])
+
+
+# What the toolchain does for a build: it makes a library or the program, with all that it keeps beside them.
+MAKES = """
+name=$(basename "$PWD")
+case $1 in
+lib)
+    mkdir -p "out/rlib/$name.rlib" out/incremental
+    echo stamp >out/rlib/stamp
+    ;;
+run)
+    mkdir -p out/incremental
+    printf '#!/bin/sh\\necho proved "$@"\\n' >out/reg_desk
+    chmod +x out/reg_desk
+    touch out/reg_desk.stamp out/reg_desk.o
+    ;;
+esac
+"""
+LIBRARIES = ["reg_core/out/rlib", "reg_store/out/rlib"]
+WORK = ["reg_core/out/incremental", "reg_desk/out/incremental", "reg_desk/out/reg_desk.o", "reg_store/out/incremental"]
+
+
+@each({"build": ("build", LIBRARIES), "build --keep": ("build --keep", [*LIBRARIES, *WORK])}, seconds=2)
+def what_a_build_leaves(t, words, stays):
+    it = Repository(t)
+    for name in ("build.py", "trim.py", "build-times.txt"):
+        shutil.copy2(program.TOP / "tools" / name, it.top / "tools" / name)
+    put(it.top / "crates.txt", "reg_desk: reg_store\nreg_store: reg_core\nreg_core:\n")
+    for name in ("reg_store", "reg_core"):
+        put(it.top / f"crates/{name}/src/lib.rt", "fn it() {}\n")
+    put(it.kit / "bin/rt", f"#!/bin/sh\n{MAKES}", is_program=True)
+    t.same(it.desk(*words.split())[:2], (0, ""), "status and standard output")
+    t.same(left_of(it.top), sorted([*PROGRAM, *stays]), "what is left")
+    t.same(it.desk("script", "ca.db"), (0, "proved script ca.db\n", ""), "the program runs, and is not built again")
 
 
 @test(seconds=4)

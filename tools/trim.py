@@ -1,0 +1,78 @@
+#!/usr/bin/env python3
+"""Removes what a build leaves in crates/*/out, except the program and as many of its libraries as fit into 2 GB. `./desk build` runs it, unless --keep is given.
+
+    What is in out/                  Who needs it
+    reg_desk, reg_desk.stamp         ./desk WORD, tests/run --proved, tools/package.sh: the program alone
+    rlib/, a proved library          a later build: it takes the library as it is if its sources, and those of all crates below it, have not changed
+    incremental/, proofs             a later build, rt check and tools/edits.py of a crate that changed: they prove only the functions that changed
+    all else, as object files        nobody, once the program is linked
+
+The lowest libraries are kept, in the order in which a build makes them: a library is of no use without those that it was built over. A later build proves each
+crate from nothing whose library was removed, and each crate that changed or stands on one that did. It does not build the program again while nothing has changed.
+
+Usage: tools/trim.py [BYTES]        (2,000,000,000 if left out; prints on standard error what it removed)
+"""
+import fcntl
+import glob
+import os
+import shutil
+import sys
+
+sys.dont_write_bytecode = True
+import build  # noqa: E402
+
+MOST_BYTES = 2_000_000_000
+
+
+def size(path):
+    """Returns how much of the disk a file or a folder takes."""
+    return sum(os.lstat(it).st_blocks * 512 for it in [path, *(os.path.join(at, name) for at, folders, names in os.walk(path) for name in [*folders, *names])])
+
+
+def remove(path):
+    if os.path.isdir(path) and not os.path.islink(path):
+        shutil.rmtree(path, ignore_errors=True)
+    elif os.path.lexists(path):
+        os.unlink(path)
+
+
+def kept(crates, most):
+    """Returns the paths that stay: the programs, and the libraries that fit beside them."""
+    order = list(dict.fromkeys(it for name in crates for it in [*build.below(crates, name), name]))
+    program = lambda name: [it for it in (f"{crates[name].folder}/out/{name}", f"{crates[name].folder}/out/{name}.stamp") if os.path.isfile(it)]
+    found = [it for name in order if crates[name].is_program() for it in program(name)]
+    left, libraries = most - sum(map(size, found)), set()
+    for name in order:
+        path = f"{crates[name].folder}/out/rlib"
+        if os.path.isdir(path) and libraries.issuperset(crates[name].uses) and (much := size(path)) <= left:
+            left -= much
+            libraries.add(name)
+            found.append(path)
+    return found
+
+
+def trim(crates, most):
+    """Removes all but what stays, and returns how many bytes that freed and how many are left."""
+    # Also those of crates that an older checkout had.
+    outs = [it for it in glob.glob(f"{glob.escape(build.TOP)}/crates/*/out") if os.path.isdir(it)]
+    before, stay = sum(map(size, outs)), {*kept(crates, most)}
+    for out in outs:
+        for it in os.listdir(out):
+            if f"{out}/{it}" not in stay:
+                remove(f"{out}/{it}")
+    after = sum(map(size, outs))
+    return before - after, after
+
+
+def main():
+    if len(sys.argv) > 2 or not all(it.isdigit() for it in sys.argv[1:]):
+        raise SystemExit(__doc__)
+    # No build runs meanwhile.
+    with open(f"{build.TOP}/crates.txt", encoding="utf-8") as held:
+        fcntl.flock(held, fcntl.LOCK_EX)
+        freed, left = trim(build.read_crates(), int((sys.argv[1:] or [MOST_BYTES])[0]))
+    build.tell(f"{freed / 1e9:.1f} GB of what the build left removed, {left / 1e9:.1f} GB kept")
+
+
+if __name__ == "__main__":
+    main()
